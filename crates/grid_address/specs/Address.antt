@@ -1,0 +1,16 @@
+-- How addresses are written.
+use Rattle.std.specs.Prelude.{ℕ, ◌+◌, ◌-◌, ◌/◌, ◌%◌, List, [], ◌∷◌, ◌++◌, map, nat_lt, if◌then◌else◌}
+use Rattle.std.specs.Int.Digits.{digits_of}
+use Rattle.grid_address.specs.Place.{Place}
+
+-- a number above 0 in decimal digits, without leading zeros
+abbrev pub decimal : ℕ → List ℕ
+decimal n = map (λ d. 48 + d) (digits_of 10 n)
+
+-- a column's letters: A to Z for the first 26, then AA, AB and so on
+abbrev pub column_name : ℕ → List ℕ
+column_name col = if nat_lt col 26 then (65 + col) ∷ [] else (64 + col / 26) ∷ (65 + col % 26) ∷ []
+
+-- the column's letters and then the row's number, counted from 1
+abbrev pub address_of : Place → List ℕ
+address_of p = column_name p.col ++ decimal (p.row + 1)

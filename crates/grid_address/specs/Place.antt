@@ -1,0 +1,43 @@
+-- A place of the sheet, and the order of places: by row, then by column.
+use Rattle.std.specs.Prelude.{ℕ, ◌<◌, refl, Bool, ◌&&◌, nat_eq, nat_le, min, max}
+use Rattle.std.specs.declared.cmp.Ordering.{Ordering}
+use Rattle.std.specs.Ordering.{nat_cmp, ordering_then}
+use Rattle.std.specs.Coded.{Coded, code_by, coded×, coded_ℕ}
+
+pub record Place : Type 0 where
+  pub row : ℕ
+  pub col : ℕ
+
+-- as a pair of numbers
+abbrev pub coded_place : Coded Place
+coded_place = code_by (ℕ × ℕ) (coded× coded_ℕ coded_ℕ) (λ s. (s.row, s.col)) (λ p. record { row = p.0; col = p.1 }) (λ _. refl)
+
+-- a place that a cell can have
+abbrev pub InSheet : Place → Type 0
+InSheet p = (p.row < 8192) × (p.col < 256)
+
+abbrev pub place_cmp : Place → Place → Ordering
+place_cmp a b = ordering_then (nat_cmp a.row b.row) (nat_cmp a.col b.col)
+
+abbrev pub same_place : Place → Place → Bool
+same_place a b = nat_eq a.row b.row && nat_eq a.col b.col
+
+-- a rectangle, by its first and last corner
+pub record Extent : Type 0 where
+  pub first : Place
+  pub last : Place
+
+-- as a pair of corners
+abbrev pub coded_extent : Coded Extent
+coded_extent = code_by (Place × Place) (coded× coded_place coded_place) (λ s. (s.first, s.last)) (λ p. record { first = p.0; last = p.1 }) (λ _. refl)
+
+abbrev pub is_within : Extent → Place → Bool
+is_within s p = (nat_le s.first.row p.row && nat_le p.row s.last.row) && (nat_le s.first.col p.col && nat_le p.col s.last.col)
+
+-- the corners in order
+abbrev pub spanned : Place → Place → Extent
+spanned a b = record { first = record { row = min a.row b.row; col = min a.col b.col }; last = record { row = max a.row b.row; col = max a.col b.col } }
+
+-- the whole sheet
+abbrev pub whole : Extent
+whole = record { first = record { row = 0; col = 0 }; last = record { row = 8191; col = 255 } }

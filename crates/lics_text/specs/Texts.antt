@@ -1,0 +1,62 @@
+-- What the calls of a text answer.
+use Rattle.std.specs.Prelude.{ℕ, ◌≡◌, ◌≤◌, ◌<◌, ◌+◌, List, [], ◌∷◌, ◌++◌, length, take, drop, Option, Some, None, Result, Ok, Err, Bool, true, false, nat_lt, nat_le, ◌==◌, ◌&&◌, position, if◌then◌else◌}
+use Rattle.lics_text.specs.Bytes.{folded, lowered, is_letter}
+use Rattle.lics_text.specs.declared.faults.TextFault.{TextFault}
+use Rattle.lics_text.specs.declared.faults.TextFault.TheVariants.{TooLong, BadByte}
+
+-- the bytes, unless one of them is bad
+abbrev pub unless_bad : Option ℕ → List ℕ → Result (List ℕ) TextFault
+unless_bad None bytes = Ok bytes
+unless_bad (Some at) bytes = Err (BadByte at)
+
+-- the text of the bytes, or its first fault
+abbrev pub text_of : List ℕ → Result (List ℕ) TextFault
+text_of bytes = if nat_lt 240 (length bytes) then Err TooLong else unless_bad (position (λ b. nat_lt b 32) bytes) bytes
+
+-- a text with a byte at its end
+abbrev pub pushed_text : List ℕ → ℕ → Result (List ℕ) TextFault
+pushed_text bytes b = if nat_le 240 (length bytes) then Err TooLong else (if nat_lt b 32 then Err (BadByte (length bytes)) else Ok (bytes ++ b ∷ []))
+
+-- a line with one more byte, which is passed over at 240
+abbrev pub line_with : List ℕ → ℕ → List ℕ
+line_with line byte = if nat_lt (length line) 240 then line ++ byte ∷ [] else line
+
+-- Each letter that follows no letter is raised, and the others are lowered; the flag says whether a letter stands before.
+abbrev pub proper_after : Bool → List ℕ → List ℕ
+proper_after before [] = []
+proper_after before (b ∷ bs) = (if before then lowered b else folded b) ∷ proper_after (is_letter b) bs
+
+abbrev pub proper_of : List ℕ → List ℕ
+proper_of bytes = proper_after false bytes
+
+-- a space, or the end
+abbrev pub is_gap : List ℕ → Bool
+is_gap [] = true
+is_gap (b ∷ bs) = b == 32
+
+-- a space is left out where another follows it, and at the end
+abbrev pub single_spaced : List ℕ → List ℕ
+single_spaced [] = []
+single_spaced (b ∷ bs) = if b == 32 && is_gap bs then single_spaced bs else b ∷ single_spaced bs
+
+abbrev pub without_front : List ℕ → List ℕ
+without_front [] = []
+without_front (b ∷ bs) = if b == 32 then without_front bs else b ∷ bs
+
+-- no space at the ends, and one between words
+abbrev pub trimmed : List ℕ → List ℕ
+trimmed bytes = single_spaced (without_front bytes)
+
+-- the bytes stand in the text at this place
+pub record StandsAt (what text : List ℕ) (at : ℕ) : Type 0 where
+  pub within : at + length what ≤ length text
+  pub same : take (length what) (drop at text) ≡ what
+
+-- the first place from the given one on at which the bytes stand
+pub record IsFirstPlace (what text : List ℕ) (from at : ℕ) : Type 0 where
+  pub later : from ≤ at
+  pub stands : StandsAt what text at
+  pub first : (k : ℕ) → from ≤ k → k < at → StandsAt what text k → ⊥
+
+abbrev pub IsNoPlace : List ℕ → List ℕ → ℕ → Type 0
+IsNoPlace what text from = (k : ℕ) → from ≤ k → StandsAt what text k → ⊥

@@ -1,0 +1,13 @@
+/// Want of memory.
+#[derive(Clone, Copy, Debug, PartialEq, Eq)]
+pub struct Memory;
+
+/// Why a list of bytes is no text.
+#[derive(Clone, Copy, Debug, PartialEq, Eq)]
+pub enum TextFault {
+    /// There would be more than 240 bytes.
+    TooLong,
+    /// The byte at this place, counted from 0, is below 32; it is the first one.
+    BadByte(usize),
+    Memory,
+}

@@ -1,0 +1,18 @@
+//! Texts as 1-2-3 keeps them: at most 240 bytes of the Lotus International Character Set, each 32
+//! to 255, compared and changed byte by byte.
+#![tactic(auto)]
+
+mod bytes;
+mod faults;
+mod line;
+mod text;
+mod text_line;
+
+pub use bytes::TextByte;
+pub use faults::{Memory, TextFault};
+pub use line::Line;
+pub use text::Text;
+pub use text_line::TextLine;
+
+/// The most bytes of a text and of a line (Release 2 manual).
+pub const MAX_LEN: usize = 240;

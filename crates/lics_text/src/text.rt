@@ -1,0 +1,124 @@
+ghost use Rattle.std.specs.Prelude.{◌≡◌, ◌≤◌, ◌<◌, map, IfOk, OnErr, IfSome, IfNone, position, nat_lt};
+ghost use Rattle.std.specs.Ordering.{nat_cmp};
+ghost use Rattle.std.specs.Cmp.Lexicographic.{slice_cmp};
+ghost use Rattle.lics_text.specs.Answer.{Gives};
+ghost use Rattle.lics_text.specs.Bytes.{folded};
+ghost use Rattle.lics_text.specs.Texts.{text_of, pushed_text};
+
+use crate::bytes::fold;
+use crate::{MAX_LEN, Memory, TextFault, TextLine};
+use std::alloc::Global;
+use std::cmp::Ordering;
+use std::marker::Model;
+
+/// A text: at most 240 bytes, each 32 to 255.
+#[derive(Drop)]
+pub struct Text {
+    bytes: Vec<u8>,
+}
+
+impl Model for Text {
+    ghost use Rattle.std.specs.Prelude.{List, ℕ};
+    ghost use Rattle.lics_text.specs.Bytes.{IsText};
+
+    ghost Value = { List ℕ };
+
+    ghost view = { λ t. t.bytes.items };
+
+    ghost invariant = { λ t. IsText t.bytes.items };
+}
+
+impl Text {
+    ghost use Rattle.lics_text.specs.Bytes.{IsText};
+
+    /// The text of the bytes. `TooLong` comes exactly past 240 bytes; otherwise `BadByte` names the
+    /// first byte below 32.
+    pub fn from_bytes(alloc: Global, bytes: &[u8]) -> Result<Text, TextFault>
+        ensures { Gives (λ t. t) result (text_of bytes.now) }
+    {
+        if bytes.len() > MAX_LEN {
+            return Err(TextFault::TooLong);
+        }
+        if let Some(at) = first_bad(bytes) {
+            return Err(TextFault::BadByte(at));
+        }
+        match Vec::from_slice(alloc, bytes) {
+            Ok(items) => Ok(Text { bytes: items }),
+            Err(_) => Err(TextFault::Memory),
+        }
+    }
+
+    // The text of a line.
+    pub(crate) fn of_line(alloc: Global, line: &TextLine) -> Result<Text, Memory>
+        ensures { IfOk result (λ t. t ≡ line.now) }
+    {
+        match Vec::from_slice(alloc, line.bytes()) {
+            Ok(bytes) => Ok(Text { bytes }),
+            Err(_) => Err(Memory),
+        }
+    }
+
+    /// Appends a byte. `TooLong` comes exactly at 240 bytes; otherwise `BadByte` carries the text's
+    /// length. The text is unchanged after a fault.
+    pub fn push(&mut self, byte: u8) -> Result<(), TextFault>
+        ensures answer { Gives (λ _. self.new) result (pushed_text self.old byte) }
+        ensures kept { OnErr result (self.new ≡ self.old) }
+    {
+        if self.bytes.len() >= MAX_LEN {
+            return Err(TextFault::TooLong);
+        }
+        if byte < 32 {
+            return Err(TextFault::BadByte(self.bytes.len()));
+        }
+        match self.bytes.push(byte) {
+            Ok(()) => Ok(()),
+            Err(_) => Err(TextFault::Memory),
+        }
+    }
+
+    /// The bytes: at most 240, each at least 32.
+    pub fn bytes(&self) -> &[u8]
+        ensures value { result.now ≡ self.now }
+        ensures text { IsText self.now }
+    {
+        self.bytes.as_slice()
+    }
+
+    /// An equal text.
+    pub fn copy(&self) -> Result<Text, Memory>
+        ensures { IfOk result (λ t. t ≡ self.now) }
+    {
+        match self.bytes.clone() {
+            Ok(bytes) => Ok(Text { bytes }),
+            Err(_) => Err(Memory),
+        }
+    }
+
+    /// The order of two texts by their bytes, letters folded onto capitals.
+    pub fn fold_cmp(&self, other: &Text) -> Ordering
+        ensures { result ≡ slice_cmp nat_cmp (map folded self.now) (map folded other.now) }
+    {
+        fold_cmp(self.bytes.as_slice(), other.bytes.as_slice())
+    }
+}
+
+fn fold_cmp(a: &[u8], b: &[u8]) -> Ordering
+    ensures { result ≡ slice_cmp nat_cmp (map folded a.now) (map folded b.now) }
+{
+    let mut at = 0;
+    while at < a.len() && at < b.len() {
+        let order = fold(a[at]).cmp(&fold(b[at]));
+        if order != Ordering::Equal {
+            return order;
+        }
+        at += 1;
+    }
+    a.len().cmp(&b.len())
+}
+
+// The place of the first byte below 32.
+fn first_bad(bytes: &[u8]) -> Option<usize>
+    ensures { result ≡ position (λ b. nat_lt b 32) bytes.now }
+{
+    bytes.iter().position(|b| *b < 32)
+}

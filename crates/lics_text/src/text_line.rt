@@ -1,0 +1,67 @@
+ghost use Rattle.std.specs.Prelude.{◌≡◌, ◌≤◌, [], length, nat_lt, IfOk};
+ghost use Rattle.lics_text.specs.Texts.{line_with};
+
+use crate::{MAX_LEN, Memory, Text, TextByte};
+use std::alloc::Global;
+use std::marker::Model;
+
+/// A text while it is typed: at most 240 bytes, each 32 to 255, which takes no memory.
+#[derive(Drop)]
+pub struct TextLine {
+    bytes: [u8; 240],
+    len: usize,
+}
+
+impl Model for TextLine {
+    ghost use Rattle.std.specs.Prelude.{ℕ, List, take, ◌≤◌};
+    ghost use Rattle.lics_text.specs.Bytes.{IsText};
+
+    ghost Value = { List ℕ };
+
+    ghost view = { λ a. take a.len a.bytes };
+
+    ghost invariant = { λ a. (a.len ≤ 240) × IsText (take a.len a.bytes) };
+}
+
+impl TextLine {
+    ghost use Rattle.lics_text.specs.Bytes.{IsText};
+
+    /// The empty line.
+    pub fn new() -> TextLine
+        ensures { result ≡ [] }
+    {
+        TextLine {
+            bytes: [0; 240],
+            len: 0,
+        }
+    }
+
+    /// Adds a byte at the end. It answers false, and leaves the line as it was, exactly at 240 bytes.
+    pub fn put(&mut self, byte: TextByte) -> bool
+        ensures put { result ≡ nat_lt (length self.old) 240 }
+        ensures line { self.new ≡ line_with self.old byte }
+    {
+        if self.len < MAX_LEN {
+            self.bytes[self.len] = byte.get();
+            self.len += 1;
+            true
+        } else {
+            false
+        }
+    }
+
+    /// The bytes: at most 240, each at least 32.
+    pub fn bytes(&self) -> &[u8]
+        ensures value { result.now ≡ self.now }
+        ensures text { IsText self.now }
+    {
+        &self.bytes[..self.len]
+    }
+
+    /// The line as a text.
+    pub fn to_text(&self, alloc: Global) -> Result<Text, Memory>
+        ensures { IfOk result (λ t. t ≡ self.now) }
+    {
+        Text::of_line(alloc, self)
+    }
+}

@@ -1,0 +1,141 @@
+-- A screen that is sent line by line.
+use Rattle.std.proofs.Common.{◌≡◌, ◌≢◌, ℕ, ◌+◌, ◌-◌, ◌^◌, ◌<◌, ◌≤◌, min, List, [], ◌∷◌, ◌++◌, length, take, drop, get_or, set, Option, Some, None, Result, Ok, Err, refl, ap, sym, ◌∙◌, subst, arith, inl, inr, append_assoc}
+use Rattle.std.specs.Prelude.{slice_get, ◌==◌}
+use Rattle.std.specs.List.{All}
+use Rattle.std.proofs.lemmas.List.{append-nil, drop_all, drop_more, drop-set-lt, take_all, take_more_set, length-set}
+use Rattle.std.proofs.lemmas.List.Elements.{All-set, All-head, All-tail}
+use Rattle.std.proofs.lemmas.Bool.{cases_Bool, eqb-true}
+use Rattle.std.proofs.lemmas.Option.{slice_get-get_or}
+use Rattle.outside_world.specs.declared.faults.Failed.{Failed}
+use Rattle.screen_show.specs.Changes.{Agrees, AgreesInLine, patched, patched_line, changed_runs, differences, line_runs, line_differences}
+use Rattle.screen_show.specs.Display.{Shown, Finishes, HasSent, IsSound, Sends, TellsSoundly, raised, with_frame}
+use Rattle.screen_show.specs.Grid.{IsGrid}
+use Rattle.screen_show.specs.Lines.{SendsLine, HasSentLine}
+use Rattle.screen_show.proofs.Fronts.{length-patched_line}
+
+-- the changes above a row were put, and the rest of the screen gives those that are left
+pub record OnGrid (row : ℕ) (before after : List (List ℕ)) (s t : Shown) : Type 0 where
+  pub grid : take row t.grid ++ patched (drop row before) (drop row after) (drop row t.grid) ≡ patched before after s.grid
+  pub frames : t.frames ≡ s.frames
+  pub puts : raised t.puts (changed_runs (drop row before) (drop row after)) ≡ raised s.puts (changed_runs before after)
+  pub bytes_put : raised t.bytes_put (differences (drop row before) (drop row after)) ≡ raised s.bytes_put (differences before after)
+  pub sound : IsSound t
+
+abbrev pub SendingGrid : ℕ → List (List ℕ) → List (List ℕ) → Option Shown → Option Shown → Type 0
+SendingGrid row before after None now = now ≡ None
+SendingGrid row before after (Some s) None = ⊥
+SendingGrid row before after (Some s) (Some t) = OnGrid row before after s t
+
+pub grid_starts : (before after : List (List ℕ)) (was : Option Shown) → TellsSoundly was → SendingGrid 0 before after was was
+grid_starts before after None sound = refl
+grid_starts before after (Some s) sound = record { grid = refl; frames = refl; puts = refl; bytes_put = refl; sound = sound }
+
+pub grid_sound : (row : ℕ) (before after : List (List ℕ)) (was now : Option Shown) → SendingGrid row before after was now → TellsSoundly now
+grid_sound row before after None None on = tt
+grid_sound row before after None (Some t) on = absurd cc
+grid_sound row before after (Some s) None on = absurd on
+grid_sound row before after (Some s) (Some t) on = on.sound
+
+module _ (row : ℕ) (before after : List (List ℕ)) (b a : List ℕ) (below : row < 25) (before_shape : IsGrid before) (after_shape : IsGrid after)
+    (b_is : slice_get before row ≡ Some b) (a_is : slice_get after row ≡ Some a) (b_wide : length b ≡ 80) (a_wide : length a ≡ 80) where
+  before_splits : drop row before ≡ b ∷ drop (row + 1) before
+  before_splits =
+      let here : slice_get before row ≡ Some (get_or before row []) = slice_get-get_or before row [] (omega (arith, before_shape.lines)) in
+      let same : get_or before row [] ≡ b = cc in
+      drop_more before row [] (omega (arith, before_shape.lines)) ∙ ap (λ (l : List ℕ). l ∷ drop (row + 1) before) same
+
+  after_splits : drop row after ≡ a ∷ drop (row + 1) after
+  after_splits =
+      let here : slice_get after row ≡ Some (get_or after row []) = slice_get-get_or after row [] (omega (arith, after_shape.lines)) in
+      let same : get_or after row [] ≡ a = cc in
+      drop_more after row [] (omega (arith, after_shape.lines)) ∙ ap (λ (l : List ℕ). l ∷ drop (row + 1) after) same
+
+  -- one more line is sent
+  line_more : (s t u : Shown) → OnGrid row before after s t → HasSentLine row b a t u → OnGrid (row + 1) before after s u
+  line_more s t u on sent =
+      let inside : row < length t.grid = omega (arith, on.sound.grid.lines) in
+      let line : List ℕ = get_or t.grid row [] in
+      let new : List ℕ = patched_line b a line in
+      let line_wide : length line ≡ 80 = on.sound.grid.columns row [] inside in
+      let new_wide : length new ≡ 80 = length-patched_line b a line (omega arith) (omega arith) ∙ a_wide in
+      let front : take (row + 1) u.grid ≡ take row t.grid ++ new ∷ [] = ap (take (row + 1)) sent.grid ∙ take_more_set t.grid row new inside in
+      let back : drop (row + 1) u.grid ≡ drop (row + 1) t.grid = ap (drop (row + 1)) sent.grid ∙ drop-set-lt (row + 1) t.grid row new (omega arith) in
+      let grid_splits : drop row t.grid ≡ line ∷ drop (row + 1) t.grid = drop_more t.grid row [] inside in
+      let was : take row t.grid ++ (new ∷ patched (drop (row + 1) before) (drop (row + 1) after) (drop (row + 1) t.grid)) ≡ patched before after s.grid = rw (before_splits, after_splits, grid_splits) at on.grid in
+      let runs : raised t.puts (line_runs b a + changed_runs (drop (row + 1) before) (drop (row + 1) after)) ≡ raised s.puts (changed_runs before after) = rw (before_splits, after_splits) at on.puts in
+      let bytes : raised t.bytes_put (line_differences b a + differences (drop (row + 1) before) (drop (row + 1) after)) ≡ raised s.bytes_put (differences before after) = rw (before_splits, after_splits) at on.bytes_put in
+      record {
+        grid = rw (front, back, append_assoc (take row t.grid) (new ∷ []) (patched (drop (row + 1) before) (drop (row + 1) after) (drop (row + 1) t.grid))) was;
+        frames = sent.frames ∙ on.frames;
+        puts = omega (arith, sent.puts, runs);
+        bytes_put = omega (arith, sent.bytes_put, bytes);
+        sound = record {
+          grid = subst IsGrid (sym sent.grid) (record { lines = length-set t.grid row new ∙ on.sound.grid.lines; columns = All-set (λ l. length l ≡ 80) t.grid row new new_wide on.sound.grid.columns });
+          puts = omega (arith, sent.puts);
+          bytes_put = omega (arith, sent.bytes_put);
+        };
+      }
+
+  pub grid_more : (was then now : Option Shown) (u : Unit {0}) → SendsLine row b a then now (Ok u) → SendingGrid row before after was then → SendingGrid (row + 1) before after was now
+  grid_more None None now u sent on = sent
+  grid_more None (Some t) now u sent on = absurd cc
+  grid_more (Some s) None now u sent on = absurd on
+  grid_more (Some s) (Some t) None u sent on = absurd sent
+  grid_more (Some s) (Some t) (Some v) u sent on = line_more s t v on sent
+
+pub grid_fails : (row : ℕ) (before after : List (List ℕ)) (b a : List ℕ) (was then now : Option Shown) (f : Failed) → SendsLine row b a then now (Err f) → SendingGrid row before after was then → Sends before after was now (Err f)
+grid_fails row before after b a None None now f sent on = sent
+grid_fails row before after b a None (Some t) now f sent on = absurd cc
+grid_fails row before after b a (Some s) None now f sent on = absurd on
+grid_fails row before after b a (Some s) (Some t) None f sent on = absurd sent
+grid_fails row before after b a (Some s) (Some t) (Some u) f sent on = sent ∙ on.frames
+
+-- a line that agreed is patched to the new one
+line_agrees : (before after line : List ℕ) → length before ≡ length after → length line ≡ length after → AgreesInLine before after line → patched_line before after line ≡ after
+line_agrees [] [] line h k agrees = refl
+line_agrees [] (a ∷ xs) line h k agrees = absurd (omega arith)
+line_agrees (b ∷ bs) [] line h k agrees = refl
+line_agrees (b ∷ bs) (a ∷ xs) [] h k agrees = absurd (omega arith)
+line_agrees (b ∷ bs) (a ∷ xs) (y ∷ ys) h k agrees =
+    let rest : patched_line bs xs ys ≡ xs = line_agrees bs xs ys (omega arith) (omega arith) agrees.1 in
+    elim (cases_Bool (b == a)) [
+      | inl same ↦ rw same (let equal : b ≡ a = eqb-true b a same in ap (λ (z : ℕ). z ∷ patched_line bs xs ys) (agrees.0 equal ∙ equal) ∙ ap (λ (l : List ℕ). a ∷ l) rest)
+      | inr apart ↦ rw apart (ap (λ (l : List ℕ). a ∷ l) rest)
+    ]
+
+grid_agrees : (before after grid : List (List ℕ)) → length before ≡ length after → length grid ≡ length after →
+    All (λ l. length l ≡ 80) before → All (λ l. length l ≡ 80) after → All (λ l. length l ≡ 80) grid → Agrees before after grid → patched before after grid ≡ after
+grid_agrees [] [] grid h k p q r agrees = refl
+grid_agrees [] (a ∷ xs) grid h k p q r agrees = absurd (omega arith)
+grid_agrees (b ∷ bs) [] grid h k p q r agrees = refl
+grid_agrees (b ∷ bs) (a ∷ xs) [] h k p q r agrees = absurd (omega arith)
+grid_agrees (b ∷ bs) (a ∷ xs) (y ∷ ys) h k p q r agrees =
+    let wide : List ℕ → Type 0 = λ l. length l ≡ 80 in
+    let b_wide : length b ≡ 80 = All-head wide b bs p in
+    let a_wide : length a ≡ 80 = All-head wide a xs q in
+    let y_wide : length y ≡ 80 = All-head wide y ys r in
+    ap (λ (l : List ℕ). l ∷ patched bs xs ys) (line_agrees b a y (omega arith) (omega arith) agrees.0)
+    ∙ ap (λ (g : List (List ℕ)). a ∷ g) (grid_agrees bs xs ys (omega arith) (omega arith) (All-tail wide b bs p) (All-tail wide a xs q) (All-tail wide y ys r) agrees.1)
+
+module _ (row : ℕ) (before after : List (List ℕ)) (before_shape : IsGrid before) (after_shape : IsGrid after) (s t : Shown) (was_shape : IsGrid s.grid) where
+  all_put : 25 ≤ row → OnGrid row before after s t → HasSent before after s (with_frame t)
+  all_put low on =
+      let none : drop row before ≡ [] = drop_all row before (omega (arith, before_shape.lines)) in
+      let whole : t.grid ≡ patched before after s.grid =
+      sym (append-nil t.grid) ∙ ap (λ (l : List (List ℕ)). l ++ []) (sym (take_all row t.grid (omega (arith, on.sound.grid.lines)))) ∙ (rw none at on.grid) in
+      record {
+        grid = λ agrees. whole ∙ grid_agrees before after s.grid (before_shape.lines ∙ sym after_shape.lines) (was_shape.lines ∙ sym after_shape.lines) before_shape.columns after_shape.columns was_shape.columns agrees;
+        frames = ap (λ (fs : List (List (List ℕ))). fs ++ t.grid ∷ []) on.frames;
+        puts = (let all : raised t.puts 0 ≡ raised s.puts (changed_runs before after) = rw none at on.puts in omega (arith, on.sound.puts, all));
+        bytes_put = (let all : raised t.bytes_put 0 ≡ raised s.bytes_put (differences before after) = rw none at on.bytes_put in omega (arith, on.sound.bytes_put, all));
+        closed = refl;
+      }
+
+pub grid_ends : (row : ℕ) (before after : List (List ℕ)) (was then now : Option Shown) (result : Result Unit Failed) → IsGrid before → IsGrid after → TellsSoundly was → 25 ≤ row →
+    SendingGrid row before after was then → Finishes then now result → Sends before after was now result
+grid_ends row before after None None now result before_shape after_shape sound low on done = done
+grid_ends row before after None (Some t) now result before_shape after_shape sound low on done = absurd cc
+grid_ends row before after (Some s) None now result before_shape after_shape sound low on done = absurd on
+grid_ends row before after (Some s) (Some t) now (Ok u) before_shape after_shape sound low on done =
+    subst (λ (shown : Option Shown). Sends before after (Some s) shown (Ok u)) (sym done) (all_put row before after before_shape after_shape s t sound.grid low on)
+grid_ends row before after (Some s) (Some t) now (Err f) before_shape after_shape sound low on done = rw (done.1) on.frames

@@ -1,0 +1,136 @@
+-- One line that is sent, run by run.
+use Rattle.std.proofs.Common.{◌≡◌, ℕ, ◌+◌, ◌-◌, ◌^◌, ◌<◌, ◌≤◌, min, true, List, [], ◌∷◌, ◌++◌, length, take, drop, get_or, set, Option, Some, None, Result, Ok, Err, refl, ap, sym, ◌∙◌, subst, arith, append_assoc, length-append}
+use Rattle.std.specs.Prelude.{◌==◌}
+use Rattle.std.proofs.lemmas.List.{append-nil, drop_all, drop_more, take_all, take_more, length-take-le, length-drop, length-set, set-get_or, get_or-set_same, set-set, take_at, drop_at, drop-drop}
+use Rattle.outside_world.specs.declared.faults.Failed.{Failed}
+use Rattle.screen_show.specs.Changes.{patched_line, line_differences, line_runs, differing_front}
+use Rattle.screen_show.specs.Display.{Shown, Puts, IsSound, TellsSoundly, raised, with_bytes}
+use Rattle.screen_show.specs.Grid.{IsGrid, put_in_line}
+use Rattle.screen_show.specs.Lines.{SendsLine, HasSentLine}
+use Rattle.screen_show.proofs.Fronts.{run_line, run_count, run_differences, same_first}
+
+-- the changes before a column were put, and the rest of the line gives those that are left
+pub record OnLine (row col : ℕ) (before after : List ℕ) (s t : Shown) : Type 0 where
+  pub now : List ℕ
+  pub wide : length now ≡ 80
+  pub grid : t.grid ≡ set s.grid row now
+  pub line : take col now ++ patched_line (drop col before) (drop col after) (drop col now) ≡ patched_line before after (get_or s.grid row [])
+  pub frames : t.frames ≡ s.frames
+  pub puts : raised t.puts (line_runs (drop col before) (drop col after)) ≡ raised s.puts (line_runs before after)
+  pub bytes_put : raised t.bytes_put (line_differences (drop col before) (drop col after)) ≡ raised s.bytes_put (line_differences before after)
+  pub puts_in : t.puts ≤ 2 ^ 64 - 1
+  pub bytes_in : t.bytes_put ≤ 2 ^ 64 - 1
+
+abbrev pub SendingLine : ℕ → ℕ → List ℕ → List ℕ → Option Shown → Option Shown → Type 0
+SendingLine row col before after None now = now ≡ None
+SendingLine row col before after (Some s) None = ⊥
+SendingLine row col before after (Some s) (Some t) = OnLine row col before after s t
+
+pub line_starts : (row : ℕ) (before after : List ℕ) (was : Option Shown) → row < 25 → TellsSoundly was → SendingLine row 0 before after was was
+line_starts row before after None h sound = refl
+line_starts row before after (Some s) h sound = record {
+  now = get_or s.grid row [];
+  wide = sound.grid.columns row [] (omega (arith, sound.grid.lines));
+  grid = sym (set-get_or s.grid row []);
+  line = refl;
+  frames = refl;
+  puts = refl;
+  bytes_put = refl;
+  puts_in = sound.puts;
+  bytes_in = sound.bytes_put;
+}
+
+raised_twice : (n a b : ℕ) → raised (raised n a) b ≡ raised n (a + b)
+raised_twice n a b = omega arith
+
+module _ (row col : ℕ) (before after : List ℕ) (wide_before : length before ≡ 80) (wide_after : length after ≡ 80) where
+  same_lengths : length (drop col before) ≡ length (drop col after)
+  same_lengths = omega (arith, length-drop col before, length-drop col after)
+
+  -- one more place at which the lines are equal
+  same_place : (s t : Shown) → col < 80 → differing_front (drop col before) (drop col after) ≡ 0 → OnLine row col before after s t → OnLine row (col + 1) before after s t
+  same_place s t below none on =
+      let b : drop col before ≡ get_or before col 0 ∷ drop (col + 1) before = drop_more before col 0 (omega arith) in
+      let a : drop col after ≡ get_or after col 0 ∷ drop (col + 1) after = drop_more after col 0 (omega arith) in
+      let x : drop col on.now ≡ get_or on.now col 0 ∷ drop (col + 1) on.now = drop_more on.now col 0 (omega (arith, on.wide)) in
+      let none' : differing_front (get_or before col 0 ∷ drop (col + 1) before) (get_or after col 0 ∷ drop (col + 1) after) ≡ 0 = rw (b, a) at none in
+      let test : (get_or before col 0 == get_or after col 0) ≡ true = same_first (get_or before col 0) (get_or after col 0) (drop (col + 1) before) (drop (col + 1) after) none' in
+      let line' : take col on.now ++ (get_or on.now col 0 ∷ patched_line (drop (col + 1) before) (drop (col + 1) after) (drop (col + 1) on.now)) ≡ patched_line before after (get_or s.grid row []) = rw (b, a, x, test) at on.line in
+      record {
+        now = on.now;
+        wide = on.wide;
+        grid = on.grid;
+        line = rw (take_more on.now col 0 (omega (arith, on.wide)), append_assoc (take col on.now) (get_or on.now col 0 ∷ []) (patched_line (drop (col + 1) before) (drop (col + 1) after) (drop (col + 1) on.now))) line';
+        frames = on.frames;
+        puts = rw (b, a, test) at on.puts;
+        bytes_put = (let bytes' : raised t.bytes_put (0 + line_differences (drop (col + 1) before) (drop (col + 1) after)) ≡ raised s.bytes_put (line_differences before after) = rw (b, a, test) at on.bytes_put in omega arith);
+        puts_in = on.puts_in;
+        bytes_in = on.bytes_in;
+      }
+
+  -- a run is put
+  run_put : (s t : Shown) (n : ℕ) → n ≡ differing_front (drop col before) (drop col after) → 0 < n → col + n ≤ 80 → row < length s.grid →
+      OnLine row col before after s t → OnLine row (col + n) before after s (with_bytes row col (take n (drop col after)) t)
+  run_put s t n is more below inside on =
+      let there : get_or t.grid row [] ≡ on.now = ap (λ (g : List (List ℕ)). get_or g row []) on.grid ∙ get_or-set_same s.grid row on.now [] inside in
+      let piece : List ℕ = take n (drop col after) in
+      let long : length piece ≡ n = length-take-le n (drop col after) (omega (arith, length-drop col after)) in
+      let front : List ℕ = take col on.now ++ piece in
+      let front_long : length front ≡ col + n = omega (arith, length-append (take col on.now) piece, length-take-le col on.now (omega (arith, on.wide))) in
+      let back : List ℕ = drop (col + length piece) on.now in
+      let back_is : back ≡ drop n (drop col on.now) = ap (λ m. drop (col + m) on.now) long ∙ sym (drop-drop n col on.now) in
+      let run : patched_line (drop col before) (drop col after) (drop col on.now) ≡ piece ++ patched_line (drop n (drop col before)) (drop n (drop col after)) (drop n (drop col on.now)) =
+      rw is (run_line (drop col before) (drop col after) (drop col on.now) same_lengths (omega (arith, length-drop col after, length-drop col on.now, on.wide))) in
+      let count : line_runs (drop col before) (drop col after) ≡ 1 + line_runs (drop n (drop col before)) (drop n (drop col after)) = rw is (run_count (drop col before) (drop col after) same_lengths (omega arith)) in
+      let differ : line_differences (drop col before) (drop col after) ≡ n + line_differences (drop n (drop col before)) (drop n (drop col after)) = rw is (run_differences (drop col before) (drop col after) same_lengths) in
+      let before_later : drop (col + n) before ≡ drop n (drop col before) = sym (drop-drop n col before) in
+      let after_later : drop (col + n) after ≡ drop n (drop col after) = sym (drop-drop n col after) in
+      record {
+        now = front ++ back;
+        wide = omega (arith, length-append front back, front_long, length-drop (col + length piece) on.now, on.wide);
+        grid = ap (λ (line : List ℕ). set t.grid row (put_in_line col piece line)) there ∙ ap (λ (g : List (List ℕ)). set g row (front ++ back)) on.grid ∙ set-set s.grid row on.now (front ++ back);
+        line = rw (take_at front back (col + n) front_long, drop_at front back (col + n) front_long, back_is, before_later, after_later)
+            (append_assoc (take col on.now) piece (patched_line (drop n (drop col before)) (drop n (drop col after)) (drop n (drop col on.now))) ∙ ap (λ (l : List ℕ). take col on.now ++ l) (sym run) ∙ on.line);
+        frames = on.frames;
+        puts = rw (before_later, after_later) (omega (arith, on.puts, count));
+        bytes_put = rw (before_later, after_later) (omega (arith, on.bytes_put, differ, long));
+        puts_in = omega arith;
+        bytes_in = omega arith;
+      }
+
+  pub line_same : (was now : Option Shown) → col < 80 → differing_front (drop col before) (drop col after) ≡ 0 → SendingLine row col before after was now → SendingLine row (col + 1) before after was now
+  line_same None now below none on = on
+  line_same (Some s) None below none on = on
+  line_same (Some s) (Some t) below none on = same_place s t below none on
+
+  pub line_put : (was then now : Option Shown) (n : ℕ) (bytes : List ℕ) (u : Unit {0}) → n ≡ differing_front (drop col before) (drop col after) → 0 < n → col + n ≤ 80 → row < 25 → TellsSoundly was →
+      bytes ≡ take n (drop col after) → Puts row col bytes then now (Ok u) → SendingLine row col before after was then → SendingLine row (col + n) before after was now
+  line_put None None now n bytes u is more below inside sound piece put on = put
+  line_put None (Some t) now n bytes u is more below inside sound piece put on = absurd cc
+  line_put (Some s) None now n bytes u is more below inside sound piece put on = absurd on
+  line_put (Some s) (Some t) now n bytes u is more below inside sound piece put on =
+      subst (λ (shown : Option Shown). SendingLine row (col + n) before after (Some s) shown) (sym (put ∙ ap (λ (b : List ℕ). Some (with_bytes row col b t)) piece))
+      (run_put s t n is more below (omega (arith, sound.grid.lines)) on)
+
+  pub line_fails : (was then now : Option Shown) (bytes : List ℕ) (f : Failed) → Puts row col bytes then now (Err f) → SendingLine row col before after was then → SendsLine row before after was now (Err f)
+  line_fails None None now bytes f put on = put
+  line_fails None (Some t) now bytes f put on = absurd cc
+  line_fails (Some s) None now bytes f put on = absurd on
+  line_fails (Some s) (Some t) now bytes f put on = rw (put.1) on.frames
+
+  line_done : (s t : Shown) → 80 ≤ col → OnLine row col before after s t → HasSentLine row before after s t
+  line_done s t past on =
+      let before_none : drop col before ≡ [] = drop_all col before (omega arith) in
+      let whole : on.now ≡ patched_line before after (get_or s.grid row []) =
+      sym (append-nil on.now) ∙ ap (λ (l : List ℕ). l ++ []) (sym (take_all col on.now (omega (arith, on.wide)))) ∙ (rw before_none at on.line) in
+      record {
+        grid = on.grid ∙ ap (λ (l : List ℕ). set s.grid row l) whole;
+        frames = on.frames;
+        puts = (let all : raised t.puts 0 ≡ raised s.puts (line_runs before after) = rw before_none at on.puts in omega (arith, on.puts_in, all));
+        bytes_put = (let all : raised t.bytes_put 0 ≡ raised s.bytes_put (line_differences before after) = rw before_none at on.bytes_put in omega (arith, on.bytes_in, all));
+      }
+
+  pub line_ends : (was now : Option Shown) (u : Unit {0}) → 80 ≤ col → SendingLine row col before after was now → SendsLine row before after was now (Ok u)
+  line_ends None now u past on = on
+  line_ends (Some s) None u past on = on
+  line_ends (Some s) (Some t) u past on = line_done s t past on

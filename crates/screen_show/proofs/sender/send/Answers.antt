@@ -1,0 +1,16 @@
+use Rattle.std.proofs.Common.{rules, arith}
+use Rattle.screen_show.proofs.GridSending.{grid_more, grid_ends}
+use Rattle.screen_show.proofs.sender.send.Goals as goal
+
+pub loop-row-preserved : goal.loop-row-preserved
+loop-row-preserved g c = record {
+  lines = grid_more c.loop-row.row c.args.before.now c.args.after.now c.line.result.now c.line-in-loop-row.result.now (omega arith)
+      c.line.ensures.grid c.line-in-loop-row.ensures.grid c.line.ensures.line c.line-in-loop-row.ensures.line c.line.ensures.width c.line-in-loop-row.ensures.width
+      _ _ _ c.in_ok-send_line.field-0 c.in_ok-send_line.ensures.shown c.loop-row.invariant.lines;
+  kind = search rules;
+  faults = search rules;
+}
+
+pub returns-clause-shown : goal.returns-clause-shown
+returns-clause-shown g c =
+    grid_ends c.loop-row.row c.args.before.now c.args.after.now _ _ _ _ c.is_whole.ensures c.is_whole-2.ensures c.is_sound.ensures (omega arith) c.loop-row.invariant.lines c.end_frame.ensures.shown

@@ -1,0 +1,61 @@
+-- Where two screens differ.
+use Rattle.std.specs.Prelude.{◌≡◌, ⊤, ℕ, suc, ◌+◌, Bool, true, false, ◌==◌, if◌then◌else◌, List, [], ◌∷◌}
+
+-- a line after the bytes of `after` were put where `before` and `after` differ
+abbrev pub patched_line : List ℕ → List ℕ → List ℕ → List ℕ
+patched_line [] after line = []
+patched_line (b ∷ before) [] line = []
+patched_line (b ∷ before) (a ∷ after) [] = []
+patched_line (b ∷ before) (a ∷ after) (x ∷ line) = (if b == a then x else a) ∷ patched_line before after line
+
+-- at how many places two lines differ
+abbrev pub line_differences : List ℕ → List ℕ → ℕ
+line_differences [] after = 0
+line_differences (b ∷ before) [] = 0
+line_differences (b ∷ before) (a ∷ after) = (if b == a then 0 else 1) + line_differences before after
+
+-- in how many longest stretches two lines differ; the flag says whether they differ at the place before
+abbrev pub runs_after : Bool → List ℕ → List ℕ → ℕ
+runs_after inside [] after = 0
+runs_after inside (b ∷ before) [] = 0
+runs_after inside (b ∷ before) (a ∷ after) = if b == a then runs_after false before after else ((if inside then 0 else 1) + runs_after true before after)
+
+abbrev pub line_runs : List ℕ → List ℕ → ℕ
+line_runs before after = runs_after false before after
+
+-- the same of whole screens
+abbrev pub patched : List (List ℕ) → List (List ℕ) → List (List ℕ) → List (List ℕ)
+patched [] after grid = []
+patched (b ∷ before) [] grid = []
+patched (b ∷ before) (a ∷ after) [] = []
+patched (b ∷ before) (a ∷ after) (x ∷ grid) = patched_line b a x ∷ patched before after grid
+
+abbrev pub differences : List (List ℕ) → List (List ℕ) → ℕ
+differences [] after = 0
+differences (b ∷ before) [] = 0
+differences (b ∷ before) (a ∷ after) = line_differences b a + differences before after
+
+abbrev pub changed_runs : List (List ℕ) → List (List ℕ) → ℕ
+changed_runs [] after = 0
+changed_runs (b ∷ before) [] = 0
+changed_runs (b ∷ before) (a ∷ after) = line_runs b a + changed_runs before after
+
+-- how far two lines differ from their beginning on
+abbrev pub differing_front : List ℕ → List ℕ → ℕ
+differing_front [] after = 0
+differing_front (b ∷ before) [] = 0
+differing_front (b ∷ before) (a ∷ after) = if b == a then 0 else suc (differing_front before after)
+
+-- a line has the byte of `before` at each place at which `before` and `after` are equal
+abbrev pub AgreesInLine : List ℕ → List ℕ → List ℕ → Type 0
+AgreesInLine [] after line = ⊤
+AgreesInLine (b ∷ before) [] line = ⊤
+AgreesInLine (b ∷ before) (a ∷ after) [] = ⊤
+AgreesInLine (b ∷ before) (a ∷ after) (x ∷ line) = (b ≡ a → x ≡ b) × AgreesInLine before after line
+
+-- a grid agrees with `before` wherever `before` and `after` are equal
+abbrev pub Agrees : List (List ℕ) → List (List ℕ) → List (List ℕ) → Type 0
+Agrees [] after grid = ⊤
+Agrees (b ∷ before) [] grid = ⊤
+Agrees (b ∷ before) (a ∷ after) [] = ⊤
+Agrees (b ∷ before) (a ∷ after) (x ∷ grid) = AgreesInLine b a x × Agrees before after grid

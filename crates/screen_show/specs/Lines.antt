@@ -1,0 +1,18 @@
+-- What sending one line does.
+use Rattle.std.specs.Prelude.{◌≡◌, ℕ, List, [], Option, Some, None, Result, Ok, Err, slice_set, slice_index_or}
+use Rattle.outside_world.specs.declared.faults.Failed.{Failed}
+use Rattle.screen_show.specs.Changes.{patched_line, line_runs, line_differences}
+use Rattle.screen_show.specs.Display.{Shown, IsSound, raised}
+
+-- the changes of one line were put
+pub record HasSentLine (row : ℕ) (before after : List ℕ) (s t : Shown) : Type 0 where
+  pub grid : t.grid ≡ slice_set s.grid row (patched_line before after (slice_index_or s.grid row []))
+  pub frames : t.frames ≡ s.frames
+  pub puts : t.puts ≡ raised s.puts (line_runs before after)
+  pub bytes_put : t.bytes_put ≡ raised s.bytes_put (line_differences before after)
+
+abbrev pub SendsLine : ℕ → List ℕ → List ℕ → Option Shown → Option Shown → Result Unit Failed → Type 0
+SendsLine row before after None now result = now ≡ None
+SendsLine row before after (Some s) None result = ⊥
+SendsLine row before after (Some s) (Some t) (Ok _) = HasSentLine row before after s t
+SendsLine row before after (Some s) (Some t) (Err f) = t.frames ≡ s.frames

@@ -1,0 +1,72 @@
+ghost use Rattle.std.specs.Prelude.{◌≡◌, ◌<◌, ◌≤◌, Some, length, slice_get, slice_set, ◌+◌};
+ghost use Rattle.screen_show.specs.Grid.{IsGrid, empty_grid, put_in_grid};
+
+use std::marker::Model;
+
+/// The bytes of a screen: 25 lines of 80.
+#[derive(Clone, Copy)]
+pub struct Grid {
+    lines: [[u8; 80]; 25],
+}
+
+impl Model for Grid {
+    ghost use Rattle.std.specs.Prelude.{ℕ, List};
+
+    ghost Value = { List (List ℕ) };
+
+    ghost view = { λ g. g.lines };
+
+    ghost use Rattle.screen_show.specs.Grid.{IsGrid};
+
+    ghost invariant = { λ g. IsGrid g.lines };
+
+    ghost inverse = { λ v. record { lines = v } };
+}
+
+impl Grid {
+    /// A grid that holds the byte 0 everywhere, which no screen holds.
+    pub fn empty() -> Grid
+        ensures { result ≡ empty_grid }
+    {
+        Grid {
+            lines: [[0; 80]; 25],
+        }
+    }
+
+    /// A grid has 25 lines of 80 bytes. It does nothing, and is called for its clause.
+    pub fn is_whole(&self)
+        ensures { IsGrid self.now }
+    {
+        let _lines = &self.lines;
+    }
+
+    /// A line of 80 bytes, of the lines 0 to 24.
+    pub fn line(&self, row: u8) -> &[u8]
+        requires { row ≤ 24 }
+        ensures line { slice_get self.now row ≡ Some result.now }
+        ensures width { length result.now ≡ 80 }
+        ensures grid { IsGrid self.now }
+    {
+        &self.lines[row as usize]
+    }
+
+    /// Puts bytes into a line, from a column on.
+    pub fn put(&mut self, row: u8, col: u8, bytes: &[u8])
+        requires row_in { row ≤ 24 }
+        requires col_in { col + length bytes.now ≤ 80 }
+        ensures put { self.new ≡ put_in_grid row col bytes.now self.old }
+        ensures grid { IsGrid self.old }
+    {
+        let line = &mut self.lines[row as usize];
+        let from = col as usize;
+        line[from..from + bytes.len()].copy_from_slice(bytes);
+    }
+
+    /// Sets a whole line.
+    pub fn set_line(&mut self, row: u8, line: [u8; 80])
+        requires { row ≤ 24 }
+        ensures { self.new ≡ slice_set self.old row line }
+    {
+        self.lines[row as usize] = line;
+    }
+}

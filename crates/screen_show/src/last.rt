@@ -1,0 +1,84 @@
+ghost use Rattle.std.specs.Prelude.{None};
+ghost use Rattle.screen_show.specs.declared.display.Kind.TheVariants.{Last};
+
+use crate::page::write_page;
+use crate::{Display, Grid, Kind, Recorder};
+use outside_world::Failed;
+use std::io::Write;
+
+/// A display that writes its last frame as a page when it is closed, and nothing where it had no frame.
+/// It tells nothing of what is shown.
+#[derive(Drop)]
+pub struct LastDisplay<W: Write + Drop> {
+    writer: W,
+    grid: Grid,
+    frame: Option<Grid>,
+    faults: u64,
+}
+
+impl<W: Write + Drop> LastDisplay<W> {
+    /// A display on this writer.
+    pub fn new(writer: W) -> LastDisplay<W> {
+        LastDisplay {
+            writer,
+            grid: Grid::empty(),
+            frame: None,
+            faults: 0,
+        }
+    }
+}
+
+impl<W: Write + Drop> Display for LastDisplay<W> {
+    ghost seen = { λ d. record { kind = Last; told = None; faults = d.faults } };
+
+    fn kind(&self) -> Kind {
+        Kind::Last
+    }
+
+    fn recorder(&self) -> Option<&Recorder> {
+        None
+    }
+
+    fn put(&mut self, row: u8, col: u8, bytes: &[u8]) -> Result<(), Failed> {
+        self.grid.put(row, col, bytes);
+        Ok(())
+    }
+
+    fn done(&mut self) -> Result<(), Failed> {
+        self.frame = Some(self.grid);
+        Ok(())
+    }
+
+    fn close(&mut self) -> Result<(), Failed> {
+        let written = match &self.frame {
+            Some(frame) => write_page(&mut self.writer, frame),
+            None => Ok(()),
+        };
+        if written.is_err() {
+            self.faults = self.faults.saturating_add(1);
+        }
+        written
+    }
+}
+
+#[cfg(test)]
+mod tests {
+    use super::*;
+    use std::test::Fail;
+
+    #[test]
+    fn the_last_frame_alone_is_a_page(rt: HostRuntime) -> Result<(), Fail> {
+        let mut display = LastDisplay::new(Vec::new(rt.alloc()));
+        display.close()?;
+        assert_eq!(rt; display.writer.len(), 0);
+        display.put(0, 0, b"first")?;
+        display.done()?;
+        display.put(0, 0, b"final")?;
+        display.done()?;
+        display.put(0, 0, b"never")?;
+        display.close()?;
+        assert_eq!(rt; display.writer.len(), 2030);
+        assert_eq!(rt; &display.writer[..5], b"final".as_slice());
+        Ok(())
+    }
+}

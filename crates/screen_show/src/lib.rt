@@ -1,0 +1,66 @@
+//! Screens, displays and their frames: what a display tells, and how a screen is sent by its changes.
+#![tactic(auto)]
+
+mod ansi;
+mod display;
+mod grid;
+mod last;
+mod page;
+mod recorder;
+mod sender;
+
+pub use ansi::AnsiDisplay;
+pub use display::{Display, Kind};
+pub use grid::Grid;
+pub use last::LastDisplay;
+pub use page::PageDisplay;
+pub use recorder::Recorder;
+pub use sender::send;
+
+#[cfg(test)]
+mod tests {
+    use super::*;
+    use outside_world::Failed;
+    use std::test::Fail;
+
+    // The grid that shows these bytes at the beginning of a line, and nothing else.
+    fn grid_with(row: u8, bytes: &[u8; 3]) -> Grid {
+        let mut grid = Grid::empty();
+        if row <= 24 {
+            grid.put(row, 0, bytes);
+        }
+        grid
+    }
+
+    #[test]
+    fn changed_runs_alone_are_put(rt: HostRuntime) -> Result<(), Fail> {
+        let mut recorder = Recorder::new(rt.alloc(), Kind::Pages, 3, Vec::new(rt.alloc()))?;
+        let blank = Grid::empty();
+        let first = grid_with(24, b"abc");
+        let second = grid_with(24, b"xby");
+        send(&blank, &first, &mut recorder)?;
+        assert_eq!(rt; (recorder.puts(), recorder.bytes_put()), (1, 3));
+        send(&first, &second, &mut recorder)?;
+        assert_eq!(rt; (recorder.puts(), recorder.bytes_put()), (3, 5));
+        send(&second, &second, &mut recorder)?;
+        assert_eq!(rt; (recorder.puts(), recorder.bytes_put()), (3, 5));
+        let frames = recorder.frames();
+        assert_eq!(rt; frames.len(), 3);
+        assert_eq!(rt; &frames[2].line(24)[..4], b"xby\0".as_slice());
+        Ok(())
+    }
+
+    #[test]
+    fn numbered_calls_fail(rt: HostRuntime) -> Result<(), Fail> {
+        let failing = [2].to_vec(rt.alloc())?;
+        let mut recorder = Recorder::new(rt.alloc(), Kind::Ansi, 1, failing)?;
+        assert_eq!(rt; recorder.put(1, 2, b"abc"), Ok(()));
+        assert_eq!(rt; recorder.done(), Err(Failed));
+        assert_eq!(rt; recorder.done(), Ok(()));
+        assert_eq!(rt; recorder.done(), Err(Failed));
+        assert_eq!(rt; recorder.close(), Ok(()));
+        assert!(rt; recorder.is_closed());
+        assert_eq!(rt; recorder.frames().len(), 1);
+        Ok(())
+    }
+}

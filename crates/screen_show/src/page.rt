@@ -1,0 +1,97 @@
+// Pages of a screen's lines, which two of the host's displays write.
+ghost use Rattle.std.specs.Prelude.{None};
+ghost use Rattle.screen_show.specs.declared.display.Kind.TheVariants.{Pages};
+
+use crate::{Display, Grid, Kind, Recorder};
+use outside_world::Failed;
+use std::io::Write;
+
+const LINE_END: u8 = b'\n';
+
+/// A display that writes each frame as a page to a writer, as standard output: 25 lines of 80 bytes,
+/// each followed by a line feed, and then a line of four dashes. It tells nothing of what is shown.
+#[derive(Drop)]
+pub struct PageDisplay<W: Write + Drop> {
+    writer: W,
+    grid: Grid,
+    faults: u64,
+}
+
+impl<W: Write + Drop> PageDisplay<W> {
+    /// A display on this writer.
+    pub fn new(writer: W) -> PageDisplay<W> {
+        PageDisplay {
+            writer,
+            grid: Grid::empty(),
+            faults: 0,
+        }
+    }
+}
+
+// The 25 lines, each with its end, and a line of four dashes.
+fn page_of(grid: &Grid) -> [u8; 2030] {
+    let mut page = [b'-'; 2030];
+    for row in 0..25u8 {
+        let from = row as usize * 81;
+        page[from..from + 80].copy_from_slice(grid.line(row));
+        page[from + 80] = LINE_END;
+    }
+    page[2029] = LINE_END;
+    page
+}
+
+// Writes a page.
+pub(crate) fn write_page<W: Write>(writer: &mut W, grid: &Grid) -> Result<(), Failed> {
+    match writer.write_all(&page_of(grid)) {
+        Ok(()) => Ok(()),
+        Err(_) => Err(Failed),
+    }
+}
+
+impl<W: Write + Drop> Display for PageDisplay<W> {
+    ghost seen = { λ d. record { kind = Pages; told = None; faults = d.faults } };
+
+    fn kind(&self) -> Kind {
+        Kind::Pages
+    }
+
+    fn recorder(&self) -> Option<&Recorder> {
+        None
+    }
+
+    fn put(&mut self, row: u8, col: u8, bytes: &[u8]) -> Result<(), Failed> {
+        self.grid.put(row, col, bytes);
+        Ok(())
+    }
+
+    fn done(&mut self) -> Result<(), Failed> {
+        let written = write_page(&mut self.writer, &self.grid);
+        if written.is_err() {
+            self.faults = self.faults.saturating_add(1);
+        }
+        written
+    }
+
+    fn close(&mut self) -> Result<(), Failed> {
+        Ok(())
+    }
+}
+
+#[cfg(test)]
+mod tests {
+    use super::*;
+    use std::test::Fail;
+
+    #[test]
+    fn a_frame_is_a_page(rt: HostRuntime) -> Result<(), Fail> {
+        let mut display = PageDisplay::new(Vec::new(rt.alloc()));
+        for row in 0..25u8 {
+            display.put(row, 0, &[b'a' + row; 80])?;
+        }
+        display.done()?;
+        assert_eq!(rt; display.writer.len(), 2030);
+        assert_eq!(rt; &display.writer[160..164], b"b\ncc".as_slice());
+        assert_eq!(rt; &display.writer[2023..], b"y\n----\n".as_slice());
+        Ok(())
+    }
+}

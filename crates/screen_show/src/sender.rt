@@ -1,0 +1,103 @@
+// Sends a screen to a display, by what changed.
+ghost use Rattle.std.specs.Prelude.{◌≡◌, ◌≤◌, ◌<◌, ◌+◌, length, take, drop};
+ghost use Rattle.outside_world.specs.Causes.{HasCause};
+ghost use Rattle.screen_show.specs.Changes.{differing_front};
+ghost use Rattle.screen_show.specs.Display.{Puts, Finishes, Sends, TellsSoundly};
+ghost use Rattle.screen_show.specs.Lines.{SendsLine};
+
+use crate::{Display, Grid};
+use outside_world::Failed;
+
+fn put_run(display: &mut dyn Display, row: u8, col: usize, bytes: &[u8]) -> Result<(), Failed>
+    requires row_in { row ≤ 24 }
+    requires col_in { col + length bytes.now ≤ 80 }
+    ensures shown { Puts row col bytes.now (seen display.old).told (seen display.new).told result }
+    ensures kind { (seen display.new).kind ≡ (seen display.old).kind }
+    ensures cause { HasCause (seen display.old).faults (seen display.new).faults result }
+{
+    display.put(row, col as u8, bytes)
+}
+
+fn end_frame(display: &mut dyn Display) -> Result<(), Failed>
+    ensures shown { Finishes (seen display.old).told (seen display.new).told result }
+    ensures kind { (seen display.new).kind ≡ (seen display.old).kind }
+    ensures cause { HasCause (seen display.old).faults (seen display.new).faults result }
+{
+    display.done()
+}
+
+// A display tells a grid of 25 lines of 80 bytes, and counts below 2 to the 64.
+fn is_sound(display: &dyn Display)
+    ensures { TellsSoundly (seen display.now).told }
+{
+    let _kind = display.kind();
+}
+
+// How far two lines differ from their beginning on.
+fn differing_len(before: &[u8], after: &[u8]) -> usize
+    requires { length before.now ≡ length after.now }
+    ensures front { result ≡ differing_front before.now after.now }
+    ensures within { result ≤ length before.now }
+{
+    let mut len = 0;
+    while len < before.len() && before[len] != after[len] {
+        len += 1;
+    }
+    len
+}
+
+// The bytes from a place on.
+fn rest(bytes: &[u8], at: usize) -> &[u8]
+    requires { at ≤ length bytes.now }
+    ensures { result.now ≡ drop at bytes.now }
+{
+    &bytes[at..]
+}
+
+// The first bytes.
+fn front(bytes: &[u8], len: usize) -> &[u8]
+    requires { len ≤ length bytes.now }
+    ensures { result.now ≡ take len bytes.now }
+{
+    &bytes[..len]
+}
+
+// Puts the changed runs of one line.
+fn send_line(before: &[u8], after: &[u8], row: u8, display: &mut dyn Display) -> Result<(), Failed>
+    requires row_in { row ≤ 24 }
+    requires before_width { length before.now ≡ 80 }
+    requires after_width { length after.now ≡ 80 }
+    requires sound { TellsSoundly (seen display.old).told }
+    ensures shown { SendsLine row before.now after.now (seen display.old).told (seen display.new).told result }
+    ensures kind { (seen display.new).kind ≡ (seen display.old).kind }
+    ensures cause { HasCause (seen display.old).faults (seen display.new).faults result }
+{
+    let mut col = 0;
+    while col < after.len() {
+        let len = differing_len(rest(before, col), rest(after, col));
+        if len == 0 {
+            col += 1;
+            continue;
+        }
+        put_run(display, row, col, front(rest(after, col), len))?;
+        col += len;
+    }
+    Ok(())
+}
+
+/// Sends the screen `after` to a display that shows `before`: it puts the changed runs of each line,
+/// a run being a longest stretch of bytes of one line in which the two differ, and ends the frame.
+/// It fails only where the display's count of faults rose, and has then added no frame.
+pub fn send(before: &Grid, after: &Grid, display: &mut dyn Display) -> Result<(), Failed>
+    ensures shown { Sends before.now after.now (seen display.old).told (seen display.new).told result }
+    ensures kind { (seen display.new).kind ≡ (seen display.old).kind }
+    ensures cause { HasCause (seen display.old).faults (seen display.new).faults result }
+{
+    before.is_whole();
+    after.is_whole();
+    is_sound(display);
+    for row in 0..25u8 {
+        send_line(before.line(row), after.line(row), row, display)?;
+    }
+    end_frame(display)
+}

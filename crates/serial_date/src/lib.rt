@@ -1,0 +1,6 @@
+//! Day numbers and moments of the worksheet's calendar.
+#![tactic(auto)]
+
+mod moment;
+
+pub use moment::Moment;

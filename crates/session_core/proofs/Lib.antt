@@ -1,0 +1,2 @@
+pub mod CellMaps
+pub mod Widths

@@ -1,0 +1,5 @@
+pub mod Cells
+pub mod Machine
+pub mod Pointer
+pub mod Screen
+pub mod Typing
