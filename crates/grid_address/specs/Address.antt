@@ -1,11 +1,11 @@
 -- How addresses are written.
-use Rattle.std.specs.Prelude.{ℕ, ◌+◌, ◌-◌, ◌/◌, ◌%◌, List, [], ◌∷◌, ◌++◌, map, nat_lt, if◌then◌else◌}
+use Rattle.std.specs.Prelude.{ℕ, ◌+◌, ◌-◌, ◌/◌, ◌%◌, List, [], ◌∷◌, ◌++◌, map, nat_lt, ◌==◌, if◌then◌else◌}
 use Rattle.std.specs.Int.Digits.{digits_of}
 use Rattle.grid_address.specs.Place.{Place}
 
--- a number above 0 in decimal digits, without leading zeros
+-- a number in decimal digits, without leading zeros
 abbrev pub decimal : ℕ → List ℕ
-decimal n = map (λ d. 48 + d) (digits_of 10 n)
+decimal n = if n == 0 then 48 ∷ [] else map (λ d. 48 + d) (digits_of 10 n)
 
 -- a column's letters: A to Z for the first 26, then AA, AB and so on
 abbrev pub column_name : ℕ → List ℕ

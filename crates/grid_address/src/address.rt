@@ -3,6 +3,7 @@ ghost use Rattle.std.specs.Prelude.{◌≡◌, ◌≤◌, ◌<◌, ◌+◌, ◌+
 ghost use Rattle.grid_address.specs.Address.{address_of, column_name, decimal};
 
 use crate::Cell;
+use crate::decimal::decimal_text;
 use std::marker::Model;
 
 /// A piece of an address: at most 6 bytes.
@@ -32,12 +33,13 @@ impl AddressText {
         }
     }
 
-    fn push(&mut self, byte: u8)
-        requires { length self.old < 6 }
-        ensures { self.new ≡ self.old ++ byte ∷ [] }
+    fn push(&mut self, bytes: &[u8])
+        requires { length self.old + length bytes.now ≤ 6 }
+        ensures { self.new ≡ self.old ++ bytes.now }
     {
-        self.bytes[self.len] = byte;
-        self.len += 1;
+        let end = self.len + bytes.len();
+        self.bytes[self.len..end].copy_from_slice(bytes);
+        self.len = end;
     }
 
     /// The bytes, at most 6.
@@ -55,21 +57,20 @@ fn push_column(text: &mut AddressText, col: u8)
     ensures { text.new ≡ column_name col }
 {
     if col >= 26 {
-        text.push(b'A' - 1 + col / 26);
+        text.push(&[b'A' - 1 + col / 26]);
     }
-    text.push(b'A' + col % 26);
+    text.push(&[b'A' + col % 26]);
 }
 
-// Adds a number as decimal digits.
-fn push_number(text: &mut AddressText, number: u16)
-    requires room { length text.old + length (decimal number) ≤ 6 }
-    requires more { 0 < number }
-    ensures { text.new ≡ text.old ++ decimal number }
+// Adds a row's number, counted from 1.
+#[tactic(auto, using(crate::proofs::Decimals::row_digits))]
+fn push_row(text: &mut AddressText, row: u16)
+    requires row_in { row < 8192 }
+    requires room { length text.old ≤ 2 }
+    ensures { text.new ≡ text.old ++ decimal (row + 1) }
 {
-    if number >= 10 {
-        push_number(text, number / 10);
-    }
-    text.push(b'0' + (number % 10) as u8);
+    let number = decimal_text(u64::from(row) + 1);
+    text.push(number.bytes());
 }
 
 /// A column's letters, A to IV.
@@ -91,7 +92,7 @@ pub fn row_text(row: u16) -> AddressText
     ensures digits { length result ≤ 4 }
 {
     let mut text = AddressText::new();
-    push_number(&mut text, row + 1);
+    push_row(&mut text, row);
     text
 }
 
@@ -102,6 +103,6 @@ pub fn cell_text(cell: Cell) -> AddressText
 {
     let mut text = AddressText::new();
     push_column(&mut text, cell.col);
-    push_number(&mut text, cell.row + 1);
+    push_row(&mut text, cell.row);
     text
 }

@@ -3,8 +3,10 @@
 
 mod address;
 mod cell;
+mod decimal;
 mod span;
 
 pub use address::{AddressText, cell_text, column_text, row_text};
 pub use cell::Cell;
+pub use decimal::{DecimalText, decimal_text};
 pub use span::Span;

@@ -1,6 +1,6 @@
 use Rattle.std.proofs.Common.{◌≡◌, ◌≤◌, ◌<◌, ◌+◌, ◌++◌, ◌∷◌, [], length, ℕ, ◌-◌, ◌*◌}
-use Rattle.grid_address.specs.Address.{address_of, column_name, decimal}
-use Rattle.grid_address.proofs.address.+push_number.Given as goal
+use Rattle.grid_address.specs.Address.{decimal}
+use Rattle.grid_address.proofs.decimal.+push_number.Given as goal
 
 -- proposed from what the function passes where it calls itself
 abbrev pub decreases-push_number : goal.decreases-push_number
