@@ -6,6 +6,7 @@
 mod clock;
 mod faults;
 mod host_keys;
+mod host_notes;
 mod keys;
 mod notes;
 mod shelf;
@@ -13,6 +14,7 @@ mod shelf;
 pub use clock::{Clock, ListClock};
 pub use faults::Failed;
 pub use host_keys::HostKeys;
+pub use host_notes::HostNotes;
 pub use keys::{Keys, ListKeys};
 pub use lics_text::Memory;
 pub use notes::{ListNotes, Notes};

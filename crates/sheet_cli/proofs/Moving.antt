@@ -79,7 +79,7 @@ module _ (turn place : ℕ) (before now : List View) (v : View) (below : turn < 
     rest = others;
     was = was_left;
     is = removed ∙ ap (λ (l : List View). remove (set l place w) place) is_left ∙ ap (λ (n : ℕ). remove (set (t.stay ++ v ∷ others) n w) n) (sym t.places)
-    ∙ ap (λ (l : List View). remove l (length t.stay)) (set_at t.stay v w others) ∙ remove_at t.stay w others;
+        ∙ ap (λ (l : List View). remove l (length t.stay)) (set_at t.stay v w others) ∙ remove_at t.stay w others;
     turns = omega (arith, length-append t.done (v ∷ []), t.turns);
     places = t.places;
   }
@@ -156,9 +156,9 @@ module _ (test : View → Bool) where
   filter_last [] v false is = rw is refl
   filter_last (x ∷ xs) v b is = first_kept (test x) (filter_last xs v b is)
     where
-    first_kept : (t : Bool) → filter test (xs ++ v ∷ []) ≡ filter test xs ++ cond b (v ∷ []) [] → cond t (x ∷ filter test (xs ++ v ∷ [])) (filter test (xs ++ v ∷ [])) ≡ cond t (x ∷ filter test xs) (filter test xs) ++ cond b (v ∷ []) []
-    first_kept true rest = ap (λ (l : List View). x ∷ l) rest
-    first_kept false rest = rest
+      first_kept : (t : Bool) → filter test (xs ++ v ∷ []) ≡ filter test xs ++ cond b (v ∷ []) [] → cond t (x ∷ filter test (xs ++ v ∷ [])) (filter test (xs ++ v ∷ [])) ≡ cond t (x ∷ filter test xs) (filter test xs) ++ cond b (v ∷ []) []
+      first_kept true rest = ap (λ (l : List View). x ∷ l) rest
+      first_kept false rest = rest
 
   pub keeping_starts : (views : List View) → Keeping test 0 0 views views
   keeping_starts views = record { turns = record { done = []; stay = []; rest = views; was = refl; is = refl; turns = refl; places = refl }; kept = refl }

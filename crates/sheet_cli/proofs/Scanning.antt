@@ -330,7 +330,7 @@ module _ (bytes : List ℕ) (keys : List Key) (b : ℕ) (next : KeyReader) (ende
       let facts = begun_named (folded b) key begun in
       let fed : after_byte Opened b ≡ Some (Named key 1, None) = ap opened_by begun in
       found (Named key 1, None) (sym fed ∙ is) (gone_on (Named key 1) (holding bytes keys Opened b s (Named key 1) fed
-        (b ∷ [], ap (λ (l : List ℕ). l ++ b ∷ []) s.holds, facts.0, facts.1, facts.2)))
+      (b ∷ [], ap (λ (l : List ℕ). l ++ b ∷ []) s.holds, facts.0, facts.1, facts.2)))
 
   letters_more : (key : Key) (len : ℕ) → Scanned bytes keys (Named key len) → after_byte (Named key len) b ≡ Some (next, ended) → Goal (next, ended)
   letters_more key len s is =
@@ -343,7 +343,7 @@ module _ (bytes : List ℕ) (keys : List Key) (b : ℕ) (next : KeyReader) (ende
               let front : map folded (letters ++ b ∷ []) ≡ take (len + 1) name =
               map-append folded letters (b ∷ []) ∙ ap (λ (l : List ℕ). l ++ folded b ∷ []) (s.holds.3) ∙ ap (λ n. take len name ++ n ∷ []) (eqb-true (folded b) (get_or name len 0) same) ∙ sym (take_more name len 0 within) in
               found (Named key (len + 1), None) (sym fed ∙ is) (gone_on (Named key (len + 1)) (holding bytes keys (Named key len) b s (Named key (len + 1)) fed
-                (letters ++ b ∷ [], ap (λ (l : List ℕ). l ++ b ∷ []) (s.holds.1), s.holds.2, front, omega arith))))
+              (letters ++ b ∷ [], ap (λ (l : List ℕ). l ++ b ∷ []) (s.holds.1), s.holds.2, front, omega arith))))
           | inr apart ↦ (let fed : after_byte (Named key len) b ≡ None = rw (more, apart) refl in absurd (none_some (next, ended) (sym fed ∙ is)))
         ]
         | inr past ↦ elim (cases_Bool (b == 125)) [

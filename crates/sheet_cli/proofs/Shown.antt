@@ -187,7 +187,7 @@ sent_one start screens shown s left out displays displays' failed_before failed 
       sent = one_more s sent l.passes;
       displays_are = l.stay_views;
       failed_are = passed.handed ∙ ap (λ (fs : List View). fs ++ passed.out) were ∙ append_assoc failed_before (views_of out) passed.out
-      ∙ ap (λ (fs : List View). failed_before ++ (views_of out ++ fs)) l.gone_views ∙ ap (λ (fs : List View). failed_before ++ fs) (sym (map-append (λ (d : Watched). d.now) out l.gone));
+          ∙ ap (λ (fs : List View). failed_before ++ (views_of out ++ fs)) l.gone_views ∙ ap (λ (fs : List View). failed_before ++ fs) (sym (map-append (λ (d : Watched). d.now) out l.gone));
       each = each_kept (screens ++ s ∷ []) (HasFailed screens) left l.stay l.gone l.passes;
     }
 

@@ -33,9 +33,11 @@ text_then_part first more None None c x y = y
 text_then_part first more None (Some b) c x y = absurd cc
 text_then_part first more (Some a) None c x y = absurd cc
 text_then_part first more (Some a) (Some b) c x y =
-    let same : b ≡ a ++ first = cc in
-    (length first + y.0, omega (arith, length-append first more, y.1),
-      y.2 ∙ ap (λ (l : List ℕ). Some (l ++ take y.0 more)) same ∙ ap Some (append_assoc a first (take y.0 more)) ∙ ap (λ (l : List ℕ). Some (a ++ l)) (sym (take_past first more y.0)))
+    let same : b ≡ a ++ first = cc in (
+      length first + y.0,
+      omega (arith, length-append first more, y.1),
+      y.2 ∙ ap (λ (l : List ℕ). Some (l ++ take y.0 more)) same ∙ ap Some (append_assoc a first (take y.0 more)) ∙ ap (λ (l : List ℕ). Some (a ++ l)) (sym (take_past first more y.0)),
+    )
 
 part_of_first : (first more : List ℕ) (a b : Option (List ℕ)) → AddsPart first a b → AddsPart (first ++ more) a b
 part_of_first first more None b x = x

@@ -1,5 +1,5 @@
 -- What the calls that read the words answer.
-use Rattle.std.specs.Prelude.{◌≡◌, ◌<◌, ℕ, List, [], drop, length, slice_index_or, Option, Some, None, Result, Ok, Err}
+use Rattle.std.specs.Prelude.{◌≡◌, ◌<◌, ◌≤◌, ℕ, List, [], drop, length, slice_index_or, Option, Some, None, Result, Ok, Err}
 use Rattle.sheet_cli.specs.Options.{option_text, taken, words_read}
 use Rattle.sheet_cli.specs.declared.options.Options.{Options}
 use Rattle.sheet_cli.specs.declared.options.Wanted.{Wanted}
@@ -14,9 +14,18 @@ HasValue value is None = is ≡ Err value
 -- the byte of the word from which it is refused
 abbrev pub HasTaken : List ℕ → Result (Options × Option Wanted) (List ℕ) → Result (Options × Option Wanted) ℕ → Type 0
 HasTaken word is (Ok t) = is ≡ Ok t
-HasTaken word is (Err from) = is ≡ Err (drop from word)
+HasTaken word is (Err from) = (from ≤ length word) × (is ≡ Err (drop from word))
+
+-- the bytes that are refused
+abbrev pub refused_text : List (List ℕ) → Refused → List ℕ
+refused_text words (Part place from) = drop from (slice_index_or words place [])
+refused_text words (NoValue wanted) = option_text wanted
+
+-- they are a part of a word, if of any
+abbrev pub IsPart : List (List ℕ) → Refused → Type 0
+IsPart words (Part place from) = (place < length words) × (from ≤ length (slice_index_or words place []))
+IsPart words (NoValue wanted) = Unit {0}
 
 abbrev pub HasReadWords : List (List ℕ) → Result Options Refused → Type 0
 HasReadWords words (Ok o) = words_read words ≡ Ok o
-HasReadWords words (Err (Part place from)) = (place < length words) × (words_read words ≡ Err (drop from (slice_index_or words place [])))
-HasReadWords words (Err (NoValue wanted)) = words_read words ≡ Err (option_text wanted)
+HasReadWords words (Err refused) = IsPart words refused × (words_read words ≡ Err (refused_text words refused))

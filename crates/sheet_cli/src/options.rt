@@ -237,8 +237,8 @@ fn take_word(
     }
 }
 
-// The word at a place.
-fn word_at(words: &Words, place: usize) -> &[u8]
+/// The word at a place.
+pub fn word_at(words: &Words, place: usize) -> &[u8]
     requires { place < length words.now }
     ensures { result.now ≡ slice_index_or words.now place [] }
 {
