@@ -410,3 +410,16 @@ pub ended_key : (r next : KeyReader) (b : ℕ) (key : Key) → after_byte r b �
 ended_key AtRest next b key is = rest_ended b next key is
 ended_key Opened next b key is = opened_ended (begun_by (folded b)) next key is
 ended_key (Named k len) next b key is = letters_ended k len b next key is
+
+keys_of_scan : (keys : List Key) (s : Scan) (all : List Key) (r : KeyReader) → after_keys keys s ≡ Some (all, r) → (more : List Key) × (all ≡ keys ++ more)
+keys_of_scan keys None all r e = absurd cc
+keys_of_scan keys (Some s) all r e =
+    let pairs : ◌≡◌ {A = List Key × KeyReader} (keys ++ s.0, s.1) (all, r) = cc in
+    (s.0, sym (ap (λ (p : List Key × KeyReader). p.0) pairs))
+
+-- the keys of a text begin with those of its front
+pub prefix_keys : (front rest : List ℕ) (keys all : List Key) → Spells front keys → Spells (front ++ rest) all → (more : List Key) × (all ≡ keys ++ more)
+prefix_keys front rest keys all p q =
+    let scanned : after_keys keys (scan AtRest rest) ≡ Some (all, AtRest) =
+    ap (λ (s : Scan). scan_then s rest) (sym (text_scanned front keys p)) ∙ sym (scan-append AtRest front rest) ∙ text_scanned (front ++ rest) all q in
+    keys_of_scan keys (scan AtRest rest) all AtRest scanned
