@@ -1,11 +1,11 @@
 -- One line that is sent, run by run.
-use Rattle.std.proofs.Common.{◌≡◌, ℕ, ◌+◌, ◌-◌, ◌^◌, ◌<◌, ◌≤◌, min, true, List, [], ◌∷◌, ◌++◌, length, take, drop, get_or, set, Option, Some, None, Result, Ok, Err, refl, ap, sym, ◌∙◌, subst, arith, append_assoc, length-append}
+use Rattle.std.proofs.Common.{◌≡◌, ℕ, ◌+◌, ◌-◌, ◌^◌, ◌<◌, ◌≤◌, true, List, [], ◌∷◌, ◌++◌, length, take, drop, get_or, set, Option, Some, None, Ok, Err, refl, ap, sym, ◌∙◌, subst, arith, append_assoc, length-append}
 use Rattle.std.specs.Prelude.{◌==◌}
-use Rattle.std.proofs.lemmas.List.{append-nil, drop_all, drop_more, take_all, take_more, length-take-le, length-drop, length-set, set-get_or, get_or-set_same, set-set, take_at, drop_at, drop-drop}
+use Rattle.std.proofs.lemmas.List.{append-nil, drop_all, drop_more, take_all, take_more, length-take-le, length-drop, set-get_or, get_or-set_same, set-set, take_at, drop_at, drop-drop}
 use Rattle.outside_world.specs.declared.faults.Failed.{Failed}
 use Rattle.screen_show.specs.Changes.{patched_line, line_differences, line_runs, differing_front}
-use Rattle.screen_show.specs.Display.{Shown, Puts, IsSound, TellsSoundly, raised, with_bytes}
-use Rattle.screen_show.specs.Grid.{IsGrid, put_in_line}
+use Rattle.screen_show.specs.Display.{Shown, Puts, TellsSoundly, raised, with_bytes}
+use Rattle.screen_show.specs.Grid.{put_in_line}
 use Rattle.screen_show.specs.Lines.{SendsLine, HasSentLine}
 use Rattle.screen_show.proofs.Fronts.{run_line, run_count, run_differences, same_first}
 

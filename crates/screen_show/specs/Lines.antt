@@ -2,7 +2,7 @@
 use Rattle.std.specs.Prelude.{◌≡◌, ℕ, List, [], Option, Some, None, Result, Ok, Err, slice_set, slice_index_or}
 use Rattle.outside_world.specs.declared.faults.Failed.{Failed}
 use Rattle.screen_show.specs.Changes.{patched_line, line_runs, line_differences}
-use Rattle.screen_show.specs.Display.{Shown, IsSound, raised}
+use Rattle.screen_show.specs.Display.{Shown, raised}
 
 -- the changes of one line were put
 pub record HasSentLine (row : ℕ) (before after : List ℕ) (s t : Shown) : Type 0 where

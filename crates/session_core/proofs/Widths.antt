@@ -1,7 +1,7 @@
 -- How wide the painted texts are, and one more cell or line.
 use Rattle.std.proofs.Common.{◌≡◌, ℕ, zero, suc, ◌+◌, ◌-◌, ◌*◌, ◌/◌, ◌<◌, ◌≤◌, List, [], ◌∷◌, ◌++◌, length, take, drop, replicate, set, map, get_or, refl, arith, inl, inr, length-append, append_assoc, add-one, ap, sym, ◌∙◌}
 use Rattle.std.proofs.lemmas.Bool.{cases_lt}
-use Rattle.std.proofs.lemmas.List.{length-take, length-replicate, take_more_set, take_all, length-set, map-append, take_more, append-nil, take-append-le}
+use Rattle.std.proofs.lemmas.List.{length-take, length-replicate, take_more_set, take_all, length-set, take_more, append-nil, take-append-le}
 use Rattle.std.proofs.lemmas.List.FromFn.{take-map-range_with_len, get_or-map-range_with_len, length-map-range_with_len}
 use Rattle.std.specs.List.{range_with_len}
 use Rattle.grid_address.specs.Address.{column_name, decimal}

@@ -1,5 +1,5 @@
 -- The session as a machine over one map of cells.
-use Rattle.std.specs.Prelude.{◌≡◌, ℕ, List, Bool, true, false, refl}
+use Rattle.std.specs.Prelude.{ℕ, Bool, true, false, refl}
 use Rattle.std.specs.Coded.{Coded, code_by, coded×, coded_bool}
 use Rattle.std.specs.FinMap as map
 use Rattle.grid_address.specs.Place.{Place, coded_place}

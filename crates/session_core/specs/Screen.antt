@@ -1,5 +1,5 @@
 -- The screen of a state: 25 lines of 80 bytes, painted from nothing.
-use Rattle.std.specs.Prelude.{◌≡◌, ℕ, zero, suc, ◌+◌, ◌-◌, ◌*◌, ◌/◌, List, [], ◌∷◌, ◌++◌, length, take, drop, replicate, map, Option, Some, None, nat_lt, nat_le, ◌&&◌, if◌then◌else◌, codes, unwrap_or}
+use Rattle.std.specs.Prelude.{ℕ, zero, suc, ◌+◌, ◌-◌, ◌/◌, List, [], ◌∷◌, ◌++◌, length, take, drop, replicate, map, Option, Some, None, nat_lt, nat_le, ◌&&◌, if◌then◌else◌, codes, unwrap_or}
 use Rattle.std.specs.List.{range_with_len}
 use Rattle.std.specs.FinMap as cellmap
 use Rattle.grid_address.specs.Place.{Place}

@@ -1,5 +1,5 @@
 -- Typing a line.
-use Rattle.std.specs.Prelude.{ℕ, [], ◌∷◌}
+use Rattle.std.specs.Prelude.{ℕ, []}
 use Rattle.lics_text.specs.Texts.{line_with}
 use Rattle.session_core.specs.declared.mode.Mode.{Mode}
 use Rattle.session_core.specs.declared.mode.Mode.TheVariants.{Ready, Label}

@@ -1,22 +1,20 @@
 -- A run that must end well does.
-use Rattle.std.proofs.Common.{◌≡◌, ℕ, zero, suc, ◌+◌, ◌<◌, ◌≤◌, ◌-◌, ◌^◌, Bool, true, false, List, [], ◌∷◌, ◌++◌, length, Option, Some, None, Result, Ok, Err, refl, sym, ap, ◌∙◌, subst, arith, inl, inr, ◌⊎◌, append_assoc, length-append}
+use Rattle.std.proofs.Common.{◌≡◌, ℕ, ◌<◌, ◌≤◌, ◌-◌, ◌^◌, Bool, false, List, [], ◌∷◌, ◌++◌, length, Option, Some, None, Result, Ok, Err, refl, sym, ap, ◌∙◌, subst, arith, inl, inr, length-append}
 use Rattle.std.proofs.lemmas.List.{append-nil, length-map}
 use Rattle.outside_world.specs.Causes.{Rose}
-use Rattle.session_core.specs.Machine.{start}
 use Rattle.session_core.specs.declared.key.Key.{Key}
 use Rattle.sheet_cli.specs.Completeness.{HasEndedWell, MustEndWell}
 use Rattle.sheet_cli.specs.Displays.{Watched, views_of}
 use Rattle.sheet_cli.specs.Driving.{HasEnded}
-use Rattle.sheet_cli.specs.Notation.{Begins, IsNoText, Spells}
+use Rattle.sheet_cli.specs.Notation.{Spells}
 use Rattle.sheet_cli.specs.Notes.{LeavesSession, ending_status}
-use Rattle.sheet_cli.specs.Options.{limit_of, words_read}
-use Rattle.sheet_cli.specs.Run.{Ended, Outside, RanIntoWord, RanToBadByte, RanToEnd, RanToKeyFault, RanToLimit, Step, keys_of}
+use Rattle.sheet_cli.specs.Options.{limit_of}
+use Rattle.sheet_cli.specs.Run.{Ended, Outside, Step, keys_of}
 use Rattle.sheet_cli.specs.Status.{HasFinished, IsRun, RunsWith, World, asked, is_any, finished, no_memory, no_note, no_room, no_session, ran, refused}
 use Rattle.sheet_cli.specs.Taking.{AtEnd, TakesBytes}
 use Rattle.sheet_cli.specs.declared.drive.Ending.{Ending}
 use Rattle.sheet_cli.specs.declared.drive.Ending.TheVariants.{KeysEnded, BadWord, KeysFailed, Stopped, NoMemory}
 use Rattle.sheet_cli.specs.declared.options.Options.{Options}
-use Rattle.sheet_cli.specs.declared.reader.KeyReader.TheVariants.{AtRest}
 use Rattle.sheet_cli.proofs.Endings.{handled}
 use Rattle.sheet_cli.proofs.Scanning.{prefix_keys}
 

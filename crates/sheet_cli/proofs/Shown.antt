@@ -1,12 +1,11 @@
 -- What a display showed, one screen after another.
-use Rattle.std.proofs.Common.{◌≡◌, ℕ, zero, suc, ◌+◌, ◌-◌, ◌^◌, ◌≤◌, min, List, [], ◌∷◌, ◌++◌, map, replicate, Option, Some, None, Result, Ok, Err, refl, sym, ap, ◌∙◌, subst, arith, append_assoc}
+use Rattle.std.proofs.Common.{◌≡◌, ℕ, zero, suc, ◌+◌, ◌≤◌, List, [], ◌∷◌, ◌++◌, map, replicate, Option, Some, None, Result, Ok, Err, refl, sym, ap, ◌∙◌, subst, arith, append_assoc}
 use Rattle.std.specs.List.{All}
 use Rattle.std.proofs.lemmas.List.{append-nil, map-append}
 use Rattle.std.proofs.lemmas.List.Elements.{All-head, All-tail}
-use Rattle.outside_world.specs.Causes.{Rose}
 use Rattle.outside_world.specs.declared.faults.Failed.{Failed}
 use Rattle.screen_show.specs.Changes.{Agrees, AgreesInLine, changed_runs, differences}
-use Rattle.screen_show.specs.Display.{Shown, View, Closes, HasSent, Sends, raised, with_end}
+use Rattle.screen_show.specs.Display.{Shown, View, Closes, HasSent, Sends, raised}
 use Rattle.screen_show.specs.Grid.{IsPrinted, empty_grid}
 use Rattle.sheet_cli.specs.Displays.{Screen, HasClosed, HasFailed, HasGained, HasShown, Gains, IsClosed, Passes, Sent, Shows, Watched, counted, differences_along, last_screen, runs_along, views_of, watched}
 use Rattle.sheet_cli.specs.Displays.{none as pass_none, kept as pass_kept, taken_out as pass_out, no_screen, one_more}

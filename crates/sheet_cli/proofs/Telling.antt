@@ -1,13 +1,12 @@
 -- Notes that are written one after another.
-use Rattle.std.proofs.Common.{◌≡◌, ℕ, suc, ◌+◌, ◌≤◌, Bool, true, false, List, [], ◌∷◌, ◌++◌, length, take, Option, Some, None, Result, Ok, Err, refl, sym, ap, ◌∙◌, subst, arith, inl, inr, append_assoc, length-append}
+use Rattle.std.proofs.Common.{◌≡◌, ℕ, suc, ◌+◌, Bool, true, List, [], ◌∷◌, ◌++◌, length, take, Option, Some, None, refl, sym, ap, ◌∙◌, subst, arith, inl, inr, append_assoc, length-append}
 use Rattle.std.specs.Prelude.{codes}
-use Rattle.std.proofs.lemmas.List.{take-append-le, append-nil}
+use Rattle.std.proofs.lemmas.List.{take-append-le}
 use Rattle.outside_world.specs.Causes.{Rose}
-use Rattle.outside_world.specs.declared.faults.Failed.{Failed}
 use Rattle.grid_address.specs.Address.{decimal}
-use Rattle.sheet_cli.specs.Notes.{AddsPart, AddsText, HasWritten, Tells, count_note, ending_note, ending_status, note}
+use Rattle.sheet_cli.specs.Notes.{AddsPart, AddsText, Tells, ending_note, ending_status, note}
 use Rattle.sheet_cli.specs.declared.drive.Ending.{Ending}
-use Rattle.sheet_cli.specs.declared.drive.Ending.TheVariants.{KeysEnded, BadWord, KeysFailed, Stopped}
+use Rattle.sheet_cli.specs.declared.drive.Ending.TheVariants.{KeysEnded}
 
 pub told_as : (text line : List ℕ) (found status_found : ℕ) (before now : Option (List ℕ)) (faults faults' status : ℕ) → text ≡ line → found ≡ status_found →
     Tells line status_found before now faults faults' status → Tells text found before now faults faults' status

@@ -7,7 +7,7 @@ use Rattle.session_core.specs.declared.key.Event.TheVariants.{Key as KeyEvent}
 use Rattle.session_core.specs.Machine.{State, start, step}
 use Rattle.session_core.specs.Screen.{screen}
 use Rattle.screen_show.specs.Display.{View}
-use Rattle.screen_show.specs.Grid.{IsGrid, IsPrinted}
+use Rattle.screen_show.specs.Grid.{IsPrinted}
 use Rattle.sheet_cli.specs.Displays.{Screen, Watched}
 use Rattle.sheet_cli.specs.Passing.{HasSentOne, Passed}
 use Rattle.sheet_cli.specs.Run.{Outside, Step, after, RanToEnd, RanIntoWord, RanToBadByte, RanToKeyFault, RanToLimit, RanOutOfMemory}

@@ -1,6 +1,6 @@
 -- What the calls that read the words answer.
 use Rattle.std.specs.Prelude.{◌≡◌, ◌<◌, ◌≤◌, ℕ, List, [], drop, length, slice_index_or, Option, Some, None, Result, Ok, Err}
-use Rattle.sheet_cli.specs.Options.{option_text, taken, words_read}
+use Rattle.sheet_cli.specs.Options.{option_text, words_read}
 use Rattle.sheet_cli.specs.declared.options.Options.{Options}
 use Rattle.sheet_cli.specs.declared.options.Wanted.{Wanted}
 use Rattle.sheet_cli.specs.declared.options.Refused.{Refused}

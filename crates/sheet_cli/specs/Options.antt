@@ -67,15 +67,20 @@ abbrev pub complete : Result Options (List ℕ) → Result (Options × Option Wa
 complete (Ok o) = Ok (o, None)
 complete (Err text) = Err text
 
--- a word where no value is wanted: an option that was not given before, alone or with its value behind `=`
+-- an option that was not given before, with its value behind `=`
+abbrev pub on_joined : Options → List ℕ → Result (Options × Option Wanted) (List ℕ)
+on_joined o w =
+    if has_front w (codes "--steps=") then (if is_given o Steps then Err w else complete (on_value o Steps (drop 8 w)))
+    else if has_front w (codes "--show=") then (if is_given o Show then Err w else complete (on_value o Show (drop 7 w)))
+    else Err w
+
+-- a word where no value is wanted: an option that was not given before, alone or with its value
 abbrev pub on_word : Options → List ℕ → Result (Options × Option Wanted) (List ℕ)
 on_word o w =
     if bytes_eq w (codes "--count") then (if o.count then Err w else Ok (record o { count = true }, None))
     else if bytes_eq w (codes "--steps") then (if is_given o Steps then Err w else Ok (o, Some Steps))
     else if bytes_eq w (codes "--show") then (if is_given o Show then Err w else Ok (o, Some Show))
-    else if has_front w (codes "--steps=") then (if is_given o Steps then Err w else complete (on_value o Steps (drop 8 w)))
-    else if has_front w (codes "--show=") then (if is_given o Show then Err w else complete (on_value o Show (drop 7 w)))
-    else Err w
+    else on_joined o w
 
 -- what a word comes to, where a value is wanted or not
 abbrev pub taken : Options → Option Wanted → List ℕ → Result (Options × Option Wanted) (List ℕ)

@@ -1,5 +1,5 @@
 -- The reader of key notation, a byte at a time.
-use Rattle.std.specs.Prelude.{◌≡◌, ℕ, ◌+◌, Bool, ◌||◌, ◌==◌, nat_lt, if◌then◌else◌, List, [], ◌∷◌, length, slice_index, Option, Some, None, codes}
+use Rattle.std.specs.Prelude.{◌≡◌, ℕ, ◌+◌, ◌||◌, ◌==◌, nat_lt, if◌then◌else◌, List, [], ◌∷◌, length, slice_index, Option, Some, None, codes}
 use Rattle.lics_text.specs.Bytes.{folded, is_letter}
 use Rattle.session_core.specs.declared.key.Key.{Key}
 use Rattle.session_core.specs.declared.key.Key.TheVariants.{Byte, Enter, Up, Down, Left, Right}

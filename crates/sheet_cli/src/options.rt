@@ -2,7 +2,7 @@
 ghost use Rattle.std.specs.Prelude.{◌≡◌, ◌≤◌, ◌<◌, min, drop, length, slice_index_or, []};
 ghost use Rattle.std.specs.List.{list_all};
 ghost use Rattle.std.specs.Str.{bytes_eq};
-ghost use Rattle.sheet_cli.specs.Options.{is_digit, is_number, number_of, steps_of, kind_of, on_value, on_word, complete, taken, limit_of, shown_kind, has_front};
+ghost use Rattle.sheet_cli.specs.Options.{is_digit, is_number, number_of, steps_of, kind_of, on_joined, on_value, on_word, complete, taken, limit_of, shown_kind, has_front};
 ghost use Rattle.sheet_cli.specs.OptionAnswers.{HasValue, HasTaken, HasReadWords};
 
 use crate::Words;
@@ -176,6 +176,27 @@ fn rest(word: &[u8], from: usize) -> &[u8]
     &word[from..]
 }
 
+// Takes an option with its value behind `=`.
+fn on_joined(options: Options, word: &[u8]) -> Result<(Options, Option<Wanted>), usize>
+    ensures { HasTaken word.now (on_joined options word.now) result }
+{
+    if has_front(word, b"--steps=") {
+        return if options.steps.is_some() {
+            Err(0)
+        } else {
+            with_value(options, Wanted::Steps, word, 8)
+        };
+    }
+    if has_front(word, b"--show=") {
+        return if options.show.is_some() {
+            Err(0)
+        } else {
+            with_value(options, Wanted::Show, word, 7)
+        };
+    }
+    Err(0)
+}
+
 // Takes a word where no value is wanted.
 fn on_word(options: Options, word: &[u8]) -> Result<(Options, Option<Wanted>), usize>
     ensures { HasTaken word.now (on_word options word.now) result }
@@ -206,21 +227,7 @@ fn on_word(options: Options, word: &[u8]) -> Result<(Options, Option<Wanted>), u
             Ok((options, Some(Wanted::Show)))
         };
     }
-    if has_front(word, b"--steps=") {
-        return if options.steps.is_some() {
-            Err(0)
-        } else {
-            with_value(options, Wanted::Steps, word, 8)
-        };
-    }
-    if has_front(word, b"--show=") {
-        return if options.show.is_some() {
-            Err(0)
-        } else {
-            with_value(options, Wanted::Show, word, 7)
-        };
-    }
-    Err(0)
+    on_joined(options, word)
 }
 
 // Takes the next word.

@@ -1,5 +1,3 @@
-use Rattle.std.proofs.Common.{◌≡◌, ◌≤◌, ◌<◌, ◌+◌, ◌++◌, ◌∷◌, [], length, ℕ, ◌-◌, ◌*◌}
-use Rattle.grid_address.specs.Address.{decimal}
 use Rattle.grid_address.proofs.decimal.+push_number.Given as goal
 
 -- proposed from what the function passes where it calls itself

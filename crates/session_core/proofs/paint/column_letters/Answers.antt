@@ -1,6 +1,5 @@
-use Rattle.std.proofs.Common.{◌≡◌, ◌+◌, ◌*◌, ℕ, length, ap, arith, length-append}
+use Rattle.std.proofs.Common.{◌≡◌, ◌+◌, ◌*◌, length, ap, arith, length-append}
 use Rattle.std.proofs.lemmas.List.{length-replicate}
-use Rattle.session_core.specs.Screen.{column_heads}
 use Rattle.session_core.proofs.Widths.{column_heads_length}
 use Rattle.session_core.proofs.paint.column_letters.Goals as goal
 

@@ -1,5 +1,4 @@
-use Rattle.std.proofs.Common.{ap, ◌∙◌, map, length, ◌≡◌}
-use Rattle.session_core.specs.Screen.{shown_byte}
+use Rattle.std.proofs.Common.{length, ◌≡◌}
 use Rattle.session_core.proofs.Widths.{named}
 use Rattle.session_core.proofs.paint.pointer_line_of.Goals as goal
 

@@ -1,8 +1,8 @@
-use Rattle.std.proofs.Common.{◌≡◌, ◌+◌, ◌*◌, ◌++◌, ℕ, List, [], length, drop, ap, sym, ◌∙◌, arith, length-append, append_assoc}
+use Rattle.std.proofs.Common.{◌≡◌, ◌+◌, ◌*◌, ◌++◌, length, drop, ap, sym, ◌∙◌, arith, length-append, append_assoc}
 use Rattle.std.specs.Prelude.{unwrap_or}
 use Rattle.std.specs.FinMap as cellmap
 use Rattle.std.proofs.lemmas.List.{length-replicate, append-nil}
-use Rattle.session_core.specs.Screen.{padded, row_number, shown_cells, left_over, text_at}
+use Rattle.session_core.specs.Screen.{padded, row_number, shown_cells, text_at}
 use Rattle.session_core.proofs.Widths.{shown_cells_none, shown_cells_more, shown_cells_length, left_over_none, left_over_more}
 use Rattle.session_core.proofs.paint.row_of_cells.Goals as goal
 

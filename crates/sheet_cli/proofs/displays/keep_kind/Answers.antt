@@ -1,4 +1,4 @@
-use Rattle.std.proofs.Common.{◌≡◌, ◌<◌, ◌≤◌, length, sym, ◌∙◌, arith}
+use Rattle.std.proofs.Common.{◌<◌, length, sym, ◌∙◌, arith}
 use Rattle.std.proofs.lemmas.List.{length-map}
 use Rattle.sheet_cli.specs.Displays.{same_kind}
 use Rattle.sheet_cli.proofs.Moving.{keeping_starts, keeping_ends, place_below, keeps, drops}

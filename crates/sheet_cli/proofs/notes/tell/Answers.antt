@@ -1,5 +1,5 @@
 use Rattle.std.proofs.Common.{◌≡◌, ◌++◌, Some, refl, ap, ◌∙◌, sym, List, ℕ}
-use Rattle.sheet_cli.specs.Notes.{count_note, ending_note, Tells}
+use Rattle.sheet_cli.specs.Notes.{count_note, ending_note}
 use Rattle.sheet_cli.proofs.Telling.{told_as, told_after, told_none}
 use Rattle.sheet_cli.proofs.notes.tell.Goals as goal
 

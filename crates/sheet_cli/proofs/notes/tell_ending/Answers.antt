@@ -1,4 +1,4 @@
-use Rattle.std.proofs.Common.{◌≡◌, ◌++◌, ap, ◌∙◌, sym, refl}
+use Rattle.std.proofs.Common.{ap, ◌∙◌, sym}
 use Rattle.sheet_cli.specs.Notes.{ending_note, ending_status}
 use Rattle.sheet_cli.proofs.Telling.{told_as, display_note, display_status, stopped_line}
 use Rattle.sheet_cli.proofs.notes.tell_ending.Goals as goal

@@ -22,5 +22,5 @@ pub returns : goal.returns
 returns g c =
     finish c.args.options c.limit-limit.result c.drive-ending.new.session c.drive-ending.result _ _ _ _ _ _ _ _ c.limit-limit.ensures
     (asked_is c.args.options c.kind.result _ _ _ _ _ _ _ _ c.kind.ensures c.keep_kind.ensures.kept (ap (map _) c.reserve.ensures.items))
-    (leaves_unless c.drive-ending.result c.in_default-ending.not-NoMemory) c.drive-ending.ensures.driven c.close_all.ensures refl
-    (by_lengths _ _ c.args.failed.now.items c.close_all.new.failed.items c.len-failed_before.result c.len-2.result (c.len-failed_before.ensures ∙ c.args.failed.now.ok.0) (c.len-2.ensures ∙ c.close_all.new.failed.ok.0)) (rw c.count_of.ensures at c.tell.ensures)
+    (leaves_unless c.drive-ending.result c.in_default-ending.not-NoMemory) c.drive-ending.ensures.driven c.work_on_all.ensures.passed refl
+    (by_lengths _ _ c.args.failed.now.items c.work_on_all.new.failed.items c.len-failed_before.result c.len-2.result (c.len-failed_before.ensures ∙ c.args.failed.now.ok.0) (c.len-2.ensures ∙ c.work_on_all.new.failed.ok.0)) (rw c.count_of.ensures at c.tell.ensures)

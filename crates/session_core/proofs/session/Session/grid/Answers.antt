@@ -1,4 +1,4 @@
-use Rattle.std.proofs.Common.{arith, subst, sym}
+use Rattle.std.proofs.Common.{arith, subst}
 use Rattle.screen_show.specs.Grid.{IsGrid}
 use Rattle.session_core.specs.Screen.{shown_line}
 use Rattle.session_core.proofs.Widths.{painted_more, painted_all, printed}
