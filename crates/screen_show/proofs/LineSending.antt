@@ -1,6 +1,7 @@
 -- One line that is sent, run by run.
 use Rattle.std.proofs.Common.{◌≡◌, ℕ, ◌+◌, ◌-◌, ◌^◌, ◌<◌, ◌≤◌, true, List, [], ◌∷◌, ◌++◌, length, take, drop, get_or, set, Option, Some, None, Ok, Err, refl, ap, sym, ◌∙◌, subst, arith, append_assoc, length-append}
 use Rattle.std.specs.Prelude.{◌==◌}
+use Rattle.std.proofs.lemmas.Bool.{eq-eqb}
 use Rattle.std.proofs.lemmas.List.{append-nil, drop_all, drop_more, take_all, take_more, length-take-le, length-drop, set-get_or, get_or-set_same, set-set, take_at, drop_at, drop-drop}
 use Rattle.outside_world.specs.declared.faults.Failed.{Failed}
 use Rattle.screen_show.specs.Changes.{patched_line, line_differences, line_runs, differing_front}
@@ -134,3 +135,36 @@ module _ (row col : ℕ) (before after : List ℕ) (wide_before : length before 
   line_ends None now u past on = on
   line_ends (Some s) None u past on = on
   line_ends (Some s) (Some t) u past on = line_done s t past on
+
+-- a line that did not change
+same_line_patched : (xs line : List ℕ) → length line ≡ length xs → patched_line xs xs line ≡ line
+same_line_patched [] [] h = refl
+same_line_patched [] (y ∷ ys) h = absurd (omega arith)
+same_line_patched (x ∷ xs) [] h = absurd (omega arith)
+same_line_patched (x ∷ xs) (y ∷ ys) h =
+    let test : (x == x) ≡ true = eq-eqb x x refl in
+    rw test (ap (λ (l : List ℕ). y ∷ l) (same_line_patched xs ys (omega arith)))
+
+same_line_runs : (xs : List ℕ) → line_runs xs xs ≡ 0
+same_line_runs [] = refl
+same_line_runs (x ∷ xs) =
+    let test : (x == x) ≡ true = eq-eqb x x refl in
+    rw test (same_line_runs xs)
+
+same_line_differences : (xs : List ℕ) → line_differences xs xs ≡ 0
+same_line_differences [] = refl
+same_line_differences (x ∷ xs) =
+    let test : (x == x) ≡ true = eq-eqb x x refl in
+    rw test (omega (arith, same_line_differences xs))
+
+pub line_unchanged : (row : ℕ) (before after : List ℕ) (was : Option Shown) (u : Unit {0}) → row < 25 → length before ≡ 80 → before ≡ after → TellsSoundly was → SendsLine row before after was was (Ok u)
+line_unchanged row before after None u h wide same sound = refl
+line_unchanged row before after (Some s) u h wide same sound =
+    let line : List ℕ = get_or s.grid row [] in
+    let long : length line ≡ 80 = sound.grid.columns row [] (omega (arith, sound.grid.lines)) in
+    rw (← same) (record {
+      grid = sym (ap (λ (l : List ℕ). set s.grid row l) (same_line_patched before line (omega arith)) ∙ set-get_or s.grid row []);
+      frames = refl;
+      puts = (let none : line_runs before before ≡ 0 = same_line_runs before in omega (arith, none, sound.puts));
+      bytes_put = (let none : line_differences before before ≡ 0 = same_line_differences before in omega (arith, none, sound.bytes_put));
+    })

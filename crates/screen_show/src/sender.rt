@@ -72,6 +72,9 @@ fn send_line(before: &[u8], after: &[u8], row: u8, display: &mut dyn Display) ->
     ensures kind { (seen display.new).kind ≡ (seen display.old).kind }
     ensures cause { HasCause (seen display.old).faults (seen display.new).faults result }
 {
+    if before == after {
+        return Ok(());
+    }
     let mut col = 0;
     while col < after.len() {
         let len = differing_len(rest(before, col), rest(after, col));

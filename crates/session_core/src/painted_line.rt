@@ -1,4 +1,4 @@
-// A line of the screen while it is painted.
+// A line of the screen while it is painted. What is not painted yet is blank.
 ghost use Rattle.std.specs.Prelude.{◌≡◌, ◌≤◌, ◌-◌, ◌++◌, [], length, take, replicate, map};
 ghost use Rattle.session_core.specs.Screen.{shown_byte};
 
@@ -11,13 +11,13 @@ pub struct PaintedLine {
 }
 
 impl Model for PaintedLine {
-    ghost use Rattle.std.specs.Prelude.{ℕ, List, ◌≤◌, take};
+    ghost use Rattle.std.specs.Prelude.{◌≡◌, ℕ, List, ◌≤◌, ◌-◌, take, drop, replicate};
 
     ghost Value = { List ℕ };
 
     ghost view = { λ a. take a.len a.bytes };
 
-    ghost invariant = { λ a. a.len ≤ 80 };
+    ghost invariant = { λ a. (a.len ≤ 80) × (drop a.len a.bytes ≡ replicate (80 - a.len) 32) };
 }
 
 impl PaintedLine {
@@ -25,7 +25,7 @@ impl PaintedLine {
         ensures { result ≡ [] }
     {
         PaintedLine {
-            bytes: [0; 80],
+            bytes: [b' '; 80],
             len: 0,
         }
     }
@@ -43,7 +43,7 @@ impl PaintedLine {
         ensures { self.new ≡ self.old ++ take (column - length self.old) bytes.now }
     {
         let from = self.len;
-        if from < column {
+        if from < column && !bytes.is_empty() {
             let count = bytes.len().min(column - from);
             self.bytes[from..from + count].copy_from_slice(&bytes[..count]);
             self.len = from + count;
@@ -55,9 +55,7 @@ impl PaintedLine {
         requires { column ≤ 80 }
         ensures { self.new ≡ self.old ++ replicate (column - length self.old) 32 }
     {
-        let from = self.len;
-        if from < column {
-            self.bytes[from..column].fill(b' ');
+        if self.len < column {
             self.len = column;
         }
     }

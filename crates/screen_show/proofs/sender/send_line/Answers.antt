@@ -1,7 +1,7 @@
 use Rattle.std.proofs.Common.{rules, ◌≡◌, ◌≤◌, ◌<◌, ◌+◌, length, arith, ap, ◌∙◌, sym, drop, take}
 use Rattle.std.proofs.lemmas.List.{length-drop}
 use Rattle.screen_show.specs.Changes.{differing_front}
-use Rattle.screen_show.proofs.LineSending.{line_starts, line_same, line_put}
+use Rattle.screen_show.proofs.LineSending.{line_starts, line_same, line_put, line_unchanged}
 use Rattle.screen_show.proofs.sender.send_line.Goals as goal
 
 pub loop-col-init : goal.loop-col-init
@@ -36,3 +36,7 @@ loop-col-preserved g c =
       kind = search rules;
       faults = search rules;
     }
+
+pub returns-then-eq-clause-shown : goal.returns-then-eq-clause-shown
+returns-then-eq-clause-shown g c =
+    line_unchanged c.args.row c.args.before.now c.args.after.now _ _ (omega arith) c.requires.before_width (search rules) c.requires.sound
