@@ -13,5 +13,5 @@ returns-then-self-column c =
     let was : c.args.self.now ≡ take from line = search rules in
     let long : length c.args.self.now ≡ from = ap length was ∙ length-take-le from line (omega arith) in
     longer_by_blanks from c.args.column line (omega arith) (omega arith) (c.self.invariant.1)
-        ∙ ap (λ (l : List ℕ). l ++ replicate (c.args.column - from) 32) (sym was)
-        ∙ ap (λ n. c.args.self.now ++ replicate (c.args.column - n) 32) (sym long)
+    ∙ ap (λ (l : List ℕ). l ++ replicate (c.args.column - from) 32) (sym was)
+    ∙ ap (λ n. c.args.self.now ++ replicate (c.args.column - n) 32) (sym long)
