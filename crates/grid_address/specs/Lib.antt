@@ -1,2 +1,4 @@
 pub mod Address
+pub mod Axes
+pub mod Leads
 pub mod Place

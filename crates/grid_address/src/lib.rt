@@ -1,12 +1,25 @@
-//! Places of a worksheet: cells, spans of cells, and how addresses are written.
+//! Places of a worksheet: cells, spans of cells, references, how addresses are written and read, and the
+//! format byte of a cell.
 #![tactic(auto)]
 
 mod address;
 mod cell;
+mod cell_list;
 mod decimal;
+mod format;
+mod no_room;
+mod reference;
 mod span;
+mod span_list;
+#[cfg(test)]
+mod tests;
 
 pub use address::{AddressText, cell_text, column_text, row_text};
 pub use cell::Cell;
+pub use cell_list::CellList;
 pub use decimal::{DecimalText, decimal_text};
+pub use format::Format;
+pub use no_room::NoRoom;
+pub use reference::{Axis, Ref};
 pub use span::Span;
+pub use span_list::SpanList;

@@ -3,10 +3,15 @@
 #![tactic(auto)]
 
 mod bytes;
+mod cases;
 mod faults;
 mod line;
+mod places;
+#[cfg(test)]
+mod tests;
 mod text;
 mod text_line;
+mod trim;
 
 pub use bytes::TextByte;
 pub use faults::{Memory, TextFault};

@@ -2,10 +2,13 @@ ghost use Rattle.std.specs.Prelude.{◌≡◌, ◌≤◌, ◌<◌, map, IfOk, On
 ghost use Rattle.std.specs.Ordering.{nat_cmp};
 ghost use Rattle.std.specs.Cmp.Lexicographic.{slice_cmp};
 ghost use Rattle.lics_text.specs.Answer.{Gives};
-ghost use Rattle.lics_text.specs.Bytes.{folded};
-ghost use Rattle.lics_text.specs.Texts.{text_of, pushed_text};
+ghost use Rattle.lics_text.specs.Bytes.{folded, lowered};
+ghost use Rattle.lics_text.specs.Texts.{text_of, pushed_text, proper_of, trimmed, IsFirstPlace, IsNoPlace};
 
 use crate::bytes::fold;
+use crate::cases::{lower_all, make_proper, raise_all};
+use crate::places::first_place;
+use crate::trim::{single_spaced, without_front};
 use crate::{MAX_LEN, Memory, TextFault, TextLine};
 use std::alloc::Global;
 use std::cmp::Ordering;
@@ -99,6 +102,58 @@ impl Text {
         ensures { result ≡ slice_cmp nat_cmp (map folded self.now) (map folded other.now) }
     {
         fold_cmp(self.bytes.as_slice(), other.bytes.as_slice())
+    }
+
+    /// The text with its small letters raised.
+    pub fn upper(&self) -> Result<Text, Memory>
+        ensures { IfOk result (λ t. t ≡ map folded self.now) }
+    {
+        let mut text = self.copy()?;
+        raise_all(&mut text.bytes);
+        Ok(text)
+    }
+
+    /// The text with its capitals lowered.
+    pub fn lower(&self) -> Result<Text, Memory>
+        ensures { IfOk result (λ t. t ≡ map lowered self.now) }
+    {
+        let mut text = self.copy()?;
+        lower_all(&mut text.bytes);
+        Ok(text)
+    }
+
+    /// The text with each letter raised that follows no letter, and the other letters lowered.
+    pub fn proper(&self) -> Result<Text, Memory>
+        ensures { IfOk result (λ t. t ≡ proper_of self.now) }
+    {
+        let mut text = self.copy()?;
+        make_proper(&mut text.bytes);
+        Ok(text)
+    }
+
+    /// The text without spaces at its ends, and with one space between words.
+    pub fn trim(&self) -> Result<Text, Memory>
+        ensures { IfOk result (λ t. t ≡ trimmed self.now) }
+    {
+        let line = single_spaced(without_front(self.bytes.as_slice()));
+        let mut bytes = match self.bytes.clone() {
+            Ok(bytes) => bytes,
+            Err(_) => return Err(Memory),
+        };
+        bytes.clear();
+        match bytes.extend_from_slice(line.bytes()) {
+            Ok(()) => Ok(Text { bytes }),
+            Err(_) => Err(Memory),
+        }
+    }
+
+    /// The first place, from `from` on, at which the bytes of `what` stand in the text, case told apart.
+    /// Nothing stands at each place up to the length.
+    pub fn find(&self, what: &Text, from: usize) -> Option<usize>
+        ensures some { IfSome result (λ at. IsFirstPlace what.now self.now from at) }
+        ensures none { IfNone result (IsNoPlace what.now self.now from) }
+    {
+        first_place(what.bytes.as_slice(), self.bytes.as_slice(), from)
     }
 }
 

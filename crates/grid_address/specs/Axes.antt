@@ -1,0 +1,22 @@
+-- A coordinate of a reference.
+use Rattle.std.specs.Prelude.{ℕ, ◌+◌, ◌%◌, Bool, true, false}
+use Rattle.grid_address.specs.declared.reference.Axis.{Axis}
+use Rattle.grid_address.specs.declared.reference.Axis.TheVariants.{Fixed, Offset}
+
+-- the number of a coordinate, absolute or an offset
+abbrev pub number_of : Axis → ℕ
+number_of (Fixed n) = n
+number_of (Offset n) = n
+
+abbrev pub is_fixed : Axis → Bool
+is_fixed (Fixed n) = true
+is_fixed (Offset n) = false
+
+-- the number that a coordinate names, from where it stands, among so many
+abbrev pub resolved : Axis → ℕ → ℕ → ℕ
+resolved (Fixed n) at count = n
+resolved (Offset n) at count = (at + n) % count
+
+pub record Reference : Type 0 where
+  pub col : Axis
+  pub row : Axis

@@ -1,0 +1,83 @@
+// Worked rows of places and references.
+use crate::{
+    Axis, Cell, CellList, Ref, Span, SpanList, cell_text, column_text, decimal_text, row_text,
+};
+use std::process::Abort;
+use std::test::Fail;
+
+const HOME: Cell = Cell { row: 0, col: 0 };
+
+const LAST: Cell = Cell {
+    row: 8191,
+    col: 255,
+};
+
+#[test]
+fn cells_are_written(rt: HostRuntime) -> Result<(), Fail> {
+    for (row, col, text) in [
+        (0u16, 0u8, b"A1".as_slice()),
+        (8, 25, b"Z9"),
+        (9, 26, b"AA10"),
+        (99, 51, b"AZ100"),
+        (999, 52, b"BA1000"),
+        (8191, 255, b"IV8192"),
+    ] {
+        assert!(rt; row < 8192);
+        assert_eq!(rt; cell_text(Cell { row, col }).bytes(), text);
+    }
+    assert_eq!(rt; column_text(233).bytes(), b"HZ".as_slice());
+    assert_eq!(rt; row_text(8191).bytes(), b"8192".as_slice());
+    assert_eq!(rt; decimal_text(0).bytes(), b"0".as_slice());
+    assert_eq!(rt;
+        decimal_text(u64::MAX).bytes(),
+        b"18446744073709551615".as_slice()
+    );
+    Ok(())
+}
+
+// A formula at A1 that names B1, copied to the last cell, names A8192.
+#[test]
+fn references_wrap_at_the_edge(rt: HostRuntime) -> Result<(), Fail> {
+    let b1 = Cell { row: 0, col: 1 };
+    let relative = Ref::of(b1, HOME, false, false);
+    assert_eq!(rt; relative.resolve(HOME), b1);
+    assert_eq!(rt; relative.resolve(LAST), Cell { row: 8191, col: 0 });
+    let back = Ref::of(HOME, LAST, false, false);
+    assert_eq!(rt; back.resolve(LAST), HOME);
+    assert_eq!(rt; back.resolve(HOME), Cell { row: 1, col: 1 });
+    let absolute = Ref::of(b1, LAST, true, true);
+    assert_eq!(rt; absolute.resolve(HOME), b1);
+    assert_eq!(rt; absolute.col, Axis::Fixed(1));
+    let mixed = Ref::of(b1, LAST, true, false);
+    assert_eq!(rt; mixed.col, Axis::Fixed(1));
+    assert_eq!(rt; mixed.row, Axis::Offset(1));
+    Ok(())
+}
+
+#[test]
+fn spans_hold_their_corners(rt: HostRuntime) -> Result<(), Fail> {
+    let span = Span::of(Cell { row: 9, col: 1 }, Cell { row: 2, col: 7 });
+    assert_eq!(rt; span.first, Cell { row: 2, col: 1 });
+    assert_eq!(rt; span.last, Cell { row: 9, col: 7 });
+    assert!(rt; span.contains(Cell { row: 2, col: 7 }));
+    assert!(rt; !span.contains(Cell { row: 1, col: 7 }));
+    assert!(rt; !span.contains(Cell { row: 9, col: 8 }));
+    assert!(rt; Span::whole().contains(LAST));
+    Ok(())
+}
+
+#[test]
+fn lists_keep_their_order(rt: HostRuntime) -> Result<(), Fail> {
+    let mut cells = CellList::new(rt.alloc());
+    let mut spans = SpanList::new(rt.alloc());
+    assert!(rt; cells.get(0).is_none());
+    assert!(rt; cells.push(LAST).is_ok());
+    assert!(rt; cells.push(HOME).is_ok());
+    assert!(rt; spans.push(Span::whole()).is_ok());
+    assert_eq!(rt; cells.len(), 2);
+    assert_eq!(rt; cells.get(1), Some(&HOME));
+    assert!(rt; cells.get(2).is_none());
+    assert_eq!(rt; spans.len(), 1);
+    assert_eq!(rt; spans.get(0), Some(&Span::whole()));
+    Ok(())
+}

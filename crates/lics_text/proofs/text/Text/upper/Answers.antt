@@ -1,0 +1,7 @@
+use Rattle.std.proofs.Common.{subst, sym, arith}
+use Rattle.lics_text.specs.Bytes.{IsText}
+use Rattle.lics_text.proofs.Kept.{upper_kept}
+use Rattle.lics_text.proofs.text.Text.upper.Goals as goal
+
+pub invariant_of-text : goal.invariant_of-text
+invariant_of-text c = rw c.raise_all.ensures (upper_kept _ c.text.invariant)
