@@ -1,0 +1,4 @@
+pub mod Places
+pub mod Powers
+pub mod Rounding
+pub mod Written

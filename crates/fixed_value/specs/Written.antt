@@ -1,0 +1,33 @@
+-- How a number is written.
+use Rattle.std.specs.Int.RustNames.{int_lt}
+use Rattle.std.specs.Prelude.{ℕ, zero, suc, ◌+◌, ◌*◌, ◌/◌, ◌%◌, ◌^◌, ℤ, pos, nat_abs, Bool, true, false, not, ◌&&◌, ◌==◌, List, [], ◌∷◌, ◌++◌, take, drop, if◌then◌else◌}
+use Rattle.fixed_value.specs.Numbers.{nearest}
+
+-- so many digits of a number, with zeros in front
+abbrev pub fixed_digits : ℕ → ℕ → List ℕ
+fixed_digits zero n = []
+fixed_digits (suc k) n = fixed_digits k (n / 10) ++ (48 + n % 10) ∷ []
+
+-- the size in units of the last place, rounded once
+abbrev pub scaled : ℤ → ℕ → ℕ
+scaled v places = nearest (nat_abs v * 10 ^ places) 1000000
+
+-- the zeros in front are left out, but for the last digit
+abbrev pub without_zeros : List ℕ → List ℕ
+without_zeros [] = []
+without_zeros (d ∷ []) = d ∷ []
+without_zeros (d ∷ e ∷ ds) = if d == 48 then without_zeros (e ∷ ds) else d ∷ e ∷ ds
+
+-- no point without places
+abbrev pub pointed : List ℕ → List ℕ
+pointed [] = []
+pointed (d ∷ ds) = 46 ∷ d ∷ ds
+
+-- no sign where all digits are zero
+abbrev pub minus_sign : Bool → List ℕ
+minus_sign true = 45 ∷ []
+minus_sign false = []
+
+-- a sign, the whole digits, and the places behind a point; ten digits before the point are enough
+abbrev pub written : ℤ → ℕ → List ℕ
+written v places = minus_sign (int_lt v (pos 0) && not (scaled v places == 0)) ++ (without_zeros (take 10 (fixed_digits (10 + places) (scaled v places))) ++ pointed (drop 10 (fixed_digits (10 + places) (scaled v places))))

@@ -1,0 +1,170 @@
+// Decimals as they are written.
+ghost use Rattle.std.specs.Int.RustNames.{int_lt};
+ghost use Rattle.std.specs.Prelude.{◌≡◌, ◌≤◌, ◌<◌, ◌+◌, ◌++◌, ◌∷◌, ◌&&◌, ◌==◌, not, [], length, take, drop, ℕ, ℤ, pos, nat_abs};
+ghost use Rattle.fixed_value.specs.Decimals.{decimal_of};
+ghost use Rattle.fixed_value.specs.Written.{fixed_digits, minus_sign, pointed, scaled, without_zeros, written};
+ghost use Rattle.fixed_value.specs.declared.decimal.Decimal.TheVariants.{Num};
+
+use crate::Fixed;
+use crate::power_of_ten::ten_to;
+use std::marker::Model;
+
+/// A written decimal: at most 32 bytes.
+#[derive(Drop)]
+pub struct Digits {
+    bytes: [u8; 32],
+    len: usize,
+}
+
+impl Model for Digits {
+    ghost use Rattle.std.specs.Prelude.{ℕ, List, take, ◌≤◌};
+
+    ghost Value = { List ℕ };
+
+    ghost view = { λ a. take a.len a.bytes };
+
+    ghost invariant = { λ a. a.len ≤ 32 };
+}
+
+impl Digits {
+    fn new() -> Digits
+        ensures { result ≡ [] }
+    {
+        Digits {
+            bytes: [0; 32],
+            len: 0,
+        }
+    }
+
+    fn push(&mut self, byte: u8)
+        requires { length self.old < 32 }
+        ensures { self.new ≡ self.old ++ byte ∷ [] }
+    {
+        self.bytes[self.len] = byte;
+        self.len += 1;
+    }
+
+    fn push_all(&mut self, bytes: &[u8])
+        requires { length self.old + length bytes.now ≤ 32 }
+        ensures { self.new ≡ self.old ++ bytes.now }
+    {
+        let end = self.len + bytes.len();
+        self.bytes[self.len..end].copy_from_slice(bytes);
+        self.len = end;
+    }
+
+    /// The bytes, at most 32.
+    pub fn bytes(&self) -> &[u8]
+        ensures bytes { result.now ≡ self.now }
+        ensures length { length result.now ≤ 32 }
+    {
+        &self.bytes[..self.len]
+    }
+}
+
+// Adds so many digits of a number, with zeros in front.
+#[tactic(auto, using(crate::proofs::Written::fixed_digits_length))]
+fn push_digits(text: &mut Digits, count: u8, number: u128)
+    requires { length text.old + count ≤ 32 }
+    ensures digits { text.new ≡ text.old ++ fixed_digits count number }
+    ensures size { length text.new ≡ length text.old + count }
+{
+    if count > 0 {
+        push_digits(text, count - 1, number / 10);
+        text.push(b'0' + (number % 10) as u8);
+    }
+}
+
+// So many digits of a number, with zeros in front.
+fn digits_of(count: u8, number: u128) -> Digits
+    requires { count ≤ 32 }
+    ensures digits { result ≡ fixed_digits count number }
+    ensures size { length result ≡ count }
+{
+    let mut text = Digits::new();
+    push_digits(&mut text, count, number);
+    text
+}
+
+// The first ten digits.
+fn front_ten(digits: &[u8]) -> &[u8]
+    requires { 10 ≤ length digits.now }
+    ensures front { result.now ≡ take 10 digits.now }
+    ensures size { length result.now ≡ 10 }
+{
+    &digits[..10]
+}
+
+// The digits behind the first ten.
+fn behind_ten(digits: &[u8]) -> &[u8]
+    requires { 10 ≤ length digits.now }
+    ensures behind { result.now ≡ drop 10 digits.now }
+    ensures size { length result.now + 10 ≡ length digits.now }
+{
+    &digits[10..]
+}
+
+// The digits without the zeros in front, but for the last.
+fn without_zeros(digits: &[u8]) -> &[u8]
+    ensures value { result.now ≡ without_zeros digits.now }
+    ensures size { length result.now ≤ length digits.now }
+{
+    let mut at = 0;
+    while at + 1 < digits.len() && digits[at] == b'0' {
+        at += 1;
+    }
+    &digits[at..]
+}
+
+// The number in units of the last place.
+fn scaled(value: Fixed, places: u8) -> u128
+    requires { places ≤ 15 }
+    ensures { result ≡ scaled value places }
+{
+    let size = u128::from(value.millionths().unsigned_abs());
+    (2 * (size * ten_to(u32::from(places))) + 1_000_000) / 2_000_000
+}
+
+// The sign of a number, none where all digits are zero.
+fn sign_of(value: Fixed, number: u128) -> &'static [u8]
+    ensures sign { result.now ≡ minus_sign (int_lt value (pos 0) && not (number == 0)) }
+    ensures size { length result.now ≤ 1 }
+{
+    if value.millionths() < 0 && number != 0 {
+        b"-"
+    } else {
+        b""
+    }
+}
+
+// Adds a point and the places, and nothing where there are none.
+fn push_places(text: &mut Digits, places: &[u8])
+    requires { length text.old + length places.now < 32 }
+    ensures { text.new ≡ text.old ++ pointed places.now }
+{
+    if places.len() > 0 {
+        text.push(b'.');
+        text.push_all(places);
+    }
+}
+
+/// Writes a number with so many places, at most 15: rounded once, halves away from zero, with zeros past the
+/// sixth place, no point where there are no places, and no sign where all digits are zero.
+pub fn write_decimal(value: Fixed, places: u8) -> Digits
+    requires { places ≤ 15 }
+    ensures { result ≡ written value places }
+{
+    let number = scaled(value, places);
+    let all = digits_of(10 + places, number);
+    let digits = all.bytes();
+    let mut text = Digits::new();
+    text.push_all(sign_of(value, number));
+    text.push_all(without_zeros(front_ten(digits)));
+    push_places(&mut text, behind_ten(digits));
+    text
+}
+
+/// A number that is written with six places or more is read back as itself.
+pub fn written_is_read()
+    ensures { (v : ℤ) (places : ℕ) → nat_abs v ≤ 999999999999999 → 6 ≤ places → decimal_of (written v places) ≡ Num v }
+{}

@@ -1,0 +1,20 @@
+//! Numbers as whole counts of millionths: each operation is the exact fraction, rounded once to the nearest
+//! millionth, halves away from zero (this project's choice in place of the manual's floating point).
+#![tactic(auto)]
+
+mod decimal;
+mod digits;
+mod fixed;
+mod parts;
+mod power;
+mod power_of_ten;
+mod round;
+
+pub use decimal::{Decimal, read_decimal};
+pub use digits::{Digits, write_decimal, written_is_read};
+pub use fixed::{Fixed, MAX_SIZE, rounding_is_nearest};
+
+#[cfg(test)]
+mod rows;
+#[cfg(test)]
+mod tests;

@@ -1,0 +1,65 @@
+// The parts of a rounded fraction: its sign and its size.
+ghost use Rattle.std.specs.Prelude.{◌≡◌, ◌≢◌, ◌≤◌, ℤ, pos, ◌*ℤ◌, nat_abs};
+ghost use Rattle.std.specs.Int.RustNames.{int_lt};
+ghost use Rattle.fixed_value.specs.Numbers.{within, rounded, signed, unlike};
+
+use crate::Fixed;
+
+/// A product of two numbers of the size of a `Fixed`.
+pub fn product(a: i64, b: i64) -> i128
+    requires left { nat_abs a ≤ 999999999999999 }
+    requires right { nat_abs b ≤ 999999999999999 }
+    ensures value { result ≡ a *ℤ b }
+    ensures size { nat_abs result ≤ 1000000000000000000000000000000 }
+{
+    i128::from(a) * i128::from(b)
+}
+
+/// The fraction, rounded once.
+#[tactic(auto, unfolding(crate::specs::Numbers::rounded))]
+pub fn ratio(num: i128, den: i128) -> Option<Fixed>
+    requires num_size { nat_abs num ≤ 1000000000000000000000000000000 }
+    requires den_size { nat_abs den ≤ 999999999999999 }
+    requires den_is { den ≢ pos 0 }
+    ensures { result ≡ within (rounded num den) }
+{
+    let den_size = size_of(den);
+    let size = (2 * size_of(num) + den_size) / (2 * den_size);
+    if size > 999_999_999_999_999 {
+        return None;
+    }
+    let minus = unlike(is_negative(num), is_negative(den));
+    Fixed::of(with_sign(minus, size as u64))
+}
+
+pub fn wide(z: i64) -> i128
+    ensures { result ≡ z }
+{
+    i128::from(z)
+}
+
+pub fn size_of(z: i128) -> u128
+    ensures { result ≡ nat_abs z }
+{
+    z.unsigned_abs()
+}
+
+pub fn is_negative(z: i128) -> bool
+    ensures { result ≡ int_lt z (pos 0) }
+{
+    z < 0
+}
+
+fn unlike(a: bool, b: bool) -> bool
+    ensures { result ≡ unlike a b }
+{
+    if a { !b } else { b }
+}
+
+/// The number of that size, below zero if so.
+pub fn with_sign(minus: bool, size: u64) -> i64
+    requires { size ≤ 999999999999999 }
+    ensures { result ≡ signed minus size }
+{
+    if minus { -(size as i64) } else { size as i64 }
+}
