@@ -2,3 +2,4 @@ pub mod Places
 pub mod Powers
 pub mod Rounding
 pub mod Written
+pub mod WrittenBits

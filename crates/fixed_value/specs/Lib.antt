@@ -1,4 +1,5 @@
 pub mod Decimals
+pub mod Doubles
 pub mod Numbers
 pub mod Powers
 pub mod Written

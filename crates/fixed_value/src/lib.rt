@@ -4,6 +4,7 @@
 
 mod decimal;
 mod digits;
+mod doubles;
 mod fixed;
 mod parts;
 mod power;
@@ -12,8 +13,11 @@ mod round;
 
 pub use decimal::{Decimal, read_decimal};
 pub use digits::{Digits, write_decimal, written_is_read};
+pub use doubles::{DoubleRead, from_double_bits, to_double_bits};
 pub use fixed::{Fixed, MAX_SIZE, rounding_is_nearest};
 
+#[cfg(test)]
+mod double_rows;
 #[cfg(test)]
 mod rows;
 #[cfg(test)]

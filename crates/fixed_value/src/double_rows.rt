@@ -1,0 +1,191 @@
+// Doubles of the host's floating-point unit, as data: its conversion rounds to the nearest double.
+use crate::{DoubleRead, Fixed, from_double_bits, to_double_bits};
+use std::process::Abort;
+use std::test::Fail;
+
+// Millionths, and the bits of the double.
+const WRITTEN: &[(i64, u64)] = &[
+    (0, 0x0000000000000000),
+    (1, 0x3EB0C6F7A0B5ED8D),
+    (-1, 0xBEB0C6F7A0B5ED8D),
+    (100_000, 0x3FB999999999999A),
+    (-100_000, 0xBFB999999999999A),
+    (500_000, 0x3FE0000000000000),
+    (333_333, 0x3FD55553EF6B5D46),
+    (666_667, 0x3FE55556084A515D),
+    (999_999_999_999_999, 0x41CDCD64FFFFFFF8),
+    (-999_999_999_999_999, 0xC1CDCD64FFFFFFF8),
+    (999_999_999_999_998, 0x41CDCD64FFFFFFEF),
+    (123_456_789, 0x405EDD3C07EE0B0B),
+    (100_000_000_000_000, 0x4197D78400000000),
+    (-100_000_000_000_000, 0xC197D78400000000),
+    (524_288_000_000, 0x4120000000000000),
+    (536_870_911_999_999, 0x41BFFFFFFFFFFFEF),
+    (999_999, 0x3FEFFFFDE7210BE9),
+    (1_000_000, 0x3FF0000000000000),
+    (1_000_001, 0x3FF000010C6F7A0B),
+    (-60_643_907, 0xC04E526B8B69552E),
+    (198_277_534, 0x4068C8E18EFBB0E6),
+    (-3_276_170_889_299, 0xC148FEC571D48CB5),
+    (-38, 0xBF03EC460ED80A18),
+    (551, 0x3F420E1F7D73C925),
+    (2_773_045_939_512, 0x4145281AF841EDE1),
+    (271_291_275, 0x4070F4A90FF97247),
+    (3, 0x3EC92A737110E454),
+    (7_636_917_440, 0x40BDD4EADD590C0B),
+    (-619_665, 0xBFE3D44BB1AF3A15),
+    (32_884_499_239_264, 0x417F5C7133D4067D),
+    (-2_146_509_353, 0xC0A0C504C9EA9A3D),
+    (87_863_562_807, 0x40F573790141E9AF),
+    (-72_255, 0xBFB27F4DBDF8F473),
+    (285_974_847_488_764, 0x41B10BA13F7D1FA3),
+    (537_798, 0x3FE135A426BB55AC),
+    (9_204, 0x3F82D98BF7F06706),
+    (1_719_704_081, 0x409ADED0FA9C12F1),
+    (-9_403_343_473_946, 0xC161EF79EF2A90CD),
+    (3, 0x3EC92A737110E454),
+    (7_700, 0x3F7F8A0902DE00D2),
+    (-7_042_931, 0xC01C2BF61AA3F035),
+    (99, 0x3F19F3C70C996B76),
+    (-10_036_878_317, 0xC0C39A706CB10343),
+    (-1_985, 0xBF6042D8C2A454DE),
+    (2_258_154, 0x400210B30B5AA716),
+    (179, 0x3F27763E4ABE6A33),
+    (-7, 0xBEDD5C31593E5FB7),
+    (458, 0x3F3E03F705857AFF),
+    (785_865_426, 0x40888EEC647778DD),
+    (2_050_347_601_591, 0x413F492B9A01DE27),
+    (-3_571_293, 0xC00C9202107B7846),
+    (-9, 0xBEE2DFD694CCAB3F),
+    (27_618, 0x3F9C47E49B1FAB97),
+    (-874, 0xBF4CA3A4B5568E82),
+    (628_605_420, 0x4083A4D7E670E2C1),
+    (-1_285_166, 0xBFF4900A393EE5EF),
+    (-5_213_361_396_211, 0xC153E32C595B8562),
+    (1_246_228, 0x3FF3F08CC575C076),
+    (74, 0x3F13660E51D25AAB),
+    (81_670_989_581, 0x40F3F06FD552E2FC),
+    (-652_370, 0xBFE4E0370CDC8755),
+    (78_822_215, 0x4053B49F2BA9D1F6),
+    (51_821_066, 0x4049E918B0D0EDC4),
+    (318, 0x3F34D72799A1FD15),
+    (687_301_359_007_730, 0x41C47BB17780FD4C),
+    (2_596, 0x3F654434E3369B9D),
+    (968_034_990_584, 0x412D8AC5FB2DD378),
+    (56_567_031, 0x404C489478C868BA),
+    (1, 0x3EB0C6F7A0B5ED8D),
+    (-3, 0xBEC92A737110E454),
+    (-460_665_227_374, 0xC11C1DE4E8D4BAD8),
+    (-73_191_797_986_366, 0xC1917345D7F209EE),
+    (129, 0x3F20E8858FF75968),
+    (-9_164, 0xBF82C4934267839D),
+    (26_973_336_904, 0x40DA57558FD5CB79),
+    (18_660_554_800_404, 0x4171CBCCACCE746D),
+    (-52, 0xBF0B43526527A205),
+    (8_114_210, 0x40203A79BBADC098),
+    (4, 0x3ED0C6F7A0B5ED8D),
+];
+
+// Bits of doubles that are no number written by this crate, and the nearest millionths.
+const READ: &[(u64, i64)] = &[
+    (0x0000000000000001, 0),
+    (0x3E7AD7F29ABCAF48, 0),
+    (0x3EA0C6F79B14C6AC, 0),
+    (0x3EA0C6F7A0B5ED8D, 0),
+    (0x3EA0C6F7A657146F, 1),
+    (0xBEA0C6F7A0B5ED8D, 0),
+    (0xBEA07111652D2B5C, 0),
+    (0x3FB999999999999A, 100_000),
+    (0x3FD5555555555555, 333_333),
+    (0x3FE5555555555555, 666_667),
+    (0x01A56E1FC2F8F359, 0),
+    (0x8000000000000000, 0),
+    (0x4197D78401555555, 100_000_000_333_333),
+    (0x41CDCD64FFFFFFFB, 999_999_999_999_999),
+    (0x419D6F34540CA453, 123_456_789_012_346),
+    (0x3EC4F8B588E368F1, 3),
+    (0x3EB92A737110E454, 2),
+    (0x3EC4F8B588E368F1, 3),
+    (0x3EB0000000000000, 1),
+    (0x3EB8000000000000, 1),
+    (0x3EB4000000000000, 1),
+    (0xBF0BD7028C8E611F, -53),
+    (0x41161A84A075D427, 362_145_156_699),
+    (0xC18F5330A535290D, -65_693_204_650_957),
+    (0x3E3955C04BBA4DF7, 0),
+    (0xC0223449AA64C838, -9_102_125),
+    (0x3E56D3ADAC3E2B49, 0),
+    (0xBFE586CE35384C9A, -672_706),
+    (0xBE8255BD61F2FC11, 0),
+    (0x407C5173C20430D3, 453_090_761),
+    (0x3F17991CBF7BE104, 90),
+    (0xC14AD7C27BB55F42, -3_518_340_966_473),
+    (0x40F5446203BC831D, 87_110_125_912),
+    (0x3E428AFDC10B6B70, 0),
+    (0xBE304916BD4C894E, 0),
+    (0x3EAAE94D43F207BE, 1),
+    (0xC055FEAAEECCFF3D, -87_979_183),
+    (0xC12C82D6F876BF89, -934_251_485_281),
+    (0xC1BB930E1787EA5D, -462_622_231_530_920),
+    (0x4188BBC0909789D9, 51_869_714_073_993),
+    (0x3E94D1CBEB283FFD, 0),
+    (0xBE8DEB0382750482, 0),
+    (0xC15DC0A95D228C44, -7_799_461_455_234),
+    (0xC08C0358FD8B4EA4, -896_418_452),
+    (0xBF5777191820D4AE, -1_432),
+    (0x4052D822E17493C8, 75_377_129),
+    (0xBFA9837665B50160, -49_831),
+    (0xBFD9E78A9D53C2E2, -404_757),
+    (0x3F79F9C9875380C8, 6_342),
+    (0x4043388F23DF52EA, 38_441_868),
+    (0x4134C763438A8EEA, 1_361_763_263_833),
+    (0xBE76787A2F1764A8, 0),
+    (0x3FEE6666B7EBE37F, 950_000),
+    (0x41313765C1A64FCD, 1_128_293_756_444),
+    (0xC0F699D2FD9A4013, -92_573_186_915),
+    (0xC157DEADE5459C48, -6_257_335_582_374),
+    (0xC125DBE92B72639A, -716_276_584_857),
+    (0xBE4009888AED2058, 0),
+    (0xBE776E091C64D7C1, 0),
+    (0xC016D2C25FC56514, -5_705_820),
+    (0x40B909DAFCD7D9F8, 6_409_855_421),
+];
+
+#[test]
+fn doubles_are_written_and_read(rt: HostRuntime) -> Result<(), Fail> {
+    for (millionths, bits) in WRITTEN {
+        let value = Fixed::of(*millionths).expect(&rt, "a number within the size");
+        assert_eq!(rt; to_double_bits(value), *bits);
+        assert_eq!(rt; from_double_bits(*bits), DoubleRead::Num(value));
+    }
+    for (bits, millionths) in READ {
+        let value = Fixed::of(*millionths).expect(&rt, "a number within the size");
+        assert_eq!(rt; from_double_bits(*bits), DoubleRead::Num(value));
+    }
+    Ok(())
+}
+
+#[test]
+fn other_doubles_have_their_answers(rt: HostRuntime) -> Result<(), Fail> {
+    assert_eq!(rt; from_double_bits(0x7FF0_0000_0000_0000), DoubleRead::Err);
+    assert_eq!(rt; from_double_bits(0x7FF8_0000_0000_0000), DoubleRead::Err);
+    assert_eq!(rt; from_double_bits(0xFFF0_0000_0000_0001), DoubleRead::Err);
+    assert_eq!(rt; from_double_bits(0xFFF0_0000_0000_0000), DoubleRead::Na);
+    assert_eq!(rt;
+        from_double_bits(0x41CD_CD65_0000_0000),
+        DoubleRead::TooLarge
+    );
+    assert_eq!(rt;
+        from_double_bits(0xC1CD_CD65_0000_0000),
+        DoubleRead::TooLarge
+    );
+    assert_eq!(rt;
+        from_double_bits(0x7FEF_FFFF_FFFF_FFFF),
+        DoubleRead::TooLarge
+    );
+    assert_eq!(rt;
+        from_double_bits(0x4330_0000_0000_0000),
+        DoubleRead::TooLarge
+    );
+    Ok(())
+}

@@ -1,0 +1,151 @@
+// Doubles as bits, by whole-number arithmetic alone.
+ghost use Rattle.std.specs.Prelude.{◌≡◌, ◌≤◌, ◌<◌, ◌*◌, ◌^◌, pos, nat_abs, IfSome, IfNone};
+ghost use Rattle.fixed_value.specs.Doubles.{double_of, mantissa_of, nearest_even, sign_bit, size_by, IsWritten};
+ghost use Rattle.fixed_value.specs.declared.doubles.DoubleRead.TheVariants.{Num};
+
+use crate::Fixed;
+use crate::parts::{is_negative, wide};
+
+const FRACTIONS: u64 = 4_503_599_627_370_496;
+
+const SIGN: u64 = 9_223_372_036_854_775_808;
+
+/// What the bits of a double hold.
+#[derive(Clone, Copy, Debug, PartialEq, Eq)]
+pub enum DoubleRead {
+    Num(Fixed),
+    Na,
+    Err,
+    TooLarge,
+}
+
+fn mantissa_of(exponent: u64, fraction: u64) -> u64
+    requires { fraction < 4503599627370496 }
+    ensures value { result ≡ mantissa_of exponent fraction }
+    ensures size { result < 9007199254740992 }
+{
+    if exponent == 0 {
+        fraction
+    } else {
+        FRACTIONS + fraction
+    }
+}
+
+// A power of two.
+fn two_to(exponent: u32) -> u128
+    requires { exponent ≤ 73 }
+    ensures value { result ≡ 2 ^ exponent }
+    ensures least { 1 ≤ result }
+    ensures most { result ≤ 9444732965739290427392 }
+{
+    2u128.pow(exponent)
+}
+
+// The size in millionths; none past the size of a number.
+fn size_by(mantissa: u64, exponent: u64) -> Option<u64>
+    requires mantissa { mantissa < 9007199254740992 }
+    requires exponent { exponent ≤ 2046 }
+    requires normal { 2 ≤ exponent → 4503599627370496 ≤ mantissa }
+    ensures some { IfSome result (λ size. (size ≡ size_by mantissa exponent) × (size ≤ 999999999999999)) }
+    ensures none { IfNone result (999999999999999 < size_by mantissa exponent) }
+{
+    if exponent >= 1075 {
+        return None;
+    }
+    let scale = 1075 - exponent;
+    if scale >= 74 {
+        return Some(0);
+    }
+    let unit = two_to(scale as u32);
+    let size = (2 * (u128::from(mantissa) * 1_000_000) + unit) / (2 * unit);
+    if size > 999_999_999_999_999 {
+        return None;
+    }
+    Some(size as u64)
+}
+
+/// Reads the bits of a double: the nearest millionth, halves away from zero. All ones in the exponent are
+/// `Err`, but the bits hex FFF0000000000000 are `Na`. `TooLarge` comes exactly past the size of a number.
+/// (Worksheet file format; the size is this project's choice.)
+pub fn from_double_bits(bits: u64) -> DoubleRead
+    ensures { result ≡ double_of bits }
+{
+    if bits == 0xFFF0_0000_0000_0000 {
+        return DoubleRead::Na;
+    }
+    let exponent = bits / FRACTIONS % 2048;
+    if exponent == 2047 {
+        return DoubleRead::Err;
+    }
+    let mantissa = mantissa_of(exponent, bits % FRACTIONS);
+    match size_by(mantissa, exponent.max(1)) {
+        Some(size) => DoubleRead::Num(Fixed::of_size(bits >= SIGN, size)),
+        None => DoubleRead::TooLarge,
+    }
+}
+
+// By how many powers of two a size in millionths is raised to have 53 bits.
+fn scale_of(size: u64) -> u32
+    requires least { 1 ≤ size }
+    requires most { size ≤ 999999999999999 }
+    ensures in_range { (23 ≤ result) × (result ≤ 72) }
+    ensures least { 4503599627370496 * 1000000 ≤ size * 2 ^ result }
+    ensures below { size * 2 ^ result < 9007199254740992 * 1000000 }
+{
+    let mut scale = 23;
+    while scale < 72 && u128::from(size) * two_to(scale) < 4_503_599_627_370_496_000_000 {
+        scale += 1;
+    }
+    scale
+}
+
+// A count of millionths to the nearest whole number, and at the same distance to the even one.
+fn nearest_even(count: u128) -> u64
+    requires least { 4503599627370496 * 1000000 ≤ count }
+    requires below { count < 9007199254740992 * 1000000 }
+    ensures value { result ≡ nearest_even count 1000000 }
+    ensures least { 4503599627370496 ≤ result }
+    ensures most { result ≤ 9007199254740992 }
+{
+    let whole = count / 1_000_000;
+    if 2 * (count % 1_000_000) + whole % 2 > 1_000_000 {
+        (whole + 1) as u64
+    } else {
+        whole as u64
+    }
+}
+
+fn sign_bit(value: Fixed) -> u64
+    ensures value { result ≡ sign_bit value }
+    ensures size { result ≤ 9223372036854775808 }
+{
+    if is_negative(wide(value.millionths())) {
+        SIGN
+    } else {
+        0
+    }
+}
+
+// The bits of a number that isn't 0.
+fn written_bits(value: Fixed) -> u64
+    requires { 1 ≤ nat_abs value }
+    ensures { IsWritten value result }
+{
+    let size = value.millionths().unsigned_abs();
+    let scale = scale_of(size);
+    let mantissa = nearest_even(u128::from(size) * two_to(scale));
+    sign_bit(value) + (u64::from(1075 - scale) * FRACTIONS + (mantissa - FRACTIONS))
+}
+
+/// The bits of the nearest double, ties to even (worksheet file format); 0 is written without a sign. What
+/// is written is read back as itself.
+pub fn to_double_bits(value: Fixed) -> u64
+    ensures nothing { value ≡ pos 0 → result ≡ 0 }
+    ensures nearest { 1 ≤ nat_abs value → IsWritten value result }
+    ensures back { double_of result ≡ Num value }
+{
+    if value == Fixed::ZERO {
+        return 0;
+    }
+    written_bits(value)
+}
