@@ -1,1 +1,2 @@
+pub mod AddressReading
 pub mod Decimals

@@ -2,3 +2,5 @@ pub mod Address
 pub mod Axes
 pub mod Leads
 pub mod Place
+pub mod Progress
+pub mod Reading

@@ -1,6 +1,7 @@
 // Worked rows of places and references.
 use crate::{
-    Axis, Cell, CellList, Ref, Span, SpanList, cell_text, column_text, decimal_text, row_text,
+    Axis, Cell, CellList, NotAnAddress, Ref, Span, SpanList, cell_text, column_text, decimal_text,
+    read_cell, row_text,
 };
 use std::process::Abort;
 use std::test::Fail;
@@ -79,5 +80,38 @@ fn lists_keep_their_order(rt: HostRuntime) -> Result<(), Fail> {
     assert!(rt; cells.get(2).is_none());
     assert_eq!(rt; spans.len(), 1);
     assert_eq!(rt; spans.get(0), Some(&Span::whole()));
+    Ok(())
+}
+
+#[test]
+fn addresses_are_read(rt: HostRuntime) -> Result<(), Fail> {
+    for (text, row, col) in [
+        (b"A1".as_slice(), 0u16, 0u8),
+        (b"z9", 8, 25),
+        (b"aA10", 9, 26),
+        (b"IV8192", 8191, 255),
+        (b"iu8000", 7999, 254),
+    ] {
+        assert!(rt; row < 8192);
+        assert_eq!(rt; read_cell(text), Ok(Cell { row, col }));
+    }
+    for (text, at) in [
+        (b"".as_slice(), 0usize),
+        (b"1", 0),
+        (b"A", 1),
+        (b"AB", 2),
+        (b"A0", 1),
+        (b"A01", 1),
+        (b"IW1", 1),
+        (b"J1A", 2),
+        (b"JA1", 1),
+        (b"AAA1", 2),
+        (b"A8193", 4),
+        (b"A10000", 5),
+        (b"A1 ", 2),
+        (b"$A1", 0),
+    ] {
+        assert_eq!(rt; read_cell(text), Err(NotAnAddress { at }));
+    }
     Ok(())
 }
