@@ -1,6 +1,6 @@
 -- Addresses read byte by byte.
 use Rattle.std.proofs.Common.{◌≡◌, ℕ, zero, suc, ◌+◌, ◌-◌, ◌*◌, ◌/◌, ◌%◌, ◌≤◌, ◌<◌, Bool, true, false, Option, Some, None, List, [], ◌∷◌, ◌++◌, length, get_or, map, refl, take, ap, sym, subst, ◌∙◌, arith, ◌⊎◌, inl, inr, append_assoc, length-append}
-use Rattle.std.specs.Prelude.{⊤, ◌&&◌, nat_le, nat_lt, fold}
+use Rattle.std.specs.Prelude.{◌&&◌, nat_le, nat_lt, fold}
 use Rattle.std.specs.List.{list_all}
 use Rattle.std.proofs.lemmas.Bool.{cases_Bool}
 use Rattle.std.proofs.lemmas.Bool.Decides.{nat_tests}
@@ -10,9 +10,12 @@ use Rattle.grid_address.specs.declared.reading.Progress.{Progress}
 use Rattle.grid_address.specs.declared.reading.Progress.TheVariants.{Nothing, Letter, Column, Row}
 use Rattle.grid_address.specs.Address.{address_of, column_name, decimal}
 use Rattle.grid_address.specs.Place.{InSheet, Place}
-use Rattle.grid_address.specs.Progress.{first_digit, is_capital, is_digit, later_digit, next_of, second_letter, IsRead}
-use Rattle.grid_address.specs.Reading.{folded, BeginsAddress, IsAddress, SpellsCell, StopsAt}
+use Rattle.grid_address.specs.Progress.{first_digit, is_capital, is_digit, later_digit, next_of, second_letter, whole_cell, IsFront, IsRead, IsRowOfSheet}
+use Rattle.grid_address.specs.Reading.{folded, Begins, IsAddress, SpellsCell, StopsAt}
 use Rattle.grid_address.proofs.Decimals.{decimal_more, decimal_one}
+
+abbrev pub BeginsAddress : List ℕ → Type 0
+BeginsAddress = Begins IsAddress
 
 -- what digits stand for
 abbrev digit_more : ℕ → ℕ → ℕ
@@ -26,11 +29,11 @@ fold-append : (n : ℕ) (xs ys : List ℕ) → fold digit_more n (xs ++ ys) ≡ 
 fold-append n [] ys = refl
 fold-append n (x ∷ xs) ys = fold-append (digit_more n x) xs ys
 
-left_of : (a b : Bool) → (a && b) ≡ true → a ≡ true
+pub left_of : (a b : Bool) → (a && b) ≡ true → a ≡ true
 left_of true b h = refl
 left_of false b h = absurd cc
 
-right_of : (a b : Bool) → (a && b) ≡ true → b ≡ true
+pub right_of : (a b : Bool) → (a && b) ≡ true → b ≡ true
 right_of true b h = h
 right_of false b h = absurd cc
 
@@ -70,7 +73,7 @@ number_upto (suc k) n below more = elim (cases_Bool (nat_lt n 10)) [
 number : (n : ℕ) → 0 < n → IsNumber n
 number n more = number_upto n n (omega arith) more
 
-all_upto : (k n : ℕ) → n ≤ k → list_all is_digit (decimal n) ≡ true
+pub all_upto : (k n : ℕ) → n ≤ k → list_all is_digit (decimal n) ≡ true
 all_upto zero n below = ap (λ m. list_all is_digit (decimal m)) (let e : n ≡ 0 = omega arith in e)
 all_upto (suc k) n below =
     let last : is_digit (48 + n % 10) ≡ true = grind (arith, nat_tests) in
@@ -109,13 +112,13 @@ unfolded b h = grind (arith, nat_tests, h)
 from_some : {X : Type 0} (P : X → Type 0) (x t : X) → Some x ≡ Some t → P x → P t
 from_some P x t e here = subst P (let same : x ≡ t = cc in same) here
 
-some_is_not : {X : Type 0} (x : X) → ◌≡◌ {A = Option X} (Some x) None → ⊥
+pub some_is_not : {X : Type 0} (x : X) → ◌≡◌ {A = Option X} (Some x) None → ⊥
 some_is_not x e = absurd cc
 
-one_letter : (c : ℕ) → c < 26 → column_name c ≡ (65 + c) ∷ []
+pub one_letter : (c : ℕ) → c < 26 → column_name c ≡ (65 + c) ∷ []
 one_letter c h = (let test : nat_lt c 26 ≡ true = grind (arith, nat_tests, h) in rw test refl)
 
-two_letters : (c : ℕ) → 26 ≤ c → column_name c ≡ (64 + c / 26) ∷ (65 + c % 26) ∷ []
+pub two_letters : (c : ℕ) → 26 ≤ c → column_name c ≡ (64 + c / 26) ∷ (65 + c % 26) ∷ []
 two_letters c h = (let test : nat_lt c 26 ≡ false = grind (arith, nat_tests, h) in rw test refl)
 
 more_read : (xs : List ℕ) (b : ℕ) → map folded (xs ++ b ∷ []) ≡ map folded xs ++ folded b ∷ []
@@ -319,13 +322,7 @@ long_address p =
       | inr two ↦ (let large : 26 ≤ p.col = grind (arith, nat_tests, two) in omega (arith, length-append (column_name p.col) (decimal (p.row + 1)), ap length (two_letters p.col large), digits))
     ]
 
-abbrev pub IsUnfinished : Progress → Type 0
-IsUnfinished Nothing = ⊤
-IsUnfinished (Letter c) = ⊤
-IsUnfinished (Column c) = ⊤
-IsUnfinished (Row c n) = ⊥
-
-pub unfinished : (s : Progress) (xs : List ℕ) → IsUnfinished s → IsRead s xs → IsAddress xs → ⊥
+pub unfinished : (s : Progress) (xs : List ℕ) → whole_cell s ≡ None → IsRead s xs → IsAddress xs → ⊥
 unfinished Nothing xs u is (p, (same, inside)) = absurd (omega (arith, ap length (sym same ∙ ap (map folded) is), long_address p))
 unfinished (Letter c) xs u is (p, (same, inside)) = absurd (omega (arith, ap length (sym same ∙ is.0), long_address p))
 unfinished (Column c) xs u is (p, (same, inside)) =
@@ -339,31 +336,33 @@ unfinished (Column c) xs u is (p, (same, inside)) =
       | inr two ↦ (let large : 26 ≤ p.col = grind (arith, nat_tests, two) in
           absurd (omega (arith, ap length whole, length-append (column_name p.col) (decimal (p.row + 1)), ap length (two_letters p.col large), ap length num.is)))
     ]
-unfinished (Row c n) xs u is same = absurd u
+unfinished (Row c n) xs u is same = some_is_not (record { row = n - 1; col = c }) u
 
--- a byte that can't go on
-pub stops_here : (s : Progress) (bytes : List ℕ) (at : ℕ) → at < length bytes → IsRead s (take at bytes) → next_of s (get_or bytes at 0) ≡ None → StopsAt bytes at
-stops_here s bytes at inside is e = record {
-  within = omega arith;
-  begins = begun s (take at bytes) is;
-  stops = λ _ b. ends s (get_or bytes at 0) (take at bytes) e is (subst BeginsAddress (take_more bytes at 0 inside) b);
-  short = λ same _. absurd (omega (arith, same));
-}
+pub spells : (s : Progress) (p : Place) (xs : List ℕ) → whole_cell s ≡ Some p → IsRead s xs → SpellsCell xs p
+spells Nothing p xs e is = absurd (some_is_not p (sym e))
+spells (Letter c) p xs e is = absurd (some_is_not p (sym e))
+spells (Column c) p xs e is = absurd (some_is_not p (sym e))
+spells (Row c n) p xs e is = from_some (SpellsCell xs) (record { row = n - 1; col = c }) p e (spelled c n xs is)
 
 -- one byte more
 pub reads_on : (s t : Progress) (bytes : List ℕ) (at : ℕ) → at < length bytes → IsRead s (take at bytes) → next_of s (get_or bytes at 0) ≡ Some t → IsRead t (take (at + 1) bytes)
 reads_on s t bytes at inside is e = subst (IsRead t) (sym (take_more bytes at 0 inside)) (goes_on s t (get_or bytes at 0) (take at bytes) e is)
 
--- bytes that end too early
-pub stops_at_end : (s : Progress) (bytes : List ℕ) (at : ℕ) → length bytes ≤ at → IsUnfinished s → IsRead s (take at bytes) → StopsAt bytes (length bytes)
-stops_at_end s bytes at past u is =
-    let whole : IsRead s bytes = subst (IsRead s) (take_all at bytes past) is in
-    record {
-      within = omega arith;
-      begins = subst BeginsAddress (sym (take_all (length bytes) bytes (omega arith))) (begun s bytes whole);
-      stops = λ less _. absurd (omega (arith, less));
-      short = λ _ address. unfinished s bytes u whole address;
-    }
+pub row_of_sheet : (s : Progress) (xs : List ℕ) → IsRead s xs → IsRowOfSheet s
+row_of_sheet Nothing xs is = tt
+row_of_sheet (Letter c) xs is = tt
+row_of_sheet (Column c) xs is = tt
+row_of_sheet (Row c n) xs is = (is.1, is.2, is.3)
 
-pub spells_at_end : (c n : ℕ) (bytes : List ℕ) (at : ℕ) → length bytes ≤ at → IsRead (Row c n) (take at bytes) → SpellsCell bytes (record { row = n - 1; col = c })
-spells_at_end c n bytes at past is = spelled c n bytes (subst (IsRead (Row c n)) (take_all at bytes past) is)
+-- with the byte behind the front no address begins
+pub front_ends : (s : Progress) (bytes : List ℕ) (end : ℕ) → IsFront bytes s end → end < length bytes → BeginsAddress (take end bytes ++ get_or bytes end 0 ∷ []) → ⊥
+front_ends s bytes end front inside b = ends s (get_or bytes end 0) (take end bytes) (front.ends inside) front.read b
+
+-- a front that is no address
+pub no_address : (s : Progress) (bytes : List ℕ) (end : ℕ) → IsFront bytes s end → (end ≡ length bytes → whole_cell s ≡ None) → StopsAt IsAddress bytes end
+no_address s bytes end front u = record {
+  within = front.within;
+  begins = begun s (take end bytes) front.read;
+  stops = λ inside b. front_ends s bytes end front inside (subst BeginsAddress (take_more bytes end 0 inside) b);
+  short = λ same address. unfinished s bytes (u same) (subst (IsRead s) (take_all end bytes (omega (arith, same))) front.read) address;
+}

@@ -1,2 +1,3 @@
 pub mod AddressReading
 pub mod Decimals
+pub mod SpanReading

@@ -1,8 +1,9 @@
 -- How far an address is read.
-use Rattle.std.specs.Prelude.{ℕ, ◌≡◌, ◌≤◌, ◌<◌, ◌+◌, ◌-◌, ◌*◌, ◌/◌, ◌%◌, ◌&&◌, nat_le, nat_lt, Bool, Option, Some, None, List, [], ◌∷◌, ◌++◌, map, if◌then◌else◌}
+use Rattle.std.specs.Prelude.{ℕ, ◌≡◌, ◌≤◌, ◌<◌, ◌+◌, ◌-◌, ◌*◌, ◌/◌, ◌%◌, ◌&&◌, ◌==◌, nat_le, nat_lt, get_or, length, take, Bool, Option, Some, None, List, [], ◌∷◌, ◌++◌, map, if◌then◌else◌, ⊤}
 use Rattle.grid_address.specs.declared.reading.Progress.{Progress}
 use Rattle.grid_address.specs.declared.reading.Progress.TheVariants.{Nothing, Letter, Column, Row}
 use Rattle.grid_address.specs.Address.{column_name, decimal}
+use Rattle.grid_address.specs.Place.{Place}
 use Rattle.grid_address.specs.Reading.{folded}
 
 -- these bytes are read that far: one letter, the two letters of a column, or a column and the first digits of a row's number
@@ -34,3 +35,29 @@ next_of Nothing b = if is_capital (folded b) then Some (Letter (folded b - 65)) 
 next_of (Letter c) b = if is_capital (folded b) then second_letter c (folded b) else first_digit c b
 next_of (Column c) b = first_digit c b
 next_of (Row c n) b = if is_digit b then later_digit c (n * 10 + (b - 48)) else None
+
+-- a column and a row that are read are the sheet's
+abbrev pub IsRowOfSheet : Progress → Type 0
+IsRowOfSheet Nothing = ⊤
+IsRowOfSheet (Letter c) = ⊤
+IsRowOfSheet (Column c) = ⊤
+IsRowOfSheet (Row c n) = (c < 256) × (1 ≤ n) × (n ≤ 8192)
+
+-- the cell, where its row is read
+abbrev pub whole_cell : Progress → Option Place
+whole_cell Nothing = None
+whole_cell (Letter c) = None
+whole_cell (Column c) = None
+whole_cell (Row c n) = Some (record { row = n - 1; col = c })
+
+-- the front of the bytes is read that far, and the byte behind it can't go on
+pub record IsFront (bytes : List ℕ) (s : Progress) (end : ℕ) : Type 0 where
+  pub within : end ≤ length bytes
+  pub read : IsRead s (take end bytes)
+  pub sheet : IsRowOfSheet s
+  pub ends : end < length bytes → next_of s (get_or bytes end 0) ≡ None
+
+-- how many dots stand in front, at most two
+abbrev pub count_dots : List ℕ → ℕ
+count_dots [] = 0
+count_dots (x ∷ rest) = if x == 46 then (if get_or rest 0 0 == 46 then 2 else 1) else 0

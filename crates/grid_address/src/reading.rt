@@ -1,12 +1,12 @@
 // Addresses read byte by byte.
-ghost use Rattle.std.specs.Prelude.{◌≡◌, IfOk, IfErr};
-ghost use Rattle.grid_address.specs.Progress.{first_digit, next_of};
-ghost use Rattle.grid_address.specs.Reading.{folded, SpellsCell, StopsAt};
+ghost use Rattle.std.specs.Prelude.{◌≡◌, ◌≤◌, drop, length, IfOk, IfErr};
+ghost use Rattle.grid_address.specs.Progress.{count_dots, first_digit, next_of, whole_cell, IsFront, IsRowOfSheet};
+ghost use Rattle.grid_address.specs.Reading.{folded, IsAddress, IsSpan, SpellsCell, SpellsSpan, StopsAt};
 ghost use Rattle.grid_address.specs.declared.reading.Progress.TheVariants.{Letter, Row};
 
-use crate::Cell;
+use crate::{Cell, Span};
 
-/// The bytes are no address: `at` is the first byte that can't go on, or the number of bytes where they end
+/// The bytes are no address, or no span: `at` is the first byte that can't go on, or the number of bytes where they end
 /// too early.
 #[derive(Clone, Copy, Debug, PartialEq, Eq)]
 pub struct NotAnAddress {
@@ -93,26 +93,103 @@ fn after(progress: Progress, byte: u8) -> Option<Progress>
     }
 }
 
-/// Reads the address of a cell: a column, A to IV in letters of either case, and a row, 1 to 8192 without a
-/// leading zero.
-pub fn read_cell(bytes: &[u8]) -> Result<Cell, NotAnAddress>
-    ensures ok { IfOk result (λ c. SpellsCell bytes.now c) }
-    ensures err { IfErr result (λ e. StopsAt bytes.now e.at) }
+// How far an address is read from the front of the bytes, and where it ends: at the first byte that can't go
+// on, or behind the last byte.
+#[derive(Clone, Copy)]
+struct Front {
+    progress: Progress,
+    end: usize,
+}
+
+// Reads as long as an address can go on.
+fn read_front(bytes: &[u8]) -> Front
+    ensures { IsFront bytes.now result.progress result.end }
 {
     let mut progress = Progress::Nothing;
     for at in 0..bytes.len() {
         match after(progress, bytes[at]) {
             Some(next) => progress = next,
-            None => return Err(NotAnAddress { at }),
+            None => return Front { progress, end: at },
         }
     }
-    match progress {
-        Progress::Row(col, number) => Ok(Cell {
+    Front {
+        progress,
+        end: bytes.len(),
+    }
+}
+
+// The cell that was read whole.
+fn cell_of(front: &Front) -> Option<Cell>
+    requires { IsRowOfSheet front.now.progress }
+    ensures { result ≡ whole_cell front.now.progress }
+{
+    match front.progress {
+        Progress::Row(col, number) => Some(Cell {
             row: number - 1,
             col,
         }),
-        Progress::Nothing => Err(NotAnAddress { at: bytes.len() }),
-        Progress::Letter(_) => Err(NotAnAddress { at: bytes.len() }),
-        Progress::Column(_) => Err(NotAnAddress { at: bytes.len() }),
+        Progress::Nothing => None,
+        Progress::Letter(_) => None,
+        Progress::Column(_) => None,
+    }
+}
+
+// How many dots part two cells here: none, one or two.
+fn dots_at(bytes: &[u8], at: usize) -> usize
+    requires { at ≤ length bytes.now }
+    ensures { result ≡ count_dots (drop at bytes.now) }
+{
+    if at >= bytes.len() || bytes[at] != b'.' {
+        return 0;
+    }
+    if at + 1 < bytes.len() && bytes[at + 1] == b'.' {
+        2
+    } else {
+        1
+    }
+}
+
+/// Reads the address of a cell: a column, A to IV in letters of either case, and a row, 1 to 8192 without a
+/// leading zero.
+pub fn read_cell(bytes: &[u8]) -> Result<Cell, NotAnAddress>
+    ensures ok { IfOk result (λ c. SpellsCell bytes.now c) }
+    ensures err { IfErr result (λ e. StopsAt IsAddress bytes.now e.at) }
+{
+    let front = read_front(bytes);
+    match cell_of(&front) {
+        Some(cell) => {
+            if front.end == bytes.len() {
+                Ok(cell)
+            } else {
+                Err(NotAnAddress { at: front.end })
+            }
+        }
+        None => Err(NotAnAddress { at: front.end }),
+    }
+}
+
+/// Reads a span: the address of one cell, which is a span of its own, or of two corners in any order, with one
+/// or two dots between them.
+pub fn read_span(bytes: &[u8]) -> Result<Span, NotAnAddress>
+    ensures ok { IfOk result (λ s. SpellsSpan bytes.now s) }
+    ensures err { IfErr result (λ e. StopsAt IsSpan bytes.now e.at) }
+{
+    let front = read_front(bytes);
+    let Some(one) = cell_of(&front) else {
+        return Err(NotAnAddress { at: front.end });
+    };
+    if front.end == bytes.len() {
+        return Ok(Span::of(one, one));
+    }
+    let dots = dots_at(bytes, front.end);
+    if dots == 0 {
+        return Err(NotAnAddress { at: front.end });
+    }
+    let from = front.end + dots;
+    match read_cell(&bytes[from..]) {
+        Ok(other) => Ok(Span::of(one, other)),
+        Err(fault) => Err(NotAnAddress {
+            at: from + fault.at,
+        }),
     }
 }

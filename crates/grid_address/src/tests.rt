@@ -1,7 +1,7 @@
 // Worked rows of places and references.
 use crate::{
     Axis, Cell, CellList, NotAnAddress, Ref, Span, SpanList, cell_text, column_text, decimal_text,
-    read_cell, row_text,
+    read_cell, read_span, row_text,
 };
 use std::process::Abort;
 use std::test::Fail;
@@ -112,6 +112,42 @@ fn addresses_are_read(rt: HostRuntime) -> Result<(), Fail> {
         (b"$A1", 0),
     ] {
         assert_eq!(rt; read_cell(text), Err(NotAnAddress { at }));
+    }
+    Ok(())
+}
+
+#[test]
+fn spans_are_read(rt: HostRuntime) -> Result<(), Fail> {
+    let b3 = Cell { row: 2, col: 1 };
+    let d9 = Cell { row: 8, col: 3 };
+    let d3 = Cell { row: 2, col: 3 };
+    let b9 = Cell { row: 8, col: 1 };
+    for (text, one, other) in [
+        (b"b3".as_slice(), b3, b3),
+        (b"B3.D9", b3, d9),
+        (b"d9..B3", b3, d9),
+        (b"D3..b9", d3, b9),
+        (b"A1..IV8192", HOME, LAST),
+    ] {
+        assert_eq!(rt; read_span(text), Ok(Span::of(one, other)));
+    }
+    for (text, at) in [
+        (b"".as_slice(), 0usize),
+        (b".A1", 0),
+        (b"A", 1),
+        (b"A.B2", 1),
+        (b"A1.", 3),
+        (b"A1..", 4),
+        (b"A1...B2", 4),
+        (b"A1..B", 5),
+        (b"A1..B0", 5),
+        (b"A1.B8193", 7),
+        (b"A1:B2", 2),
+        (b"A1..B2..C3", 6),
+        (b"A1..B2 ", 6),
+        (b"A1..$B2", 4),
+    ] {
+        assert_eq!(rt; read_span(text), Err(NotAnAddress { at }));
     }
     Ok(())
 }
