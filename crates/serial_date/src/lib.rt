@@ -1,6 +1,12 @@
 //! Day numbers and moments of the worksheet's calendar.
 #![tactic(auto)]
 
+mod calendar;
+mod fractions;
 mod moment;
+#[cfg(test)]
+mod tests;
 
-pub use moment::Moment;
+pub use calendar::{Civil, LAST_DAY, civil_of, day_of, one_day_for_each_date};
+pub use fractions::{fraction_of, seconds_of};
+pub use moment::{Moment, moment_of};

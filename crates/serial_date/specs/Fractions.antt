@@ -1,0 +1,14 @@
+-- Seconds of a day, and days in millionths.
+use Rattle.std.specs.Prelude.{ℕ, ◌+◌, ◌*◌, ◌/◌, ◌%◌}
+
+-- the whole number that is nearest to a fraction, halves up
+abbrev pub nearest : ℕ → ℕ → ℕ
+nearest n d = (2 * n + d) / (2 * d)
+
+-- the nearest second of so many millionths of a day, on a clock of one day
+abbrev pub second_of_day : ℕ → ℕ
+second_of_day millionths = nearest (millionths * 86400) 1000000 % 86400
+
+-- the nearest millionth of a day
+abbrev pub millionths_of_day : ℕ → ℕ
+millionths_of_day second = nearest (second * 1000000) 86400
