@@ -1,57 +1,177 @@
 -- Dates by their day numbers.
-use Rattle.std.proofs.Common.{◌≡◌, ℕ, refl, sym, ap, ◌∙◌, arith, ℤ, pos, ◌+ℤ◌, inl, inr, Option, Some, None, Result, Ok, Err}
-use Rattle.std.specs.Prelude.{IfErr, IfSome, IsOk}
-use Rattle.jiff_core.specs.declared.civil.date.Date.{Date}
-use Rattle.jiff_core.specs.Calendar.{day_count, days_from_civil}
-use Rattle.jiff_core.specs.Date.{epoch_day, IsYmd}
-use Rattle.jiff_core.proofs.CalendarLemmas.{days_from_civil-day_count}
-use Rattle.jiff_core.proofs.DateLemmas.{epoch_day_injective}
-use Rattle.jiff_core.proofs.MarchLemmas.{day_count-late}
-use Rattle.jiff_core.proofs.SignedLemmas.{signed_arith}
-use Rattle.serial_date.specs.Calendar.{days_since_1899, numbered, IsCivilDay, IsDay}
+use Rattle.std.proofs.Common.{◌≡◌, ℕ, zero, suc, ◌+◌, ◌-◌, ◌*◌, ◌/◌, ◌%◌, ◌≤◌, ◌<◌, nat_le, Bool, true, false, refl, sym, ap, ◌∙◌, subst, arith, ℤ, pos, negsuc, inl, inr, Option, Some, None}
+use Rattle.std.specs.Prelude.{◌&&◌, unsigned_abs}
+use Rattle.std.proofs.lemmas.Bool.{cases_Bool}
+use Rattle.std.proofs.lemmas.Bool.Decides.{nat_tests}
+use Rattle.serial_date.specs.declared.calendar.Civil.{Civil}
+use Rattle.serial_date.specs.Calendar.{date_at, date_of, day_number, days_in_month, days_in_year, is_between, is_date, is_leap, number_of, piece_of, total}
+use Rattle.serial_date.proofs.Walks.{lies_in, total_grows, total_more, walk, IsIn}
 
-eve_count : day_count (pos 1899) 12 31 ≡ 4_346_385
-eve_count = day_count-late (pos 1899) 11899 12 31 refl (omega arith) (omega arith) (omega arith)
+year_days : (n : ℕ) → days_in_year (1900 + n) + (n + 3) / 4 ≡ 365 + (suc n + 3) / 4
+unfolding days_in_year
+year_days n = elim (cases_Bool (is_leap (1900 + n))) [
+  | inl leap ↦ (let four : (1900 + n) % 4 ≡ 0 = grind (arith, nat_tests, leap) in rw leap (omega (arith, four)))
+  | inr other ↦ (let apart : 0 < (1900 + n) % 4 = grind (arith, nat_tests, other) in rw other (omega (arith, apart)))
+]
 
--- 31 December 1899 is day 25,568 before 1 January 1970
-pub eve : days_from_civil (pos 1899) 12 31 +ℤ pos 25_568 ≡ pos 0
-eve = omega (arith, signed_arith, days_from_civil-day_count (pos 1899) 12 31, eve_count)
+-- the days of the first years, in closed form
+pub years_closed : (n : ℕ) → total days_in_year 1900 n ≡ 365 * n + (n + 3) / 4
+years_closed zero = unfold total in refl
+years_closed (suc n) = omega (arith, years_closed n, total_more days_in_year 1900 n, year_days n)
 
-pub since : (d : Date) → days_since_1899 d ≡ epoch_day d +ℤ pos 25_568
-since d = omega (arith, signed_arith, eve)
+-- a year's months are its days
+pub year_months : (y : ℕ) → total (days_in_month y) 1 12 ≡ days_in_year y
+unfolding total days_in_month days_in_year
+year_months y = elim (cases_Bool (is_leap y)) [ inl leap ↦ rw leap refl | inr other ↦ rw other refl ]
 
-pub days_after : (d : Date) (days : ℕ) → epoch_day d +ℤ pos 4_371_587 ≡ pos days → days_since_1899 d +ℤ pos 4_346_019 ≡ pos days
-days_after d days e = omega (arith, signed_arith, since d, e)
+-- a date of the calendar
+pub record IsCalendarDate (y m d : ℕ) : Type 0 where
+  pub first_year : 1900 ≤ y
+  pub last_year : y ≤ 2099
+  pub first_month : 1 ≤ m
+  pub last_month : m ≤ 12
+  pub first_day : 1 ≤ d
+  pub last_day : d ≤ days_in_month y m
 
-pub eve_date : (d : Date) → IsYmd (pos 1899) (pos 12) (pos 31) d → epoch_day d +ℤ pos 25_568 ≡ pos 0
-eve_date d is =
-    let month : d.month ≡ 12 = omega (arith, signed_arith, is.1) in
-    let day : d.day ≡ 31 = omega (arith, signed_arith, is.2) in
-    rw (is.0, month, day) eve
+-- its place in the year
+in_year : (y m d : ℕ) → IsCalendarDate y m d → total (days_in_month y) 1 (m - 1) + d ≤ days_in_year y
+in_year y m d is =
+    let month : total (days_in_month y) 1 (suc (m - 1)) ≡ total (days_in_month y) 1 (m - 1) + days_in_month y (1 + (m - 1)) = total_more (days_in_month y) 1 (m - 1) in
+    let same : 1 + (m - 1) ≡ m = omega (arith, is.first_month) in
+    let length : days_in_month y (1 + (m - 1)) ≡ days_in_month y m = ap (days_in_month y) same in
+    let all : total (days_in_month y) 1 (suc (m - 1)) ≤ total (days_in_month y) 1 (suc (m - 1) + (12 - m)) = total_grows (days_in_month y) 1 (suc (m - 1)) (12 - m) in
+    let twelve : suc (m - 1) + (12 - m) ≡ 12 = omega (arith, is.first_month, is.last_month) in
+    omega (arith, month, length, all, ap (total (days_in_month y) 1) twelve, year_months y, is.last_day)
 
-numbered_apart : (z : ℤ) → numbered z ≡ pos 60 → ⊥
-numbered_apart z e = grind (arith, signed_arith, e)
+pub in_calendar : (y m d : ℕ) → IsCalendarDate y m d → (1 ≤ number_of y m d) × (number_of y m d ≤ 73050)
+in_calendar y m d is =
+    let same : 1900 + (y - 1900) ≡ y = omega (arith, is.first_year) in (
+      omega (arith, is.first_day),
+      omega (arith, in_year y m d is, is.last_year, years_closed (y - 1900), years_closed (suc (y - 1900)), total_more days_in_year 1900 (y - 1900), ap days_in_year same),
+    )
 
-numbered_once : (a b : ℤ) → numbered a ≡ numbered b → a ≡ b
-numbered_once a b e = grind (arith, signed_arith, e)
+-- the date of its number
+pub found : (y m d : ℕ) → IsCalendarDate y m d → date_of (number_of y m d) ≡ Some (date_at y m d)
+found y m d is =
+    let r : ℕ = total (days_in_month y) 1 (m - 1) + d in
+    let in_range = in_calendar y m d is in
+    let test : (nat_le 1 (number_of y m d) && nat_le (number_of y m d) 73050) ≡ true = grind (arith, nat_tests, in_range.0, in_range.1) in
+    let year_is : 1900 + (y - 1900) ≡ y = omega (arith, is.first_year) in
+    let month_is : 1 + (m - 1) ≡ m = omega (arith, is.first_month) in
+    let year : piece_of days_in_year 199 1900 (total days_in_year 1900 (y - 1900) + r) ≡ (y, r) =
+    walk days_in_year (y - 1900) 199 1900 r (omega (arith, is.last_year)) (omega (arith, is.first_day)) (subst (λ k. r ≤ days_in_year k) (sym year_is) (in_year y m d is)) ∙ ap (λ k. (k, r)) year_is in
+    let month : piece_of (days_in_month y) 11 1 r ≡ (m, d) =
+    walk (days_in_month y) (m - 1) 11 1 d (omega (arith, is.last_month)) is.first_day (subst (λ k. d ≤ days_in_month y k) (sym month_is) is.last_day) ∙ ap (λ k. (k, d)) month_is in
+    rw (test, year, month) refl
 
--- the civil calendar has no 29 February 1900
-no_day_60 : (n : ℕ) (y m d : ℤ) → IsCivilDay n y m d → n ≡ 60 → ⊥
-no_day_60 n y m d is e = numbered_apart (days_since_1899 is.date) (sym is.number ∙ ap pos e)
+-- a day number is that of a date
+pub record HasDate (n : ℕ) : Type 0 where
+  pub y : ℕ
+  pub m : ℕ
+  pub d : ℕ
+  pub is : IsCalendarDate y m d
+  pub number : n ≡ number_of y m d
 
-pub one_date : (n : ℕ) (y m d y' m' d' : ℤ) → IsDay n y m d → IsDay n y' m' d' → (y ≡ y') × (m ≡ m') × (d ≡ d')
-one_date n y m d y' m' d' (_, _, inl is) (_, _, inl is') = (is.1 ∙ sym is'.1, is.2 ∙ sym is'.2, is.3 ∙ sym is'.3)
-one_date n y m d y' m' d' (_, _, inl is) (_, _, inr is') = absurd (no_day_60 n y' m' d' is' is.0)
-one_date n y m d y' m' d' (_, _, inr is) (_, _, inl is') = absurd (no_day_60 n y m d is is'.0)
-one_date n y m d y' m' d' (_, _, inr is) (_, _, inr is') =
-    let same : days_since_1899 is.date ≡ days_since_1899 is'.date = numbered_once (days_since_1899 is.date) (days_since_1899 is'.date) (sym is.number ∙ is'.number) in
-    let date = epoch_day_injective is.date is'.date (let e : epoch_day is.date ≡ epoch_day is'.date = omega (arith, signed_arith, same, since is.date, since is'.date) in e) in
-    (sym is.parts.0 ∙ date.0 ∙ is'.parts.0, sym is.parts.1 ∙ ap pos date.1 ∙ is'.parts.1, sym is.parts.2 ∙ ap pos date.2 ∙ is'.parts.2)
+pub has_date : (n : ℕ) → 1 ≤ n → n ≤ 73050 → HasDate n
+has_date n more below =
+    let year : IsIn days_in_year 199 1900 n = lies_in days_in_year 199 1900 n more (omega (arith, below, years_closed 200)) in
+    let y : ℕ = 1900 + year.j in
+    let month : IsIn (days_in_month y) 11 1 year.r = lies_in (days_in_month y) 11 1 year.r year.from (omega (arith, year.upto, year_months y)) in
+    let year_is : 1900 + year.j - 1900 ≡ year.j = omega arith in
+    let month_is : 1 + month.j - 1 ≡ month.j = omega arith in
+    record {
+      y = y;
+      m = 1 + month.j;
+      d = month.r;
+      is = record { first_year = omega arith; last_year = omega (arith, year.few); first_month = omega arith; last_month = omega (arith, month.few); first_day = month.from; last_day = month.upto };
+      number = omega (arith, year.is, month.is, ap (total days_in_year 1900) year_is, ap (total (days_in_month y) 1) month_is);
+    }
 
-pub some_weaker : {T : Type 0} (r : Option T) (P Q : T → Type 0) → ((x : T) → P x → Q x) → IfSome r P → IfSome r Q
-some_weaker (Some x) P Q f h = f x h
-some_weaker None P Q f h = h
+left_of : (a b : Bool) → (a && b) ≡ true → a ≡ true
+left_of true b h = refl
+left_of false b h = absurd cc
 
-pub ok_is_no_err : {T E : Type 0} (r : Result T E) → IsOk r → IfErr r (λ _. ⊥)
-ok_is_no_err (Ok x) h = tt
-ok_is_no_err (Err e) h = absurd cc
+right_of : (a b : Bool) → (a && b) ≡ true → b ≡ true
+right_of true b h = h
+right_of false b h = absurd cc
+
+-- a signed number within bounds
+pub record IsSmall (low high : ℕ) (z : ℤ) : Type 0 where
+  pub n : ℕ
+  pub is : z ≡ pos n
+  pub from : low ≤ n
+  pub upto : n ≤ high
+
+pub is_small : (low high : ℕ) (z : ℤ) → is_between low high z ≡ true → IsSmall low high z
+is_small low high (pos n) h = record { n = n; is = refl; from = grind (arith, nat_tests, h); upto = grind (arith, nat_tests, h) }
+is_small low high (negsuc n) h = absurd cc
+
+small_is : (low high n : ℕ) → low ≤ n → n ≤ high → is_between low high (pos n) ≡ true
+small_is low high n from upto = grind (arith, nat_tests, from, upto)
+
+-- the test of signed parts
+pub record IsTested (y m d : ℤ) : Type 0 where
+  pub year : ℕ
+  pub month : ℕ
+  pub day : ℕ
+  pub year_is : y ≡ pos year
+  pub month_is : m ≡ pos month
+  pub day_is : d ≡ pos day
+  pub is : IsCalendarDate year month day
+
+pub tested : (y m d : ℤ) → is_date y m d ≡ true → IsTested y m d
+tested y m d h =
+    let later : (is_between 1 12 m && is_between 1 (days_in_month (unsigned_abs y) (unsigned_abs m)) d) ≡ true = right_of (is_between 1900 2099 y) (is_between 1 12 m && is_between 1 (days_in_month (unsigned_abs y) (unsigned_abs m)) d) h in
+    let year : IsSmall 1900 2099 y = is_small 1900 2099 y (left_of (is_between 1900 2099 y) (is_between 1 12 m && is_between 1 (days_in_month (unsigned_abs y) (unsigned_abs m)) d) h) in
+    let month : IsSmall 1 12 m = is_small 1 12 m (left_of (is_between 1 12 m) (is_between 1 (days_in_month (unsigned_abs y) (unsigned_abs m)) d) later) in
+    let day : IsSmall 1 (days_in_month (unsigned_abs y) (unsigned_abs m)) d = is_small 1 (days_in_month (unsigned_abs y) (unsigned_abs m)) d (right_of (is_between 1 12 m) (is_between 1 (days_in_month (unsigned_abs y) (unsigned_abs m)) d) later) in
+    record {
+      year = year.n;
+      month = month.n;
+      day = day.n;
+      year_is = year.is;
+      month_is = month.is;
+      day_is = day.is;
+      is = record { first_year = year.from; last_year = year.upto; first_month = month.from; last_month = month.upto; first_day = day.from; last_day = subst (λ k. day.n ≤ k) (ap (λ z. days_in_month (unsigned_abs z) (unsigned_abs m)) year.is ∙ ap (λ z. days_in_month year.n (unsigned_abs z)) month.is) day.upto };
+    }
+
+pub passes : (y m d : ℕ) → IsCalendarDate y m d → is_date (pos y) (pos m) (pos d) ≡ true
+passes y m d is = rw (small_is 1900 2099 y is.first_year is.last_year, small_is 1 12 m is.first_month is.last_month, small_is 1 (days_in_month y m) d is.first_day is.last_day) refl
+
+same_number : (y m d : ℤ) (t : IsTested y m d) → number_of (unsigned_abs y) (unsigned_abs m) (unsigned_abs d) ≡ number_of t.year t.month t.day
+same_number y m d t = ap (λ z. number_of (unsigned_abs z) (unsigned_abs m) (unsigned_abs d)) t.year_is ∙ ap (λ z. number_of t.year (unsigned_abs z) (unsigned_abs d)) t.month_is ∙ ap (λ z. number_of t.year t.month (unsigned_abs z)) t.day_is
+
+same_date : (y m d : ℤ) (t : IsTested y m d) → ◌≡◌ {A = Option Civil} (Some (date_at t.year t.month t.day)) (Some (record { year = y; month = m; day = d }))
+same_date y m d t = ap (λ z. Some (record { year = z; month = pos t.month; day = pos t.day })) (sym t.year_is) ∙ ap (λ z. Some (record { year = y; month = z; day = pos t.day })) (sym t.month_is) ∙ ap (λ z. Some (record { year = y; month = m; day = z })) (sym t.day_is)
+
+pub number_to_date : (n : ℕ) (y m d : ℤ) → day_number y m d ≡ Some n → date_of n ≡ Some (record { year = y; month = m; day = d })
+number_to_date n y m d h = elim (cases_Bool (is_date y m d)) [
+  | inl right ↦ (let t : IsTested y m d = tested y m d right in
+      let same : Some (number_of (unsigned_abs y) (unsigned_abs m) (unsigned_abs d)) ≡ Some n = rw right at h in
+      let number : number_of (unsigned_abs y) (unsigned_abs m) (unsigned_abs d) ≡ n = cc in
+      let parts : number_of (unsigned_abs y) (unsigned_abs m) (unsigned_abs d) ≡ number_of t.year t.month t.day = same_number y m d t in
+      ap date_of (sym number ∙ parts) ∙ found t.year t.month t.day t.is ∙ same_date y m d t)
+  | inr wrong ↦ (let none : ◌≡◌ {A = Option ℕ} None (Some n) = rw wrong at h in absurd cc)
+]
+
+pub date_to_number : (n : ℕ) (y m d : ℤ) → date_of n ≡ Some (record { year = y; month = m; day = d }) → day_number y m d ≡ Some n
+date_to_number n y m d h = elim (cases_Bool (nat_le 1 n && nat_le n 73050)) [
+  | inl right ↦ (let has : HasDate n = has_date n (grind (arith, nat_tests, right)) (grind (arith, nat_tests, right)) in
+      let same : ◌≡◌ {A = Option Civil} (Some (date_at has.y has.m has.d)) (Some (record { year = y; month = m; day = d })) = sym (found has.y has.m has.d has.is) ∙ ap date_of (sym has.number) ∙ h in
+      let parts : ◌≡◌ {A = Civil} (date_at has.y has.m has.d) (record { year = y; month = m; day = d }) = cc in
+      let year : y ≡ pos has.y = ap (λ (c : Civil). c.year) (sym parts) in
+      let month : m ≡ pos has.m = ap (λ (c : Civil). c.month) (sym parts) in
+      let day : d ≡ pos has.d = ap (λ (c : Civil). c.day) (sym parts) in
+      rw (year, month, day, passes has.y has.m has.d has.is) (ap Some (sym has.number)))
+  | inr wrong ↦ (let none : ◌≡◌ {A = Option Civil} None (Some (record { year = y; month = m; day = d })) = rw wrong at h in absurd cc)
+]
+
+pub number_in_range : (y m d : ℤ) (n : ℕ) → day_number y m d ≡ Some n → (1 ≤ n) × (n ≤ 73050)
+number_in_range y m d n h = elim (cases_Bool (is_date y m d)) [
+  | inl right ↦ (let t : IsTested y m d = tested y m d right in
+      let same : Some (number_of (unsigned_abs y) (unsigned_abs m) (unsigned_abs d)) ≡ Some n = rw right at h in
+      let number : number_of (unsigned_abs y) (unsigned_abs m) (unsigned_abs d) ≡ n = cc in
+      let in_range = in_calendar t.year t.month t.day t.is in
+      subst (λ k. (1 ≤ k) × (k ≤ 73050)) (sym (same_number y m d t) ∙ number) in_range)
+  | inr wrong ↦ (let none : ◌≡◌ {A = Option ℕ} None (Some n) = rw wrong at h in absurd cc)
+]

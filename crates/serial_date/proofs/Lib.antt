@@ -1,1 +1,3 @@
+pub mod CivilDates
 pub mod DayNumbers
+pub mod Walks

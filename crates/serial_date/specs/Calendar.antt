@@ -1,27 +1,51 @@
--- Day numbers of the worksheet's calendar.
-use Rattle.std.specs.Prelude.{◌≡◌, ◌≤◌, ◌⊎◌, ℕ, ℤ, pos, ◌+ℤ◌, ◌-ℤ◌, int_lt, if◌then◌else◌}
-use Rattle.jiff_core.specs.declared.civil.date.Date.{Date}
-use Rattle.jiff_core.specs.Calendar.{days_from_civil}
-use Rattle.jiff_core.specs.Date.{epoch_day, IsYmd}
+-- The worksheet's calendar, from 1 January 1900, which is day 1, to 31 December 2099, which is day 73050.
+use Rattle.std.specs.Prelude.{ℕ, zero, suc, ◌+◌, ◌-◌, ◌%◌, Bool, not, ◌&&◌, ◌||◌, ◌==◌, nat_le, ℤ, pos, int_lt, unsigned_abs, Option, Some, None, if◌then◌else◌}
+use Rattle.serial_date.specs.declared.calendar.Civil.{Civil}
 
--- the days from 31 December 1899 to a date of the civil calendar
-abbrev pub days_since_1899 : Date → ℤ
-days_since_1899 date = epoch_day date -ℤ days_from_civil (pos 1899) 12 31
+-- every fourth year, and 1900 too, which is none in the civil calendar
+abbrev pub is_leap : ℕ → Bool
+is_leap y = y % 4 == 0
 
--- one day more from 1 March 1900 on, since 29 February 1900 has the number 60
-abbrev pub numbered : ℤ → ℤ
-numbered days = if int_lt days (pos 60) then days else days +ℤ pos 1
+unfoldable pub days_in_year : ℕ → ℕ
+days_in_year y = if is_leap y then 366 else 365
 
--- a date of the civil calendar with its number
-pub record IsCivilDay (n : ℕ) (year month day : ℤ) : Type 0 where
-  pub date : Date
-  pub parts : IsYmd year month day date
-  pub number : pos n ≡ numbered (days_since_1899 date)
+-- thirty days have September, April, June and November
+unfoldable pub days_in_month : ℕ → ℕ → ℕ
+days_in_month y m =
+    if m == 2 then (if is_leap y then 29 else 28)
+    else (if (m == 4) || (m == 6) || (m == 9) || (m == 11) then 30 else 31)
 
--- 29 February 1900, which the worksheet's calendar has and the civil one hasn't
-abbrev pub IsDay60 : ℕ → ℤ → ℤ → ℤ → Type 0
-IsDay60 n year month day = (n ≡ 60) × (year ≡ pos 1900) × (month ≡ pos 2) × (day ≡ pos 29)
+-- how long so many pieces are, from the first on
+unfoldable pub total : (ℕ → ℕ) → ℕ → ℕ → ℕ
+total length first zero = 0
+total length first (suc count) = length first + total length (first + 1) count
 
--- the date has this day number: 1 for 1 January 1900, up to 73050 for 31 December 2099
-abbrev pub IsDay : ℕ → ℤ → ℤ → ℤ → Type 0
-IsDay n year month day = (1 ≤ n) × (n ≤ 73050) × (IsDay60 n year month day ⊎ IsCivilDay n year month day)
+-- whole pieces are taken off, at most so many: the piece in which the number lies, and its place there
+unfoldable pub piece_of : (ℕ → ℕ) → ℕ → ℕ → ℕ → ℕ × ℕ
+piece_of length zero first n = (first, n)
+piece_of length (suc count) first n = if nat_le n (length first) then (first, n) else piece_of length count (first + 1) (n - length first)
+
+abbrev pub is_between : ℕ → ℕ → ℤ → Bool
+is_between low high z = not (int_lt z (pos low)) && not (int_lt (pos high) z)
+
+-- the calendar has this day
+abbrev pub is_date : ℤ → ℤ → ℤ → Bool
+is_date y m d = is_between 1900 2099 y && (is_between 1 12 m && is_between 1 (days_in_month (unsigned_abs y) (unsigned_abs m)) d)
+
+-- its number: the days of the years before, of the months before, and of its month
+abbrev pub number_of : ℕ → ℕ → ℕ → ℕ
+number_of y m d = total days_in_year 1900 (y - 1900) + (total (days_in_month y) 1 (m - 1) + d)
+
+abbrev pub day_number : ℤ → ℤ → ℤ → Option ℕ
+day_number y m d = if is_date y m d then Some (number_of (unsigned_abs y) (unsigned_abs m) (unsigned_abs d)) else None
+
+abbrev pub date_at : ℕ → ℕ → ℕ → Civil
+date_at y m d = record { year = pos y; month = pos m; day = pos d }
+
+-- whole months are taken off the days of a year
+abbrev pub date_in_year : ℕ × ℕ → Civil
+date_in_year (y, n) = date_at y (piece_of (days_in_month y) 11 1 n).0 (piece_of (days_in_month y) 11 1 n).1
+
+-- the date of a day number: whole years are taken off, and then whole months
+abbrev pub date_of : ℕ → Option Civil
+date_of n = if nat_le 1 n && nat_le n 73050 then Some (date_in_year (piece_of days_in_year 199 1900 n)) else None

@@ -1,6 +1,7 @@
 // Day numbers and the dates that have them.
-ghost use Rattle.std.specs.Prelude.{◌≡◌, ◌≤◌, ◌<◌, ℕ, ℤ, pos, IfErr, IfNone, IfOk, IfSome};
-ghost use Rattle.serial_date.specs.Calendar.{days_since_1899, numbered, IsCivilDay, IsDay};
+ghost use Rattle.std.specs.Prelude.{◌≡◌, ◌≤◌, ◌≤ℤ◌, ℕ, ℤ, pos, true, false, Some, IfErr, IfOk};
+ghost use Rattle.serial_date.specs.Calendar.{date_of, day_number, is_between};
+ghost use Rattle.serial_date.specs.Civil.{days_since_1899, numbered};
 ghost use Rattle.jiff_core.specs.Date.{IsYmd};
 
 use jiff::civil::{Date, date};
@@ -23,27 +24,27 @@ pub struct Civil {
     pub day: i8,
 }
 
-// The days from 31 December 1899 to the date, where it lies behind it.
-fn days_since_1899(date: Date) -> Option<u32>
-    ensures some { IfSome result (λ n. (1 ≤ n) × (n ≤ 2958464) × (pos n ≡ days_since_1899 date)) }
-    ensures none { IfNone result ((n : ℕ) → 1 ≤ n → pos n ≡ days_since_1899 date → ⊥) }
+fn is_leap_day_1900(year: i16, month: i8, day: i8) -> bool
+    ensures yes { result ≡ true → (year ≡ pos 1900) × (month ≡ pos 2) × (day ≡ pos 29) }
+    ensures no { result ≡ false → (year ≡ pos 1900) × (month ≡ pos 2) × (day ≡ pos 29) → ⊥ }
 {
-    let days = date.to_plain().days_since_min();
-    if days > DAYS_BEFORE_1900 {
-        Some(days - DAYS_BEFORE_1900)
-    } else {
-        None
-    }
+    year == 1900 && month == 2 && day == 29
+}
+
+// The years of the worksheet's calendar.
+fn is_in_years(year: i16) -> bool
+    ensures { result ≡ is_between 1900 2099 year }
+{
+    !(year < 1900) && !(2099 < year)
 }
 
 /// The day number of a date. Day 1 is 1 January 1900, day 60 is 29 February 1900, which the worksheet's
 /// calendar has as a leap day, and day 73050 is 31 December 2099. None exactly outside these and for a date
 /// that the calendar doesn't have. (Release 2 manual for the numbers and for day 60.)
 pub fn day_of(year: i16, month: i8, day: i8) -> Option<u32>
-    ensures some { IfSome result (λ n. IsDay n year month day) }
-    ensures none { IfNone result ((n : ℕ) → IsDay n year month day → ⊥) }
+    ensures { result ≡ day_number year month day }
 {
-    if year == 1900 && month == 2 && day == 29 {
+    if is_leap_day_1900(year, month, day) {
         return Some(LEAP_DAY_1900);
     }
     match Date::new(year, month, day) {
@@ -54,37 +55,28 @@ pub fn day_of(year: i16, month: i8, day: i8) -> Option<u32>
 
 // The day number of a date of the civil calendar.
 pub(crate) fn day_of_date(date: Date) -> Option<u32>
-    ensures some { IfSome result (λ n. (1 ≤ n) × (n ≤ 73050) × (pos n ≡ numbered (days_since_1899 date))) }
-    ensures none { IfNone result ((n : ℕ) → 1 ≤ n → n ≤ 73050 → pos n ≡ numbered (days_since_1899 date) → ⊥) }
+    ensures { result ≡ day_number date.year (pos date.month) (pos date.day) }
 {
-    match days_since_1899(date) {
-        Some(days) => {
-            let number = if days < LEAP_DAY_1900 { days } else { days + 1 };
-            if number <= LAST_DAY {
-                Some(number)
-            } else {
-                None
-            }
-        }
-        None => None,
+    if !is_in_years(date.year()) {
+        return None;
     }
+    let days = days_since_1899(date);
+    Some(if days < LEAP_DAY_1900 { days } else { days + 1 })
 }
 
-// The parts of a date.
-fn parts_of(date: Date) -> Civil
-    ensures { IsYmd result.year result.month result.day date }
+// The days from 31 December 1899 to a date behind it.
+fn days_since_1899(date: Date) -> u32
+    requires from { pos 1900 ≤ℤ date.year }
+    requires upto { date.year ≤ℤ pos 2099 }
+    ensures days { pos result ≡ days_since_1899 date }
+    ensures bound { result ≤ 73050 }
 {
-    Civil {
-        year: date.year(),
-        month: date.month(),
-        day: date.day(),
-    }
+    date.to_plain().days_since_min() - DAYS_BEFORE_1900
 }
 
 /// The date of a day number; none exactly below 1 and above 73050.
 pub fn civil_of(day: u32) -> Option<Civil>
-    ensures some { IfSome result (λ c. IsDay day c.year c.month c.day) }
-    ensures none { IfNone result ((1 ≤ day) × (day ≤ 73050) → ⊥) }
+    ensures { result ≡ date_of day }
 {
     if day == 0 || day > LAST_DAY {
         return None;
@@ -114,8 +106,19 @@ fn date_of_day(day: u32) -> Result<Date, Error>
     date(1899, 12, 31).checked_add(i64::from(days).days())
 }
 
-/// A date has one day number, and a day number is that of one date: `day_of` and `civil_of` undo each other.
-pub fn one_day_for_each_date()
-    ensures day { (n k : ℕ) (y m d : ℤ) → IsDay n y m d → IsDay k y m d → n ≡ k }
-    ensures date { (n : ℕ) (y m d y' m' d' : ℤ) → IsDay n y m d → IsDay n y' m' d' → (y ≡ y') × (m ≡ m') × (d ≡ d') }
+// The parts of a date.
+fn parts_of(date: Date) -> Civil
+    ensures { IsYmd result.year result.month result.day date }
+{
+    Civil {
+        year: date.year(),
+        month: date.month(),
+        day: date.day(),
+    }
+}
+
+/// `day_of` and `civil_of` undo each other.
+pub fn dates_and_numbers()
+    ensures date { (n : ℕ) (y m d : ℤ) → day_number y m d ≡ Some n → date_of n ≡ Some (record { year = y; month = m; day = d }) }
+    ensures number { (n : ℕ) (y m d : ℤ) → date_of n ≡ Some (record { year = y; month = m; day = d }) → day_number y m d ≡ Some n }
 {}

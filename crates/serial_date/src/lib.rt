@@ -7,6 +7,6 @@ mod moment;
 #[cfg(test)]
 mod tests;
 
-pub use calendar::{Civil, LAST_DAY, civil_of, day_of, one_day_for_each_date};
+pub use calendar::{Civil, LAST_DAY, civil_of, dates_and_numbers, day_of};
 pub use fractions::{fraction_of, seconds_of};
 pub use moment::{Moment, moment_of};

@@ -1,10 +1,10 @@
-ghost use Rattle.std.specs.Prelude.{◌≡◌, ◌<◌, ◌≤◌, ℕ, pos, IfNone, IfSome, None};
+ghost use Rattle.std.specs.Prelude.{◌≡◌, ◌<◌, ◌≤◌, pos, None};
 ghost use Rattle.std.specs.Option.{ForSome};
-ghost use Rattle.serial_date.specs.Calendar.{days_since_1899, numbered};
+ghost use Rattle.serial_date.specs.Calendar.{day_number};
 ghost use Rattle.jiff_core.specs.Time.{time_seconds};
 
 use crate::calendar::day_of_date;
-use jiff::civil::DateTime;
+use jiff::civil::{DateTime, Time};
 
 /// A moment, as a clock tells it: a day number, where the clock has one, and a second of the day.
 /// Day 1 is 1 January 1900 and day 73050 is 31 December 2099; the second is below 86400.
@@ -32,16 +32,22 @@ impl Moment {
 /// The moment of a date and time: no day exactly outside 1900 to 2099, and the second of the day, without its
 /// fraction.
 pub fn moment_of(now: DateTime) -> Moment
-    ensures day { IfSome result.day (λ n. pos n ≡ numbered (days_since_1899 now.date)) }
-    ensures no_day { IfNone result.day ((n : ℕ) → 1 ≤ n → n ≤ 73050 → pos n ≡ numbered (days_since_1899 now.date) → ⊥) }
+    ensures day { result.day ≡ day_number now.date.year (pos now.date.month) (pos now.date.day) }
     ensures second { result.second ≡ time_seconds now.time }
 {
-    let time = now.time();
+    Moment {
+        day: day_of_date(now.date()),
+        second: second_of(now.time()),
+    }
+}
+
+// The second of the day.
+fn second_of(time: Time) -> u32
+    ensures value { result ≡ time_seconds time }
+    ensures below { result < 86400 }
+{
     let hour = u32::from(time.hour().unsigned_abs());
     let minute = u32::from(time.minute().unsigned_abs());
     let second = u32::from(time.second().unsigned_abs());
-    Moment {
-        day: day_of_date(now.date()),
-        second: hour * 3600 + minute * 60 + second,
-    }
+    hour * 3600 + minute * 60 + second
 }

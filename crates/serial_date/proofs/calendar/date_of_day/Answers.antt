@@ -2,7 +2,7 @@ use Rattle.std.proofs.Common.{arith, ◌≤◌, FitsSigned, w64}
 use Rattle.std.proofs.lemmas.Int.{to_z-of_z}
 use Rattle.jiff.proofs.SpanFacts.{can_add-days}
 use Rattle.jiff_core.proofs.SignedLemmas.{signed_arith}
-use Rattle.serial_date.proofs.DayNumbers.{eve_date, ok_is_no_err}
+use Rattle.serial_date.proofs.CivilDates.{eve_date, ok_is_no_err}
 use Rattle.serial_date.proofs.calendar.date_of_day.Goals as goal
 use Rattle.serial_date.proofs.calendar.date_of_day.Goals.{then-day-lt-LEAP_DAY_1900, else-day-lt-LEAP_DAY_1900}
 
