@@ -1,3 +1,4 @@
+pub mod LastZeros
 pub mod Places
 pub mod Powers
 pub mod Rounding

@@ -1,6 +1,7 @@
 -- How a number is written.
 use Rattle.std.specs.Int.RustNames.{int_lt}
 use Rattle.std.specs.Prelude.{ℕ, zero, suc, ◌+◌, ◌*◌, ◌/◌, ◌%◌, ◌^◌, ℤ, pos, nat_abs, Bool, true, false, not, ◌&&◌, ◌==◌, List, [], ◌∷◌, ◌++◌, take, drop, if◌then◌else◌}
+use Rattle.std.specs.List.{list_all}
 use Rattle.fixed_value.specs.Numbers.{nearest}
 
 -- so many digits of a number, with zeros in front
@@ -31,3 +32,16 @@ minus_sign false = []
 -- a sign, the whole digits, and the places behind a point; ten digits before the point are enough
 abbrev pub written : ℤ → ℕ → List ℕ
 written v places = minus_sign (int_lt v (pos 0) && not (scaled v places == 0)) ++ (without_zeros (take 10 (fixed_digits (10 + places) (scaled v places))) ++ pointed (drop 10 (fixed_digits (10 + places) (scaled v places))))
+
+-- zeros at the end are left out
+abbrev pub without_last_zeros : List ℕ → List ℕ
+without_last_zeros [] = []
+without_last_zeros (d ∷ ds) = if list_all (λ e. e == 48) (d ∷ ds) then [] else d ∷ without_last_zeros ds
+
+-- with at most so many places, and no more than are needed
+abbrev pub short : ℤ → ℕ → List ℕ
+short v places = minus_sign (int_lt v (pos 0) && not (scaled v places == 0)) ++ (without_zeros (take 10 (fixed_digits (10 + places) (scaled v places))) ++ pointed (without_last_zeros (drop 10 (fixed_digits (10 + places) (scaled v places)))))
+
+-- a hundred times the number, multiplied exactly and rounded once; twelve digits before the point are enough
+abbrev pub hundredfold : ℤ → ℕ → List ℕ
+hundredfold v places = minus_sign (int_lt v (pos 0) && not (scaled v (places + 2) == 0)) ++ (without_zeros (take 12 (fixed_digits (12 + places) (scaled v (places + 2)))) ++ pointed (drop 12 (fixed_digits (12 + places) (scaled v (places + 2)))))

@@ -2,7 +2,7 @@
 ghost use Rattle.std.specs.Int.RustNames.{int_lt};
 ghost use Rattle.std.specs.Prelude.{◌≡◌, ◌≤◌, ◌<◌, ◌+◌, ◌++◌, ◌∷◌, ◌&&◌, ◌==◌, not, [], length, take, drop, ℕ, ℤ, pos, nat_abs};
 ghost use Rattle.fixed_value.specs.Decimals.{decimal_of};
-ghost use Rattle.fixed_value.specs.Written.{fixed_digits, minus_sign, pointed, scaled, without_zeros, written};
+ghost use Rattle.fixed_value.specs.Written.{fixed_digits, hundredfold, minus_sign, pointed, scaled, short, without_last_zeros, without_zeros, written};
 ghost use Rattle.fixed_value.specs.declared.decimal.Decimal.TheVariants.{Num};
 
 use crate::Fixed;
@@ -86,22 +86,22 @@ fn digits_of(count: u8, number: u128) -> Digits
     text
 }
 
-// The first ten digits.
-fn front_ten(digits: &[u8]) -> &[u8]
-    requires { 10 ≤ length digits.now }
-    ensures front { result.now ≡ take 10 digits.now }
-    ensures size { length result.now ≡ 10 }
+// The first digits, so many.
+fn front(digits: &[u8], count: usize) -> &[u8]
+    requires { count ≤ length digits.now }
+    ensures front { result.now ≡ take count digits.now }
+    ensures size { length result.now ≡ count }
 {
-    &digits[..10]
+    &digits[..count]
 }
 
-// The digits behind the first ten.
-fn behind_ten(digits: &[u8]) -> &[u8]
-    requires { 10 ≤ length digits.now }
-    ensures behind { result.now ≡ drop 10 digits.now }
-    ensures size { length result.now + 10 ≡ length digits.now }
+// The digits behind the first, so many.
+fn behind(digits: &[u8], count: usize) -> &[u8]
+    requires { count ≤ length digits.now }
+    ensures behind { result.now ≡ drop count digits.now }
+    ensures size { length result.now + count ≡ length digits.now }
 {
-    &digits[10..]
+    &digits[count..]
 }
 
 // The digits without the zeros in front, but for the last.
@@ -116,9 +116,21 @@ fn without_zeros(digits: &[u8]) -> &[u8]
     &digits[at..]
 }
 
+// The digits without the zeros at the end.
+fn without_last_zeros(digits: &[u8]) -> &[u8]
+    ensures value { result.now ≡ without_last_zeros digits.now }
+    ensures size { length result.now ≤ length digits.now }
+{
+    let mut end = digits.len();
+    while end > 0 && digits[end - 1] == b'0' {
+        end -= 1;
+    }
+    front(digits, end)
+}
+
 // The number in units of the last place.
 fn scaled(value: Fixed, places: u8) -> u128
-    requires { places ≤ 15 }
+    requires { places ≤ 17 }
     ensures { result ≡ scaled value places }
 {
     let size = u128::from(value.millionths().unsigned_abs());
@@ -148,6 +160,18 @@ fn push_places(text: &mut Digits, places: &[u8])
     }
 }
 
+// Writes a sign, whole digits and places, of which there are at most 29.
+fn write(sign: &[u8], whole: &[u8], places: &[u8]) -> Digits
+    requires { length sign.now + length whole.now + length places.now ≤ 31 }
+    ensures { result ≡ sign.now ++ (without_zeros whole.now ++ pointed places.now) }
+{
+    let mut text = Digits::new();
+    text.push_all(sign);
+    text.push_all(without_zeros(whole));
+    push_places(&mut text, places);
+    text
+}
+
 /// Writes a number with so many places, at most 15: rounded once, halves away from zero, with zeros past the
 /// sixth place, no point where there are no places, and no sign where all digits are zero.
 pub fn write_decimal(value: Fixed, places: u8) -> Digits
@@ -157,11 +181,40 @@ pub fn write_decimal(value: Fixed, places: u8) -> Digits
     let number = scaled(value, places);
     let all = digits_of(10 + places, number);
     let digits = all.bytes();
-    let mut text = Digits::new();
-    text.push_all(sign_of(value, number));
-    text.push_all(without_zeros(front_ten(digits)));
-    push_places(&mut text, behind_ten(digits));
-    text
+    write(
+        sign_of(value, number),
+        front(digits, 10),
+        behind(digits, 10),
+    )
+}
+
+/// Writes a number with at most so many places, at most 15: rounded once, halves away from zero, without the
+/// zeros at the end of its places.
+pub fn write_short(value: Fixed, places: u8) -> Digits
+    requires { places ≤ 15 }
+    ensures { result ≡ short value places }
+{
+    let number = scaled(value, places);
+    let all = digits_of(10 + places, number);
+    let digits = all.bytes();
+    let places = without_last_zeros(behind(digits, 10));
+    write(sign_of(value, number), front(digits, 10), places)
+}
+
+/// Writes a hundred times a number with so many places, at most 15: multiplied exactly and rounded once, halves
+/// away from zero.
+pub fn write_hundredfold(value: Fixed, places: u8) -> Digits
+    requires { places ≤ 15 }
+    ensures { result ≡ hundredfold value places }
+{
+    let number = scaled(value, places + 2);
+    let all = digits_of(12 + places, number);
+    let digits = all.bytes();
+    write(
+        sign_of(value, number),
+        front(digits, 12),
+        behind(digits, 12),
+    )
 }
 
 /// A number that is written with six places or more is read back as itself.

@@ -12,7 +12,7 @@ mod power_of_ten;
 mod round;
 
 pub use decimal::{Decimal, read_decimal};
-pub use digits::{Digits, write_decimal, written_is_read};
+pub use digits::{Digits, write_decimal, write_hundredfold, write_short, written_is_read};
 pub use doubles::{DoubleRead, from_double_bits, to_double_bits};
 pub use fixed::{Fixed, MAX_SIZE, rounding_is_nearest};
 

@@ -1,5 +1,5 @@
 // Worked rows of numbers.
-use crate::{Decimal, Fixed, read_decimal, write_decimal};
+use crate::{Decimal, Fixed, read_decimal, write_decimal, write_hundredfold, write_short};
 use std::process::Abort;
 use std::test::Fail;
 
@@ -144,6 +144,49 @@ fn decimals_are_read(rt: HostRuntime) -> Result<(), Fail> {
         b"1e3",
     ] {
         assert_eq!(rt; read_decimal(text), Decimal::NotNumber);
+    }
+    Ok(())
+}
+
+#[test]
+fn short_decimals_have_no_zeros_at_the_end(rt: HostRuntime) -> Result<(), Fail> {
+    for (millionths, places, text) in [
+        (0i64, 6u8, b"0".as_slice()),
+        (1_500_000, 6, b"1.5"),
+        (-1_500_000, 6, b"-1.5"),
+        (-1, 6, b"-0.000001"),
+        (-1, 3, b"0"),
+        (1_234_567, 6, b"1.234567"),
+        (1_999_999, 3, b"2"),
+        (1_050_000, 15, b"1.05"),
+        (100_000_000, 0, b"100"),
+        (100_000_000, 6, b"100"),
+        (999_999_999_999_999, 5, b"1000000000"),
+    ] {
+        assert_eq!(rt; write_short(number(&rt, millionths), places).bytes(), text);
+    }
+    Ok(())
+}
+
+#[test]
+fn a_hundred_times_a_number_is_written(rt: HostRuntime) -> Result<(), Fail> {
+    for (millionths, places, text) in [
+        (0i64, 2u8, b"0.00".as_slice()),
+        (125_000, 1, b"12.5"),
+        (-125_000, 0, b"-13"),
+        (-4_999, 0, b"0"),
+        (-5_000, 0, b"-1"),
+        (1_234_567, 2, b"123.46"),
+        (1_234_567, 4, b"123.4567"),
+        (1_234_567, 6, b"123.456700"),
+        (999_999_999_999_999, 4, b"99999999999.9999"),
+        (999_999_999_999_999, 2, b"100000000000.00"),
+        (-999_999_999_999_999, 15, b"-99999999999.999900000000000"),
+    ] {
+        assert_eq!(rt;
+            write_hundredfold(number(&rt, millionths), places).bytes(),
+            text
+        );
     }
     Ok(())
 }
