@@ -36,8 +36,8 @@ fn without_sign(bytes: &[u8]) -> &[u8]
     }
 }
 
-// How many digits the bytes begin with.
-fn digits_len(bytes: &[u8]) -> usize
+/// How many digits the bytes begin with.
+pub fn digits_len(bytes: &[u8]) -> usize
     ensures within { result ≤ length bytes.now }
     ensures whole { take result bytes.now ≡ whole_digits bytes.now }
     ensures behind { drop result bytes.now ≡ behind_digits bytes.now }

@@ -172,6 +172,14 @@ fn write(sign: &[u8], whole: &[u8], places: &[u8]) -> Digits
     text
 }
 
+/// Whether all digits are zero of a number that is written with so many places, at most 15.
+pub fn rounds_to_zero(value: Fixed, places: u8) -> bool
+    requires { places ≤ 15 }
+    ensures { result ≡ (scaled value places == 0) }
+{
+    scaled(value, places) == 0
+}
+
 /// Writes a number with so many places, at most 15: rounded once, halves away from zero, with zeros past the
 /// sixth place, no point where there are no places, and no sign where all digits are zero.
 pub fn write_decimal(value: Fixed, places: u8) -> Digits

@@ -6,7 +6,7 @@ use crate::Cell;
 use crate::decimal::decimal_text;
 use std::marker::Model;
 
-/// A piece of an address: at most 6 bytes.
+/// A short text, as an address or a piece of one: at most 6 bytes.
 #[derive(Drop)]
 pub struct AddressText {
     bytes: [u8; 6],
@@ -24,7 +24,8 @@ impl Model for AddressText {
 }
 
 impl AddressText {
-    fn new() -> AddressText
+    /// The empty text.
+    pub fn new() -> AddressText
         ensures { result ≡ [] }
     {
         AddressText {
@@ -33,7 +34,8 @@ impl AddressText {
         }
     }
 
-    fn push(&mut self, bytes: &[u8])
+    /// Adds bytes, for which there must be room.
+    pub fn push(&mut self, bytes: &[u8])
         requires { length self.old + length bytes.now ≤ 6 }
         ensures { self.new ≡ self.old ++ bytes.now }
     {

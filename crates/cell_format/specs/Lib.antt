@@ -1,0 +1,4 @@
+pub mod Format
+pub mod Numbers
+pub mod Labels
+pub mod Indicator

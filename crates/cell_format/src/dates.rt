@@ -1,0 +1,93 @@
+// Days as they are shown.
+ghost use Rattle.std.specs.Prelude.{◌≡◌, ◌≤◌, ◌+◌, ◌++◌, length, unsigned_abs};
+ghost use Rattle.cell_format.specs.Numbers.{date_text, dated, day_of, month_name, two_digits};
+ghost use Rattle.serial_date.specs.Calendar.{date_of};
+
+use crate::DateForm;
+use crate::push::{push, push_all};
+use fixed_value::Fixed;
+use lics_text::Line;
+use serial_date::{Civil, civil_of};
+
+// Adds the last two digits.
+fn push_two_digits(into: &mut Line, number: u16)
+    requires { length into.old + 2 ≤ 240 }
+    ensures { into.new ≡ into.old ++ two_digits number }
+{
+    push(into, b'0' + (number / 10 % 10) as u8);
+    push(into, b'0' + (number % 10) as u8);
+}
+
+// Jan to Dec.
+#[tactic(auto, unfolding(crate::specs::Numbers::month_name))]
+fn month_name(month: u8) -> &'static [u8]
+    ensures name { result.now ≡ month_name month }
+    ensures size { length result.now ≡ 3 }
+{
+    match month {
+        1 => b"Jan",
+        2 => b"Feb",
+        3 => b"Mar",
+        4 => b"Apr",
+        5 => b"May",
+        6 => b"Jun",
+        7 => b"Jul",
+        8 => b"Aug",
+        9 => b"Sep",
+        10 => b"Oct",
+        11 => b"Nov",
+        _ => b"Dec",
+    }
+}
+
+// 01-Jun-87, 01-Jun or Jun-87.
+fn date_text(form: DateForm, date: &Civil) -> Line
+    ensures { result ≡ date_text form (unsigned_abs date.now.year) (unsigned_abs date.now.month) (unsigned_abs date.now.day) }
+{
+    let year = date.year.unsigned_abs();
+    let name = month_name(date.month.unsigned_abs());
+    let day = u16::from(date.day.unsigned_abs());
+    let mut text = Line::new();
+    match form {
+        DateForm::DayMonthYear => {
+            push_two_digits(&mut text, day);
+            push(&mut text, b'-');
+            push_all(&mut text, name);
+            push(&mut text, b'-');
+            push_two_digits(&mut text, year);
+        }
+        DateForm::DayMonth => {
+            push_two_digits(&mut text, day);
+            push(&mut text, b'-');
+            push_all(&mut text, name);
+        }
+        DateForm::MonthYear => {
+            push_all(&mut text, name);
+            push(&mut text, b'-');
+            push_two_digits(&mut text, year);
+        }
+    }
+    text
+}
+
+// The whole part as a day number, and 0, which is no day's, below zero.
+fn day_of(value: Fixed) -> u32
+    ensures { result ≡ day_of value }
+{
+    let millionths = value.millionths();
+    if millionths < 0 {
+        0
+    } else {
+        (millionths as u64 / 1_000_000) as u32
+    }
+}
+
+// The day that a number is; none where it is none.
+pub fn day_text(form: DateForm, value: Fixed) -> Option<Line>
+    ensures { result ≡ dated form (date_of (day_of value)) }
+{
+    match civil_of(day_of(value)) {
+        Some(date) => Some(date_text(form, &date)),
+        None => None,
+    }
+}

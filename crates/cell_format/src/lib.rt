@@ -1,0 +1,16 @@
+//! What a cell shows: numbers by their format byte, labels by their prefix, and the indicator of a format.
+#![tactic(auto)]
+
+mod dates;
+mod indicators;
+mod labels;
+mod numbers;
+mod push;
+mod shape;
+#[cfg(test)]
+mod tests;
+
+pub use indicators::indicator;
+pub use labels::show_label;
+pub use numbers::show_number;
+pub use shape::{DateForm, Shape, shape_of};

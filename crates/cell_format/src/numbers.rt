@@ -1,0 +1,158 @@
+// Numbers as they are shown.
+ghost use Rattle.std.specs.Int.RustNames.{int_lt};
+ghost use Rattle.std.specs.Prelude.{◌≡◌, ◌≤◌, ◌<◌, ◌+◌, ◌-◌, ◌*◌, ◌++◌, ◌∷◌, ◌&&◌, ◌==◌, not, [], length, pos, nat_abs, Some};
+ghost use Rattle.cell_format.specs.Format.{shape_of, HasFewPlaces};
+ghost use Rattle.cell_format.specs.Numbers.{at_right, bracketed, fitting, grouped, number_text, placed, shown_number, size_text};
+ghost use Rattle.fixed_value.specs.Written.{hundredfold, scaled};
+
+use crate::dates::day_text;
+use crate::push::{fill, push, push_all};
+use crate::{Shape, shape_of};
+use fixed_value::{
+    Fixed, digits_len, rounds_to_zero, write_decimal, write_hundredfold, write_short,
+};
+use grid_address::Format;
+use lics_text::Line;
+
+// A line of these bytes.
+fn line_of(bytes: &[u8]) -> Line
+    requires { length bytes.now ≤ 240 }
+    ensures { result ≡ bytes.now }
+{
+    let mut line = Line::new();
+    push_all(&mut line, bytes);
+    line
+}
+
+// The number without its sign.
+fn size_of(value: Fixed) -> Fixed
+    ensures { result ≡ pos (nat_abs value) }
+{
+    if value.millionths() < 0 {
+        value.neg()
+    } else {
+        value
+    }
+}
+
+// Adds digits in groups of three.
+fn push_grouped(into: &mut Line, digits: &[u8])
+    requires { length into.old + 2 * length digits.now ≤ 240 }
+    ensures lines { into.new ≡ into.old ++ grouped digits.now }
+    ensures size { length into.new ≤ length into.old + 2 * length digits.now }
+{
+    for at in 0..digits.len() {
+        push(into, digits[at]);
+        let behind = digits.len() - 1 - at;
+        if behind > 0 && behind % 3 == 0 {
+            push(into, b',');
+        }
+    }
+}
+
+// Adds the size of a number, its whole digits in groups of three.
+fn push_size(into: &mut Line, value: Fixed, places: u8)
+    requires places { places ≤ 15 }
+    requires room { length into.old ≤ 100 }
+    ensures text { into.new ≡ into.old ++ size_text value places }
+    ensures size { length into.new ≤ length into.old + 96 }
+{
+    let digits = write_decimal(size_of(value), places);
+    let bytes = digits.bytes();
+    let len = digits_len(bytes);
+    push_grouped(into, &bytes[..len]);
+    push_all(into, &bytes[len..]);
+}
+
+// A number in groups of three behind a mark, in brackets where it is below zero.
+fn grouped_text(value: Fixed, places: u8, mark: &[u8]) -> Line
+    requires places { places ≤ 15 }
+    requires mark { length mark.now ≤ 1 }
+    ensures { result ≡ bracketed value places (mark.now ++ size_text value places) }
+{
+    let is_bracketed = value.millionths() < 0 && !rounds_to_zero(value, places);
+    let mut text = Line::new();
+    if is_bracketed {
+        push(&mut text, b'(');
+    }
+    push_all(&mut text, mark);
+    push_size(&mut text, value, places);
+    if is_bracketed {
+        push(&mut text, b')');
+    }
+    text
+}
+
+// A hundred times the number and the percent sign.
+fn percent_text(value: Fixed, places: u8) -> Line
+    requires { places ≤ 15 }
+    ensures { result ≡ hundredfold value places ++ 37 ∷ [] }
+{
+    let digits = write_hundredfold(value, places);
+    let mut text = line_of(digits.bytes());
+    push(&mut text, b'%');
+    text
+}
+
+// A number with as many decimals as fit, at most so many.
+fn fitting(value: Fixed, places: u8, room: usize) -> Option<Line>
+    requires { places ≤ 6 }
+    ensures { result ≡ fitting places value room }
+{
+    if write_decimal(value, places).bytes().len() <= room {
+        return Some(line_of(write_short(value, places).bytes()));
+    }
+    if places > 0 {
+        fitting(value, places - 1, room)
+    } else {
+        None
+    }
+}
+
+// The text of a number; none where all bytes are stars.
+fn number_text(value: Fixed, format: Format, room: usize) -> Option<Line>
+    ensures { result ≡ number_text (shape_of format.0) value room }
+{
+    match shape_of(format) {
+        Shape::Fixed(places) => Some(line_of(write_decimal(value, places).bytes())),
+        Shape::Currency(places) => Some(grouped_text(value, places, b"$")),
+        Shape::Comma(places) => Some(grouped_text(value, places, b"")),
+        Shape::Percent(places) => Some(percent_text(value, places)),
+        Shape::Date(form) => day_text(form, value),
+        Shape::Hidden => Some(Line::new()),
+        Shape::Scientific(_) => fitting(value, 6, room),
+        Shape::Bar => fitting(value, 6, room),
+        Shape::General => fitting(value, 6, room),
+        Shape::Text => fitting(value, 6, room),
+        Shape::Default => fitting(value, 6, room),
+        Shape::Unnamed => fitting(value, 6, room),
+    }
+}
+
+/// Adds a number in a cell of that width, by the format byte. A number that is too long is shown as stars;
+/// default, text and formats that the file format doesn't name are shown as general.
+#[tactic(auto, unfolding(crate::specs::Numbers::shown_number))]
+pub fn show_number(value: Fixed, format: Format, width: u8, into: &mut Line)
+    requires { length into.old + width ≤ 240 }
+    ensures { into.new ≡ into.old ++ shown_number value format.0 width }
+{
+    let width = usize::from(width);
+    match number_text(value, format, width.saturating_sub(1)) {
+        Some(text) => put_right(text.bytes(), width, into),
+        None => fill(into, b'*', width),
+    }
+}
+
+// Adds a text that ends one byte before the right edge, or stars.
+fn put_right(text: &[u8], width: usize, into: &mut Line)
+    requires { length into.old + width ≤ 240 }
+    ensures { into.new ≡ into.old ++ placed (Some text.now) width }
+{
+    if text.len() < width {
+        fill(into, b' ', width - 1 - text.len());
+        push_all(into, text);
+        push(into, b' ');
+    } else {
+        fill(into, b'*', width);
+    }
+}

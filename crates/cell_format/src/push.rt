@@ -1,0 +1,32 @@
+// Adding to a line that has room.
+ghost use Rattle.std.specs.Prelude.{◌≡◌, ◌≤◌, ◌<◌, ◌+◌, ◌++◌, ◌∷◌, [], length, replicate};
+
+use lics_text::Line;
+
+// Adds a byte.
+pub fn push(into: &mut Line, byte: u8)
+    requires { length into.old < 240 }
+    ensures { into.new ≡ into.old ++ byte ∷ [] }
+{
+    into.put(byte);
+}
+
+// Adds all bytes.
+pub fn push_all(into: &mut Line, bytes: &[u8])
+    requires { length into.old + length bytes.now ≤ 240 }
+    ensures { into.new ≡ into.old ++ bytes.now }
+{
+    for byte in bytes {
+        push(into, *byte);
+    }
+}
+
+// Adds one byte so many times.
+pub fn fill(into: &mut Line, byte: u8, count: usize)
+    requires { length into.old + count ≤ 240 }
+    ensures { into.new ≡ into.old ++ replicate count byte }
+{
+    for _ in 0..count {
+        push(into, byte);
+    }
+}
