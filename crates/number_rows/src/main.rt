@@ -1,12 +1,15 @@
 //! Works through numbers of the whole range. Without a word it prints, for each block of 200 of 20,000
-//! numbers, the sum of their double bits, which the stored run compares with sums of the host's doubles.
+//! numbers, the sum of their double bits, which the stored run compares with sums of the host's doubles, and
+//! then 5,000 numbers as cells show them, which it compares with another program's.
 //! With the word `mul` or `div` it does a million of these and prints the sum of the results, for bench/.
 #![tactic(auto)]
 
 mod numbers;
+mod shown;
 
 use fixed_value::to_double_bits;
 use numbers::Numbers;
+use shown::print_shown;
 use std::env;
 use std::io::Write;
 use std::process::ExitCode;
@@ -31,7 +34,7 @@ fn print_blocks<W: Write>(out: &mut W) -> Result<(), std::io::Error> {
     for _ in 0..BLOCKS {
         writeln!(out, "{}", block_sum(&mut numbers))?;
     }
-    Ok(())
+    print_shown(out)
 }
 
 // The sum of the results of a million products, or quotients.

@@ -1,5 +1,5 @@
 // Numbers of the whole range, made by a rule that an outside computation can follow.
-ghost use Rattle.std.specs.Prelude.{◌≤◌};
+ghost use Rattle.std.specs.Prelude.{◌<◌, ◌≤◌};
 
 use fixed_value::Fixed;
 
@@ -32,6 +32,18 @@ impl Numbers {
             -(size as i64)
         };
         Fixed::of(millionths).unwrap_or(Fixed::ZERO)
+    }
+
+    /// A number below the count, by what the last number left.
+    pub fn pick(&mut self, count: u8) -> u8
+        requires { 1 ≤ count }
+        ensures { result < count }
+    {
+        self.state = self
+            .state
+            .wrapping_mul(6_364_136_223_846_793_005)
+            .wrapping_add(1_442_695_040_888_963_407);
+        ((self.state >> 33) % u64::from(count)) as u8
     }
 }
 
