@@ -1,9 +1,10 @@
 -- Numbers as they are shown.
-use Rattle.std.specs.Prelude.{ℕ, zero, suc, ◌+◌, ◌-◌, ◌/◌, ◌%◌, ℤ, pos, negsuc, nat_abs, int_lt, unsigned_abs, not, ◌&&◌, ◌==◌, nat_le, nat_lt, Option, Some, None, List, [], ◌∷◌, ◌++◌, length, replicate, if◌then◌else◌}
+use Rattle.std.specs.Prelude.{ℕ, zero, suc, ◌+◌, ◌-◌, ◌/◌, ◌%◌, ℤ, pos, nat_abs, int_lt, unsigned_abs, not, ◌&&◌, ◌==◌, nat_le, nat_lt, Option, Some, None, List, [], ◌∷◌, ◌++◌, length, replicate, if◌then◌else◌}
 use Rattle.fixed_value.specs.Decimals.{behind_digits, whole_digits}
 use Rattle.fixed_value.specs.Written.{hundredfold, scaled, short, written}
 use Rattle.serial_date.specs.declared.calendar.Civil.{Civil}
 use Rattle.serial_date.specs.Calendar.{date_of}
+use Rattle.serial_date.specs.Fractions.{whole_day}
 use Rattle.cell_format.specs.declared.shape.DateForm.{DateForm}
 use Rattle.cell_format.specs.declared.shape.DateForm.TheVariants.{DayMonthYear, DayMonth, MonthYear}
 use Rattle.cell_format.specs.declared.shape.Shape.{Shape}
@@ -63,18 +64,13 @@ abbrev pub dated : DateForm → Option Civil → Option (List ℕ)
 dated form None = None
 dated form (Some c) = Some (date_text form (unsigned_abs c.year) (unsigned_abs c.month) (unsigned_abs c.day))
 
--- the whole part as a day, of which there is none below zero
-abbrev pub day_of : ℤ → ℕ
-day_of (pos n) = n / 1000000
-day_of (negsuc n) = 0
-
 -- the text of a number in at most so many bytes where it can be shortened; none where all bytes are stars
 abbrev pub number_text : Shape → ℤ → ℕ → Option (List ℕ)
 number_text (Fixed places) v room = Some (written v places)
 number_text (Currency places) v room = Some (bracketed v places (36 ∷ size_text v places))
 number_text (Comma places) v room = Some (bracketed v places (size_text v places))
 number_text (Percent places) v room = Some (hundredfold v places ++ 37 ∷ [])
-number_text (Date form) v room = dated form (date_of (day_of v))
+number_text (Date form) v room = dated form (date_of (whole_day v))
 number_text (Scientific places) v room = fitting 6 v room
 number_text Bar v room = fitting 6 v room
 number_text General v room = fitting 6 v room

@@ -1,13 +1,14 @@
 // Days as they are shown.
 ghost use Rattle.std.specs.Prelude.{◌≡◌, ◌≤◌, ◌+◌, ◌++◌, length, unsigned_abs};
-ghost use Rattle.cell_format.specs.Numbers.{date_text, dated, day_of, month_name, two_digits};
+ghost use Rattle.cell_format.specs.Numbers.{date_text, dated, month_name, two_digits};
 ghost use Rattle.serial_date.specs.Calendar.{date_of};
+ghost use Rattle.serial_date.specs.Fractions.{whole_day};
 
 use crate::DateForm;
-use crate::push::{push, push_all};
+use crate::push::push;
 use fixed_value::Fixed;
 use lics_text::Line;
-use serial_date::{Civil, civil_of};
+use serial_date::{Civil, civil_of, whole_day};
 
 // Adds the last two digits.
 fn push_two_digits(into: &mut Line, number: u16)
@@ -52,17 +53,17 @@ fn date_text(form: DateForm, date: &Civil) -> Line
         DateForm::DayMonthYear => {
             push_two_digits(&mut text, day);
             push(&mut text, b'-');
-            push_all(&mut text, name);
+            text.put_all(name);
             push(&mut text, b'-');
             push_two_digits(&mut text, year);
         }
         DateForm::DayMonth => {
             push_two_digits(&mut text, day);
             push(&mut text, b'-');
-            push_all(&mut text, name);
+            text.put_all(name);
         }
         DateForm::MonthYear => {
-            push_all(&mut text, name);
+            text.put_all(name);
             push(&mut text, b'-');
             push_two_digits(&mut text, year);
         }
@@ -70,23 +71,11 @@ fn date_text(form: DateForm, date: &Civil) -> Line
     text
 }
 
-// The whole part as a day number, and 0, which is no day's, below zero.
-fn day_of(value: Fixed) -> u32
-    ensures { result ≡ day_of value }
-{
-    let millionths = value.millionths();
-    if millionths < 0 {
-        0
-    } else {
-        (millionths as u64 / 1_000_000) as u32
-    }
-}
-
 // The day that a number is; none where it is none.
 pub fn day_text(form: DateForm, value: Fixed) -> Option<Line>
-    ensures { result ≡ dated form (date_of (day_of value)) }
+    ensures { result ≡ dated form (date_of (whole_day value)) }
 {
-    match civil_of(day_of(value)) {
+    match civil_of(whole_day(value.millionths())) {
         Some(date) => Some(date_text(form, &date)),
         None => None,
     }

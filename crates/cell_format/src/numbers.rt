@@ -6,7 +6,7 @@ ghost use Rattle.cell_format.specs.Numbers.{at_right, bracketed, fitting, groupe
 ghost use Rattle.fixed_value.specs.Written.{hundredfold, scaled};
 
 use crate::dates::day_text;
-use crate::push::{fill, push, push_all};
+use crate::push::{fill, push};
 use crate::{Shape, shape_of};
 use fixed_value::{
     Fixed, digits_len, rounds_to_zero, write_decimal, write_hundredfold, write_short,
@@ -20,7 +20,7 @@ fn line_of(bytes: &[u8]) -> Line
     ensures { result ≡ bytes.now }
 {
     let mut line = Line::new();
-    push_all(&mut line, bytes);
+    line.put_all(bytes);
     line
 }
 
@@ -61,7 +61,7 @@ fn push_size(into: &mut Line, value: Fixed, places: u8)
     let bytes = digits.bytes();
     let len = digits_len(bytes);
     push_grouped(into, &bytes[..len]);
-    push_all(into, &bytes[len..]);
+    into.put_all(&bytes[len..]);
 }
 
 // A number in groups of three behind a mark, in brackets where it is below zero.
@@ -75,7 +75,7 @@ fn grouped_text(value: Fixed, places: u8, mark: &[u8]) -> Line
     if is_bracketed {
         push(&mut text, b'(');
     }
-    push_all(&mut text, mark);
+    text.put_all(mark);
     push_size(&mut text, value, places);
     if is_bracketed {
         push(&mut text, b')');
@@ -150,7 +150,7 @@ fn put_right(text: &[u8], width: usize, into: &mut Line)
 {
     if text.len() < width {
         fill(into, b' ', width - 1 - text.len());
-        push_all(into, text);
+        into.put_all(text);
         push(into, b' ');
     } else {
         fill(into, b'*', width);

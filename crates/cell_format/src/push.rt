@@ -11,16 +11,6 @@ pub fn push(into: &mut Line, byte: u8)
     into.put(byte);
 }
 
-// Adds all bytes.
-pub fn push_all(into: &mut Line, bytes: &[u8])
-    requires { length into.old + length bytes.now ≤ 240 }
-    ensures { into.new ≡ into.old ++ bytes.now }
-{
-    for byte in bytes {
-        push(into, *byte);
-    }
-}
-
 // Adds one byte so many times.
 pub fn fill(into: &mut Line, byte: u8, count: usize)
     requires { length into.old + count ≤ 240 }

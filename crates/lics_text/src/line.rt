@@ -1,4 +1,4 @@
-ghost use Rattle.std.specs.Prelude.{◌≡◌, ◌≤◌, [], length, nat_lt};
+ghost use Rattle.std.specs.Prelude.{◌≡◌, ◌≤◌, ◌+◌, ◌++◌, [], length, nat_lt};
 ghost use Rattle.lics_text.specs.Texts.{line_with};
 
 use crate::MAX_LEN;
@@ -44,6 +44,16 @@ impl Line {
         } else {
             false
         }
+    }
+
+    /// Adds bytes, for which there must be room.
+    pub fn put_all(&mut self, bytes: &[u8])
+        requires { length self.old + length bytes.now ≤ 240 }
+        ensures { self.new ≡ self.old ++ bytes.now }
+    {
+        let end = self.len + bytes.len();
+        self.bytes[self.len..end].copy_from_slice(bytes);
+        self.len = end;
     }
 
     /// The bytes, at most 240.

@@ -9,7 +9,7 @@ use crate::bytes::fold;
 use crate::cases::{lower_all, make_proper, raise_all};
 use crate::places::first_place;
 use crate::trim::{single_spaced, without_front};
-use crate::{MAX_LEN, Memory, TextFault, TextLine};
+use crate::{Line, MAX_LEN, Memory, TextFault, TextLine};
 use std::alloc::Global;
 use std::cmp::Ordering;
 use std::marker::Model;
@@ -45,9 +45,36 @@ impl Text {
         if let Some(at) = first_bad(bytes) {
             return Err(TextFault::BadByte(at));
         }
+        match Text::copy_of(alloc, bytes) {
+            Ok(text) => Ok(text),
+            Err(Memory) => Err(TextFault::Memory),
+        }
+    }
+
+    /// The text of bytes that are a text's.
+    pub fn copy_of(alloc: Global, bytes: &[u8]) -> Result<Text, Memory>
+        requires { IsText bytes.now }
+        ensures { IfOk result (λ t. t ≡ bytes.now) }
+    {
         match Vec::from_slice(alloc, bytes) {
-            Ok(items) => Ok(Text { bytes: items }),
-            Err(_) => Err(TextFault::Memory),
+            Ok(bytes) => Ok(Text { bytes }),
+            Err(_) => Err(Memory),
+        }
+    }
+
+    /// Another text, of bytes that are a text's, in the memory that this one is in.
+    pub fn like(&self, bytes: &[u8]) -> Result<Text, Memory>
+        requires { IsText bytes.now }
+        ensures { IfOk result (λ t. t ≡ bytes.now) }
+    {
+        let mut items = match self.bytes.clone() {
+            Ok(items) => items,
+            Err(_) => return Err(Memory),
+        };
+        items.clear();
+        match items.extend_from_slice(bytes) {
+            Ok(()) => Ok(Text { bytes: items }),
+            Err(_) => Err(Memory),
         }
     }
 
@@ -55,10 +82,7 @@ impl Text {
     pub(crate) fn of_line(alloc: Global, line: &TextLine) -> Result<Text, Memory>
         ensures { IfOk result (λ t. t ≡ line.now) }
     {
-        match Vec::from_slice(alloc, line.bytes()) {
-            Ok(bytes) => Ok(Text { bytes }),
-            Err(_) => Err(Memory),
-        }
+        Text::copy_of(alloc, line.bytes())
     }
 
     /// Appends a byte. `TooLong` comes exactly at 240 bytes; otherwise `BadByte` carries the text's
@@ -131,20 +155,20 @@ impl Text {
         Ok(text)
     }
 
+    /// The bytes of the text without spaces at its ends, and with one space between words.
+    pub fn trimmed(&self) -> Line
+        ensures value { result ≡ trimmed self.now }
+        ensures text { IsText result }
+    {
+        single_spaced(without_front(self.bytes.as_slice()))
+    }
+
     /// The text without spaces at its ends, and with one space between words.
     pub fn trim(&self) -> Result<Text, Memory>
         ensures { IfOk result (λ t. t ≡ trimmed self.now) }
     {
-        let line = single_spaced(without_front(self.bytes.as_slice()));
-        let mut bytes = match self.bytes.clone() {
-            Ok(bytes) => bytes,
-            Err(_) => return Err(Memory),
-        };
-        bytes.clear();
-        match bytes.extend_from_slice(line.bytes()) {
-            Ok(()) => Ok(Text { bytes }),
-            Err(_) => Err(Memory),
-        }
+        let line = self.trimmed();
+        self.like(line.bytes())
     }
 
     /// The first place, from `from` on, at which the bytes of `what` stand in the text, case told apart.
@@ -152,6 +176,7 @@ impl Text {
     pub fn find(&self, what: &Text, from: usize) -> Option<usize>
         ensures some { IfSome result (λ at. IsFirstPlace what.now self.now from at) }
         ensures none { IfNone result (IsNoPlace what.now self.now from) }
+        ensures text { IsText self.now }
     {
         first_place(what.bytes.as_slice(), self.bytes.as_slice(), from)
     }

@@ -1,5 +1,5 @@
 -- Seconds of a day, and days in millionths.
-use Rattle.std.specs.Prelude.{ℕ, ◌+◌, ◌*◌, ◌/◌, ◌%◌}
+use Rattle.std.specs.Prelude.{ℕ, ◌+◌, ◌*◌, ◌/◌, ◌%◌, ℤ, pos, negsuc}
 
 -- the whole number that is nearest to a fraction, halves up
 abbrev pub nearest : ℕ → ℕ → ℕ
@@ -12,3 +12,8 @@ second_of_day millionths = nearest (millionths * 86400) 1000000 % 86400
 -- the nearest millionth of a day
 abbrev pub millionths_of_day : ℕ → ℕ
 millionths_of_day second = nearest (second * 1000000) 86400
+
+-- the whole part of a number of millionths as a day, of which there is none below zero
+abbrev pub whole_day : ℤ → ℕ
+whole_day (pos n) = n / 1000000
+whole_day (negsuc n) = 0

@@ -1,5 +1,6 @@
 // Day numbers and the dates that have them.
 ghost use Rattle.std.specs.Prelude.{◌≡◌, ◌≤◌, ◌≤ℤ◌, ℕ, ℤ, pos, true, false, Some, IfErr, IfOk};
+ghost use Rattle.std.specs.Option.{ForSome};
 ghost use Rattle.serial_date.specs.Calendar.{date_of, day_number, is_between};
 ghost use Rattle.serial_date.specs.Civil.{days_since_1899, numbered};
 ghost use Rattle.jiff_core.specs.Date.{IsYmd};
@@ -42,7 +43,8 @@ fn is_in_years(year: i16) -> bool
 /// calendar has as a leap day, and day 73050 is 31 December 2099. None exactly outside these and for a date
 /// that the calendar doesn't have. (Release 2 manual for the numbers and for day 60.)
 pub fn day_of(year: i16, month: i8, day: i8) -> Option<u32>
-    ensures { result ≡ day_number year month day }
+    ensures number { result ≡ day_number year month day }
+    ensures range { ForSome result (λ n. (1 ≤ n) × (n ≤ 73050)) }
 {
     if is_leap_day_1900(year, month, day) {
         return Some(LEAP_DAY_1900);

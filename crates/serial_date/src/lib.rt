@@ -8,5 +8,5 @@ mod moment;
 mod tests;
 
 pub use calendar::{Civil, LAST_DAY, civil_of, dates_and_numbers, day_of};
-pub use fractions::{fraction_of, seconds_of};
+pub use fractions::{fraction_of, seconds_of, whole_day};
 pub use moment::{Moment, moment_of};

@@ -1,4 +1,4 @@
-use Rattle.std.proofs.Common.{◌≡◌, ◌≤◌, ◌<◌, ◌-◌, ◌+◌, length}
+use Rattle.std.proofs.Common.{◌≤◌, ◌<◌, ◌-◌, ◌+◌, length}
 use Rattle.lics_text.specs.Texts.{StandsAt}
 use Rattle.lics_text.proofs.places.first_place.Given as goal
 

@@ -1,5 +1,3 @@
-use Rattle.std.proofs.Common.{subst, sym, arith}
-use Rattle.lics_text.specs.Bytes.{IsText}
 use Rattle.lics_text.proofs.Kept.{lower_kept}
 use Rattle.lics_text.proofs.text.Text.lower.Goals as goal
 

@@ -1,5 +1,3 @@
-use Rattle.std.proofs.Common.{subst, sym, arith}
-use Rattle.lics_text.specs.Bytes.{IsText}
 use Rattle.lics_text.proofs.Kept.{upper_kept}
 use Rattle.lics_text.proofs.text.Text.upper.Goals as goal
 

@@ -1,0 +1,4 @@
+pub mod Bounds
+pub mod Found
+pub mod Separators
+pub mod Written

@@ -1,0 +1,4 @@
+pub mod Dates
+pub mod Numbers
+pub mod Readings
+pub mod Texts

@@ -1,0 +1,83 @@
+-- The functions of texts.
+use Rattle.std.specs.Prelude.{ℕ, zero, suc, ◌+◌, ◌*◌, ◌==◌, ◌&&◌, nat_le, ℤ, pos, negsuc, Bool, true, false, Option, Some, None, Result, Ok, Err, List, [], ◌∷◌, ◌++◌, length, take, drop, if◌then◌else◌}
+use Rattle.fixed_value.specs.Written.{written}
+use Rattle.lics_text.specs.declared.faults.Memory.{Memory}
+use Rattle.at_functions.specs.Numbers.{count_of, in_units, whole, within}
+
+-- a text that is there, but for want of memory
+abbrev pub wrapped : Result (List ℕ) Memory → Result (Option (List ℕ)) Memory
+wrapped (Ok text) = Ok (Some text)
+wrapped (Err e) = Err e
+
+abbrev pub string_by : ℤ → Option ℕ → Option (List ℕ)
+string_by v None = None
+string_by v (Some places) = Some (written v places)
+
+-- a number with so many decimals, 0 to 15
+abbrev pub string : ℤ → ℤ → Option (List ℕ)
+string v places = string_by v (within 0 15 (whole places))
+
+-- so many bytes from a place on
+abbrev pub mid_by : List ℕ → Option ℕ → Option ℕ → Option (List ℕ)
+mid_by text None count = None
+mid_by text (Some start) None = None
+mid_by text (Some start) (Some count) = Some (take count (drop start text))
+
+abbrev pub mid : List ℕ → ℤ → ℤ → Option (List ℕ)
+mid text start count = mid_by text (count_of start) (count_of count)
+
+-- a text has at most 240 bytes
+abbrev pub if_short : List ℕ → Option (List ℕ)
+if_short bytes = if nat_le (length bytes) 240 then Some bytes else None
+
+-- so many bytes from a place on replaced
+abbrev pub replace_by : List ℕ → Option ℕ → Option ℕ → List ℕ → Option (List ℕ)
+replace_by text None count new = None
+replace_by text (Some start) None new = None
+replace_by text (Some start) (Some count) new = if_short (take start text ++ (new ++ drop (start + count) text))
+
+abbrev pub replace : List ℕ → ℤ → ℤ → List ℕ → Option (List ℕ)
+replace text start count new = replace_by text (count_of start) (count_of count) new
+
+abbrev pub again : ℕ → List ℕ → List ℕ
+again zero text = []
+again (suc n) text = text ++ again n text
+
+abbrev pub repeat_by : List ℕ → Option ℕ → Option (List ℕ)
+repeat_by text None = None
+repeat_by text (Some count) = if nat_le (length text * count) 240 then Some (again count text) else None
+
+-- the text so many times
+abbrev pub repeat : List ℕ → ℤ → Option (List ℕ)
+repeat text count = repeat_by text (count_of count)
+
+abbrev pub char_by : Option ℕ → Option (List ℕ)
+char_by None = None
+char_by (Some code) = Some (code ∷ [])
+
+-- the byte of a code from 32 to 255
+abbrev pub char_of : ℤ → Option (List ℕ)
+char_of code = char_by (within 32 255 (whole code))
+
+-- whether a text begins with the bytes
+abbrev pub starts : List ℕ → List ℕ → Bool
+starts [] text = true
+starts (w ∷ ws) [] = false
+starts (w ∷ ws) (b ∷ bs) = (w == b) && starts ws bs
+
+-- the first place at which the bytes stand, counted on from one
+abbrev pub first_place : List ℕ → List ℕ → ℕ → Option ℕ
+first_place what [] at = if starts what [] then Some at else None
+first_place what (b ∷ bs) at = if starts what (b ∷ bs) then Some at else first_place what bs (at + 1)
+
+abbrev pub found : List ℕ → List ℕ → ℕ → Option ℕ
+found what text from = if nat_le from (length text) then first_place what (drop from text) from else None
+
+-- a place below zero is before every place
+abbrev pub place_from : ℤ → ℕ
+place_from (pos n) = n
+place_from (negsuc n) = 0
+
+-- the first place at or after one at which the bytes stand
+abbrev pub find_in : List ℕ → List ℕ → ℤ → Option ℤ
+find_in what text start = in_units (found what text (place_from (whole start)))

@@ -1,0 +1,126 @@
+// The functions of texts.
+ghost use Rattle.std.specs.Prelude.{◌≡◌, ◌≤◌, ◌+◌, ◌*◌, ◌++◌, ◌∷◌, [], IfOk, IfSome, IfNone, Some, None, drop, length, take};
+ghost use Rattle.at_functions.specs.Texts.{again, char_of, find_in, found, mid, repeat, replace, string, wrapped};
+
+use crate::whole::{count_of, units, whole, within};
+use fixed_value::{Fixed, write_decimal};
+use lics_text::{Line, Memory, Text};
+use std::alloc::Global;
+
+/// A number with so many decimals, 0 to 15.
+pub fn string(alloc: Global, number: Fixed, places: Fixed) -> Result<Option<Text>, Memory>
+    ensures { IfOk result (λ text. text ≡ string number places) }
+{
+    let Some(places) = within(0, 15, whole(places)) else {
+        return Ok(None);
+    };
+    let digits = write_decimal(number, places as u8);
+    some(Text::copy_of(alloc, digits.bytes()))
+}
+
+// So many bytes from a place on.
+fn part(bytes: &[u8], start: usize, count: usize) -> &[u8]
+    ensures { result.now ≡ take count (drop start bytes.now) }
+{
+    let from = start.min(bytes.len());
+    let rest = &bytes[from..];
+    &rest[..count.min(rest.len())]
+}
+
+/// So many bytes of a text from a place on, fewer at its end; none for a place or a count below zero.
+pub fn mid(text: &Text, start: Fixed, count: Fixed) -> Result<Option<Text>, Memory>
+    ensures { IfOk result (λ found. found ≡ mid text.now start count) }
+{
+    let Some(start) = count_of(start) else {
+        return Ok(None);
+    };
+    let Some(count) = count_of(count) else {
+        return Ok(None);
+    };
+    some(text.like(part(text.bytes(), start as usize, count as usize)))
+}
+
+// A text that is there, but for want of memory.
+fn some(text: Result<Text, Memory>) -> Result<Option<Text>, Memory>
+    ensures { result ≡ wrapped text }
+{
+    match text {
+        Ok(text) => Ok(Some(text)),
+        Err(Memory) => Err(Memory),
+    }
+}
+
+/// A text with so many bytes from a place on replaced by new ones, which are put behind it for a place past its
+/// end; none past 240 bytes, and for a place or a count below zero.
+pub fn replace(text: &Text, start: Fixed, count: Fixed, new: &Text) -> Result<Option<Text>, Memory>
+    ensures { IfOk result (λ found. found ≡ replace text.now start count new.now) }
+{
+    let Some(start) = count_of(start) else {
+        return Ok(None);
+    };
+    let Some(count) = count_of(count) else {
+        return Ok(None);
+    };
+    let bytes = text.bytes();
+    let front = part(bytes, 0, start as usize);
+    let back = part(bytes, start as usize + count as usize, bytes.len());
+    if front.len() + new.bytes().len() + back.len() > 240 {
+        return Ok(None);
+    }
+    let mut line = Line::new();
+    line.put_all(front);
+    line.put_all(new.bytes());
+    line.put_all(back);
+    some(text.like(line.bytes()))
+}
+
+// The bytes so many times.
+fn again(bytes: &[u8], count: usize) -> Line
+    requires { length bytes.now * count ≤ 240 }
+    ensures { result ≡ again count bytes.now }
+{
+    let mut line = Line::new();
+    if bytes.len() > 0 {
+        for _ in 0..count {
+            line.put_all(bytes);
+        }
+    }
+    line
+}
+
+/// A text so many times; none past 240 bytes and for a count below zero.
+pub fn repeat(text: &Text, count: Fixed) -> Result<Option<Text>, Memory>
+    ensures { IfOk result (λ found. found ≡ repeat text.now count) }
+{
+    let Some(count) = count_of(count) else {
+        return Ok(None);
+    };
+    let bytes = text.bytes();
+    if bytes.len() * count as usize > 240 {
+        return Ok(None);
+    }
+    let line = again(bytes, count as usize);
+    some(text.like(line.bytes()))
+}
+
+/// The byte of a code from 32 to 255.
+pub fn char_of(alloc: Global, code: Fixed) -> Result<Option<Text>, Memory>
+    ensures { IfOk result (λ text. text ≡ char_of code) }
+{
+    let Some(code) = within(32, 255, whole(code)) else {
+        return Ok(None);
+    };
+    some(Text::copy_of(alloc, &[code as u8]))
+}
+
+/// The first place of a text, at or after one, at which the bytes stand, case told apart; the empty text stands
+/// at each place up to the length. None exactly where they stand at none.
+pub fn find_in(what: &Text, text: &Text, start: Fixed) -> Option<Fixed>
+    ensures { result ≡ find_in what.now text.now start }
+{
+    let from = count_of(start).unwrap_or(0);
+    match text.find(what, from as usize) {
+        Some(at) => units(at as u32),
+        None => None,
+    }
+}
