@@ -14,7 +14,7 @@ fn number<R: Abort>(rt: &R, millionths: i64) -> Fixed {
 }
 
 fn whole<R: Abort>(rt: &R, units: i64) -> Fixed {
-    number(rt, units * 1_000_000)
+    number(rt, units.wrapping_mul(1_000_000))
 }
 
 fn size_of(value: Option<Fixed>) -> Option<i64> {
@@ -44,7 +44,10 @@ fn dates_have_numbers(rt: HostRuntime) -> Result<(), Fail> {
         (65_536, 1, 1, None),
     ] {
         let found = date(whole(&rt, y), whole(&rt, m), whole(&rt, d));
-        assert_eq!(rt; size_of(found), serial.map(|n: i64| n * 1_000_000));
+        assert_eq!(rt;
+            size_of(found),
+            serial.map(|n: i64| n.wrapping_mul(1_000_000))
+        );
     }
     let cut = date(
         number(&rt, 87_999_999),
@@ -63,9 +66,9 @@ fn days_have_parts(rt: HostRuntime) -> Result<(), Fail> {
         (73_050_000_000, 199, 12, 31),
     ] {
         let serial = number(&rt, serial);
-        assert_eq!(rt; size_of(year(serial)), Some(y * 1_000_000));
-        assert_eq!(rt; size_of(month(serial)), Some(m * 1_000_000));
-        assert_eq!(rt; size_of(day(serial)), Some(d * 1_000_000));
+        assert_eq!(rt; size_of(year(serial)), Some(y.wrapping_mul(1_000_000)));
+        assert_eq!(rt; size_of(month(serial)), Some(m.wrapping_mul(1_000_000)));
+        assert_eq!(rt; size_of(day(serial)), Some(d.wrapping_mul(1_000_000)));
     }
     for serial in [
         0i64,
@@ -106,9 +109,9 @@ fn times_are_parts_of_a_day(rt: HostRuntime) -> Result<(), Fail> {
         (0, 0, 0, 0),
     ] {
         let serial = number(&rt, serial);
-        assert_eq!(rt; size_of(hour(serial)), Some(h * 1_000_000));
-        assert_eq!(rt; size_of(minute(serial)), Some(m * 1_000_000));
-        assert_eq!(rt; size_of(second(serial)), Some(s * 1_000_000));
+        assert_eq!(rt; size_of(hour(serial)), Some(h.wrapping_mul(1_000_000)));
+        assert_eq!(rt; size_of(minute(serial)), Some(m.wrapping_mul(1_000_000)));
+        assert_eq!(rt; size_of(second(serial)), Some(s.wrapping_mul(1_000_000)));
     }
     assert_eq!(rt; size_of(hour(number(&rt, -1))), None);
     assert_eq!(rt; size_of(minute(number(&rt, -1))), None);

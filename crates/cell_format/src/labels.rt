@@ -80,12 +80,20 @@ fn put_repeated(bytes: &[u8], width: usize, into: &mut Line)
 
 /// Adds a label in a cell of that width, by its prefix: `\` repeats it, `"` puts it at the right and `^` in the
 /// middle, and any other, or a label that is too long for these, puts it at the left, cut at the width.
-#[tactic(auto, unfolding(crate::specs::Labels::shown_label))]
 pub fn show_label(prefix: u8, bytes: &[u8], width: u8, into: &mut Line)
+    requires { length into.old + width ≤ 240 }
+    ensures text { into.new ≡ into.old ++ shown_label prefix bytes.now width }
+    ensures size { length into.new ≡ length into.old + width }
+{
+    put_label(prefix, bytes, usize::from(width), into);
+}
+
+// Adds a label by its prefix.
+#[tactic(auto, unfolding(crate::specs::Labels::shown_label))]
+fn put_label(prefix: u8, bytes: &[u8], width: usize, into: &mut Line)
     requires { length into.old + width ≤ 240 }
     ensures { into.new ≡ into.old ++ shown_label prefix bytes.now width }
 {
-    let width = usize::from(width);
     if prefix == b'\\' {
         put_repeated(bytes, width, into);
     } else if prefix == b'"' && bytes.len() < width {

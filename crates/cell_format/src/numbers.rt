@@ -131,12 +131,20 @@ fn number_text(value: Fixed, format: Format, room: usize) -> Option<Line>
 
 /// Adds a number in a cell of that width, by the format byte. A number that is too long is shown as stars;
 /// default, text and formats that the file format doesn't name are shown as general.
-#[tactic(auto, unfolding(crate::specs::Numbers::shown_number))]
 pub fn show_number(value: Fixed, format: Format, width: u8, into: &mut Line)
+    requires { length into.old + width ≤ 240 }
+    ensures text { into.new ≡ into.old ++ shown_number value format.0 width }
+    ensures size { length into.new ≡ length into.old + width }
+{
+    put_number(value, format, usize::from(width), into);
+}
+
+// Adds a number by its format.
+#[tactic(auto, unfolding(crate::specs::Numbers::shown_number))]
+fn put_number(value: Fixed, format: Format, width: usize, into: &mut Line)
     requires { length into.old + width ≤ 240 }
     ensures { into.new ≡ into.old ++ shown_number value format.0 width }
 {
-    let width = usize::from(width);
     match number_text(value, format, width.saturating_sub(1)) {
         Some(text) => put_right(text.bytes(), width, into),
         None => fill(into, b'*', width),

@@ -48,6 +48,7 @@ fn numbers_are_shown(rt: HostRuntime) -> Result<(), Fail> {
         (1_500_000, 0x71, 1, b"*"),
         (1_500_000, 0x71, 0, b""),
     ] {
+        assert!(rt; width <= 240);
         let mut line = Line::new();
         show_number(number(&rt, millionths), Format(format), width, &mut line);
         assert_eq!(rt; line.bytes(), text);
@@ -73,6 +74,7 @@ fn labels_are_shown(rt: HostRuntime) -> Result<(), Fail> {
         (b'\'', &[65, 126, 127, 255], 5, b"A~?? "),
         (b'^', b"", 0, b""),
     ] {
+        assert!(rt; width <= 240);
         let mut line = Line::new();
         show_label(prefix, label, width, &mut line);
         assert_eq!(rt; line.bytes(), text);
