@@ -120,7 +120,7 @@ fn times_are_parts_of_a_day(rt: HostRuntime) -> Result<(), Fail> {
 }
 
 #[test]
-fn texts_are_read(rt: HostRuntime) -> Result<(), Fail> {
+fn numbers_are_read(rt: HostRuntime) -> Result<(), Fail> {
     let alloc = rt.alloc();
     for (bytes, found) in [
         (b"".as_slice(), Some(0i64)),
@@ -135,6 +135,12 @@ fn texts_are_read(rt: HostRuntime) -> Result<(), Fail> {
     ] {
         assert_eq!(rt; size_of(value(&text(&rt, alloc, bytes))), found);
     }
+    Ok(())
+}
+
+#[test]
+fn dates_are_read(rt: HostRuntime) -> Result<(), Fail> {
+    let alloc = rt.alloc();
     for (bytes, found) in [
         (b"1-Jun-87".as_slice(), Some(31_929_000_000i64)),
         (b"01-JUN-87", Some(31_929_000_000)),
@@ -154,6 +160,12 @@ fn texts_are_read(rt: HostRuntime) -> Result<(), Fail> {
     ] {
         assert_eq!(rt; size_of(datevalue(&text(&rt, alloc, bytes))), found);
     }
+    Ok(())
+}
+
+#[test]
+fn times_are_read(rt: HostRuntime) -> Result<(), Fail> {
+    let alloc = rt.alloc();
     for (bytes, found) in [
         (b"12:00".as_slice(), Some(500_000i64)),
         (b"0:00:27", Some(313)),
