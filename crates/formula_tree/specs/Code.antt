@@ -1,0 +1,159 @@
+-- A tree is told from another by its code. Nothing else reads it.
+use Rattle.std.specs.Prelude.{◌≡◌, ℕ, zero, suc, ℤ, pos, negsuc, List, [], ◌∷◌, refl}
+use Rattle.std.specs.Coded.{Coded}
+use mathlib.Core.Path.{sym, ◌∙◌, ap}
+use base.Stored.{Gv, gnil, gnum, gcons}
+use Rattle.grid_address.specs.declared.reference.Axis.{Axis}
+use Rattle.grid_address.specs.declared.reference.Axis.TheVariants.{Fixed, Offset}
+use Rattle.grid_address.specs.Axes.{Reference}
+use Rattle.formula_tree.specs.declared.ast.Op.{Op}
+use Rattle.formula_tree.specs.declared.ast.Op.TheVariants.{Pow, Mul, Div, Add, Sub, Eq, Ne, Lt, Gt, Le, Ge, And, Or, Join}
+use Rattle.formula_tree.specs.Tree.{Tree, num, str, cell, span, group, neg, not, binary, call, Trees, no_trees, trees}
+
+abbrev z_code : ℤ → Gv
+z_code (pos n) = gcons (gnum 0) (gnum n)
+z_code (negsuc n) = gcons (gnum 1) (gnum n)
+
+abbrev z_of : Gv → ℤ
+z_of (gcons (gnum zero) (gnum n)) = pos n
+z_of (gcons (gnum (suc k)) (gnum n)) = negsuc n
+z_of _ = pos 0
+
+z_back : (z : ℤ) → z_of (z_code z) ≡ z
+z_back (pos n) = refl
+z_back (negsuc n) = refl
+
+abbrev bytes_code : List ℕ → Gv
+bytes_code [] = gnil
+bytes_code (b ∷ bs) = gcons (gnum b) (bytes_code bs)
+
+abbrev bytes_of : Gv → List ℕ
+bytes_of (gcons (gnum b) g) = b ∷ bytes_of g
+bytes_of _ = []
+
+bytes_back : (bs : List ℕ) → bytes_of (bytes_code bs) ≡ bs
+bytes_back [] = refl
+bytes_back (b ∷ bs) = ap (λ l. b ∷ l) (bytes_back bs)
+
+abbrev axis_code : Axis → Gv
+axis_code (Fixed n) = gcons (gnum 0) (gnum n)
+axis_code (Offset n) = gcons (gnum 1) (gnum n)
+
+abbrev axis_of : Gv → Axis
+axis_of (gcons (gnum zero) (gnum n)) = Fixed n
+axis_of (gcons (gnum (suc k)) (gnum n)) = Offset n
+axis_of _ = Fixed 0
+
+axis_back : (a : Axis) → axis_of (axis_code a) ≡ a
+axis_back (Fixed n) = refl
+axis_back (Offset n) = refl
+
+abbrev ref_code : Reference → Gv
+ref_code r = gcons (axis_code r.col) (axis_code r.row)
+
+abbrev ref_of : Gv → Reference
+ref_of (gcons a b) = record { col = axis_of a; row = axis_of b }
+ref_of _ = record { col = Fixed 0; row = Fixed 0 }
+
+ref_back : (r : Reference) → ref_of (ref_code r) ≡ r
+ref_back r = λ i. record { col = axis_back r.col i; row = axis_back r.row i }
+
+abbrev op_code : Op → ℕ
+op_code Pow = 0
+op_code Mul = 1
+op_code Div = 2
+op_code Add = 3
+op_code Sub = 4
+op_code Eq = 5
+op_code Ne = 6
+op_code Lt = 7
+op_code Gt = 8
+op_code Le = 9
+op_code Ge = 10
+op_code And = 11
+op_code Or = 12
+op_code Join = 13
+
+abbrev op_of : Gv → Op
+op_of (gnum zero) = Pow
+op_of (gnum (suc zero)) = Mul
+op_of (gnum (suc (suc zero))) = Div
+op_of (gnum (suc (suc (suc zero)))) = Add
+op_of (gnum (suc (suc (suc (suc zero))))) = Sub
+op_of (gnum (suc (suc (suc (suc (suc zero)))))) = Eq
+op_of (gnum (suc (suc (suc (suc (suc (suc zero))))))) = Ne
+op_of (gnum (suc (suc (suc (suc (suc (suc (suc zero)))))))) = Lt
+op_of (gnum (suc (suc (suc (suc (suc (suc (suc (suc zero))))))))) = Gt
+op_of (gnum (suc (suc (suc (suc (suc (suc (suc (suc (suc zero)))))))))) = Le
+op_of (gnum (suc (suc (suc (suc (suc (suc (suc (suc (suc (suc zero))))))))))) = Ge
+op_of (gnum (suc (suc (suc (suc (suc (suc (suc (suc (suc (suc (suc zero)))))))))))) = And
+op_of (gnum (suc (suc (suc (suc (suc (suc (suc (suc (suc (suc (suc (suc zero))))))))))))) = Or
+op_of _ = Join
+
+op_back : (o : Op) → op_of (gnum (op_code o)) ≡ o
+op_back Pow = refl
+op_back Mul = refl
+op_back Div = refl
+op_back Add = refl
+op_back Sub = refl
+op_back Eq = refl
+op_back Ne = refl
+op_back Lt = refl
+op_back Gt = refl
+op_back Le = refl
+op_back Ge = refl
+op_back And = refl
+op_back Or = refl
+op_back Join = refl
+
+abbrev mutual
+  pub tree_code : Tree → Gv
+  tree_code (num z) = gcons (gnum 0) (z_code z)
+  tree_code (str t) = gcons (gnum 1) (bytes_code t)
+  tree_code (cell r) = gcons (gnum 2) (ref_code r)
+  tree_code (span a b) = gcons (gnum 3) (gcons (ref_code a) (ref_code b))
+  tree_code (group a) = gcons (gnum 4) (tree_code a)
+  tree_code (neg a) = gcons (gnum 5) (tree_code a)
+  tree_code (not a) = gcons (gnum 6) (tree_code a)
+  tree_code (binary o a b) = gcons (gcons gnil (gnum (op_code o))) (gcons (tree_code a) (tree_code b))
+  tree_code (call f ts) = gcons (gcons (gnum f) gnil) (trees_code ts)
+
+  pub trees_code : Trees → Gv
+  trees_code no_trees = gnil
+  trees_code (trees a ts) = gcons (tree_code a) (trees_code ts)
+
+abbrev mutual
+  pub tree_from : Gv → Tree
+  tree_from (gcons (gnum zero) g) = num (z_of g)
+  tree_from (gcons (gnum (suc zero)) g) = str (bytes_of g)
+  tree_from (gcons (gnum (suc (suc zero))) g) = cell (ref_of g)
+  tree_from (gcons (gnum (suc (suc (suc zero)))) (gcons a b)) = span (ref_of a) (ref_of b)
+  tree_from (gcons (gnum (suc (suc (suc (suc zero))))) g) = group (tree_from g)
+  tree_from (gcons (gnum (suc (suc (suc (suc (suc zero)))))) g) = neg (tree_from g)
+  tree_from (gcons (gnum (suc (suc (suc (suc (suc (suc n))))))) g) = not (tree_from g)
+  tree_from (gcons (gcons gnil o) (gcons a b)) = binary (op_of o) (tree_from a) (tree_from b)
+  tree_from (gcons (gcons (gnum f) g) ts) = call f (trees_from ts)
+  tree_from _ = num (pos 0)
+
+  pub trees_from : Gv → Trees
+  trees_from (gcons a ts) = trees (tree_from a) (trees_from ts)
+  trees_from _ = no_trees
+
+mutual
+  pub tree_back : (t : Tree) → tree_from (tree_code t) ≡ t
+  tree_back (num z) = ap num (z_back z)
+  tree_back (str t) = ap str (bytes_back t)
+  tree_back (cell r) = ap cell (ref_back r)
+  tree_back (span a b) = λ i. span (ref_back a i) (ref_back b i)
+  tree_back (group a) = ap group (tree_back a)
+  tree_back (neg a) = ap neg (tree_back a)
+  tree_back (not a) = ap not (tree_back a)
+  tree_back (binary o a b) = λ i. binary (op_back o i) (tree_back a i) (tree_back b i)
+  tree_back (call f ts) = ap (call f) (trees_back ts)
+
+  pub trees_back : (ts : Trees) → trees_from (trees_code ts) ≡ ts
+  trees_back no_trees = refl
+  trees_back (trees a ts) = λ i. trees (tree_back a i) (trees_back ts i)
+
+abbrev pub coded_tree : Coded Tree
+coded_tree = record { code = tree_code; inj = λ x y e. sym (tree_back x) ∙ ap tree_from e ∙ tree_back y }

@@ -1,0 +1,104 @@
+// Trees with their invariant.
+ghost use Rattle.std.specs.Prelude.{◌≡◌, IfOk};
+ghost use Rattle.formula_tree.specs.Formulas.{formula_of, Gives};
+ghost use Rattle.formula_tree.specs.Shape.{IsFormula};
+ghost use Rattle.formula_tree.specs.Spans.{is_volatile, spans_of};
+ghost use Rattle.formula_tree.specs.View.{tree_of};
+
+use crate::Expr;
+use crate::copies::copy_expr;
+use crate::depth::depth_within;
+use crate::reads::{collect, is_volatile};
+use crate::walk::has_shape;
+use grid_address::{Cell, SpanList};
+use lics_text::Memory;
+use std::alloc::Global;
+use std::marker::Model;
+
+/// Why a tree is no formula's: it is deeper than 256, or it has no formula's shape.
+#[derive(Clone, Copy, Debug, PartialEq, Eq)]
+pub enum TreeFault {
+    TooDeep,
+    BadShape,
+    Memory,
+}
+
+/// A tree that a formula may have. It is at most 256 deep and well bracketed, its functions have the arguments
+/// that they take, its numbers aren't negative, its texts hold no quote, and its code has at most 65,520 bytes.
+#[derive(Drop)]
+pub struct Formula {
+    expr: Expr,
+    alloc: Global,
+}
+
+impl Model for Formula {
+    ghost use Rattle.formula_tree.specs.Tree.{Tree};
+    ghost use Rattle.formula_tree.specs.Code.{coded_tree};
+
+    ghost Value = { Tree };
+
+    ghost coded = { coded_tree };
+
+    ghost use Rattle.formula_tree.specs.View.{tree_of};
+    ghost use Rattle.formula_tree.specs.Shape.{IsFormula};
+
+    ghost view = { λ f. tree_of f.expr };
+
+    ghost invariant = { λ f. IsFormula (tree_of f.expr) };
+}
+
+impl Formula {
+    /// The formula of a tree. `BadShape` comes exactly where the tree isn't well bracketed, a function hasn't the
+    /// arguments that it takes, a number is negative, a text holds a quote or the code is too long; otherwise
+    /// `TooDeep` exactly past 256. The tree is dropped where it is refused.
+    pub fn of(alloc: Global, expr: Expr) -> Result<Formula, TreeFault>
+        ensures { Gives result (formula_of (tree_of expr)) }
+    {
+        match has_shape(alloc, &expr) {
+            Ok(true) => {}
+            Ok(false) => return Err(TreeFault::BadShape),
+            Err(Memory) => return Err(TreeFault::Memory),
+        }
+        if !depth_within(&expr, 256) {
+            return Err(TreeFault::TooDeep);
+        }
+        Ok(Formula { expr, alloc })
+    }
+
+    /// The tree.
+    pub fn expr(&self) -> &Expr
+        ensures value { tree_of result.now ≡ self.now }
+        ensures shape { IsFormula self.now }
+    {
+        &self.expr
+    }
+
+    /// An equal formula.
+    pub fn copy(&self) -> Result<Formula, Memory>
+        ensures { IfOk result (λ f. f ≡ self.now) }
+    {
+        match copy_expr(self.alloc, &self.expr) {
+            Ok(expr) => Ok(Formula {
+                expr,
+                alloc: self.alloc,
+            }),
+            Err(Memory) => Err(Memory),
+        }
+    }
+
+    /// The spans that the formula reads where it stands in the cell, from left to right.
+    pub fn reads(&self, at: Cell) -> Result<SpanList, Memory>
+        ensures { IfOk result (λ l. l ≡ spans_of self.now at) }
+    {
+        let mut spans = SpanList::new(self.alloc);
+        collect(&self.expr, at, &mut spans)?;
+        Ok(spans)
+    }
+
+    /// Whether a function whose value changes by itself is called: NOW, CELL, CELLPOINTER, @@ or a data function.
+    pub fn is_volatile(&self) -> bool
+        ensures { result ≡ is_volatile self.now }
+    {
+        is_volatile(&self.expr)
+    }
+}

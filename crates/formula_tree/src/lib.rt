@@ -1,0 +1,20 @@
+//! Formulas as trees, with what a formula's tree keeps, and what cells hold.
+#![tactic(auto)]
+
+mod ast;
+mod copies;
+mod depth;
+mod formula;
+mod reads;
+mod shape;
+mod table;
+#[cfg(test)]
+mod tests;
+mod value;
+mod walk;
+
+pub use ast::{Expr, ExprList, Function, Op};
+pub use formula::{Formula, TreeFault};
+pub use shape::{level, top};
+pub use table::{Counts, call_size, counts_of, is_volatile_code, takes};
+pub use value::{Content, Value};

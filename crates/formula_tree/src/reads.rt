@@ -1,0 +1,75 @@
+// What a formula reads.
+ghost use Rattle.std.specs.Prelude.{◌≡◌, ◌++◌, ◌∷◌, [], OnOk, flat_map};
+ghost use Rattle.std.specs.List.{list_any};
+ghost use Rattle.formula_tree.specs.Spans.{is_volatile, spans_of};
+ghost use Rattle.formula_tree.specs.View.{tree_of};
+
+use crate::Expr;
+use crate::table::is_volatile_code;
+use grid_address::{Cell, Span, SpanList};
+use lics_text::Memory;
+
+/// Adds the spans that a tree reads at a cell, from left to right.
+#[cycle(collect)]
+pub fn collect(expr: &Expr, at: Cell, into: &mut SpanList) -> Result<(), Memory>
+    ensures { OnOk result (into.new ≡ into.old ++ spans_of (tree_of expr.now) at) }
+{
+    match expr {
+        Expr::Num(_) | Expr::Str(_) => Ok(()),
+        Expr::Cell(place) => {
+            let cell = place.resolve(at);
+            add(into, Span::of(cell, cell))
+        }
+        Expr::Span(first, last) => add(into, Span::of(first.resolve(at), last.resolve(at))),
+        Expr::Group(inner) | Expr::Neg(inner) | Expr::Not(inner) => collect(inner, at, into),
+        Expr::Binary(_, left, right) => {
+            collect(left, at, into)?;
+            collect(right, at, into)
+        }
+        Expr::Call(_, args) => collect_all(&args.items, at, into),
+    }
+}
+
+#[cycle(collect)]
+fn collect_all(args: &[Expr], at: Cell, into: &mut SpanList) -> Result<(), Memory>
+    ensures { OnOk result (into.new ≡ into.old ++ flat_map (λ e. spans_of (tree_of e) at) args.now) }
+{
+    for arg in args {
+        collect(arg, at, into)?;
+    }
+    Ok(())
+}
+
+fn add(into: &mut SpanList, span: Span) -> Result<(), Memory>
+    ensures { OnOk result (into.new ≡ into.old ++ span ∷ []) }
+{
+    match into.push(span) {
+        Ok(()) => Ok(()),
+        Err(_) => Err(Memory),
+    }
+}
+
+/// Whether a function whose value changes by itself is called.
+#[cycle(is_volatile)]
+pub fn is_volatile(expr: &Expr) -> bool
+    ensures { result ≡ is_volatile (tree_of expr.now) }
+{
+    match expr {
+        Expr::Num(_) | Expr::Str(_) | Expr::Cell(_) | Expr::Span(_, _) => false,
+        Expr::Group(inner) | Expr::Neg(inner) | Expr::Not(inner) => is_volatile(inner),
+        Expr::Binary(_, left, right) => is_volatile(left) || is_volatile(right),
+        Expr::Call(function, args) => is_volatile_code(*function) || any_volatile(&args.items),
+    }
+}
+
+#[cycle(is_volatile)]
+fn any_volatile(args: &[Expr]) -> bool
+    ensures { result ≡ list_any (λ e. is_volatile (tree_of e)) args.now }
+{
+    for arg in args {
+        if is_volatile(arg) {
+            return true;
+        }
+    }
+    false
+}

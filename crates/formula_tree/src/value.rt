@@ -1,0 +1,55 @@
+// What cells hold, and their values.
+
+ghost use Rattle.std.specs.Prelude.{◌≡◌, IfOk};
+
+use crate::Formula;
+use fixed_value::Fixed;
+use lics_text::{Memory, Text};
+
+/// A cell's value. A formula's value is never blank.
+#[derive(Drop)]
+pub enum Value {
+    Blank,
+    Num(Fixed),
+    Str(Text),
+    Err,
+    Na,
+}
+
+impl Value {
+    /// An equal value.
+    pub fn copy(&self) -> Result<Value, Memory>
+        ensures { IfOk result (λ v. v ≡ self.now) }
+    {
+        match self {
+            Value::Blank => Ok(Value::Blank),
+            Value::Num(number) => Ok(Value::Num(*number)),
+            Value::Str(text) => Ok(Value::Str(text.copy()?)),
+            Value::Err => Ok(Value::Err),
+            Value::Na => Ok(Value::Na),
+        }
+    }
+}
+
+/// What a cell holds: nothing, a number, a label with its prefix byte and the text behind it, or a formula.
+#[derive(Drop)]
+pub enum Content {
+    Blank,
+    Number(Fixed),
+    Label(u8, Text),
+    Formula(Formula),
+}
+
+impl Content {
+    /// An equal content.
+    pub fn copy(&self) -> Result<Content, Memory>
+        ensures { IfOk result (λ c. c ≡ self.now) }
+    {
+        match self {
+            Content::Blank => Ok(Content::Blank),
+            Content::Number(number) => Ok(Content::Number(*number)),
+            Content::Label(prefix, text) => Ok(Content::Label(*prefix, text.copy()?)),
+            Content::Formula(formula) => Ok(Content::Formula(formula.copy()?)),
+        }
+    }
+}
