@@ -1,3 +1,4 @@
+pub mod AddressFunction
 pub mod AddressReading
 pub mod Decimals
 pub mod SpanReading

@@ -1,5 +1,5 @@
 -- How far an address is read.
-use Rattle.std.specs.Prelude.{ℕ, ◌≡◌, ◌≤◌, ◌<◌, ◌+◌, ◌-◌, ◌*◌, ◌/◌, ◌%◌, ◌&&◌, ◌==◌, nat_le, nat_lt, get_or, length, take, Bool, Option, Some, None, List, [], ◌∷◌, ◌++◌, map, if◌then◌else◌, ⊤}
+use Rattle.std.specs.Prelude.{ℕ, ◌≡◌, ◌≤◌, ◌<◌, ◌+◌, ◌-◌, ◌*◌, ◌/◌, ◌%◌, ◌&&◌, ◌==◌, nat_le, nat_lt, get_or, length, take, Bool, Option, Some, None, List, [], ◌∷◌, ◌++◌, map, if◌then◌else◌, fold, ⊤}
 use Rattle.grid_address.specs.declared.reading.Progress.{Progress}
 use Rattle.grid_address.specs.declared.reading.Progress.TheVariants.{Nothing, Letter, Column, Row}
 use Rattle.grid_address.specs.Address.{column_name, decimal}
@@ -61,3 +61,19 @@ pub record IsFront (bytes : List ℕ) (s : Progress) (end : ℕ) : Type 0 where
 abbrev pub count_dots : List ℕ → ℕ
 count_dots [] = 0
 count_dots (x ∷ rest) = if x == 46 then (if get_or rest 0 0 == 46 then 2 else 1) else 0
+
+abbrev pub step_on : Option Progress → ℕ → Option Progress
+step_on None b = None
+step_on (Some s) b = next_of s b
+
+abbrev pub end_of : Option Progress → Option Place
+end_of None = None
+end_of (Some s) = whole_cell s
+
+-- the address that is read from there on
+abbrev pub read_by : Progress → List ℕ → Option Place
+read_by s bytes = end_of (fold step_on (Some s) bytes)
+
+-- the address that bytes are, as a function
+abbrev pub address_in : List ℕ → Option Place
+address_in bytes = read_by Nothing bytes

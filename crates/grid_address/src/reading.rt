@@ -1,6 +1,6 @@
 // Addresses read byte by byte.
-ghost use Rattle.std.specs.Prelude.{◌≡◌, ◌≤◌, drop, length, IfOk, IfErr};
-ghost use Rattle.grid_address.specs.Progress.{count_dots, first_digit, next_of, whole_cell, IsFront, IsRowOfSheet};
+ghost use Rattle.std.specs.Prelude.{◌≡◌, ◌≤◌, drop, length, IfOk, IfErr, Some, None};
+ghost use Rattle.grid_address.specs.Progress.{address_in, count_dots, first_digit, next_of, read_by, whole_cell, IsFront, IsRowOfSheet};
 ghost use Rattle.grid_address.specs.Reading.{folded, IsAddress, IsSpan, SpellsCell, SpellsSpan, StopsAt};
 ghost use Rattle.grid_address.specs.declared.reading.Progress.TheVariants.{Letter, Row};
 
@@ -103,7 +103,8 @@ struct Front {
 
 // Reads as long as an address can go on.
 fn read_front(bytes: &[u8]) -> Front
-    ensures { IsFront bytes.now result.progress result.end }
+    ensures front { IsFront bytes.now result.progress result.end }
+    ensures reads { address_in bytes.now ≡ read_by result.progress (drop result.end bytes.now) }
 {
     let mut progress = Progress::Nothing;
     for at in 0..bytes.len() {
@@ -154,6 +155,8 @@ fn dots_at(bytes: &[u8], at: usize) -> usize
 pub fn read_cell(bytes: &[u8]) -> Result<Cell, NotAnAddress>
     ensures ok { IfOk result (λ c. SpellsCell bytes.now c) }
     ensures err { IfErr result (λ e. StopsAt IsAddress bytes.now e.at) }
+    ensures read { IfOk result (λ c. address_in bytes.now ≡ Some c) }
+    ensures none { IfErr result (λ _. address_in bytes.now ≡ None) }
 {
     let front = read_front(bytes);
     match cell_of(&front) {

@@ -1,0 +1,12 @@
+//! The names of spans: a finite map from folded texts of 1 to 15 bytes.
+#![tactic(auto)]
+
+mod fault;
+mod key;
+mod names;
+#[cfg(test)]
+mod tests;
+mod words;
+
+pub use fault::NameFault;
+pub use names::Names;

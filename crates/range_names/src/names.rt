@@ -1,0 +1,162 @@
+// The names of spans.
+ghost use Rattle.std.specs.Prelude.{◌≡◌, ◌≤◌, ◌⊎◌, length, OnOk, OnErr, IfOk, IfErr, IfSome, IfNone, Some, None};
+ghost use Rattle.std.specs.FinMap as namemap;
+ghost use Rattle.std.specs.BTreeMap.{IsOrdered};
+ghost use Rattle.std.specs.Ordering.{is_gt};
+ghost use Rattle.range_names.specs.Names.{fault_of, key_of, name_cmp, name_of_span, named, next_after, next_name, same_extent};
+ghost use Rattle.range_names.specs.declared.fault.NameFault.TheVariants as cause;
+
+use crate::NameFault;
+use crate::key::{checked_key, key_of, name_in};
+use crate::words::is_plain;
+use grid_address::Span;
+use lics_text::Memory;
+use std::alloc::Global;
+use std::collections::BTreeMap;
+use std::marker::Model;
+
+/// Names with their spans. A name is 1 to 15 bytes of 32 to 255, letters folded, and doesn't begin with a space.
+#[derive(Drop)]
+pub struct Names {
+    map: BTreeMap<[u8; 15], Span>,
+}
+
+impl Model for Names {
+    ghost use Rattle.std.specs.FinMap as namemap;
+    ghost use Rattle.range_names.specs.Names.{coded_names, NameMap};
+
+    ghost Value = { NameMap };
+
+    ghost coded = { coded_names };
+
+    ghost view = { λ n. namemap.from_entries n.map.entries };
+}
+
+impl Names {
+    /// No names.
+    pub fn new(alloc: Global) -> Names
+        ensures { result ≡ namemap.empty }
+    {
+        Names {
+            map: BTreeMap::new(alloc),
+        }
+    }
+
+    /// Gives a span a name; a name that is there gets the new span. The names are as before where it is refused:
+    /// `Empty`, `TooLong` and `BadByte` come exactly by their causes, in this order.
+    pub fn create(&mut self, name: &[u8], span: Span) -> Result<(), NameFault>
+        ensures ok { OnOk result ((fault_of name.now ≡ None) × (self.new ≡ namemap.insert self.old (key_of name.now) span)) }
+        ensures kept { OnErr result (self.new ≡ self.old) }
+        ensures err { IfErr result (λ fault. (fault ≡ cause.Memory) ⊎ (fault_of name.now ≡ Some fault)) }
+    {
+        let key = checked_key(name)?;
+        match self.map.insert(key, span) {
+            Ok(_) => Ok(()),
+            Err(_) => Err(NameFault::Memory),
+        }
+    }
+
+    /// Takes a name away. `Absent` comes exactly where it is a name and isn't there.
+    pub fn delete(&mut self, name: &[u8]) -> Result<(), NameFault>
+        ensures ok { OnOk result ((fault_of name.now ≡ None) × (self.new ≡ namemap.remove self.old (key_of name.now))) }
+        ensures there { OnOk result (namemap.get self.old (key_of name.now) ≡ None → ⊥) }
+        ensures kept { OnErr result (self.new ≡ self.old) }
+        ensures err { IfErr result (λ fault. (fault_of name.now ≡ Some fault) ⊎ ((fault_of name.now ≡ None) × (fault ≡ cause.Absent) × (namemap.get self.old (key_of name.now) ≡ None))) }
+    {
+        let key = checked_key(name)?;
+        match self.map.remove(&key) {
+            Some(_) => Ok(()),
+            None => Err(NameFault::Absent),
+        }
+    }
+
+    /// Takes all names away.
+    pub fn reset(&mut self)
+        ensures { self.new ≡ namemap.empty }
+    {
+        self.map.clear();
+    }
+
+    /// The span of a name, in letters of either case.
+    pub fn find(&self, name: &[u8]) -> Option<Span>
+        ensures short { length name.now ≤ 15 → result ≡ namemap.get self.now (key_of name.now) }
+        ensures long { (length name.now ≤ 15 → ⊥) → result ≡ None }
+    {
+        if name.len() > 15 {
+            return None;
+        }
+        self.map.get(&key_of(name)).copied()
+    }
+
+    /// The first name of a span, in byte order, among those that are words and no addresses: letters, digits and _
+    /// that begin with a letter.
+    pub fn of_span(&self, span: Span) -> Option<&[u8]>
+        ensures some { IfSome result (λ name. name_of_span self.now span ≡ Some name.now) }
+        ensures none { IfNone result (name_of_span self.now span ≡ None) }
+    {
+        first_named(&self.map, span)
+    }
+
+    /// The first name behind another, in byte order; the first of all behind no bytes.
+    pub fn after(&self, name: &[u8]) -> Option<&[u8]>
+        ensures some { IfSome result (λ next. next_name self.now name.now ≡ Some next.now) }
+        ensures none { IfNone result (next_name self.now name.now ≡ None) }
+    {
+        let counted = name.len().min(15);
+        first_after(&self.map, key_of(&name[..counted]))
+    }
+
+    /// Equal names.
+    pub fn copy(&self) -> Result<Names, Memory>
+        ensures { IfOk result (λ names. names ≡ self.now) }
+    {
+        match self.map.clone() {
+            Ok(map) => Ok(Names { map }),
+            Err(_) => Err(Memory),
+        }
+    }
+}
+
+fn is_same(a: &Span, b: Span) -> bool
+    ensures { result ≡ same_extent a.now b }
+{
+    a.first.row == b.first.row
+        && a.first.col == b.first.col
+        && a.last.row == b.last.row
+        && a.last.col == b.last.col
+}
+
+// The first plain name of a span.
+fn first_named(map: &BTreeMap<[u8; 15], Span>, span: Span) -> Option<&[u8]>
+    ensures some { IfSome result (λ name. named span map.now.entries ≡ Some name.now) }
+    ensures none { IfNone result (named span map.now.entries ≡ None) }
+    ensures ordered { IsOrdered name_cmp map.now }
+{
+    for (key, named) in map.iter() {
+        let name = name_in(key);
+        if is_same(named, span) && is_plain(name) {
+            return Some(name);
+        }
+    }
+    None
+}
+
+// The first name behind a key.
+fn first_after(map: &BTreeMap<[u8; 15], Span>, wanted: [u8; 15]) -> Option<&[u8]>
+    ensures some { IfSome result (λ next. next_after wanted map.now.entries ≡ Some next.now) }
+    ensures none { IfNone result (next_after wanted map.now.entries ≡ None) }
+    ensures ordered { IsOrdered name_cmp map.now }
+{
+    for (key, _) in map.iter() {
+        if is_behind(key, wanted) {
+            return Some(name_in(key));
+        }
+    }
+    None
+}
+
+fn is_behind(key: &[u8; 15], other: [u8; 15]) -> bool
+    ensures { result ≡ is_gt (name_cmp key.now other) }
+{
+    key.cmp(&other).is_gt()
+}

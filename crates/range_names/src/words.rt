@@ -1,0 +1,40 @@
+// Names that can be written for their spans.
+ghost use Rattle.std.specs.Prelude.{◌≡◌};
+ghost use Rattle.std.specs.List.{list_all};
+ghost use Rattle.lics_text.specs.Bytes.{is_letter};
+ghost use Rattle.range_names.specs.Names.{is_plain, is_word, is_word_byte};
+
+use grid_address::read_cell;
+
+// A letter of either case.
+fn is_letter(byte: u8) -> bool
+    ensures { result ≡ is_letter byte }
+{
+    byte >= b'A' && byte <= b'Z' || byte >= b'a' && byte <= b'z'
+}
+
+fn is_word_byte(byte: u8) -> bool
+    ensures { result ≡ is_word_byte byte }
+{
+    is_letter(byte) || byte >= b'0' && byte <= b'9' || byte == b'_'
+}
+
+fn are_word_bytes(bytes: &[u8]) -> bool
+    ensures { result ≡ list_all is_word_byte bytes.now }
+{
+    bytes.iter().all(|byte| is_word_byte(*byte))
+}
+
+// Letters, digits and _ that begin with a letter.
+fn is_word(name: &[u8]) -> bool
+    ensures { result ≡ is_word name.now }
+{
+    name.len() > 0 && is_letter(name[0]) && are_word_bytes(&name[1..])
+}
+
+// A word that is no address.
+pub fn is_plain(name: &[u8]) -> bool
+    ensures { result ≡ is_plain name.now }
+{
+    is_word(name) && read_cell(name).is_err()
+}
