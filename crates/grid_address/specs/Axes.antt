@@ -1,5 +1,5 @@
 -- A coordinate of a reference.
-use Rattle.std.specs.Prelude.{ℕ, ◌+◌, ◌%◌, Bool, true, false}
+use Rattle.std.specs.Prelude.{ℕ, ◌+◌, ◌-◌, ◌%◌, nat_le, Bool, true, false, if◌then◌else◌}
 use Rattle.grid_address.specs.declared.reference.Axis.{Axis}
 use Rattle.grid_address.specs.declared.reference.Axis.TheVariants.{Fixed, Offset}
 
@@ -16,6 +16,11 @@ is_fixed (Offset n) = false
 abbrev pub resolved : Axis → ℕ → ℕ → ℕ
 resolved (Fixed n) at count = n
 resolved (Offset n) at count = (at + n) % count
+
+-- the coordinate that names a number from where it stands, among so many
+abbrev pub axis_to : Bool → ℕ → ℕ → ℕ → Axis
+axis_to true target at count = Fixed target
+axis_to false target at count = if nat_le at target then Offset (target - at) else Offset (target + count - at)
 
 pub record Reference : Type 0 where
   pub col : Axis

@@ -1,6 +1,11 @@
 -- Where a reference leads.
+use Rattle.std.specs.Prelude.{Bool}
 use Rattle.grid_address.specs.Place.{Place}
-use Rattle.grid_address.specs.Axes.{Reference, resolved}
+use Rattle.grid_address.specs.Axes.{axis_to, resolved, Reference}
 
 abbrev pub resolve : Reference → Place → Place
 resolve r at = record { row = resolved r.row at.row 8192; col = resolved r.col at.col 256 }
+
+-- the reference in a cell that names another, with the column or the row absolute where it is asked for
+abbrev pub reference_to : Place → Place → Bool → Bool → Reference
+reference_to target at fixed_col fixed_row = record { col = axis_to fixed_col target.col at.col 256; row = axis_to fixed_row target.row at.row 8192 }

@@ -1,6 +1,6 @@
 ghost use Rattle.std.specs.Prelude.{◌≡◌, ◌<◌};
-ghost use Rattle.grid_address.specs.Axes.{is_fixed, number_of, resolved};
-ghost use Rattle.grid_address.specs.Leads.{resolve};
+ghost use Rattle.grid_address.specs.Axes.{axis_to, is_fixed, number_of, resolved};
+ghost use Rattle.grid_address.specs.Leads.{reference_to, resolve};
 
 use crate::Cell;
 use std::marker::Model;
@@ -50,6 +50,7 @@ impl Ref {
     /// The reference that stands in the cell `at` and names the cell `target`, with the column or the row
     /// absolute where it is asked for.
     pub fn of(target: Cell, at: Cell, fixed_col: bool, fixed_row: bool) -> Ref
+        ensures is { result ≡ reference_to target at fixed_col fixed_row }
         ensures leads { resolve result at ≡ target }
         ensures fixed_col { is_fixed result.col ≡ fixed_col }
         ensures fixed_row { is_fixed result.row ≡ fixed_row }
@@ -80,6 +81,7 @@ fn back(fixed: bool, target: u16, at: u16, count: u16) -> Axis
     requires below { at < count }
     requires target_below { target < count }
     requires count_in { count < 8193 }
+    ensures is { result ≡ axis_to fixed target at count }
     ensures value { resolved result at count ≡ target }
     ensures fixed { is_fixed result ≡ fixed }
     ensures in_range { number_of result < count }
