@@ -1,0 +1,45 @@
+-- What the parts of a text keep.
+use Rattle.std.specs.Prelude.{ℕ, Bool, true, not, ◌&&◌, ◌==◌, nat_le, List, length}
+use Rattle.std.specs.List.{list_all, list_any}
+use Rattle.formula_tree.specs.Shape.{not_negative}
+use Rattle.formula_tree.specs.Table.{counts_of, takes}
+use Rattle.formula_text.specs.declared.lexeme.Kind.{Kind}
+use Rattle.formula_text.specs.declared.lexeme.Kind.TheVariants.{Num, Str, Cell, Span, Constant, Function, Infix, Not, Open, Close, Comma, Unclosed, Bad}
+use Rattle.formula_text.specs.declared.lexeme.Lexeme.{Lexeme}
+use Rattle.formula_text.specs.Tokens.{Token, number, text, place, places, constant, called, opening, closing, comma, front_minus, front_not, infix_op}
+
+abbrev pub has_no_quote : List ℕ → Bool
+has_no_quote t = not (list_any (λ b. b == 34) t)
+
+-- a number isn't negative, a text has no quote and at most 240 bytes, and a constant takes no arguments
+abbrev pub is_fine_kind : Kind → Bool
+is_fine_kind (Num v) = not_negative v
+is_fine_kind (Str t) = has_no_quote t && nat_le (length t) 240
+is_fine_kind (Constant f) = takes (counts_of f.0) 0
+is_fine_kind (Cell r) = true
+is_fine_kind (Span a b) = true
+is_fine_kind (Function f) = true
+is_fine_kind (Infix op) = true
+is_fine_kind Not = true
+is_fine_kind Open = true
+is_fine_kind Close = true
+is_fine_kind Comma = true
+is_fine_kind Unclosed = true
+is_fine_kind (Bad f) = true
+
+abbrev pub are_fine : List Lexeme → Bool
+are_fine ls = list_all (λ l. is_fine_kind l.kind) ls
+
+abbrev pub is_fine_token : Token → Bool
+is_fine_token (number v) = not_negative v
+is_fine_token (text t) = has_no_quote t && nat_le (length t) 240
+is_fine_token (constant f) = takes (counts_of f) 0
+is_fine_token (place r) = true
+is_fine_token (places a b) = true
+is_fine_token (called f) = true
+is_fine_token opening = true
+is_fine_token closing = true
+is_fine_token comma = true
+is_fine_token front_minus = true
+is_fine_token front_not = true
+is_fine_token (infix_op op) = true

@@ -1,0 +1,10 @@
+pub mod Accepts
+pub mod Fine
+pub mod Functions
+pub mod Lexed
+pub mod Operands
+pub mod Reads
+pub mod Signs
+pub mod Texts
+pub mod Tokens
+pub mod Words

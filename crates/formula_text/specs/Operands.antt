@@ -1,0 +1,74 @@
+-- Numbers, texts and functions in a formula.
+use Rattle.std.specs.Prelude.{ℕ, ◌+◌, ◌==◌, ◌&&◌, ◌||◌, nat_le, get_or, position, Bool, Option, Some, None, Result, Ok, Err, List, [], ◌∷◌, length, take, drop, if◌then◌else◌}
+use Rattle.std.specs.List.{prefix_len}
+use Rattle.lics_text.specs.Bytes.{is_letter}
+use Rattle.lics_text.specs.Texts.{text_of}
+use Rattle.lics_text.specs.declared.faults.TextFault.{TextFault}
+use Rattle.fixed_value.specs.declared.decimal.Decimal.{Decimal}
+use Rattle.fixed_value.specs.declared.decimal.Decimal.TheVariants.{Num as decimal, TooLarge, NotNumber}
+use Rattle.fixed_value.specs.Decimals.{behind_digits, decimal_of, is_digit, whole_digits}
+use Rattle.formula_tree.specs.Table.{counts_of, takes}
+use Rattle.formula_tree.specs.declared.ast.Function.{Function as Coded}
+use Rattle.formula_text.specs.Functions.{function_named, is_among, left_out}
+use Rattle.formula_text.specs.declared.fault.ParseFault.TheVariants.{BadNumber, FunctionOutside, Unexpected, UnknownFunction}
+use Rattle.formula_text.specs.declared.lexeme.Found.{Found}
+use Rattle.formula_text.specs.declared.lexeme.Kind.{Kind}
+use Rattle.formula_text.specs.declared.lexeme.Kind.TheVariants.{Num, Str, Constant, Function, Unclosed, Bad}
+
+-- a point and the digits behind it
+abbrev pub point_len : List ℕ → ℕ
+point_len [] = 0
+point_len (b ∷ bs) = if b == 46 then 1 + length (whole_digits bs) else 0
+
+-- so many digits, and so many bytes from the point on; at least one digit is wanted
+abbrev pub digits_len : ℕ → ℕ → ℕ
+digits_len whole point = if whole == 0 && nat_le point 1 then 0 else whole + point
+
+-- the longest decimal without a sign, 0 where there is none
+abbrev pub number_len : List ℕ → ℕ
+number_len bytes = digits_len (length (whole_digits bytes)) (point_len (behind_digits bytes))
+
+abbrev pub number_kind : ℕ → Decimal → Kind
+number_kind at (decimal v) = Num v
+number_kind at TooLarge = Bad (BadNumber at)
+number_kind at NotNumber = Bad (Unexpected at)
+
+abbrev pub number_found : ℕ → List ℕ → Found
+number_found at bytes = record { kind = number_kind at (decimal_of (take (number_len bytes) bytes)); len = number_len bytes }
+
+-- no text holds a byte below 32
+abbrev pub text_kind : ℕ → Result (List ℕ) TextFault → Kind
+text_kind at (Ok t) = Str t
+text_kind at (Err f) = Bad (Unexpected at)
+
+-- up to the next quote, behind the first
+abbrev pub closed : ℕ → List ℕ → Option ℕ → Found
+closed at bytes None = record { kind = Unclosed; len = 1 + length bytes }
+closed at bytes (Some end) = record { kind = text_kind at (text_of (take end bytes)); len = end + 2 }
+
+abbrev pub text_found : ℕ → List ℕ → Found
+text_found at bytes = closed at (drop 1 bytes) (position (λ b. b == 34) (drop 1 bytes))
+
+abbrev pub is_name_byte : ℕ → Bool
+is_name_byte b = is_letter b || is_digit b
+
+abbrev pub outside_kind : ℕ → Bool → Kind
+outside_kind at left = if left then Bad (FunctionOutside at) else Bad (UnknownFunction at)
+
+abbrev pub function_kind : ℕ → List ℕ → Option Coded → Kind
+function_kind at name None = outside_kind at (is_among left_out name)
+function_kind at name (Some f) = if takes (counts_of f.0) 0 then Constant f else Function f
+
+-- a function has a name of at least one byte
+abbrev pub called_kind : ℕ → List ℕ → Kind
+called_kind at [] = Bad (Unexpected at)
+called_kind at (b ∷ bs) = function_kind at (b ∷ bs) (function_named (b ∷ bs))
+
+abbrev pub name_len : List ℕ → ℕ
+name_len bytes = prefix_len is_name_byte bytes
+
+-- @@, or @ and a name
+abbrev pub function_found : ℕ → List ℕ → Found
+function_found at bytes =
+    if get_or bytes 1 0 == 64 then record { kind = Function (record { 0 = 115 }); len = 2 }
+    else record { kind = called_kind at (take (name_len (drop 1 bytes)) (drop 1 bytes)); len = 1 + name_len (drop 1 bytes) }

@@ -1,0 +1,51 @@
+-- Signs in a formula.
+use Rattle.std.specs.Prelude.{ℕ, ◌==◌, min, get_or, Bool, List, length, take, codes, if◌then◌else◌}
+use Rattle.std.specs.Str.{str_eq_ignore_ascii_case}
+use Rattle.formula_tree.specs.declared.ast.Op.TheVariants.{Pow, Mul, Div, Add, Sub, Eq, Ne, Lt, Gt, Le, Ge, And, Or, Join}
+use Rattle.formula_text.specs.declared.fault.ParseFault.TheVariants.{Unexpected}
+use Rattle.formula_text.specs.declared.lexeme.Found.{Found}
+use Rattle.formula_text.specs.declared.lexeme.Kind.{Kind}
+use Rattle.formula_text.specs.declared.lexeme.Kind.TheVariants.{Infix, Not, Open, Close, Comma, Bad}
+
+abbrev pub begins_with : List ℕ → List ℕ → Bool
+begins_with bytes word = str_eq_ignore_ascii_case (take (min (length word) (length bytes)) bytes) word
+
+-- #AND#, #OR# or #NOT#, in letters of either case
+unfoldable pub hash_found : ℕ → List ℕ → Found
+hash_found at bytes =
+    if begins_with bytes (codes "#AND#") then record { kind = Infix And; len = 5 }
+    else if begins_with bytes (codes "#OR#") then record { kind = Infix Or; len = 4 }
+    else if begins_with bytes (codes "#NOT#") then record { kind = Not; len = 5 }
+    else record { kind = Bad (Unexpected at); len = 1 }
+
+-- a sign of one byte; ; is read as ,
+unfoldable pub single_kind : ℕ → ℕ → Kind
+single_kind at b =
+    if b == 40 then Open
+    else if b == 41 then Close
+    else if b == 44 then Comma
+    else if b == 59 then Comma
+    else if b == 94 then Infix Pow
+    else if b == 42 then Infix Mul
+    else if b == 47 then Infix Div
+    else if b == 43 then Infix Add
+    else if b == 45 then Infix Sub
+    else if b == 61 then Infix Eq
+    else if b == 60 then Infix Lt
+    else if b == 62 then Infix Gt
+    else if b == 38 then Infix Join
+    else Bad (Unexpected at)
+
+-- a sign, and the byte behind it
+unfoldable pub sign_of : ℕ → ℕ → ℕ → Found
+sign_of at b next =
+    if b == 60 then (
+    if next == 62 then record { kind = Infix Ne; len = 2 }
+    else if next == 61 then record { kind = Infix Le; len = 2 }
+    else record { kind = Infix Lt; len = 1 })
+    else if b == 62 then (
+    if next == 61 then record { kind = Infix Ge; len = 2 } else record { kind = Infix Gt; len = 1 })
+    else record { kind = single_kind at b; len = 1 }
+
+abbrev pub sign_found : ℕ → List ℕ → Found
+sign_found at bytes = sign_of at (get_or bytes 0 0) (get_or bytes 1 0)

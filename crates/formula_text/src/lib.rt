@@ -1,0 +1,18 @@
+//! The grammar of formulas, read from text.
+#![tactic(auto)]
+
+mod fault;
+mod functions;
+mod lex;
+mod lexeme;
+mod operands;
+mod parse;
+mod reading;
+mod rows;
+mod signs;
+#[cfg(test)]
+mod tests;
+mod words;
+
+pub use fault::ParseFault;
+pub use reading::read;

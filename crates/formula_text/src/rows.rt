@@ -1,0 +1,161 @@
+// What follows an operand or stands before one, part by part.
+ghost use Rattle.std.specs.Prelude.{◌≡◌, ◌<◌, ◌+◌, drop, length, IfOk, IfErr, IfSome, IfNone, [], ◌∷◌, false, Ok, Err};
+ghost use Rattle.formula_text.specs.Accepts.{after, bracket_first, missing, next_level, operator_first, operator_of};
+ghost use Rattle.formula_text.specs.Reads.{comma_first, Closes, Completes, Continues, NoOperator, Opens};
+ghost use Rattle.formula_text.specs.declared.parse.Bracket.TheVariants.{Call};
+
+use crate::ParseFault;
+use crate::lexeme::{Kind, Lexeme};
+use crate::parse::Bracket;
+use formula_tree::{Function, Op, takes};
+
+// The operator that stands first, if one does.
+pub fn operator(lexemes: &[Lexeme]) -> Option<Op>
+    ensures { result ≡ operator_of lexemes.now }
+{
+    let (first, _) = lexemes.split_first()?;
+    match &first.kind {
+        Kind::Infix(op) => Some(*op),
+        Kind::Num(_) | Kind::Str(_) | Kind::Cell(_) | Kind::Span(_, _) => None,
+        Kind::Constant(_) | Kind::Function(_) | Kind::Not | Kind::Open => None,
+        Kind::Close | Kind::Comma | Kind::Unclosed | Kind::Bad(_) => None,
+    }
+}
+
+// All parts but the first.
+pub fn others(lexemes: &[Lexeme]) -> &[Lexeme]
+    ensures { result.now ≡ drop 1 lexemes.now }
+{
+    match lexemes.split_first() {
+        Some((_, rest)) => rest,
+        None => lexemes,
+    }
+}
+
+// Why no operand is there at a closing bracket.
+pub fn missing(at: usize, inside: Bracket) -> ParseFault
+    ensures { result ≡ missing at inside }
+{
+    match inside {
+        Bracket::Plain => ParseFault::Unexpected(at),
+        Bracket::Call(function, count) => {
+            if takes(function, count) {
+                ParseFault::Unexpected(at)
+            } else {
+                ParseFault::ArgCount(at)
+            }
+        }
+    }
+}
+
+// What follows the bracket that opens a function's arguments.
+pub fn opening(lexemes: &[Lexeme], function: Function) -> Result<&[Lexeme], ParseFault>
+    ensures ok { IfOk result (λ rest. Opens lexemes.now function rest.now) }
+    ensures err { IfErr result (λ f. (bs : _) → bracket_first lexemes.now function bs ≡ Err f) }
+{
+    let Some((first, rest)) = lexemes.split_first() else {
+        return Err(ParseFault::Ended);
+    };
+    match &first.kind {
+        Kind::Open => Ok(rest),
+        Kind::Bad(fault) => Err(*fault),
+        Kind::Num(_) | Kind::Str(_) | Kind::Cell(_) | Kind::Span(_, _) | Kind::Constant(_) => {
+            Err(ParseFault::Unexpected(first.at))
+        }
+        Kind::Function(_) | Kind::Infix(_) | Kind::Not | Kind::Close => {
+            Err(ParseFault::Unexpected(first.at))
+        }
+        Kind::Comma | Kind::Unclosed => Err(ParseFault::Unexpected(first.at)),
+    }
+}
+
+// What follows the bracket that closes one around an operand.
+pub fn closing(lexemes: &[Lexeme]) -> Result<&[Lexeme], ParseFault>
+    requires { next_level lexemes.now ≡ 0 }
+    ensures ok { IfOk result (λ rest. Closes lexemes.now rest.now) }
+    ensures err { IfErr result (λ f. NoOperator lexemes.now f) }
+{
+    let Some((first, rest)) = lexemes.split_first() else {
+        return Err(ParseFault::Ended);
+    };
+    match &first.kind {
+        Kind::Close => Ok(rest),
+        Kind::Bad(fault) => Err(*fault),
+        Kind::Num(_) | Kind::Str(_) | Kind::Cell(_) | Kind::Span(_, _) | Kind::Constant(_) => {
+            Err(ParseFault::Unexpected(first.at))
+        }
+        Kind::Function(_) | Kind::Infix(_) | Kind::Not | Kind::Open => {
+            Err(ParseFault::Unexpected(first.at))
+        }
+        Kind::Comma | Kind::Unclosed => Err(ParseFault::Unexpected(first.at)),
+    }
+}
+
+// What follows the comma behind an argument, if one stands there.
+pub fn behind_comma(lexemes: &[Lexeme]) -> Option<&[Lexeme]>
+    ensures some { IfSome result (λ rest. Continues lexemes.now rest.now) }
+    ensures none { IfNone result (comma_first lexemes.now ≡ false) }
+{
+    let (first, rest) = lexemes.split_first()?;
+    match &first.kind {
+        Kind::Comma => Some(rest),
+        Kind::Num(_) | Kind::Str(_) | Kind::Cell(_) | Kind::Span(_, _) => None,
+        Kind::Constant(_) | Kind::Function(_) | Kind::Infix(_) | Kind::Not => None,
+        Kind::Open | Kind::Close | Kind::Unclosed | Kind::Bad(_) => None,
+    }
+}
+
+// What follows the last argument, which stands behind so many.
+pub fn behind_last(
+    lexemes: &[Lexeme],
+    function: Function,
+    count: usize,
+) -> Result<&[Lexeme], ParseFault>
+    requires level { next_level lexemes.now ≡ 0 }
+    requires comma { comma_first lexemes.now ≡ false }
+    requires few { count < 240 }
+    ensures ok { IfOk result (λ rest. Completes lexemes.now function count rest.now) }
+    ensures err { IfErr result (λ f. (bs : _) → operator_first lexemes.now (Call function count ∷ bs) ≡ Err f) }
+{
+    let Some((first, rest)) = lexemes.split_first() else {
+        return Err(ParseFault::Ended);
+    };
+    match &first.kind {
+        Kind::Close => {
+            if takes(function, count + 1) {
+                Ok(rest)
+            } else {
+                Err(ParseFault::ArgCount(first.at))
+            }
+        }
+        Kind::Bad(fault) => Err(*fault),
+        Kind::Num(_) | Kind::Str(_) | Kind::Cell(_) | Kind::Span(_, _) | Kind::Constant(_) => {
+            Err(ParseFault::Unexpected(first.at))
+        }
+        Kind::Function(_) | Kind::Infix(_) | Kind::Not | Kind::Open => {
+            Err(ParseFault::Unexpected(first.at))
+        }
+        Kind::Comma | Kind::Unclosed => Err(ParseFault::Unexpected(first.at)),
+    }
+}
+
+// That no part is left.
+pub fn ended(lexemes: &[Lexeme]) -> Result<(), ParseFault>
+    requires { next_level lexemes.now ≡ 0 }
+    ensures ok { IfOk result (λ _. operator_first lexemes.now [] ≡ Ok []) }
+    ensures err { IfErr result (λ f. operator_first lexemes.now [] ≡ Err f) }
+{
+    let Some((first, _)) = lexemes.split_first() else {
+        return Ok(());
+    };
+    match &first.kind {
+        Kind::Bad(fault) => Err(*fault),
+        Kind::Num(_) | Kind::Str(_) | Kind::Cell(_) | Kind::Span(_, _) | Kind::Constant(_) => {
+            Err(ParseFault::Unexpected(first.at))
+        }
+        Kind::Function(_) | Kind::Infix(_) | Kind::Not | Kind::Open | Kind::Close => {
+            Err(ParseFault::Unexpected(first.at))
+        }
+        Kind::Comma | Kind::Unclosed => Err(ParseFault::Unexpected(first.at)),
+    }
+}

@@ -1,0 +1,128 @@
+// Signs in a formula.
+ghost use Rattle.std.specs.Prelude.{◌≡◌, ◌≤◌, ◌<◌, ◌⊎◌, true, get_or, length};
+ghost use Rattle.formula_text.specs.Fine.{is_fine_kind};
+ghost use Rattle.formula_text.specs.Signs.{begins_with, hash_found, sign_found, sign_of, single_kind};
+
+use crate::ParseFault;
+use crate::lexeme::{Found, Kind};
+use formula_tree::Op;
+
+fn begins_with(bytes: &[u8], word: &[u8]) -> bool
+    ensures { result ≡ begins_with bytes.now word.now }
+{
+    let len = word.len().min(bytes.len());
+    bytes[..len].eq_ignore_ascii_case(word)
+}
+
+// The operator in words that stands first, from its # on.
+#[tactic(auto, unfolding(crate::specs::Signs::hash_found))]
+pub fn hash_found(bytes: &[u8], at: usize) -> Found
+    ensures found { result ≡ hash_found at bytes.now }
+    ensures fine { is_fine_kind result.kind ≡ true }
+    ensures low { 0 < result.len }
+    ensures high { 0 < length bytes.now → result.len ≤ length bytes.now }
+{
+    if begins_with(bytes, b"#AND#") {
+        Found {
+            kind: Kind::Infix(Op::And),
+            len: 5,
+        }
+    } else if begins_with(bytes, b"#OR#") {
+        Found {
+            kind: Kind::Infix(Op::Or),
+            len: 4,
+        }
+    } else if begins_with(bytes, b"#NOT#") {
+        Found {
+            kind: Kind::Not,
+            len: 5,
+        }
+    } else {
+        Found {
+            kind: Kind::Bad(ParseFault::Unexpected(at)),
+            len: 1,
+        }
+    }
+}
+
+#[tactic(auto, unfolding(crate::specs::Signs::single_kind))]
+fn single_kind(byte: u8, at: usize) -> Kind
+    ensures kind { result ≡ single_kind at byte }
+    ensures fine { is_fine_kind result ≡ true }
+{
+    match byte {
+        b'(' => Kind::Open,
+        b')' => Kind::Close,
+        b',' | b';' => Kind::Comma,
+        b'^' => Kind::Infix(Op::Pow),
+        b'*' => Kind::Infix(Op::Mul),
+        b'/' => Kind::Infix(Op::Div),
+        b'+' => Kind::Infix(Op::Add),
+        b'-' => Kind::Infix(Op::Sub),
+        b'=' => Kind::Infix(Op::Eq),
+        b'<' => Kind::Infix(Op::Lt),
+        b'>' => Kind::Infix(Op::Gt),
+        b'&' => Kind::Infix(Op::Join),
+        _ => Kind::Bad(ParseFault::Unexpected(at)),
+    }
+}
+
+fn infix(op: Op, len: usize) -> Found
+    ensures kind { result.kind ≡ Kind.Infix op }
+    ensures len { result.len ≡ len }
+{
+    Found {
+        kind: Kind::Infix(op),
+        len,
+    }
+}
+
+// A sign, and the byte behind it.
+#[tactic(auto, unfolding(crate::specs::Signs::sign_of))]
+fn sign_of(byte: u8, next: u8, at: usize) -> Found
+    ensures found { result ≡ sign_of at byte next }
+    ensures fine { is_fine_kind result.kind ≡ true }
+    ensures low { 0 < result.len }
+    ensures high { result.len ≤ 2 }
+    ensures next { (result.len ≤ 1) ⊎ (0 < next) }
+{
+    if byte == b'<' {
+        if next == b'>' {
+            infix(Op::Ne, 2)
+        } else if next == b'=' {
+            infix(Op::Le, 2)
+        } else {
+            infix(Op::Lt, 1)
+        }
+    } else if byte == b'>' {
+        if next == b'=' {
+            infix(Op::Ge, 2)
+        } else {
+            infix(Op::Gt, 1)
+        }
+    } else {
+        Found {
+            kind: single_kind(byte, at),
+            len: 1,
+        }
+    }
+}
+
+// The byte at a place, 0 behind the end.
+fn byte_at(bytes: &[u8], at: usize) -> u8
+    ensures byte { result ≡ get_or bytes.now at 0 }
+    ensures there { (result ≡ 0) ⊎ (at < length bytes.now) }
+{
+    if at < bytes.len() { bytes[at] } else { 0 }
+}
+
+// The sign that stands first.
+pub fn sign_found(bytes: &[u8], at: usize) -> Found
+    requires { 0 < length bytes.now }
+    ensures found { result ≡ sign_found at bytes.now }
+    ensures fine { is_fine_kind result.kind ≡ true }
+    ensures low { 0 < result.len }
+    ensures high { result.len ≤ length bytes.now }
+{
+    sign_of(byte_at(bytes, 0), byte_at(bytes, 1), at)
+}

@@ -1,0 +1,211 @@
+// Addresses and names in a formula.
+ghost use Rattle.std.specs.Prelude.{◌≡◌, ◌≤◌, ◌<◌, ◌+◌, true, length};
+ghost use Rattle.std.specs.List.{list_all};
+ghost use Rattle.lics_text.specs.Bytes.{is_letter};
+ghost use Rattle.grid_address.specs.Place.{same_place};
+ghost use Rattle.grid_address.specs.Progress.{count_dots, is_digit};
+ghost use Rattle.formula_text.specs.Fine.{is_fine_kind};
+ghost use Rattle.formula_text.specs.Words.{address_found, corner_behind, has_dollar, is_word_byte, letters_len, name_kind, named_span, plain_address, reference_from, reference_in, span_kind, with_corner, without_dollar, word_found, word_len};
+
+use crate::ParseFault;
+use crate::lexeme::{Found, Kind};
+use grid_address::{Cell, Ref, Span, read_cell};
+use lics_text::Line;
+use range_names::Names;
+
+// A letter of either case.
+pub fn is_letter(byte: u8) -> bool
+    ensures { result ≡ is_letter byte }
+{
+    byte >= b'A' && byte <= b'Z' || byte >= b'a' && byte <= b'z'
+}
+
+pub fn is_digit(byte: u8) -> bool
+    ensures { result ≡ is_digit byte }
+{
+    byte >= b'0' && byte <= b'9'
+}
+
+// Letters, digits, _ and $.
+pub fn is_word_byte(byte: u8) -> bool
+    ensures { result ≡ is_word_byte byte }
+{
+    is_letter(byte) || is_digit(byte) || byte == b'_' || byte == b'$'
+}
+
+fn word_len(bytes: &[u8]) -> usize
+    ensures count { result ≡ word_len bytes.now }
+    ensures within { result ≤ length bytes.now }
+{
+    bytes.iter().take_while(|b| is_word_byte(**b)).count()
+}
+
+fn letters_len(bytes: &[u8]) -> usize
+    ensures count { result ≡ letters_len bytes.now }
+    ensures within { result ≤ length bytes.now }
+{
+    bytes.iter().take_while(|b| is_letter(**b)).count()
+}
+
+fn are_digits(bytes: &[u8]) -> bool
+    ensures { result ≡ list_all is_digit bytes.now }
+{
+    bytes.iter().all(|b| is_digit(*b))
+}
+
+fn has_dollar(bytes: &[u8]) -> bool
+    ensures { result ≡ has_dollar bytes.now }
+{
+    0 < bytes.len() && bytes[0] == b'$'
+}
+
+fn without_dollar(bytes: &[u8]) -> &[u8]
+    ensures bytes { result.now ≡ without_dollar bytes.now }
+    ensures within { length result.now ≤ length bytes.now }
+{
+    if has_dollar(bytes) {
+        &bytes[1..]
+    } else {
+        bytes
+    }
+}
+
+// The cell of a column and the digits of a row.
+fn plain_address(column: &[u8], row: &[u8]) -> Option<Cell>
+    requires { length column.now + length row.now ≤ 240 }
+    ensures { result ≡ plain_address column.now row.now }
+{
+    if !are_digits(row) {
+        return None;
+    }
+    let mut line = Line::new();
+    line.put_all(column);
+    line.put_all(row);
+    match read_cell(line.bytes()) {
+        Ok(cell) => Some(cell),
+        Err(_) => None,
+    }
+}
+
+// The reference of a column without its $ and a row that may have one.
+fn reference_from(word: &[u8], cell: Cell, fixed_col: bool) -> Option<Ref>
+    requires { length word.now ≤ 240 }
+    ensures { result ≡ reference_from cell fixed_col word.now }
+{
+    let (column, behind) = word.split_at(letters_len(word));
+    match plain_address(column, without_dollar(behind)) {
+        Some(target) => Some(Ref::of(target, cell, fixed_col, has_dollar(behind))),
+        None => None,
+    }
+}
+
+// The reference that a word is where it stands in the cell.
+fn reference_in(word: &[u8], cell: Cell) -> Option<Ref>
+    requires { length word.now ≤ 240 }
+    ensures { result ≡ reference_in cell word.now }
+{
+    reference_from(without_dollar(word), cell, has_dollar(word))
+}
+
+// How many dots part two corners: none, one or two.
+fn count_dots(bytes: &[u8]) -> usize
+    ensures count { result ≡ count_dots bytes.now }
+    ensures within { result ≤ length bytes.now }
+{
+    if bytes.len() == 0 || bytes[0] != b'.' {
+        0
+    } else if 1 < bytes.len() && bytes[1] == b'.' {
+        2
+    } else {
+        1
+    }
+}
+
+// The corner behind so many dots.
+fn corner_behind(dots: usize, bytes: &[u8], cell: Cell) -> Option<Ref>
+    requires { length bytes.now ≤ 240 }
+    ensures { result ≡ corner_behind cell dots bytes.now }
+{
+    if dots == 0 {
+        None
+    } else {
+        reference_in(&bytes[..word_len(bytes)], cell)
+    }
+}
+
+// What an address of so many bytes is with what stands behind it.
+fn address_found(first: Ref, len: usize, behind: &[u8], cell: Cell) -> Found
+    requires short { len + length behind.now ≤ 240 }
+    requires some { 0 < len }
+    ensures found { result ≡ address_found cell first len behind.now }
+    ensures fine { is_fine_kind result.kind ≡ true }
+    ensures low { 0 < result.len }
+    ensures high { result.len ≤ len + length behind.now }
+{
+    let dots = count_dots(behind);
+    let bytes = &behind[dots..];
+    let word = word_len(bytes);
+    match corner_behind(dots, bytes, cell) {
+        Some(other) => Found {
+            kind: Kind::Span(first, other),
+            len: len + dots + word,
+        },
+        None => Found {
+            kind: Kind::Cell(first),
+            len,
+        },
+    }
+}
+
+fn named_span(name: &[u8], names: &Names) -> Option<Span>
+    ensures { result ≡ named_span names.now name.now }
+{
+    names.find(name)
+}
+
+fn is_one_cell(span: Span) -> bool
+    ensures { result ≡ same_place span.first span.last }
+{
+    span.first.row == span.last.row && span.first.col == span.last.col
+}
+
+// What a name is that stands for a span.
+fn span_kind(span: Option<Span>, at: usize, cell: Cell, fixed: bool) -> Kind
+    ensures kind { result ≡ span_kind cell at fixed span }
+    ensures fine { is_fine_kind result ≡ true }
+{
+    match span {
+        None => Kind::Bad(ParseFault::UnknownName(at)),
+        Some(span) => {
+            let first = Ref::of(span.first, cell, fixed, fixed);
+            if is_one_cell(span) {
+                Kind::Cell(first)
+            } else {
+                Kind::Span(first, Ref::of(span.last, cell, fixed, fixed))
+            }
+        }
+    }
+}
+
+// The word that stands first, which begins at a place of the text.
+pub fn word_found(bytes: &[u8], at: usize, cell: Cell, names: &Names) -> Found
+    requires short { length bytes.now ≤ 240 }
+    requires some { 0 < word_len bytes.now }
+    ensures found { result ≡ word_found names.now cell at bytes.now }
+    ensures fine { is_fine_kind result.kind ≡ true }
+    ensures low { 0 < result.len }
+    ensures high { result.len ≤ length bytes.now }
+{
+    let len = word_len(bytes);
+    let word = &bytes[..len];
+    match reference_in(word, cell) {
+        Some(first) => address_found(first, len, &bytes[len..], cell),
+        None => {
+            let span = named_span(without_dollar(word), names);
+            Found {
+                kind: span_kind(span, at, cell, has_dollar(word)),
+                len,
+            }
+        }
+    }
+}
