@@ -15,4 +15,4 @@ mod tests;
 mod words;
 
 pub use fault::ParseFault;
-pub use reading::read;
+pub use reading::{a_text_spells_one_tree, read};

@@ -1,8 +1,11 @@
 // From a text to its formula.
-ghost use Rattle.std.specs.Prelude.{◌≡◌, ◌⊎◌, IfOk, IfErr};
+ghost use Rattle.std.specs.Prelude.{◌≡◌, ◌⊎◌, ℕ, List, IfOk, IfErr};
 ghost use Rattle.formula_tree.specs.Shape.{IsFormula};
+ghost use Rattle.formula_tree.specs.Tree.{Tree};
 ghost use Rattle.formula_tree.specs.View.{tree_of};
-ghost use Rattle.formula_text.specs.Texts.{IsFirstFault, SpelledBy};
+ghost use Rattle.grid_address.specs.Place.{Place};
+ghost use Rattle.range_names.specs.Names.{NameMap};
+ghost use Rattle.formula_text.specs.Texts.{IsFirstFault, IsFormulaOf, SpelledBy};
 
 use crate::ParseFault;
 use crate::lex::lex;
@@ -31,6 +34,7 @@ fn formula(alloc: Global, expr: Expr) -> Result<Formula, ParseFault>
 /// of this project's table.)
 pub fn read(alloc: Global, text: &[u8], at: Cell, names: &Names) -> Result<Formula, ParseFault>
     ensures found { IfOk result (λ f. SpelledBy names.now at text.now f) }
+    ensures only { (t : Tree) → SpelledBy names.now at text.now t → IsFormulaOf result t }
     ensures fault { IfErr result (λ f. (f ≡ ParseFault.Memory) ⊎ IsFirstFault names.now at text.now f) }
 {
     if text.len() > 240 {
@@ -40,3 +44,8 @@ pub fn read(alloc: Global, text: &[u8], at: Cell, names: &Names) -> Result<Formu
     let expr = tree(alloc, lexemes.as_slice())?;
     formula(alloc, expr)
 }
+
+/// A text spells one tree at most where it stands in a cell, with the names.
+pub fn a_text_spells_one_tree()
+    ensures { (names : NameMap) (cell : Place) (text : List ℕ) (a b : Tree) → SpelledBy names cell text a → SpelledBy names cell text b → a ≡ b }
+{}
