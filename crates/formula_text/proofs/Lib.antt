@@ -1,7 +1,10 @@
 pub mod Arguments
+pub mod Ends
 pub mod Grows
 pub mod Lexing
 pub mod Only
+pub mod Outputs
+pub mod Calls
 pub mod Quotes
 pub mod Shaped
 pub mod Unique

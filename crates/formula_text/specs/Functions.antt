@@ -1,5 +1,5 @@
 -- The names of functions (Release 2 manual), with their codes (worksheet file format).
-use Rattle.std.specs.Prelude.{ℕ, Bool, true, false, Option, Some, None, List, [], ◌∷◌, codes, if◌then◌else◌}
+use Rattle.std.specs.Prelude.{ℕ, ◌==◌, Bool, true, false, Option, Some, None, List, [], ◌∷◌, codes, if◌then◌else◌}
 use Rattle.std.specs.Str.{str_eq_ignore_ascii_case}
 use Rattle.formula_tree.specs.declared.ast.Function.{Function}
 
@@ -45,3 +45,12 @@ function_named = lookup functions
 abbrev pub is_among : List (List ℕ) → List ℕ → Bool
 is_among [] name = false
 is_among (n ∷ ns) name = if str_eq_ignore_ascii_case n name then true else is_among ns name
+
+-- the name of a code
+abbrev pub name_in : List Named → ℕ → List ℕ
+name_in [] code = []
+name_in (f ∷ fs) code = if f.1.0 == code then f.0 else name_in fs code
+
+-- 115 is @@
+abbrev pub name_of : ℕ → List ℕ
+name_of code = if code == 115 then codes "@" else name_in functions code

@@ -3,6 +3,7 @@ pub mod Fine
 pub mod Functions
 pub mod Lexed
 pub mod Operands
+pub mod Printed
 pub mod Reads
 pub mod Signs
 pub mod Texts

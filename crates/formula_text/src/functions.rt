@@ -113,3 +113,26 @@ pub fn is_left_out(name: &[u8]) -> bool
 {
     is_among(&LEFT_OUT, name)
 }
+
+fn name_in(mut table: &[(&'static [u8], Function)], function: Function) -> &'static [u8]
+    ensures { result.now ≡ spec.name_in (map (λ f. (f.0.now, f.1)) table.entry.now) function.0 }
+{
+    while let [entry, rest @ ..] = table {
+        if entry.1.0 == function.0 {
+            return entry.0;
+        }
+        table = rest;
+    }
+    b""
+}
+
+// The name of a function.
+pub fn name_of(function: Function) -> &'static [u8]
+    ensures { result.now ≡ spec.name_of function.0 }
+{
+    if function.0 == 0x73 {
+        b"@"
+    } else {
+        name_in(&FUNCTIONS, function)
+    }
+}

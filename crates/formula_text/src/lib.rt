@@ -1,4 +1,4 @@
-//! The grammar of formulas, read from text.
+//! The grammar of formulas: read from text, and printed.
 #![tactic(auto)]
 
 mod fault;
@@ -6,7 +6,9 @@ mod functions;
 mod lex;
 mod lexeme;
 mod operands;
+mod output;
 mod parse;
+mod printing;
 mod reading;
 mod rows;
 mod signs;
@@ -15,4 +17,5 @@ mod tests;
 mod words;
 
 pub use fault::ParseFault;
+pub use printing::print;
 pub use reading::{a_text_spells_one_tree, read};

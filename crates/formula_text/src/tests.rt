@@ -1,7 +1,8 @@
 // Worked rows of formula text.
-use crate::{ParseFault, read};
+use crate::{ParseFault, print, read};
 use formula_tree::{Expr, Formula, Op};
 use grid_address::{Cell, Span};
+use lics_text::Line;
 use range_names::Names;
 use std::test::Fail;
 
@@ -125,6 +126,43 @@ fn a_text_has_at_most_240_bytes(rt: HostRuntime) -> Result<(), Fail> {
     match read(rt.alloc(), &ones, HOME, &names) {
         Ok(_) => assert!(rt; false),
         Err(fault) => assert_eq!(rt; fault, ParseFault::TooLong),
+    }
+    Ok(())
+}
+
+#[test]
+fn formulas_are_printed(rt: HostRuntime) -> Result<(), Fail> {
+    let mut names = Names::new(rt.alloc());
+    assert_eq!(rt; names.create(b"total", Span::of(HOME, HOME)), Ok(()));
+    assert_eq!(rt; names.create(b"RATES", Span::of(HOME, OTHER)), Ok(()));
+    for (text, printed) in [
+        (b" 1.50 + c4 ".as_slice(), b"1.5+C4".as_slice()),
+        (b"c4", b"+C4"),
+        (b"$c$4", b"$C$4"),
+        (b"c$4", b"+C$4"),
+        (b"$a$1", b"$TOTAL"),
+        (b"$a1", b"$A1"),
+        (b"Total", b"+TOTAL"),
+        (b"a1.c4", b"+RATES"),
+        (b"$RATES", b"$RATES"),
+        (b"c4..a1", b"+C4..A1"),
+        (b"b2.b2", b"+B2..B2"),
+        (b"@sum(a1.b2;3)", b"@SUM(A1..B2,3)"),
+        (b"@round(-.5,2)", b"@ROUND(-0.5,2)"),
+        (b"@@(\"a\")", b"@@(\"a\")"),
+        (b"@pi&1", b""),
+        (b"\"a b\"&\"\"", b"+\"a b\"&\"\""),
+        (b"(1)<>#not#@true", b"(1)<>#NOT#@TRUE"),
+        (b"+-+2^2", b"-2^2"),
+    ] {
+        let mut line = Line::new();
+        match read(rt.alloc(), text, OTHER, &names) {
+            Ok(formula) => {
+                assert!(rt; print(&formula, OTHER, &names, &mut line));
+                assert!(rt; line.bytes() == printed);
+            }
+            Err(fault) => assert_eq!(rt; fault, ParseFault::FunctionOutside(0)),
+        }
     }
     Ok(())
 }

@@ -1,0 +1,29 @@
+// Text that is cut off at 240 bytes.
+ghost use Rattle.std.specs.Prelude.{◌≡◌};
+ghost use Rattle.formula_text.specs.Printed.{written};
+
+use lics_text::Line;
+
+// What is written of a text, and whether that is all of it.
+#[derive(Drop)]
+pub struct Output {
+    pub line: Line,
+    pub whole: bool,
+}
+
+// Writes on as far as there is room.
+#[tactic(auto, unfolding(crate::specs::Printed::written))]
+pub fn put(out: &mut Output, bytes: &[u8])
+    ensures { out.new ≡ written out.old bytes.now }
+{
+    if !out.whole {
+        return;
+    }
+    let room = 240 - out.line.bytes().len();
+    if bytes.len() <= room {
+        out.line.put_all(bytes);
+    } else {
+        out.line.put_all(&bytes[..room]);
+        out.whole = false;
+    }
+}
