@@ -1,8 +1,8 @@
 -- The functions of texts.
-use Rattle.std.specs.Prelude.{ℕ, zero, suc, ◌+◌, ◌*◌, ◌==◌, ◌&&◌, nat_le, ℤ, pos, negsuc, Bool, true, false, Option, Some, None, Result, Ok, Err, List, [], ◌∷◌, ◌++◌, length, take, drop, if◌then◌else◌}
+use Rattle.std.specs.Prelude.{ℕ, zero, suc, ◌+◌, ◌-◌, ◌*◌, ◌==◌, ◌&&◌, nat_le, ℤ, pos, negsuc, Bool, true, false, Option, Some, None, Result, Ok, Err, List, [], ◌∷◌, ◌++◌, length, take, drop, if◌then◌else◌}
 use Rattle.fixed_value.specs.Written.{written}
 use Rattle.lics_text.specs.declared.faults.Memory.{Memory}
-use Rattle.at_functions.specs.Numbers.{count_of, in_units, whole, within}
+use Rattle.at_functions.specs.Numbers.{count_of, in_units, units, whole, within}
 
 -- a text that is there, but for want of memory
 abbrev pub wrapped : Result (List ℕ) Memory → Result (Option (List ℕ)) Memory
@@ -25,6 +25,27 @@ mid_by text (Some start) (Some count) = Some (take count (drop start text))
 
 abbrev pub mid : List ℕ → ℤ → ℤ → Option (List ℕ)
 mid text start count = mid_by text (count_of start) (count_of count)
+
+abbrev pub left_by : List ℕ → Option ℕ → Option (List ℕ)
+left_by text None = None
+left_by text (Some count) = Some (take count text)
+
+-- the first bytes
+abbrev pub left : List ℕ → ℤ → Option (List ℕ)
+left text count = left_by text (count_of count)
+
+abbrev pub right_by : List ℕ → Option ℕ → Option (List ℕ)
+right_by text None = None
+right_by text (Some count) = Some (drop (length text - count) text)
+
+-- the last bytes
+abbrev pub right : List ℕ → ℤ → Option (List ℕ)
+right text count = right_by text (count_of count)
+
+-- the first byte
+abbrev pub code : List ℕ → Option ℤ
+code [] = None
+code (b ∷ bs) = Some (units b)
 
 -- a text has at most 240 bytes
 abbrev pub if_short : List ℕ → Option (List ℕ)

@@ -5,7 +5,7 @@ ghost use Rattle.at_functions.specs.Dates.{date, date_by, day, hour, minute, mon
 ghost use Rattle.serial_date.specs.Calendar.{date_of};
 ghost use Rattle.serial_date.specs.Fractions.{whole_day};
 
-use crate::whole::{in_units, units, whole, within};
+use crate::counts::{in_units, units, whole, within};
 use fixed_value::Fixed;
 use serial_date::{Civil, civil_of, day_of, fraction_of, seconds_of, whole_day};
 

@@ -2,12 +2,11 @@
 ghost use Rattle.std.specs.Prelude.{◌≡◌, ◌≤◌, ◌<◌, ◌+◌, IfNone, IfSome, Some, None, drop, length, take, map};
 ghost use Rattle.std.specs.Option.{ForSome};
 ghost use Rattle.fixed_value.specs.Decimals.{is_digit};
-ghost use Rattle.lics_text.specs.Bytes.{folded};
 ghost use Rattle.at_functions.specs.Readings.{before, behind, clock, dashed, datevalue, is_name, month_named, month_number, number_in, short_number, slashed, three, timevalue, two_digits, value, with_minutes, with_seconds};
 
 use crate::dates::{date_by, time_of};
 use fixed_value::{Decimal, Fixed, read_decimal};
-use lics_text::Text;
+use lics_text::{Text, fold};
 
 /// The number that a text spells as a decimal, spaces at its ends left out; the empty text is 0.
 pub fn value(text: &Text) -> Option<Fixed>
@@ -76,17 +75,6 @@ fn short_number(bytes: &[u8]) -> Option<u16>
         Some(u16::from(bytes[0] - b'0'))
     } else {
         two_digits(bytes)
-    }
-}
-
-// A small letter is read as its capital.
-fn fold(byte: u8) -> u8
-    ensures { result ≡ folded byte }
-{
-    if byte >= b'a' && byte <= b'z' {
-        byte - 32
-    } else {
-        byte
     }
 }
 

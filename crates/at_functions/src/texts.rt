@@ -1,8 +1,9 @@
 // The functions of texts.
 ghost use Rattle.std.specs.Prelude.{◌≡◌, ◌≤◌, ◌+◌, ◌*◌, ◌++◌, ◌∷◌, [], IfOk, IfSome, IfNone, Some, None, drop, length, take};
-ghost use Rattle.at_functions.specs.Texts.{again, char_of, find_in, found, mid, repeat, replace, string, wrapped};
+ghost use Rattle.at_functions.specs.Numbers.{units};
+ghost use Rattle.at_functions.specs.Texts.{again, char_of, code, find_in, found, left, mid, repeat, replace, right, string, wrapped};
 
-use crate::whole::{count_of, units, whole, within};
+use crate::counts::{count_of, units, whole, within};
 use fixed_value::{Fixed, write_decimal};
 use lics_text::{Line, Memory, Text};
 use std::alloc::Global;
@@ -47,6 +48,47 @@ fn some(text: Result<Text, Memory>) -> Result<Option<Text>, Memory>
     match text {
         Ok(text) => Ok(Some(text)),
         Err(Memory) => Err(Memory),
+    }
+}
+
+/// The first bytes of a text, fewer at its end; none for a count below zero.
+pub fn left(text: &Text, count: Fixed) -> Result<Option<Text>, Memory>
+    ensures { IfOk result (λ found. found ≡ left text.now count) }
+{
+    let Some(count) = count_of(count) else {
+        return Ok(None);
+    };
+    some(text.like(part(text.bytes(), 0, count as usize)))
+}
+
+/// The last bytes of a text, fewer at its front; none for a count below zero.
+pub fn right(text: &Text, count: Fixed) -> Result<Option<Text>, Memory>
+    ensures { IfOk result (λ found. found ≡ right text.now count) }
+{
+    let Some(count) = count_of(count) else {
+        return Ok(None);
+    };
+    let bytes = text.bytes();
+    let start = bytes.len().saturating_sub(count as usize);
+    some(text.like(part(bytes, start, count as usize)))
+}
+
+/// How many bytes a text has.
+pub fn length(text: &Text) -> Option<Fixed>
+    ensures { result ≡ Some (units (length text.now)) }
+{
+    units(text.bytes().len() as u32)
+}
+
+/// The first byte of a text; none for the empty text.
+pub fn code(text: &Text) -> Option<Fixed>
+    ensures { result ≡ code text.now }
+{
+    let bytes = text.bytes();
+    if bytes.len() == 0 {
+        None
+    } else {
+        units(u32::from(bytes[0]))
     }
 }
 

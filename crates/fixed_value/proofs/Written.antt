@@ -40,7 +40,7 @@ number_of_stripped (d ∷ e ∷ ds) = elim (cases_Bool (d == 48)) [
   | inr other ↦ rw other refl
 ]
 
-all_stripped : (ds : List ℕ) → list_all is_digit ds ≡ true → list_all is_digit (without_zeros ds) ≡ true
+pub all_stripped : (ds : List ℕ) → list_all is_digit ds ≡ true → list_all is_digit (without_zeros ds) ≡ true
 all_stripped [] h = refl
 all_stripped (d ∷ []) h = h
 all_stripped (d ∷ e ∷ ds) h = elim (cases_Bool (d == 48)) [
@@ -48,7 +48,7 @@ all_stripped (d ∷ e ∷ ds) h = elim (cases_Bool (d == 48)) [
   | inr other ↦ rw other h
 ]
 
-stripped_stays : (ds : List ℕ) → 0 < length ds → 0 < length (without_zeros ds)
+pub stripped_stays : (ds : List ℕ) → 0 < length ds → 0 < length (without_zeros ds)
 stripped_stays [] h = absurd (omega arith)
 stripped_stays (d ∷ []) h = omega arith
 stripped_stays (d ∷ e ∷ ds) h = elim (cases_Bool (d == 48)) [
@@ -69,12 +69,12 @@ behind_to_point (d ∷ ds) rest h =
     let digit : is_digit d ≡ true = left_of (is_digit d) (list_all is_digit ds) h in
     rw digit (behind_to_point ds rest (right_of (is_digit d) (list_all is_digit ds) h))
 
-from_digits : (minus : Bool) (whole places : List ℕ) → 0 < length whole → decimal_from minus whole (Some places) ≡ fraction_of minus whole places
+pub from_digits : (minus : Bool) (whole places : List ℕ) → 0 < length whole → decimal_from minus whole (Some places) ≡ fraction_of minus whole places
 from_digits minus [] places h = absurd (omega arith)
 from_digits minus (w ∷ ws) places h = refl
 
 -- digits behind a sign or none
-no_sign : (ds rest : List ℕ) → 0 < length ds → list_all is_digit ds ≡ true → (without_sign (ds ++ rest) ≡ ds ++ rest) × (is_minus (ds ++ rest) ≡ false)
+pub no_sign : (ds rest : List ℕ) → 0 < length ds → list_all is_digit ds ≡ true → (without_sign (ds ++ rest) ≡ ds ++ rest) × (is_minus (ds ++ rest) ≡ false)
 no_sign [] rest h all = absurd (omega arith)
 no_sign (d ∷ ds) rest h all =
     let digit : is_digit d ≡ true = left_of (is_digit d) (list_all is_digit ds) all in
@@ -90,7 +90,7 @@ read_signed false whole places h all later =
     let bare = no_sign whole (46 ∷ places) h all in
     rw (bare.0, bare.1, whole_to_point whole places all, behind_to_point whole places all, later) (from_digits false whole places h)
 
-nearest_exact : (a d : ℕ) → 0 < d → nearest (a * d) d ≡ a
+pub nearest_exact : (a d : ℕ) → 0 < d → nearest (a * d) d ≡ a
 nearest_exact a d h = quotient_is (2 * d) a (2 * (a * d) + d) (omega arith) (omega arith) (omega arith)
 
 pointed_more : (ds : List ℕ) → 0 < length ds → pointed ds ≡ 46 ∷ ds
@@ -101,10 +101,10 @@ plus_size : (k : ℕ) → int_lt (pos k) (pos 0) ≡ false
 plus_size k = grind (arith, ints)
 
 -- the sign that is written with a size in units of the last place
-abbrev sign_with : ℤ → ℕ → Bool
+abbrev pub sign_with : ℤ → ℕ → Bool
 sign_with v n = int_lt v (pos 0) && not (n == 0)
 
-signed_back : (v : ℤ) (n p : ℕ) → 0 < p → n ≡ nat_abs v * p → signed (sign_with v n) (nat_abs v) ≡ v
+pub signed_back : (v : ℤ) (n p : ℕ) → 0 < p → n ≡ nat_abs v * p → signed (sign_with v n) (nat_abs v) ≡ v
 signed_back (pos k) n p h is = rw (plus_size k) refl
 signed_back (negsuc k) n p h is =
     let large : 0 < n = omega (arith, is, mul-le-mul_right p (let e : 1 ≤ suc k = omega arith in e)) in
@@ -112,22 +112,22 @@ signed_back (negsuc k) n p h is =
     rw test refl
 
 module _ (v : ℤ) (places : ℕ) (within : nat_abs v ≤ 999999999999999) (enough : 6 ≤ places) where
-  abbrev unit : ℕ
+  abbrev pub unit : ℕ
   unit = 10 ^ (places - 6)
 
-  power_splits : 10 ^ places ≡ unit * 1000000
+  pub power_splits : 10 ^ places ≡ unit * 1000000
   power_splits = ap (λ n. 10 ^ n) (let e : places ≡ (places - 6) + 6 = omega arith in e) ∙ pow-add 10 (places - 6) 6
 
-  exact : scaled v places ≡ nat_abs v * unit
+  pub exact : scaled v places ≡ nat_abs v * unit
   exact = ap (λ n. nearest n 1000000) (ap (λ n. nat_abs v * n) power_splits ∙ (let e : nat_abs v * (unit * 1000000) ≡ nat_abs v * unit * 1000000 = omega arith in e)) ∙ nearest_exact (nat_abs v * unit) 1000000 (omega arith)
 
-  abbrev digits : List ℕ
+  abbrev pub digits : List ℕ
   digits = fixed_digits (10 + places) (scaled v places)
 
-  abbrev whole : List ℕ
+  abbrev pub whole : List ℕ
   whole = without_zeros (take 10 digits)
 
-  abbrev behind : List ℕ
+  abbrev pub behind : List ℕ
   behind = drop 10 digits
 
   fits : scaled v places < 10 ^ (10 + places)
@@ -137,19 +137,19 @@ module _ (v : ℤ) (places : ℕ) (within : nat_abs v ≤ 999999999999999) (enou
       let some : 0 < unit = power_positive (places - 6) in
       omega (arith, exact, power, most, some)
 
-  long : length behind ≡ places
+  pub long : length behind ≡ places
   long = omega (arith, length-drop 10 digits, fixed_digits_length (10 + places) (scaled v places))
 
-  front_long : length (take 10 digits) ≡ 10
+  pub front_long : length (take 10 digits) ≡ 10
   front_long = length-take-le 10 digits (omega (arith, fixed_digits_length (10 + places) (scaled v places)))
 
   parts : take 10 digits ++ behind ≡ digits
   parts = take-append-drop 10 digits
 
-  both : (list_all is_digit (take 10 digits) && list_all is_digit behind) ≡ true
+  pub both : (list_all is_digit (take 10 digits) && list_all is_digit behind) ≡ true
   both = sym (list_all-append is_digit (take 10 digits) behind) ∙ ap (list_all is_digit) parts ∙ all_fixed_digits (10 + places) (scaled v places)
 
-  number : number_of (whole ++ behind) ≡ nat_abs v * unit
+  pub number : number_of (whole ++ behind) ≡ nat_abs v * unit
   number =
       number_of-append whole behind ∙ ap (λ n. n * 10 ^ length behind + number_of behind) (number_of_stripped (take 10 digits)) ∙ sym (number_of-append (take 10 digits) behind)
       ∙ ap number_of parts ∙ number_of_fixed (10 + places) (scaled v places) fits ∙ exact

@@ -229,3 +229,8 @@ pub fn write_hundredfold(value: Fixed, places: u8) -> Digits
 pub fn written_is_read()
     ensures { (v : ℤ) (places : ℕ) → nat_abs v ≤ 999999999999999 → 6 ≤ places → decimal_of (written v places) ≡ Num v }
 {}
+
+/// A number that is written with at most six places or more, and no more than are needed, is read back as itself.
+pub fn short_is_read()
+    ensures { (v : ℤ) (places : ℕ) → nat_abs v ≤ 999999999999999 → 6 ≤ places → decimal_of (short v places) ≡ Num v }
+{}

@@ -13,7 +13,8 @@ mod round;
 
 pub use decimal::{Decimal, digits_len, read_decimal};
 pub use digits::{
-    Digits, rounds_to_zero, write_decimal, write_hundredfold, write_short, written_is_read,
+    Digits, rounds_to_zero, short_is_read, write_decimal, write_hundredfold, write_short,
+    written_is_read,
 };
 pub use doubles::{DoubleRead, from_double_bits, to_double_bits};
 pub use fixed::{Fixed, MAX_SIZE, rounding_is_nearest};

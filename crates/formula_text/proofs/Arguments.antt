@@ -1,5 +1,5 @@
 -- A function's arguments are read one by one.
-use Rattle.std.proofs.Common.{◌≡◌, ℕ, suc, ◌+◌, ◌≤◌, ◌<◌, Bool, true, ◌&&◌, nat_le, nat_lt, List, [], ◌∷◌, ◌++◌, length, Option, Some, None, refl, sym, ap, ◌∙◌, arith, append_assoc, length-append}
+use Rattle.std.proofs.Common.{◌≡◌, ℕ, ◌+◌, ◌≤◌, Bool, true, ◌&&◌, List, [], ◌∷◌, ◌++◌, length, Option, Some, None, refl, sym, ap, ◌∙◌, arith, append_assoc, length-append}
 use Rattle.formula_tree.specs.declared.ast.Op.{Op}
 use Rattle.formula_tree.specs.declared.ast.Op.TheVariants.{Pow, Mul, Div, Add, Sub, Eq, Ne, Lt, Gt, Le, Ge, And, Or, Join}
 use Rattle.formula_tree.specs.declared.ast.Function.{Function as Coded}
@@ -12,7 +12,7 @@ use Rattle.formula_text.specs.declared.lexeme.Kind.TheVariants.{Constant}
 use Rattle.formula_text.specs.declared.lexeme.Lexeme.{Lexeme}
 use Rattle.formula_text.specs.declared.parse.Bracket.TheVariants.{Call}
 use Rattle.formula_text.specs.Tokens.{Token, tokens, more_tokens, called, closing, comma}
-use Rattle.formula_text.specs.Accepts.{Brackets, after, bracket_first, operand_first, operator_first, operator_of, level_of, next_level}
+use Rattle.formula_text.specs.Accepts.{Brackets, after, operand_first, operator_first, operator_of, level_of}
 use Rattle.formula_text.specs.Reads.{commaed, joined, Completes, Continues, Listed, Opens, Reads, ReadsCall, ReadsOperand}
 use Rattle.formula_text.proofs.Grows.{after-after}
 

@@ -1,5 +1,5 @@
 -- The text of a function is written argument by argument.
-use Rattle.std.proofs.Common.{◌≡◌, ℕ, zero, suc, ◌+◌, ◌≤◌, ◌<◌, length, get_or, take, map, List, [], ◌∷◌, ◌++◌, codes, arith, refl, sym, ap, ◌∙◌, append_assoc, append-nil}
+use Rattle.std.proofs.Common.{◌≡◌, ℕ, zero, suc, ◌≤◌, ◌<◌, length, get_or, take, map, List, [], ◌∷◌, ◌++◌, codes, arith, refl, sym, ap, ◌∙◌, append_assoc, append-nil}
 use Rattle.grid_address.specs.Place.{Place}
 use Rattle.range_names.specs.Names.{NameMap}
 use Rattle.formula_tree.specs.Tree.{Tree, call}
@@ -32,17 +32,6 @@ begun f = ap (λ x. codes "@" ++ x) (sym (append-nil (name_of f)))
 
 pub ended : (names : NameMap) (at : Place) (f : ℕ) (ts : List Tree) → (codes "@" ++ (name_of f ++ opened names at ts)) ++ end_of ts ≡ call_text names at f ts
 ended names at f ts = ap (λ x. codes "@" ++ x) (append_assoc (name_of f) (opened names at ts) (end_of ts))
-
--- the nodes of an argument are among those of all
-pub fewer_nodes : (es : List Expr) (i : ℕ) (d : Expr) → i < length es → nodes (tree_of (get_or es i d)) ≤ all_nodes (listed (map tree_of es))
-fewer_nodes [] i d h = absurd (omega arith)
-fewer_nodes (x ∷ xs) zero d h = omega arith
-fewer_nodes (x ∷ xs) (suc i) d h = omega (arith, fewer_nodes xs i d (omega arith))
-
-pub one_taken : (es : List Expr) (i : ℕ) (d : Expr) → i < length es → map tree_of (take (suc i) es) ≡ map tree_of (take i es) ++ (tree_of (get_or es i d) ∷ [])
-one_taken [] i d h = absurd (omega arith)
-one_taken (x ∷ xs) zero d h = refl
-one_taken (x ∷ xs) (suc i) d h = ap (λ l. tree_of x ∷ l) (one_taken xs i d (omega arith))
 
 pub all_taken : (es : List Expr) (n : ℕ) → length es ≤ n → take n es ≡ es
 all_taken [] zero h = refl

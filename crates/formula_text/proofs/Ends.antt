@@ -1,5 +1,5 @@
 -- A text behind its sign, cut off after the text itself was.
-use Rattle.std.proofs.Common.{◌≡◌, ◌&&◌, nat_le, List, ℕ, [], ◌∷◌, ◌++◌, length, take, refl, sym, ap, ◌∙◌}
+use Rattle.std.proofs.Common.{◌≡◌, ◌&&◌, nat_le, List, ℕ, [], ◌∷◌, ◌++◌, length, take, refl, ap, ◌∙◌}
 use Rattle.formula_text.specs.Printed.{sign_for}
 use Rattle.formula_text.proofs.Outputs.{cut_behind, whole_behind}
 

@@ -2,7 +2,6 @@
 use Rattle.std.proofs.Common.{◌≡◌, ℕ, ◌+◌, ◌≤◌, Bool, true, ◌&&◌, nat_le, nat_lt, List, [], ◌∷◌, ◌++◌, drop, Ok, Err, Some, refl, sym, ap, ◌∙◌, arith, append_assoc, length-drop}
 use Rattle.std.proofs.lemmas.Bool.Decides.{nat_tests}
 use Rattle.formula_tree.specs.declared.ast.Op.{Op}
-use Rattle.formula_tree.specs.declared.ast.Function.{Function as Coded}
 use Rattle.formula_tree.specs.Tree.{Tree, binary}
 use Rattle.formula_tree.specs.Shape.{level, top, lowest}
 use Rattle.formula_text.specs.declared.lexeme.Kind.{Kind}

@@ -18,7 +18,7 @@ skipped names cell (suc s) at [] h = absurd (omega arith)
 skipped names cell (suc s) at (b ∷ bs) h =
     skipped names cell s (at + 1) bs (omega arith) ∙ ap (λ k. lexed names cell 0 k (drop s bs)) (let e : at + 1 + s ≡ at + suc s = omega arith in e)
 
-here : (names : NameMap) (cell : Place) (at : ℕ) (ds : List ℕ) (len : ℕ) → (slice_index ds 0 == 32) ≡ false → len ≡ (part_found names cell at ds).len → 0 < len → len ≤ length ds →
+pub here : (names : NameMap) (cell : Place) (at : ℕ) (ds : List ℕ) (len : ℕ) → (slice_index ds 0 == 32) ≡ false → len ≡ (part_found names cell at ds).len → 0 < len → len ≤ length ds →
     lexed names cell 0 at ds ≡ part names cell at ds ∷ lexed names cell 0 (at + len) (drop len ds)
 here names cell at [] len n e p h = absurd (omega arith)
 here names cell at (b ∷ bs) zero n e p h = absurd (omega arith)

@@ -1,5 +1,5 @@
 -- The tree of a text that is accepted is a formula's.
-use Rattle.std.proofs.Common.{◌≡◌, ℕ, zero, suc, ◌+◌, ◌*◌, ◌≤◌, ◌<◌, max, Bool, true, false, cond, ◌&&◌, nat_le, List, [], ◌∷◌, ◌++◌, length, Result, Ok, Err, refl, sym, ap, ◌∙◌, subst, arith, length-append}
+use Rattle.std.proofs.Common.{◌≡◌, ℕ, suc, ◌+◌, ◌*◌, ◌≤◌, Bool, true, false, cond, ◌&&◌, nat_le, List, [], ◌∷◌, ◌++◌, length, Ok, Err, refl, subst, arith, length-append}
 use Rattle.std.proofs.lemmas.Bool.Decides.{nat_tests}
 use Rattle.std.specs.List.{list_all}
 use Rattle.formula_tree.specs.declared.ast.Function.{Function as Coded}
@@ -7,12 +7,11 @@ use Rattle.formula_tree.specs.declared.ast.Op.{Op}
 use Rattle.formula_tree.specs.declared.ast.Op.TheVariants.{Pow, Mul, Div, Add, Sub, Eq, Ne, Lt, Gt, Le, Ge, And, Or, Join}
 use Rattle.formula_tree.specs.Tree.{Tree, num, str, cell, span, group, neg, not, binary, call, Trees, no_trees, trees}
 use Rattle.formula_tree.specs.Table.{call_size, counts_of, is_one_of, lists_taken, takes}
-use Rattle.formula_tree.specs.Shape.{all_sizes, code_size, depth, every, every_one, greatest_depth, has_shape, is_bracketed, is_fine, is_short, nodes_size, not_negative, IsFormula}
+use Rattle.formula_tree.specs.Shape.{all_sizes, depth, every, every_one, greatest_depth, is_bracketed, is_fine, is_short, nodes_size, not_negative, IsFormula}
 use Rattle.formula_text.specs.declared.fault.ParseFault.{ParseFault}
 use Rattle.formula_text.specs.declared.lexeme.Kind.{Kind}
 use Rattle.formula_text.specs.declared.lexeme.Kind.TheVariants.{Num, Str, Cell, Span, Constant, Function, Infix, Not, Open, Close, Comma, Unclosed, Bad}
 use Rattle.formula_text.specs.declared.lexeme.Lexeme.{Lexeme}
-use Rattle.formula_text.specs.declared.parse.Bracket.{Bracket}
 use Rattle.formula_text.specs.declared.parse.Bracket.TheVariants.{Plain, Call}
 use Rattle.formula_text.specs.Tokens.{Token, tokens, more_tokens, number, text, place, places, constant, called, opening, closing, comma, front_minus, front_not, infix_op}
 use Rattle.formula_text.specs.Accepts.{after, bracket_first, bracket_row, close_row, comma_row, front_row, operand_first, operand_row, operator_first, operator_row, Brackets, Verdict}

@@ -1,10 +1,9 @@
 -- A number without a sign isn't negative.
-use Rattle.std.proofs.Common.{◌≡◌, ℕ, suc, zero, ◌+◌, ◌<◌, ◌≤◌, ◌&&◌, ◌==◌, Bool, true, false, cond, nat_le, List, [], ◌∷◌, length, take, Option, Some, None, refl, sym, ap, ◌∙◌, subst, arith}
+use Rattle.std.proofs.Common.{◌≡◌, ℕ, suc, zero, ◌<◌, ◌==◌, Bool, true, false, cond, List, [], ◌∷◌, take, Option, Some, None, refl, sym, ◌∙◌, subst, arith}
 use Rattle.std.proofs.lemmas.Bool.Decides.{nat_tests}
-use Rattle.fixed_value.specs.Decimals.{decimal_from, decimal_of, fraction_of, is_digit, is_minus, number_of, places_of, whole_digits, behind_digits, without_sign}
-use Rattle.fixed_value.specs.Numbers.{nearest, signed}
-use Rattle.fixed_value.specs.declared.decimal.Decimal.{Decimal}
-use Rattle.fixed_value.specs.declared.decimal.Decimal.TheVariants.{Num as decimal, TooLarge, NotNumber}
+use Rattle.fixed_value.specs.Decimals.{decimal_from, decimal_of, is_minus, places_of, whole_digits, behind_digits, without_sign}
+use Rattle.fixed_value.specs.Numbers.{signed}
+use Rattle.fixed_value.specs.declared.decimal.Decimal.TheVariants.{Num as decimal, TooLarge}
 use Rattle.formula_text.specs.Fine.{is_fine_kind}
 use Rattle.formula_text.specs.Operands.{number_found, number_kind, number_len}
 

@@ -1,9 +1,8 @@
 -- What the parser finds.
-use Rattle.std.specs.Prelude.{◌≡◌, ℕ, ◌+◌, [], ◌∷◌, ◌++◌, ◌<◌, ◌≤◌, true, Bool, false, List, length, Result, Ok, Err, Option, Some, None, ◌⊎◌}
-use Rattle.formula_tree.specs.declared.ast.Expr.{Expr}
+use Rattle.std.specs.Prelude.{◌≡◌, ℕ, ◌+◌, [], ◌∷◌, ◌++◌, ◌<◌, ◌≤◌, true, Bool, false, List, length, Ok, Err, ◌⊎◌}
 use Rattle.formula_tree.specs.declared.ast.Function.{Function as Coded}
 use Rattle.formula_tree.specs.declared.ast.Op.{Op}
-use Rattle.formula_tree.specs.View.{listed, tree_of}
+use Rattle.formula_tree.specs.View.{listed}
 use Rattle.formula_tree.specs.Table.{counts_of, takes}
 use Rattle.formula_tree.specs.Tree.{Tree, num, str, cell, span, group, neg, not, binary, call, Trees, no_trees, trees}
 use Rattle.formula_tree.specs.Shape.{count, every, every_one, is_bracketed, lowest, top}
@@ -158,8 +157,3 @@ comma_first (l ∷ ls) = is_comma l.kind
 pub record Spells (ls : List Lexeme) (t : Tree) : Type 0 where
   pub same : operand_first ls [] ≡ Ok (tokens t)
   pub well : every is_bracketed t ≡ true
-
--- the answer is the tree, unless memory ran out
-abbrev pub IsTree : Result Expr ParseFault → Tree → Type 0
-IsTree (Ok e) t = tree_of e ≡ t
-IsTree (Err f) t = f ≡ Memory

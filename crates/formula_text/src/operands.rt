@@ -10,10 +10,10 @@ ghost use Rattle.fixed_value.specs.Decimals.{decimal_of};
 use crate::ParseFault;
 use crate::functions::{function_named, is_left_out};
 use crate::lexeme::{Found, Kind};
-use crate::words::{is_digit, is_letter};
+use crate::words::is_digit;
 use fixed_value::{Decimal, digits_len, read_decimal};
 use formula_tree::{Function, takes};
-use lics_text::{Text, TextFault};
+use lics_text::{Text, TextFault, is_letter};
 use std::alloc::Global;
 
 // The function @@.

@@ -1,17 +1,16 @@
 // From a formula to its text.
-ghost use Rattle.std.specs.Prelude.{◌≡◌, ◌≤◌, ◌<◌, IfSome, IfNone, Some, None, nat_le, length, map, take, ◌++◌, [], true, codes};
-ghost use Rattle.std.specs.Option.{option_copied};
+ghost use Rattle.std.specs.Prelude.{◌≡◌, IfSome, IfNone, Some, None, nat_le, length, map, take, ◌++◌, [], true, codes};
 ghost use Rattle.formula_tree.specs.View.{tree_of};
 ghost use Rattle.grid_address.specs.Axes.{is_fixed};
+ghost use Rattle.formula_text.specs.Texts.{SpelledBy};
 ghost use Rattle.formula_text.specs.Printed.{alike, call_text, cell_text, in_order, end_of, mark, name_of_cell, name_of_corners, op_text, printed, reference_text, same, sign_for, span_text, text_of, written};
 
 use crate::functions::name_of;
 use crate::output::{Output, put};
-use crate::words::is_letter;
 use fixed_value::write_short;
 use formula_tree::{Expr, ExprList, Formula, Function, Op};
 use grid_address::{Axis, Cell, Ref, Span, column_text, row_text};
-use lics_text::Line;
+use lics_text::{Line, is_letter};
 use range_names::Names;
 
 fn is_fixed(axis: Axis) -> bool
@@ -253,13 +252,16 @@ fn signed(text: &[u8]) -> Output
 /// capitals, two dots in spans, `,` between arguments, and numbers with as many decimals as they need. A cell or a
 /// span whose coordinates are all relative or all absolute is written as the first of its names that is a word and no
 /// address. A `+` stands in front where the text would begin with a letter or a quote. The first 240 bytes are written
-/// into the line, which is empty before, and the answer tells whether that is all. (Release 2 manual; the order of
-/// names is this project's choice.)
+/// into the line, which is empty before, and the answer tells whether that is all; then the text is read as the formula.
+/// (Release 2 manual; the order of names is this project's choice.)
 pub fn print(formula: &Formula, at: Cell, names: &Names, into: &mut Line) -> bool
     requires { into.old ≡ [] }
     ensures line { into.new ≡ take 240 (printed names.now at formula.now) }
     ensures whole { result ≡ nat_le (length (printed names.now at formula.now)) 240 }
+    ensures again { result ≡ true → SpelledBy names.now at into.new formula.now }
 {
+    at.is_on_sheet();
+    names.are_keyed();
     let text = text_of(formula.expr(), at, names);
     let out = signed(text.line.bytes());
     into.put_all(out.line.bytes());

@@ -17,10 +17,11 @@ fn begins_with(bytes: &[u8], word: &[u8]) -> bool
 // The operator in words that stands first, from its # on.
 #[tactic(auto, unfolding(crate::specs::Signs::hash_found))]
 pub fn hash_found(bytes: &[u8], at: usize) -> Found
+    requires { 0 < length bytes.now }
     ensures found { result ≡ hash_found at bytes.now }
     ensures fine { is_fine_kind result.kind ≡ true }
     ensures low { 0 < result.len }
-    ensures high { 0 < length bytes.now → result.len ≤ length bytes.now }
+    ensures high { result.len ≤ length bytes.now }
 {
     if begins_with(bytes, b"#AND#") {
         Found {

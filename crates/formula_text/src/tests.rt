@@ -66,6 +66,12 @@ fn operators_bind_by_their_levels(rt: HostRuntime) -> Result<(), Fail> {
         (b"2-3+4", Some(Op::Add)),
         (b"2+3-4", Some(Op::Sub)),
         (b"2^3*4", Some(Op::Mul)),
+        (b"2^3^2", Some(Op::Pow)),
+        (b"\"a\"=\"A\"", Some(Op::Eq)),
+        (b"@SUM(A1..A3)", None),
+        (b"@AVG(A1..A3)", None),
+        (b"@IF(@ISERR(1/0),7,8)", None),
+        (b"#NOT#0#AND#1", Some(Op::And)),
         (b"1<2=3", Some(Op::Eq)),
         (b"1=2<3", Some(Op::Lt)),
         (b"1&2>=3", Some(Op::Join)),
@@ -83,6 +89,31 @@ fn operators_bind_by_their_levels(rt: HostRuntime) -> Result<(), Fail> {
     ] {
         match read(rt.alloc(), text, HOME, &names) {
             Ok(formula) => assert_eq!(rt; top_of(&formula), op),
+            Err(fault) => assert_eq!(rt; fault, ParseFault::TooLong),
+        }
+    }
+    Ok(())
+}
+
+#[test]
+fn equal_levels_group_from_the_left(rt: HostRuntime) -> Result<(), Fail> {
+    let names = Names::new(rt.alloc());
+    for (text, first) in [
+        (b"2^3^2".as_slice(), Op::Pow),
+        (b"1/2*3", Op::Div),
+        (b"1-2+3", Op::Sub),
+        (b"1<2>=3", Op::Lt),
+        (b"1#OR#2#AND#3", Op::Or),
+        (b"1&2&3", Op::Join),
+    ] {
+        match read(rt.alloc(), text, HOME, &names) {
+            Ok(formula) => match formula.expr() {
+                Expr::Binary(_, left, _) => match &**left {
+                    Expr::Binary(op, _, _) => assert_eq!(rt; *op, first),
+                    _ => assert!(rt; false),
+                },
+                _ => assert!(rt; false),
+            },
             Err(fault) => assert_eq!(rt; fault, ParseFault::TooLong),
         }
     }

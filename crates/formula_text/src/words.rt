@@ -1,24 +1,16 @@
 // Addresses and names in a formula.
 ghost use Rattle.std.specs.Prelude.{◌≡◌, ◌≤◌, ◌<◌, ◌+◌, true, length};
 ghost use Rattle.std.specs.List.{list_all};
-ghost use Rattle.lics_text.specs.Bytes.{is_letter};
 ghost use Rattle.grid_address.specs.Place.{same_place};
-ghost use Rattle.grid_address.specs.Progress.{count_dots, is_digit};
+ghost use Rattle.grid_address.specs.Progress.{is_digit};
 ghost use Rattle.formula_text.specs.Fine.{is_fine_kind};
 ghost use Rattle.formula_text.specs.Words.{address_found, corner_behind, has_dollar, is_word_byte, letters_len, name_kind, named_span, plain_address, reference_from, reference_in, span_kind, with_corner, without_dollar, word_found, word_len};
 
 use crate::ParseFault;
 use crate::lexeme::{Found, Kind};
-use grid_address::{Cell, Ref, Span, read_cell};
-use lics_text::Line;
+use grid_address::{Cell, Ref, Span, count_dots, read_cell};
+use lics_text::{Line, is_letter};
 use range_names::Names;
-
-// A letter of either case.
-pub fn is_letter(byte: u8) -> bool
-    ensures { result ≡ is_letter byte }
-{
-    byte >= b'A' && byte <= b'Z' || byte >= b'a' && byte <= b'z'
-}
 
 pub fn is_digit(byte: u8) -> bool
     ensures { result ≡ is_digit byte }
@@ -105,20 +97,6 @@ fn reference_in(word: &[u8], cell: Cell) -> Option<Ref>
     ensures { result ≡ reference_in cell word.now }
 {
     reference_from(without_dollar(word), cell, has_dollar(word))
-}
-
-// How many dots part two corners: none, one or two.
-fn count_dots(bytes: &[u8]) -> usize
-    ensures count { result ≡ count_dots bytes.now }
-    ensures within { result ≤ length bytes.now }
-{
-    if bytes.len() == 0 || bytes[0] != b'.' {
-        0
-    } else if 1 < bytes.len() && bytes[1] == b'.' {
-        2
-    } else {
-        1
-    }
 }
 
 // The corner behind so many dots.

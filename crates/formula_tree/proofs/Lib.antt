@@ -1,3 +1,4 @@
 pub mod Edges
 pub mod Parts
+pub mod Ranged
 pub mod Rows

@@ -10,7 +10,10 @@ use Rattle.formula_tree.specs.Nodes.{all_nodes, listed_parts, nodes, parts}
 use Rattle.formula_tree.specs.Shape.{all_sizes, code_size, every, every_one, has_shape, is_fine, node_size, nodes_size}
 use Rattle.formula_tree.specs.View.{listed}
 
--- each node of each tree is fine
+-- each node of each tree passes a test
+abbrev pub all_pass : (Tree → Bool) → List Tree → Bool
+all_pass test ts = list_all (every test) ts
+
 abbrev pub all_fine : List Tree → Bool
 all_fine ts = list_all (every is_fine) ts
 
@@ -82,16 +85,16 @@ parts_listed (t ∷ ts) = ap (λ l. t ∷ l) (parts_listed ts)
 pub fewer : (below : List Tree) (t : Tree) → sum_by nodes (below ++ parts t) < sum_by nodes (below ++ t ∷ [])
 fewer below t = omega (arith, sum_by-append nodes below (parts t), sum_by-append nodes below (t ∷ []), larger t)
 
-fine_last : (a f p : Bool) → f ≡ true → (a && p) ≡ (a && ((f && p) && true))
-fine_last true true true h = refl
-fine_last true true false h = refl
-fine_last false f p h = refl
-fine_last true false p h = cc
+last_passes : (a f p : Bool) → f ≡ true → (a && p) ≡ (a && ((f && p) && true))
+last_passes true true true h = refl
+last_passes true true false h = refl
+last_passes false f p h = refl
+last_passes true false p h = cc
 
-pub as_fine : (below : List Tree) (t : Tree) → is_fine t ≡ true → all_fine (below ++ parts t) ≡ all_fine (below ++ t ∷ [])
-as_fine below t h =
-    list_all-append (every is_fine) below (parts t) ∙ fine_last (all_fine below) (is_fine t) (all_fine (parts t)) h
-    ∙ ap (λ b. all_fine below && (b && true)) (sym (split is_fine t)) ∙ sym (list_all-append (every is_fine) below (t ∷ []))
+pub passes_on : (test : Tree → Bool) (below : List Tree) (t : Tree) → test t ≡ true → all_pass test (below ++ parts t) ≡ all_pass test (below ++ t ∷ [])
+passes_on test below t h =
+    list_all-append (every test) below (parts t) ∙ last_passes (all_pass test below) (test t) (all_pass test (parts t)) h
+    ∙ ap (λ b. all_pass test below && (b && true)) (sym (split test t)) ∙ sym (list_all-append (every test) below (t ∷ []))
 
 not_fine : (a f p : Bool) → f ≡ false → (a && ((f && p) && true)) ≡ false
 not_fine true false p h = refl

@@ -1,5 +1,5 @@
 -- The arguments of a call, as a list.
-use Rattle.std.proofs.Common.{◌≡◌, ℕ, ◌+◌, ◌≤◌, true, ◌&&◌, nat_le, max, map, List, [], ◌∷◌, refl, ap, ◌∙◌, sym, arith}
+use Rattle.std.proofs.Common.{◌≡◌, ℕ, zero, suc, ◌+◌, ◌≤◌, ◌<◌, true, ◌&&◌, nat_le, max, map, get_or, take, List, [], ◌∷◌, refl, ap, ◌∙◌, sym, arith}
 use Rattle.std.specs.List.{list_all, list_any}
 use Rattle.std.specs.Prelude.{flat_map, ◌++◌, ◌||◌, length}
 use Rattle.grid_address.specs.Place.{Place}
@@ -12,6 +12,7 @@ use Rattle.formula_tree.specs.declared.ast.Expr.{Expr, Row_of-Expr, end_of-Expr,
 use Rattle.formula_tree.specs.declared.ast.Expr.TheVariants.{Call', Call}
 use Rattle.formula_tree.specs.Tree.{Tree, num, str, cell, span, group, neg, not, binary, call, trees}
 use Rattle.formula_tree.specs.View.{tree_of, row_trees, listed}
+use Rattle.formula_tree.specs.Nodes.{all_nodes, nodes}
 use Rattle.formula_tree.specs.Shape.{count, depth, greatest_depth}
 
 abbrev row_of : Expr → (n : Count) × Row_of-Expr n
@@ -63,3 +64,14 @@ one_deep (call f args) = omega arith
 pub spans_listed : (at : Place) (es : List Expr) → flat_map (λ e. spans_of (tree_of e) at) es ≡ spans_of_all (listed (map tree_of es)) at
 spans_listed at [] = refl
 spans_listed at (e ∷ es) = ap (λ l. spans_of (tree_of e) at ++ l) (spans_listed at es)
+
+-- the nodes of an argument are among those of all
+pub fewer_nodes : (es : List Expr) (i : ℕ) (d : Expr) → i < length es → nodes (tree_of (get_or es i d)) ≤ all_nodes (listed (map tree_of es))
+fewer_nodes [] i d h = absurd (omega arith)
+fewer_nodes (x ∷ xs) zero d h = omega arith
+fewer_nodes (x ∷ xs) (suc i) d h = omega (arith, fewer_nodes xs i d (omega arith))
+
+pub one_taken : (es : List Expr) (i : ℕ) (d : Expr) → i < length es → map tree_of (take (suc i) es) ≡ map tree_of (take i es) ++ (tree_of (get_or es i d) ∷ [])
+one_taken [] i d h = absurd (omega arith)
+one_taken (x ∷ xs) zero d h = refl
+one_taken (x ∷ xs) (suc i) d h = ap (λ l. tree_of x ∷ l) (one_taken xs i d (omega arith))

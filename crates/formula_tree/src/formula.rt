@@ -1,7 +1,8 @@
 // Trees with their invariant.
-ghost use Rattle.std.specs.Prelude.{◌≡◌, IfOk};
+ghost use Rattle.std.specs.Prelude.{◌≡◌, true, IfOk};
 ghost use Rattle.formula_tree.specs.Formulas.{formula_of, Gives};
-ghost use Rattle.formula_tree.specs.Shape.{IsFormula};
+ghost use Rattle.formula_tree.specs.Ranges.{is_ranged};
+ghost use Rattle.formula_tree.specs.Shape.{every, IsFormula};
 ghost use Rattle.formula_tree.specs.Spans.{is_volatile, spans_of};
 ghost use Rattle.formula_tree.specs.View.{tree_of};
 
@@ -40,11 +41,14 @@ impl Model for Formula {
     ghost coded = { coded_tree };
 
     ghost use Rattle.formula_tree.specs.View.{tree_of};
-    ghost use Rattle.formula_tree.specs.Shape.{IsFormula};
+    ghost use Rattle.formula_tree.specs.Shape.{every, IsFormula};
 
     ghost view = { λ f. tree_of f.expr };
 
-    ghost invariant = { λ f. IsFormula (tree_of f.expr) };
+    ghost use Rattle.std.specs.Prelude.{◌≡◌, true};
+    ghost use Rattle.formula_tree.specs.Ranges.{is_ranged};
+
+    ghost invariant = { λ f. IsFormula (tree_of f.expr) × (every is_ranged (tree_of f.expr) ≡ true) };
 }
 
 impl Formula {
@@ -69,8 +73,14 @@ impl Formula {
     pub fn expr(&self) -> &Expr
         ensures value { tree_of result.now ≡ self.now }
         ensures shape { IsFormula self.now }
+        ensures ranges { every is_ranged self.now ≡ true }
     {
         &self.expr
+    }
+
+    /// The memory that the formula is in.
+    pub fn alloc(&self) -> Global {
+        self.alloc
     }
 
     /// An equal formula.

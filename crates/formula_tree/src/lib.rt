@@ -5,6 +5,7 @@ mod ast;
 mod copies;
 mod depth;
 mod formula;
+mod ranges;
 mod reads;
 mod shape;
 mod table;

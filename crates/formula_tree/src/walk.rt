@@ -1,10 +1,12 @@
 // The shape of a whole tree, seen without recursion, since a tree that is refused may be deep.
-ghost use Rattle.std.specs.Prelude.{◌≡◌, ◌++◌, ◌∷◌, [], IfOk, OnOk, map};
+ghost use Rattle.std.specs.Prelude.{◌≡◌, ◌++◌, ◌∷◌, [], true, IfOk, OnOk, map};
 ghost use Rattle.formula_tree.specs.Nodes.{parts};
-ghost use Rattle.formula_tree.specs.Shape.{has_shape};
+ghost use Rattle.formula_tree.specs.Ranges.{is_ranged};
+ghost use Rattle.formula_tree.specs.Shape.{every, has_shape};
 ghost use Rattle.formula_tree.specs.View.{tree_of};
 
 use crate::Expr;
+use crate::ranges::is_ranged;
 use crate::shape::{is_fine, node_size};
 use lics_text::Memory;
 use std::alloc::Global;
@@ -14,12 +16,14 @@ const MOST_CODE: usize = 65_520;
 
 /// Whether each node of a tree is fine, and all of them take few enough bytes of code.
 pub fn has_shape(alloc: Global, expr: &Expr) -> Result<bool, Memory>
-    ensures { IfOk result (λ b. b ≡ has_shape (tree_of expr.now)) }
+    ensures shape { IfOk result (λ b. b ≡ has_shape (tree_of expr.now)) }
+    ensures ranges { IfOk result (λ b. b ≡ true → every is_ranged (tree_of expr.now) ≡ true) }
 {
     let mut stack: Vec<&Expr> = Vec::new(alloc);
     let mut code = 1;
     put(&mut stack, expr)?;
     while let Some(next) = stack.pop() {
+        is_ranged(next);
         code += node_size(next);
         if !is_fine(next) || code > MOST_CODE {
             return Ok(false);

@@ -54,4 +54,11 @@ impl CellList {
     {
         self.items.get(place)
     }
+
+    /// The items as a slice.
+    pub fn as_slice(&self) -> &[Cell]
+        ensures { result.now ≡ self.now }
+    {
+        self.items.as_slice()
+    }
 }

@@ -21,7 +21,7 @@ pub use cell_list::CellList;
 pub use decimal::{DecimalText, decimal_text};
 pub use format::Format;
 pub use no_room::NoRoom;
-pub use reading::{NotAnAddress, read_cell, read_span};
+pub use reading::{NotAnAddress, count_dots, read_cell, read_span};
 pub use reference::{Axis, Ref};
 pub use span::Span;
 pub use span_list::SpanList;

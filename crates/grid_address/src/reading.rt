@@ -135,19 +135,25 @@ fn cell_of(front: &Front) -> Option<Cell>
     }
 }
 
-// How many dots part two cells here: none, one or two.
-fn dots_at(bytes: &[u8], at: usize) -> usize
-    requires { at ≤ length bytes.now }
-    ensures { result ≡ count_dots (drop at bytes.now) }
+/// How many dots stand in front, of those that part two cells: none, one or two.
+pub fn count_dots(bytes: &[u8]) -> usize
+    ensures count { result ≡ count_dots bytes.now }
+    ensures within { result ≤ length bytes.now }
 {
-    if at >= bytes.len() || bytes[at] != b'.' {
-        return 0;
-    }
-    if at + 1 < bytes.len() && bytes[at + 1] == b'.' {
+    if bytes.len() == 0 || bytes[0] != b'.' {
+        0
+    } else if 1 < bytes.len() && bytes[1] == b'.' {
         2
     } else {
         1
     }
+}
+
+fn dots_at(bytes: &[u8], at: usize) -> usize
+    requires { at ≤ length bytes.now }
+    ensures { result ≡ count_dots (drop at bytes.now) }
+{
+    count_dots(&bytes[at..])
 }
 
 /// Reads the address of a cell: a column, A to IV in letters of either case, and a row, 1 to 8192 without a

@@ -1,4 +1,4 @@
-ghost use Rattle.std.specs.Prelude.{◌≡◌, ◌≤◌, ◌<◌, ◌++◌, ◌∷◌, [], length, OnOk, OnErr, IfSome, IfNone, Some, slice_get};
+ghost use Rattle.std.specs.Prelude.{◌≡◌, ◌≤◌, ◌<◌, ◌++◌, ◌∷◌, [], length, OnOk, OnErr, IfOk, IfSome, IfNone, Some, slice_get};
 
 use crate::{NoRoom, Span};
 use std::alloc::Global;
@@ -53,5 +53,23 @@ impl SpanList {
         ensures some { IfSome result (λ s. (place < length self.now) × (slice_get self.now place ≡ Some s.now)) }
     {
         self.items.get(place)
+    }
+
+    /// The items as a slice.
+    pub fn as_slice(&self) -> &[Span]
+        ensures { result.now ≡ self.now }
+    {
+        self.items.as_slice()
+    }
+
+    /// An equal list.
+    pub fn copy(&self, alloc: Global) -> Result<SpanList, NoRoom>
+        ensures { IfOk result (λ l. l ≡ self.now) }
+    {
+        let mut list = SpanList::new(alloc);
+        for span in self.items.as_slice() {
+            list.push(*span)?;
+        }
+        Ok(list)
     }
 }

@@ -45,7 +45,7 @@ impl TextByte {
 }
 
 /// The capital of a small letter, and any other byte itself.
-pub(crate) fn fold(byte: u8) -> u8
+pub fn fold(byte: u8) -> u8
     ensures { result ≡ folded byte }
 {
     if byte >= b'a' && byte <= b'z' {
@@ -66,7 +66,8 @@ pub(crate) fn lower(byte: u8) -> u8
     }
 }
 
-pub(crate) fn is_letter(byte: u8) -> bool
+/// Whether a byte is a letter, A to Z in either case.
+pub fn is_letter(byte: u8) -> bool
     ensures { result ≡ is_letter byte }
 {
     let capital = fold(byte);

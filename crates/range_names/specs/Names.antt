@@ -1,11 +1,11 @@
 -- Names are a finite map from folded texts of 1 to 15 bytes to spans.
-use Rattle.std.specs.Prelude.{ℕ, ◌-◌, ◌==◌, ◌&&◌, ◌||◌, not, nat_lt, Bool, false, Option, Some, None, List, [], ◌∷◌, ◌++◌, length, map, replicate, position, is_some, get_or, take, if◌then◌else◌}
+use Rattle.std.specs.Prelude.{◌≡◌, ◌≤◌, ℕ, ◌-◌, ◌==◌, ◌&&◌, ◌||◌, not, nat_lt, Bool, false, Option, Some, None, List, [], ◌∷◌, ◌++◌, length, map, replicate, position, is_some, get_or, take, if◌then◌else◌}
 use Rattle.std.specs.List.{list_all}
 use Rattle.std.specs.Ordering.{nat_cmp, is_gt}
 use Rattle.std.specs.declared.cmp.Ordering.{Ordering}
 use Rattle.std.specs.Cmp.Lexicographic.{slice_cmp}
 use Rattle.std.specs.Coded.{Coded, coded_list, coded_ℕ}
-use Rattle.std.specs.FinMap.{FinMap, code, entries}
+use Rattle.std.specs.FinMap.{FinMap, code, entries, get}
 use Rattle.lics_text.specs.Bytes.{folded, is_letter}
 use Rattle.grid_address.specs.Place.{same_place, coded_extent, Extent}
 use Rattle.grid_address.specs.Progress.{address_in, is_digit}
@@ -30,6 +30,14 @@ key_of name = map folded name ++ replicate (15 - length name) 0
 abbrev pub name_in : List ℕ → List ℕ
 name_in [] = []
 name_in (b ∷ bs) = if b == 0 then [] else b ∷ name_in bs
+
+-- a key that a name has
+abbrev pub IsKey : List ℕ → Type 0
+IsKey key = (length (name_in key) ≤ 15) × (key_of (name_in key) ≡ key)
+
+-- each key is that of its name
+abbrev pub AreKeys : NameMap → Type 0
+AreKeys names = (key : List ℕ) (span : Extent) → get names key ≡ Some span → IsKey key
 
 -- a space in front, or the first byte below 32
 abbrev pub bad_place : List ℕ → Option ℕ

@@ -1,20 +1,9 @@
 // Names as keys: folded, with zeros up to 15 bytes.
 ghost use Rattle.std.specs.Prelude.{◌≡◌, ◌≤◌, ◌<◌, ◌==◌, get_or, length, Some, None, IfOk, IfErr, position, nat_lt};
-ghost use Rattle.lics_text.specs.Bytes.{folded};
 ghost use Rattle.range_names.specs.Names.{bad_place, fault_of, key_of, name_in};
 
 use crate::NameFault;
-
-// A small letter is read as its capital.
-fn fold(byte: u8) -> u8
-    ensures { result ≡ folded byte }
-{
-    if byte >= b'a' && byte <= b'z' {
-        byte - 32
-    } else {
-        byte
-    }
-}
+use lics_text::fold;
 
 // The key of at most 15 bytes.
 pub fn key_of(name: &[u8]) -> [u8; 15]

@@ -3,7 +3,7 @@ ghost use Rattle.std.specs.Prelude.{◌≡◌, ◌≤◌, ◌⊎◌, length, OnO
 ghost use Rattle.std.specs.FinMap as namemap;
 ghost use Rattle.std.specs.BTreeMap.{IsOrdered};
 ghost use Rattle.std.specs.Ordering.{is_gt};
-ghost use Rattle.range_names.specs.Names.{fault_of, key_of, name_cmp, name_of_span, named, next_after, next_name, same_extent};
+ghost use Rattle.range_names.specs.Names.{fault_of, key_of, name_cmp, name_of_span, named, next_after, next_name, same_extent, AreKeys};
 ghost use Rattle.range_names.specs.declared.fault.NameFault.TheVariants as cause;
 
 use crate::NameFault;
@@ -30,6 +30,10 @@ impl Model for Names {
     ghost coded = { coded_names };
 
     ghost view = { λ n. namemap.from_entries n.map.entries };
+
+    ghost use Rattle.range_names.specs.Names.{AreKeys};
+
+    ghost invariant = { λ n. AreKeys (namemap.from_entries n.map.entries) };
 }
 
 impl Names {
@@ -86,6 +90,13 @@ impl Names {
             return None;
         }
         self.map.get(&key_of(name)).copied()
+    }
+
+    /// Each key is that of its name. Nothing is done: the contract says what all names keep.
+    pub fn are_keyed(&self)
+        ensures { AreKeys self.now }
+    {
+        let _ = &self.map;
     }
 
     /// The first name of a span, in byte order, among those that are words and no addresses: letters, digits and _

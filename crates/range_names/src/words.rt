@@ -1,17 +1,10 @@
 // Names that can be written for their spans.
 ghost use Rattle.std.specs.Prelude.{◌≡◌};
 ghost use Rattle.std.specs.List.{list_all};
-ghost use Rattle.lics_text.specs.Bytes.{is_letter};
 ghost use Rattle.range_names.specs.Names.{is_plain, is_word, is_word_byte};
 
 use grid_address::read_cell;
-
-// A letter of either case.
-fn is_letter(byte: u8) -> bool
-    ensures { result ≡ is_letter byte }
-{
-    byte >= b'A' && byte <= b'Z' || byte >= b'a' && byte <= b'z'
-}
+use lics_text::is_letter;
 
 fn is_word_byte(byte: u8) -> bool
     ensures { result ≡ is_word_byte byte }

@@ -1,5 +1,4 @@
-use Rattle.std.proofs.Common.{◌≡◌, ◌+◌, ◌-◌, ◌≤◌, ◌<◌, ◌++◌, true, not, length, take, ap, ◌∙◌, arith}
-use Rattle.std.proofs.lemmas.Bool.Decides.{nat_tests}
+use Rattle.std.proofs.Common.{◌≡◌, ◌-◌, ◌++◌, true, length, take, ap, ◌∙◌, arith}
 use Rattle.formula_text.proofs.Outputs.{all_written, cut_written}
 use Rattle.formula_text.proofs.output.put.Goals as goal
 

@@ -1,12 +1,11 @@
 use Rattle.std.proofs.Common.{◌≡◌, suc, ◌+◌, ◌++◌, ◌∷◌, [], codes, map, take, refl, sym, ap, ◌∙◌, arith}
-use Rattle.formula_tree.specs.Tree.{call}
 use Rattle.formula_tree.specs.Nodes.{all_nodes, nodes}
 use Rattle.formula_tree.specs.View.{listed, tree_of, trees_in}
-use Rattle.formula_tree.proofs.Rows.{tree_of-Call}
+use Rattle.formula_tree.proofs.Rows.{fewer_nodes, one_taken, tree_of-Call}
 use Rattle.formula_text.specs.Functions.{name_of}
 use Rattle.formula_text.specs.Printed.{call_text, end_of, mark_before, op_text, opened, text_of, written}
 use Rattle.formula_text.proofs.Outputs.{two, three}
-use Rattle.formula_text.proofs.Calls.{all_taken, begun, begun_more, call_is, comma_next, ended, fewer_nodes, one_taken}
+use Rattle.formula_text.proofs.Calls.{all_taken, begun, begun_more, call_is, comma_next, ended}
 use Rattle.formula_text.proofs.printing.+print.Goals as goal
 
 pub put_tree-returns-in-Str : goal.put_tree-returns-in-Str

@@ -1,5 +1,11 @@
-use Rattle.std.proofs.Common.{◌≡◌, ◌++◌, ◌&&◌, true, false, nat_le, length, take, sym, ap, ◌∙◌, arith}
-use Rattle.formula_text.specs.Printed.{text_of}
+use Rattle.std.proofs.Common.{◌≡◌, ◌≤◌, ◌++◌, ◌&&◌, true, false, nat_le, List, ℕ, length, take, sym, ap, ◌∙◌, subst, arith}
+use Rattle.std.proofs.lemmas.Bool.Decides.{nat_tests}
+use Rattle.std.proofs.lemmas.List.{take_all}
+use Rattle.formula_tree.specs.Shape.{code_size, every, is_fine}
+use Rattle.formula_text.specs.Printed.{printed, text_of}
+use Rattle.formula_text.specs.Texts.{SpelledBy}
+use Rattle.formula_text.proofs.Again.{spelled}
+use Rattle.formula_text.proofs.Cuts.{left}
 use Rattle.formula_text.proofs.Ends.{printed_line, printed_whole}
 use Rattle.formula_text.proofs.printing.print.Goals as goal
 
@@ -32,3 +38,21 @@ returns-else-out-clause-whole c =
     let shown : c.bytes.result.now ≡ take 240 text = c.bytes.ensures.bytes ∙ c.text_of-text.ensures.line ∙ ap (λ x. take 240 (text_of names c.args.at x)) c.expr.ensures.value in
     let told : c.signed-out.result.whole ≡ false = grind arith in
     told ∙ ap (λ b. b && nat_le (length text) 240) (sym (sym c.signed-out.ensures.whole ∙ told)) ∙ printed_whole text c.bytes.result.now shown
+
+pub returns-then-out-clause-again : goal.returns-then-out-clause-again
+returns-then-out-clause-again c = λ told.
+    (let names = c.args.names.now in
+    let cell = c.args.at in
+    let tree = c.args.formula.now in
+    let text = printed names cell tree in
+    let fits : nat_le (length text) 240 ≡ true = sym (returns-then-out-clause-whole c) ∙ told in
+    let short : length text ≤ 240 = grind (arith, nat_tests, fits) in
+    let line : c.put_all.new.self ≡ text = returns-then-out-clause-line c ∙ take_all 240 text short in
+    let fine = left (every is_fine tree) (nat_le (code_size tree) 65520) c.expr.ensures.shape.shaped in
+    subst (λ (l : List ℕ). SpelledBy names cell l tree) (sym line) (spelled names cell c.are_keyed.ensures c.is_on_sheet.ensures tree fine c.expr.ensures.ranges short))
+
+pub returns-else-out-clause-again : goal.returns-else-out-clause-again
+returns-else-out-clause-again c = λ told. absurd (no_true (sym c.if-out.false ∙ told))
+  where
+    no_true : false ≡ true → ⊥
+    no_true h = absurd cc

@@ -1,6 +1,5 @@
-use Rattle.std.proofs.Common.{◌≤◌, ◌≡◌, true, length, sym, ap, ◌∙◌, subst, arith}
+use Rattle.std.proofs.Common.{◌∙◌, subst, arith}
 use Rattle.formula_tree.specs.View.{tree_of}
-use Rattle.formula_text.specs.Fine.{are_fine}
 use Rattle.formula_text.specs.Lexed.{lexed}
 use Rattle.formula_text.specs.Reads.{Spells}
 use Rattle.formula_text.proofs.Only.{only}

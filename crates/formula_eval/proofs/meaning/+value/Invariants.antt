@@ -1,0 +1,21 @@
+use Rattle.std.proofs.Common.{◌≡◌, ◌+◌, ◌*◌, map, take}
+use Rattle.formula_tree.specs.Nodes.{all_nodes, nodes}
+use Rattle.formula_tree.specs.View.{listed, tree_of}
+use Rattle.formula_eval.specs.Mean.{arguments_at}
+use Rattle.formula_eval.specs.Scenes.{world_of}
+use Rattle.formula_eval.proofs.meaning.+value.Given as goal
+
+abbrev pub decreases-value_of : goal.decreases-value_of
+decreases-value_of g l = 4 * nodes (tree_of l.expr.now)
+
+abbrev pub decreases-call_value : goal.decreases-call_value
+decreases-call_value g l = 4 * all_nodes (listed (map tree_of l.exprs.now)) + 2
+
+abbrev pub decreases-arguments_of : goal.decreases-arguments_of
+decreases-arguments_of g l = 4 * all_nodes (listed (map tree_of l.exprs.now)) + 1
+
+abbrev pub decreases-chosen : goal.decreases-chosen
+decreases-chosen g l = 4 * all_nodes (listed (map tree_of l.exprs.now)) + 1
+
+abbrev pub invariant-arguments_of-loop-expr : goal.invariant-arguments_of-loop-expr
+invariant-arguments_of-loop-expr g l = l.arguments.items ≡ arguments_at (listed (map tree_of (take l.expr-index l.exprs))) l.at (world_of (g.K.Look.sight l.look) l.scene)

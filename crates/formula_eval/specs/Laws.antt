@@ -1,0 +1,180 @@
+-- A meaning is never Blank, and a formula that isn't volatile means what the cells that it reads make of it.
+use Rattle.std.specs.Prelude.{◌≡◌, ℕ, ◌==◌, ◌||◌, refl, Bool, true, false, cond, List, [], ◌∷◌, ◌++◌}
+use Rattle.std.specs.List.{list_any}
+use Rattle.std.proofs.Common.{ap, sym, ◌∙◌, arith, inl, inr}
+use Rattle.std.proofs.lemmas.Bool.{cases_Bool}
+use Rattle.std.proofs.lemmas.Bool.Decides.{nat_tests}
+use Rattle.grid_address.specs.Leads.{resolve}
+use Rattle.grid_address.specs.Place.{is_within, Extent, Place}
+use Rattle.formula_tree.specs.Spans.{any_volatile, is_volatile, spans_of, spans_of_all}
+use Rattle.formula_tree.specs.Table.{is_one_of, lists_taken, volatile_codes}
+use Rattle.formula_tree.specs.Tree.{Tree, num, str, cell, span, group, neg, not, binary, call, Trees, no_trees, trees}
+use Rattle.formula_tree.specs.declared.value.Value.{Value}
+use Rattle.formula_tree.specs.declared.value.Value.TheVariants as value
+use Rattle.formula_eval.specs.declared.argument.Argument.{Argument}
+use Rattle.formula_eval.specs.Agreement.{in_arguments, in_operand, same_of, within_itself}
+use Rattle.formula_eval.specs.Lists.{list_value}
+use Rattle.formula_eval.specs.Lookalike.{same_index, same_lookup}
+use Rattle.formula_eval.specs.Mean.{arguments_at, call_value, called, chosen, filled_in, is_choice, mean, one_value, operand_of, three_value, two_value, value_at, Reads}
+use Rattle.formula_eval.specs.Operators.{binary_value, denied, negated}
+use Rattle.formula_eval.specs.Scalars.{constant_value}
+use Rattle.formula_eval.specs.World.{World}
+
+not_blank : (v : Value) → filled_in v ≡ value.Blank → ⊥
+not_blank value.Blank h = absurd cc
+not_blank (value.Num x) h = absurd cc
+not_blank (value.Str t) h = absurd cc
+not_blank value.Err h = absurd cc
+not_blank value.Na h = absurd cc
+
+pub never_blank : (t : Tree) (at : Place) (w : World) → mean t at w ≡ value.Blank → ⊥
+unfolding mean
+never_blank t at w h = not_blank (value_at t at w) h
+
+-- a function that isn't volatile is none of NOW, CELLPOINTER, CELL and @@
+record IsSteady (f : ℕ) : Type 0 where
+  now : (f == 55) ≡ false
+  pointer : (f == 79) ≡ false
+  told : (f == 108) ≡ false
+  pointed : (f == 115) ≡ false
+
+turned : (a b : ℕ) → (a == b) ≡ false → (b == a) ≡ false
+turned a b h = grind (arith, nat_tests, h)
+
+either_false : (a b : Bool) → (a || b) ≡ false → (a ≡ false) × (b ≡ false)
+either_false true b h = absurd cc
+either_false false b h = (refl, h)
+
+steady : (f : ℕ) → is_one_of volatile_codes f ≡ false → IsSteady f
+steady f h =
+    let one = either_false (55 == f) _ h in
+    let two = either_false (79 == f) _ one.1 in
+    let three = either_false (108 == f) _ two.1 in
+    let four = either_false (115 == f) _ three.1 in
+    record { now = turned 55 f one.0; pointer = turned 79 f two.0; told = turned 108 f three.0; pointed = turned 115 f four.0 }
+
+-- values agree where a function's arguments are
+abbrev AgreeOn : List Argument → World → World → Type 0
+AgreeOn args w u = (p : Place) → in_arguments args p ≡ true → w.sight.values p ≡ u.sight.values p
+
+same_constant : (f : ℕ) (w u : World) → IsSteady f → constant_value f w.day w.second ≡ constant_value f u.day u.second
+unfolding constant_value
+same_constant f w u s = rw (s.now) refl
+
+same_one : (f : ℕ) (w u : World) (a : Argument) → IsSteady f → one_value f w a ≡ one_value f u a
+unfolding one_value
+same_one f w u a s = rw (s.pointer, s.pointed) refl
+
+same_two : (f : ℕ) (w u : World) (a b : Argument) → IsSteady f → two_value f w a b ≡ two_value f u a b
+unfolding two_value
+same_two f w u a b s = rw (s.told) refl
+
+among : (args : List Argument) (a : Argument) (p : Place) (w u : World) → AgreeOn (a ∷ args) w u → in_operand a.operand p ≡ true → w.sight.values p ≡ u.sight.values p
+among args a p w u agree h = agree p (first (in_operand a.operand p) (in_arguments args p) h)
+  where
+    first : (a b : Bool) → a ≡ true → (a || b) ≡ true
+    first a b h = grind arith
+
+behind : (args : List Argument) (a : Argument) (w u : World) → AgreeOn (a ∷ args) w u → AgreeOn args w u
+behind args a w u agree = λ p h. agree p (second (in_operand a.operand p) (in_arguments args p) h)
+  where
+    second : (a b : Bool) → b ≡ true → (a || b) ≡ true
+    second a b h = grind arith
+
+same_three : (f : ℕ) (w u : World) (a b c : Argument) → AgreeOn (a ∷ b ∷ c ∷ []) w u → three_value f w a b c ≡ three_value f u a b c
+unfolding three_value
+same_three f w u a b c agree =
+    let v = w.sight.values in
+    let x = u.sight.values in
+    let down = same_lookup v x false a.value b.operand c.value (λ p h. among (c ∷ []) b p w u (behind (b ∷ c ∷ []) a w u agree) h) in
+    let across = same_lookup v x true a.value b.operand c.value (λ p h. among (c ∷ []) b p w u (behind (b ∷ c ∷ []) a w u agree) h) in
+    let at = same_index v x a.operand b.value c.value (λ p h. among (b ∷ c ∷ []) a p w u agree h) in
+    rw (down, across, at) refl
+
+same_called : (f : ℕ) (w u : World) (args : List Argument) → IsSteady f → AgreeOn args w u → called f w args ≡ called f u args
+same_called f w u [] s agree = same_constant f w u s
+same_called f w u (a ∷ []) s agree = same_one f w u a s
+same_called f w u (a ∷ b ∷ []) s agree = same_two f w u a b s
+same_called f w u (a ∷ b ∷ c ∷ []) s agree = same_three f w u a b c agree
+same_called f w u (a ∷ b ∷ c ∷ d ∷ []) s agree = refl
+same_called f w u (a ∷ b ∷ c ∷ d ∷ e ∷ more) s agree = refl
+
+same_call : (f : ℕ) (w u : World) (args : List Argument) → IsSteady f → AgreeOn args w u → call_value f w args ≡ call_value f u args
+unfolding call_value
+same_call f w u args s agree =
+    let items = same_of w.sight.values u.sight.values args agree in
+    let rest = same_called f w u args s agree in
+    λ i. cond (is_choice f) (chosen f args) (cond (is_one_of lists_taken f) (list_value f (items i)) (rest i))
+
+-- the ranges of arguments are among the spans that they read
+any_here : (p : Place) (xs ys : List Extent) → list_any (λ s. is_within s p) xs ≡ true → list_any (λ s. is_within s p) (xs ++ ys) ≡ true
+any_here p [] ys h = absurd cc
+any_here p (x ∷ xs) ys h = elim (cases_Bool (is_within x p)) [
+  | inl yet ↦ rw yet refl
+  | inr no_more ↦ rw no_more (any_here p xs ys (sym (ap (λ b. b || list_any (λ s. is_within s p) xs) no_more) ∙ h))
+]
+
+any_there : (p : Place) (xs ys : List Extent) → list_any (λ s. is_within s p) ys ≡ true → list_any (λ s. is_within s p) (xs ++ ys) ≡ true
+any_there p [] ys h = h
+any_there p (x ∷ xs) ys h = second (is_within x p) (list_any (λ s. is_within s p) (xs ++ ys)) (any_there p xs ys h)
+  where
+    second : (a b : Bool) → b ≡ true → (a || b) ≡ true
+    second a b h = grind arith
+
+read_operand : (t : Tree) (at p : Place) → in_operand (operand_of t at) p ≡ true → list_any (λ s. is_within s p) (spans_of t at) ≡ true
+read_operand (cell r) at p h = rw h refl
+read_operand (span a b) at p h = rw h refl
+read_operand (num v) at p h = absurd cc
+read_operand (str t) at p h = absurd cc
+read_operand (group a) at p h = absurd cc
+read_operand (neg a) at p h = absurd cc
+read_operand (not a) at p h = absurd cc
+read_operand (binary op a b) at p h = absurd cc
+read_operand (call f ts) at p h = absurd cc
+
+-- values agree on the cells that are read
+abbrev AgreeFor : List Extent → World → World → Type 0
+AgreeFor spans w u = (c : Place) → list_any (λ s. is_within s c) spans ≡ true → w.sight.values c ≡ u.sight.values c
+
+read_arguments : (ts : Trees) (at : Place) (w : World) (p : Place) → in_arguments (arguments_at ts at w) p ≡ true → list_any (λ s. is_within s p) (spans_of_all ts at) ≡ true
+read_arguments no_trees at w p h = absurd cc
+read_arguments (trees a ts) at w p h = elim (cases_Bool (in_operand (operand_of a at) p)) [
+  | inl here ↦ any_here p (spans_of a at) (spans_of_all ts at) (read_operand a at p here)
+  | inr later ↦ any_there p (spans_of a at) (spans_of_all ts at) (read_arguments ts at w p (sym (ap (λ b. b || in_arguments (arguments_at ts at w) p) later) ∙ h))
+]
+
+for_left : (xs ys : List Extent) (w u : World) → AgreeFor (xs ++ ys) w u → AgreeFor xs w u
+for_left xs ys w u h = λ c r. h c (any_here c xs ys r)
+
+for_right : (xs ys : List Extent) (w u : World) → AgreeFor (xs ++ ys) w u → AgreeFor ys w u
+for_right xs ys w u h = λ c r. h c (any_there c xs ys r)
+
+mutual
+  value_reads : (t : Tree) (at : Place) (w u : World) → is_volatile t ≡ false → AgreeFor (spans_of t at) w u → value_at t at w ≡ value_at t at u
+  value_reads (num v) at w u s h = refl
+  value_reads (str v) at w u s h = refl
+  value_reads (cell r) at w u s h = h (resolve r at) (rw (within_itself (resolve r at)) refl)
+  value_reads (span a b) at w u s h = refl
+  value_reads (group a) at w u s h = value_reads a at w u s h
+  value_reads (neg a) at w u s h = ap negated (value_reads a at w u s h)
+  value_reads (not a) at w u s h = ap denied (value_reads a at w u s h)
+  value_reads (binary op a b) at w u s h =
+      let steady_parts = either_false (is_volatile a) (is_volatile b) s in
+      let one = value_reads a at w u steady_parts.0 (for_left (spans_of a at) (spans_of b at) w u h) in
+      let two = value_reads b at w u steady_parts.1 (for_right (spans_of a at) (spans_of b at) w u h) in
+      λ i. binary_value op (one i) (two i)
+  value_reads (call f ts) at w u s h =
+      let parts = either_false (is_one_of volatile_codes f) (any_volatile ts) s in
+      same_call f w u (arguments_at ts at w) (steady f parts.0) (λ p r. h p (read_arguments ts at w p r)) ∙ ap (call_value f u) (arguments_read ts at w u parts.1 h)
+
+  arguments_read : (ts : Trees) (at : Place) (w u : World) → any_volatile ts ≡ false → AgreeFor (spans_of_all ts at) w u → arguments_at ts at w ≡ arguments_at ts at u
+  arguments_read no_trees at w u s h = refl
+  arguments_read (trees a ts) at w u s h =
+      let parts = either_false (is_volatile a) (any_volatile ts) s in
+      let here = value_reads a at w u parts.0 (for_left (spans_of a at) (spans_of_all ts at) w u h) in
+      let more = arguments_read ts at w u parts.1 (for_right (spans_of a at) (spans_of_all ts at) w u h) in
+      λ i. record { value = here i; operand = operand_of a at } ∷ more i
+
+pub reads_alone : (t : Tree) (at : Place) (w u : World) → is_volatile t ≡ false → ((c : Place) → Reads t at c → w.sight.values c ≡ u.sight.values c) → mean t at w ≡ mean t at u
+unfolding mean
+reads_alone t at w u s h = ap filled_in (value_reads t at w u s h)

@@ -1,0 +1,12 @@
+pub mod Agreement
+pub mod Attributes
+pub mod Laws
+pub mod Lists
+pub mod Lookalike
+pub mod Lookups
+pub mod Mean
+pub mod Operators
+pub mod Scalars
+pub mod Scenes
+pub mod Values
+pub mod World

@@ -1,0 +1,47 @@
+// What formulas look at.
+ghost use Rattle.std.specs.Prelude.{◌≡◌, ◌≤◌, IfOk, IfNone, IfSome, Some, None, ℕ, pos};
+ghost use Rattle.grid_address.specs.Place.{Place};
+ghost use Rattle.formula_eval.specs.World.{filled, Sight, World};
+
+use formula_tree::{Content, Value};
+use grid_address::{Cell, CellList, Format, Span};
+use lics_text::Memory;
+use range_names::Names;
+use serial_date::Moment;
+
+/// What formulas look at: the sheet's values, contents, formats and widths, and the names of spans.
+pub trait Look {
+    ghost sight: { Self → Sight };
+
+    /// The value of a cell.
+    fn value(&self, cell: Cell) -> &Value
+        ensures { result.now ≡ (sight self.now).values cell };
+
+    /// What a cell holds; none where nothing is kept of it.
+    fn content(&self, cell: Cell) -> Option<&Content>
+        ensures some { IfSome result (λ c. (sight self.now).contents cell ≡ Some c.now) }
+        ensures none { IfNone result ((sight self.now).contents cell ≡ None) };
+
+    /// The format of a cell.
+    fn format(&self, cell: Cell) -> Format
+        ensures { result.0 ≡ (sight self.now).formats cell };
+
+    /// The width of a column.
+    fn width(&self, col: u8) -> u8
+        ensures { result ≡ (sight self.now).widths col };
+
+    /// The names of spans.
+    fn names(&self) -> &Names
+        ensures { result.now ≡ (sight self.now).names };
+
+    /// The cells of a span that aren't blank, in row order.
+    fn filled(&self, span: Span) -> Result<CellList, Memory>
+        ensures { IfOk result (λ l. l ≡ filled (sight self.now).values span) };
+}
+
+/// The pointer's cell, and the moment of the step.
+#[derive(Clone, Copy)]
+pub struct Scene {
+    pub cursor: Cell,
+    pub now: Moment,
+}

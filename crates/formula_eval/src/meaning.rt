@@ -1,0 +1,215 @@
+// From a formula to its value.
+ghost use Rattle.std.specs.Prelude.{◌≡◌, ℕ, ◌+◌, ◌-◌, ◌^◌, ◌∷◌, [], ◌++◌, map, min, IfOk, OnOk};
+ghost use Rattle.formula_tree.specs.View.{listed, tree_of};
+ghost use Rattle.formula_eval.specs.Lists.{items_of, list_value};
+ghost use Rattle.formula_eval.specs.Mean.{arguments_at, call_value, chosen, filled_in, mean, operand_of, value_at};
+ghost use Rattle.formula_eval.specs.Scenes.{world_of};
+ghost use Rattle.formula_eval.specs.World.{Sight};
+
+use crate::argument::{Argument, Operand};
+use crate::calls::{called, choice, is_choice, is_list};
+use crate::items::{items_of, list_value};
+use crate::look::{Look, Scene};
+use crate::operators::{binary, denied, negated};
+use fixed_value::Fixed;
+use formula_tree::{Expr, Formula, Value};
+use grid_address::{Cell, Span};
+use lics_text::Memory;
+use std::alloc::Global;
+
+/// A count of evaluations. It stays at the last number that it can hold.
+#[derive(Clone, Copy, Debug, PartialEq, Eq, Drop)]
+pub struct Tally {
+    count: u64,
+}
+
+impl Tally {
+    /// No evaluation.
+    pub fn new() -> Tally
+        ensures { result.count ≡ 0 }
+    {
+        Tally { count: 0 }
+    }
+
+    /// How many evaluations were counted.
+    pub fn count(&self) -> u64
+        ensures { result ≡ self.now.count }
+    {
+        self.count
+    }
+}
+
+// What an argument is as a range.
+fn operand_of(expr: &Expr, at: Cell) -> Operand
+    ensures { result ≡ operand_of (tree_of expr.now) at }
+{
+    match expr {
+        Expr::Cell(reference) => Operand::Cell(reference.resolve(at)),
+        Expr::Span(first, last) => Operand::Span(Span::of(first.resolve(at), last.resolve(at))),
+        Expr::Num(_) | Expr::Str(_) | Expr::Group(_) | Expr::Neg(_) => Operand::Other,
+        Expr::Not(_) | Expr::Binary(_, _, _) | Expr::Call(_, _) => Operand::Other,
+    }
+}
+
+fn push(arguments: &mut Vec<Argument>, value: Value, operand: Operand) -> Result<(), Memory>
+    ensures { OnOk result (arguments.new.items ≡ arguments.old.items ++ record { value = value; operand = operand } ∷ []) }
+{
+    match arguments.push(Argument { value, operand }) {
+        Ok(()) => Ok(()),
+        Err(_) => Err(Memory),
+    }
+}
+
+// The arguments of a function.
+#[cycle(value)]
+fn arguments_of<K: Look>(
+    alloc: Global,
+    exprs: &[Expr],
+    at: Cell,
+    look: &K,
+    scene: &Scene,
+) -> Result<Vec<Argument>, Memory>
+    ensures { IfOk result (λ v. v.items ≡ arguments_at (listed (map tree_of exprs.now)) at (world_of (K.sight look.now) scene.entry.now)) }
+{
+    let mut arguments = Vec::new(alloc);
+    for expr in exprs {
+        let value = value_of(alloc, expr, at, look, scene)?;
+        push(&mut arguments, value, operand_of(expr, at))?;
+    }
+    Ok(arguments)
+}
+
+// The value of CHOOSE or IF.
+#[cycle(value)]
+fn chosen<K: Look>(
+    alloc: Global,
+    function: u8,
+    exprs: &[Expr],
+    at: Cell,
+    look: &K,
+    scene: &Scene,
+) -> Result<Value, Memory>
+    ensures { IfOk result (λ v. v ≡ chosen function (arguments_at (listed (map tree_of exprs.now)) at (world_of (K.sight look.now) scene.entry.now))) }
+{
+    if exprs.len() == 0 {
+        return Ok(Value::Err);
+    }
+    let first = value_of(alloc, &exprs[0], at, look, scene)?;
+    match choice(function, exprs.len(), &first) {
+        Ok(place) => {
+            if place < exprs.len() {
+                value_of(alloc, &exprs[place], at, look, scene)
+            } else {
+                Ok(Value::Err)
+            }
+        }
+        Err(value) => Ok(value),
+    }
+}
+
+#[cycle(value)]
+#[tactic(auto, unfolding(crate::specs::Mean::call_value))]
+fn call_value<K: Look>(
+    alloc: Global,
+    function: u8,
+    exprs: &[Expr],
+    at: Cell,
+    look: &K,
+    scene: &Scene,
+) -> Result<Value, Memory>
+    ensures { IfOk result (λ v. v ≡ call_value function (world_of (K.sight look.now) scene.entry.now) (arguments_at (listed (map tree_of exprs.now)) at (world_of (K.sight look.now) scene.entry.now))) }
+{
+    if is_choice(function) {
+        return chosen(alloc, function, exprs, at, look, scene);
+    }
+    let arguments = arguments_of(alloc, exprs, at, look, scene)?;
+    if is_list(function) {
+        let items = items_of(alloc, arguments.as_slice(), look)?;
+        Ok(list_value(function, items.as_slice()))
+    } else {
+        called(alloc, function, arguments.as_slice(), look, scene)
+    }
+}
+
+// The value of a part, which may be blank.
+#[cycle(value)]
+fn value_of<K: Look>(
+    alloc: Global,
+    expr: &Expr,
+    at: Cell,
+    look: &K,
+    scene: &Scene,
+) -> Result<Value, Memory>
+    ensures { IfOk result (λ v. v ≡ value_at (tree_of expr.now) at (world_of (K.sight look.now) scene.entry.now)) }
+{
+    match expr {
+        Expr::Num(number) => Ok(Value::Num(*number)),
+        Expr::Str(text) => Ok(Value::Str(text.copy()?)),
+        Expr::Cell(reference) => look.value(reference.resolve(at)).copy(),
+        Expr::Span(_, _) => Ok(Value::Err),
+        Expr::Group(inner) => value_of(alloc, inner, at, look, scene),
+        Expr::Neg(inner) => {
+            let inner = value_of(alloc, inner, at, look, scene)?;
+            Ok(negated(&inner))
+        }
+        Expr::Not(inner) => {
+            let inner = value_of(alloc, inner, at, look, scene)?;
+            Ok(denied(&inner))
+        }
+        Expr::Binary(op, left, right) => {
+            let left = value_of(alloc, left, at, look, scene)?;
+            let right = value_of(alloc, right, at, look, scene)?;
+            binary(alloc, *op, &left, &right)
+        }
+        Expr::Call(function, exprs) => call_value(
+            alloc,
+            function.0,
+            exprs.items(),
+            at,
+            look,
+            scene,
+        ),
+    }
+}
+
+// At the top a blank value is 0.
+fn filled_in(value: Value) -> Value
+    ensures { result ≡ filled_in value }
+{
+    match value {
+        Value::Blank => Value::Num(Fixed::ZERO),
+        Value::Num(number) => Value::Num(number),
+        Value::Str(text) => Value::Str(text),
+        Value::Err => Value::Err,
+        Value::Na => Value::Na,
+    }
+}
+
+/// The value of a formula that stands in a cell, by what it looks at; it isn't counted.
+#[tactic(auto, unfolding(crate::specs::Mean::mean))]
+pub fn glance<K: Look>(
+    formula: &Formula,
+    at: Cell,
+    look: &K,
+    scene: &Scene,
+) -> Result<Value, Memory>
+    ensures { IfOk result (λ v. v ≡ mean formula.now at (world_of (K.sight look.now) scene.entry.now)) }
+{
+    let value = value_of(formula.alloc(), formula.expr(), at, look, scene)?;
+    Ok(filled_in(value))
+}
+
+/// The value of a formula that stands in a cell, by what it looks at. The tally rises by one, or stays at its last.
+pub fn evaluate<K: Look>(
+    formula: &Formula,
+    at: Cell,
+    look: &K,
+    scene: &Scene,
+    tally: &mut Tally,
+) -> Result<Value, Memory>
+    ensures value { IfOk result (λ v. v ≡ mean formula.now at (world_of (K.sight look.now) scene.entry.now)) }
+    ensures counted { tally.new.count ≡ min (tally.old.count + 1) (2 ^ 64 - 1) }
+{
+    tally.count = tally.count.saturating_add(1);
+    glance(formula, at, look, scene)
+}

@@ -1,0 +1,60 @@
+// What gives formulas their values.
+ghost use Rattle.std.specs.Prelude.{◌≡◌, ℕ, ◌+◌, ◌-◌, ◌^◌, min, IfOk, false};
+ghost use Rattle.grid_address.specs.Place.{Place};
+ghost use Rattle.formula_tree.specs.Spans.{is_volatile};
+ghost use Rattle.formula_tree.specs.Tree.{Tree};
+ghost use Rattle.formula_tree.specs.declared.value.Value.{Value};
+ghost use Rattle.formula_tree.specs.declared.value.Value.TheVariants as value;
+ghost use Rattle.formula_eval.specs.Laws.{never_blank, reads_alone};
+ghost use Rattle.formula_eval.specs.Mean.{mean, Reads};
+ghost use Rattle.formula_eval.specs.Scenes.{world_of};
+ghost use Rattle.formula_eval.specs.World.{World};
+
+use crate::look::{Look, Scene};
+use crate::meaning::{Tally, evaluate};
+use formula_tree::{Formula, Value};
+use grid_address::Cell;
+use lics_text::Memory;
+
+/// What a sheet evaluates with: it gives each formula its meaning, and counts how often it did. Its meaning is never
+/// blank, and what a formula means that isn't volatile hangs on the values of the cells alone that the formula reads.
+pub trait Means {
+    ghost meaning: { Tree → Place → World → Value };
+
+    ghost count: { Self → ℕ };
+
+    /// The meaning of a formula that stands in a cell. The count rises by one, or stays at the last u64.
+    fn evaluate<K: Look>(
+        &mut self,
+        formula: &Formula,
+        at: Cell,
+        look: &K,
+        scene: &Scene,
+    ) -> Result<Value, Memory>
+        ensures value { IfOk result (λ v. v ≡ meaning formula.now at (world_of (K.sight look.now) scene.entry.now)) }
+        ensures counted { count self.new ≡ min (count self.old + 1) (2 ^ 64 - 1) };
+
+    ghost never_blank: { (t : Tree) (at : Place) (w : World) → meaning t at w ≡ value.Blank → ⊥ };
+
+    ghost reads_alone: { (t : Tree) (at : Place) (w u : World) → is_volatile t ≡ false → ((c : Place) → Reads t at c → w.sight.values c ≡ u.sight.values c) → meaning t at w ≡ meaning t at u };
+}
+
+impl Means for Tally {
+    ghost meaning = { mean };
+
+    ghost count = { λ t. t.count };
+
+    ghost never_blank = { never_blank };
+
+    ghost reads_alone = { reads_alone };
+
+    fn evaluate<K: Look>(
+        &mut self,
+        formula: &Formula,
+        at: Cell,
+        look: &K,
+        scene: &Scene,
+    ) -> Result<Value, Memory> {
+        evaluate(formula, at, look, scene, self)
+    }
+}

@@ -1,0 +1,23 @@
+-- What the leaves of a tree keep, since numbers, texts and references keep it.
+use Rattle.std.specs.Prelude.{ℕ, Bool, true, nat_abs, ◌&&◌, nat_le, nat_lt, List, length}
+use Rattle.std.specs.List.{list_all}
+use Rattle.grid_address.specs.Axes.{number_of, Reference}
+use Rattle.formula_tree.specs.Tree.{Tree, num, str, cell, span, group, neg, not, binary, call}
+
+abbrev pub is_text : List ℕ → Bool
+is_text t = nat_le (length t) 240 && list_all (λ b. nat_le 32 b) t
+
+abbrev pub is_reference : Reference → Bool
+is_reference r = nat_lt (number_of r.col) 256 && nat_lt (number_of r.row) 8192
+
+-- a number's size, a text's bytes and the coordinates of references are in their ranges
+abbrev pub is_ranged : Tree → Bool
+is_ranged (num v) = nat_le (nat_abs v) 999999999999999
+is_ranged (str t) = is_text t
+is_ranged (cell r) = is_reference r
+is_ranged (span a b) = is_reference a && is_reference b
+is_ranged (group a) = true
+is_ranged (neg a) = true
+is_ranged (not a) = true
+is_ranged (binary op a b) = true
+is_ranged (call f ts) = true
