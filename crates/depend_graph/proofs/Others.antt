@@ -1,0 +1,33 @@
+-- Other cells keep their spans.
+use Rattle.std.specs.Prelude.{◌≡◌, true, false, cond, List, [], ◌∷◌, ◌++◌, Option, None, Some, refl}
+use Rattle.std.specs.FinMap.{get, remove}
+use Rattle.std.proofs.Common.{◌∙◌, ap, inl, inr}
+use Rattle.grid_address.proofs.Places.{get_inserted, get_removed, same_place_itself}
+use Rattle.grid_address.specs.Place.{Extent, Place}
+use Rattle.range_index.specs.Owners.{spans_in, with_span, Owners}
+use Rattle.depend_graph.specs.Banks.{AreOthers, AreOthersKept}
+
+pub removed_others : (m : Owners) (c : Place) → AreOthers m (remove m c) c
+removed_others m c d h = ap (λ (s : Option (List Extent)). spans_in s) (get_removed m c d ∙ ap (λ b. cond b None (get m d)) h)
+
+pub removed_none : (m : Owners) (c : Place) → spans_in (get (remove m c) c) ≡ []
+removed_none m c = ap (λ (s : Option (List Extent)). spans_in s) (get_removed m c c ∙ ap (λ b. cond b None (get m c)) (same_place_itself c))
+
+pub more_others : (m : Owners) (c : Place) (span : Extent) → AreOthers m (with_span m c span) c
+more_others m c span d h = ap (λ (s : Option (List Extent)). spans_in s) (get_inserted m c (spans_in (get m c) ++ span ∷ []) d ∙ ap (λ b. cond b (Some (spans_in (get m c) ++ span ∷ [])) (get m d)) h)
+
+pub more_here : (m : Owners) (c : Place) (span : Extent) → spans_in (get (with_span m c span) c) ≡ spans_in (get m c) ++ span ∷ []
+more_here m c span = ap (λ (s : Option (List Extent)). spans_in s) (get_inserted m c (spans_in (get m c) ++ span ∷ []) c ∙ ap (λ b. cond b (Some (spans_in (get m c) ++ span ∷ [])) (get m c)) (same_place_itself c))
+
+pub then_others : (a b d : Owners) (c : Place) → AreOthers a b c → AreOthers b d c → AreOthers a d c
+then_others a b d c f g q h = g q h ∙ f q h
+
+pub even_kept : (even odd new : Owners) (c : Place) → AreOthers even new c → AreOthersKept even odd new odd false c
+even_kept even odd new c f true d h = refl
+even_kept even odd new c f false d (inl h) = f d h
+even_kept even odd new c f false d (inr h) = absurd (h refl)
+
+pub odd_kept : (even odd new : Owners) (c : Place) → AreOthers odd new c → AreOthersKept even odd even new true c
+odd_kept even odd new c f true d (inl h) = f d h
+odd_kept even odd new c f true d (inr h) = absurd (h refl)
+odd_kept even odd new c f false d h = refl

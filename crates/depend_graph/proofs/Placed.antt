@@ -1,0 +1,55 @@
+-- What is put at a place of a map, or taken out there.
+use Rattle.std.specs.Prelude.{◌≡◌, true, false, cond, is_some, List, Option, None, Some, refl}
+use Rattle.std.specs.BTreeMap.{is_at}
+use Rattle.std.specs.FinMap.{get, FinMap}
+use Rattle.std.specs.Map.{lookup}
+use Rattle.std.proofs.Common.{sym, ◌∙◌, ap, inl, inr}
+use Rattle.std.proofs.lemmas.Bool.{cases_Bool, true≢false}
+use Rattle.grid_address.proofs.Maps.{get_entries, inserted, removed}
+use Rattle.grid_address.proofs.Places.{cells_exact, cells_total, get_inserted, get_removed, same_place_is, same_places}
+use Rattle.grid_address.specs.Place.{place_cmp, same_place, Place}
+use Rattle.depend_graph.specs.Slots.{filled, had, node_in, offer_in, placed, slots_of, without_node, without_offer}
+use Rattle.depend_graph.specs.declared.node.Node.{Node}
+use Rattle.depend_graph.specs.declared.slots.Slot.{Slot}
+
+pub get_placed : {X : Type 0} (m : FinMap place_cmp X) (c : Place) (o : Option X) (q : Place) → get (placed m c o) q ≡ cond (same_place q c) o (get m q)
+get_placed m c None q = get_removed m c q
+get_placed m c (Some x) q = get_inserted m c x q
+
+pub placed_same : {X : Type 0} (m : FinMap place_cmp X) (c : Place) (o : Option X) → get m c ≡ o → placed m c o ≡ m
+placed_same m c o e = same_places _ _ (λ q. get_placed m c o q ∙ elim (cases_Bool (same_place q c)) [
+  | inl t ↦ ap (λ b. cond b o (get m q)) t ∙ sym (ap (get m) (same_place_is q c t) ∙ e)
+  | inr f ↦ ap (λ b. cond b o (get m q)) f
+])
+
+module _ (es fs : List (Place × Slot)) (c : Place) where
+  pub slot_put : (s : Slot) → ((q : Place) → lookup (is_at (place_cmp q)) fs ≡ cond (is_at (place_cmp c) q) (Some s) (lookup (is_at (place_cmp q)) es)) → slots_of fs ≡ placed (slots_of es) c (Some s)
+  slot_put s h = inserted cells_total cells_exact es fs c s h
+
+  pub slot_removed : ((q : Place) → lookup (is_at (place_cmp q)) fs ≡ cond (is_at (place_cmp c) q) None (lookup (is_at (place_cmp q)) es)) → slots_of fs ≡ placed (slots_of es) c None
+  slot_removed h = removed cells_total cells_exact es fs c h
+
+pub slot_found : (es : List (Place × Slot)) (c : Place) (o : Option Slot) → o ≡ lookup (is_at (place_cmp c)) es → get (slots_of es) c ≡ o
+slot_found es c o e = get_entries cells_total es c ∙ sym e
+
+filled_some : (o : Option Node) (s : Slot) → is_some o ≡ true → filled o s ≡ Some s
+filled_some None s h = absurd (true≢false (sym h))
+filled_some (Some n) s h = refl
+
+filled_none : (o : Option Node) (s : Slot) → is_some o ≡ false → filled o s ≡ None
+filled_none None s h = refl
+filled_none (Some n) s h = absurd (true≢false h)
+
+pub node_out : (o : Option Slot) → is_some (had offer_in o) ≡ false → without_node o ≡ None
+node_out None h = refl
+node_out (Some s) h = filled_none s.offer (record s { node = None }) h
+
+pub node_cleared : (s : Slot) → is_some s.offer ≡ true → without_node (Some s) ≡ Some (record s { node = None })
+node_cleared s h = filled_some s.offer (record s { node = None }) h
+
+pub offer_out : (o : Option Slot) → is_some (had node_in o) ≡ false → without_offer o ≡ None
+offer_out None h = refl
+offer_out (Some s) h = filled_none s.node (record s { offer = None }) h
+
+pub offer_cleared : (s : Slot) → is_some s.node ≡ true → without_offer (Some s) ≡ Some (record s { offer = None })
+offer_cleared s h = filled_some s.node (record s { offer = None }) h

@@ -1,0 +1,26 @@
+use Rattle.std.specs.Prelude.{◌<◌, length, ◌++◌, List, ◌∷◌, [], take, get_or}
+use Rattle.std.specs.FinMap.{get}
+use Rattle.std.proofs.Common.{ap, subst, sym, ◌∙◌}
+use Rattle.std.proofs.lemmas.List.{take_more}
+use Rattle.grid_address.specs.Place.{Extent}
+use Rattle.range_index.specs.Owners.{spans_in, Owners}
+use Rattle.depend_graph.proofs.Others.{more_here, more_others, removed_none, removed_others, then_others}
+use Rattle.depend_graph.specs.Banks.{AreOthers}
+use Rattle.depend_graph.proofs.banks.fill.Goals as goal
+
+pub loop-span-init : goal.loop-span-init
+loop-span-init c = record {
+  is = ap (λ (m : Owners). spans_in (get m c.args.owner)) c.remove.ensures ∙ removed_none c.args.index.now c.args.owner;
+  others = subst (λ (m : Owners). AreOthers c.args.index.now m c.args.owner) (sym c.remove.ensures) (removed_others c.args.index.now c.args.owner);
+}
+
+pub loop-span-preserved : goal.loop-span-preserved
+loop-span-preserved c =
+    let span : Extent = c.span-item.result in
+    record {
+      is = ap (λ (m : Owners). spans_in (get m c.args.owner)) c.in_ok-add.ensures.ok ∙ more_here c.loop-span.index c.args.owner span
+          ∙ ap (λ l. l ++ span ∷ []) c.loop-span.invariant.is ∙ ap (λ (s : Extent). take c.loop-span.span-index c.args.spans.now ++ s ∷ []) (c.span-item.is ∙ ap (λ (l : List Extent). get_or l c.loop-span.span-index span) c.as_slice-span-items.ensures)
+          ∙ sym (take_more c.args.spans.now c.loop-span.span-index span (subst (λ (l : List Extent). c.loop-span.span-index < length l) c.as_slice-span-items.ensures c.loop-span-test.true));
+      others = then_others c.args.index.now c.loop-span.index c.add.new.self c.args.owner c.loop-span.invariant.others
+          (subst (λ (m : Owners). AreOthers c.loop-span.index m c.args.owner) (sym c.in_ok-add.ensures.ok) (more_others c.loop-span.index c.args.owner span));
+    }

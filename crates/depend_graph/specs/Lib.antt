@@ -1,0 +1,4 @@
+pub mod Banks
+pub mod Network
+pub mod Slots
+pub mod Within

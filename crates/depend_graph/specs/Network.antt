@@ -1,0 +1,77 @@
+-- Which formulas there are, what they read, and which of them reach a cell.
+use Rattle.std.specs.Prelude.{◌≡◌, ◌⊎◌, refl, Bool, true, false, List, Option, None, Some, is_some}
+use Rattle.std.specs.Coded.{Coded, code_by, coded×}
+use Rattle.std.specs.FinMap as map
+use Rattle.std.specs.FinMap.{get, insert, remove, FinMap}
+use Rattle.std.specs.List.{list_any}
+use Rattle.grid_address.specs.Place.{coded_place, place_cmp, same_place, Place}
+use Rattle.range_index.specs.Owners.{hold}
+use Rattle.depend_graph.specs.Slots.{had, node_in, offer_in, picked, Nodes, Slots}
+use Rattle.depend_graph.specs.declared.node.Node.{Node}
+use Rattle.depend_graph.specs.contracts.node.Node as node
+
+-- the formulas, and those that are offered to take their place
+pub record Network : Type 0 where
+  pub formulas : Nodes
+  pub offers : Nodes
+
+abbrev pub coded_network : Coded Network
+coded_network = code_by (FinMap place_cmp Node × FinMap place_cmp Node) (coded× (map.code coded_place (node.the_row).coded) (map.code coded_place (node.the_row).coded)) (λ g. (g.formulas, g.offers)) (λ p. record { formulas = p.0; offers = p.1 }) (λ _. refl)
+
+abbrev pub offered : Network → Place → Node → Network
+offered g c n = record g { offers = insert g.offers c n }
+
+abbrev pub withdrawn : Network → Place → Network
+withdrawn g c = record g { offers = remove g.offers c }
+
+abbrev pub taken : Option Node → Network → Place → Network
+taken None g c = g
+taken (Some n) g c = record { formulas = insert g.formulas c n; offers = remove g.offers c }
+
+-- the formula that is offered takes its place
+abbrev pub accepted : Network → Place → Network
+accepted g c = taken (get g.offers c) g c
+
+-- a formula takes its place, and no offer is left
+abbrev pub put : Network → Place → Node → Network
+put g c n = record { formulas = insert g.formulas c n; offers = remove g.offers c }
+
+abbrev pub dropped : Network → Place → Network
+dropped g c = record g { formulas = remove g.formulas c }
+
+abbrev pub has : List Place → Place → Bool
+has xs c = list_any (same_place c) xs
+
+abbrev pub is_formula : Network → Place → Bool
+is_formula g c = is_some (get g.formulas c)
+
+abbrev pub holds : Option Node → Place → Bool
+holds None d = false
+holds (Some n) d = hold n.reads d
+
+-- one of the spans that the formula at c reads holds d
+abbrev pub reads : Network → Place → Place → Bool
+reads g c d = holds (get g.formulas c) d
+
+-- the formula at c reads d, or a formula that reaches d
+pub data Reaches (g : Network) : Place → Place → Type 0 where
+  at_once : {c d : Place} → reads g c d ≡ true → Reaches g c d
+  through : {c e d : Place} → reads g c e ≡ true → Reaches g e d → Reaches g c d
+
+pub record ReachesOneOf (g : Network) (cells : List Place) (c : Place) : Type 0 where
+  pub cell : Place
+  pub among : has cells cell ≡ true
+  pub reached : Reaches g c cell
+
+-- c is a formula, and is one of the cells or reaches one of them
+pub record IsSpread (g : Network) (cells : List Place) (c : Place) : Type 0 where
+  pub formula : is_formula g c ≡ true
+  pub way : (has cells c ≡ true) ⊎ ReachesOneOf g cells c
+
+-- the network that slots tell
+abbrev pub network_of : Slots → Network
+network_of m = record { formulas = picked node_in m; offers = picked offer_in m }
+
+-- d is one of the formulas, and reads c
+abbrev pub IsReaderAmong : Slots → Place → List Place → Place → Type 0
+IsReaderAmong m c formulas d = (has formulas d ≡ true) × (holds (had node_in (get m d)) c ≡ true)

@@ -1,0 +1,90 @@
+-- A cell's formula, with the one that it will have.
+use Rattle.std.specs.Prelude.{◌≡◌, Bool, false, not, List, [], ◌∷◌, Option, None, Some}
+use Rattle.std.specs.FinMap.{entries, from_entries, get, insert, remove, FinMap}
+use Rattle.grid_address.specs.Place.{place_cmp, Extent, Place}
+use Rattle.range_index.specs.Owners.{Owners}
+use Rattle.depend_graph.specs.Banks.{spans_at}
+use Rattle.depend_graph.specs.declared.node.Node.{Node}
+use Rattle.depend_graph.specs.declared.slots.Slot.{Slot}
+
+abbrev pub Slots : Type 0
+Slots = FinMap place_cmp Slot
+
+abbrev pub Nodes : Type 0
+Nodes = FinMap place_cmp Node
+
+abbrev pub slots_of : List (Place × Slot) → Slots
+slots_of es = from_entries es
+
+-- what is put at a place, or taken out there
+abbrev pub placed : {X : Type 0} → FinMap place_cmp X → Place → Option X → FinMap place_cmp X
+placed m c None = remove m c
+placed m c (Some x) = insert m c x
+
+-- the entries whose slot has a node by f
+abbrev pub with_some : Place → Option Node → List (Place × Node) → List (Place × Node)
+with_some p None es = es
+with_some p (Some n) es = (p, n) ∷ es
+
+abbrev pub somes : (Slot → Option Node) → List (Place × Slot) → List (Place × Node)
+somes f [] = []
+somes f (e ∷ es) = with_some e.0 (f e.1) (somes f es)
+
+abbrev pub picked : (Slot → Option Node) → Slots → Nodes
+picked f m = from_entries (somes f (entries m))
+
+abbrev pub node_in : Slot → Option Node
+node_in s = s.node
+
+abbrev pub offer_in : Slot → Option Node
+offer_in s = s.offer
+
+-- what a slot has, where there is one
+abbrev pub had : (Slot → Option Node) → Option Slot → Option Node
+had f None = None
+had f (Some s) = f s
+
+-- a slot gets an offer
+abbrev pub offering : Option Slot → Node → Slot
+offering None n = record { node = None; offer = Some n; is_odd = false }
+offering (Some s) n = record s { offer = Some n }
+
+-- which index has the spans of a cell's formula
+abbrev pub side : Option Slot → Bool
+side None = false
+side (Some s) = s.is_odd
+
+-- the offer becomes the formula
+abbrev pub turned_to : Option Node → Slot → Slot
+turned_to None s = s
+turned_to (Some n) s = record { node = Some n; offer = None; is_odd = not s.is_odd }
+
+abbrev pub turned : Option Slot → Option Slot
+turned None = None
+turned (Some s) = Some (turned_to s.offer s)
+
+-- without its offer, and without its formula; a slot that has neither is taken out
+abbrev pub filled : Option Node → Slot → Option Slot
+filled None s = None
+filled (Some n) s = Some s
+
+abbrev pub without_offer : Option Slot → Option Slot
+without_offer None = None
+without_offer (Some s) = filled s.node (record s { offer = None })
+
+abbrev pub without_node : Option Slot → Option Slot
+without_node None = None
+without_node (Some s) = filled s.offer (record s { node = None })
+
+-- the spans of a node, if there is one, are these
+abbrev pub Stands : Option Node → List Extent → Type 0
+Stands None spans = Unit {0}
+Stands (Some n) spans = spans ≡ n.reads
+
+-- a formula's spans are in its own index, and those of its offer in the other
+pub record IsRegistered (even odd : Owners) (c : Place) (s : Slot) : Type 0 where
+  pub node : Stands s.node (spans_at even odd s.is_odd c)
+  pub offer : Stands s.offer (spans_at even odd (not s.is_odd) c)
+
+abbrev pub AreRegistered : Slots → Owners → Owners → Type 0
+AreRegistered m even odd = (c : Place) (s : Slot) → get m c ≡ Some s → IsRegistered even odd c s

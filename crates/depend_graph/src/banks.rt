@@ -1,0 +1,68 @@
+// Two indexes of what formulas read.
+ghost use Rattle.std.specs.Prelude.{◌≡◌, OnOk};
+ghost use Rattle.std.specs.FinMap.{get};
+ghost use Rattle.range_index.specs.Owners.{spans_in};
+ghost use Rattle.depend_graph.specs.Banks.{spans_at, AreOthers, AreOthersKept};
+
+use grid_address::{Cell, SpanList};
+use lics_text::Memory;
+use range_index::RangeIndex;
+use std::alloc::Global;
+
+/// A formula's spans are in one of the two, and the other has room for those that it will have.
+#[derive(Drop)]
+pub struct Banks {
+    pub even: RangeIndex,
+    pub odd: RangeIndex,
+}
+
+// Gives an owner these spans. The other owners keep theirs, also where there is no memory.
+fn fill(index: &mut RangeIndex, owner: Cell, spans: &SpanList) -> Result<(), Memory>
+    ensures is { OnOk result (spans_in (get index.new owner) ≡ spans.now) }
+    ensures others { AreOthers index.old index.new owner }
+{
+    index.remove(owner);
+    for span in spans.as_slice() {
+        index.add(owner, *span)?;
+    }
+    Ok(())
+}
+
+fn empty(index: &mut RangeIndex, owner: Cell)
+    ensures { AreOthers index.old index.new owner }
+{
+    index.remove(owner);
+}
+
+impl Banks {
+    pub fn new(alloc: Global) -> Banks {
+        Banks {
+            even: RangeIndex::new(alloc),
+            odd: RangeIndex::new(alloc),
+        }
+    }
+
+    /// Gives a cell these spans in one of the two. All others are kept, also where there is no memory.
+    pub fn fill(&mut self, is_odd: bool, cell: Cell, spans: &SpanList) -> Result<(), Memory>
+        ensures is { OnOk result (spans_at self.new.even self.new.odd is_odd cell ≡ spans.now) }
+        ensures others { AreOthersKept self.old.even self.old.odd self.new.even self.new.odd is_odd cell }
+    {
+        if is_odd {
+            fill(&mut self.odd, cell, spans)?;
+        } else {
+            fill(&mut self.even, cell, spans)?;
+        }
+        Ok(())
+    }
+
+    /// Takes a cell's spans out of one of the two. It takes no memory.
+    pub fn clear(&mut self, is_odd: bool, cell: Cell)
+        ensures { AreOthersKept self.old.even self.old.odd self.new.even self.new.odd is_odd cell }
+    {
+        if is_odd {
+            empty(&mut self.odd, cell);
+        } else {
+            empty(&mut self.even, cell);
+        }
+    }
+}

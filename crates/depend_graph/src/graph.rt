@@ -1,0 +1,150 @@
+// The graph of what formulas read.
+ghost use Rattle.std.specs.Prelude.{◌≡◌, ◌↔◌, true, IfOk, OnOk, OnErr, option_copied};
+ghost use Rattle.std.specs.FinMap as map;
+ghost use Rattle.grid_address.specs.Place.{Place};
+ghost use Rattle.depend_graph.specs.Network.{accepted, dropped, has, is_formula, offered, put, reads, withdrawn, IsSpread};
+ghost use Rattle.depend_graph.specs.declared.node.Node.{Node};
+
+use crate::Node;
+use crate::banks::Banks;
+use crate::closure::closure;
+use crate::readers::readers;
+use crate::slots::{Slot, drop_node, drop_offer, has_offer, node_of, put_offer, side, turn};
+use grid_address::{Cell, CellList, SpanList};
+use indexmap::IndexSet;
+use lics_text::Memory;
+use std::alloc::Global;
+use std::collections::BTreeMap;
+use std::marker::Model;
+
+/// The formulas of a sheet with what they read, and formulas that are offered to take their place. All memory is taken
+/// where a formula is offered, so that an edit can make its growths first and change the graph afterwards.
+#[derive(Drop)]
+pub struct Graph {
+    slots: BTreeMap<Cell, Slot>,
+    banks: Banks,
+    alloc: Global,
+}
+
+impl Model for Graph {
+    ghost use Rattle.depend_graph.specs.Network.{coded_network, Network};
+    ghost use Rattle.depend_graph.specs.Slots.{node_in, offer_in, picked, slots_of, AreRegistered};
+
+    ghost Value = { Network };
+
+    ghost coded = { coded_network };
+
+    ghost view = { λ g. record { formulas = picked node_in (slots_of g.slots.entries); offers = picked offer_in (slots_of g.slots.entries) } };
+
+    ghost invariant = { λ g. AreRegistered (slots_of g.slots.entries) g.banks.even g.banks.odd };
+}
+
+impl Graph {
+    /// No formula.
+    pub fn new(alloc: Global) -> Graph
+        ensures formulas { result.formulas ≡ map.empty }
+        ensures offers { result.offers ≡ map.empty }
+    {
+        Graph {
+            slots: BTreeMap::new(alloc),
+            banks: Banks::new(alloc),
+            alloc,
+        }
+    }
+
+    /// The formula at a cell.
+    pub fn get(&self, cell: Cell) -> Option<&Node>
+        ensures { option_copied result ≡ map.get self.now.formulas cell }
+    {
+        node_of(&self.slots, cell)
+    }
+
+    /// Whether a cell holds a formula.
+    pub fn has_formula(&self, cell: Cell) -> bool
+        ensures { result ≡ is_formula self.now cell }
+    {
+        match self.get(cell) {
+            Some(_) => true,
+            None => false,
+        }
+    }
+
+    /// Offers a formula for a cell, in place of an earlier offer. The formulas stay as they are. Where there is no
+    /// memory, no offer is left for the cell.
+    pub fn offer(&mut self, cell: Cell, node: Node) -> Result<(), Memory>
+        ensures ok { OnOk result (self.new ≡ offered self.old cell node) }
+        ensures err { OnErr result (self.new ≡ withdrawn self.old cell) }
+    {
+        drop_offer(&mut self.slots, cell);
+        let is_odd = !side(&self.slots, cell);
+        self.banks.fill(is_odd, cell, &node.reads)?;
+        put_offer(&mut self.slots, cell, node)?;
+        Ok(())
+    }
+
+    /// Makes a cell's offer its formula, where there is one. It takes no memory.
+    pub fn accept(&mut self, cell: Cell)
+        ensures { self.new ≡ accepted self.old cell }
+    {
+        if has_offer(&self.slots, cell) {
+            let is_odd = side(&self.slots, cell);
+            turn(&mut self.slots, cell);
+            self.banks.clear(is_odd, cell);
+        }
+    }
+
+    /// Takes a cell's offer back. It takes no memory.
+    pub fn withdraw(&mut self, cell: Cell)
+        ensures { self.new ≡ withdrawn self.old cell }
+    {
+        let is_odd = !side(&self.slots, cell);
+        drop_offer(&mut self.slots, cell);
+        self.banks.clear(is_odd, cell);
+    }
+
+    /// Takes a cell's formula away. It takes no memory.
+    pub fn drop_cell(&mut self, cell: Cell)
+        ensures { self.new ≡ dropped self.old cell }
+    {
+        let is_odd = side(&self.slots, cell);
+        drop_node(&mut self.slots, cell);
+        self.banks.clear(is_odd, cell);
+    }
+
+    /// Puts a formula at a cell, and takes the cell's offer back. Where there is no memory, the formulas stay as they
+    /// are.
+    pub fn set(&mut self, cell: Cell, reads: &SpanList, volatile: bool) -> Result<(), Memory>
+        ensures ok { OnOk result (self.new ≡ put self.old cell (record { reads = reads.now; volatile = volatile })) }
+        ensures err { OnErr result (self.new.formulas ≡ self.old.formulas) }
+    {
+        let node = node(self.alloc, reads, volatile)?;
+        self.offer(cell, node)?;
+        self.accept(cell);
+        Ok(())
+    }
+
+    /// The formulas that read a cell, each once or twice.
+    pub fn readers(&self, cell: Cell) -> Result<CellList, Memory>
+        ensures { IfOk result (λ l. (d : Place) → (has l d ≡ true) ↔ (reads self.now d cell ≡ true)) }
+    {
+        let list = readers(self.alloc, &self.slots, &self.banks, cell)?;
+        Ok(list)
+    }
+
+    /// The formulas among the cells, and those that reach one of them through what they read.
+    pub fn closure(&self, cells: &CellList) -> Result<IndexSet<Cell>, Memory>
+        ensures { IfOk result (λ set. (c : Place) → (has set.keys c ≡ true) ↔ IsSpread self.now cells.now c) }
+    {
+        let set = closure(self.alloc, self, cells.as_slice())?;
+        Ok(set)
+    }
+}
+
+fn node(alloc: Global, reads: &SpanList, volatile: bool) -> Result<Node, Memory>
+    ensures { IfOk result (λ n. n ≡ record { reads = reads.now; volatile = volatile }) }
+{
+    match reads.copy(alloc) {
+        Ok(reads) => Ok(Node { reads, volatile }),
+        Err(_) => Err(Memory),
+    }
+}

@@ -1,0 +1,145 @@
+// The formula of each cell, with the one that it will have.
+ghost use Rattle.std.specs.Prelude.{◌≡◌, OnOk, OnErr, option_copied, Some, None, is_some};
+ghost use Rattle.std.specs.FinMap as map;
+ghost use Rattle.depend_graph.specs.Slots.{had, node_in, offer_in, offering, placed, side, slots_of, turned, turned_to, without_node, without_offer};
+
+use crate::Node;
+use grid_address::Cell;
+use lics_text::Memory;
+use std::collections::BTreeMap;
+
+/// A cell's formula and its offer. `is_odd` tells in which index the formula's spans are.
+#[derive(Drop)]
+pub struct Slot {
+    pub node: Option<Node>,
+    pub offer: Option<Node>,
+    pub is_odd: bool,
+}
+
+/// In which index the spans of the cell's formula are.
+pub fn side(slots: &BTreeMap<Cell, Slot>, cell: Cell) -> bool
+    ensures { result ≡ side (map.get (slots_of slots.now.entries) cell) }
+{
+    match slots.get(&cell) {
+        Some(slot) => slot.is_odd,
+        None => false,
+    }
+}
+
+/// The cell's formula.
+pub fn node_of(slots: &BTreeMap<Cell, Slot>, cell: Cell) -> Option<&Node>
+    ensures { option_copied result ≡ had node_in (map.get (slots_of slots.now.entries) cell) }
+{
+    match slots.get(&cell) {
+        Some(slot) => slot.node.as_ref(),
+        None => None,
+    }
+}
+
+fn has_node(slots: &BTreeMap<Cell, Slot>, cell: Cell) -> bool
+    ensures { result ≡ is_some (had node_in (map.get (slots_of slots.now.entries) cell)) }
+{
+    match slots.get(&cell) {
+        Some(slot) => slot.node.is_some(),
+        None => false,
+    }
+}
+
+/// Whether the cell has an offer.
+pub fn has_offer(slots: &BTreeMap<Cell, Slot>, cell: Cell) -> bool
+    ensures { result ≡ is_some (had offer_in (map.get (slots_of slots.now.entries) cell)) }
+{
+    match slots.get(&cell) {
+        Some(slot) => slot.offer.is_some(),
+        None => false,
+    }
+}
+
+fn write_offer(slot: &mut Slot, node: Node)
+    ensures { slot.new ≡ record slot.old { offer = Some node } }
+{
+    slot.offer = Some(node);
+}
+
+/// Puts an offer at the cell. The slots are as before where there is no memory.
+pub fn put_offer(slots: &mut BTreeMap<Cell, Slot>, cell: Cell, node: Node) -> Result<(), Memory>
+    ensures ok { OnOk result (slots_of slots.new.entries ≡ placed (slots_of slots.old.entries) cell (Some (offering (map.get (slots_of slots.old.entries) cell) node))) }
+    ensures err { OnErr result (slots_of slots.new.entries ≡ slots_of slots.old.entries) }
+{
+    match slots.get_mut(&cell) {
+        Some(slot) => {
+            write_offer(slot, node);
+            Ok(())
+        }
+        None => {
+            let slot = Slot {
+                node: None,
+                offer: Some(node),
+                is_odd: false,
+            };
+            match slots.insert(cell, slot) {
+                Ok(_) => Ok(()),
+                Err(_) => Err(Memory),
+            }
+        }
+    }
+}
+
+fn turn_slot(slot: &mut Slot)
+    ensures { slot.new ≡ turned_to slot.old.offer slot.old }
+{
+    if let Some(node) = slot.offer.take() {
+        slot.node = Some(node);
+        slot.is_odd = !slot.is_odd;
+    }
+}
+
+/// Makes the cell's offer its formula, where there is one. It takes no memory.
+pub fn turn(slots: &mut BTreeMap<Cell, Slot>, cell: Cell)
+    ensures { slots_of slots.new.entries ≡ placed (slots_of slots.old.entries) cell (turned (map.get (slots_of slots.old.entries) cell)) }
+{
+    match slots.get_mut(&cell) {
+        Some(slot) => turn_slot(slot),
+        None => {}
+    }
+}
+
+fn clear_offer(slot: &mut Slot)
+    ensures { slot.new ≡ record slot.old { offer = None } }
+{
+    slot.offer = None;
+}
+
+/// Takes the cell's offer away. It takes no memory.
+pub fn drop_offer(slots: &mut BTreeMap<Cell, Slot>, cell: Cell)
+    ensures { slots_of slots.new.entries ≡ placed (slots_of slots.old.entries) cell (without_offer (map.get (slots_of slots.old.entries) cell)) }
+{
+    if !has_node(slots, cell) {
+        let _ = slots.remove(&cell);
+        return;
+    }
+    match slots.get_mut(&cell) {
+        Some(slot) => clear_offer(slot),
+        None => {}
+    }
+}
+
+fn clear_node(slot: &mut Slot)
+    ensures { slot.new ≡ record slot.old { node = None } }
+{
+    slot.node = None;
+}
+
+/// Takes the cell's formula away. It takes no memory.
+pub fn drop_node(slots: &mut BTreeMap<Cell, Slot>, cell: Cell)
+    ensures { slots_of slots.new.entries ≡ placed (slots_of slots.old.entries) cell (without_node (map.get (slots_of slots.old.entries) cell)) }
+{
+    if !has_offer(slots, cell) {
+        let _ = slots.remove(&cell);
+        return;
+    }
+    match slots.get_mut(&cell) {
+        Some(slot) => clear_node(slot),
+        None => {}
+    }
+}

@@ -1,0 +1,4 @@
+pub mod Blocks
+pub mod Owners
+pub mod Powers
+pub mod Registered

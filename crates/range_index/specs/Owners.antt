@@ -1,0 +1,32 @@
+-- Which cells own spans, and which of their spans hold a cell.
+use Rattle.std.specs.Prelude.{Bool, cond, List, [], ◌∷◌, ◌++◌, Option, None, Some}
+use Rattle.std.specs.Coded.{Coded, coded_list}
+use Rattle.std.specs.FinMap.{FinMap, code, entries, get, insert}
+use Rattle.std.specs.List.{list_any}
+use Rattle.grid_address.specs.Place.{coded_extent, coded_place, is_within, place_cmp, Extent, Place}
+
+-- each owner's spans, in the order in which they were added
+abbrev pub Owners : Type 0
+Owners = FinMap place_cmp (List Extent)
+
+abbrev pub coded_owners : Coded Owners
+coded_owners = code coded_place (coded_list coded_extent)
+
+abbrev pub spans_in : Option (List Extent) → List Extent
+spans_in None = []
+spans_in (Some spans) = spans
+
+abbrev pub with_span : Owners → Place → Extent → Owners
+with_span m owner span = insert m owner (spans_in (get m owner) ++ span ∷ [])
+
+abbrev pub hold : List Extent → Place → Bool
+hold spans p = list_any (λ s. is_within s p) spans
+
+-- the owners among the entries of which a span holds a cell, each once, in their order
+abbrev pub owners_among : Place → List (Place × List Extent) → List Place
+owners_among p [] = []
+owners_among p (e ∷ es) = cond (hold e.1 p) (e.0 ∷ owners_among p es) (owners_among p es)
+
+-- the owners of a span that holds a cell, by row and then by column
+abbrev pub owners_of : Owners → Place → List Place
+owners_of m p = owners_among p (entries m)

@@ -1,0 +1,86 @@
+// The index of spans by their owners.
+ghost use Rattle.std.specs.Prelude.{◌≡◌, IfOk, OnOk, OnErr};
+ghost use Rattle.std.specs.FinMap as map;
+ghost use Rattle.range_index.specs.Owners.{owners_of, with_span};
+
+use crate::block::Size;
+use crate::owners::put;
+use crate::register::{Registration, enter, forget};
+use crate::search::owners_of;
+use grid_address::{Cell, CellList, Span, SpanList};
+use lics_text::Memory;
+use std::alloc::Global;
+use std::collections::{BTreeMap, BTreeSet};
+use std::marker::Model;
+
+/// Cells with the spans that they own. The sheet is cut into blocks of equal size, for each size of a power of two rows
+/// by a power of two columns. A span is registered at the smallest block that holds it, so that the owners of a cell
+/// are looked for in one block of each size in use.
+#[derive(Drop)]
+pub struct RangeIndex {
+    owners: BTreeMap<Cell, SpanList>,
+    sizes: BTreeSet<Size>,
+    registrations: BTreeSet<Registration>,
+    alloc: Global,
+}
+
+impl Model for RangeIndex {
+    ghost use Rattle.std.specs.FinMap as map;
+    ghost use Rattle.range_index.specs.Owners.{coded_owners, Owners};
+    ghost use Rattle.range_index.specs.Registered.{AreRegistered};
+
+    ghost Value = { Owners };
+
+    ghost coded = { coded_owners };
+
+    ghost view = { λ i. map.from_entries i.owners.entries };
+
+    ghost invariant = { λ i. AreRegistered (map.from_entries i.owners.entries) i.sizes.keys i.registrations.keys };
+}
+
+impl RangeIndex {
+    /// No owner.
+    pub fn new(alloc: Global) -> RangeIndex
+        ensures { result ≡ map.empty }
+    {
+        RangeIndex {
+            owners: BTreeMap::new(alloc),
+            sizes: BTreeSet::new(alloc),
+            registrations: BTreeSet::new(alloc),
+            alloc,
+        }
+    }
+
+    /// Gives an owner one more span. The index is as before where there is no memory.
+    pub fn add(&mut self, owner: Cell, span: Span) -> Result<(), Memory>
+        ensures ok { OnOk result (self.new ≡ with_span self.old owner span) }
+        ensures err { OnErr result (self.new ≡ self.old) }
+    {
+        enter(&mut self.sizes, &mut self.registrations, owner, span)?;
+        put(self.alloc, &mut self.owners, owner, span)?;
+        Ok(())
+    }
+
+    /// Takes an owner away with all its spans. It takes no memory.
+    pub fn remove(&mut self, owner: Cell)
+        ensures { self.new ≡ map.remove self.old owner }
+    {
+        if let Some(spans) = self.owners.remove(&owner) {
+            forget(&mut self.registrations, owner, spans.as_slice());
+        }
+    }
+
+    /// The owners of a span that holds the cell, each once, in row order.
+    pub fn owners_of(&self, cell: Cell) -> Result<CellList, Memory>
+        ensures { IfOk result (λ l. l ≡ owners_of self.now cell) }
+    {
+        let list = owners_of(
+            self.alloc,
+            &self.owners,
+            &self.sizes,
+            &self.registrations,
+            cell,
+        )?;
+        Ok(list)
+    }
+}

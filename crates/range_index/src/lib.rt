@@ -1,0 +1,13 @@
+//! Which cells own spans that hold a cell.
+#![tactic(auto)]
+
+mod block;
+mod index;
+mod owners;
+mod register;
+mod search;
+#[cfg(test)]
+mod tests;
+
+pub use index::RangeIndex;
+pub use owners::hold;

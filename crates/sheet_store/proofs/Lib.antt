@@ -1,0 +1,4 @@
+pub mod Copies
+pub mod Grids
+pub mod Held
+pub mod Scans

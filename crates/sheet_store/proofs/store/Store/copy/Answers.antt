@@ -1,0 +1,6 @@
+use Rattle.std.proofs.Common.{sym, subst}
+use Rattle.sheet_store.specs.Grid.{AreHeld}
+use Rattle.sheet_store.proofs.store.Store.copy.Goals as goal
+
+pub invariant_of-result : goal.invariant_of-result
+invariant_of-result c = subst AreHeld (sym c.in_ok-cells.ensures) c.self.invariant

@@ -1,0 +1,149 @@
+-- What a store holds: a finite map from cells to states, and each column's own width and whether it is hidden.
+use Rattle.std.specs.Prelude.{ℕ, ◌≡◌, refl, Bool, true, false, cond, not, ◌&&◌, ◌||◌, nat_eq, max, set, get_or, List, [], ◌∷◌, Option, None, Some}
+use Rattle.std.specs.Coded.{Coded, code_by, coded×, coded_ℕ, coded_bool, coded_list}
+use Rattle.std.specs.FinMap as map
+use Rattle.std.specs.FinMap.{FinMap}
+use Rattle.grid_address.specs.Place.{coded_place, is_within, place_cmp, Extent, InSheet, Place}
+use Rattle.grid_address.specs.declared.format.Format.{Format}
+use Rattle.formula_tree.specs.declared.value.Content.{Content}
+use Rattle.formula_tree.specs.declared.value.Content.TheVariants as content
+use Rattle.formula_tree.specs.declared.value.Value.{Value}
+use Rattle.formula_tree.specs.declared.value.Value.TheVariants as value
+use Rattle.sheet_store.specs.declared.state.CellState.{CellState}
+use Rattle.sheet_store.specs.contracts.state.CellState as state
+
+abbrev pub Cells : Type 0
+Cells = FinMap place_cmp CellState
+
+pub record Grid : Type 0 where
+  pub cells : Cells
+  pub widths : List ℕ
+  pub hidden : List Bool
+
+abbrev pub coded_grid : Coded Grid
+coded_grid = code_by (FinMap place_cmp CellState × (List ℕ × List Bool)) (coded× (map.code coded_place (state.the_row).coded) (coded× (coded_list coded_ℕ) (coded_list coded_bool)))
+    (λ g. (g.cells, (g.widths, g.hidden))) (λ p. record { cells = p.0; widths = p.1.0; hidden = p.1.1 }) (λ _. refl)
+
+abbrev pub is_blank : Content → Bool
+is_blank content.Blank = true
+is_blank (content.Number x) = false
+is_blank (content.Label p t) = false
+is_blank (content.Formula f) = false
+
+abbrev pub is_formula : Content → Bool
+is_formula content.Blank = false
+is_formula (content.Number x) = false
+is_formula (content.Label p t) = false
+is_formula (content.Formula f) = true
+
+-- ' " ^ \ and |
+abbrev pub is_prefix : ℕ → Bool
+is_prefix b = nat_eq b 39 || (nat_eq b 34 || (nat_eq b 94 || (nat_eq b 92 || nat_eq b 124)))
+
+-- a value that a content may have
+abbrev pub Fits : Content → Value → Type 0
+Fits content.Blank v = v ≡ value.Blank
+Fits (content.Number x) v = v ≡ value.Num x
+Fits (content.Label p t) v = (is_prefix p ≡ true) × (v ≡ value.Str t)
+Fits (content.Formula f) v = v ≡ value.Blank → ⊥
+
+abbrev pub IsSound : CellState → Type 0
+IsSound s = Fits s.content s.value
+
+-- a blank cell in the default format isn't kept
+abbrev pub is_kept : CellState → Bool
+is_kept s = cond (is_blank s.content) (not (nat_eq s.format.0 255)) true
+
+-- what every cell of a store keeps
+pub record IsHeld (p : Place) (s : CellState) : Type 0 where
+  pub inside : InSheet p
+  pub sound : IsSound s
+  pub kept : is_kept s ≡ true
+
+abbrev pub AreHeld : Cells → Type 0
+AreHeld m = (p : Place) (s : CellState) → map.get m p ≡ Some s → IsHeld p s
+
+abbrev pub put_state : Grid → Place → CellState → Grid
+put_state g c s = record g { cells = cond (is_kept s) (map.insert g.cells c s) (map.remove g.cells c) }
+
+abbrev pub clear_cell : Grid → Place → Grid
+clear_cell g c = record g { cells = map.remove g.cells c }
+
+-- the cell keeps its content and its format, and takes the value
+abbrev pub valued : Option CellState → Cells → Place → Value → Cells
+valued None m c v = m
+valued (Some s) m c v = map.insert m c (record s { value = v })
+
+abbrev pub set_value_at : Grid → Place → Value → Grid
+set_value_at g c v = record g { cells = valued (map.get g.cells c) g.cells c v }
+
+abbrev pub HasFormula : Grid → Place → Type 0
+HasFormula g c = (s : CellState) × (map.get g.cells c ≡ Some s) × (is_formula s.content ≡ true)
+
+abbrev pub blank_state : Format → CellState
+blank_state f = record { content = content.Blank; value = value.Blank; format = f }
+
+-- the cell keeps its content and its value; one that isn't there is blank
+abbrev pub formatted : Option CellState → Format → CellState
+formatted None f = blank_state f
+formatted (Some s) f = record s { format = f }
+
+abbrev pub set_format_of : Grid → Place → Format → Grid
+set_format_of g c f = put_state g c (formatted (map.get g.cells c) f)
+
+-- the cell has no content
+abbrev pub IsBlankAt : Grid → Place → Type 0
+IsBlankAt g c = (f : Format) → formatted (map.get g.cells c) f ≡ blank_state f
+
+abbrev pub HasContent : Grid → Place → Type 0
+HasContent g c = (s : CellState) × (map.get g.cells c ≡ Some s) × (is_blank s.content ≡ false)
+
+-- the cells among the entries that lie in the span and pass a test, in their order
+abbrev pub picked : (CellState → Bool) → Extent → List (Place × CellState) → List Place
+picked test p [] = []
+picked test p (e ∷ es) = cond (is_within p e.0 && test e.1) (e.0 ∷ picked test p es) (picked test p es)
+
+abbrev pub any_state : CellState → Bool
+any_state s = true
+
+abbrev pub holds_formula : CellState → Bool
+holds_formula s = is_formula s.content
+
+-- the cells of the map in the span, by row and then by column
+abbrev pub cells_within : Grid → Extent → List Place
+cells_within g p = picked any_state p (map.entries g.cells)
+
+abbrev pub formulas_within : Grid → Extent → List Place
+formulas_within g p = picked holds_formula p (map.entries g.cells)
+
+-- the last row and the last column that hold a cell
+abbrev pub further : Option Place → Place → Option Place
+further None p = Some p
+further (Some q) p = Some (record { row = max q.row p.row; col = max q.col p.col })
+
+abbrev pub last_among : Option Place → List (Place × CellState) → Option Place
+last_among last [] = last
+last_among last (e ∷ es) = last_among (further last e.0) es
+
+abbrev pub last_used : Grid → Option Place
+last_used g = last_among None (map.entries g.cells)
+
+-- an own width is 1 to 240, and 0 stands for none
+abbrev pub own_width : ℕ → Option ℕ
+own_width n = cond (nat_eq n 0) None (Some n)
+
+abbrev pub width_of : Grid → ℕ → Option ℕ
+width_of g col = own_width (get_or g.widths col 0)
+
+abbrev pub number_of_width : Option ℕ → ℕ
+number_of_width None = 0
+number_of_width (Some n) = n
+
+abbrev pub set_width_of : Grid → ℕ → Option ℕ → Grid
+set_width_of g col w = record g { widths = set g.widths col (number_of_width w) }
+
+abbrev pub is_hidden : Grid → ℕ → Bool
+is_hidden g col = get_or g.hidden col false
+
+abbrev pub set_hidden_of : Grid → ℕ → Bool → Grid
+set_hidden_of g col b = record g { hidden = set g.hidden col b }

@@ -1,0 +1,3 @@
+pub mod Choices
+pub mod Grid
+pub mod Scan

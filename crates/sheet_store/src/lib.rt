@@ -1,0 +1,17 @@
+//! The sheet as one map: the states of its cells, the columns' own widths and marks, and the settings.
+#![tactic(auto)]
+
+mod order;
+mod scan;
+mod settings;
+mod state;
+mod store;
+#[cfg(test)]
+mod tests;
+mod writes;
+
+pub use order::Order;
+pub use settings::Settings;
+pub use state::{CellState, is_formula, is_prefix};
+pub use store::Store;
+pub use writes::{SavedSheet, SheetFault, Write, Writes};

@@ -1,0 +1,269 @@
+// The cells of a sheet.
+ghost use Rattle.std.specs.Prelude.{◌≡◌, ◌≤◌, ◌++◌, ◌∷◌, [], OnOk, OnErr, IfOk, IfSome, IfNone, Some, None, option_copied, replicate, true, false};
+ghost use Rattle.std.specs.Option.{ForSome};
+ghost use Rattle.std.specs.FinMap as map;
+ghost use Rattle.std.specs.BTreeMap.{IsOrdered};
+ghost use Rattle.grid_address.specs.Place.{place_cmp};
+ghost use Rattle.sheet_store.specs.Grid.{any_state, cells_within, clear_cell, formatted, formulas_within, further, holds_formula, is_hidden, last_among, last_used, own_width, picked, put_state, set_format_of, set_hidden_of, set_value_at, set_width_of, width_of, AreHeld, HasContent, HasFormula, IsBlankAt, IsSound};
+
+use crate::CellState;
+use crate::scan::scan;
+use crate::state::is_blank;
+use formula_tree::Value;
+use grid_address::{Cell, CellList, Format, Span};
+use lics_text::Memory;
+use std::alloc::Global;
+use std::collections::BTreeMap;
+use std::marker::Model;
+
+/// A finite map from cells to states, and each column's own width and whether it is hidden. A blank cell in the
+/// default format isn't in the map, each value is one that its content may have, and an own width is 1 to 240.
+#[derive(Drop)]
+pub struct Store {
+    cells: BTreeMap<Cell, CellState>,
+    widths: [u8; 256],
+    hidden: [bool; 256],
+    alloc: Global,
+}
+
+impl Model for Store {
+    ghost use Rattle.std.specs.FinMap as map;
+    ghost use Rattle.sheet_store.specs.Grid.{coded_grid, AreHeld, Grid};
+
+    ghost Value = { Grid };
+
+    ghost coded = { coded_grid };
+
+    ghost view = { λ a. record { cells = map.from_entries a.cells.entries; widths = a.widths; hidden = a.hidden } };
+
+    ghost invariant = { λ a. AreHeld (map.from_entries a.cells.entries) };
+}
+
+impl Store {
+    /// An empty store.
+    pub fn new(alloc: Global) -> Store
+        ensures cells { result.cells ≡ map.empty }
+        ensures widths { result.widths ≡ replicate 256 0 }
+        ensures hidden { result.hidden ≡ replicate 256 false }
+    {
+        Store {
+            cells: BTreeMap::new(alloc),
+            widths: [0; 256],
+            hidden: [false; 256],
+            alloc,
+        }
+    }
+
+    /// The state of a cell.
+    pub fn get(&self, cell: Cell) -> Option<&CellState>
+        ensures { option_copied result ≡ map.get self.now.cells cell }
+    {
+        self.cells.get(&cell)
+    }
+
+    /// Takes a cell out.
+    pub fn clear(&mut self, cell: Cell)
+        ensures { self.new ≡ clear_cell self.old cell }
+    {
+        let _ = self.cells.remove(&cell);
+    }
+
+    /// Puts a state whose value its content may have. One that is blank in the default format takes the cell out. Only a
+    /// cell that isn't in the map can find no memory, so that an edit can put its new cells first, and takes them out by
+    /// `clear` where a later one finds none.
+    pub fn put(&mut self, cell: Cell, state: CellState) -> Result<(), Memory>
+        requires { IsSound state }
+        ensures ok { OnOk result (self.new ≡ put_state self.old cell state) }
+        ensures err { OnErr result (self.new ≡ self.old) }
+        ensures absent { OnErr result (map.get self.old.cells cell ≡ None) }
+    {
+        cell.is_on_sheet();
+        if !state.is_kept() {
+            let _ = self.cells.remove(&cell);
+            return Ok(());
+        }
+        match self.cells.insert(cell, state) {
+            Ok(_) => Ok(()),
+            Err(_) => Err(Memory),
+        }
+    }
+
+    /// The used cells of the span, in row order.
+    pub fn cells_in(&self, span: Span) -> Result<CellList, Memory>
+        ensures { IfOk result (λ l. l ≡ cells_within self.now span) }
+    {
+        let list = scan(self.alloc, &self.cells, span, false)?;
+        Ok(list)
+    }
+
+    /// The formulas of the span, in row order.
+    pub fn formulas_in(&self, span: Span) -> Result<CellList, Memory>
+        ensures { IfOk result (λ l. l ≡ formulas_within self.now span) }
+    {
+        let list = scan(self.alloc, &self.cells, span, true)?;
+        Ok(list)
+    }
+
+    /// The last row and the last column that hold a used cell, as one cell; none exactly where there is none.
+    pub fn last_used(&self) -> Option<Cell>
+        ensures { result ≡ last_used self.now }
+    {
+        last_of(&self.cells)
+    }
+
+    /// A column's own width, where it has one.
+    pub fn width(&self, col: u8) -> Option<u8>
+        ensures { result ≡ width_of self.now col }
+    {
+        own_width(self.widths[usize::from(col)])
+    }
+
+    /// Gives a column a width of its own, or takes it away.
+    pub fn set_width(&mut self, col: u8, width: Option<u8>)
+        requires { ForSome width (λ n. (1 ≤ n) × (n ≤ 240)) }
+        ensures { self.new ≡ set_width_of self.old col width }
+    {
+        self.widths[usize::from(col)] = width.unwrap_or(0);
+    }
+
+    /// Whether a column is hidden.
+    pub fn is_hidden(&self, col: u8) -> bool
+        ensures { result ≡ is_hidden self.now col }
+    {
+        self.hidden[usize::from(col)]
+    }
+
+    /// Hides a column, or shows it.
+    pub fn set_hidden(&mut self, col: u8, hidden: bool)
+        ensures { self.new ≡ set_hidden_of self.old col hidden }
+    {
+        self.hidden[usize::from(col)] = hidden;
+    }
+
+    /// An equal store.
+    pub fn copy(&self) -> Result<Store, Memory>
+        ensures { IfOk result (λ s. s ≡ self.now) }
+    {
+        let cells = copy_cells(self.alloc, &self.cells)?;
+        Ok(Store {
+            cells,
+            widths: self.widths,
+            hidden: self.hidden,
+            alloc: self.alloc,
+        })
+    }
+
+    /// Sets the format of a cell. A blank cell that gets the default format is taken out.
+    pub fn set_format(&mut self, cell: Cell, format: Format) -> Result<(), Memory>
+        ensures ok { OnOk result (self.new ≡ set_format_of self.old cell format) }
+        ensures err { OnErr result (self.new ≡ self.old) }
+    {
+        if self.is_blank(cell) {
+            self.put(cell, CellState::blank(format))
+        } else {
+            self.write_format(cell, format);
+            Ok(())
+        }
+    }
+
+    // Whether a cell has no content.
+    fn is_blank(&self, cell: Cell) -> bool
+        ensures blank { result ≡ true → IsBlankAt self.now cell }
+        ensures filled { result ≡ false → HasContent self.now cell }
+    {
+        match self.cells.get(&cell) {
+            Some(state) => is_blank(&state.content),
+            None => true,
+        }
+    }
+
+    // Sets the format of a cell that has a content.
+    fn write_format(&mut self, cell: Cell, format: Format)
+        requires { HasContent self.old cell }
+        ensures { self.new ≡ set_format_of self.old cell format }
+    {
+        match self.cells.get_mut(&cell) {
+            Some(state) => write_format(state, format),
+            None => {}
+        }
+    }
+
+    /// Sets the value of a formula. It takes no memory.
+    pub fn set_value(&mut self, cell: Cell, value: Value)
+        requires formula { HasFormula self.old cell }
+        requires some { value ≡ Value.Blank → ⊥ }
+        ensures { self.new ≡ set_value_at self.old cell value }
+    {
+        match self.cells.get_mut(&cell) {
+            Some(state) => write_value(state, value),
+            None => let_go(value),
+        }
+    }
+}
+
+fn write_value(state: &mut CellState, value: Value)
+    ensures { state.new ≡ record state.old { value = value } }
+{
+    state.value = value;
+}
+
+fn let_go(_value: Value) {}
+
+fn write_format(state: &mut CellState, format: Format)
+    ensures { state.new ≡ record state.old { format = format } }
+{
+    state.format = format;
+}
+
+fn further(last: Option<Cell>, cell: Cell) -> Option<Cell>
+    ensures { result ≡ further last cell }
+{
+    match last {
+        None => Some(cell),
+        Some(other) => Some(Cell {
+            row: other.row.max(cell.row),
+            col: other.col.max(cell.col),
+        }),
+    }
+}
+
+// The last row and the last column among the entries.
+fn last_of(cells: &BTreeMap<Cell, CellState>) -> Option<Cell>
+    ensures last { result ≡ last_among None cells.now.entries }
+    ensures ordered { IsOrdered place_cmp cells.now }
+{
+    let mut last = None;
+    for (cell, _) in cells.iter() {
+        last = further(last, *cell);
+    }
+    last
+}
+
+fn own_width(width: u8) -> Option<u8>
+    ensures { result ≡ own_width width }
+{
+    if width == 0 { None } else { Some(width) }
+}
+
+fn insert(cells: &mut BTreeMap<Cell, CellState>, cell: Cell, state: CellState) -> Result<(), Memory>
+    ensures { OnOk result (map.from_entries cells.new.entries ≡ map.insert {R = place_cmp} (map.from_entries cells.old.entries) cell state) }
+{
+    match cells.insert(cell, state) {
+        Ok(_) => Ok(()),
+        Err(_) => Err(Memory),
+    }
+}
+
+// Equal entries.
+fn copy_cells(
+    alloc: Global,
+    cells: &BTreeMap<Cell, CellState>,
+) -> Result<BTreeMap<Cell, CellState>, Memory>
+    ensures { IfOk result (λ m. map.from_entries {R = place_cmp} m.entries ≡ map.from_entries cells.now.entries) }
+{
+    let mut copy = BTreeMap::new(alloc);
+    for (cell, state) in cells.iter() {
+        insert(&mut copy, *cell, state.copy()?)?;
+    }
+    Ok(copy)
+}
