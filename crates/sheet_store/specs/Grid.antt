@@ -116,6 +116,15 @@ cells_within g p = picked any_state p (map.entries g.cells)
 abbrev pub formulas_within : Grid → Extent → List Place
 formulas_within g p = picked holds_formula p (map.entries g.cells)
 
+-- the formulas among the entries, in their order
+abbrev pub formulas_among : List (Place × CellState) → List Place
+formulas_among [] = []
+formulas_among (e ∷ es) = cond (is_formula e.1.content) (e.0 ∷ formulas_among es) (formulas_among es)
+
+-- every formula, by row and then by column
+abbrev pub formulas : Grid → List Place
+formulas g = formulas_among (map.entries g.cells)
+
 -- the last row and the last column that hold a cell
 abbrev pub further : Option Place → Place → Option Place
 further None p = Some p

@@ -3,7 +3,7 @@ ghost use Rattle.std.specs.Prelude.{◌≡◌, ◌∷◌, ◌<◌, ◌≤◌, �
 ghost use Rattle.std.specs.Ordering.{is_le, is_lt};
 ghost use Rattle.std.specs.BTreeMap.{IsOrdered};
 ghost use Rattle.grid_address.specs.Place.{is_within, place_cmp, Place};
-ghost use Rattle.sheet_store.specs.Grid.{picked};
+ghost use Rattle.sheet_store.specs.Grid.{formulas_among, picked};
 ghost use Rattle.sheet_store.specs.Scan.{entries_from, number_of, wanted, IsNext};
 
 use crate::CellState;
@@ -106,4 +106,25 @@ pub fn scan(
         from = next_place(span, *cell);
     }
     Ok(list)
+}
+
+/// Every formula, in row order.
+pub fn all_formulas(alloc: Global, cells: &BTreeMap<Cell, CellState>) -> Result<CellList, Memory>
+    ensures list { IfOk result (λ l. l ≡ formulas_among cells.now.entries) }
+    ensures ordered { IfOk result (λ _. IsOrdered place_cmp cells.now) }
+{
+    let mut list = CellList::new(alloc);
+    for (cell, state) in cells.iter() {
+        add_formula(&mut list, *cell, state)?;
+    }
+    Ok(list)
+}
+
+fn add_formula(list: &mut CellList, cell: Cell, state: &CellState) -> Result<(), Memory>
+    ensures { OnOk result (list.new ≡ list.old ++ formulas_among ((cell, state.now) ∷ [])) }
+{
+    if is_formula(&state.content) {
+        push(list, cell)?;
+    }
+    Ok(())
 }

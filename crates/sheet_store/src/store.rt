@@ -4,10 +4,10 @@ ghost use Rattle.std.specs.Option.{ForSome};
 ghost use Rattle.std.specs.FinMap as map;
 ghost use Rattle.std.specs.BTreeMap.{IsOrdered};
 ghost use Rattle.grid_address.specs.Place.{place_cmp};
-ghost use Rattle.sheet_store.specs.Grid.{any_state, cells_within, clear_cell, formatted, formulas_within, further, holds_formula, is_hidden, last_among, last_used, own_width, picked, put_state, set_format_of, set_hidden_of, set_value_at, set_width_of, width_of, AreHeld, HasContent, HasFormula, IsBlankAt, IsSound};
+ghost use Rattle.sheet_store.specs.Grid.{any_state, cells_within, clear_cell, formatted, formulas, formulas_within, further, holds_formula, is_hidden, last_among, last_used, own_width, picked, put_state, set_format_of, set_hidden_of, set_value_at, set_width_of, width_of, AreHeld, HasContent, HasFormula, IsBlankAt, IsSound};
 
 use crate::CellState;
-use crate::scan::scan;
+use crate::scan::{all_formulas, scan};
 use crate::state::is_blank;
 use formula_tree::Value;
 use grid_address::{Cell, CellList, Format, Span};
@@ -52,6 +52,11 @@ impl Store {
             hidden: [false; 256],
             alloc,
         }
+    }
+
+    /// The memory that the store is in.
+    pub fn alloc(&self) -> Global {
+        self.alloc
     }
 
     /// The state of a cell.
@@ -101,6 +106,14 @@ impl Store {
         ensures { IfOk result (λ l. l ≡ formulas_within self.now span) }
     {
         let list = scan(self.alloc, &self.cells, span, true)?;
+        Ok(list)
+    }
+
+    /// Every formula, in row order.
+    pub fn formulas(&self) -> Result<CellList, Memory>
+        ensures { IfOk result (λ l. l ≡ formulas self.now) }
+    {
+        let list = all_formulas(self.alloc, &self.cells)?;
         Ok(list)
     }
 

@@ -1,0 +1,3 @@
+pub mod Cut
+pub mod Machine
+pub mod Settle

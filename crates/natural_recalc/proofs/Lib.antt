@@ -1,0 +1,16 @@
+pub mod ByColumn
+pub mod Contents
+pub mod Counts
+pub mod Cut
+pub mod Edit
+pub mod Ends
+pub mod Filled
+pub mod First
+pub mod Fresh
+pub mod Graphs
+pub mod Held
+pub mod Items
+pub mod Members
+pub mod Rest
+pub mod RowOrder
+pub mod Valued

@@ -1,0 +1,52 @@
+-- Which cells the formulas of a span are, and that nothing but the formulas and their places decides them.
+use Rattle.std.specs.Prelude.{◌≡◌, ◌&&◌, ◌||◌, Bool, true, false, is_some, refl, List, [], ◌∷◌, ◌++◌, Option}
+use Rattle.std.specs.BTreeMap.{is_at}
+use Rattle.std.specs.List.{list_any}
+use Rattle.std.proofs.Common.{sym, ◌∙◌, ap}
+use Rattle.std.proofs.lemmas.Map.Lookups.{btree_set_from_contains}
+use Rattle.grid_address.proofs.Places.{cells_exact, cells_total, place_tied}
+use Rattle.grid_address.specs.Place.{is_within, place_cmp, same_place, Extent, Place}
+use Rattle.formula_tree.specs.Tree.{Tree}
+use Rattle.natural_order.specs.Walk.{has}
+use Rattle.range_index.specs.Owners.{hold}
+use Rattle.sheet_store.specs.Grid.{formulas, formulas_within, holds_formula, Grid}
+use Rattle.natural_recalc.specs.Reading.{formulas_in, is_formula_at, pre, spans_at, spans_in}
+use Rattle.natural_recalc.specs.Laws.{formulas_ascend, has_formula, has_in, has_within, picked_ascends, Ascends}
+use Rattle.natural_recalc.specs.World.{formula_at}
+
+-- lists in row order with the same members are one
+pub same_members : (xs ys : List Place) → Ascends xs → Ascends ys → ((d : Place) → has same_place xs d ≡ has same_place ys d) → xs ≡ ys
+same_members xs ys a b h = btree_set_from_contains cells_total (record { keys = xs }) (record { keys = ys }) a b (λ q. tied q xs ∙ h q ∙ sym (tied q ys)) cells_exact
+  where
+    tied : (q : Place) (zs : List Place) → list_any (is_at (place_cmp q)) zs ≡ has same_place zs q
+    tied q [] = refl
+    tied q (z ∷ zs) = ap (λ b. b || list_any (is_at (place_cmp q)) zs) (place_tied q z) ∙ ap (λ b. same_place q z || b) (tied q zs)
+
+module _ (a b : Grid) (same : formula_at a ≡ formula_at b) where
+  pub formula_along : (c : Place) → is_formula_at a c ≡ is_formula_at b c
+  formula_along c = ap (λ (h : Place → Option Tree). is_some (h c)) same
+
+  pub within_along : (s : Extent) → formulas_within a s ≡ formulas_within b s
+  within_along s = same_members _ _ (picked_ascends holds_formula a s) (picked_ascends holds_formula b s)
+      (λ d. has_within a s d ∙ ap (λ x. is_within s d && x) (formula_along d) ∙ sym (has_within b s d))
+
+  pub formulas_along : formulas a ≡ formulas b
+  formulas_along = same_members _ _ (formulas_ascend a) (formulas_ascend b) (λ d. has_formula a d ∙ formula_along d ∙ sym (has_formula b d))
+
+  in_along : (ss : List Extent) → formulas_in a ss ≡ formulas_in b ss
+  in_along [] = refl
+  in_along (s ∷ ss) = λ i. within_along s i ++ in_along ss i
+
+  pub pre_along : pre a ≡ pre b
+  pre_along = λ i c. (in_along (spans_in (formula_at a c) c) ∙ ap (λ (h : Place → Option Tree). formulas_in b (spans_in (h c) c)) same) i
+
+-- a formula is among those that a formula reads exactly where one of the spans holds it
+pub has_pre : (g : Grid) (c d : Place) → has same_place (pre g c) d ≡ (is_formula_at g d && hold (spans_at g c) d)
+has_pre g c d = has_in g (spans_at g c) d
+
+pub pre_formulas : (g : Grid) (c d : Place) → has same_place (pre g c) d ≡ true → has same_place (formulas g) d ≡ true
+pre_formulas g c d h = has_formula g d ∙ first (is_formula_at g d) (hold (spans_at g c) d) (sym (has_pre g c d) ∙ h)
+  where
+    first : (x y : Bool) → (x && y) ≡ true → x ≡ true
+    first true y k = refl
+    first false y k = k

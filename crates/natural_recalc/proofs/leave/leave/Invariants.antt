@@ -1,0 +1,8 @@
+use Rattle.std.specs.Prelude.{take}
+use Rattle.grid_address.specs.Place.{same_place}
+use Rattle.natural_order.specs.Walk.{has}
+use Rattle.natural_recalc.specs.Passes.{LeftSoFar}
+use Rattle.natural_recalc.proofs.leave.leave.Given as goal
+
+abbrev pub invariant-loop-cell : goal.invariant-loop-cell
+invariant-loop-cell l = LeftSoFar l.store (has same_place l.fn.dirty.keys) (take l.cell-index l.order) (has same_place l.dirty.keys)

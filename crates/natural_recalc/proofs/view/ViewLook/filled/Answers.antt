@@ -1,0 +1,10 @@
+use Rattle.std.proofs.Common.{◌∙◌, ap}
+use Rattle.std.specs.List.{filter}
+use Rattle.grid_address.specs.Place.{Place}
+use Rattle.formula_eval.specs.World.{is_filled}
+use Rattle.natural_recalc.proofs.Filled.{filled_is}
+use Rattle.natural_recalc.specs.World.{value_at}
+use Rattle.natural_recalc.proofs.view.ViewLook.filled.Goals as goal
+
+pub returns : goal.returns
+returns c = c.in_ok-list.ensures ∙ ap (filter (λ (p : Place). is_filled (value_at c.args.self.now.store.now p))) (c.as_slice.ensures ∙ c.in_ok-cells.ensures) ∙ filled_is c.args.self.now.store.now c.args.span

@@ -1,0 +1,4 @@
+pub mod Laws
+pub mod Passes
+pub mod Reading
+pub mod World

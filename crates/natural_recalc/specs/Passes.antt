@@ -1,0 +1,125 @@
+-- Passes over formulas, and what holds of the dirty ones.
+use Rattle.std.specs.Prelude.{ℕ, zero, suc, ◌≡◌, ◌+◌, ◌-◌, ◌^◌, ◌⊎◌, ◌↔◌, ◌||◌, min, Bool, true, false, cond, nat_eq, Option, None, Some, List}
+use Rattle.std.specs.FinMap as map
+use Rattle.std.specs.List.{filter, fold, list_any}
+use Rattle.grid_address.specs.Place.{same_place, Place}
+use Rattle.formula_tree.specs.Spans.{is_volatile}
+use Rattle.formula_tree.specs.Tree.{Tree}
+use Rattle.formula_tree.specs.declared.value.Value.{Value}
+use Rattle.formula_tree.specs.declared.value.Value.TheVariants as value
+use Rattle.formula_eval.specs.Mean.{Reads}
+use Rattle.formula_eval.specs.World.{World}
+use Rattle.natural_order.specs.Walk.{has, Reaches}
+use Rattle.range_index.specs.Owners.{hold}
+use Rattle.sheet_store.specs.Grid.{set_value_at, Grid}
+use Rattle.sheet_store.specs.declared.order.Order.{Order}
+use Rattle.sheet_store.specs.declared.order.Order.TheVariants as orders
+use Rattle.natural_recalc.specs.Reading.{is_formula_at, natural_order, pre, spans_at, volatile_of, StaysDirty}
+use Rattle.natural_recalc.specs.World.{content_of, format_of, formula_at, value_at, world_at, Context}
+
+abbrev pub Meaning : Type 0
+Meaning = Tree → Place → World → Value
+
+-- a meaning that is never blank, and hangs on the values that are read alone where the formula isn't volatile
+pub record IsMeaning (mean : Meaning) : Type 0 where
+  pub some : (t : Tree) (at : Place) (w : World) → mean t at w ≡ value.Blank → ⊥
+  pub reads : (t : Tree) (at : Place) (w u : World) → is_volatile t ≡ false → ((c : Place) → Reads t at c → w.sight.values c ≡ u.sight.values c) → mean t at w ≡ mean t at u
+
+abbrev pub revalued : Meaning → Context → Grid → Place → Option Tree → Grid
+revalued mean x g c None = g
+revalued mean x g c (Some t) = set_value_at g c (mean t c (world_at x g))
+
+-- a cell takes the meaning of its formula over the values as they stand
+abbrev pub evaluated : Meaning → Context → Grid → Place → Grid
+evaluated mean x g c = revalued mean x g c (formula_at g c)
+
+abbrev pub pass : Meaning → Context → List Place → Grid → Grid
+pass mean x cells g = fold (evaluated mean x) g cells
+
+abbrev pub passes : Meaning → Context → ℕ → List Place → Grid → Grid
+passes mean x zero cells g = g
+passes mean x (suc n) cells g = passes mean x n cells (pass mean x cells g)
+
+-- a count after so many evaluations: it stays at the last u64
+abbrev pub raised_by : ℕ → ℕ → ℕ
+raised_by n count = cond (nat_eq n 0) count (min (count + n) (2 ^ 64 - 1))
+
+-- what holds of the dirty formulas between the edits
+pub record IsSound (mean : Meaning) (x : Context) (g : Grid) (dirty : Place → Bool) : Type 0 where
+  pub only : (c : Place) → dirty c ≡ true → is_formula_at g c ≡ true
+  pub up : (c d : Place) → has same_place (pre g c) d ≡ true → dirty d ≡ true → dirty c ≡ true
+  pub calm : (c : Place) (t : Tree) → formula_at g c ≡ Some t → dirty c ≡ false → is_volatile t ≡ false
+  pub acyclic : (c : Place) → dirty c ≡ false → Reaches same_place (pre g) c c → ⊥
+  pub right : (c : Place) (t : Tree) → formula_at g c ≡ Some t → dirty c ≡ false → value_at g c ≡ mean t c (world_at x g)
+
+abbrev pub IsWhatStays : Grid → (Place → Bool) → Type 0
+IsWhatStays g rest = (c : Place) → (rest c ≡ true) ↔ StaysDirty g c
+
+-- the formulas that are dirty after a recalculation: those that stay in natural order, and in another order all that were
+abbrev pub IsDirtyAfter : Order → Grid → (Place → Bool) → (Place → Bool) → Type 0
+IsDirtyAfter orders.Natural g old new = IsWhatStays g new
+IsDirtyAfter orders.Columnwise g old new = (c : Place) → new c ≡ old c
+IsDirtyAfter orders.Rowwise g old new = (c : Place) → new c ≡ old c
+
+-- contents, formats, widths and marks are the same
+pub record SameContents (old new : Grid) : Type 0 where
+  pub contents : (c : Place) → content_of (map.get new.cells c) ≡ content_of (map.get old.cells c)
+  pub formats : (c : Place) → format_of (map.get new.cells c) ≡ format_of (map.get old.cells c)
+  pub widths : new.widths ≡ old.widths
+  pub hidden : new.hidden ≡ old.hidden
+
+-- no formula is volatile, and none reaches itself
+pub record IsPlain (g : Grid) : Type 0 where
+  pub steady : (c : Place) (t : Tree) → formula_at g c ≡ Some t → is_volatile t ≡ false
+  pub acyclic : (c : Place) → Reaches same_place (pre g) c c → ⊥
+
+-- each formula has its meaning over the sheet's values
+abbrev pub IsRight : Meaning → Context → Grid → Type 0
+IsRight mean x g = (c : Place) (t : Tree) → formula_at g c ≡ Some t → value_at g c ≡ mean t c (world_at x g)
+
+-- one pass over the dirty formulas is one pass over all
+abbrev pub PassIsCut : Meaning → Context → Type 0
+PassIsCut mean x = (g : Grid) (dirty : Place → Bool) → IsSound mean x g dirty → (cells : List Place)
+    → pass mean x cells g ≡ pass mean x (filter dirty cells) g
+
+-- a formula reaches a cell that it reads, or that a formula which it reads reaches
+pub data ReachesCell (g : Grid) : Place → Place → Type 0 where
+  direct : {c d : Place} → hold (spans_at g c) d ≡ true → ReachesCell g c d
+  through : {c e d : Place} → has same_place (pre g c) e ≡ true → ReachesCell g e d → ReachesCell g c d
+
+-- cells were written, and the formulas that they hold or that reach one of them are dirty now
+pub record IsSpread (old new : Grid) (written dirty spread : Place → Bool) : Type 0 where
+  pub others : (c : Place) → written c ≡ false → map.get new.cells c ≡ map.get old.cells c
+  pub only : (c : Place) → spread c ≡ true → is_formula_at new c ≡ true
+  pub written_too : (c : Place) → written c ≡ true → is_formula_at new c ≡ true → spread c ≡ true
+  pub reaching : (c w : Place) → written w ≡ true → ReachesCell new c w → spread c ≡ true
+  pub kept : (c : Place) → dirty c ≡ true → is_formula_at new c ≡ true → spread c ≡ true
+  pub exact : (c : Place) → spread c ≡ true → (written c ≡ true) ⊎ (((w : Place) × (written w ≡ true) × ReachesCell new c w) ⊎ (dirty c ≡ true))
+
+-- an edit that spreads keeps what holds of the dirty formulas
+abbrev pub EditKeepsSound : Meaning → Context → Type 0
+EditKeepsSound mean x = (old new : Grid) (written dirty spread : Place → Bool) → IsSound mean x old dirty → IsSpread old new written dirty spread → IsSound mean x new spread
+
+-- the formulas that stay dirty after a recalculation, as a set: what is left out isn't volatile, and reads nothing that is in
+pub record IsRest (g : Grid) (rest : Place → Bool) : Type 0 where
+  pub only : (c : Place) → rest c ≡ true → is_formula_at g c ≡ true
+  pub volatile : (c : Place) (t : Tree) → formula_at g c ≡ Some t → rest c ≡ false → is_volatile t ≡ false
+  pub up : (c d : Place) → has same_place (pre g c) d ≡ true → rest d ≡ true → rest c ≡ true
+  pub acyclic : (c : Place) → rest c ≡ false → Reaches same_place (pre g) c c → ⊥
+
+-- the passes over all formulas are one over the dirty ones and the further ones over the rest
+abbrev pub RecalculationIsCut : Meaning → Context → Type 0
+RecalculationIsCut mean x = (g : Grid) (dirty rest : Place → Bool) → IsSound mean x g dirty → IsRest g rest → (n : ℕ)
+    → passes mean x (suc n) (natural_order g).done g
+    ≡ passes mean x n (filter rest (natural_order g).done) (pass mean x (filter dirty (natural_order g).done) g)
+
+-- whether a cell keeps its place in the set: it is volatile, or reads one that is in it
+abbrev pub is_held : Grid → (Place → Bool) → Place → Bool
+is_held g dirty c = volatile_of (formula_at g c) || list_any dirty (pre g c)
+
+-- the set now, where the cells seen have been tried
+pub record LeftSoFar (g : Grid) (old : Place → Bool) (seen : List Place) (now : Place → Bool) : Type 0 where
+  pub within : (c : Place) → now c ≡ true → old c ≡ true
+  pub later : (c : Place) → old c ≡ true → has same_place seen c ≡ false → now c ≡ true
+  pub earned : (c : Place) → has same_place seen c ≡ true → now c ≡ true → StaysDirty g c
+  pub all : (c : Place) → StaysDirty g c → now c ≡ true

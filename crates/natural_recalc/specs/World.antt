@@ -1,0 +1,74 @@
+-- What a sheet tells its formulas.
+use Rattle.std.specs.Prelude.{ℕ, ◌≡◌, Option, None, Some}
+use Rattle.std.specs.FinMap as map
+use Rattle.grid_address.specs.Place.{Place}
+use Rattle.range_names.specs.Names.{NameMap}
+use Rattle.formula_tree.specs.Tree.{Tree}
+use Rattle.formula_tree.specs.declared.value.Content.{Content}
+use Rattle.formula_tree.specs.declared.value.Content.TheVariants as content
+use Rattle.formula_tree.specs.declared.value.Value.{Value}
+use Rattle.formula_tree.specs.declared.value.Value.TheVariants as value
+use Rattle.sheet_store.specs.Choices.{Choices}
+use Rattle.sheet_store.specs.Grid.{width_of, Grid}
+use Rattle.sheet_store.specs.declared.state.CellState.{CellState}
+use Rattle.formula_eval.specs.Scenes.{world_of}
+use Rattle.formula_eval.specs.World.{Sight, World}
+use Rattle.formula_eval.specs.declared.look.Scene.{Scene}
+
+-- what formulas look at beside the cells and the columns
+pub record Context : Type 0 where
+  pub names : NameMap
+  pub settings : Choices
+  pub scene : Scene
+
+abbrev pub context_of : NameMap → Choices → Scene → Context
+context_of names settings scene = record { names = names; settings = settings; scene = scene }
+
+abbrev pub value_of : Option CellState → Value
+value_of None = value.Blank
+value_of (Some s) = s.value
+
+abbrev pub IsBlank : Value → Type 0
+IsBlank v = v ≡ value.Blank
+
+abbrev pub content_of : Option CellState → Option Content
+content_of None = None
+content_of (Some s) = Some s.content
+
+-- a cell that isn't there has the default format
+abbrev pub format_of : Option CellState → ℕ
+format_of None = 255
+format_of (Some s) = s.format.0
+
+abbrev pub formula_in : Content → Option Tree
+formula_in content.Blank = None
+formula_in (content.Number x) = None
+formula_in (content.Label p t) = None
+formula_in (content.Formula f) = Some f
+
+abbrev pub formula_of : Option CellState → Option Tree
+formula_of None = None
+formula_of (Some s) = formula_in s.content
+
+abbrev pub value_at : Grid → Place → Value
+value_at g c = value_of (map.get g.cells c)
+
+abbrev pub formula_at : Grid → Place → Option Tree
+formula_at g c = formula_of (map.get g.cells c)
+
+-- a column without a width of its own has the sheet's
+abbrev pub width_or : ℕ → Option ℕ → ℕ
+width_or global None = global
+width_or global (Some n) = n
+
+abbrev pub sight_of : NameMap → Choices → Grid → Sight
+sight_of names settings g = record {
+  values = λ c. value_at g c;
+  contents = λ c. content_of (map.get g.cells c);
+  formats = λ c. format_of (map.get g.cells c);
+  widths = λ col. width_or settings.width (width_of g col);
+  names = names;
+}
+
+abbrev pub world_at : Context → Grid → World
+world_at x g = world_of (sight_of x.names x.settings g) x.scene

@@ -1,0 +1,92 @@
+// Evaluation of formulas in the cells of a store.
+ghost use Rattle.std.specs.Prelude.{◌≡◌, ◌*◌, Bool, length, OnErr, OnOk, true};
+ghost use Rattle.grid_address.specs.Place.{same_place, Place};
+ghost use Rattle.natural_order.specs.Walk.{has};
+ghost use Rattle.natural_recalc.specs.Passes.{evaluated, pass, passes, raised_by, IsSound, SameContents};
+ghost use Rattle.natural_recalc.specs.Reading.{is_formula_at};
+ghost use Rattle.natural_recalc.specs.World.{context_of};
+
+use crate::{Missing, View};
+use formula_eval::{Means, Scene};
+use formula_tree::Content;
+use grid_address::Cell;
+use lics_text::Memory;
+use range_names::Names;
+use sheet_store::{Settings, Store};
+
+// Gives a cell the meaning of its formula.
+pub fn evaluate_at<E: Means>(
+    store: &mut Store,
+    cell: Cell,
+    names: &Names,
+    settings: &Settings,
+    scene: &Scene,
+    tally: &mut E,
+) -> Result<(), Memory>
+    requires { is_formula_at store.old cell ≡ true }
+    ensures value { OnOk result (store.new ≡ evaluated E.meaning (context_of names.now settings.now scene.entry.now) store.old cell) }
+    ensures err { OnErr result (store.new ≡ store.old) }
+    ensures count { OnOk result (E.count tally.new ≡ raised_by 1 (E.count tally.old)) }
+{
+    let Some(state) = store.get(cell) else {
+        return Ok(());
+    };
+    let Content::Formula(formula) = &state.content else {
+        return Ok(());
+    };
+    let missing = Missing::new();
+    let view = View {
+        store,
+        names,
+        settings,
+        missing: &missing,
+    };
+    let value = tally.evaluate(formula, cell, &view, scene)?;
+    store.set_value(cell, value);
+    Ok(())
+}
+
+// Gives each of the cells, in turn, the meaning of its formula.
+pub fn pass_over<E: Means>(
+    store: &mut Store,
+    cells: &[Cell],
+    names: &Names,
+    settings: &Settings,
+    scene: &Scene,
+    tally: &mut E,
+) -> Result<(), Memory>
+    requires { (c : Place) → has same_place cells.now c ≡ true → is_formula_at store.old c ≡ true }
+    ensures values { OnOk result (store.new ≡ pass E.meaning (context_of names.now settings.now scene.entry.now) cells.now store.old) }
+    ensures count { OnOk result (E.count tally.new ≡ raised_by (length cells.now) (E.count tally.old)) }
+    ensures sound { (dirty : Place → Bool) → IsSound E.meaning (context_of names.now settings.now scene.entry.now) store.old dirty
+        → IsSound E.meaning (context_of names.now settings.now scene.entry.now) store.new dirty }
+    ensures contents { SameContents store.old store.new }
+{
+    for cell in cells {
+        evaluate_at(store, *cell, names, settings, scene, tally)?;
+    }
+    Ok(())
+}
+
+// Goes over the cells as many times as it is told.
+pub fn further<E: Means>(
+    store: &mut Store,
+    cells: &[Cell],
+    times: u8,
+    names: &Names,
+    settings: &Settings,
+    scene: &Scene,
+    tally: &mut E,
+) -> Result<(), Memory>
+    requires { (c : Place) → has same_place cells.now c ≡ true → is_formula_at store.old c ≡ true }
+    ensures values { OnOk result (store.new ≡ passes E.meaning (context_of names.now settings.now scene.entry.now) times cells.now store.old) }
+    ensures count { OnOk result (E.count tally.new ≡ raised_by (times * length cells.now) (E.count tally.old)) }
+    ensures sound { (dirty : Place → Bool) → IsSound E.meaning (context_of names.now settings.now scene.entry.now) store.old dirty
+        → IsSound E.meaning (context_of names.now settings.now scene.entry.now) store.new dirty }
+    ensures contents { SameContents store.old store.new }
+{
+    for _turn in 0..times {
+        pass_over(store, cells, names, settings, scene, tally)?;
+    }
+    Ok(())
+}

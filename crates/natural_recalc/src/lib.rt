@@ -1,0 +1,20 @@
+//! Recalculation: the dirty formulas alone are evaluated, and the values are those of evaluating all.
+#![tactic(auto)]
+
+mod columns;
+mod evaluate;
+mod laws;
+mod leave;
+mod missing;
+mod reads;
+mod recalculation;
+#[cfg(test)]
+mod tests;
+mod view;
+mod whole;
+
+pub use laws::{edit_keeps_sound, pass_is_cut, recalculation_is_cut};
+pub use missing::Missing;
+pub use recalculation::{Circ, recalc};
+pub use view::View;
+pub use whole::{all_dirty, graph_of};
