@@ -1,0 +1,97 @@
+//! The work that bench/store and bench/recalculate measure. With the word `cells` it puts 100,000 formulas, and reads
+//! each of them and sets its value ten times; with `owners` it asks ten times for the owners of each of 8,000 cells, of
+//! which each has one owner; with `spans` for those of 8,000 cells among 1,000 owners of long spans; with `closure` it
+//! goes ten times along a chain of 8,000 formulas; with `chain` it writes ten times the head of such a chain, finds what
+//! reaches it, and recalculates. It prints a sum by which the work can be compared, and without a word the sums of all.
+#![tactic(auto)]
+
+mod cells;
+mod chain;
+mod graphs;
+
+use cells::touch_cells;
+use chain::edit_head;
+use graphs::{ask_owners, ask_spans, go_along};
+use lics_text::Memory;
+use std::alloc::Global;
+use std::env;
+use std::io::Write;
+use std::process::ExitCode;
+
+#[derive(Clone, Copy)]
+enum Work {
+    Cells,
+    Owners,
+    Spans,
+    Closure,
+    Chain,
+}
+
+enum Stop {
+    Memory,
+    Stream,
+}
+
+fn work_of(word: &str) -> Option<Work> {
+    match word {
+        "cells" => Some(Work::Cells),
+        "owners" => Some(Work::Owners),
+        "spans" => Some(Work::Spans),
+        "closure" => Some(Work::Closure),
+        "chain" => Some(Work::Chain),
+        _ => None,
+    }
+}
+
+fn sum_of(alloc: Global, work: Work) -> Result<u64, Memory> {
+    match work {
+        Work::Cells => touch_cells(alloc),
+        Work::Owners => ask_owners(alloc),
+        Work::Spans => ask_spans(alloc),
+        Work::Closure => go_along(alloc),
+        Work::Chain => edit_head(alloc),
+    }
+}
+
+fn print<W: Write>(alloc: Global, work: Work, out: &mut W) -> Result<(), Stop> {
+    let Ok(sum) = sum_of(alloc, work) else {
+        return Err(Stop::Memory);
+    };
+    match writeln!(out, "{sum}") {
+        Ok(()) => Ok(()),
+        Err(_) => Err(Stop::Stream),
+    }
+}
+
+fn print_all<W: Write>(alloc: Global, out: &mut W) -> Result<(), Stop> {
+    for work in [
+        Work::Cells,
+        Work::Owners,
+        Work::Spans,
+        Work::Closure,
+        Work::Chain,
+    ] {
+        print(alloc, work, out)?;
+    }
+    Ok(())
+}
+
+fn main(rt: HostRuntime) -> ExitCode {
+    let alloc = rt.alloc();
+    let mut out = rt.stdout();
+    let Ok(args) = env::args(&rt) else {
+        return ExitCode::from(1);
+    };
+    let answer = match args.skip(1).next() {
+        None => print_all(alloc, &mut out),
+        Some(word) => match work_of(word.as_str()) {
+            Some(work) => print(alloc, work, &mut out),
+            None => return ExitCode::from(3),
+        },
+    };
+    match answer {
+        Ok(()) => ExitCode::SUCCESS,
+        Err(Stop::Memory) => ExitCode::from(1),
+        Err(Stop::Stream) => ExitCode::from(2),
+    }
+}
