@@ -1,5 +1,5 @@
 // Recalculation over the dirty formulas.
-ghost use Rattle.std.specs.Prelude.{◌≡◌, ◌+◌, ◌-◌, ◌*◌, ◌≤◌, [], length, Bool, IfOk, OnOk, true, false};
+ghost use Rattle.std.specs.Prelude.{◌≡◌, ◌+◌, ◌-◌, ◌*◌, ◌≤◌, [], length, Bool, IfOk, OnErr, OnOk, true, false};
 ghost use Rattle.std.specs.List.{filter};
 ghost use Rattle.std.specs.List.Sorted.{IsStrictlySortedBy};
 ghost use Rattle.grid_address.specs.Place.{place_cmp, same_place, Place};
@@ -178,6 +178,7 @@ fn recalc_natural<E: Means>(
     ensures stays { OnOk result (IsWhatStays store.new (has same_place dirty.new.keys)) }
     ensures sound { IsSound E.meaning (context_of names.now settings.now scene.entry.now) store.new (has same_place dirty.new.keys) }
     ensures contents { SameContents store.old store.new }
+    ensures err { OnErr result (dirty.new.keys ≡ dirty.old.keys) }
     ensures count { OnOk result (E.count tally.new ≡ raised_by (length dirty.old.keys + (times - 1) * length dirty.new.keys) (E.count tally.old)) }
 {
     let order = first_pass(store, graph, dirty, names, settings, scene, tally)?;
@@ -233,7 +234,7 @@ fn recalc_plain<E: Means>(
 /// order of the settings. The tally rises by the number of dirty formulas, and for each further pass by that of the
 /// formulas which are dirty afterwards. In natural order these are the formulas that are volatile or reach themselves,
 /// and those that reach one of them; in another order they are those that were dirty before. Where there is no memory,
-/// contents and formats are as before, and what held of the dirty formulas still holds.
+/// contents, formats and the dirty formulas are as before, and what held of these still holds.
 pub fn recalc<E: Means>(
     store: &mut Store,
     graph: &Graph,
@@ -253,6 +254,7 @@ pub fn recalc<E: Means>(
     ensures sound { IsSound E.meaning (context_of names.now settings.now scene.entry.now) store.new (has same_place dirty.new.keys) }
     ensures contents { SameContents store.old store.new }
     ensures matches { Matches graph.now store.new }
+    ensures err { OnErr result (dirty.new.keys ≡ dirty.old.keys) }
     ensures count { OnOk result (E.count tally.new ≡ raised_by (length dirty.old.keys + (passes - 1) * length dirty.new.keys) (E.count tally.old)) }
     ensures right { OnOk result (settings.now.order ≡ Natural → IsPlain store.old → IsRight E.meaning (context_of names.now settings.now scene.entry.now) store.new) }
 {

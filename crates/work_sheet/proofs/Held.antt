@@ -1,0 +1,160 @@
+-- Why a sheet keeps what it keeps.
+use Rattle.std.specs.Prelude.{◌≡◌, Bool, true, false, cond, is_some, refl, List, [], Option, None, Some}
+use Rattle.std.specs.FinMap.{empty, get, get-empty, insert, remove}
+use Rattle.std.proofs.Common.{sym, ◌∙◌, ap, subst, inl, inr}
+use Rattle.std.proofs.lemmas.Bool.{cases_Bool, true≢false}
+use Rattle.grid_address.proofs.Places.{get_inserted, get_removed, same_place_is, same_place_itself}
+use Rattle.grid_address.specs.Place.{place_cmp, same_place, Place}
+use Rattle.formula_tree.specs.Tree.{Tree}
+use Rattle.depend_graph.specs.Network.{Network}
+use Rattle.natural_order.specs.Walk.{has, Reaches}
+use Rattle.natural_order.specs.Walk.Reaches.{more, one}
+use Rattle.sheet_store.specs.Grid.{is_formula, is_kept, put_state, Cells, Grid}
+use Rattle.sheet_store.specs.declared.order.Order.{Order}
+use Rattle.sheet_store.specs.declared.order.Order.TheVariants as orders
+use Rattle.sheet_store.specs.declared.state.CellState.{CellState}
+use Rattle.natural_recalc.proofs.Contents.{formulas_same}
+use Rattle.natural_recalc.proofs.Edit.{edit_keeps_sound}
+use Rattle.natural_recalc.proofs.First.{reads_formula}
+use Rattle.natural_recalc.proofs.Members.{pre_along}
+use Rattle.natural_recalc.specs.Passes.{IsDirtyAfter, IsMeaning, IsSound, IsSpread, Meaning, ReachesCell, SameContents}
+use Rattle.natural_recalc.specs.Reading.{is_formula_at, node_of, pre, Matches}
+use Rattle.natural_recalc.specs.World.{formula_at, formula_of, value_of, world_at, Context}
+use Rattle.work_sheet.proofs.Reaching.{formula_beside, reaching_formula}
+use Rattle.work_sheet.specs.Edits.{AreDirtied}
+use Rattle.work_sheet.specs.Sheets.{AllDirtyIn, IsKept}
+
+module _ (mean : Meaning) (meaning : IsMeaning mean) where
+  -- what holds in one context holds in each, whatever the columns are
+  pub anywhere : (g h : Grid) (dirty : Place → Bool) (x y : Context) → h.cells ≡ g.cells → IsSound mean x g dirty → IsSound mean y h dirty
+  anywhere g h dirty x y e s =
+      let formulas : formula_at h ≡ formula_at g = λ i c. formula_of (get (e i) c) in
+      record {
+        only = λ c t. ap (λ (k : Place → Option Tree). is_some (k c)) formulas ∙ s.only c t;
+        up = λ c d m t. s.up c d (sym (ap (λ (p : Place → List Place). has same_place (p c) d) (pre_along h g formulas)) ∙ m) t;
+        calm = λ c t here k. s.calm c t (sym (ap (λ (f : Place → Option Tree). f c) formulas) ∙ here) k;
+        acyclic = λ c k r. s.acyclic c k (subst (λ (p : Place → List Place). Reaches same_place p c c) (pre_along h g formulas) r);
+        right = λ c t here k.
+            let there : formula_at g c ≡ Some t = sym (ap (λ (f : Place → Option Tree). f c) formulas) ∙ here in
+            ap (λ (m : Cells). value_of (get m c)) e ∙ s.right c t there k
+            ∙ meaning.reads t c (world_at x g) (world_at y h) (s.calm c t there k) (λ d _. sym (ap (λ (m : Cells). value_of (get m d)) e));
+      }
+
+  module _ (g : Grid) (cell : Place) (s : CellState) (keeps : is_formula s.content ≡ true → is_kept s ≡ true) (n : Network) (m : Matches n g) (old new : List Place) (d : AreDirtied (put_state g cell s) (has same_place old) cell (has same_place new)) where
+    beside : (c : Place) → same_place c cell ≡ false → get (put_state g cell s).cells c ≡ get g.cells c
+    beside c h = elim (cases_Bool (is_kept s)) [
+      | inl k ↦ ap (λ b. get (cond b (insert g.cells cell s) (remove g.cells cell)) c) k ∙ get_inserted g.cells cell s c ∙ ap (λ b. cond b (Some s) (get g.cells c)) h
+      | inr k ↦ ap (λ b. get (cond b (insert g.cells cell s) (remove g.cells cell)) c) k ∙ get_removed g.cells cell c ∙ ap (λ b. cond b None (get g.cells c)) h
+    ]
+
+    spreads : IsSpread g (put_state g cell s) (λ c. same_place c cell) (has same_place old) (has same_place new)
+    spreads = record {
+      others = beside;
+      only = λ c t. ((d c).0 t).formula;
+      written_too = λ c w f. (d c).1 (record { formula = f; why = inr (inl w) });
+      reaching = λ c w t r. (d c).1 (record { formula = reaching_formula g cell s keeps n m r; why = inr (inr (subst (λ x. ReachesCell (put_state g cell s) c x) (same_place_is w cell t) r)) });
+      kept = λ c t f. (d c).1 (record { formula = f; why = inl t });
+      exact = λ c t. elim ((d c).0 t).why [
+        | inl o ↦ inr (inr o)
+        | inr r ↦ elim r [
+          | inl e ↦ inl e
+          | inr q ↦ inr (inl (cell, same_place_itself cell, q))
+        ]
+      ];
+    }
+
+    stays : (c : Place) → (is_formula_at g c ≡ true → has same_place old c ≡ true) → is_formula_at (put_state g cell s) c ≡ true → has same_place new c ≡ true
+    stays c all f = elim (cases_Bool (same_place c cell)) [
+      | inl t ↦ (d c).1 (record { formula = f; why = inr (inl t) })
+      | inr e ↦ (d c).1 (record { formula = f; why = inl (all (sym (ap is_some (formula_beside g cell s keeps c e)) ∙ f)) })
+    ]
+
+    whole : (order : Order) → AllDirtyIn order g old → AllDirtyIn order (put_state g cell s) new
+    whole orders.Natural h = tt
+    whole orders.Columnwise h = λ c. stays c (h c)
+    whole orders.Rowwise h = λ c. stays c (h c)
+
+    -- after an edit of a cell
+    pub kept_written : (order : Order) (o : Network) → IsKept mean n g old order → Matches o (put_state g cell s) → IsKept mean o (put_state g cell s) new order
+    kept_written order o k after = record {
+      matches = after;
+      only = λ c t. ((d c).0 t).formula;
+      sound = λ x. edit_keeps_sound mean x meaning g (put_state g cell s) (λ c. same_place c cell) (has same_place old) (has same_place new) (k.sound x) spreads;
+      whole = whole order k.whole;
+    }
+
+  -- the same, told of the grid that there is
+  pub kept_edit : (g h : Grid) (cell : Place) (s : CellState) → (is_formula s.content ≡ true → is_kept s ≡ true) → (n : Network) → Matches n g → (old new : List Place) → h ≡ put_state g cell s → AreDirtied h (has same_place old) cell (has same_place new)
+      → (order : Order) (o : Network) → IsKept mean n g old order → Matches o h → IsKept mean o h new order
+  kept_edit g h cell s keeps n m old new e d order o k after = subst (λ (x : Grid). IsKept mean o x new order) (sym e)
+      (kept_written g cell s keeps n m old new (subst (λ (x : Grid). AreDirtied x (has same_place old) cell (has same_place new)) e d) order o k (subst (λ (x : Grid). Matches o x) e after))
+
+  all_along : (order : Order) (g h : Grid) (dirty : List Place) → ((c : Place) → is_formula_at h c ≡ is_formula_at g c) → AllDirtyIn order g dirty → AllDirtyIn order h dirty
+  all_along orders.Natural g h dirty e a = tt
+  all_along orders.Columnwise g h dirty e a = λ c f. a c (sym (e c) ∙ f)
+  all_along orders.Rowwise g h dirty e a = λ c f. a c (sym (e c) ∙ f)
+
+  -- where columns change
+  pub kept_beside : (n : Network) (g h : Grid) (dirty : List Place) (order : Order) → h.cells ≡ g.cells → IsKept mean n g dirty order → IsKept mean n h dirty order
+  kept_beside n g h dirty order e k = record {
+    matches = λ c. k.matches c ∙ sym (ap (λ (m : Cells). node_of (formula_of (get m c)) c) e);
+    only = λ c t. ap (λ (m : Cells). is_some (formula_of (get m c))) e ∙ k.only c t;
+    sound = λ x. anywhere g h (has same_place dirty) x x e (k.sound x);
+    whole = all_along order g h dirty (λ c. ap (λ (m : Cells). is_some (formula_of (get m c))) e) k.whole;
+  }
+
+  after_order : (order : Order) (g h : Grid) (old new : List Place) → formula_at h ≡ formula_at g → IsDirtyAfter order h (has same_place old) (has same_place new) → AllDirtyIn order g old → AllDirtyIn order h new
+  after_order orders.Natural g h old new e d a = tt
+  after_order orders.Columnwise g h old new e d a = λ c f. d c ∙ a c (sym (ap (λ (k : Place → Option Tree). is_some (k c)) e) ∙ f)
+  after_order orders.Rowwise g h old new e d a = λ c f. d c ∙ a c (sym (ap (λ (k : Place → Option Tree). is_some (k c)) e) ∙ f)
+
+  -- after a recalculation
+  pub kept_after : (n : Network) (g h : Grid) (old new : List Place) (order : Order) (x : Context) → SameContents g h → Matches n h → IsSound mean x h (has same_place new) → IsDirtyAfter order h (has same_place old) (has same_place new)
+      → IsKept mean n g old order → IsKept mean n h new order
+  kept_after n g h old new order x same m s d k = record {
+    matches = m;
+    only = s.only;
+    sound = λ y. anywhere h h (has same_place new) x y refl s;
+    whole = after_order order g h old new (formulas_same g h same) d k.whole;
+  }
+
+  -- after one that found no memory
+  pub kept_same : (n : Network) (g h : Grid) (old new : List Place) (order : Order) (x : Context) → SameContents g h → Matches n h → IsSound mean x h (has same_place new) → new ≡ old
+      → IsKept mean n g old order → IsKept mean n h new order
+  kept_same n g h old new order x same m s e k = record {
+    matches = m;
+    only = s.only;
+    sound = λ y. anywhere h h (has same_place new) x y refl s;
+    whole = subst (AllDirtyIn order h) (sym e) (all_along order g h old (λ c. ap (λ (f : Place → Option Tree). is_some (f c)) (formulas_same g h same)) k.whole);
+  }
+
+  -- where there is no cell
+  module _ (g : Grid) (none : g.cells ≡ empty) where
+    no_formula : (c : Place) → formula_at g c ≡ None
+    no_formula c = ap (λ (m : Cells). formula_of (get m c)) none ∙ ap formula_of (get-empty place_cmp c)
+
+    not_formula : (c : Place) → is_formula_at g c ≡ true → ⊥
+    not_formula c h = true≢false (sym h ∙ ap is_some (no_formula c))
+
+    starts : {c d : Place} → Reaches same_place (pre g) c d → is_formula_at g c ≡ true
+    starts {c} {d} (one m) = reads_formula g c d m
+    starts {c} (more {e = e} m r) = reads_formula g c e m
+
+    nothing_whole : (order : Order) (dirty : List Place) → AllDirtyIn order g dirty
+    nothing_whole orders.Natural dirty = tt
+    nothing_whole orders.Columnwise dirty = λ c f. absurd (not_formula c f)
+    nothing_whole orders.Rowwise dirty = λ c f. absurd (not_formula c f)
+
+    pub kept_empty : (n : Network) (dirty : List Place) (order : Order) → n.formulas ≡ empty → dirty ≡ [] → IsKept mean n g dirty order
+    kept_empty n dirty order e clean = record {
+      matches = λ c. ap (λ f. get f c) e ∙ get-empty place_cmp c ∙ sym (ap (λ o. node_of o c) (no_formula c));
+      only = λ c t. absurd (true≢false (sym t ∙ ap (λ ks. has same_place ks c) clean));
+      sound = λ x. record {
+        only = λ c t. absurd (true≢false (sym t ∙ ap (λ ks. has same_place ks c) clean));
+        up = λ c d m t. absurd (not_formula c (reads_formula g c d m));
+        calm = λ c t h k. absurd (not_formula c (ap is_some h));
+        acyclic = λ c k r. not_formula c (starts r);
+        right = λ c t h k. absurd (not_formula c (ap is_some h));
+      };
+      whole = nothing_whole order dirty;
+    }

@@ -1,0 +1,3 @@
+pub mod Dirtied
+pub mod Held
+pub mod Reaching

@@ -1,0 +1,11 @@
+use Rattle.std.specs.FinMap.{get}
+use Rattle.std.proofs.Common.{ap, sym, ◌∙◌}
+use Rattle.depend_graph.specs.Network.{Network}
+use Rattle.work_sheet.proofs.Reaching.{offer_gone, offer_there}
+use Rattle.work_sheet.proofs.edit.offer.Goals as goal
+
+pub returns-in_ok-offer-in-Some-clause-offer : goal.returns-in_ok-offer-in-Some-clause-offer
+returns-in_ok-offer-in-Some-clause-offer c = ap (λ (n : Network). get n.offers c.args.cell) c.in_ok-offer-in-Some.ensures.ok ∙ offer_there c.args.graph.now c.args.cell c.in-Some.node ∙ sym c.in-Some.is
+
+pub returns-in-None-clause-offer : goal.returns-in-None-clause-offer
+returns-in-None-clause-offer c = ap (λ (n : Network). get n.offers c.args.cell) c.withdraw.ensures ∙ offer_gone c.args.graph.now c.args.cell ∙ sym c.in-None.is

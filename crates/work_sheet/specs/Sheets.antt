@@ -1,0 +1,70 @@
+-- What a sheet is seen as, and what it keeps.
+use Rattle.std.specs.Prelude.{◌≡◌, refl, Bool, true, false, List, Option, None, Some, Result, Ok, Err}
+use Rattle.std.specs.FinMap as map
+use Rattle.std.specs.Coded.{Coded, code_by, coded×, coded_bool, coded_list}
+use Rattle.grid_address.specs.Place.{coded_place, same_place, Place}
+use Rattle.range_names.specs.Names.{coded_names, NameMap}
+use Rattle.depend_graph.specs.Network.{Network}
+use Rattle.natural_order.specs.Walk.{has}
+use Rattle.sheet_store.specs.Choices.{Choices}
+use Rattle.sheet_store.specs.Grid.{coded_grid, Grid}
+use Rattle.formula_tree.specs.declared.value.Value.{Value}
+use Rattle.sheet_store.specs.declared.state.CellState.{CellState}
+use Rattle.sheet_store.specs.declared.writes.SheetFault.{SheetFault}
+use Rattle.sheet_store.specs.declared.writes.SheetFault.TheVariants as faults
+use Rattle.sheet_store.specs.contracts.settings.Settings as settings
+use Rattle.sheet_store.specs.declared.order.Order.{Order}
+use Rattle.sheet_store.specs.declared.order.Order.TheVariants as orders
+use Rattle.natural_recalc.specs.Passes.{IsSound, Meaning}
+use Rattle.natural_recalc.specs.Reading.{is_formula_at, Matches}
+use Rattle.natural_recalc.specs.World.{Context}
+
+-- the cells and columns, the dirty formulas, whether the last recalculation told a circle, whether a change was made
+-- since then, the names and the settings
+pub record Worksheet : Type 0 where
+  pub grid : Grid
+  pub dirty : List Place
+  pub circular : Bool
+  pub stale : Bool
+  pub names : NameMap
+  pub settings : Choices
+
+abbrev pub coded_worksheet : Coded Worksheet
+coded_worksheet = code_by (Grid × (List Place × (Bool × (Bool × (NameMap × Choices)))))
+    (coded× coded_grid (coded× (coded_list coded_place) (coded× coded_bool (coded× coded_bool (coded× coded_names (settings.the_row).coded)))))
+    (λ s. (s.grid, (s.dirty, (s.circular, (s.stale, (s.names, s.settings))))))
+    (λ p. record { grid = p.0; dirty = p.1.0; circular = p.1.1.0; stale = p.1.1.1.0; names = p.1.1.1.1.0; settings = p.1.1.1.1.1 }) (λ _. refl)
+
+-- in another order than the natural one all formulas are dirty
+abbrev pub AllDirtyIn : Order → Grid → List Place → Type 0
+AllDirtyIn orders.Natural g dirty = Unit {0}
+AllDirtyIn orders.Columnwise g dirty = (c : Place) → is_formula_at g c ≡ true → has same_place dirty c ≡ true
+AllDirtyIn orders.Rowwise g dirty = (c : Place) → is_formula_at g c ≡ true → has same_place dirty c ≡ true
+
+-- what a sheet keeps: the graph holds its formulas, what holds of the dirty ones holds whatever the moment, the names and
+-- the settings are, and in another order than the natural one all are dirty
+pub record IsKept (mean : Meaning) (n : Network) (g : Grid) (dirty : List Place) (order : Order) : Type 0 where
+  pub matches : Matches n g
+  pub only : (c : Place) → has same_place dirty c ≡ true → is_formula_at g c ≡ true
+  pub sound : (x : Context) → IsSound mean x g (has same_place dirty)
+  pub whole : AllDirtyIn order g dirty
+
+-- the value of a cell that the sheet holds something of
+abbrev pub value_in : Option CellState → Option Value
+value_in None = None
+value_in (Some s) = Some s.value
+
+abbrev pub value_told : Grid → Place → Option Value
+value_told g c = value_in (map.get g.cells c)
+
+-- what an edit of cells leaves
+pub record SameBeside (old new : Worksheet) : Type 0 where
+  pub circular : new.circular ≡ old.circular
+  pub names : new.names ≡ old.names
+  pub settings : new.settings ≡ old.settings
+
+-- an edit of a cell is refused as protected exactly where it is, and is refused otherwise for want of memory alone
+abbrev pub IsFaultOf : Bool → Place → Result (Unit {0}) SheetFault → Type 0
+IsFaultOf true cell r = r ≡ Err (faults.Protected cell)
+IsFaultOf false cell (Ok x) = Unit {0}
+IsFaultOf false cell (Err f) = f ≡ faults.Memory

@@ -1,0 +1,307 @@
+// A sheet, whose values are kept right by recalculation over its dirty formulas.
+ghost use Rattle.std.specs.Prelude.{◌≡◌, ◌+◌, ◌-◌, ◌*◌, ◌≤◌, ◌⊎◌, [], length, IfErr, IfOk, OnErr, OnOk, Some, None, option_copied, replicate, true, false};
+ghost use Rattle.std.specs.FinMap as map;
+ghost use Rattle.std.specs.Option.{ForSome};
+ghost use Rattle.grid_address.specs.Place.{same_place, Place};
+ghost use Rattle.natural_order.specs.Walk.{has};
+ghost use Rattle.natural_recalc.specs.Passes as whole;
+ghost use Rattle.natural_recalc.specs.Passes.{raised_by, IsDirtyAfter};
+ghost use Rattle.natural_recalc.specs.Reading.{is_formula_at, order_in};
+ghost use Rattle.natural_recalc.specs.World.{context_of};
+ghost use Rattle.range_names.specs.Names.{fault_of, key_of};
+ghost use Rattle.range_names.specs.declared.fault.NameFault.TheVariants as cause;
+ghost use Rattle.sheet_store.specs.Choices.{fresh};
+ghost use Rattle.sheet_store.specs.Grid.{is_hidden, last_used, set_hidden_of, set_width_of, width_of};
+ghost use Rattle.work_sheet.specs.Edits.{is_protected, written, AreDirtied, HasPrefix};
+ghost use Rattle.work_sheet.specs.Sheets.{value_told, IsFaultOf, SameBeside};
+
+use crate::edit::write_cell;
+use crate::states::{is_marked, state_of};
+use depend_graph::Graph;
+use formula_eval::{Means, Scene, Tally};
+use formula_tree::{Content, Value};
+use grid_address::{Cell, Span};
+use indexmap::IndexSet;
+use lics_text::Memory;
+use natural_recalc::{all_dirty, graph_of, recalc};
+use range_names::{NameFault, Names};
+use sheet_store::{Order, SavedSheet, Settings, SheetFault, Store};
+use std::alloc::Global;
+use std::marker::{Model, PhantomData};
+
+/// A sheet over an evaluator: its cells and columns, its names and its settings. It keeps which formulas are dirty, so
+/// that a recalculation evaluates those alone: a formula that isn't dirty has its meaning as its value.
+#[derive(Drop)]
+pub struct SheetOf<E: Means> {
+    store: Store,
+    graph: Graph,
+    dirty: IndexSet<Cell>,
+    circular: bool,
+    stale: bool,
+    names: Names,
+    settings: Settings,
+    with: PhantomData<E>,
+}
+
+/// A sheet that evaluates formulas by their meaning.
+pub type Sheet = SheetOf<Tally>;
+
+impl<E: Means> Model for SheetOf<E> {
+    ghost use Rattle.work_sheet.specs.Sheets.{coded_worksheet, IsKept, Worksheet};
+
+    ghost Value = { Worksheet };
+
+    ghost coded = { coded_worksheet };
+
+    ghost view = { λ s. record { grid = s.store; dirty = s.dirty.keys; circular = s.circular; stale = s.stale; names = s.names; settings = s.settings } };
+
+    ghost invariant = { λ s. IsKept E.meaning s.graph s.store s.dirty.keys s.settings.order };
+}
+
+impl<E: Means> SheetOf<E> {
+    /// A fresh sheet: no cell, no name, and the settings of a fresh sheet.
+    pub fn new(alloc: Global) -> Self
+        ensures cells { result.grid.cells ≡ map.empty }
+        ensures widths { result.grid.widths ≡ replicate 256 0 }
+        ensures hidden { result.grid.hidden ≡ replicate 256 false }
+        ensures dirty { result.dirty ≡ [] }
+        ensures marks { (result.circular ≡ false) × (result.stale ≡ false) }
+        ensures names { result.names ≡ map.empty }
+        ensures settings { result.settings ≡ fresh }
+    {
+        SheetOf {
+            store: Store::new(alloc),
+            graph: Graph::new(alloc),
+            dirty: IndexSet::new(alloc),
+            circular: false,
+            stale: false,
+            names: Names::new(alloc),
+            settings: Settings::fresh(),
+            with: PhantomData,
+        }
+    }
+
+    /// The sheet that was saved. All its formulas are dirty; it has no circle told, and no change made.
+    pub fn restore(saved: SavedSheet) -> Result<Self, Memory>
+        ensures grid { IfOk result (λ s. s.grid ≡ saved.store) }
+        ensures names { IfOk result (λ s. s.names ≡ saved.names) }
+        ensures settings { IfOk result (λ s. s.settings ≡ saved.settings) }
+        ensures dirty { IfOk result (λ s. (c : Place) → has same_place s.dirty c ≡ is_formula_at saved.store c) }
+        ensures marks { IfOk result (λ s. (s.circular ≡ false) × (s.stale ≡ false)) }
+    {
+        let graph = graph_of(&saved.store)?;
+        let dirty = all_dirty(&saved.store)?;
+        Ok(SheetOf {
+            store: saved.store,
+            graph,
+            dirty,
+            circular: false,
+            stale: false,
+            names: saved.names,
+            settings: saved.settings,
+            with: PhantomData,
+        })
+    }
+
+    /// What a file holds of the sheet: its cells and columns, its names and its settings.
+    pub fn snapshot(&self) -> Result<SavedSheet, Memory>
+        ensures grid { IfOk result (λ s. s.store ≡ self.now.grid) }
+        ensures names { IfOk result (λ s. s.names ≡ self.now.names) }
+        ensures settings { IfOk result (λ s. s.settings ≡ self.now.settings) }
+    {
+        let store = self.store.copy()?;
+        let names = self.names.copy()?;
+        Ok(SavedSheet {
+            store,
+            names,
+            settings: self.settings,
+        })
+    }
+
+    /// Whether the last recalculation told a circle.
+    pub fn is_circular(&self) -> bool
+        ensures { result ≡ self.now.circular }
+    {
+        self.circular
+    }
+
+    /// Whether a change was made since the last recalculation.
+    pub fn is_stale(&self) -> bool
+        ensures { result ≡ self.now.stale }
+    {
+        self.stale
+    }
+
+    /// The names of spans.
+    pub fn names(&self) -> &Names
+        ensures { result.now ≡ self.now.names }
+    {
+        &self.names
+    }
+
+    /// The settings.
+    pub fn settings(&self) -> &Settings
+        ensures { result.now ≡ self.now.settings }
+    {
+        &self.settings
+    }
+
+    /// The value of a cell; none where the sheet holds nothing of it.
+    pub fn value_of(&self, cell: Cell) -> Option<&Value>
+        ensures { option_copied result ≡ value_told self.now.grid cell }
+    {
+        match self.store.get(cell) {
+            Some(state) => Some(&state.value),
+            None => None,
+        }
+    }
+
+    /// The last row and the last column that hold a used cell, as one cell.
+    pub fn last_used(&self) -> Option<Cell>
+        ensures { result ≡ last_used self.now.grid }
+    {
+        self.store.last_used()
+    }
+
+    /// A column's own width, where it has one.
+    pub fn own_width(&self, col: u8) -> Option<u8>
+        ensures { result ≡ width_of self.now.grid col }
+    {
+        self.store.width(col)
+    }
+
+    /// Whether a column is hidden.
+    pub fn is_hidden(&self, col: u8) -> bool
+        ensures { result ≡ is_hidden self.now.grid col }
+    {
+        self.store.is_hidden(col)
+    }
+
+    /// Gives a column a width of its own, 1 to 240, or takes it away.
+    pub fn set_width(&mut self, col: u8, width: Option<u8>)
+        requires { ForSome width (λ n. (1 ≤ n) × (n ≤ 240)) }
+        ensures { self.new ≡ record self.old { grid = set_width_of self.old.grid col width } }
+    {
+        self.store.set_width(col, width);
+    }
+
+    /// Hides a column, or shows it.
+    pub fn set_hidden(&mut self, col: u8, hidden: bool)
+        ensures { self.new ≡ record self.old { grid = set_hidden_of self.old.grid col hidden } }
+    {
+        self.store.set_hidden(col, hidden);
+    }
+
+    /// Gives a span a name; a name that is there gets the new span. The sheet is unchanged where it is refused, as
+    /// `Names::create` says.
+    pub fn create_name(&mut self, name: &[u8], span: Span) -> Result<(), NameFault>
+        ensures ok { OnOk result ((fault_of name.now ≡ None) × (self.new ≡ record self.old { names = map.insert self.old.names (key_of name.now) span })) }
+        ensures kept { OnErr result (self.new ≡ self.old) }
+        ensures err { IfErr result (λ fault. (fault ≡ cause.Memory) ⊎ (fault_of name.now ≡ Some fault)) }
+    {
+        self.names.create(name, span)?;
+        Ok(())
+    }
+
+    /// Takes a name away. The sheet is unchanged where it is refused, as `Names::delete` says.
+    pub fn delete_name(&mut self, name: &[u8]) -> Result<(), NameFault>
+        ensures ok { OnOk result ((fault_of name.now ≡ None) × (self.new ≡ record self.old { names = map.remove self.old.names (key_of name.now) })) }
+        ensures kept { OnErr result (self.new ≡ self.old) }
+        ensures err { IfErr result (λ fault. (fault_of name.now ≡ Some fault) ⊎ ((fault_of name.now ≡ None) × (fault ≡ cause.Absent) × (map.get self.old.names (key_of name.now) ≡ None))) }
+    {
+        self.names.delete(name)?;
+        Ok(())
+    }
+
+    /// Takes all names away.
+    pub fn reset_names(&mut self)
+        ensures { self.new ≡ record self.old { names = map.empty } }
+    {
+        self.names.reset();
+    }
+
+    /// Changes the settings, of which the order stays as it is.
+    pub fn set_settings(&mut self, settings: Settings)
+        requires { settings.order ≡ self.old.settings.order }
+        ensures { self.new ≡ record self.old { settings = settings } }
+    {
+        self.settings = settings;
+    }
+
+    /// Sets the order of recalculation. Where it differs from the present one, all formulas become dirty. The sheet is
+    /// unchanged where there is no memory.
+    pub fn set_order(&mut self, order: Order) -> Result<(), Memory>
+        ensures same { order ≡ self.old.settings.order → self.new ≡ self.old }
+        ensures ok { OnOk result (self.new ≡ record self.old { dirty = self.new.dirty; settings = record self.old.settings { order = order } }) }
+        ensures dirty { OnOk result ((order ≡ self.old.settings.order → ⊥) → (c : Place) → has same_place self.new.dirty c ≡ is_formula_at self.old.grid c) }
+        ensures err { OnErr result (self.new ≡ self.old) }
+    {
+        let settings = self.settings;
+        if settings.order == order {
+            return Ok(());
+        }
+        let dirty = all_dirty(&self.store)?;
+        self.dirty = dirty;
+        self.settings = Settings { order, ..settings };
+        Ok(())
+    }
+
+    /// Writes a content into a cell, which keeps its format. A formula begins with the value 0, and it and all that
+    /// reaches the cell become dirty. `Protected` comes exactly where protection is on and the cell is marked; the
+    /// sheet is unchanged where the edit is refused.
+    pub fn enter(&mut self, cell: Cell, content: Content) -> Result<(), SheetFault>
+        requires { HasPrefix content }
+        ensures grid { OnOk result (self.new.grid ≡ written self.old.grid cell content) }
+        ensures dirty { OnOk result (AreDirtied self.new.grid (has same_place self.old.dirty) cell (has same_place self.new.dirty)) }
+        ensures stale { OnOk result (self.new.stale ≡ true) }
+        ensures beside { SameBeside self.old self.new }
+        ensures err { OnErr result (self.new ≡ self.old) }
+        ensures fault { IsFaultOf (is_protected self.old.settings self.old.grid cell) cell result }
+    {
+        let settings = self.settings;
+        if settings.protection && is_marked(&self.store, cell) {
+            return Err(SheetFault::Protected(cell));
+        }
+        let Ok(state) = state_of(&self.store, cell, content) else {
+            return Err(SheetFault::Memory);
+        };
+        match write_cell(
+            &mut self.store,
+            &mut self.graph,
+            &mut self.dirty,
+            cell,
+            state,
+        ) {
+            Ok(()) => {
+                self.stale = true;
+                Ok(())
+            }
+            Err(Memory) => Err(SheetFault::Memory),
+        }
+    }
+
+    /// Recalculates in the order of the settings, with as many passes.
+    pub fn calc(&mut self, scene: &Scene, tally: &mut E) -> Result<(), Memory>
+        ensures values { OnOk result (self.new.grid ≡ whole.passes E.meaning (context_of self.old.names self.old.settings scene.entry.now) self.old.settings.passes (order_in self.old.settings.order self.old.grid).done self.old.grid) }
+        ensures circular { OnOk result (self.new.circular ≡ (order_in self.old.settings.order self.old.grid).circular) }
+        ensures dirty { OnOk result (IsDirtyAfter self.old.settings.order self.new.grid (has same_place self.old.dirty) (has same_place self.new.dirty)) }
+        ensures stale { OnOk result (self.new.stale ≡ false) }
+        ensures beside { (self.new.names ≡ self.old.names) × (self.new.settings ≡ self.old.settings) }
+        ensures count { OnOk result (E.count tally.new ≡ raised_by (length self.old.dirty + (self.old.settings.passes - 1) * length self.new.dirty) (E.count tally.old)) }
+    {
+        let settings = self.settings;
+        let circ = recalc(
+            &mut self.store,
+            &self.graph,
+            &mut self.dirty,
+            settings.passes,
+            &self.names,
+            &settings,
+            scene,
+            tally,
+        )?;
+        self.circular = circ.0;
+        self.stale = false;
+        Ok(())
+    }
+}
