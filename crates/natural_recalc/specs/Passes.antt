@@ -6,7 +6,6 @@ use Rattle.grid_address.specs.Place.{same_place, Place}
 use Rattle.formula_tree.specs.Spans.{is_volatile}
 use Rattle.formula_tree.specs.Tree.{Tree}
 use Rattle.formula_tree.specs.declared.value.Value.{Value}
-use Rattle.formula_tree.specs.declared.value.Value.TheVariants as value
 use Rattle.formula_eval.specs.Mean.{Reads}
 use Rattle.formula_eval.specs.World.{World}
 use Rattle.natural_order.specs.Walk.{has, Reaches}
@@ -20,9 +19,8 @@ use Rattle.natural_recalc.specs.World.{content_of, format_of, formula_at, value_
 abbrev pub Meaning : Type 0
 Meaning = Tree → Place → World → Value
 
--- a meaning that is never blank, and hangs on the values that are read alone where the formula isn't volatile
+-- a meaning that hangs on the values that are read alone, where the formula isn't volatile
 pub record IsMeaning (mean : Meaning) : Type 0 where
-  pub some : (t : Tree) (at : Place) (w : World) → mean t at w ≡ value.Blank → ⊥
   pub reads : (t : Tree) (at : Place) (w u : World) → is_volatile t ≡ false → ((c : Place) → Reads t at c → w.sight.values c ≡ u.sight.values c) → mean t at w ≡ mean t at u
 
 abbrev pub revalued : Meaning → Context → Grid → Place → Option Tree → Grid

@@ -14,7 +14,8 @@ use lics_text::Memory;
 use range_names::Names;
 use sheet_store::{Settings, Store};
 
-// Gives a cell the meaning of its formula.
+/// Gives a cell the meaning of its formula over the values as they stand. Where there is no memory the store is as it
+/// was.
 pub fn evaluate_at<E: Means>(
     store: &mut Store,
     cell: Cell,

@@ -13,6 +13,7 @@ mod tests;
 mod view;
 mod whole;
 
+pub use evaluate::evaluate_at;
 pub use laws::{edit_keeps_sound, pass_is_cut, recalculation_is_cut};
 pub use missing::Missing;
 pub use recalculation::{Circ, recalc};

@@ -59,6 +59,13 @@ impl Store {
         self.alloc
     }
 
+    /// What a store keeps of each of its cells. It does nothing, and is called for its clause.
+    pub fn are_held(&self)
+        ensures { AreHeld self.now.cells }
+    {
+        let _len = self.cells.len();
+    }
+
     /// The state of a cell.
     pub fn get(&self, cell: Cell) -> Option<&CellState>
         ensures { option_copied result ≡ map.get self.now.cells cell }

@@ -18,7 +18,8 @@ use std::alloc::Global;
 
 const HEAD: Cell = Cell { row: 0, col: 0 };
 
-const SCENE: Scene = Scene {
+/// The scene of each recalculation.
+pub const SCENE: Scene = Scene {
     cursor: HEAD,
     now: Moment {
         day: Some(31929),
@@ -46,7 +47,8 @@ fn sum(alloc: Global, left: Expr, number: Fixed) -> Result<Formula, Memory> {
     }
 }
 
-fn link(alloc: Global) -> Result<Formula, Memory> {
+/// The formula that adds one to the cell above.
+pub fn link(alloc: Global) -> Result<Formula, Memory> {
     let above = Ref {
         col: Axis::Offset(0),
         row: Axis::Offset(8191),

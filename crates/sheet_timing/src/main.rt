@@ -1,16 +1,19 @@
-//! The work that bench/store and bench/recalculate measure. With the word `cells` it puts 100,000 formulas, and reads
-//! each of them and sets its value ten times; with `owners` it asks ten times for the owners of each of 8,000 cells, of
-//! which each has one owner; with `spans` for those of 8,000 cells among 1,000 owners of long spans; with `closure` it
-//! goes ten times along a chain of 8,000 formulas; with `chain` it writes ten times the head of such a chain, finds what
-//! reaches it, and recalculates. It prints a sum by which the work can be compared, and without a word the sums of all.
+//! The work that bench/store, bench/recalculate and bench/edits measure. With the word `cells` it puts 100,000 formulas,
+//! and reads each of them and sets its value ten times; with `owners` it asks ten times for the owners of each of 8,000
+//! cells, of which each has one owner; with `spans` for those of 8,000 cells among 1,000 owners of long spans; with
+//! `closure` it goes ten times along a chain of 8,000 formulas; with `chain` it writes ten times the head of such a
+//! chain, finds what reaches it, and recalculates; with `short` and `long` it makes a million entries beside chains of 10
+//! and of 8,000 formulas. It prints a sum by which the work can be compared, and without a word the sums of all.
 #![tactic(auto)]
 
 mod cells;
 mod chain;
+mod edits;
 mod graphs;
 
 use cells::touch_cells;
 use chain::edit_head;
+use edits::edit_apart;
 use graphs::{ask_owners, ask_spans, go_along};
 use lics_text::Memory;
 use std::alloc::Global;
@@ -25,6 +28,8 @@ enum Work {
     Spans,
     Closure,
     Chain,
+    Short,
+    Long,
 }
 
 enum Stop {
@@ -39,6 +44,8 @@ fn work_of(word: &str) -> Option<Work> {
         "spans" => Some(Work::Spans),
         "closure" => Some(Work::Closure),
         "chain" => Some(Work::Chain),
+        "short" => Some(Work::Short),
+        "long" => Some(Work::Long),
         _ => None,
     }
 }
@@ -50,6 +57,8 @@ fn sum_of(alloc: Global, work: Work) -> Result<u64, Memory> {
         Work::Spans => ask_spans(alloc),
         Work::Closure => go_along(alloc),
         Work::Chain => edit_head(alloc),
+        Work::Short => edit_apart(alloc, 10),
+        Work::Long => edit_apart(alloc, 8000),
     }
 }
 
@@ -70,6 +79,8 @@ fn print_all<W: Write>(alloc: Global, out: &mut W) -> Result<(), Stop> {
         Work::Spans,
         Work::Closure,
         Work::Chain,
+        Work::Short,
+        Work::Long,
     ] {
         print(alloc, work, out)?;
     }

@@ -17,7 +17,7 @@ use Rattle.sheet_store.specs.declared.state.CellState.{CellState}
 use Rattle.natural_recalc.specs.Reading.{is_formula_at, node_of, Matches}
 use Rattle.natural_recalc.specs.World.{formula_at, formula_in}
 use Rattle.work_sheet.proofs.Reaching.{accepted_told, dropped_told, formula_beside, formula_here, formula_in_is, matches_written, reaching_formula, to_new, to_old}
-use Rattle.work_sheet.specs.Edits.{AreDirtied, IsDirtied, WithReached}
+use Rattle.work_sheet.specs.Edits.{kept_at, settled, AreDirtied, IsDirtied, WithReached}
 
 only_one : (c cell : Place) → has same_place (cell ∷ []) c ≡ true → same_place c cell ≡ true
 only_one c cell m = elim (or_cases (same_place c cell) false m) [ inl h ↦ h | inr h ↦ absurd (false≢true h) ]
@@ -138,6 +138,11 @@ module _ (g : Grid) (cell : Place) (s : CellState) (keeps : is_formula s.content
   matches_other h = matches_written g cell s keeps n m (network.dropped o cell) (λ d. dropped_told o cell (formula_in s.content) (sym (formula_in_is s.content) ∙ h) d
       ∙ ap (λ f. cond (same_place d cell) (node_of (formula_in s.content) cell) (get f d)) same)
 
+  -- whichever it is
+  pub matches_settled : get o.offers cell ≡ node_of (formula_in s.content) cell → (b : Bool) → is_formula s.content ≡ b → Matches (settled b o cell) (put_state g cell s)
+  matches_settled offer true h = matches_formula offer h
+  matches_settled offer false h = matches_other h
+
   here_is : is_formula_at (put_state g cell s) cell ≡ is_formula s.content
   here_is = ap is_some (formula_here g cell s keeps) ∙ sym (formula_in_is s.content)
 
@@ -159,3 +164,7 @@ module _ (g : Grid) (cell : Place) (s : CellState) (keeps : is_formula s.content
           | inl e ↦ absurd (true≢false (sym (p.1 (same_place_laws.symm c cell ∙ e)) ∙ here_is ∙ h))
           | inr e ↦ u c ∙ ap (λ b. cond b false (has same_place mid c)) e ∙ p.0
         ]
+
+    pub dirtied_settled : (b : Bool) → is_formula s.content ≡ b → (now : Place → Bool) → ((c : Place) → now c ≡ kept_at b cell c (has same_place mid c)) → AreDirtied (put_state g cell s) (has same_place old) cell now
+    dirtied_settled true h now u = subst (AreDirtied (put_state g cell s) (has same_place old) cell) (λ i c. sym (u c) i) (dirtied_formula h)
+    dirtied_settled false h now u = dirtied_other h now u

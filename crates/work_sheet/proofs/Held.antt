@@ -1,5 +1,5 @@
 -- Why a sheet keeps what it keeps.
-use Rattle.std.specs.Prelude.{◌≡◌, Bool, true, false, cond, is_some, refl, List, [], Option, None, Some}
+use Rattle.std.specs.Prelude.{◌≡◌, Bool, true, false, cond, is_some, refl, List, [], ◌∷◌, Option, None, Some}
 use Rattle.std.specs.FinMap.{empty, get, get-empty, insert, remove}
 use Rattle.std.proofs.Common.{sym, ◌∙◌, ap, subst, inl, inr}
 use Rattle.std.proofs.lemmas.Bool.{cases_Bool, true≢false}
@@ -13,11 +13,12 @@ use Rattle.sheet_store.specs.Grid.{is_formula, is_kept, put_state, Cells, Grid}
 use Rattle.sheet_store.specs.declared.order.Order.{Order}
 use Rattle.sheet_store.specs.declared.order.Order.TheVariants as orders
 use Rattle.sheet_store.specs.declared.state.CellState.{CellState}
-use Rattle.natural_recalc.proofs.Contents.{formulas_same}
+use Rattle.natural_recalc.proofs.Contents.{formulas_same, matches_on, same_evaluated}
+use Rattle.natural_recalc.proofs.Cut.{sound_all}
 use Rattle.natural_recalc.proofs.Edit.{edit_keeps_sound}
 use Rattle.natural_recalc.proofs.First.{reads_formula}
 use Rattle.natural_recalc.proofs.Members.{pre_along}
-use Rattle.natural_recalc.specs.Passes.{IsDirtyAfter, IsMeaning, IsSound, IsSpread, Meaning, ReachesCell, SameContents}
+use Rattle.natural_recalc.specs.Passes.{evaluated, IsDirtyAfter, IsMeaning, IsSound, IsSpread, Meaning, ReachesCell, SameContents}
 use Rattle.natural_recalc.specs.Reading.{is_formula_at, node_of, pre, Matches}
 use Rattle.natural_recalc.specs.World.{formula_at, formula_of, value_of, world_at, Context}
 use Rattle.work_sheet.proofs.Reaching.{formula_beside, reaching_formula}
@@ -127,6 +128,25 @@ module _ (mean : Meaning) (meaning : IsMeaning mean) where
     sound = λ y. anywhere h h (has same_place new) x y refl s;
     whole = subst (AllDirtyIn order h) (sym e) (all_along order g h old (λ c. ap (λ (f : Place → Option Tree). is_some (f c)) (formulas_same g h same)) k.whole);
   }
+
+  -- after a formula was evaluated in its cell
+  pub kept_evaluated : (n : Network) (g : Grid) (dirty : List Place) (order : Order) (x : Context) (cell : Place) → IsKept mean n g dirty order → IsKept mean n (evaluated mean x g cell) dirty order
+  kept_evaluated n g dirty order x cell k =
+      let h : Grid = evaluated mean x g cell in
+      let same : SameContents g h = same_evaluated mean x g cell in
+      let formula : (c : Place) → is_formula_at h c ≡ is_formula_at g c = λ c. ap (λ (f : Place → Option Tree). is_some (f c)) (formulas_same g h same) in
+      record {
+        matches = matches_on n g h same k.matches;
+        only = λ c t. formula c ∙ k.only c t;
+        sound = λ y. anywhere h h (has same_place dirty) x y refl (sound_all mean x (has same_place dirty) meaning g (k.sound x) (cell ∷ []));
+        whole = all_along order g h dirty formula k.whole;
+      }
+
+  -- after an entry that is evaluated once
+  pub kept_line : (g h : Grid) (cell : Place) (s : CellState) → (is_formula s.content ≡ true → is_kept s ≡ true) → (n : Network) (old new : List Place) (x : Context) → h ≡ evaluated mean x (put_state g cell s) cell → AreDirtied (put_state g cell s) (has same_place old) cell (has same_place new)
+      → (order : Order) (o : Network) → IsKept mean n g old order → Matches o (put_state g cell s) → IsKept mean o h new order
+  kept_line g h cell s keeps n old new x e d order o k after = subst (λ (y : Grid). IsKept mean o y new order) (sym e)
+      (kept_evaluated o (put_state g cell s) new order x cell (kept_written g cell s keeps n k.matches old new d order o k after))
 
   -- where there is no cell
   module _ (g : Grid) (none : g.cells ≡ empty) where

@@ -1,3 +1,4 @@
 pub mod Dirtied
 pub mod Held
 pub mod Reaching
+pub mod Undone

@@ -1,19 +1,19 @@
 -- Edits of a cell, and which formulas they make dirty.
-use Rattle.std.specs.Prelude.{◌≡◌, ◌⊎◌, ◌↔◌, Bool, true, ◌&&◌, nat_le, pos, List, [], ◌∷◌}
+use Rattle.std.specs.Prelude.{ℕ, false, cond, not, ◌≡◌, ◌⊎◌, ◌↔◌, Bool, true, ◌&&◌, nat_le, pos, Option, None, Some, List, [], ◌∷◌}
 use Rattle.std.specs.FinMap as map
 use Rattle.grid_address.specs.Place.{same_place, Place}
 use Rattle.formula_tree.specs.declared.value.Content.{Content}
 use Rattle.formula_tree.specs.declared.value.Content.TheVariants as content
 use Rattle.formula_tree.specs.declared.value.Value.{Value}
 use Rattle.formula_tree.specs.declared.value.Value.TheVariants as value
-use Rattle.depend_graph.specs.Network.{IsSpread, Network}
+use Rattle.depend_graph.specs.Network.{accepted, dropped, IsSpread, Network}
 use Rattle.natural_order.specs.Walk.{has}
 use Rattle.sheet_store.specs.Choices.{Choices}
-use Rattle.sheet_store.specs.Grid.{is_prefix, put_state, Grid}
+use Rattle.sheet_store.specs.Grid.{clear_cell, is_formula, is_kept, is_prefix, put_state, Grid, IsSound}
 use Rattle.sheet_store.specs.declared.state.CellState.{CellState}
-use Rattle.natural_recalc.specs.Passes.{ReachesCell}
+use Rattle.natural_recalc.specs.Passes.{evaluated, Meaning, ReachesCell}
 use Rattle.natural_recalc.specs.Reading.{is_formula_at}
-use Rattle.natural_recalc.specs.World.{format_of}
+use Rattle.natural_recalc.specs.World.{format_of, Context}
 
 -- a label has one of the five prefixes
 abbrev pub HasPrefix : Content → Type 0
@@ -51,3 +51,35 @@ AreDirtied new old cell now = (c : Place) → (now c ≡ true) ↔ IsDirtied new
 -- the set has what it had, the cell, and what reaches it by the graph
 abbrev pub WithReached : Network → Place → List Place → List Place → Type 0
 WithReached n cell old new = (c : Place) → (has same_place new c ≡ true) ↔ ((has same_place old c ≡ true) ⊎ ((same_place c cell ≡ true) ⊎ IsSpread n (cell ∷ []) c))
+
+-- the graph takes the formula that is offered, or drops the one that is there
+abbrev pub settled : Bool → Network → Place → Network
+settled true n cell = accepted n cell
+settled false n cell = dropped n cell
+
+-- a cell without a formula leaves the set
+abbrev pub kept_at : Bool → Place → Place → Bool → Bool
+kept_at true cell c b = b
+kept_at false cell c b = cond (same_place cell c) false b
+
+-- a state that a store has
+pub record IsOldState (s : CellState) : Type 0 where
+  pub sound : IsSound s
+  pub kept : is_kept s ≡ true
+
+-- the cell has what it had
+abbrev pub put_back : Grid → Place → Option CellState → Grid
+put_back g c None = clear_cell g c
+put_back g c (Some s) = record g { cells = map.insert g.cells c s }
+
+-- in Manual mode a formula that a line spells is evaluated once
+abbrev pub is_evaluated : Choices → Content → Bool
+is_evaluated s x = not s.automatic && is_formula x
+
+abbrev pub entered : Meaning → Context → Bool → Grid → Place → Content → Grid
+entered mean x true g c content = evaluated mean x (written g c content) c
+entered mean x false g c content = written g c content
+
+abbrev pub evaluations : Bool → ℕ
+evaluations true = 1
+evaluations false = 0

@@ -7,7 +7,7 @@ ghost use Rattle.natural_order.specs.Walk.{has};
 ghost use Rattle.natural_recalc.specs.Reading.{is_formula_at, node_of, Matches};
 ghost use Rattle.natural_recalc.specs.World.{formula_in};
 ghost use Rattle.sheet_store.specs.Grid.{is_formula, is_kept, put_state, IsSound};
-ghost use Rattle.work_sheet.specs.Edits.{AreDirtied, WithReached};
+ghost use Rattle.work_sheet.specs.Edits.{kept_at, settled, AreDirtied, WithReached};
 
 use crate::growth::{cut_back, insert, insert_all};
 use depend_graph::{Graph, Node};
@@ -59,7 +59,7 @@ fn offer(graph: &mut Graph, cell: Cell, node: Option<Node>) -> Result<(), Memory
 }
 
 // All that takes memory: the formula is offered, what it will make dirty is added, and the state is put.
-fn prepare(
+pub fn prepare(
     store: &mut Store,
     graph: &mut Graph,
     dirty: &mut IndexSet<Cell>,
@@ -80,6 +80,19 @@ fn prepare(
     insert(dirty, cell)?;
     store.put(cell, state)?;
     Ok(())
+}
+
+// The graph and the dirty set take what was prepared. It takes no memory.
+pub fn settle(graph: &mut Graph, dirty: &mut IndexSet<Cell>, cell: Cell, holds_formula: bool)
+    ensures graph { graph.new ≡ settled holds_formula graph.old cell }
+    ensures dirty { (c : Place) → has same_place dirty.new.keys c ≡ kept_at holds_formula cell c (has same_place dirty.old.keys c) }
+{
+    if holds_formula {
+        graph.accept(cell);
+    } else {
+        graph.drop_cell(cell);
+        let _ = dirty.swap_remove(&cell);
+    }
 }
 
 // Writes a state into a cell. Where there is no memory, the store and the dirty set are as before, and so are the
@@ -105,12 +118,7 @@ pub fn write_cell(
     let holds_formula = is_formula(&state.content);
     match prepare(store, graph, dirty, cell, state) {
         Ok(()) => {
-            if holds_formula {
-                graph.accept(cell);
-            } else {
-                graph.drop_cell(cell);
-                let _ = dirty.swap_remove(&cell);
-            }
+            settle(graph, dirty, cell, holds_formula);
             Ok(())
         }
         Err(Memory) => {

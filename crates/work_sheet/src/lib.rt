@@ -3,6 +3,7 @@
 
 mod edit;
 mod growth;
+mod line;
 mod sheet;
 mod states;
 #[cfg(test)]

@@ -12,11 +12,12 @@ ghost use Rattle.range_names.specs.Names.{fault_of, key_of};
 ghost use Rattle.range_names.specs.declared.fault.NameFault.TheVariants as cause;
 ghost use Rattle.sheet_store.specs.Choices.{fresh};
 ghost use Rattle.sheet_store.specs.Grid.{is_hidden, last_used, set_hidden_of, set_width_of, width_of};
-ghost use Rattle.work_sheet.specs.Edits.{is_protected, written, AreDirtied, HasPrefix};
+ghost use Rattle.work_sheet.specs.Edits.{entered, evaluations, is_evaluated, is_protected, written, AreDirtied, HasPrefix};
 ghost use Rattle.work_sheet.specs.Sheets.{value_told, IsFaultOf, SameBeside};
 
 use crate::edit::write_cell;
-use crate::states::{is_marked, state_of};
+use crate::line::write_evaluated;
+use crate::states::{is_marked, mark, state_of};
 use depend_graph::Graph;
 use formula_eval::{Means, Scene, Tally};
 use formula_tree::{Content, Value};
@@ -25,7 +26,7 @@ use indexmap::IndexSet;
 use lics_text::Memory;
 use natural_recalc::{all_dirty, graph_of, recalc};
 use range_names::{NameFault, Names};
-use sheet_store::{Order, SavedSheet, Settings, SheetFault, Store};
+use sheet_store::{Order, SavedSheet, Settings, SheetFault, Store, is_formula};
 use std::alloc::Global;
 use std::marker::{Model, PhantomData};
 
@@ -273,7 +274,55 @@ impl<E: Means> SheetOf<E> {
             state,
         ) {
             Ok(()) => {
-                self.stale = true;
+                mark(&mut self.stale);
+                Ok(())
+            }
+            Err(Memory) => Err(SheetFault::Memory),
+        }
+    }
+
+    /// Writes a content that a line spells, as `enter` does. In Manual mode a formula is then evaluated once, over the
+    /// values as they stand.
+    pub fn enter_line(
+        &mut self,
+        cell: Cell,
+        content: Content,
+        scene: &Scene,
+        tally: &mut E,
+    ) -> Result<(), SheetFault>
+        requires { HasPrefix content }
+        ensures grid { OnOk result (self.new.grid ≡ entered E.meaning (context_of self.old.names self.old.settings scene.entry.now) (is_evaluated self.old.settings content) self.old.grid cell content) }
+        ensures dirty { OnOk result (AreDirtied (written self.old.grid cell content) (has same_place self.old.dirty) cell (has same_place self.new.dirty)) }
+        ensures stale { OnOk result (self.new.stale ≡ true) }
+        ensures beside { SameBeside self.old self.new }
+        ensures err { OnErr result (self.new ≡ self.old) }
+        ensures fault { IsFaultOf (is_protected self.old.settings self.old.grid cell) cell result }
+        ensures count { OnOk result (E.count tally.new ≡ raised_by (evaluations (is_evaluated self.old.settings content)) (E.count tally.old)) }
+    {
+        let settings = self.settings;
+        if settings.automatic || !is_formula(&content) {
+            self.enter(cell, content)?;
+            return Ok(());
+        }
+        if settings.protection && is_marked(&self.store, cell) {
+            return Err(SheetFault::Protected(cell));
+        }
+        let Ok(state) = state_of(&self.store, cell, content) else {
+            return Err(SheetFault::Memory);
+        };
+        match write_evaluated(
+            &mut self.store,
+            &mut self.graph,
+            &mut self.dirty,
+            cell,
+            state,
+            &self.names,
+            &settings,
+            scene,
+            tally,
+        ) {
+            Ok(()) => {
+                mark(&mut self.stale);
                 Ok(())
             }
             Err(Memory) => Err(SheetFault::Memory),

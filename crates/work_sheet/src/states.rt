@@ -58,3 +58,10 @@ pub fn is_marked(store: &Store, cell: Cell) -> bool
 {
     format_of(store, cell).0 >= 128
 }
+
+// Marks that a change was made.
+pub fn mark(stale: &mut bool)
+    ensures { stale.new ≡ true }
+{
+    *stale = true;
+}

@@ -261,3 +261,28 @@ fn another_evaluator_gives_the_values(rt: HostRuntime) -> Result<(), Fail> {
     assert_eq!(&rt; sevens.count, 1);
     Ok(())
 }
+
+#[test]
+fn a_line_is_evaluated_once_in_manual_mode(rt: HostRuntime) -> Result<(), Fail> {
+    let mut sheet = Sheet::new(rt.alloc());
+    let mut tally = Tally::new();
+    sheet.set_settings(Settings {
+        automatic: false,
+        ..Settings::fresh()
+    });
+    sheet
+        .enter_line(A1, one_more(&rt, rt.alloc(), B1), &SCENE, &mut tally)
+        .expect(&rt, "an edit");
+    assert_eq!(&rt; whole_at(&sheet, A1), Some(1));
+    sheet
+        .enter_line(B1, number(2), &SCENE, &mut tally)
+        .expect(&rt, "an edit");
+    assert_eq!(&rt; tally.count(), 1);
+    assert_eq!(&rt; whole_at(&sheet, A1), Some(1));
+    assert_eq!(&rt; sheet.is_stale(), true);
+    sheet.calc(&SCENE, &mut tally).expect(&rt, "memory");
+    assert_eq!(&rt; whole_at(&sheet, A1), Some(3));
+    assert_eq!(&rt; tally.count(), 2);
+    assert_eq!(&rt; sheet.is_stale(), false);
+    Ok(())
+}

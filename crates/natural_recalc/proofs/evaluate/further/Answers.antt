@@ -29,7 +29,7 @@ pub loop-turn-preserved : goal.loop-turn-preserved
 loop-turn-preserved g c =
     let mean : Meaning = g.E.Means.meaning in
     let ctx : Context = context_of c.args.names.now c.args.settings.now c.args.scene.now in
-    let meaning : IsMeaning mean = record { some = g.met.E.Means.never_blank; reads = g.met.E.Means.reads_alone } in
+    let meaning : IsMeaning mean = record { reads = g.met.E.Means.reads_alone } in
     let n : ℕ = length c.args.cells.now in
     let e : c.args.times - c.loop-turn._turn ≡ suc (c.args.times - (c.loop-turn._turn + 1)) = let h = c.loop-turn-test.true in omega arith in
     record {

@@ -19,7 +19,7 @@ pub loop-cell-preserved : goal.loop-cell-preserved
 loop-cell-preserved g c =
     let mean : Meaning = g.E.Means.meaning in
     let ctx : Context = context_of c.args.names.now c.args.settings.now c.args.scene.now in
-    let meaning : IsMeaning mean = record { some = g.met.E.Means.never_blank; reads = g.met.E.Means.reads_alone } in
+    let meaning : IsMeaning mean = record { reads = g.met.E.Means.reads_alone } in
     record {
       values = ap (pass mean ctx (drop (c.loop-cell.cell-index + 1) c.args.cells.now)) c.in_ok-evaluate_at.ensures.value
           ∙ ap (λ x. pass mean ctx (drop (c.loop-cell.cell-index + 1) c.args.cells.now) (evaluated mean ctx c.loop-cell.store x)) c.cell-item.is

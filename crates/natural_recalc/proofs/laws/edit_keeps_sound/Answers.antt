@@ -2,4 +2,4 @@ use Rattle.natural_recalc.proofs.Edit.{edit_keeps_sound}
 use Rattle.natural_recalc.proofs.laws.edit_keeps_sound.Goals as goal
 
 pub returns : goal.returns
-returns g c = λ x. edit_keeps_sound g.E.Means.meaning x (record { some = g.met.E.Means.never_blank; reads = g.met.E.Means.reads_alone })
+returns g c = λ x. edit_keeps_sound g.E.Means.meaning x (record { reads = g.met.E.Means.reads_alone })

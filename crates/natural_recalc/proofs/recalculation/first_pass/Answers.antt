@@ -20,7 +20,7 @@ pub returns-clause-values : goal.returns-clause-values
 returns-clause-values g c =
     let mean : Meaning = g.E.Means.meaning in
     let ctx : Context = context_of c.args.names.now c.args.settings.now c.args.scene.now in
-    let meaning : IsMeaning mean = record { some = g.met.E.Means.never_blank; reads = g.met.E.Means.reads_alone } in
+    let meaning : IsMeaning mean = record { reads = g.met.E.Means.reads_alone } in
     let s : Grid = c.args.store.now in
     c.in_ok-pass_over.ensures.values ∙ ap (λ cs. pass mean ctx cs s) (c.as_slice.ensures.keys ∙ c.in_ok-order.ensures.done)
     ∙ sym (pass_is_cut mean ctx meaning s (has same_place c.args.dirty.now.keys) c.requires.sound (natural_order s).done)

@@ -18,7 +18,7 @@ pub rest_of-requires-clause-order : goal.rest_of-requires-clause-order
 rest_of-requires-clause-order g c =
     let mean : Meaning = g.E.Means.meaning in
     let ctx : Context = context_of c.args.names.now c.args.settings.now c.args.scene.now in
-    let meaning : IsMeaning mean = record { some = g.met.E.Means.never_blank; reads = g.met.E.Means.reads_alone } in
+    let meaning : IsMeaning mean = record { reads = g.met.E.Means.reads_alone } in
     let s1 : Grid = c.first_pass.new.store in
     let keys : List Place = c.in_ok-order.order.done.keys in
     let same : has same_place keys ≡ has same_place c.args.dirty.now.keys = λ i x. c.in_ok-order.ensures.same x i in
@@ -29,14 +29,14 @@ pub rest_of-requires-clause-all : goal.rest_of-requires-clause-all
 rest_of-requires-clause-all g c =
     let mean : Meaning = g.E.Means.meaning in
     let ctx : Context = context_of c.args.names.now c.args.settings.now c.args.scene.now in
-    let meaning : IsMeaning mean = record { some = g.met.E.Means.never_blank; reads = g.met.E.Means.reads_alone } in
+    let meaning : IsMeaning mean = record { reads = g.met.E.Means.reads_alone } in
     λ x s. c.in_ok-order.ensures.same x ∙ all1 mean ctx meaning c.args.store.now c.first_pass.new.store (has same_place c.args.dirty.now.keys) c.requires.sound c.in_ok-order.ensures.values x s
 
 pub further-requires : goal.further-requires
 further-requires g c =
     let mean : Meaning = g.E.Means.meaning in
     let ctx : Context = context_of c.args.names.now c.args.settings.now c.args.scene.now in
-    let meaning : IsMeaning mean = record { some = g.met.E.Means.never_blank; reads = g.met.E.Means.reads_alone } in
+    let meaning : IsMeaning mean = record { reads = g.met.E.Means.reads_alone } in
     λ x m. formulas_rest mean ctx meaning c.args.store.now c.first_pass.new.store (has same_place c.args.dirty.now.keys) c.requires.sound c.in_ok-order.ensures.values
     (has same_place c.in_ok-rest.rest.keys) c.in_ok-rest.ensures.stays c.in_ok-rest.again.items c.in_ok-order.order.done.keys c.in_ok-rest.ensures.cells x (sym (ap (λ (ks : List Place). has same_place ks x) c.as_slice.ensures.value) ∙ m)
 
@@ -44,7 +44,7 @@ pub returns-clause-values : goal.returns-clause-values
 returns-clause-values g c =
     let mean : Meaning = g.E.Means.meaning in
     let ctx : Context = context_of c.args.names.now c.args.settings.now c.args.scene.now in
-    let meaning : IsMeaning mean = record { some = g.met.E.Means.never_blank; reads = g.met.E.Means.reads_alone } in
+    let meaning : IsMeaning mean = record { reads = g.met.E.Means.reads_alone } in
     let e : c.args.times ≡ suc (c.args.times - 1) = let h = c.requires.times in omega arith in
     c.in_ok-further.ensures.values
     ∙ values mean ctx meaning c.args.store.now c.first_pass.new.store (has same_place c.args.dirty.now.keys) c.requires.sound c.in_ok-order.ensures.values
@@ -55,7 +55,7 @@ pub returns-clause-stays : goal.returns-clause-stays
 returns-clause-stays g c =
     let mean : Meaning = g.E.Means.meaning in
     let ctx : Context = context_of c.args.names.now c.args.settings.now c.args.scene.now in
-    let meaning : IsMeaning mean = record { some = g.met.E.Means.never_blank; reads = g.met.E.Means.reads_alone } in
+    let meaning : IsMeaning mean = record { reads = g.met.E.Means.reads_alone } in
     subst (λ (h : Grid). IsWhatStays h (has same_place c.in_ok-rest.rest.keys)) (sym c.in_ok-further.ensures.values)
     (stays_end mean ctx meaning c.args.store.now c.first_pass.new.store (has same_place c.args.dirty.now.keys) c.requires.sound c.in_ok-order.ensures.values
     (has same_place c.in_ok-rest.rest.keys) c.in_ok-rest.ensures.stays (c.args.times - 1) c.as_slice.result.now)
@@ -64,7 +64,7 @@ pub returns-clause-sound : goal.returns-clause-sound
 returns-clause-sound g c =
     let mean : Meaning = g.E.Means.meaning in
     let ctx : Context = context_of c.args.names.now c.args.settings.now c.args.scene.now in
-    let meaning : IsMeaning mean = record { some = g.met.E.Means.never_blank; reads = g.met.E.Means.reads_alone } in
+    let meaning : IsMeaning mean = record { reads = g.met.E.Means.reads_alone } in
     c.further.ensures.sound (has same_place c.in_ok-rest.rest.keys)
     (sound_end mean ctx meaning c.args.store.now c.first_pass.new.store (has same_place c.args.dirty.now.keys) c.requires.sound c.in_ok-order.ensures.values
     (has same_place c.in_ok-rest.rest.keys) c.in_ok-rest.ensures.stays 0 [])
@@ -73,7 +73,7 @@ pub returns-clause-count : goal.returns-clause-count
 returns-clause-count g c =
     let mean : Meaning = g.E.Means.meaning in
     let ctx : Context = context_of c.args.names.now c.args.settings.now c.args.scene.now in
-    let meaning : IsMeaning mean = record { some = g.met.E.Means.never_blank; reads = g.met.E.Means.reads_alone } in
+    let meaning : IsMeaning mean = record { reads = g.met.E.Means.reads_alone } in
     let rest : List Place = c.in_ok-rest.rest.keys in
     let more : ℕ = c.args.times - 1 in
     let n : length c.as_slice.result.now ≡ length rest =

@@ -22,7 +22,7 @@ pub returns-clause-values : goal.returns-clause-values
 returns-clause-values g c =
     let mean : Meaning = g.E.Means.meaning in
     let ctx : Context = context_of c.args.names.now c.args.settings.now c.args.scene.now in
-    let meaning : IsMeaning mean = record { some = g.met.E.Means.never_blank; reads = g.met.E.Means.reads_alone } in
+    let meaning : IsMeaning mean = record { reads = g.met.E.Means.reads_alone } in
     let s : Grid = c.args.store.now in
     c.in_ok-further.ensures.values ∙ ap (λ cs. passes mean ctx c.args.times cs s) (c.as_slice.ensures.value ∙ c.in_ok-cells.ensures.list)
     ∙ sym (further mean ctx (has same_place c.args.dirty.now.keys) meaning c.args.times (plain_order c.args.is_by_column s) s c.requires.sound)

@@ -5,5 +5,5 @@ use Rattle.work_sheet.proofs.sheet.SheetOf.new.Goals as goal
 pub invariant_of-result : goal.invariant_of-result
 invariant_of-result g c =
     let mean : Meaning = g.E.Means.meaning in
-    let meaning : IsMeaning mean = record { some = g.met.E.Means.never_blank; reads = g.met.E.Means.reads_alone } in
+    let meaning : IsMeaning mean = record { reads = g.met.E.Means.reads_alone } in
     kept_empty mean meaning c.new.result c.new.ensures.cells c.new-2.result c.new-3.result.keys c.fresh.result.order c.new-2.ensures.formulas c.new-3.ensures.empty
