@@ -1,3 +1,4 @@
+pub mod Cut
 pub mod Dirtied
 pub mod Held
 pub mod Reaching

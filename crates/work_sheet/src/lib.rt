@@ -8,5 +8,6 @@ mod sheet;
 mod states;
 #[cfg(test)]
 mod tests;
+mod typed;
 
 pub use sheet::{Sheet, SheetOf};

@@ -1,5 +1,5 @@
 // A sheet, whose values are kept right by recalculation over its dirty formulas.
-ghost use Rattle.std.specs.Prelude.{◌≡◌, ◌+◌, ◌-◌, ◌*◌, ◌≤◌, ◌⊎◌, [], length, IfErr, IfOk, OnErr, OnOk, Some, None, option_copied, replicate, true, false};
+ghost use Rattle.std.specs.Prelude.{◌≡◌, ◌+◌, ◌-◌, ◌*◌, ◌≤◌, ◌⊎◌, [], length, IfErr, IfOk, OnErr, OnOk, Some, None, option_copied, nat_le, replicate, take, true, false};
 ghost use Rattle.std.specs.FinMap as map;
 ghost use Rattle.std.specs.Option.{ForSome};
 ghost use Rattle.grid_address.specs.Place.{same_place, Place};
@@ -14,16 +14,18 @@ ghost use Rattle.sheet_store.specs.Choices.{fresh};
 ghost use Rattle.sheet_store.specs.Grid.{is_hidden, last_used, set_hidden_of, set_width_of, width_of};
 ghost use Rattle.work_sheet.specs.Edits.{entered, evaluations, is_evaluated, is_protected, written, AreDirtied, HasPrefix};
 ghost use Rattle.work_sheet.specs.Sheets.{value_told, IsFaultOf, SameBeside};
+ghost use Rattle.work_sheet.specs.Typed.{typed};
 
 use crate::edit::write_cell;
 use crate::line::write_evaluated;
 use crate::states::{is_marked, mark, state_of};
+use crate::typed::text_of;
 use depend_graph::Graph;
 use formula_eval::{Means, Scene, Tally};
 use formula_tree::{Content, Value};
 use grid_address::{Cell, Span};
 use indexmap::IndexSet;
-use lics_text::Memory;
+use lics_text::{Line, Memory};
 use natural_recalc::{all_dirty, graph_of, recalc};
 use range_names::{NameFault, Names};
 use sheet_store::{Order, SavedSheet, Settings, SheetFault, Store, is_formula};
@@ -155,6 +157,17 @@ impl<E: Means> SheetOf<E> {
             Some(state) => Some(&state.value),
             None => None,
         }
+    }
+
+    /// The content of a cell as it would be typed: a label with its prefix, a number with the places that it needs, a
+    /// formula as it is printed with the sheet's names. The first 240 bytes are written into the line, which is empty
+    /// before, and the answer tells whether that is all.
+    pub fn text_of(&self, cell: Cell, into: &mut Line) -> bool
+        requires { into.old ≡ [] }
+        ensures line { into.new ≡ take 240 (typed self.now.names self.now.grid cell) }
+        ensures whole { result ≡ nat_le (length (typed self.now.names self.now.grid cell)) 240 }
+    {
+        text_of(&self.store, &self.names, cell, into)
     }
 
     /// The last row and the last column that hold a used cell, as one cell.

@@ -8,7 +8,7 @@ use fixed_value::Fixed;
 use formula_eval::{Look, Means, Scene, Tally};
 use formula_tree::{Content, Expr, ExprList, Formula, Function, Op, Value};
 use grid_address::{Axis, Cell, Ref};
-use lics_text::Memory;
+use lics_text::{Line, Memory, Text};
 use serial_date::Moment;
 use sheet_store::{Order, Settings, SheetFault};
 use std::alloc::Global;
@@ -284,5 +284,25 @@ fn a_line_is_evaluated_once_in_manual_mode(rt: HostRuntime) -> Result<(), Fail> 
     assert_eq!(&rt; whole_at(&sheet, A1), Some(3));
     assert_eq!(&rt; tally.count(), 2);
     assert_eq!(&rt; sheet.is_stale(), false);
+    Ok(())
+}
+
+#[test]
+fn texts_are_as_typed(rt: HostRuntime) -> Result<(), Fail> {
+    let alloc = rt.alloc();
+    let mut sheet = Sheet::new(alloc);
+    let text = Text::from_bytes(alloc, b"NET").expect(&rt, "a text");
+    sheet
+        .enter(C1, Content::Label(b'^', text))
+        .expect(&rt, "an edit");
+    sheet.enter(B1, number(-5)).expect(&rt, "an edit");
+    sheet
+        .enter(A1, one_more(&rt, alloc, B1))
+        .expect(&rt, "an edit");
+    for (cell, wanted) in [(A1, b"$B$1+1".as_slice()), (B1, b"-5"), (C1, b"^NET")] {
+        let mut line = Line::new();
+        assert_eq!(&rt; sheet.text_of(cell, &mut line), true);
+        assert_eq!(&rt; line.bytes(), wanted);
+    }
     Ok(())
 }

@@ -1,0 +1,60 @@
+// What a cell holds, as it would be typed.
+ghost use Rattle.std.specs.Prelude.{◌≡◌, ◌≤◌, ◌∷◌, [], length, nat_le, take};
+ghost use Rattle.fixed_value.specs.Written.{short};
+ghost use Rattle.work_sheet.specs.Typed.{typed, typed_content};
+
+use fixed_value::{Fixed, write_short};
+use formula_text::print;
+use formula_tree::Content;
+use grid_address::Cell;
+use lics_text::{Line, Text};
+use range_names::Names;
+use sheet_store::Store;
+
+fn put_number(number: Fixed, into: &mut Line) -> bool
+    requires { into.old ≡ [] }
+    ensures line { into.new ≡ take 240 (short number 6) }
+    ensures whole { result ≡ nat_le (length (short number 6)) 240 }
+{
+    let digits = write_short(number, 6);
+    into.put_all(digits.bytes());
+    true
+}
+
+// A label's prefix and its text; of a text of 240 bytes the last one has no room.
+fn put_label(prefix: u8, text: &Text, into: &mut Line) -> bool
+    requires { into.old ≡ [] }
+    ensures line { into.new ≡ take 240 (prefix ∷ text.now) }
+    ensures whole { result ≡ nat_le (length (prefix ∷ text.now)) 240 }
+{
+    let bytes = text.bytes();
+    let room = bytes.len().min(239);
+    let _ = into.put(prefix);
+    into.put_all(&bytes[..room]);
+    bytes.len() <= 239
+}
+
+fn put_content(content: &Content, cell: Cell, names: &Names, into: &mut Line) -> bool
+    requires { into.old ≡ [] }
+    ensures line { into.new ≡ take 240 (typed_content names.now cell content.now) }
+    ensures whole { result ≡ nat_le (length (typed_content names.now cell content.now)) 240 }
+{
+    match content {
+        Content::Blank => true,
+        Content::Number(number) => put_number(*number, into),
+        Content::Label(prefix, text) => put_label(*prefix, text, into),
+        Content::Formula(formula) => print(formula, cell, names, into),
+    }
+}
+
+// The first 240 bytes of what a cell holds; the answer tells whether that is all.
+pub fn text_of(store: &Store, names: &Names, cell: Cell, into: &mut Line) -> bool
+    requires { into.old ≡ [] }
+    ensures line { into.new ≡ take 240 (typed names.now store.now cell) }
+    ensures whole { result ≡ nat_le (length (typed names.now store.now cell)) 240 }
+{
+    match store.get(cell) {
+        Some(state) => put_content(&state.content, cell, names, into),
+        None => true,
+    }
+}
