@@ -1,10 +1,12 @@
 // From a formula to its value.
-ghost use Rattle.std.specs.Prelude.{◌≡◌, ℕ, ◌+◌, ◌-◌, ◌^◌, ◌∷◌, [], ◌++◌, map, min, IfOk, OnOk};
+ghost use Rattle.std.specs.Prelude.{◌≡◌, ℕ, ◌+◌, ◌-◌, ◌^◌, ◌∷◌, [], ◌++◌, map, min, IfOk, IfSome, OnOk};
 ghost use Rattle.formula_tree.specs.View.{listed, tree_of};
 ghost use Rattle.formula_eval.specs.Lists.{items_of, list_value};
 ghost use Rattle.formula_eval.specs.Mean.{arguments_at, call_value, chosen, filled_in, mean, operand_of, value_at};
+ghost use Rattle.formula_eval.specs.Operators.{binary_value, denied, negated};
 ghost use Rattle.formula_eval.specs.Scenes.{world_of};
 ghost use Rattle.formula_eval.specs.World.{Sight};
+ghost use Rattle.formula_tree.specs.declared.value.Value.TheVariants as value;
 
 use crate::argument::{Argument, Operand};
 use crate::calls::{called, choice, is_choice, is_list};
@@ -12,9 +14,9 @@ use crate::items::{items_of, list_value};
 use crate::look::{Look, Scene};
 use crate::operators::{binary, denied, negated};
 use fixed_value::Fixed;
-use formula_tree::{Expr, Formula, Value};
+use formula_tree::{Expr, Formula, Op, Value};
 use grid_address::{Cell, Span};
-use lics_text::Memory;
+use lics_text::{Memory, Text};
 use std::alloc::Global;
 
 /// A count of evaluations. It stays at the last number that it can hold.
@@ -131,6 +133,75 @@ fn call_value<K: Look>(
     }
 }
 
+fn text_value(text: &Text) -> Result<Value, Memory>
+    ensures { IfOk result (λ v. v ≡ value.Str text.now) }
+{
+    Ok(Value::Str(text.copy()?))
+}
+
+#[cycle(value)]
+fn negated_value<K: Look>(
+    alloc: Global,
+    inner: &Expr,
+    at: Cell,
+    look: &K,
+    scene: &Scene,
+) -> Result<Value, Memory>
+    ensures { IfOk result (λ v. v ≡ negated (value_at (tree_of inner.now) at (world_of (K.sight look.now) scene.entry.now))) }
+{
+    let value = value_of(alloc, inner, at, look, scene)?;
+    Ok(negated(&value))
+}
+
+#[cycle(value)]
+fn denied_value<K: Look>(
+    alloc: Global,
+    inner: &Expr,
+    at: Cell,
+    look: &K,
+    scene: &Scene,
+) -> Result<Value, Memory>
+    ensures { IfOk result (λ v. v ≡ denied (value_at (tree_of inner.now) at (world_of (K.sight look.now) scene.entry.now))) }
+{
+    let value = value_of(alloc, inner, at, look, scene)?;
+    Ok(denied(&value))
+}
+
+// The number of a part that is one, or of the cell that it names. It spares most operators two values.
+fn number_at<K: Look>(expr: &Expr, at: Cell, look: &K) -> Option<Fixed>
+    ensures { IfSome result (λ n. (s : Scene) → value_at (tree_of expr.now) at (world_of (K.sight look.now) s) ≡ value.Num n) }
+{
+    match expr {
+        Expr::Num(number) => Some(*number),
+        Expr::Cell(reference) => match look.value(reference.resolve(at)) {
+            Value::Num(number) => Some(*number),
+            Value::Blank | Value::Str(_) | Value::Err | Value::Na => None,
+        },
+        Expr::Str(_) | Expr::Span(_, _) | Expr::Group(_) | Expr::Neg(_) => None,
+        Expr::Not(_) | Expr::Binary(_, _, _) | Expr::Call(_, _) => None,
+    }
+}
+
+#[cycle(value)]
+fn binary_value<K: Look>(
+    alloc: Global,
+    op: Op,
+    left: &Expr,
+    right: &Expr,
+    at: Cell,
+    look: &K,
+    scene: &Scene,
+) -> Result<Value, Memory>
+    ensures { IfOk result (λ v. v ≡ binary_value op (value_at (tree_of left.now) at (world_of (K.sight look.now) scene.entry.now)) (value_at (tree_of right.now) at (world_of (K.sight look.now) scene.entry.now))) }
+{
+    if let (Some(x), Some(y)) = (number_at(left, at, look), number_at(right, at, look)) {
+        return binary(alloc, op, &Value::Num(x), &Value::Num(y));
+    }
+    let left = value_of(alloc, left, at, look, scene)?;
+    let right = value_of(alloc, right, at, look, scene)?;
+    binary(alloc, op, &left, &right)
+}
+
 // The value of a part, which may be blank.
 #[cycle(value)]
 fn value_of<K: Look>(
@@ -144,23 +215,13 @@ fn value_of<K: Look>(
 {
     match expr {
         Expr::Num(number) => Ok(Value::Num(*number)),
-        Expr::Str(text) => Ok(Value::Str(text.copy()?)),
+        Expr::Str(text) => text_value(text),
         Expr::Cell(reference) => look.value(reference.resolve(at)).copy(),
         Expr::Span(_, _) => Ok(Value::Err),
         Expr::Group(inner) => value_of(alloc, inner, at, look, scene),
-        Expr::Neg(inner) => {
-            let inner = value_of(alloc, inner, at, look, scene)?;
-            Ok(negated(&inner))
-        }
-        Expr::Not(inner) => {
-            let inner = value_of(alloc, inner, at, look, scene)?;
-            Ok(denied(&inner))
-        }
-        Expr::Binary(op, left, right) => {
-            let left = value_of(alloc, left, at, look, scene)?;
-            let right = value_of(alloc, right, at, look, scene)?;
-            binary(alloc, *op, &left, &right)
-        }
+        Expr::Neg(inner) => negated_value(alloc, inner, at, look, scene),
+        Expr::Not(inner) => denied_value(alloc, inner, at, look, scene),
+        Expr::Binary(op, left, right) => binary_value(alloc, *op, left, right, at, look, scene),
         Expr::Call(function, exprs) => call_value(
             alloc,
             function.0,
@@ -178,10 +239,7 @@ fn filled_in(value: Value) -> Value
 {
     match value {
         Value::Blank => Value::Num(Fixed::ZERO),
-        Value::Num(number) => Value::Num(number),
-        Value::Str(text) => Value::Str(text),
-        Value::Err => Value::Err,
-        Value::Na => Value::Na,
+        filled => filled,
     }
 }
 

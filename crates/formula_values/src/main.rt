@@ -2,7 +2,7 @@
 //! empty. The next cell, row by row over the columns A to H, gets a number from `:N`, a label from `:L` with its prefix
 //! and its text, a formula from `:V`, and nothing from `:B`. Any other line is a formula in the cell J20, whose value is
 //! printed: `n` and millionths, `s` and a text, `ERR` or `NA`; or its fault behind `!`. The stored run compares the
-//! values of 20,000 formulas with another program's. With the word `mul` or `add` it evaluates 8,000 formulas a hundred
+//! values of 20,000 formulas with another program's. With the word `mul` or `add` it evaluates 8,000 formulas five hundred
 //! times and prints the sum of their values, for bench/.
 #![tactic(auto)]
 

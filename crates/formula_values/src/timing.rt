@@ -13,7 +13,7 @@ use std::alloc::Global;
 
 const FORMULAS: u16 = 8_000;
 
-const ROUNDS: u32 = 100;
+const ROUNDS: u32 = 500;
 
 // Numbers for rows enough.
 fn fill(block: &mut Block) -> Result<(), Stop> {
@@ -63,7 +63,7 @@ fn millionths(value: &Value) -> i64 {
     }
 }
 
-/// The sum of the values of 8,000 formulas, evaluated a hundred times, and how many evaluations were counted.
+/// The sum of the values of 8,000 formulas, evaluated five hundred times, and how many evaluations were counted.
 pub fn evaluations_sum(alloc: Global, block: &mut Block, sums: bool) -> Result<(i64, u64), Stop> {
     fill(block)?;
     let formulas = formulas(alloc, block, sums)?;

@@ -17,5 +17,14 @@ decreases-arguments_of g l = 4 * all_nodes (listed (map tree_of l.exprs.now)) + 
 abbrev pub decreases-chosen : goal.decreases-chosen
 decreases-chosen g l = 4 * all_nodes (listed (map tree_of l.exprs.now)) + 1
 
+abbrev pub decreases-negated_value : goal.decreases-negated_value
+decreases-negated_value g l = 4 * nodes (tree_of l.inner.now) + 1
+
+abbrev pub decreases-denied_value : goal.decreases-denied_value
+decreases-denied_value g l = 4 * nodes (tree_of l.inner.now) + 1
+
+abbrev pub decreases-binary_value : goal.decreases-binary_value
+decreases-binary_value g l = 4 * (nodes (tree_of l.left.now) + nodes (tree_of l.right.now)) + 1
+
 abbrev pub invariant-arguments_of-loop-expr : goal.invariant-arguments_of-loop-expr
 invariant-arguments_of-loop-expr g l = l.arguments.items ≡ arguments_at (listed (map tree_of (take l.expr-index l.exprs))) l.at (world_of (g.K.Look.sight l.look) l.scene)
