@@ -4,7 +4,7 @@ use Rattle.std.specs.FinMap.{get}
 use Rattle.std.proofs.Common.{sym, ◌∙◌, ap, subst, inl, inr}
 use Rattle.std.proofs.lemmas.Bool.{cases_Bool, false≢true, or_cases, or_left, or_right, true≢false}
 use Rattle.std.proofs.lemmas.List.Folds.{list_any-append}
-use Rattle.grid_address.proofs.Places.{same_place_is, same_place_itself, same_place_laws}
+use Rattle.grid_address.proofs.Places.{same_place_is, same_place_laws}
 use Rattle.grid_address.specs.Place.{same_place, Place}
 use Rattle.formula_tree.specs.Tree.{Tree}
 use Rattle.depend_graph.specs.Network as network
@@ -17,7 +17,7 @@ use Rattle.sheet_store.specs.declared.state.CellState.{CellState}
 use Rattle.natural_recalc.specs.Reading.{is_formula_at, node_of, Matches}
 use Rattle.natural_recalc.specs.World.{formula_at, formula_in}
 use Rattle.work_sheet.proofs.Reaching.{accepted_told, dropped_told, formula_beside, formula_here, formula_in_is, matches_written, reaching_formula, to_new, to_old}
-use Rattle.work_sheet.specs.Edits.{kept_at, settled, AreDirtied, IsDirtied, WithReached}
+use Rattle.work_sheet.specs.Edits.{just, kept_at, settled, AreDirtied, IsDirtied, WithReached}
 
 only_one : (c cell : Place) → has same_place (cell ∷ []) c ≡ true → same_place c cell ≡ true
 only_one c cell m = elim (or_cases (same_place c cell) false m) [ inl h ↦ h | inr h ↦ absurd (false≢true h) ]
@@ -26,59 +26,58 @@ node_is_formula : (o : Option Tree) (c : Place) → is_some (node_of o c) ≡ is
 node_is_formula None c = refl
 node_is_formula (Some t) c = refl
 
-module _ (g : Grid) (cell : Place) (s : CellState) (keeps : is_formula s.content ≡ true → is_kept s ≡ true) (n : Network) (m : Matches n g) where
+module _ (g h : Grid) (cells : List Place) (written changed given : Place → Bool) (same : (c : Place) → (written c ≡ true) ↔ (has same_place cells c ≡ true)) (sub : (c : Place) → changed c ≡ true → written c ≡ true)
+    (beside : (c : Place) → changed c ≡ false → formula_at h c ≡ formula_at g c) (gives : (c : Place) → given c ≡ true → changed c ≡ true) (gave : (c : Place) → changed c ≡ true → is_formula_at h c ≡ true → given c ≡ true) (n : Network) (m : Matches n g) where
   formula_same : (c : Place) → network.is_formula n c ≡ is_formula_at g c
   formula_same c = ap is_some (m c) ∙ node_is_formula (formula_at g c) c
 
-  formula_after : (c : Place) → same_place c cell ≡ false → is_formula_at (put_state g cell s) c ≡ is_formula_at g c
-  formula_after c h = ap is_some (formula_beside g cell s keeps c h)
+  formula_after : (c : Place) → changed c ≡ false → is_formula_at h c ≡ is_formula_at g c
+  formula_after c k = ap is_some (beside c k)
 
-  pub dirtied : (old mid : List Place) (now : Place → Bool) → ((c : Place) → has same_place old c ≡ true → is_formula_at g c ≡ true) → WithReached n cell old mid
-      → ((c : Place) → (now c ≡ true) ↔ ((has same_place mid c ≡ true) × (same_place c cell ≡ true → is_formula_at (put_state g cell s) cell ≡ true))) → AreDirtied (put_state g cell s) (has same_place old) cell now
-  dirtied old mid now only w h c = (forth, back)
+  pub dirtied : (old mid : List Place) (now : Place → Bool) → ((c : Place) → has same_place old c ≡ true → is_formula_at g c ≡ true) → WithReached n cells given old mid
+      → ((c : Place) → (now c ≡ true) ↔ ((has same_place mid c ≡ true) × (written c ≡ true → is_formula_at h c ≡ true))) → AreDirtied h (has same_place old) written now
+  dirtied old mid now only w x c = (forth, back)
     where
-      here : same_place c cell ≡ true → has same_place mid c ≡ true → is_formula_at (put_state g cell s) cell ≡ true → IsDirtied (put_state g cell s) (has same_place old) cell c
-      here t k f = record { formula = subst (λ x. is_formula_at (put_state g cell s) x ≡ true) (sym (same_place_is c cell t)) f; why = inr (inl t) }
-
-      beside : same_place c cell ≡ false → has same_place mid c ≡ true → IsDirtied (put_state g cell s) (has same_place old) cell c
-      beside f k = elim ((w c).0 k) [
+      beside_it : changed c ≡ false → has same_place mid c ≡ true → IsDirtied h (has same_place old) written c
+      beside_it f k = elim ((w c).0 k) [
         | inl o ↦ record { formula = formula_after c f ∙ only c o; why = inl o }
         | inr r ↦ elim r [
-          | inl t ↦ absurd (true≢false (sym t ∙ f))
+          | inl t ↦ absurd (true≢false (sym (gives c t) ∙ f))
           | inr p ↦ elim p.way [
-            | inl a ↦ absurd (true≢false (sym (only_one c cell a) ∙ f))
+            | inl a ↦ record { formula = formula_after c f ∙ sym (formula_same c) ∙ p.formula; why = inr (inl ((same c).1 a)) }
             | inr q ↦
-                let way : Reaches n c cell = subst (λ x. Reaches n c x) (same_place_is q.cell cell (only_one q.cell cell q.among)) q.reached in
-                let new = to_new g cell s keeps n m way f in
-                record { formula = reaching_formula g cell s keeps n m new; why = inr (inr new) }
+                let new = to_new g h written changed sub beside n m q.reached ((same q.cell).1 q.among) f in
+                record { formula = reaching_formula h new.2; why = inr (inr new) }
           ]
         ]
       ]
 
-      forth : now c ≡ true → IsDirtied (put_state g cell s) (has same_place old) cell c
+      forth : now c ≡ true → IsDirtied h (has same_place old) written c
       forth t =
-          let p = (h c).0 t in
-          elim (cases_Bool (same_place c cell)) [
-            | inl e ↦ here e p.0 (p.1 e)
-            | inr e ↦ beside e p.0
+          let p = (x c).0 t in
+          elim (cases_Bool (changed c)) [
+            | inl e ↦ record { formula = p.1 (sub c e); why = inr (inl (sub c e)) }
+            | inr e ↦ beside_it e p.0
           ]
 
-      member : same_place c cell ≡ false → IsDirtied (put_state g cell s) (has same_place old) cell c → has same_place mid c ≡ true
+      formula_before : changed c ≡ false → is_formula_at h c ≡ true → network.is_formula n c ≡ true
+      formula_before f k = formula_same c ∙ sym (formula_after c f) ∙ k
+
+      member : changed c ≡ false → IsDirtied h (has same_place old) written c → has same_place mid c ≡ true
       member f d = elim d.why [
         | inl o ↦ (w c).1 (inl o)
         | inr r ↦ elim r [
-          | inl t ↦ absurd (true≢false (sym t ∙ f))
-          | inr q ↦ (w c).1 (inr (inr (record {
-            formula = formula_same c ∙ sym (formula_after c f) ∙ d.formula;
-            way = inr (record { cell = cell; among = or_left _ _ (same_place_itself cell); reached = to_old g cell s keeps n m q f });
-          })))
+          | inl t ↦ (w c).1 (inr (inr (record { formula = formula_before f d.formula; way = inl ((same c).0 t) })))
+          | inr q ↦
+              let o = to_old g h written changed sub beside n m q.2 q.1 f in
+              (w c).1 (inr (inr (record { formula = formula_before f d.formula; way = inr (record { cell = o.0; among = (same o.0).0 o.1; reached = o.2 }) })))
         ]
       ]
 
-      back : IsDirtied (put_state g cell s) (has same_place old) cell c → now c ≡ true
-      back d = elim (cases_Bool (same_place c cell)) [
-        | inl t ↦ (h c).1 ((w c).1 (inr (inl t)), λ _. subst (λ x. is_formula_at (put_state g cell s) x ≡ true) (same_place_is c cell t) d.formula)
-        | inr f ↦ (h c).1 (member f d, λ t. absurd (true≢false (sym t ∙ f)))
+      back : IsDirtied h (has same_place old) written c → now c ≡ true
+      back d = elim (cases_Bool (changed c)) [
+        | inl e ↦ (x c).1 ((w c).1 (inr (inl (gave c e d.formula))), λ _. d.formula)
+        | inr f ↦ (x c).1 (member f d, λ _. d.formula)
       ]
 
 -- which cells a formula reaches hangs on the formulas alone
@@ -86,7 +85,7 @@ reaches_along : (a b : Network) → a.formulas ≡ b.formulas → {c d : Place} 
 reaches_along a b e {c} {d} (at_once r) = at_once (sym (ap (λ f. network.holds (get f c) d) e) ∙ r)
 reaches_along a b e {c} {d} (through {e = x} r q) = through (sym (ap (λ f. network.holds (get f c) x) e) ∙ r) (reaches_along a b e q)
 
-spread_along : (a b : Network) → a.formulas ≡ b.formulas → (cells : List Place) (c : Place) → IsSpread a cells c → IsSpread b cells c
+pub spread_along : (a b : Network) → a.formulas ≡ b.formulas → (cells : List Place) (c : Place) → IsSpread a cells c → IsSpread b cells c
 spread_along a b e cells c p = record {
   formula = sym (ap (λ f. is_some (get f c)) e) ∙ p.formula;
   way = elim p.way [
@@ -95,7 +94,7 @@ spread_along a b e cells c p = record {
   ];
 }
 
-inserted_members : (keys : List Place) (k c : Place) → (has same_place (insert_key same_place keys k) c ≡ true) ↔ ((has same_place keys c ≡ true) ⊎ (same_place c k ≡ true))
+pub inserted_members : (keys : List Place) (k c : Place) → (has same_place (insert_key same_place keys k) c ≡ true) ↔ ((has same_place keys c ≡ true) ⊎ (same_place c k ≡ true))
 inserted_members keys k c = elim (has same_place keys k) as (λ b. has same_place keys k ≡ b → (has same_place (cond b keys (keys ++ k ∷ [])) c ≡ true) ↔ ((has same_place keys c ≡ true) ⊎ (same_place c k ≡ true))) [
   | true ↦ λ h. (λ m. inl m, λ a. elim a [ inl m ↦ m | inr e ↦ subst (λ x. has same_place keys x ≡ true) (sym (same_place_is c k e)) h ])
   | false ↦ λ h. (
@@ -106,7 +105,7 @@ inserted_members keys k c = elim (has same_place keys k) as (λ b. has same_plac
 
 -- what the set has after the growths
 pub with_reached : (n o : Network) → o.formulas ≡ n.formulas → (cell : Place) (old mid reached : List Place) → ((c : Place) → has same_place mid c ≡ (has same_place old c || has same_place reached c))
-    → ((c : Place) → (has same_place reached c ≡ true) ↔ IsSpread o (cell ∷ []) c) → WithReached n cell old (insert_key same_place mid cell)
+    → ((c : Place) → (has same_place reached c ≡ true) ↔ IsSpread o (cell ∷ []) c) → WithReached n (cell ∷ []) (just cell) old (insert_key same_place mid cell)
 with_reached n o e cell old mid reached h r c = (forth, back)
   where
     forth : has same_place (insert_key same_place mid cell) c ≡ true → (has same_place old c ≡ true) ⊎ ((same_place c cell ≡ true) ⊎ IsSpread n (cell ∷ []) c)
@@ -146,25 +145,32 @@ module _ (g : Grid) (cell : Place) (s : CellState) (keeps : is_formula s.content
   here_is : is_formula_at (put_state g cell s) cell ≡ is_formula s.content
   here_is = ap is_some (formula_here g cell s keeps) ∙ sym (formula_in_is s.content)
 
-  module _ (old mid : List Place) (only : (c : Place) → has same_place old c ≡ true → is_formula_at g c ≡ true) (w : WithReached n cell old mid) where
-    pub dirtied_formula : is_formula s.content ≡ true → AreDirtied (put_state g cell s) (has same_place old) cell (has same_place mid)
-    dirtied_formula h = dirtied g cell s keeps n m old mid (has same_place mid) only w (λ c. (λ t. (t, λ _. here_is ∙ h), λ p. p.0))
+  module _ (old mid : List Place) (only : (c : Place) → has same_place old c ≡ true → is_formula_at g c ≡ true) (w : WithReached n (cell ∷ []) (just cell) old mid) where
+    dirtied_here : (now : Place → Bool) → ((c : Place) → (now c ≡ true) ↔ ((has same_place mid c ≡ true) × (same_place c cell ≡ true → is_formula s.content ≡ true))) → AreDirtied (put_state g cell s) (has same_place old) (just cell) now
+    dirtied_here now x = dirtied g (put_state g cell s) (cell ∷ []) (just cell) (just cell) (just cell) (λ c. (λ t. or_left _ _ t, only_one c cell)) (λ _ t. t) (formula_beside g cell s keeps) (λ _ t. t) (λ _ t _. t) n m
+        old mid now only w (λ c. (
+          λ t. let p = (x c).0 t in (p.0, λ e. subst (λ y. is_formula_at (put_state g cell s) y ≡ true) (sym (same_place_is c cell e)) (here_is ∙ p.1 e)),
+          λ p. (x c).1 (p.0, λ e. sym here_is ∙ subst (λ y. is_formula_at (put_state g cell s) y ≡ true) (same_place_is c cell e) (p.1 e)),
+        ))
 
-    pub dirtied_other : is_formula s.content ≡ false → (now : Place → Bool) → ((c : Place) → now c ≡ cond (same_place cell c) false (has same_place mid c)) → AreDirtied (put_state g cell s) (has same_place old) cell now
-    dirtied_other h now u = dirtied g cell s keeps n m old mid now only w (λ c. (forth c, back c))
+    dirtied_formula : is_formula s.content ≡ true → AreDirtied (put_state g cell s) (has same_place old) (just cell) (has same_place mid)
+    dirtied_formula h = dirtied_here (has same_place mid) (λ c. (λ t. (t, λ _. h), λ p. p.0))
+
+    dirtied_other : is_formula s.content ≡ false → (now : Place → Bool) → ((c : Place) → now c ≡ cond (same_place cell c) false (has same_place mid c)) → AreDirtied (put_state g cell s) (has same_place old) (just cell) now
+    dirtied_other h now u = dirtied_here now (λ c. (forth c, back c))
       where
-        forth : (c : Place) → now c ≡ true → (has same_place mid c ≡ true) × (same_place c cell ≡ true → is_formula_at (put_state g cell s) cell ≡ true)
+        forth : (c : Place) → now c ≡ true → (has same_place mid c ≡ true) × (same_place c cell ≡ true → is_formula s.content ≡ true)
         forth c t = elim (cases_Bool (same_place cell c)) [
           | inl e ↦ absurd (false≢true (sym (u c ∙ ap (λ b. cond b false (has same_place mid c)) e) ∙ t))
           | inr e ↦ (sym (u c ∙ ap (λ b. cond b false (has same_place mid c)) e) ∙ t, λ k. absurd (true≢false (sym k ∙ same_place_laws.symm c cell ∙ e)))
         ]
 
-        back : (c : Place) → (has same_place mid c ≡ true) × (same_place c cell ≡ true → is_formula_at (put_state g cell s) cell ≡ true) → now c ≡ true
+        back : (c : Place) → (has same_place mid c ≡ true) × (same_place c cell ≡ true → is_formula s.content ≡ true) → now c ≡ true
         back c p = elim (cases_Bool (same_place cell c)) [
-          | inl e ↦ absurd (true≢false (sym (p.1 (same_place_laws.symm c cell ∙ e)) ∙ here_is ∙ h))
+          | inl e ↦ absurd (true≢false (sym (p.1 (same_place_laws.symm c cell ∙ e)) ∙ h))
           | inr e ↦ u c ∙ ap (λ b. cond b false (has same_place mid c)) e ∙ p.0
         ]
 
-    pub dirtied_settled : (b : Bool) → is_formula s.content ≡ b → (now : Place → Bool) → ((c : Place) → now c ≡ kept_at b cell c (has same_place mid c)) → AreDirtied (put_state g cell s) (has same_place old) cell now
-    dirtied_settled true h now u = subst (AreDirtied (put_state g cell s) (has same_place old) cell) (λ i c. sym (u c) i) (dirtied_formula h)
+    pub dirtied_settled : (b : Bool) → is_formula s.content ≡ b → (now : Place → Bool) → ((c : Place) → now c ≡ kept_at b cell c (has same_place mid c)) → AreDirtied (put_state g cell s) (has same_place old) (just cell) now
+    dirtied_settled true h now u = subst (AreDirtied (put_state g cell s) (has same_place old) (just cell)) (λ i c. sym (u c) i) (dirtied_formula h)
     dirtied_settled false h now u = dirtied_other h now u

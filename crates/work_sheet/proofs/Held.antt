@@ -3,13 +3,13 @@ use Rattle.std.specs.Prelude.{◌≡◌, Bool, true, false, cond, is_some, refl,
 use Rattle.std.specs.FinMap.{empty, get, get-empty, insert, remove}
 use Rattle.std.proofs.Common.{sym, ◌∙◌, ap, subst, inl, inr}
 use Rattle.std.proofs.lemmas.Bool.{cases_Bool, true≢false}
-use Rattle.grid_address.proofs.Places.{get_inserted, get_removed, same_place_is, same_place_itself}
+use Rattle.grid_address.proofs.Places.{get_inserted, get_removed}
 use Rattle.grid_address.specs.Place.{place_cmp, same_place, Place}
 use Rattle.formula_tree.specs.Tree.{Tree}
 use Rattle.depend_graph.specs.Network.{Network}
 use Rattle.natural_order.specs.Walk.{has, Reaches}
 use Rattle.natural_order.specs.Walk.Reaches.{more, one}
-use Rattle.sheet_store.specs.Grid.{is_formula, is_kept, put_state, Cells, Grid}
+use Rattle.sheet_store.specs.Grid.{is_kept, put_state, Cells, Grid}
 use Rattle.sheet_store.specs.declared.order.Order.{Order}
 use Rattle.sheet_store.specs.declared.order.Order.TheVariants as orders
 use Rattle.sheet_store.specs.declared.state.CellState.{CellState}
@@ -18,91 +18,96 @@ use Rattle.natural_recalc.proofs.Cut.{sound_all}
 use Rattle.natural_recalc.proofs.Edit.{edit_keeps_sound}
 use Rattle.natural_recalc.proofs.First.{reads_formula}
 use Rattle.natural_recalc.proofs.Members.{pre_along}
-use Rattle.natural_recalc.specs.Passes.{evaluated, IsDirtyAfter, IsMeaning, IsSound, IsSpread, Meaning, ReachesCell, SameContents}
+use Rattle.natural_recalc.specs.Passes.{evaluated, IsDirtyAfter, IsMeaning, IsSound, IsSpread, Meaning, SameContents}
 use Rattle.natural_recalc.specs.Reading.{is_formula_at, node_of, pre, Matches}
 use Rattle.natural_recalc.specs.World.{formula_at, formula_of, value_of, world_at, Context}
-use Rattle.work_sheet.proofs.Reaching.{formula_beside, reaching_formula}
-use Rattle.work_sheet.specs.Edits.{AreDirtied}
+use Rattle.work_sheet.proofs.Reaching.{reaching_formula}
+use Rattle.work_sheet.specs.Edits.{just, AreDirtied}
 use Rattle.work_sheet.specs.Sheets.{AllDirtyIn, IsKept}
 
+-- the cells beside the one that is put
+pub beside : (g : Grid) (cell : Place) (s : CellState) (c : Place) → same_place c cell ≡ false → get (put_state g cell s).cells c ≡ get g.cells c
+beside g cell s c h = elim (cases_Bool (is_kept s)) [
+  | inl k ↦ ap (λ b. get (cond b (insert g.cells cell s) (remove g.cells cell)) c) k ∙ get_inserted g.cells cell s c ∙ ap (λ b. cond b (Some s) (get g.cells c)) h
+  | inr k ↦ ap (λ b. get (cond b (insert g.cells cell s) (remove g.cells cell)) c) k ∙ get_removed g.cells cell c ∙ ap (λ b. cond b None (get g.cells c)) h
+]
+
 module _ (mean : Meaning) (meaning : IsMeaning mean) where
-  -- what holds in one context holds in each, whatever the columns are
-  pub anywhere : (g h : Grid) (dirty : Place → Bool) (x y : Context) → h.cells ≡ g.cells → IsSound mean x g dirty → IsSound mean y h dirty
-  anywhere g h dirty x y e s =
-      let formulas : formula_at h ≡ formula_at g = λ i c. formula_of (get (e i) c) in
+  -- what holds in one context holds in each, where formulas and values are the same
+  pub same_sound : (g h : Grid) (dirty : Place → Bool) (x y : Context) → ((c : Place) → formula_at h c ≡ formula_at g c) → ((c : Place) → value_of (get h.cells c) ≡ value_of (get g.cells c)) → IsSound mean x g dirty → IsSound mean y h dirty
+  same_sound g h dirty x y formula_same values s =
+      let formulas : formula_at h ≡ formula_at g = λ i c. formula_same c i in
       record {
-        only = λ c t. ap (λ (k : Place → Option Tree). is_some (k c)) formulas ∙ s.only c t;
+        only = λ c t. ap is_some (formula_same c) ∙ s.only c t;
         up = λ c d m t. s.up c d (sym (ap (λ (p : Place → List Place). has same_place (p c) d) (pre_along h g formulas)) ∙ m) t;
-        calm = λ c t here k. s.calm c t (sym (ap (λ (f : Place → Option Tree). f c) formulas) ∙ here) k;
+        calm = λ c t here k. s.calm c t (sym (formula_same c) ∙ here) k;
         acyclic = λ c k r. s.acyclic c k (subst (λ (p : Place → List Place). Reaches same_place p c c) (pre_along h g formulas) r);
         right = λ c t here k.
-            let there : formula_at g c ≡ Some t = sym (ap (λ (f : Place → Option Tree). f c) formulas) ∙ here in
-            ap (λ (m : Cells). value_of (get m c)) e ∙ s.right c t there k
-            ∙ meaning.reads t c (world_at x g) (world_at y h) (s.calm c t there k) (λ d _. sym (ap (λ (m : Cells). value_of (get m d)) e));
+            let there : formula_at g c ≡ Some t = sym (formula_same c) ∙ here in
+            values c ∙ s.right c t there k ∙ meaning.reads t c (world_at x g) (world_at y h) (s.calm c t there k) (λ d _. sym (values d));
       }
 
-  module _ (g : Grid) (cell : Place) (s : CellState) (keeps : is_formula s.content ≡ true → is_kept s ≡ true) (n : Network) (m : Matches n g) (old new : List Place) (d : AreDirtied (put_state g cell s) (has same_place old) cell (has same_place new)) where
-    beside : (c : Place) → same_place c cell ≡ false → get (put_state g cell s).cells c ≡ get g.cells c
-    beside c h = elim (cases_Bool (is_kept s)) [
-      | inl k ↦ ap (λ b. get (cond b (insert g.cells cell s) (remove g.cells cell)) c) k ∙ get_inserted g.cells cell s c ∙ ap (λ b. cond b (Some s) (get g.cells c)) h
-      | inr k ↦ ap (λ b. get (cond b (insert g.cells cell s) (remove g.cells cell)) c) k ∙ get_removed g.cells cell c ∙ ap (λ b. cond b None (get g.cells c)) h
-    ]
+  -- so it does whatever the columns are
+  pub anywhere : (g h : Grid) (dirty : Place → Bool) (x y : Context) → h.cells ≡ g.cells → IsSound mean x g dirty → IsSound mean y h dirty
+  anywhere g h dirty x y e = same_sound g h dirty x y (λ c. ap (λ (m : Cells). formula_of (get m c)) e) (λ c. ap (λ (m : Cells). value_of (get m c)) e)
 
-    spreads : IsSpread g (put_state g cell s) (λ c. same_place c cell) (has same_place old) (has same_place new)
+  -- cells were written, and the others are as they were
+  module _ (g h : Grid) (written : Place → Bool) (others : (c : Place) → written c ≡ false → get h.cells c ≡ get g.cells c) (old new : List Place) (d : AreDirtied h (has same_place old) written (has same_place new)) where
+    spreads : IsSpread g h written (has same_place old) (has same_place new)
     spreads = record {
-      others = beside;
+      others = others;
       only = λ c t. ((d c).0 t).formula;
       written_too = λ c w f. (d c).1 (record { formula = f; why = inr (inl w) });
-      reaching = λ c w t r. (d c).1 (record { formula = reaching_formula g cell s keeps n m r; why = inr (inr (subst (λ x. ReachesCell (put_state g cell s) c x) (same_place_is w cell t) r)) });
+      reaching = λ c w t r. (d c).1 (record { formula = reaching_formula h r; why = inr (inr (w, t, r)) });
       kept = λ c t f. (d c).1 (record { formula = f; why = inl t });
       exact = λ c t. elim ((d c).0 t).why [
         | inl o ↦ inr (inr o)
-        | inr r ↦ elim r [
-          | inl e ↦ inl e
-          | inr q ↦ inr (inl (cell, same_place_itself cell, q))
-        ]
+        | inr r ↦ elim r [ inl e ↦ inl e | inr q ↦ inr (inl q) ]
       ];
     }
 
-    stays : (c : Place) → (is_formula_at g c ≡ true → has same_place old c ≡ true) → is_formula_at (put_state g cell s) c ≡ true → has same_place new c ≡ true
-    stays c all f = elim (cases_Bool (same_place c cell)) [
+    stays : (c : Place) → (is_formula_at g c ≡ true → has same_place old c ≡ true) → is_formula_at h c ≡ true → has same_place new c ≡ true
+    stays c all f = elim (cases_Bool (written c)) [
       | inl t ↦ (d c).1 (record { formula = f; why = inr (inl t) })
-      | inr e ↦ (d c).1 (record { formula = f; why = inl (all (sym (ap is_some (formula_beside g cell s keeps c e)) ∙ f)) })
+      | inr e ↦ (d c).1 (record { formula = f; why = inl (all (sym (ap (λ o. is_some (formula_of o)) (others c e)) ∙ f)) })
     ]
 
-    whole : (order : Order) → AllDirtyIn order g old → AllDirtyIn order (put_state g cell s) new
-    whole orders.Natural h = tt
-    whole orders.Columnwise h = λ c. stays c (h c)
-    whole orders.Rowwise h = λ c. stays c (h c)
+    whole : (order : Order) → AllDirtyIn order g old → AllDirtyIn order h new
+    whole orders.Natural a = tt
+    whole orders.Columnwise a = λ c. stays c (a c)
+    whole orders.Rowwise a = λ c. stays c (a c)
 
-    -- after an edit of a cell
-    pub kept_written : (order : Order) (o : Network) → IsKept mean n g old order → Matches o (put_state g cell s) → IsKept mean o (put_state g cell s) new order
-    kept_written order o k after = record {
+    -- after an edit
+    pub kept_changed : (order : Order) (n o : Network) → IsKept mean n g old order → Matches o h → IsKept mean o h new order
+    kept_changed order n o k after = record {
       matches = after;
       only = λ c t. ((d c).0 t).formula;
-      sound = λ x. edit_keeps_sound mean x meaning g (put_state g cell s) (λ c. same_place c cell) (has same_place old) (has same_place new) (k.sound x) spreads;
+      sound = λ x. edit_keeps_sound mean x meaning g h written (has same_place old) (has same_place new) (k.sound x) spreads;
       whole = whole order k.whole;
     }
 
-  -- the same, told of the grid that there is
-  pub kept_edit : (g h : Grid) (cell : Place) (s : CellState) → (is_formula s.content ≡ true → is_kept s ≡ true) → (n : Network) → Matches n g → (old new : List Place) → h ≡ put_state g cell s → AreDirtied h (has same_place old) cell (has same_place new)
-      → (order : Order) (o : Network) → IsKept mean n g old order → Matches o h → IsKept mean o h new order
-  kept_edit g h cell s keeps n m old new e d order o k after = subst (λ (x : Grid). IsKept mean o x new order) (sym e)
-      (kept_written g cell s keeps n m old new (subst (λ (x : Grid). AreDirtied x (has same_place old) cell (has same_place new)) e d) order o k (subst (λ (x : Grid). Matches o x) e after))
+  -- after an edit of one cell, told of the grid that there is
+  pub kept_edit : (g h : Grid) (cell : Place) (s : CellState) (old new : List Place) → h ≡ put_state g cell s → AreDirtied h (has same_place old) (just cell) (has same_place new)
+      → (order : Order) (n o : Network) → IsKept mean n g old order → Matches o h → IsKept mean o h new order
+  kept_edit g h cell s old new e d = kept_changed g h (just cell) (λ c k. ap (λ (x : Grid). get x.cells c) e ∙ beside g cell s c k) old new d
 
   all_along : (order : Order) (g h : Grid) (dirty : List Place) → ((c : Place) → is_formula_at h c ≡ is_formula_at g c) → AllDirtyIn order g dirty → AllDirtyIn order h dirty
   all_along orders.Natural g h dirty e a = tt
   all_along orders.Columnwise g h dirty e a = λ c f. a c (sym (e c) ∙ f)
   all_along orders.Rowwise g h dirty e a = λ c f. a c (sym (e c) ∙ f)
 
+  -- where formulas and values stay
+  pub kept_values : (n : Network) (g h : Grid) (dirty : List Place) (order : Order) → ((c : Place) → formula_at h c ≡ formula_at g c) → ((c : Place) → value_of (get h.cells c) ≡ value_of (get g.cells c)) → IsKept mean n g dirty order → IsKept mean n h dirty order
+  kept_values n g h dirty order formulas values k = record {
+    matches = λ c. k.matches c ∙ ap (λ o. node_of o c) (sym (formulas c));
+    only = λ c t. ap is_some (formulas c) ∙ k.only c t;
+    sound = λ x. same_sound g h (has same_place dirty) x x formulas values (k.sound x);
+    whole = all_along order g h dirty (λ c. ap is_some (formulas c)) k.whole;
+  }
+
   -- where columns change
   pub kept_beside : (n : Network) (g h : Grid) (dirty : List Place) (order : Order) → h.cells ≡ g.cells → IsKept mean n g dirty order → IsKept mean n h dirty order
-  kept_beside n g h dirty order e k = record {
-    matches = λ c. k.matches c ∙ sym (ap (λ (m : Cells). node_of (formula_of (get m c)) c) e);
-    only = λ c t. ap (λ (m : Cells). is_some (formula_of (get m c))) e ∙ k.only c t;
-    sound = λ x. anywhere g h (has same_place dirty) x x e (k.sound x);
-    whole = all_along order g h dirty (λ c. ap (λ (m : Cells). is_some (formula_of (get m c))) e) k.whole;
-  }
+  kept_beside n g h dirty order e = kept_values n g h dirty order (λ c. ap (λ (m : Cells). formula_of (get m c)) e) (λ c. ap (λ (m : Cells). value_of (get m c)) e)
 
   after_order : (order : Order) (g h : Grid) (old new : List Place) → formula_at h ≡ formula_at g → IsDirtyAfter order h (has same_place old) (has same_place new) → AllDirtyIn order g old → AllDirtyIn order h new
   after_order orders.Natural g h old new e d a = tt
@@ -143,10 +148,10 @@ module _ (mean : Meaning) (meaning : IsMeaning mean) where
       }
 
   -- after an entry that is evaluated once
-  pub kept_line : (g h : Grid) (cell : Place) (s : CellState) → (is_formula s.content ≡ true → is_kept s ≡ true) → (n : Network) (old new : List Place) (x : Context) → h ≡ evaluated mean x (put_state g cell s) cell → AreDirtied (put_state g cell s) (has same_place old) cell (has same_place new)
-      → (order : Order) (o : Network) → IsKept mean n g old order → Matches o (put_state g cell s) → IsKept mean o h new order
-  kept_line g h cell s keeps n old new x e d order o k after = subst (λ (y : Grid). IsKept mean o y new order) (sym e)
-      (kept_evaluated o (put_state g cell s) new order x cell (kept_written g cell s keeps n k.matches old new d order o k after))
+  pub kept_line : (g h : Grid) (cell : Place) (s : CellState) (old new : List Place) (x : Context) → h ≡ evaluated mean x (put_state g cell s) cell → AreDirtied (put_state g cell s) (has same_place old) (just cell) (has same_place new)
+      → (order : Order) (n o : Network) → IsKept mean n g old order → Matches o (put_state g cell s) → IsKept mean o h new order
+  kept_line g h cell s old new x e d order n o k after = subst (λ (y : Grid). IsKept mean o y new order) (sym e)
+      (kept_evaluated o (put_state g cell s) new order x cell (kept_edit g (put_state g cell s) cell s old new refl d order n o k after))
 
   -- where there is no cell
   module _ (g : Grid) (none : g.cells ≡ empty) where

@@ -1,7 +1,7 @@
 -- What reaches a cell that is written: the graph tells it before and after.
 use Rattle.std.specs.Prelude.{◌≡◌, Bool, true, false, cond, is_some, refl, Option, None, Some}
 use Rattle.std.specs.FinMap.{get, insert, remove}
-use Rattle.std.proofs.Common.{sym, ◌∙◌, ap, subst, inl, inr}
+use Rattle.std.proofs.Common.{sym, ◌∙◌, ap, inl, inr}
 use Rattle.std.proofs.lemmas.Bool.{and_from, and_parts, cases_Bool, false≢true, true≢false}
 use Rattle.grid_address.proofs.Places.{get_inserted, get_removed, same_place_is, same_place_itself}
 use Rattle.grid_address.specs.Place.{same_place, Place}
@@ -19,6 +19,7 @@ use Rattle.natural_recalc.specs.Passes.{ReachesCell}
 use Rattle.natural_recalc.specs.Passes.ReachesCell.{direct, through as over}
 use Rattle.natural_recalc.specs.Reading.{is_formula_at, node_of, spans_at, spans_in, Matches}
 use Rattle.natural_recalc.specs.World.{formula_at, formula_in, formula_of}
+use Rattle.work_sheet.specs.Edits.{ReachesWritten}
 
 pub formula_in_is : (c : Content) → is_formula c ≡ is_some (formula_in c)
 formula_in_is content.Blank = refl
@@ -66,41 +67,45 @@ module _ (g : Grid) (cell : Place) (s : CellState) (keeps : is_formula s.content
       | false ↦ λ e. m d
     ] refl ∙ sym (ap (λ t. node_of t d) (formula_put d))
 
-    told : (o : Option Tree) (c d : Place) → holds (node_of o c) d ≡ hold (spans_in o c) d
-    told None c d = refl
-    told (Some t) c d = refl
+-- what reaches a cell starts at a formula
+module _ (h : Grid) where
+  holds_formula : (c : Place) (d : Place) → hold (spans_at h c) d ≡ true → is_formula_at h c ≡ true
+  holds_formula c d t = with (formula_at h c) t
+    where
+      with : (o : Option Tree) → hold (spans_in o c) d ≡ true → is_some o ≡ true
+      with None k = absurd (false≢true k)
+      with (Some x) k = refl
 
-    reads_are : (c d : Place) → same_place c cell ≡ false → reads n c d ≡ hold (spans_at (put_state g cell s) c) d
-    reads_are c d h = ap (λ o. holds o d) (m c) ∙ told (formula_at g c) c d ∙ sym (ap (λ o. hold (spans_in o c) d) (formula_beside c h))
+  pub reaching_formula : {c d : Place} → ReachesCell h c d → is_formula_at h c ≡ true
+  reaching_formula {c} {d} (direct t) = holds_formula c d t
+  reaching_formula {c} {d} (over {e = e} p r) = holds_formula c e (and_parts _ _ (sym (has_pre h c e) ∙ p)).1
 
-    holds_formula : (c : Place) (d : Place) → hold (spans_at (put_state g cell s) c) d ≡ true → is_formula_at (put_state g cell s) c ≡ true
-    holds_formula c d h = with (formula_at (put_state g cell s) c) h
-      where
-        with : (o : Option Tree) → hold (spans_in o c) d ≡ true → is_some o ≡ true
-        with None h = absurd (false≢true h)
-        with (Some t) h = refl
+-- a graph of the formulas before, of which those at some written cells are other ones after
+module _ (g h : Grid) (written changed : Place → Bool) (sub : (c : Place) → changed c ≡ true → written c ≡ true) (beside : (c : Place) → changed c ≡ false → formula_at h c ≡ formula_at g c) (n : Network) (m : Matches n g) where
+  told : (o : Option Tree) (c d : Place) → holds (node_of o c) d ≡ hold (spans_in o c) d
+  told None c d = refl
+  told (Some t) c d = refl
 
-    pub reaching_formula : {c d : Place} → ReachesCell (put_state g cell s) c d → is_formula_at (put_state g cell s) c ≡ true
-    reaching_formula {c} {d} (direct h) = holds_formula c d h
-    reaching_formula {c} {d} (over {e = e} p r) = holds_formula c e (and_parts _ _ (sym (has_pre (put_state g cell s) c e) ∙ p)).1
+  reads_are : (c d : Place) → changed c ≡ false → reads n c d ≡ hold (spans_at h c) d
+  reads_are c d k = ap (λ o. holds o d) (m c) ∙ told (formula_at g c) c d ∙ sym (ap (λ o. hold (spans_in o c) d) (beside c k))
 
-    -- what reaches the cell before reaches it after
-    pub to_new : {c : Place} → Reaches n c cell → same_place c cell ≡ false → ReachesCell (put_state g cell s) c cell
-    to_new {c} (at_once r) h = direct (sym (reads_are c cell h) ∙ r)
-    to_new {c} (through {e = e} r q) h = elim (cases_Bool (same_place e cell)) [
-      | inl t ↦ direct (sym (reads_are c cell h) ∙ subst (λ x. reads n c x ≡ true) (same_place_is e cell t) r)
-      | inr f ↦ let next = to_new q f in over (has_pre (put_state g cell s) c e ∙ and_from _ _ (reaching_formula next) (sym (reads_are c e h) ∙ r)) next
-    ]
+  -- what reaches a written cell before reaches one after
+  pub to_new : {c d : Place} → Reaches n c d → written d ≡ true → changed c ≡ false → ReachesWritten h written c
+  to_new {c} {d} (at_once r) w k = (d, w, direct (sym (reads_are c d k) ∙ r))
+  to_new {c} {d} (through {e = e} r q) w k = elim (cases_Bool (changed e)) [
+    | inl t ↦ (e, sub e t, direct (sym (reads_are c e k) ∙ r))
+    | inr f ↦ let next = to_new q w f in (next.0, next.1, over (has_pre h c e ∙ and_from _ _ (reaching_formula h next.2) (sym (reads_are c e k) ∙ r)) next.2)
+  ]
 
-    -- and the other way round
-    pub to_old : {c : Place} → ReachesCell (put_state g cell s) c cell → same_place c cell ≡ false → Reaches n c cell
-    to_old {c} (direct r) h = at_once (reads_are c cell h ∙ r)
-    to_old {c} (over {e = e} p q) h =
-        let read : reads n c e ≡ true = reads_are c e h ∙ (and_parts _ _ (sym (has_pre (put_state g cell s) c e) ∙ p)).1 in
-        elim (cases_Bool (same_place e cell)) [
-          | inl t ↦ at_once (subst (λ x. reads n c x ≡ true) (same_place_is e cell t) read)
-          | inr f ↦ through read (to_old q f)
-        ]
+  -- and the other way round
+  pub to_old : {c d : Place} → ReachesCell h c d → written d ≡ true → changed c ≡ false → (w : Place) × (written w ≡ true) × Reaches n c w
+  to_old {c} {d} (direct r) w k = (d, w, at_once (reads_are c d k ∙ r))
+  to_old {c} {d} (over {e = e} p q) w k =
+      let read : reads n c e ≡ true = reads_are c e k ∙ (and_parts _ _ (sym (has_pre h c e) ∙ p)).1 in
+      elim (cases_Bool (changed e)) [
+        | inl t ↦ (e, sub e t, at_once read)
+        | inr f ↦ let next = to_old q w f in (next.0, next.1, through read next.2)
+      ]
 
 module _ (n : Network) (cell : Place) where
   pub accepted_told : (o : Option Tree) → is_some o ≡ true → get n.offers cell ≡ node_of o cell → (d : Place) → get (accepted n cell).formulas d ≡ cond (same_place d cell) (node_of o cell) (get n.formulas d)
@@ -117,3 +122,10 @@ offer_there n cell x = get_inserted n.offers cell x cell ∙ ap (λ b. cond b (S
 
 pub offer_gone : (n : Network) (cell : Place) → get (withdrawn n cell).offers cell ≡ None
 offer_gone n cell = get_removed n.offers cell cell ∙ ap (λ b. cond b None (get n.offers cell)) (same_place_itself cell)
+
+-- an offer for a cell leaves those of other cells
+pub offer_beside : (n : Network) (cell : Place) (x : Node) (c : Place) → same_place c cell ≡ false → get (offered n cell x).offers c ≡ get n.offers c
+offer_beside n cell x c h = get_inserted n.offers cell x c ∙ ap (λ b. cond b (Some x) (get n.offers c)) h
+
+pub withdrawal_beside : (n : Network) (cell c : Place) → same_place c cell ≡ false → get (withdrawn n cell).offers c ≡ get n.offers c
+withdrawal_beside n cell c h = get_removed n.offers cell c ∙ ap (λ b. cond b None (get n.offers c)) h

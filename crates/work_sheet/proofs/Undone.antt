@@ -1,23 +1,18 @@
 -- A cell that gets its old state back.
 use Rattle.std.specs.Prelude.{◌≡◌, true, false, cond, is_some, refl, Option, None, Some}
 use Rattle.std.specs.FinMap.{get, insert, remove}
-use Rattle.std.proofs.Common.{sym, ◌∙◌, ap, inl, inr}
-use Rattle.std.proofs.lemmas.Bool.{cases_Bool, false≢true}
+use Rattle.std.proofs.Common.{sym, ◌∙◌, ap}
+use Rattle.std.proofs.lemmas.Bool.{false≢true}
 use Rattle.grid_address.proofs.Places.{get_inserted, get_removed, same_place_is, same_place_itself, same_places}
 use Rattle.grid_address.specs.Place.{same_place, Place}
 use Rattle.sheet_store.specs.Grid.{is_formula, is_kept, put_state, Cells, Grid}
 use Rattle.sheet_store.specs.declared.state.CellState.{CellState}
 use Rattle.natural_recalc.specs.Reading.{is_formula_at}
+use Rattle.work_sheet.proofs.Held.{beside}
 use Rattle.work_sheet.proofs.Reaching.{formula_here, formula_in_is}
 use Rattle.work_sheet.specs.Edits.{put_back}
 
 module _ (g : Grid) (cell : Place) (s : CellState) where
-  beside : (c : Place) → same_place c cell ≡ false → get (put_state g cell s).cells c ≡ get g.cells c
-  beside c h = elim (cases_Bool (is_kept s)) [
-    | inl k ↦ ap (λ b. get (cond b (insert g.cells cell s) (remove g.cells cell)) c) k ∙ get_inserted g.cells cell s c ∙ ap (λ b. cond b (Some s) (get g.cells c)) h
-    | inr k ↦ ap (λ b. get (cond b (insert g.cells cell s) (remove g.cells cell)) c) k ∙ get_removed g.cells cell c ∙ ap (λ b. cond b None (get g.cells c)) h
-  ]
-
   pub is_there : is_kept s ≡ true → get (put_state g cell s).cells cell ≡ None → ⊥
   is_there k h = false≢true (ap is_some (sym h ∙ ap (λ b. get (cond b (insert g.cells cell s) (remove g.cells cell)) cell) k ∙ get_inserted g.cells cell s cell ∙ ap (λ b. cond b (Some s) (get g.cells cell)) (same_place_itself cell)))
 
@@ -28,10 +23,10 @@ module _ (g : Grid) (cell : Place) (s : CellState) where
   back_is None e = ap (λ (m : Cells). record g { cells = m }) (same_places _ _ (λ q. get_removed (put_state g cell s).cells cell q
       ∙ elim (same_place q cell) as (λ b. same_place q cell ≡ b → cond b None (get (put_state g cell s).cells q) ≡ get g.cells q) [
         | true ↦ λ h. sym (ap (get g.cells) (same_place_is q cell h) ∙ e)
-        | false ↦ λ h. beside q h
+        | false ↦ λ h. beside g cell s q h
       ] refl))
   back_is (Some x) e = ap (λ (m : Cells). record g { cells = m }) (same_places _ _ (λ q. get_inserted (put_state g cell s).cells cell x q
       ∙ elim (same_place q cell) as (λ b. same_place q cell ≡ b → cond b (Some x) (get (put_state g cell s).cells q) ≡ get g.cells q) [
         | true ↦ λ h. sym (ap (get g.cells) (same_place_is q cell h) ∙ e)
-        | false ↦ λ h. beside q h
+        | false ↦ λ h. beside g cell s q h
       ] refl))

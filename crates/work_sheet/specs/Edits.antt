@@ -1,5 +1,5 @@
 -- Edits of a cell, and which formulas they make dirty.
-use Rattle.std.specs.Prelude.{ℕ, false, cond, not, ◌≡◌, ◌⊎◌, ◌↔◌, Bool, true, ◌&&◌, nat_le, pos, Option, None, Some, List, [], ◌∷◌}
+use Rattle.std.specs.Prelude.{ℕ, false, cond, not, ◌≡◌, ◌⊎◌, ◌↔◌, Bool, true, ◌&&◌, nat_le, pos, Option, None, Some, List}
 use Rattle.std.specs.FinMap as map
 use Rattle.grid_address.specs.Place.{same_place, Place}
 use Rattle.formula_tree.specs.declared.value.Content.{Content}
@@ -40,17 +40,25 @@ written g c x = put_state g c (written_state g c x)
 abbrev pub is_protected : Choices → Grid → Place → Bool
 is_protected s g c = s.protection && nat_le 128 (format_of (map.get g.cells c))
 
--- the formulas that are dirty after a cell was written: those that were, the cell, and what reaches it
-pub record IsDirtied (new : Grid) (old : Place → Bool) (cell c : Place) : Type 0 where
+-- the cell alone
+abbrev pub just : Place → Place → Bool
+just cell c = same_place c cell
+
+-- the formula at c reads a written cell, or a formula that reaches one
+abbrev pub ReachesWritten : Grid → (Place → Bool) → Place → Type 0
+ReachesWritten g written c = (w : Place) × (written w ≡ true) × ReachesCell g c w
+
+-- the formulas that are dirty after cells were written: those that were, the cells, and what reaches one of them
+pub record IsDirtied (new : Grid) (old written : Place → Bool) (c : Place) : Type 0 where
   pub formula : is_formula_at new c ≡ true
-  pub why : (old c ≡ true) ⊎ ((same_place c cell ≡ true) ⊎ ReachesCell new c cell)
+  pub why : (old c ≡ true) ⊎ ((written c ≡ true) ⊎ ReachesWritten new written c)
 
-abbrev pub AreDirtied : Grid → (Place → Bool) → Place → (Place → Bool) → Type 0
-AreDirtied new old cell now = (c : Place) → (now c ≡ true) ↔ IsDirtied new old cell c
+abbrev pub AreDirtied : Grid → (Place → Bool) → (Place → Bool) → (Place → Bool) → Type 0
+AreDirtied new old written now = (c : Place) → (now c ≡ true) ↔ IsDirtied new old written c
 
--- the set has what it had, the cell, and what reaches it by the graph
-abbrev pub WithReached : Network → Place → List Place → List Place → Type 0
-WithReached n cell old new = (c : Place) → (has same_place new c ≡ true) ↔ ((has same_place old c ≡ true) ⊎ ((same_place c cell ≡ true) ⊎ IsSpread n (cell ∷ []) c))
+-- the set has what it had, the cells that are given a formula, and what the graph tells of the written cells
+abbrev pub WithReached : Network → List Place → (Place → Bool) → List Place → List Place → Type 0
+WithReached n cells given old new = (c : Place) → (has same_place new c ≡ true) ↔ ((has same_place old c ≡ true) ⊎ ((given c ≡ true) ⊎ IsSpread n cells c))
 
 -- the graph takes the formula that is offered, or drops the one that is there
 abbrev pub settled : Bool → Network → Place → Network

@@ -1,3 +1,4 @@
 pub mod Edits
 pub mod Sheets
+pub mod Spans
 pub mod Typed

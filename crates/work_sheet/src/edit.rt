@@ -1,5 +1,5 @@
 // A cell is written into the store, the graph and the dirty set. What takes memory comes first.
-ghost use Rattle.std.specs.Prelude.{◌≡◌, ◌∷◌, [], ◌||◌, IfOk, OnOk, OnErr, true};
+ghost use Rattle.std.specs.Prelude.{◌≡◌, ◌∷◌, [], ◌||◌, IfOk, OnOk, OnErr, false, true};
 ghost use Rattle.std.specs.FinMap as map;
 ghost use Rattle.grid_address.specs.Place.{same_place, Place};
 ghost use Rattle.depend_graph.specs.Within.{Extends};
@@ -7,9 +7,9 @@ ghost use Rattle.natural_order.specs.Walk.{has};
 ghost use Rattle.natural_recalc.specs.Reading.{is_formula_at, node_of, Matches};
 ghost use Rattle.natural_recalc.specs.World.{formula_in};
 ghost use Rattle.sheet_store.specs.Grid.{is_formula, is_kept, put_state, IsSound};
-ghost use Rattle.work_sheet.specs.Edits.{kept_at, settled, AreDirtied, WithReached};
+ghost use Rattle.work_sheet.specs.Edits.{just, kept_at, settled, AreDirtied, WithReached};
 
-use crate::growth::{cut_back, insert, insert_all};
+use crate::growth::{cut_back, insert, insert_all, push};
 use depend_graph::{Graph, Node};
 use formula_tree::Content;
 use grid_address::{Cell, CellList};
@@ -22,14 +22,12 @@ fn one_cell(alloc: Global, cell: Cell) -> Result<CellList, Memory>
     ensures { IfOk result (λ l. l ≡ cell ∷ []) }
 {
     let mut cells = CellList::new(alloc);
-    match cells.push(cell) {
-        Ok(()) => Ok(cells),
-        Err(_) => Err(Memory),
-    }
+    push(&mut cells, cell)?;
+    Ok(cells)
 }
 
 // What the formula of a content reads, where the content is a formula.
-fn node_of(cell: Cell, content: &Content) -> Result<Option<Node>, Memory>
+pub fn node_of(cell: Cell, content: &Content) -> Result<Option<Node>, Memory>
     ensures { IfOk result (λ node. node ≡ node_of (formula_in content.now) cell) }
 {
     match content {
@@ -42,8 +40,9 @@ fn node_of(cell: Cell, content: &Content) -> Result<Option<Node>, Memory>
 }
 
 // Offers a formula for a cell, or none.
-fn offer(graph: &mut Graph, cell: Cell, node: Option<Node>) -> Result<(), Memory>
+pub fn offer(graph: &mut Graph, cell: Cell, node: Option<Node>) -> Result<(), Memory>
     ensures formulas { graph.new.formulas ≡ graph.old.formulas }
+    ensures others { (c : Place) → same_place c cell ≡ false → map.get graph.new.offers c ≡ map.get graph.old.offers c }
     ensures offer { OnOk result (map.get graph.new.offers cell ≡ node) }
 {
     match node {
@@ -72,7 +71,7 @@ pub fn prepare(
     ensures formulas { graph.new.formulas ≡ graph.old.formulas }
     ensures offer { OnOk result (map.get graph.new.offers cell ≡ node_of (formula_in state.content) cell) }
     ensures extends { Extends dirty.old.keys dirty.new.keys }
-    ensures dirty { OnOk result (WithReached graph.old cell dirty.old.keys dirty.new.keys) }
+    ensures dirty { OnOk result (WithReached graph.old (cell ∷ []) (just cell) dirty.old.keys dirty.new.keys) }
 {
     offer(graph, cell, node_of(cell, &state.content)?)?;
     let reached = graph.closure(&one_cell(store.alloc(), cell)?)?;
@@ -109,7 +108,7 @@ pub fn write_cell(
     requires matches { Matches graph.old store.old }
     requires only { (c : Place) → has same_place dirty.old.keys c ≡ true → is_formula_at store.old c ≡ true }
     ensures store { OnOk result (store.new ≡ put_state store.old cell state) }
-    ensures dirty { OnOk result (AreDirtied store.new (has same_place dirty.old.keys) cell (has same_place dirty.new.keys)) }
+    ensures dirty { OnOk result (AreDirtied store.new (has same_place dirty.old.keys) (just cell) (has same_place dirty.new.keys)) }
     ensures matches { Matches graph.new store.new }
     ensures store_err { OnErr result (store.new ≡ store.old) }
     ensures dirty_err { OnErr result (dirty.new.keys ≡ dirty.old.keys) }

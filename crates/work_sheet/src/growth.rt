@@ -1,13 +1,24 @@
-// A set of cells that grows, and that is cut back where a later growth fails.
-ghost use Rattle.std.specs.Prelude.{◌≡◌, ◌≤◌, ◌<◌, ◌^◌, ◌||◌, take, length, OnOk, true};
+// A list and a set of cells that grow, and the set is cut back where a later growth fails.
+ghost use Rattle.std.specs.Prelude.{◌≡◌, ◌≤◌, ◌<◌, ◌^◌, ◌||◌, ◌++◌, ◌∷◌, [], take, length, OnErr, OnOk, true};
 ghost use Rattle.grid_address.specs.Place.{same_place, Place};
 ghost use Rattle.indexmap.specs.IndexSet.{insert_key};
 ghost use Rattle.depend_graph.specs.Within.{Extends};
 ghost use Rattle.natural_order.specs.Walk.{has};
 
-use grid_address::Cell;
+use grid_address::{Cell, CellList};
 use indexmap::IndexSet;
 use lics_text::Memory;
+
+// Adds a cell to a list.
+pub fn push(cells: &mut CellList, cell: Cell) -> Result<(), Memory>
+    ensures ok { OnOk result (cells.new ≡ cells.old ++ cell ∷ []) }
+    ensures err { OnErr result (cells.new ≡ cells.old) }
+{
+    match cells.push(cell) {
+        Ok(()) => Ok(()),
+        Err(_) => Err(Memory),
+    }
+}
 
 // Adds a cell behind the others, unless it is in the set.
 pub fn insert(set: &mut IndexSet<Cell>, cell: Cell) -> Result<(), Memory>

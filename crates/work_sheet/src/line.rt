@@ -8,7 +8,7 @@ ghost use Rattle.natural_recalc.specs.Passes.{evaluated, raised_by};
 ghost use Rattle.natural_recalc.specs.Reading.{is_formula_at, Matches};
 ghost use Rattle.natural_recalc.specs.World.{context_of};
 ghost use Rattle.sheet_store.specs.Grid.{is_formula, is_kept, put_state, IsSound};
-ghost use Rattle.work_sheet.specs.Edits.{put_back, AreDirtied, IsOldState};
+ghost use Rattle.work_sheet.specs.Edits.{just, put_back, AreDirtied, IsOldState};
 
 use crate::edit::{prepare, settle};
 use crate::growth::cut_back;
@@ -67,7 +67,7 @@ pub fn write_evaluated<E: Means>(
     requires matches { Matches graph.old store.old }
     requires only { (c : Place) → has same_place dirty.old.keys c ≡ true → is_formula_at store.old c ≡ true }
     ensures store { OnOk result (store.new ≡ evaluated E.meaning (context_of names.now settings.now scene.entry.now) (put_state store.old cell state) cell) }
-    ensures dirty { OnOk result (AreDirtied (put_state store.old cell state) (has same_place dirty.old.keys) cell (has same_place dirty.new.keys)) }
+    ensures dirty { OnOk result (AreDirtied (put_state store.old cell state) (has same_place dirty.old.keys) (just cell) (has same_place dirty.new.keys)) }
     ensures matches { OnOk result (Matches graph.new (put_state store.old cell state)) }
     ensures count { OnOk result (E.count tally.new ≡ raised_by 1 (E.count tally.old)) }
     ensures store_err { OnErr result (store.new ≡ store.old) }

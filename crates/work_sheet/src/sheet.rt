@@ -1,34 +1,41 @@
 // A sheet, whose values are kept right by recalculation over its dirty formulas.
-ghost use Rattle.std.specs.Prelude.{◌≡◌, ◌+◌, ◌-◌, ◌*◌, ◌≤◌, ◌⊎◌, [], length, IfErr, IfOk, OnErr, OnOk, Some, None, option_copied, nat_le, replicate, take, true, false};
+ghost use Rattle.std.specs.Prelude.{◌≡◌, ◌+◌, ◌-◌, ◌*◌, ◌≤◌, ◌<◌, ◌⊎◌, [], length, IfErr, IfOk, OnErr, OnOk, Some, None, Err, option_copied, nat_le, replicate, take, true, false};
 ghost use Rattle.std.specs.FinMap as map;
 ghost use Rattle.std.specs.Option.{ForSome};
-ghost use Rattle.grid_address.specs.Place.{same_place, Place};
+ghost use Rattle.grid_address.specs.Place.{is_within, same_place, Place};
 ghost use Rattle.natural_order.specs.Walk.{has};
 ghost use Rattle.natural_recalc.specs.Passes as whole;
-ghost use Rattle.natural_recalc.specs.Passes.{raised_by, IsDirtyAfter};
+ghost use Rattle.natural_recalc.specs.Passes.{raised_by, IsDirtyAfter, SameContents};
 ghost use Rattle.natural_recalc.specs.Reading.{is_formula_at, order_in};
 ghost use Rattle.natural_recalc.specs.World.{context_of};
 ghost use Rattle.range_names.specs.Names.{fault_of, key_of};
 ghost use Rattle.range_names.specs.declared.fault.NameFault.TheVariants as cause;
 ghost use Rattle.sheet_store.specs.Choices.{fresh};
+ghost use Rattle.sheet_store.specs.declared.writes.SheetFault.TheVariants as faults;
 ghost use Rattle.sheet_store.specs.Grid.{is_hidden, last_used, set_hidden_of, set_width_of, width_of};
-ghost use Rattle.work_sheet.specs.Edits.{entered, evaluations, is_evaluated, is_protected, written, AreDirtied, HasPrefix};
+ghost use Rattle.work_sheet.specs.Edits.{entered, evaluations, is_evaluated, is_protected, just, written, AreDirtied, HasPrefix};
 ghost use Rattle.work_sheet.specs.Sheets.{value_told, IsFaultOf, SameBeside};
+ghost use Rattle.work_sheet.specs.Spans.{changed, copied_at, erased, in_span, reformatted, rule_of, target_of, with_code, with_mark, written_all, written_cells, AreSound, Becomes, HasCode, HavePrefixes, IsAnswered};
 ghost use Rattle.work_sheet.specs.Typed.{typed};
 
+use crate::changes::Changes;
 use crate::edit::write_cell;
 use crate::line::write_evaluated;
+use crate::many::{change_cells, write_cells};
+use crate::spans;
+use crate::spans::{FormatChange, cells_of, copied, first_of, refusing, target_of};
 use crate::states::{is_marked, mark, state_of};
 use crate::typed::text_of;
+use crate::writes::gathered;
 use depend_graph::Graph;
 use formula_eval::{Means, Scene, Tally};
 use formula_tree::{Content, Value};
-use grid_address::{Cell, Span};
+use grid_address::{Cell, CellList, Span};
 use indexmap::IndexSet;
 use lics_text::{Line, Memory};
 use natural_recalc::{all_dirty, graph_of, recalc};
 use range_names::{NameFault, Names};
-use sheet_store::{Order, SavedSheet, Settings, SheetFault, Store, is_formula};
+use sheet_store::{Order, SavedSheet, Settings, SheetFault, Store, Writes, is_formula};
 use std::alloc::Global;
 use std::marker::{Model, PhantomData};
 
@@ -119,6 +126,11 @@ impl<E: Means> SheetOf<E> {
             names,
             settings: self.settings,
         })
+    }
+
+    /// The memory that the sheet is in.
+    pub fn alloc(&self) -> Global {
+        self.store.alloc()
     }
 
     /// Whether the last recalculation told a circle.
@@ -266,7 +278,7 @@ impl<E: Means> SheetOf<E> {
     pub fn enter(&mut self, cell: Cell, content: Content) -> Result<(), SheetFault>
         requires { HasPrefix content }
         ensures grid { OnOk result (self.new.grid ≡ written self.old.grid cell content) }
-        ensures dirty { OnOk result (AreDirtied self.new.grid (has same_place self.old.dirty) cell (has same_place self.new.dirty)) }
+        ensures dirty { OnOk result (AreDirtied self.new.grid (has same_place self.old.dirty) (just cell) (has same_place self.new.dirty)) }
         ensures stale { OnOk result (self.new.stale ≡ true) }
         ensures beside { SameBeside self.old self.new }
         ensures err { OnErr result (self.new ≡ self.old) }
@@ -305,7 +317,7 @@ impl<E: Means> SheetOf<E> {
     ) -> Result<(), SheetFault>
         requires { HasPrefix content }
         ensures grid { OnOk result (self.new.grid ≡ entered E.meaning (context_of self.old.names self.old.settings scene.entry.now) (is_evaluated self.old.settings content) self.old.grid cell content) }
-        ensures dirty { OnOk result (AreDirtied (written self.old.grid cell content) (has same_place self.old.dirty) cell (has same_place self.new.dirty)) }
+        ensures dirty { OnOk result (AreDirtied (written self.old.grid cell content) (has same_place self.old.dirty) (just cell) (has same_place self.new.dirty)) }
         ensures stale { OnOk result (self.new.stale ≡ true) }
         ensures beside { SameBeside self.old self.new }
         ensures err { OnErr result (self.new ≡ self.old) }
@@ -342,12 +354,154 @@ impl<E: Means> SheetOf<E> {
         }
     }
 
+    // Writes states into cells, none of which may be protected. A written cell that isn't given a state keeps its own.
+    fn put_changes(&mut self, cells: &CellList, changes: Changes) -> Result<(), SheetFault>
+        requires sound { AreSound changes }
+        requires given { (c : Place) → has same_place cells.now c ≡ false → map.get changes c ≡ None }
+        ensures answer { IsAnswered self.old.settings self.old.grid (has same_place cells.now) result }
+        ensures grid { OnOk result (Becomes self.old.grid (λ c. changed (map.get changes c) (map.get self.old.grid.cells c)) self.new.grid) }
+        ensures dirty { OnOk result (AreDirtied self.new.grid (has same_place self.old.dirty) (has same_place cells.now) (has same_place self.new.dirty)) }
+        ensures stale { OnOk result (self.new.stale ≡ true) }
+        ensures beside { SameBeside self.old self.new }
+        ensures err { OnErr result (self.new ≡ self.old) }
+    {
+        let settings = self.settings;
+        if let Some(cell) = refusing(&self.store, &settings, cells.as_slice()) {
+            return Err(SheetFault::Protected(cell));
+        }
+        match write_cells(
+            &mut self.store,
+            &mut self.graph,
+            &mut self.dirty,
+            cells,
+            changes,
+        ) {
+            Ok(()) => {
+                mark(&mut self.stale);
+                Ok(())
+            }
+            Err(Memory) => Err(SheetFault::Memory),
+        }
+    }
+
+    /// Makes the cells of a span blank, each in its format. `Protected` names the first cell of the span that is
+    /// protected; the sheet is unchanged where the edit is refused.
+    pub fn erase(&mut self, span: Span) -> Result<(), SheetFault>
+        ensures answer { IsAnswered self.old.settings self.old.grid (is_within span) result }
+        ensures grid { OnOk result (Becomes self.old.grid (in_span self.old.grid span erased) self.new.grid) }
+        ensures dirty { OnOk result (AreDirtied self.new.grid (has same_place self.old.dirty) (is_within span) (has same_place self.new.dirty)) }
+        ensures stale { OnOk result (self.new.stale ≡ true) }
+        ensures beside { SameBeside self.old self.new }
+        ensures err { OnErr result (self.new ≡ self.old) }
+    {
+        let Ok(cells) = cells_of(self.store.alloc(), span) else {
+            return Err(SheetFault::Memory);
+        };
+        let Ok(changes) = spans::erased(&self.store, cells.as_slice()) else {
+            return Err(SheetFault::Memory);
+        };
+        self.put_changes(&cells, changes)
+    }
+
+    /// Copies the contents and formats of a span. A source of one column is repeated across the columns of the target,
+    /// and one of one row down its rows; otherwise one copy stands at the target's first cell. All is read before a cell
+    /// is written. `OutOfSheet` carries the source where the copy would leave the sheet; then `Protected` names the first
+    /// written cell that is protected. The sheet is unchanged where the edit is refused.
+    pub fn copy_span(&mut self, from: Span, to: Span) -> Result<(), SheetFault>
+        ensures outside { target_of from to ≡ None → result ≡ Err (faults.OutOfSheet from) }
+        ensures answer { ForSome (target_of from to) (λ target. IsAnswered self.old.settings self.old.grid (is_within target) result) }
+        ensures grid { OnOk result (ForSome (target_of from to) (λ target. Becomes self.old.grid (copied_at self.old.grid from target) self.new.grid)) }
+        ensures dirty { OnOk result (ForSome (target_of from to) (λ target. AreDirtied self.new.grid (has same_place self.old.dirty) (is_within target) (has same_place self.new.dirty))) }
+        ensures stale { OnOk result (self.new.stale ≡ true) }
+        ensures beside { SameBeside self.old self.new }
+        ensures err { OnErr result (self.new ≡ self.old) }
+    {
+        let Some(target) = target_of(from, to) else {
+            return Err(SheetFault::OutOfSheet(from));
+        };
+        self.copy_onto(from, target)
+    }
+
+    // Copies the contents and formats of a span onto the cells of another, again and again.
+    fn copy_onto(&mut self, from: Span, target: Span) -> Result<(), SheetFault>
+        ensures answer { IsAnswered self.old.settings self.old.grid (is_within target) result }
+        ensures grid { OnOk result (Becomes self.old.grid (copied_at self.old.grid from target) self.new.grid) }
+        ensures dirty { OnOk result (AreDirtied self.new.grid (has same_place self.old.dirty) (is_within target) (has same_place self.new.dirty)) }
+        ensures stale { OnOk result (self.new.stale ≡ true) }
+        ensures beside { SameBeside self.old self.new }
+        ensures err { OnErr result (self.new ≡ self.old) }
+    {
+        let Ok(cells) = cells_of(self.store.alloc(), target) else {
+            return Err(SheetFault::Memory);
+        };
+        let first = first_of(target);
+        let Ok(changes) = copied(&self.store, from, first, cells.as_slice()) else {
+            return Err(SheetFault::Memory);
+        };
+        self.put_changes(&cells, changes)
+    }
+
+    /// Makes the writes in their order. One without a format leaves its cell's format. `Protected` names the first cell
+    /// in row order that is protected; the sheet is unchanged where the edit is refused.
+    pub fn write(&mut self, writes: &Writes) -> Result<(), SheetFault>
+        requires { HavePrefixes writes.now.items.items }
+        ensures answer { IsAnswered self.old.settings self.old.grid (has same_place (written_cells writes.now.items.items)) result }
+        ensures grid { OnOk result (self.new.grid ≡ written_all self.old.grid writes.now.items.items) }
+        ensures dirty { OnOk result (AreDirtied self.new.grid (has same_place self.old.dirty) (has same_place (written_cells writes.now.items.items)) (has same_place self.new.dirty)) }
+        ensures stale { OnOk result (self.new.stale ≡ true) }
+        ensures beside { SameBeside self.old self.new }
+        ensures err { OnErr result (self.new ≡ self.old) }
+    {
+        let alloc = self.store.alloc();
+        let mut cells = CellList::new(alloc);
+        let mut changes = Changes::new(alloc);
+        match gathered(&self.store, writes, &mut cells, &mut changes) {
+            Ok(()) => self.put_changes(&cells, changes),
+            Err(Memory) => Err(SheetFault::Memory),
+        }
+    }
+
+    /// Gives the cells of a span another format code, 0 to 127; their protection marks stay. It is no change of
+    /// contents. The sheet is unchanged where there is no memory.
+    pub fn set_format(&mut self, span: Span, code: u8) -> Result<(), Memory>
+        requires { code < 128 }
+        ensures ok { OnOk result (Becomes self.old.grid (in_span self.old.grid span (reformatted (with_code code))) self.new.grid) }
+        ensures beside { self.new ≡ record self.old { grid = self.new.grid } }
+        ensures err { OnErr result (self.new ≡ self.old) }
+    {
+        self.reformat(span, FormatChange::Code(code))
+    }
+
+    /// Sets the protection marks of the cells of a span, or takes them away. It is no change of contents. The sheet is
+    /// unchanged where there is no memory.
+    pub fn set_protected(&mut self, span: Span, protected: bool) -> Result<(), Memory>
+        ensures ok { OnOk result (Becomes self.old.grid (in_span self.old.grid span (reformatted (with_mark protected))) self.new.grid) }
+        ensures beside { self.new ≡ record self.old { grid = self.new.grid } }
+        ensures err { OnErr result (self.new ≡ self.old) }
+    {
+        self.reformat(span, FormatChange::Mark(protected))
+    }
+
+    fn reformat(&mut self, span: Span, change: FormatChange) -> Result<(), Memory>
+        requires { HasCode change }
+        ensures ok { OnOk result (Becomes self.old.grid (in_span self.old.grid span (reformatted (rule_of change))) self.new.grid) }
+        ensures beside { self.new ≡ record self.old { grid = self.new.grid } }
+        ensures err { OnErr result (self.new ≡ self.old) }
+    {
+        let cells = cells_of(self.store.alloc(), span)?;
+        let changes = spans::reformatted(&self.store, change, cells.as_slice())?;
+        change_cells(&mut self.store, cells.as_slice(), changes)?;
+        Ok(())
+    }
+
     /// Recalculates in the order of the settings, with as many passes.
     pub fn calc(&mut self, scene: &Scene, tally: &mut E) -> Result<(), Memory>
         ensures values { OnOk result (self.new.grid ≡ whole.passes E.meaning (context_of self.old.names self.old.settings scene.entry.now) self.old.settings.passes (order_in self.old.settings.order self.old.grid).done self.old.grid) }
         ensures circular { OnOk result (self.new.circular ≡ (order_in self.old.settings.order self.old.grid).circular) }
         ensures dirty { OnOk result (IsDirtyAfter self.old.settings.order self.new.grid (has same_place self.old.dirty) (has same_place self.new.dirty)) }
         ensures stale { OnOk result (self.new.stale ≡ false) }
+        ensures contents { SameContents self.old.grid self.new.grid }
+        ensures err { OnErr result ((self.new.dirty ≡ self.old.dirty) × (self.new.circular ≡ self.old.circular) × (self.new.stale ≡ self.old.stale)) }
         ensures beside { (self.new.names ≡ self.old.names) × (self.new.settings ≡ self.old.settings) }
         ensures count { OnOk result (E.count tally.new ≡ raised_by (length self.old.dirty + (self.old.settings.passes - 1) * length self.new.dirty) (E.count tally.old)) }
     {

@@ -22,7 +22,7 @@ pub fn format_of(store: &Store, cell: Cell) -> Format
 }
 
 // The value with which a content begins.
-fn first_value(content: &Content) -> Result<Value, Memory>
+pub fn first_value(content: &Content) -> Result<Value, Memory>
     ensures { IfOk result (λ v. v ≡ first_value content.now) }
 {
     match content {

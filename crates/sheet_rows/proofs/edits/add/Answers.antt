@@ -1,0 +1,7 @@
+use Rattle.std.proofs.Common.{subst, sym}
+use Rattle.work_sheet.specs.Spans.{HavePrefixes}
+use Rattle.sheet_rows.proofs.Prefixes.{one_more}
+use Rattle.sheet_rows.proofs.edits.add.Goals as goal
+
+pub returns-in-Ok : goal.returns-in-Ok
+returns-in-Ok c = subst HavePrefixes (sym c.in-Ok.ensures.ok) (one_more c.args.writes.now.items.items c.args.write c.requires.prefixes c.requires.prefix)
