@@ -1,0 +1,103 @@
+-- A line that is edited, and what each key does with it.
+use Rattle.std.specs.Prelude.{ℕ, ◌+◌, ◌-◌, refl, nat_lt, min, if◌then◌else◌, length, take, drop, List, [], ◌∷◌, ◌++◌}
+use Rattle.std.specs.Coded.{Coded, code_by, coded×, coded_list, coded_ℕ}
+use Rattle.key_words.specs.declared.key.Key.{Key}
+use Rattle.key_words.specs.declared.key.Key.TheVariants.{Byte, Enter, Up, Down, Left, Right, Home, End, PgUp, PgDn, BigLeft, BigRight, Esc, Bs, Del, Edit, Name, Abs, Goto, Window, Query, Table, Calc, Graph, Break, Undo, Alt}
+use Rattle.entry_line.specs.declared.event.LineEvent.{LineEvent}
+use Rattle.entry_line.specs.declared.event.LineEvent.TheVariants.{Going, Finished, GivenUp, LineFull}
+
+-- the text, and how many bytes stand before the cursor
+pub record Entry : Type 0 where
+  pub text : List ℕ
+  pub cursor : ℕ
+
+abbrev pub coded_entry : Coded Entry
+coded_entry = code_by (List ℕ × ℕ) (coded× (coded_list coded_ℕ) coded_ℕ) (λ e. (e.text, e.cursor)) (λ p. record { text = p.0; cursor = p.1 }) (λ _. refl)
+
+-- the cursor goes to a place, or to the end where that is nearer
+abbrev pub placed : Entry → ℕ → Entry
+placed e place = record e { cursor = min place (length e.text) }
+
+-- a byte comes in at the cursor
+abbrev pub inserted : Entry → ℕ → Entry
+inserted e b = record { text = take e.cursor e.text ++ b ∷ drop e.cursor e.text; cursor = e.cursor + 1 }
+
+abbrev pub typed : Entry → ℕ → Entry
+typed e b = if nat_lt (length e.text) 240 then inserted e b else e
+
+abbrev pub room : Entry → LineEvent
+room e = if nat_lt (length e.text) 240 then Going else LineFull
+
+-- the byte behind the cursor goes
+abbrev pub deleted : Entry → Entry
+deleted e = record e { text = take e.cursor e.text ++ drop (e.cursor + 1) e.text }
+
+-- the byte before the cursor goes, where there is one
+abbrev pub taken_back : Entry → Entry
+taken_back e = if nat_lt 0 e.cursor then record { text = take (e.cursor - 1) e.text ++ drop e.cursor e.text; cursor = e.cursor - 1 } else e
+
+abbrev pub nothing : Entry
+nothing = record { text = []; cursor = 0 }
+
+abbrev pub escaped : Entry → LineEvent
+escaped e = if nat_lt 0 (length e.text) then Going else GivenUp
+
+-- the line after a key
+abbrev pub after : Key → Entry → Entry
+after (Byte b) e = typed e b
+after Left e = placed e (e.cursor - 1)
+after Right e = placed e (e.cursor + 1)
+after BigLeft e = placed e (e.cursor - 5)
+after BigRight e = placed e (e.cursor + 5)
+after Home e = placed e 0
+after End e = placed e (length e.text)
+after Del e = deleted e
+after Bs e = taken_back e
+after Esc e = nothing
+after Enter e = e
+after Up e = e
+after Down e = e
+after PgUp e = e
+after PgDn e = e
+after Edit e = e
+after Name e = e
+after Abs e = e
+after Goto e = e
+after Window e = e
+after Query e = e
+after Table e = e
+after Calc e = e
+after Graph e = e
+after Break e = e
+after Undo e = e
+after (Alt letter) e = e
+
+-- what the key comes to
+abbrev pub event : Key → Entry → LineEvent
+event (Byte b) e = room e
+event Esc e = escaped e
+event Enter e = Finished
+event Up e = Finished
+event Down e = Finished
+event PgUp e = Finished
+event PgDn e = Finished
+event Left e = Going
+event Right e = Going
+event BigLeft e = Going
+event BigRight e = Going
+event Home e = Going
+event End e = Going
+event Del e = Going
+event Bs e = Going
+event Edit e = Going
+event Name e = Going
+event Abs e = Going
+event Goto e = Going
+event Window e = Going
+event Query e = Going
+event Table e = Going
+event Calc e = Going
+event Graph e = Going
+event Break e = Going
+event Undo e = Going
+event (Alt letter) e = Going
