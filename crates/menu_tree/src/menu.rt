@@ -35,15 +35,22 @@ pub enum Menu {
     Quit,
 }
 
-/// What an item leads to when it isn't a menu. `No`, `Cancel` and `Leave` do nothing, and `Goto` is what the key of this
+/// What is done beside the areas of the main menu. `No`, `Cancel` and `Leave` do nothing, and `Goto` is what the key of this
 /// name asks for.
 #[derive(Clone, Copy, Debug, PartialEq, Eq)]
-pub enum Action {
+pub enum CommonAction {
     No,
     Cancel,
     Leave,
     Copy,
     Move,
+    QuitYes,
+    Goto,
+}
+
+/// What the items below Worksheet do.
+#[derive(Clone, Copy, Debug, PartialEq, Eq)]
+pub enum WorksheetAction {
     GlobalWidth,
     GlobalFixed,
     GlobalCurrency,
@@ -74,40 +81,55 @@ pub enum Action {
     ResetWidth,
     Hide,
     Display,
-    EraseWorksheet,
-    RangeErase,
+    Erase,
+}
+
+/// What the items below Range do.
+#[derive(Clone, Copy, Debug, PartialEq, Eq)]
+pub enum RangeAction {
+    Erase,
     Protect,
     Unprotect,
     Value,
     Transpose,
-    RangeFixed,
-    RangeCurrency,
-    RangeComma,
-    RangeGeneral,
-    RangePercent,
-    RangeText,
-    RangeHidden,
-    RangeReset,
-    RangeDate1,
-    RangeDate2,
-    RangeDate3,
+    Fixed,
+    Currency,
+    Comma,
+    General,
+    Percent,
+    Text,
+    Hidden,
+    Reset,
+    Date1,
+    Date2,
+    Date3,
     LabelLeft,
     LabelRight,
     LabelCenter,
     NameCreate,
     NameDelete,
     NameReset,
+}
+
+/// What the items below File do.
+#[derive(Clone, Copy, Debug, PartialEq, Eq)]
+pub enum FileAction {
     Retrieve,
     Save,
-    FileErase,
+    Erase,
     CombineCopy,
     CombineAdd,
     CombineSubtract,
     XtractFormulas,
     XtractValues,
-    PrintFile,
-    PrintRange,
-    PrintGo,
+}
+
+/// What the items below Print do.
+#[derive(Clone, Copy, Debug, PartialEq, Eq)]
+pub enum PrintAction {
+    File,
+    Range,
+    Go,
     Header,
     Footer,
     PageLength,
@@ -117,6 +139,11 @@ pub enum Action {
     MarginTop,
     MarginBottom,
     LeaveMargins,
+}
+
+/// What the items below Data do.
+#[derive(Clone, Copy, Debug, PartialEq, Eq)]
+pub enum DataAction {
     Fill,
     Distribution,
     TableOne,
@@ -134,8 +161,17 @@ pub enum Action {
     Unique,
     QueryReset,
     DeleteRecords,
-    QuitYes,
-    Goto,
+}
+
+/// What an item leads to when it isn't a menu.
+#[derive(Clone, Copy, Debug, PartialEq, Eq)]
+pub enum Action {
+    Common(CommonAction),
+    Worksheet(WorksheetAction),
+    Range(RangeAction),
+    File(FileAction),
+    Print(PrintAction),
+    Data(DataAction),
 }
 
 /// An item of a menu.

@@ -7,7 +7,7 @@ ghost use Rattle.natural_order.specs.Walk.{has};
 ghost use Rattle.natural_recalc.specs.Passes as whole;
 ghost use Rattle.natural_recalc.specs.Passes.{raised_by, IsDirtyAfter, SameContents};
 ghost use Rattle.natural_recalc.specs.Reading.{is_formula_at, order_in};
-ghost use Rattle.natural_recalc.specs.World.{context_of};
+ghost use Rattle.natural_recalc.specs.World.{context_of, sight_of};
 ghost use Rattle.range_names.specs.Names.{fault_of, key_of};
 ghost use Rattle.range_names.specs.declared.fault.NameFault.TheVariants as cause;
 ghost use Rattle.sheet_store.specs.Choices.{fresh};
@@ -24,16 +24,16 @@ use crate::line::write_evaluated;
 use crate::many::{change_cells, write_cells};
 use crate::spans;
 use crate::spans::{FormatChange, cells_of, copied, first_of, refusing, target_of};
-use crate::states::{is_marked, mark, state_of};
+use crate::states::{format_of, is_marked, mark, state_of};
 use crate::typed::text_of;
 use crate::writes::gathered;
 use depend_graph::Graph;
-use formula_eval::{Means, Scene, Tally};
+use formula_eval::{Look, Means, Scene, Tally};
 use formula_tree::{Content, Value};
-use grid_address::{Cell, CellList, Span};
+use grid_address::{Cell, CellList, Format, Span};
 use indexmap::IndexSet;
 use lics_text::{Line, Memory};
-use natural_recalc::{all_dirty, graph_of, recalc};
+use natural_recalc::{Missing, View, all_dirty, graph_of, recalc};
 use range_names::{NameFault, Names};
 use sheet_store::{Order, SavedSheet, Settings, SheetFault, Store, Writes, is_formula};
 use std::alloc::Global;
@@ -50,6 +50,7 @@ pub struct SheetOf<E: Means> {
     stale: bool,
     names: Names,
     settings: Settings,
+    missing: Missing,
     with: PhantomData<E>,
 }
 
@@ -87,6 +88,7 @@ impl<E: Means> SheetOf<E> {
             stale: false,
             names: Names::new(alloc),
             settings: Settings::fresh(),
+            missing: Missing::new(),
             with: PhantomData,
         }
     }
@@ -109,6 +111,7 @@ impl<E: Means> SheetOf<E> {
             stale: false,
             names: saved.names,
             settings: saved.settings,
+            missing: Missing::new(),
             with: PhantomData,
         })
     }
@@ -519,5 +522,50 @@ impl<E: Means> SheetOf<E> {
         self.circular = circ.0;
         self.stale = false;
         Ok(())
+    }
+}
+
+/// Formulas and blocks of data look at a sheet as it stands.
+impl<E: Means> Look for SheetOf<E> {
+    ghost sight = { λ s. sight_of s.names s.settings s.grid };
+
+    fn value(&self, cell: Cell) -> &Value {
+        match self.store.get(cell) {
+            Some(state) => &state.value,
+            None => self.missing.value(),
+        }
+    }
+
+    fn content(&self, cell: Cell) -> Option<&Content> {
+        match self.store.get(cell) {
+            Some(state) => Some(&state.content),
+            None => None,
+        }
+    }
+
+    fn format(&self, cell: Cell) -> Format {
+        format_of(&self.store, cell)
+    }
+
+    fn width(&self, col: u8) -> u8 {
+        let settings = self.settings;
+        match self.store.width(col) {
+            Some(width) => width,
+            None => settings.width,
+        }
+    }
+
+    fn names(&self) -> &Names {
+        &self.names
+    }
+
+    fn filled(&self, span: Span) -> Result<CellList, Memory> {
+        let view = View {
+            store: &self.store,
+            names: &self.names,
+            settings: &self.settings,
+            missing: &self.missing,
+        };
+        view.filled(span)
     }
 }
