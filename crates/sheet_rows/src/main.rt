@@ -1,8 +1,8 @@
 //! Makes edits of small sheets, which standard input describes line by line, and prints after each line what came of
 //! it, how many evaluations there were, and the values of A1 to C4. `:` begins a fresh sheet. `=A1 TEXT` enters what the
 //! text spells, `eA1..B2` erases, `cA1..B2 C1..D2` copies, `fA1..B2 CODE` sets the format code, `pA1..B2` protects and
-//! `uA1..B2` takes protection away; `wA1 TEXT` and `vA1 CODE TEXT` add to a list of writes, of which the latter has a
-//! format, and `x` makes them. `sWORDS` changes settings letter by letter: A and M are the modes Automatic and Manual, P
+//! `uA1..B2` takes protection away. `xA1 CODE TEXT` makes a list of writes, which tabs part; the code is a format byte,
+//! or `-` for the cell's own. `sLETTERS` changes settings letter by letter: A and M are the modes Automatic and Manual, P
 //! and Q protection on and off, N, C and R the orders, and a digit the passes. `!` recalculates, and so does each edit of
 //! contents in Automatic mode. `?` prints the texts and formats. The stored run compares 10,000 edits with another
 //! program's.
