@@ -1,5 +1,5 @@
 -- A line whose rest is blank.
-use Rattle.std.proofs.Common.{◌≡◌, ℕ, zero, suc, ◌+◌, ◌-◌, ◌≤◌, List, [], ◌∷◌, ◌++◌, take, drop, length, replicate, refl, ap, sym, ◌∙◌, arith}
+use Rattle.std.proofs.Common.{◌≡◌, ℕ, ◌+◌, ◌-◌, ◌≤◌, List, ◌++◌, take, drop, replicate, ap, sym, ◌∙◌, arith}
 use Rattle.std.proofs.lemmas.List.{drop-replicate, take-replicate, drop-drop, take-append-drop, drop-take, take-take}
 
 take_on : (n m : ℕ) (xs : List ℕ) → take (n + m) xs ≡ take n xs ++ take m (drop n xs)

@@ -1,3 +1,3 @@
 pub mod Blanks
-pub mod CellMaps
+pub mod OneWay
 pub mod Widths

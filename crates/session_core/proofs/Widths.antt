@@ -1,16 +1,16 @@
 -- How wide the painted texts are, and one more cell or line.
 use Rattle.std.proofs.Common.{◌≡◌, ℕ, zero, suc, ◌+◌, ◌-◌, ◌*◌, ◌/◌, ◌<◌, ◌≤◌, List, [], ◌∷◌, ◌++◌, length, take, drop, replicate, set, map, get_or, refl, arith, inl, inr, length-append, append_assoc, add-one, ap, sym, ◌∙◌}
 use Rattle.std.proofs.lemmas.Bool.{cases_lt}
-use Rattle.std.proofs.lemmas.List.{length-take, length-replicate, take_more_set, take_all, length-set, take_more, append-nil, take-append-le}
+use Rattle.std.proofs.lemmas.List.{length-take, length-replicate, take_more_set, take_all, length-set, take_more, append-nil, take-append-le, take-take}
 use Rattle.std.proofs.lemmas.List.FromFn.{take-map-range_with_len, get_or-map-range_with_len, length-map-range_with_len}
 use Rattle.std.specs.List.{range_with_len}
 use Rattle.grid_address.specs.Address.{column_name, decimal}
 use Rattle.grid_address.specs.Place.{Place}
-use Rattle.session_core.specs.Cells.{Cells}
+use Rattle.sheet_store.specs.Grid.{Grid}
 use Rattle.session_core.specs.Machine.{State}
 use Rattle.session_core.specs.Screen.{padded, filled, row_number, column_head, column_heads, left_over, text_at, shown_cells, screen, screen_line, shown_line, shown_byte, mode_name}
 use Rattle.session_core.specs.declared.mode.Mode.{Mode}
-use Rattle.session_core.specs.declared.mode.Mode.TheVariants.{Ready, Label}
+use Rattle.session_core.specs.declared.mode.Mode.TheVariants.{Ready, Label, Value}
 use Rattle.std.specs.List.{All}
 use Rattle.std.proofs.lemmas.List.Elements.{All-map}
 use Rattle.std.proofs.lemmas.Bool.Decides.{nat_tests}
@@ -50,23 +50,33 @@ added n xs ys =
     let same : n - length (take n xs) ≡ n - length xs = omega (arith, length-take n xs) in
     ap (λ (k : ℕ). take n xs ++ take k ys) same ∙ sym (take-append n xs ys)
 
-pub added_label : (n : ℕ) (xs label : List ℕ) → take n ((xs ++ 39 ∷ []) ++ label) ≡ take n (xs ++ 39 ∷ label)
-added_label n xs label = ap (take n) (append_assoc xs (39 ∷ []) label)
+-- of a text that is cut at 240 bytes anyway, as much is added up to a column below
+pub added_front : (n : ℕ) (xs ys : List ℕ) → n ≤ 240 → take n (xs ++ take 240 ys) ≡ take n (xs ++ ys)
+added_front n xs ys h =
+    let less : n - length xs ≤ 240 = omega arith in
+    take-append n xs (take 240 ys) ∙ ap (λ (l : List ℕ). take n xs ++ l) (take-take (n - length xs) 240 ys less) ∙ sym (take-append n xs ys)
 
-pub shown_cells_none : (cells : Cells) (first : Place) → shown_cells cells first 0 ≡ []
+-- three texts are added up to a column, of the last of which the first 240 bytes are there
+pub added_three : (a b t e x y z : List ℕ) → e ≡ [] → x ≡ e ++ take (72 - length e) a → y ≡ x ++ take (72 - length x) b → z ≡ y ++ take (72 - length y) (take 240 t) → z ≡ take 72 ((a ++ b) ++ t)
+added_three a b t e x y z none one two three =
+    let first : x ≡ take 72 a = one ∙ ap (λ (l : List ℕ). l ++ take (72 - length l) a) none in
+    let second : y ≡ take 72 (a ++ b) = two ∙ ap (λ (l : List ℕ). l ++ take (72 - length l) b) first ∙ added 72 a b in
+    three ∙ ap (λ (l : List ℕ). l ++ take (72 - length l) (take 240 t)) second ∙ added 72 (a ++ b) (take 240 t) ∙ added_front 72 (a ++ b) t (omega arith)
+
+pub shown_cells_none : (format : ℕ) (g : Grid) (first : Place) → shown_cells format g first 0 ≡ []
 unfolding shown_cells
-shown_cells_none cells first = refl
+shown_cells_none format g first = refl
 
 -- one more cell of a row
-pub shown_cells_more : (cells : Cells) (first : Place) (n : ℕ) → shown_cells cells first (n + 1) ≡ shown_cells cells first n ++ padded 9 (text_at cells first n)
+pub shown_cells_more : (format : ℕ) (g : Grid) (first : Place) (n : ℕ) → shown_cells format g first (n + 1) ≡ shown_cells format g first n ++ padded 9 (text_at format g first n)
 unfolding shown_cells
-shown_cells_more cells first n = rw add-one refl
+shown_cells_more format g first n = rw add-one refl
 
-pub shown_cells_length : (cells : Cells) (first : Place) (n : ℕ) → length (shown_cells cells first n) ≡ 9 * n
+pub shown_cells_length : (format : ℕ) (g : Grid) (first : Place) (n : ℕ) → length (shown_cells format g first n) ≡ 9 * n
 unfolding shown_cells
-shown_cells_length cells first zero = refl
-shown_cells_length cells first (suc n) =
-    omega (arith, length-append (shown_cells cells first n) (padded 9 (text_at cells first n)), shown_cells_length cells first n, padded_length 9 (text_at cells first n))
+shown_cells_length format g first zero = refl
+shown_cells_length format g first (suc n) =
+    omega (arith, length-append (shown_cells format g first n) (padded 9 (text_at format g first n)), shown_cells_length format g first n, padded_length 9 (text_at format g first n))
 
 pub column_head_length : (col : ℕ) → length (column_name col) ≤ 2 → length (column_head col) ≡ 9
 column_head_length col h =
@@ -91,13 +101,13 @@ column_heads_length first zero = refl
 column_heads_length first (suc n) =
     omega (arith, length-append (column_heads first n) (column_head (first + n)), column_heads_length first n, column_head_length (first + n) (name_length (first + n)))
 
-pub left_over_none : (cells : Cells) (first : Place) → left_over cells first 0 ≡ []
+pub left_over_none : (format : ℕ) (g : Grid) (first : Place) → left_over format g first 0 ≡ []
 unfolding left_over
-left_over_none cells first = refl
+left_over_none format g first = refl
 
-pub left_over_more : (cells : Cells) (first : Place) (n : ℕ) → left_over cells first (n + 1) ≡ drop 9 (text_at cells first n)
+pub left_over_more : (format : ℕ) (g : Grid) (first : Place) (n : ℕ) → left_over format g first (n + 1) ≡ drop 9 (text_at format g first n)
 unfolding left_over
-left_over_more cells first n = rw add-one refl
+left_over_more format g first n = rw add-one refl
 
 -- a list of lines by their numbers, and one more
 lines_more : (f : ℕ → List ℕ) (n : ℕ) → map f (range_with_len 0 (n + 1)) ≡ map f (range_with_len 0 n) ++ f n ∷ []
@@ -135,6 +145,7 @@ printed s = All-map (λ line. All (λ b. 32 ≤ b) line) (shown_line s) (range_w
 mode_name_length : (mode : Mode) → length (mode_name mode) ≡ 5
 mode_name_length Ready = refl
 mode_name_length (Label line) = refl
+mode_name_length (Value line) = refl
 
 -- a name is put behind the first 73 bytes, and the line is filled
 pub named : (front : List ℕ) (mode : Mode) → length front ≡ 73 →

@@ -1,5 +1,7 @@
-pub mod Cells
+pub mod Entry
 pub mod Machine
 pub mod Pointer
 pub mod Screen
+pub mod Sheets
 pub mod Typing
+pub mod Work

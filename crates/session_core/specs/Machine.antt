@@ -1,75 +1,156 @@
--- The session as a machine over one map of cells.
-use Rattle.std.specs.Prelude.{ℕ, Bool, true, false, refl}
+-- The session as a machine over one map of cells, in which every formula is evaluated at each recalculation.
+use Rattle.std.specs.Prelude.{◌≡◌, ℕ, Bool, true, false, cond, Option, None, Some, replicate, refl}
 use Rattle.std.specs.Coded.{Coded, code_by, coded×, coded_bool}
 use Rattle.std.specs.FinMap as map
+use Rattle.formula_eval.specs.declared.look.Scene.{Scene}
+use Rattle.formula_tree.specs.declared.value.Content.{Content}
 use Rattle.grid_address.specs.Place.{Place, coded_place}
 use Rattle.serial_date.specs.declared.moment.Moment.{Moment}
-use Rattle.session_core.specs.Cells.{Cells, coded_cells}
+use Rattle.sheet_store.specs.Choices.{fresh}
+use Rattle.session_core.specs.Entry.{IsEntry}
 use Rattle.session_core.specs.Pointer.{moved, corner_for}
+use Rattle.session_core.specs.Sheets.{coded_sheet, recalculated, with_entry, Sheet}
 use Rattle.session_core.specs.Typing.{typed}
+use Rattle.session_core.specs.Work.{coded_work, no_work, HasEntered, HasRecalculated, IsSameWork, Work}
 use Rattle.session_core.specs.contracts.mode.Mode as mode
 use Rattle.session_core.specs.declared.mode.Mode.{Mode}
-use Rattle.session_core.specs.declared.mode.Mode.TheVariants.{Ready, Label}
+use Rattle.session_core.specs.declared.mode.Mode.TheVariants.{Ready, Label, Value}
 use Rattle.session_core.specs.declared.key.Key.{Key}
-use Rattle.session_core.specs.declared.key.Key.TheVariants.{Byte, Enter, Up, Down, Left, Right}
+use Rattle.session_core.specs.declared.key.Key.TheVariants.{Byte, Enter, Up, Down, Left, Right, Calc}
 use Rattle.session_core.specs.declared.key.Event.{Event}
 use Rattle.session_core.specs.declared.key.Event.TheVariants.{Key as KeyEvent, Unit as UnitEvent}
 
--- the cells, the pointer, the cell at the top left of the screen, the mode with its line, and whether memory ran out
+-- the sheet, the pointer, the cell at the top left of the screen, the mode with its line, and whether memory ran out
 pub record State : Type 0 where
-  pub cells : Cells
+  pub sheet : Sheet
   pub pointer : Place
   pub corner : Place
   pub mode : Mode
   pub spent : Bool
 
--- a state is stored as the tuple of its fields
+-- a session: the machine's state, and the work that was done
+pub record Running : Type 0 where
+  pub state : State
+  pub work : Work
+
 abbrev pub coded_state : Coded State
 coded_state =
-    code_by (Cells × (Place × (Place × (Mode × Bool)))) (coded× coded_cells (coded× coded_place (coded× coded_place (coded× (mode.the_row).coded coded_bool))))
-    (λ s. (s.cells, (s.pointer, (s.corner, (s.mode, s.spent))))) (λ p. record { cells = p.0; pointer = p.1.0; corner = p.1.1.0; mode = p.1.1.1.0; spent = p.1.1.1.1 }) (λ _. refl)
+    code_by (Sheet × (Place × (Place × (Mode × Bool)))) (coded× coded_sheet (coded× coded_place (coded× coded_place (coded× (mode.the_row).coded coded_bool))))
+    (λ s. (s.sheet, (s.pointer, (s.corner, (s.mode, s.spent))))) (λ p. record { sheet = p.0; pointer = p.1.0; corner = p.1.1.0; mode = p.1.1.1.0; spent = p.1.1.1.1 }) (λ _. refl)
+
+abbrev pub coded_running : Coded Running
+coded_running = code_by (State × Work) (coded× coded_state coded_work) (λ r. (r.state, r.work)) (λ p. record { state = p.0; work = p.1 }) (λ _. refl)
 
 abbrev pub home : Place
 home = record { row = 0; col = 0 }
 
+-- no cell, no column of a width of its own or hidden, no name, and the settings of a fresh sheet
+abbrev pub fresh_sheet : Sheet
+fresh_sheet = record { grid = record { cells = map.empty; widths = replicate 256 0; hidden = replicate 256 false }; circular = false; stale = false; names = map.empty; settings = fresh }
+
 -- a fresh session
-abbrev pub start : State
-start = record { cells = map.empty; pointer = home; corner = home; mode = Ready; spent = false }
+abbrev pub start : Running
+start = record { state = record { sheet = fresh_sheet; pointer = home; corner = home; mode = Ready; spent = false }; work = no_work }
 
 -- it wants a key, since no macro runs
 abbrev pub wants_key : State → Bool
 wants_key s = true
 
--- how many formulas were evaluated: there are none yet
-abbrev pub evaluations : State → ℕ
-evaluations s = 0
+-- the moment, and where the pointer stands before it moves
+abbrev pub scene_at : State → Moment → Scene
+scene_at s now = record { cursor = s.pointer; now = now }
 
--- the label that is typed is put into the pointer's cell
-abbrev pub finished_in : Mode → State → State
-finished_in Ready s = s
-finished_in (Label line) s = record s { cells = map.insert s.cells s.pointer line; mode = Ready }
+-- the line that is typed is finished: what it means is entered, and a line that means nothing leaves the cell
+abbrev pub finished : Scene → Option Content → State → State
+finished scene None s = record s { mode = Ready }
+finished scene (Some x) s = record s { sheet = with_entry scene s.pointer x s.sheet; mode = Ready }
 
--- the line that is typed is finished, and then the pointer moves
-abbrev pub finished_with : Key → State → State
-finished_with key s = record (finished_in s.mode s) { pointer = moved key s.pointer }
+-- the key that finishes a line moves the pointer, unless the line is a value that spells nothing
+abbrev pub moves : Mode → Option Content → Bool
+moves Ready entry = true
+moves (Label line) entry = true
+moves (Value line) None = false
+moves (Value line) (Some x) = true
 
--- what a key does before the screen follows it
-abbrev pub acted : Key → State → State
-acted (Byte b) s = record s { mode = typed s.mode b }
-acted Enter s = finished_with Enter s
-acted Up s = finished_with Up s
-acted Down s = finished_with Down s
-acted Left s = finished_with Left s
-acted Right s = finished_with Right s
+-- the line is finished, and then the pointer moves
+abbrev pub finished_with : Key → Scene → Option Content → State → State
+finished_with key scene entry s = record (finished scene entry s) { pointer = cond (moves s.mode entry) (moved key s.pointer) s.pointer }
+
+-- the key CALC recalculates where nothing is typed
+abbrev pub calculated : Mode → Scene → State → State
+calculated Ready scene s = record s { sheet = recalculated scene s.sheet }
+calculated (Label line) scene s = s
+calculated (Value line) scene s = s
+
+-- what a key does: it types a byte, finishes the line, or recalculates
+pub data Act : Type 0 where
+  types : ℕ → Act
+  finishes : Act
+  calculates : Act
+
+abbrev pub act_of : Key → Act
+act_of (Byte b) = types b
+act_of Enter = finishes
+act_of Up = finishes
+act_of Down = finishes
+act_of Left = finishes
+act_of Right = finishes
+act_of Calc = calculates
+
+-- a key before the screen follows it
+abbrev pub acted : Act → Key → Scene → Option Content → State → State
+acted (types b) key scene entry s = record s { mode = typed s.mode b }
+acted finishes key scene entry s = finished_with key scene entry s
+acted calculates key scene entry s = calculated s.mode scene s
+
+-- what the line that is typed means, where the key finishes it
+abbrev pub IsEntryFor : Act → State → Option Content → Type 0
+IsEntryFor (types b) s entry = entry ≡ None
+IsEntryFor finishes s entry = IsEntry s.mode s.sheet s.pointer entry
+IsEntryFor calculates s entry = entry ≡ None
+
+-- the work of a finished line
+abbrev pub HasFinished : Scene → Option Content → State → Work → Work → Type 0
+HasFinished scene None s w v = v ≡ w
+HasFinished scene (Some x) s w v = HasEntered scene s.pointer x s.sheet w v
+
+abbrev pub HasCalculated : Mode → Scene → State → Work → Work → Type 0
+HasCalculated Ready scene s w v = HasRecalculated scene s.sheet w v
+HasCalculated (Label line) scene s w v = v ≡ w
+HasCalculated (Value line) scene s w v = v ≡ w
+
+-- the work of a key
+abbrev pub HasWorked : Act → Scene → Option Content → State → Work → Work → Type 0
+HasWorked (types b) scene entry s w v = v ≡ w
+HasWorked finishes scene entry s w v = HasFinished scene entry s w v
+HasWorked calculates scene entry s w v = HasCalculated s.mode scene s w v
+
+-- what a key did before the screen follows it
+pub record HasActed (key : Key) (now : Moment) (a b : Running) : Type 0 where
+  pub entry : Option Content
+  pub meant : IsEntryFor (act_of key) a.state entry
+  pub state : b.state ≡ acted (act_of key) key (scene_at a.state now) entry a.state
+  pub work : HasWorked (act_of key) (scene_at a.state now) entry a.state a.work b.work
 
 -- the pointer's cell is shown
-abbrev pub framed : State → State
-framed s = record s { corner = corner_for s.pointer s.corner }
+abbrev pub framed : Running → Running
+framed r = record r { state = record r.state { corner = corner_for r.state.pointer r.state.corner } }
 
--- One step. The moment has no part in it yet.
-abbrev pub step : State → Event → Moment → State
-step s (KeyEvent key) now = framed (acted key s)
-step s UnitEvent now = s
+-- One step with a key: the line that it finishes is entered, all is recalculated, the pointer moves, and the screen
+-- follows it.
+pub record IsStep (key : Key) (now : Moment) (a b : Running) : Type 0 where
+  pub before : Running
+  pub acted : HasActed key now a before
+  pub shown : b ≡ framed before
+
+-- the states are equal, and as much work was done and is to do
+pub record IsSame (a b : Running) : Type 0 where
+  pub state : a.state ≡ b.state
+  pub work : IsSameWork a.work b.work
+
+abbrev pub Steps : Event → Moment → Running → Running → Type 0
+Steps (KeyEvent key) now a b = IsStep key now a b
+Steps UnitEvent now a b = ⊥
 
 abbrev pub is_key : Event → Bool
 is_key (KeyEvent key) = true
@@ -83,5 +164,7 @@ OnlyMoves Ready (KeyEvent Up) = Unit {0}
 OnlyMoves Ready (KeyEvent Down) = Unit {0}
 OnlyMoves Ready (KeyEvent Left) = Unit {0}
 OnlyMoves Ready (KeyEvent Right) = Unit {0}
+OnlyMoves Ready (KeyEvent Calc) = ⊥
 OnlyMoves Ready UnitEvent = ⊥
 OnlyMoves (Label line) event = ⊥
+OnlyMoves (Value line) event = ⊥

@@ -2,12 +2,13 @@
 use Rattle.std.specs.Prelude.{ℕ, ◌+◌, ◌-◌, min, max, nat_lt, if◌then◌else◌}
 use Rattle.grid_address.specs.Place.{Place}
 use Rattle.session_core.specs.declared.key.Key.{Key}
-use Rattle.session_core.specs.declared.key.Key.TheVariants.{Byte, Enter, Up, Down, Left, Right}
+use Rattle.session_core.specs.declared.key.Key.TheVariants.{Byte, Enter, Up, Down, Left, Right, Calc}
 
 -- an arrow moves the pointer by one cell, and it stands still at the edge
 abbrev pub moved : Key → Place → Place
 moved (Byte b) p = p
 moved Enter p = p
+moved Calc p = p
 moved Up p = record { row = p.row - 1; col = p.col }
 moved Down p = record { row = min (p.row + 1) 8191; col = p.col }
 moved Left p = record { row = p.row; col = p.col - 1 }

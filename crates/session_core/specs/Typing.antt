@@ -1,10 +1,20 @@
 -- Typing a line.
-use Rattle.std.specs.Prelude.{ℕ, []}
+use Rattle.std.specs.Prelude.{ℕ, Bool, ◌==◌, ◌||◌, if◌then◌else◌, []}
+use Rattle.fixed_value.specs.Decimals.{is_digit}
 use Rattle.lics_text.specs.Texts.{line_with}
 use Rattle.session_core.specs.declared.mode.Mode.{Mode}
-use Rattle.session_core.specs.declared.mode.Mode.TheVariants.{Ready, Label}
+use Rattle.session_core.specs.declared.mode.Mode.TheVariants.{Ready, Label, Value}
 
--- a byte begins a label, or goes on with the one that is typed, which passes it over at 240 bytes
+-- a digit, or one of + - . ( @ # $
+abbrev pub begins_value : ℕ → Bool
+begins_value b = is_digit b || (b == 43 || (b == 45 || (b == 46 || (b == 40 || (b == 64 || (b == 35 || b == 36))))))
+
+-- a byte begins a value or a label; a slash, which begins a menu, is passed over
+abbrev pub begun : ℕ → Mode
+begun b = if b == 47 then Ready else if begins_value b then Value (line_with [] b) else Label (line_with [] b)
+
+-- A byte begins a line, or goes on with the one that is typed, which passes it over at 240 bytes.
 abbrev pub typed : Mode → ℕ → Mode
-typed Ready byte = Label (line_with [] byte)
+typed Ready byte = begun byte
 typed (Label line) byte = Label (line_with line byte)
+typed (Value line) byte = Value (line_with line byte)

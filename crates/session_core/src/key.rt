@@ -9,6 +9,8 @@ pub enum Key {
     Down,
     Left,
     Right,
+    /// Recalculates.
+    Calc,
 }
 
 /// What a step takes: a key, or the next unit of a running macro. No macro runs yet.

@@ -1,14 +1,14 @@
 //! One step of the worksheet session, and the screen that it shows.
 #![tactic(auto)]
 
+mod entry;
 mod key;
 mod mode;
 mod paint;
 mod painted_line;
 mod pointer;
 mod session;
-mod sheet;
 
 pub use key::{Event, Key, Stepped};
 pub use mode::Mode;
-pub use session::Session;
+pub use session::{Session, the_machine_has_one_way};

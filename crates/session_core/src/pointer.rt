@@ -19,6 +19,7 @@ pub fn moved(key: Key, pointer: Cell) -> Cell
     match key {
         Key::Byte(_) => pointer,
         Key::Enter => pointer,
+        Key::Calc => pointer,
         Key::Up => Cell {
             row: row.saturating_sub(1),
             col,

@@ -1,27 +1,37 @@
-ghost use Rattle.std.specs.Prelude.{◌≡◌, ◌≤◌, IfOk, IsOk, OnOk, false, true};
-ghost use Rattle.session_core.specs.Machine.{step, start, is_key, wants_key, acted, evaluations, finished_in, finished_with, OnlyMoves};
-ghost use Rattle.session_core.specs.Screen.{screen, shown_line};
+ghost use Rattle.std.specs.Prelude.{◌≡◌, ◌≤◌, IfOk, IsOk, OnOk, None, false, true};
+ghost use Rattle.std.specs.Option.{ForSome};
 ghost use Rattle.screen_show.specs.Grid.{IsGrid, IsPrinted};
+ghost use Rattle.serial_date.specs.declared.moment.Moment.{Moment};
+ghost use Rattle.session_core.specs.Machine.{act_of, finished, finishes, framed, is_key, scene_at, start, wants_key, HasActed, HasFinished, IsSame, IsStep, OnlyMoves, Running, Steps};
+ghost use Rattle.session_core.specs.declared.key.Key.{Key};
+ghost use Rattle.session_core.specs.Screen.{screen, shown_line};
+ghost use Rattle.session_core.specs.Sheets.{put, recalculated, with_entry};
+ghost use Rattle.session_core.specs.Work.{HasEntered, HasPut, HasRecalculated};
+ghost use Rattle.work_sheet.specs.Edits.{HasPrefix};
 
+use crate::entry::{entry_of, moves};
 use crate::mode::type_byte;
-use crate::paint::{blank, column_letters, pointer_line_of, row_of_cells, typed_text};
+use crate::paint::{blank, column_letters, foot_line, pointer_line_of, row_of_cells, typed_text};
 use crate::pointer::{corner_for, moved};
-use crate::sheet::PlainSheet;
 use crate::{Event, Key, Mode, Stepped};
+use formula_eval::{Scene, Tally};
+use formula_tree::Content;
 use grid_address::Cell;
 use outside_world::{Memory, Shelf};
 use screen_show::Grid;
 use serial_date::Moment;
+use sheet_store::SheetFault;
 use std::alloc::Global;
 use std::marker::Model;
+use work_sheet::Sheet;
 
 const HOME: Cell = Cell { row: 0, col: 0 };
 
 /// A session: the worksheet, the pointer and what is being typed.
 #[derive(Drop)]
 pub struct Session {
-    alloc: Global,
-    sheet: PlainSheet,
+    sheet: Sheet,
+    tally: Tally,
     pointer: Cell,
     corner: Cell,
     mode: Mode,
@@ -29,16 +39,21 @@ pub struct Session {
 }
 
 impl Model for Session {
-    ghost use Rattle.std.specs.Prelude.{◌≤◌};
-    ghost use Rattle.session_core.specs.Machine.{State, coded_state};
+    ghost use Rattle.std.specs.Prelude.{◌≡◌, ◌≤◌};
+    ghost use Rattle.session_core.specs.Machine.{coded_running, Running};
+    ghost use Rattle.session_core.specs.Sheets.{of_worksheet};
+    ghost use Rattle.sheet_store.specs.Choices.{fresh};
 
-    ghost Value = { State };
+    ghost Value = { Running };
 
-    ghost coded = { coded_state };
+    ghost coded = { coded_running };
 
-    ghost view = { λ a. record { cells = a.sheet; pointer = a.pointer; corner = a.corner; mode = a.mode; spent = a.spent } };
+    ghost view = { λ a. record {
+      state = record { sheet = of_worksheet a.sheet; pointer = a.pointer; corner = a.corner; mode = a.mode; spent = a.spent };
+      work = record { dirty = a.sheet.dirty; count = a.tally.count };
+    } };
 
-    ghost invariant = { λ a. (a.corner.row ≤ 8172) × (a.corner.col ≤ 248) };
+    ghost invariant = { λ a. (a.corner.row ≤ 8172) × (a.corner.col ≤ 248) × (a.sheet.settings ≡ fresh) };
 }
 
 impl Session {
@@ -47,8 +62,8 @@ impl Session {
         ensures { IfOk result (λ s. s ≡ start) }
     {
         Ok(Session {
-            alloc,
-            sheet: PlainSheet::new(alloc),
+            sheet: Sheet::new(alloc),
+            tally: Tally::new(),
             pointer: HOME,
             corner: HOME,
             mode: Mode::Ready,
@@ -58,98 +73,179 @@ impl Session {
 
     /// Whether memory ran out in a step. A spent session makes no step.
     pub fn is_spent(&self) -> bool
-        ensures { result ≡ self.now.spent }
+        ensures { result ≡ self.now.state.spent }
     {
         self.spent
     }
 
     /// Whether the next step takes a key.
     pub fn wants_key(&self) -> bool
-        ensures { result ≡ wants_key self.now }
+        ensures { result ≡ wants_key self.now.state }
     {
         let _ = self.spent;
         true
     }
 
-    /// How many formulas were evaluated. There are none yet.
+    /// How many formulas were evaluated; the count stays at the last u64. Only dirty formulas are: those that were
+    /// written since the last recalculation or reach a written cell, and those that are volatile or in a circle, or
+    /// reach one that is.
     pub fn evaluations(&self) -> u64
-        ensures { result ≡ evaluations self.now }
+        ensures { result ≡ self.now.work.count }
     {
-        let _ = self.spent;
-        0
+        self.tally.count()
     }
 
     /// One step: a key exactly where the session wants one. `Quit` never comes yet. After `Memory` the
-    /// session is spent. A step that only moves the pointer takes no memory and changes no cell.
+    /// session is spent. A step that only moves the pointer takes no memory and leaves the sheet.
     pub fn step<S: Shelf>(&mut self, event: Event, now: &Moment, _shelf: &mut S) -> Stepped
-        requires fresh { self.old.spent ≡ false }
-        requires key { is_key event ≡ wants_key self.old }
-        ensures more { result ≡ Stepped.More → self.new ≡ step self.old event now.now }
+        requires fresh { self.old.state.spent ≡ false }
+        requires key { is_key event ≡ wants_key self.old.state }
+        ensures more { result ≡ Stepped.More → Steps event now.now self.old self.new }
         ensures quit { result ≡ Stepped.Quit → ⊥ }
-        ensures memory { result ≡ Stepped.Memory → self.new.spent ≡ true }
-        ensures moves { OnlyMoves self.old.mode event → result ≡ Stepped.More }
-        ensures cells { OnlyMoves self.old.mode event → self.new.cells ≡ self.old.cells }
+        ensures memory { result ≡ Stepped.Memory → self.new.state.spent ≡ true }
+        ensures moves { OnlyMoves self.old.state.mode event → result ≡ Stepped.More }
+        ensures sheet { OnlyMoves self.old.state.mode event → self.new.state.sheet ≡ self.old.state.sheet }
         ensures shelf { S.faults _shelf.new ≡ S.faults _shelf.old }
     {
         let Event::Key(key) = event else {
             unreachable!();
         };
-        if self.act(key).is_err() {
-            self.spent = true;
-            return Stepped::Memory;
+        match self.act(key, now) {
+            Ok(()) => {
+                self.follow();
+                Stepped::More
+            }
+            Err(Memory) => {
+                self.spent = true;
+                Stepped::Memory
+            }
         }
+    }
+
+    // The screen follows the pointer.
+    fn follow(&mut self)
+        ensures { self.new ≡ framed self.old }
+    {
         self.corner = corner_for(self.pointer, self.corner);
-        Stepped::More
     }
 
     // What a key does before the screen follows it.
-    fn act(&mut self, key: Key) -> Result<(), Memory>
-        ensures ok { OnOk result (self.new ≡ acted key self.old) }
-        ensures moves { OnlyMoves self.old.mode (Event.Key key) → IsOk result }
+    fn act(&mut self, key: Key, now: &Moment) -> Result<(), Memory>
+        ensures ok { OnOk result (HasActed key now.now self.old self.new) }
+        ensures moves { OnlyMoves self.old.state.mode (Event.Key key) → IsOk result }
+        ensures sheet { OnlyMoves self.old.state.mode (Event.Key key) → self.new.state.sheet ≡ self.old.state.sheet }
     {
         match key {
             Key::Byte(byte) => {
                 type_byte(&mut self.mode, byte);
                 Ok(())
             }
-            Key::Enter => self.finish_with(key),
-            Key::Up => self.finish_with(key),
-            Key::Down => self.finish_with(key),
-            Key::Left => self.finish_with(key),
-            Key::Right => self.finish_with(key),
+            Key::Calc => self.calculate_if_ready(now),
+            Key::Enter => self.finish_with(key, now),
+            Key::Up => self.finish_with(key, now),
+            Key::Down => self.finish_with(key, now),
+            Key::Left => self.finish_with(key, now),
+            Key::Right => self.finish_with(key, now),
         }
     }
 
-    // Finishes the line that is typed, and then moves the pointer.
-    fn finish_with(&mut self, key: Key) -> Result<(), Memory>
-        ensures ok { OnOk result (self.new ≡ finished_with key self.old) }
-        ensures ready { self.old.mode ≡ Mode.Ready → IsOk result }
+    // What formulas look at beside the sheet.
+    fn scene(&self, now: &Moment) -> Scene
+        ensures { result ≡ scene_at self.now.state now.now }
     {
-        self.finish()?;
-        self.pointer = moved(key, self.pointer);
+        Scene {
+            cursor: self.pointer,
+            now: *now,
+        }
+    }
+
+    // The key CALC, which is passed over while a line is typed.
+    fn calculate_if_ready(&mut self, now: &Moment) -> Result<(), Memory>
+        ensures { OnOk result (HasActed Key.Calc now.now self.old self.new) }
+    {
+        match &self.mode {
+            Mode::Ready => self.calculate(now),
+            Mode::Label(_) => Ok(()),
+            Mode::Value(_) => Ok(()),
+        }
+    }
+
+    fn calculate(&mut self, now: &Moment) -> Result<(), Memory>
+        ensures state { OnOk result (self.new.state ≡ record self.old.state { sheet = recalculated (scene_at self.old.state now.now) self.old.state.sheet }) }
+        ensures work { OnOk result (HasRecalculated (scene_at self.old.state now.now) self.old.state.sheet self.old.work self.new.work) }
+    {
+        let scene = self.scene(now);
+        self.sheet.calc(&scene, &mut self.tally)?;
+        self.sheet.dirty_count();
         Ok(())
     }
 
-    // Puts the label that is typed into the pointer's cell.
-    fn finish(&mut self) -> Result<(), Memory>
-        ensures ok { OnOk result (self.new ≡ finished_in self.old.mode self.old) }
-        ensures ready { self.old.mode ≡ Mode.Ready → IsOk result }
+    // Writes a content into the pointer's cell.
+    fn write(&mut self, content: Content, now: &Moment) -> Result<(), Memory>
+        requires { HasPrefix content }
+        ensures state { OnOk result (self.new.state ≡ record self.old.state { sheet = put (scene_at self.old.state now.now) self.old.state.pointer content self.old.state.sheet }) }
+        ensures work { OnOk result (HasPut self.old.state.pointer content self.old.state.sheet self.old.work self.new.work) }
     {
-        match &self.mode {
-            Mode::Ready => Ok(()),
-            Mode::Label(line) => {
-                let label = line.to_text(self.alloc)?;
-                self.sheet.put(self.pointer, label)?;
-                self.mode = Mode::Ready;
-                Ok(())
-            }
+        let scene = self.scene(now);
+        match self
+            .sheet
+            .enter_line(self.pointer, content, &scene, &mut self.tally)
+        {
+            Ok(()) => {}
+            Err(SheetFault::Memory) => return Err(Memory),
+            Err(_) => unreachable!(),
         }
+        self.sheet.dirty_count();
+        Ok(())
+    }
+
+    // Enters a content into the pointer's cell. In Automatic mode a recalculation follows.
+    fn enter(&mut self, content: Content, now: &Moment) -> Result<(), Memory>
+        requires { HasPrefix content }
+        ensures state { OnOk result (self.new.state ≡ record self.old.state { sheet = with_entry (scene_at self.old.state now.now) self.old.state.pointer content self.old.state.sheet }) }
+        ensures work { OnOk result (HasEntered (scene_at self.old.state now.now) self.old.state.pointer content self.old.state.sheet self.old.work self.new.work) }
+    {
+        self.write(content, now)?;
+        if self.sheet.settings().automatic {
+            self.calculate(now)?;
+        }
+        Ok(())
+    }
+
+    // Finishes the line that is typed, which means this entry.
+    fn finish(&mut self, entry: Option<Content>, now: &Moment) -> Result<(), Memory>
+        requires { ForSome entry HasPrefix }
+        ensures state { OnOk result (self.new.state ≡ finished (scene_at self.old.state now.now) entry self.old.state) }
+        ensures work { OnOk result (HasFinished (scene_at self.old.state now.now) entry self.old.state self.old.work self.new.work) }
+        ensures none { entry ≡ None → IsOk result }
+    {
+        if let Some(content) = entry {
+            self.enter(content, now)?;
+        }
+        self.mode = Mode::Ready;
+        Ok(())
+    }
+
+    // Finishes the line that is typed, and then moves the pointer.
+    fn finish_with(&mut self, key: Key, now: &Moment) -> Result<(), Memory>
+        requires { act_of key ≡ finishes }
+        ensures ok { OnOk result (HasActed key now.now self.old self.new) }
+        ensures moves { self.old.state.mode ≡ Mode.Ready → IsOk result }
+        ensures sheet { self.old.state.mode ≡ Mode.Ready → self.new.state.sheet ≡ self.old.state.sheet }
+    {
+        let entry = entry_of(&self.mode, &self.sheet, self.pointer)?;
+        let moves = moves(&self.mode, &entry);
+        self.finish(entry, now)?;
+        if moves {
+            self.pointer = moved(key, self.pointer);
+        }
+        Ok(())
     }
 
     // A line of the screen.
     fn line_at(&self, row: u8) -> [u8; 80]
         requires { row ≤ 24 }
-        ensures { result ≡ shown_line self.now row }
+        ensures { result ≡ shown_line self.now.state row }
     {
         let Cell {
             row: first_row,
@@ -158,17 +254,18 @@ impl Session {
         match row {
             0 => pointer_line_of(&self.sheet, self.pointer, &self.mode),
             1 => typed_text(&self.mode),
-            2 | 24.. => blank(),
+            2 => blank(),
             3 => column_letters(col),
             4..=23 => row_of_cells(&self.sheet, first_row + u16::from(row - 4), col),
+            24.. => foot_line(&self.sheet),
         }
     }
 
     /// The screen. None of its bytes is below 32.
     pub fn grid(&self) -> Grid
-        ensures screen { result ≡ screen self.now }
-        ensures shape { IsGrid (screen self.now) }
-        ensures printed { IsPrinted (screen self.now) }
+        ensures screen { result ≡ screen self.now.state }
+        ensures shape { IsGrid (screen self.now.state) }
+        ensures printed { IsPrinted (screen self.now.state) }
     {
         let mut grid = Grid::empty();
         for row in 0..25u8 {
@@ -178,3 +275,8 @@ impl Session {
         grid
     }
 }
+
+/// The machine has one next state for a key and a moment, and one count of evaluations.
+pub fn the_machine_has_one_way()
+    ensures { (key : Key) (now : Moment) (a b c d : Running) → IsSame a b → IsStep key now a c → IsStep key now b d → IsSame c d }
+{}

@@ -55,7 +55,7 @@ module _ (o : Options) (before now : Outside) (bytes : List ℕ) (keys : List Ke
   only_end Stopped leaves h =
       let t = took bytes h.taken before.bytes now.bytes told h.did.bytes in
       let more = prefix_keys h.taken t.0 (keys_of steps ++ h.last ∷ []) keys h.spelled (subst (λ (b : List ℕ). Spells b keys) t.1 spelled) in
-      absurd (omega (arith, ap length more.1, length-append (keys_of steps ++ h.last ∷ []) more.0, length-append (keys_of steps) (h.last ∷ []), length-map steps (λ (x : Step). x.0), h.all))
+      absurd (omega (arith, ap length more.1, length-append (keys_of steps ++ h.last ∷ []) more.0, length-append (keys_of steps) (h.last ∷ []), length-map steps (λ (x : Step). x.key), h.all))
   only_end NoMemory leaves h = absurd leaves
 
 ended_well : (words : List (List ℕ)) (o : Options) (before now : World) (found : ℕ) (text : List ℕ) (must : MustEndWell words before now) → must.options ≡ o → HasFinished o before.outside now.outside found text →

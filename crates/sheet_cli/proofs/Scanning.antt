@@ -3,12 +3,12 @@ use Rattle.std.proofs.Common.{◌≡◌, ◌≢◌, ℕ, ◌+◌, ◌<◌, ◌�
 use Rattle.std.specs.Prelude.{◌==◌, ◌||◌}
 use Rattle.std.proofs.lemmas.List.{append-nil, map-append, drop_more, length-drop, length-map, drop-map, take-append-drop, take_more, take_all}
 use lib.Dec.{ltb}
-use Rattle.std.proofs.lemmas.Bool.{cases_Bool, eqb-true, eq-eqb, lt-ltb, le-ltb, ltb-true, ltb-false, or_cases, cases_lt}
+use Rattle.std.proofs.lemmas.Bool.{cases_Bool, eqb-true, eq-eqb, lt-ltb, le-ltb, ltb-true, ltb-false, or_cases}
 use Rattle.std.proofs.lemmas.Bool.Decides.{nat_tests}
-use Rattle.lics_text.specs.Bytes.{folded, is_letter}
+use Rattle.lics_text.specs.Bytes.{folded}
 use Rattle.session_core.specs.declared.key.Key.{Key}
-use Rattle.session_core.specs.declared.key.Key.TheVariants.{Byte, Enter, Up, Down, Left, Right}
-use Rattle.sheet_cli.specs.Notation.{IsLetter, IsName, SpellsKey, Spells, Begins, IsNoText, BeginsWord, HasKeys, letter, tilde, braced, nothing, one_word, line_end, up, down, left, right}
+use Rattle.session_core.specs.declared.key.Key.TheVariants.{Byte, Enter, Up, Down, Left, Right, Calc}
+use Rattle.sheet_cli.specs.Notation.{is_typed, IsName, SpellsKey, Spells, Begins, IsNoText, BeginsWord, HasKeys, byte, tilde, braced, nothing, one_word, line_end, up, down, left, right, calc}
 use Rattle.sheet_cli.specs.Reader.{after_byte, name_of, begun_by, opened_by}
 use Rattle.sheet_cli.specs.declared.reader.KeyReader.{KeyReader}
 use Rattle.sheet_cli.specs.declared.reader.KeyReader.TheVariants.{AtRest, Opened, Named}
@@ -66,21 +66,14 @@ named name key up = (refl, refl, omega arith)
 named name key down = (refl, refl, omega arith)
 named name key left = (refl, refl, omega arith)
 named name key right = (refl, refl, omega arith)
+named name key calc = (refl, refl, omega arith)
 
-letter_fed : (b : ℕ) → IsLetter b → after_byte AtRest b ≡ Some (AtRest, Some (Byte b))
-letter_fed b (inl capital) =
-    let tilde_not : (b == 126) ≡ false = grind (arith, nat_tests) in
-    let brace_not : (b == 123) ≡ false = grind (arith, nat_tests) in
-    let return_not : (b == 13) ≡ false = grind (arith, nat_tests) in
-    let feed_not : (b == 10) ≡ false = grind (arith, nat_tests) in
-    let is : is_letter b ≡ true = grind (arith, nat_tests) in
-    rw (tilde_not, brace_not, return_not, feed_not, is) refl
-letter_fed b (inr small) =
-    let tilde_not : (b == 126) ≡ false = grind (arith, nat_tests) in
-    let brace_not : (b == 123) ≡ false = grind (arith, nat_tests) in
-    let return_not : (b == 13) ≡ false = grind (arith, nat_tests) in
-    let feed_not : (b == 10) ≡ false = grind (arith, nat_tests) in
-    let is : is_letter b ≡ true = grind (arith, nat_tests) in
+typed_fed : (b : ℕ) → is_typed b ≡ true → after_byte AtRest b ≡ Some (AtRest, Some (Byte b))
+typed_fed b is =
+    let tilde_not : (b == 126) ≡ false = grind (arith, nat_tests, is) in
+    let brace_not : (b == 123) ≡ false = grind (arith, nat_tests, is) in
+    let return_not : (b == 13) ≡ false = grind (arith, nat_tests, is) in
+    let feed_not : (b == 10) ≡ false = grind (arith, nat_tests, is) in
     rw (tilde_not, brace_not, return_not, feed_not, is) refl
 
 -- the rest of a name and the closing brace
@@ -109,7 +102,7 @@ braced_scanned (b ∷ bs) key is =
     rw begun (no_keys _ ∙ no_keys _ ∙ name_scanned key 1 bs later within)
 
 word_scanned : (word : List ℕ) (key : Key) → SpellsKey word key → scan AtRest word ≡ Some (key ∷ [], AtRest)
-word_scanned word key (letter {b} is) = rw (letter_fed b is) refl
+word_scanned word key (byte {b} is) = rw (typed_fed b is) refl
 word_scanned word key tilde = refl
 word_scanned word key (braced name is) = braced_scanned name key is
 
@@ -169,6 +162,7 @@ folded_name name key up = refl
 folded_name name key down = refl
 folded_name name key left = refl
 folded_name name key right = refl
+folded_name name key calc = refl
 
 brace_begins : (begun : List ℕ) → begun ≡ 123 ∷ [] → BeginsWord begun
 brace_begins begun is = record {
@@ -272,7 +266,10 @@ begun_named c key is = elim (cases_Bool (c == 85)) [
       | inl l ↦ (let same : key ≡ Left = (let e : Some Left ≡ Some key = rw (u, d, l) at is in cc) in rw same (left, ap (λ n. n ∷ []) (eqb-true c 76 l), omega arith))
       | inr l ↦ elim (cases_Bool (c == 82)) [
         | inl t ↦ (let same : key ≡ Right = (let e : Some Right ≡ Some key = rw (u, d, l, t) at is in cc) in rw same (right, ap (λ n. n ∷ []) (eqb-true c 82 t), omega arith))
-        | inr t ↦ (let e : None ≡ Some key = rw (u, d, l, t) at is in absurd cc)
+        | inr t ↦ elim (cases_Bool (c == 67)) [
+          | inl a ↦ (let same : key ≡ Calc = (let e : Some Calc ≡ Some key = rw (u, d, l, t, a) at is in cc) in rw same (calc, ap (λ n. n ∷ []) (eqb-true c 67 a), omega arith))
+          | inr a ↦ (let e : None ≡ Some key = rw (u, d, l, t, a) at is in absurd cc)
+        ]
       ]
     ]
   ]
@@ -283,12 +280,6 @@ fed_pair p q e = cc
 
 none_some : (p : KeyReader × Option Key) → None ≡ Some p → ⊥
 none_some p e = cc
-
-letter_is : (b : ℕ) → is_letter b ≡ true → IsLetter b
-letter_is b h = elim (cases_lt b 97) [
-  | inl low ↦ (let ends : (65 ≤ b) × (b ≤ 90) = (grind (arith, nat_tests), grind (arith, nat_tests)) in inl ends)
-  | inr high ↦ (let ends : (97 ≤ b) × (b ≤ 122) = (omega arith, grind (arith, nat_tests)) in inr ends)
-]
 
 module _ (bytes : List ℕ) (keys : List Key) (b : ℕ) (next : KeyReader) (ended : Option Key) where
   -- these bytes, keys and reader, by the answer for the last byte
@@ -314,9 +305,9 @@ module _ (bytes : List ℕ) (keys : List Key) (b : ℕ) (next : KeyReader) (ende
             | inl l ↦ (let fed : after_byte AtRest b ≡ Some (AtRest, None) = rw (t, o, l) refl in
                 let line : (b ≡ 13) ⊎ (b ≡ 10) = elim (or_cases (b == 13) (b == 10) l) [ inl e ↦ inl (eqb-true b 13 e) | inr e ↦ inr (eqb-true b 10 e) ] in
                 found (AtRest, None) (sym fed ∙ is) (gone_on AtRest (passing bytes keys AtRest b s fed s.holds line)))
-            | inr l ↦ elim (cases_Bool (is_letter b)) [
-              | inl c ↦ (let fed : after_byte AtRest b ≡ Some (AtRest, Some (Byte b)) = letter_fed b (letter_is b c) in
-                  found (AtRest, Some (Byte b)) (sym fed ∙ is) (ending bytes keys AtRest b s (Byte b) fed (rw alone (letter (letter_is b c)))))
+            | inr l ↦ elim (cases_Bool (is_typed b)) [
+              | inl c ↦ (let fed : after_byte AtRest b ≡ Some (AtRest, Some (Byte b)) = typed_fed b c in
+                  found (AtRest, Some (Byte b)) (sym fed ∙ is) (ending bytes keys AtRest b s (Byte b) fed (rw alone (byte c))))
               | inr c ↦ (let fed : after_byte AtRest b ≡ None = rw (t, o, l, c) refl in absurd (none_some (next, ended) (sym fed ∙ is)))
             ]
           ]
@@ -381,8 +372,8 @@ rest_ended b next key is = elim (cases_Bool (b == 126)) [
     | inl o ↦ (let fed : after_byte AtRest b ≡ Some (Opened, None) = rw (t, o) refl in no_key key (reader_of (Opened, None) next key (sym fed ∙ is)).1)
     | inr o ↦ elim (cases_Bool (b == 13 || b == 10)) [
       | inl l ↦ (let fed : after_byte AtRest b ≡ Some (AtRest, None) = rw (t, o, l) refl in (reader_of (AtRest, None) next key (sym fed ∙ is)).0)
-      | inr l ↦ elim (cases_Bool (is_letter b)) [
-        | inl c ↦ (let fed : after_byte AtRest b ≡ Some (AtRest, Some (Byte b)) = letter_fed b (letter_is b c) in (reader_of (AtRest, Some (Byte b)) next key (sym fed ∙ is)).0)
+      | inr l ↦ elim (cases_Bool (is_typed b)) [
+        | inl c ↦ (let fed : after_byte AtRest b ≡ Some (AtRest, Some (Byte b)) = typed_fed b c in (reader_of (AtRest, Some (Byte b)) next key (sym fed ∙ is)).0)
         | inr c ↦ (let fed : after_byte AtRest b ≡ None = rw (t, o, l, c) refl in absurd (none_some (next, Some key) (sym fed ∙ is)))
       ]
     ]

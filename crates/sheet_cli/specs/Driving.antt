@@ -3,8 +3,7 @@ use Rattle.std.specs.Prelude.{◌≡◌, ℕ, List, Option, ◌⊎◌}
 use Rattle.outside_world.specs.Clock.{TakesReading}
 use Rattle.serial_date.specs.declared.moment.Moment.{Moment}
 use Rattle.session_core.specs.declared.key.Key.{Key}
-use Rattle.session_core.specs.declared.key.Event.TheVariants.{Key as KeyEvent}
-use Rattle.session_core.specs.Machine.{State, start, step}
+use Rattle.session_core.specs.Machine.{start, IsStep, Running}
 use Rattle.session_core.specs.Screen.{screen}
 use Rattle.screen_show.specs.Display.{View}
 use Rattle.screen_show.specs.Grid.{IsPrinted}
@@ -19,13 +18,13 @@ use Rattle.sheet_cli.specs.declared.drive.Ending.{Ending}
 use Rattle.sheet_cli.specs.declared.drive.Ending.TheVariants.{KeysEnded, BadWord, KeysFailed, Stopped, NoMemory}
 
 -- a step was made and its screen sent
-pub record HasMadeStep (key : Key) (s t : State) (readings readings' : Option (List Moment)) (shown shown' : Screen) (displays displays' failed failed' : List View) : Type 0 where
+pub record HasMadeStep (key : Key) (s t : Running) (readings readings' : Option (List Moment)) (shown shown' : Screen) (displays displays' failed failed' : List View) : Type 0 where
   pub moment : Moment
   pub took : TakesReading readings readings' moment
-  pub stepped : t ≡ step s (KeyEvent key) moment
-  pub passed : Passed (HasSentOne shown (screen t)) displays displays' failed failed'
-  pub shows : shown' ≡ screen t
-  pub printed : IsPrinted (screen t)
+  pub stepped : IsStep key moment s t
+  pub passed : Passed (HasSentOne shown (screen t.state)) displays displays' failed failed'
+  pub shows : shown' ≡ screen t.state
+  pub printed : IsPrinted (screen t.state)
 
 -- memory ran out in a step, of which nothing is shown
 pub record HasNotMadeStep (readings readings' : Option (List Moment)) (displays displays' failed failed' : List View) : Type 0 where
@@ -34,7 +33,7 @@ pub record HasNotMadeStep (readings readings' : Option (List Moment)) (displays 
   pub displays_stay : displays' ≡ displays
   pub failed_stay : failed' ≡ failed
 
-abbrev pub HasStepped : Key → State → State → Option (List Moment) → Option (List Moment) → Screen → Screen → List View → List View → List View → List View → StepEnd → Type 0
+abbrev pub HasStepped : Key → Running → Running → Option (List Moment) → Option (List Moment) → Screen → Screen → List View → List View → List View → List View → StepEnd → Type 0
 HasStepped key s t readings readings' shown shown' displays displays' failed failed' Done = HasMadeStep key s t readings readings' shown shown' displays displays' failed failed'
 HasStepped key s t readings readings' shown shown' displays displays' failed failed' StepNoMemory = HasNotMadeStep readings readings' displays displays' failed failed'
 
@@ -52,7 +51,7 @@ HasEnded limit steps left out before now Stopped = RanToLimit limit steps left o
 HasEnded limit steps left out before now NoMemory = RanOutOfMemory limit steps left out before now
 
 -- the state after an ending that leaves one
-abbrev pub LeavesState : State → List Step → Ending → Type 0
+abbrev pub LeavesState : Running → List Step → Ending → Type 0
 LeavesState s steps KeysEnded = s ≡ after start steps
 LeavesState s steps (BadWord at) = s ≡ after start steps
 LeavesState s steps KeysFailed = s ≡ after start steps
@@ -60,7 +59,7 @@ LeavesState s steps Stopped = s ≡ after start steps
 LeavesState s steps NoMemory = Unit {0}
 
 -- the steps of a run were made up to an ending
-pub record HasDriven (limit : ℕ) (s : State) (before now : Outside) (ending : Ending) : Type 0 where
+pub record HasDriven (limit : ℕ) (s : Running) (before now : Outside) (ending : Ending) : Type 0 where
   pub steps : List Step
   pub left : List Watched
   pub out : List Watched

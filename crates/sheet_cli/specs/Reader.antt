@@ -1,8 +1,9 @@
 -- The reader of key notation, a byte at a time.
 use Rattle.std.specs.Prelude.{◌≡◌, ℕ, ◌+◌, ◌||◌, ◌==◌, nat_lt, if◌then◌else◌, List, [], ◌∷◌, length, slice_index, Option, Some, None, codes}
-use Rattle.lics_text.specs.Bytes.{folded, is_letter}
+use Rattle.lics_text.specs.Bytes.{folded}
 use Rattle.session_core.specs.declared.key.Key.{Key}
-use Rattle.session_core.specs.declared.key.Key.TheVariants.{Byte, Enter, Up, Down, Left, Right}
+use Rattle.session_core.specs.declared.key.Key.TheVariants.{Byte, Enter, Up, Down, Left, Right, Calc}
+use Rattle.sheet_cli.specs.Notation.{is_typed}
 use Rattle.sheet_cli.specs.Taking.{TakesBytes, AtEnd}
 use Rattle.sheet_cli.specs.declared.reader.KeyReader.{KeyReader}
 use Rattle.sheet_cli.specs.declared.reader.KeyReader.TheVariants.{AtRest, Opened, Named}
@@ -17,10 +18,11 @@ name_of Up = codes "UP"
 name_of Down = codes "DOWN"
 name_of Left = codes "LEFT"
 name_of Right = codes "RIGHT"
+name_of Calc = codes "CALC"
 
 -- the key whose name begins with this letter
 abbrev pub begun_by : ℕ → Option Key
-begun_by b = if b == 85 then Some Up else if b == 68 then Some Down else if b == 76 then Some Left else if b == 82 then Some Right else None
+begun_by b = if b == 85 then Some Up else if b == 68 then Some Down else if b == 76 then Some Left else if b == 82 then Some Right else if b == 67 then Some Calc else None
 
 abbrev pub opened_by : Option Key → Option (KeyReader × Option Key)
 opened_by None = None
@@ -32,7 +34,7 @@ after_byte AtRest b =
     if b == 126 then Some (AtRest, Some Enter)
     else if b == 123 then Some (Opened, None)
     else if b == 13 || b == 10 then Some (AtRest, None)
-    else if is_letter b then Some (AtRest, Some (Byte b))
+    else if is_typed b then Some (AtRest, Some (Byte b))
     else None
 after_byte Opened b = opened_by (begun_by (folded b))
 after_byte (Named key len) b =

@@ -1,6 +1,7 @@
 // A sheet, whose values are kept right by recalculation over its dirty formulas.
 ghost use Rattle.std.specs.Prelude.{◌≡◌, ◌+◌, ◌-◌, ◌*◌, ◌≤◌, ◌<◌, ◌⊎◌, [], length, IfErr, IfOk, OnErr, OnOk, Some, None, Err, option_copied, nat_le, replicate, take, true, false};
 ghost use Rattle.std.specs.FinMap as map;
+ghost use Rattle.std.specs.List.{IsDistinct};
 ghost use Rattle.std.specs.Option.{ForSome};
 ghost use Rattle.grid_address.specs.Place.{is_within, same_place, Place};
 ghost use Rattle.natural_order.specs.Walk.{has};
@@ -148,6 +149,14 @@ impl<E: Means> SheetOf<E> {
         ensures { result ≡ self.now.stale }
     {
         self.stale
+    }
+
+    /// How many formulas are dirty. Each stands among them once.
+    pub fn dirty_count(&self) -> usize
+        ensures count { result ≡ length self.now.dirty }
+        ensures once { IsDistinct same_place self.now.dirty }
+    {
+        self.dirty.len()
     }
 
     /// The names of spans.
