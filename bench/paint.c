@@ -2,6 +2,7 @@
 // It paints every screen from nothing and writes pages, changes, or the last screen alone.
 #include <stdio.h>
 #include <string.h>
+#include <time.h>
 
 static unsigned char cells[8192][256][241];
 static unsigned char lengths[8192][256];
@@ -50,6 +51,13 @@ static void paint(void) {
     }
 }
 
+static void tell_moment(void) {
+    char text[32];
+    time_t now = time(NULL);
+    size_t n = strftime(text, sizeof text, "%d-%b-%y %H:%M", gmtime(&now));
+    put(24, 0, (const unsigned char *)text, (int)n, 80);
+}
+
 static void page(void) {
     for (int r = 0; r < 25; r++) {
         fwrite(grid[r], 1, 80, stdout);
@@ -89,6 +97,7 @@ int main(int argc, char **argv) {
             if (typed < 240) line[typed++] = (unsigned char)byte;
         }
         paint();
+        tell_moment();
         steps++;
         if (mode[0] == 'p') page();
         if (mode[0] == 'a') changes();

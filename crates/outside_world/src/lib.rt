@@ -5,6 +5,7 @@
 
 mod clock;
 mod faults;
+mod host_clock;
 mod host_keys;
 mod host_notes;
 mod keys;
@@ -13,6 +14,7 @@ mod shelf;
 
 pub use clock::{Clock, ListClock};
 pub use faults::Failed;
+pub use host_clock::HostClock;
 pub use host_keys::HostKeys;
 pub use host_notes::HostNotes;
 pub use keys::{Keys, ListKeys};

@@ -1,3 +1,2 @@
-pub mod Blanks
 pub mod OneWay
-pub mod Widths
+pub mod Prefixed

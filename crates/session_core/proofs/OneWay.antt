@@ -21,8 +21,9 @@ use Rattle.sheet_store.specs.Grid.{Grid}
 use Rattle.sheet_store.specs.declared.order.Order.{Order}
 use Rattle.sheet_store.specs.declared.order.Order.TheVariants as orders
 use Rattle.session_core.specs.Entry.{IsEntry, IsFormula, IsValue}
-use Rattle.session_core.specs.Machine.{act_of, acted, framed, scene_at, Act, types, finishes, calculates, HasActed, HasCalculated, HasFinished, HasWorked, IsEntryFor, IsSame, IsStep, Running, State}
-use Rattle.session_core.specs.Sheets.{put, recalculated, Sheet}
+use Rattle.session_core.specs.Machine.{act_of, acted, framed, pointer_of, scene_at, Act, types, finishes, calculates, HasActed, HasCalculated, HasFinished, HasWorked, IsEntryFor, IsSame, IsStep, Running, State}
+use Rattle.screen_layout.specs.Sheets.{Sheet}
+use Rattle.session_core.specs.Sheets.{put, recalculated}
 use Rattle.session_core.specs.Work.{HasPut, HasRecalculated, HasRecalculatedIf, IsSameWork, Work}
 use Rattle.session_core.specs.declared.key.Key.{Key}
 use Rattle.session_core.specs.declared.mode.Mode.{Mode}
@@ -58,7 +59,7 @@ one_entry (Value line) s c e f p q = one_value (decimal_of line) s.names c line 
 -- a line means one thing
 one_meaning : (act : Act) (s : State) (e f : Option Content) → IsEntryFor act s e → IsEntryFor act s f → e ≡ f
 one_meaning (types b) s e f p q = p ∙ sym q
-one_meaning finishes s e f p q = one_entry s.mode s.sheet s.pointer e f p q
+one_meaning finishes s e f p q = one_entry s.mode s.sheet (pointer_of s) e f p q
 one_meaning calculates s e f p q = p ∙ sym q
 
 -- distinct lists of the same cells are as long
@@ -112,8 +113,8 @@ one_recalculation_if false scene s w v w' v' same p q = unchanged w v w' v' same
 one_finish : (scene : Scene) (entry : Option Content) (s : State) (w v w' v' : Work) → IsSameWork w v → HasFinished scene entry s w w' → HasFinished scene entry s v v' → IsSameWork w' v'
 one_finish scene None s w v w' v' same p q = unchanged w v w' v' same p q
 one_finish scene (Some x) s w v w' v' same p q =
-    one_recalculation_if s.sheet.settings.automatic scene (put scene s.pointer x s.sheet) p.between q.between w' v'
-    (one_put s.pointer x s.sheet w v p.between q.between same p.entry q.entry) p.recalculation q.recalculation
+    one_recalculation_if s.sheet.settings.automatic scene (put scene (pointer_of s) x s.sheet) p.between q.between w' v'
+    (one_put (pointer_of s) x s.sheet w v p.between q.between same p.entry q.entry) p.recalculation q.recalculation
 
 one_calculation : (mode : Mode) (scene : Scene) (s : State) (w v w' v' : Work) → IsSameWork w v → HasCalculated mode scene s w w' → HasCalculated mode scene s v v' → IsSameWork w' v'
 one_calculation Ready scene s w v w' v' same p q = one_recalculation scene s.sheet w v w' v' same p q
@@ -134,9 +135,9 @@ one_act key now s w v c d same p q =
           (subst (λ (e : Option Content). HasWorked (act_of key) (scene_at s now) e s v d.work) (sym meant) q.work);
     }
 
-same_framed : (a b c d : Running) → IsSame a b → c ≡ framed a → d ≡ framed b → IsSame c d
-same_framed a b c d same p q =
-    let states : (framed a).state ≡ (framed b).state = ap (λ (s : State). (framed (record { state = s; work = a.work })).state) same.state in
+same_framed : (now : Moment) (a b c d : Running) → IsSame a b → c ≡ framed now a → d ≡ framed now b → IsSame c d
+same_framed now a b c d same p q =
+    let states : (framed now a).state ≡ (framed now b).state = ap (λ (s : State). (framed now (record { state = s; work = a.work })).state) same.state in
     record {
       state = ap (λ (r : Running). r.state) p ∙ states ∙ sym (ap (λ (r : Running). r.state) q);
       work = subst (λ (w : Work). IsSameWork w d.work) (sym (ap (λ (r : Running). r.work) p)) (subst (λ (w : Work). IsSameWork a.work w) (sym (ap (λ (r : Running). r.work) q)) same.work);
@@ -146,4 +147,4 @@ pub one_step : (key : Key) (now : Moment) (a b c d : Running) → IsSame a b →
 one_step key now a b c d same p q =
     let other : HasActed key now (record { state = a.state; work = b.work }) q.before =
     subst (λ (s : State). HasActed key now (record { state = s; work = b.work }) q.before) (sym same.state) q.acted in
-    same_framed p.before q.before c d (one_act key now a.state a.work b.work p.before q.before same.work p.acted other) p.shown q.shown
+    same_framed now p.before q.before c d (one_act key now a.state a.work b.work p.before q.before same.work p.acted other) p.shown q.shown

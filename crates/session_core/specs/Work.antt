@@ -8,7 +8,8 @@ use Rattle.formula_tree.specs.declared.value.Content.{Content}
 use Rattle.grid_address.specs.Place.{coded_place, same_place, Place}
 use Rattle.natural_order.specs.Walk.{has}
 use Rattle.natural_recalc.specs.Passes.{raised_by, IsDirtyAfter}
-use Rattle.session_core.specs.Sheets.{put, recalculated, Sheet}
+use Rattle.screen_layout.specs.Sheets.{Sheet}
+use Rattle.session_core.specs.Sheets.{put, recalculated}
 use Rattle.work_sheet.specs.Edits.{evaluations, is_evaluated, just, written, AreDirtied}
 
 -- the dirty formulas, each once, and how many evaluations there were

@@ -1,10 +1,12 @@
 // What a finished line means.
-ghost use Rattle.std.specs.Prelude.{◌≡◌, IfOk, IsOk};
+ghost use Rattle.std.specs.Prelude.{◌≡◌, IfOk, IsOk, true};
 ghost use Rattle.std.specs.Option.{ForSome};
 ghost use Rattle.fixed_value.specs.Decimals.{decimal_of};
-ghost use Rattle.session_core.specs.Entry.{IsEntry, IsFormula, IsValue};
+ghost use Rattle.session_core.specs.Entry.{label_content, IsEntry, IsFormula, IsValue};
 ghost use Rattle.session_core.specs.Machine.{moves};
-ghost use Rattle.session_core.specs.Sheets.{of_worksheet};
+ghost use Rattle.lics_text.specs.Bytes.{IsText};
+ghost use Rattle.screen_layout.specs.Sheets.{of_worksheet};
+ghost use Rattle.sheet_store.specs.Grid.{is_prefix};
 ghost use Rattle.work_sheet.specs.Edits.{HasPrefix};
 
 use crate::Mode;
@@ -12,8 +14,9 @@ use fixed_value::{Decimal, read_decimal};
 use formula_text::{ParseFault, read};
 use formula_tree::Content;
 use grid_address::Cell;
-use lics_text::{Memory, TextLine};
+use lics_text::{Memory, Text, TextLine};
 use range_names::Names;
+use sheet_store::is_prefix;
 use std::alloc::Global;
 use work_sheet::Sheet;
 
@@ -49,17 +52,38 @@ fn value_of(
     }
 }
 
+// A label in the memory of the sheet.
+fn label(prefix: u8, bytes: &[u8], alloc: Global) -> Result<Content, Memory>
+    requires text { IsText bytes.now }
+    requires prefix { is_prefix prefix ≡ true }
+    ensures label { IfOk result (λ x. x ≡ Content.Label prefix bytes.now) }
+    ensures prefix { IfOk result HasPrefix }
+{
+    let text = Text::copy_of(alloc, bytes)?;
+    Ok(Content::Label(prefix, text))
+}
+
+// A label begins with its prefix, or takes the sheet's.
+#[tactic(auto, using(crate::proofs::Prefixed::global_is_prefix, crate::proofs::Prefixed::behind_prefix))]
 fn label_of(line: &TextLine, sheet: &Sheet) -> Result<Content, Memory>
-    ensures label { IfOk result (λ x. x ≡ Content.Label sheet.now.settings.prefix line.now) }
+    ensures label { IfOk result (λ x. x ≡ label_content sheet.now.settings.prefix line.now) }
     ensures prefix { IfOk result HasPrefix }
 {
     let settings = sheet.settings();
     settings.are_within();
-    let text = line.to_text(sheet.alloc())?;
-    Ok(Content::Label(settings.prefix, text))
+    let bytes = line.bytes();
+    if bytes.is_empty() {
+        return label(settings.prefix, bytes, sheet.alloc());
+    }
+    if is_prefix(bytes[0]) {
+        label(bytes[0], &bytes[1..], sheet.alloc())
+    } else {
+        label(settings.prefix, bytes, sheet.alloc())
+    }
 }
 
-/// What the line that is typed means in a cell: a label, which takes the sheet's prefix, a number or a formula. None
+/// What the line that is typed means in a cell: a label, which begins with its prefix or takes the sheet's, a number
+/// or a formula. None
 /// where nothing is typed, and where a value spells nothing.
 pub(crate) fn entry_of(mode: &Mode, sheet: &Sheet, cell: Cell) -> Result<Option<Content>, Memory>
     ensures entry { IfOk result (IsEntry mode.now (of_worksheet sheet.now) cell) }

@@ -4,10 +4,9 @@
 mod entry;
 mod key;
 mod mode;
-mod paint;
-mod painted_line;
 mod pointer;
 mod session;
+mod told;
 
 pub use key::{Event, Key, Stepped};
 pub use mode::Mode;

@@ -1,26 +1,27 @@
-ghost use Rattle.std.specs.Prelude.{◌≡◌, ◌≤◌, IfOk, IsOk, OnOk, None, false, true};
+ghost use Rattle.std.specs.Prelude.{◌≡◌, IfOk, IsOk, OnOk, None, false, true};
 ghost use Rattle.std.specs.Option.{ForSome};
 ghost use Rattle.screen_show.specs.Grid.{IsGrid, IsPrinted};
 ghost use Rattle.serial_date.specs.declared.moment.Moment.{Moment};
-ghost use Rattle.session_core.specs.Machine.{act_of, finished, finishes, framed, is_key, scene_at, start, wants_key, HasActed, HasFinished, IsSame, IsStep, OnlyMoves, Running, Steps};
+ghost use Rattle.session_core.specs.Machine.{act_of, finished, finishes, framed, is_key, pointer_of, pointing_at, scene_at, start, wants_key, HasActed, HasFinished, IsMoved, IsSame, IsStep, OnlyMoves, Running, Steps};
 ghost use Rattle.session_core.specs.declared.key.Key.{Key};
-ghost use Rattle.session_core.specs.Screen.{screen, shown_line};
+ghost use Rattle.session_core.specs.Screen.{screen};
 ghost use Rattle.session_core.specs.Sheets.{put, recalculated, with_entry};
 ghost use Rattle.session_core.specs.Work.{HasEntered, HasPut, HasRecalculated};
 ghost use Rattle.work_sheet.specs.Edits.{HasPrefix};
 
 use crate::entry::{entry_of, moves};
 use crate::mode::type_byte;
-use crate::paint::{blank, column_letters, foot_line, pointer_line_of, row_of_cells, typed_text};
-use crate::pointer::{corner_for, moved};
+use crate::pointer::moved;
+use crate::told::panel_of;
 use crate::{Event, Key, Mode, Stepped};
 use formula_eval::{Scene, Tally};
 use formula_tree::Content;
 use grid_address::Cell;
 use outside_world::{Memory, Shelf};
+use screen_layout::{corner_for, paint};
 use screen_show::Grid;
 use serial_date::Moment;
-use sheet_store::SheetFault;
+use sheet_store::{Settings, SheetFault};
 use std::alloc::Global;
 use std::marker::Model;
 use work_sheet::Sheet;
@@ -32,28 +33,27 @@ const HOME: Cell = Cell { row: 0, col: 0 };
 pub struct Session {
     sheet: Sheet,
     tally: Tally,
-    pointer: Cell,
     corner: Cell,
     mode: Mode,
+    moment: Moment,
     spent: bool,
 }
 
 impl Model for Session {
-    ghost use Rattle.std.specs.Prelude.{◌≡◌, ◌≤◌};
+    ghost use Rattle.std.specs.Prelude.{◌≡◌, false};
+    ghost use Rattle.screen_layout.specs.Sheets.{of_worksheet};
     ghost use Rattle.session_core.specs.Machine.{coded_running, Running};
-    ghost use Rattle.session_core.specs.Sheets.{of_worksheet};
-    ghost use Rattle.sheet_store.specs.Choices.{fresh};
 
     ghost Value = { Running };
 
     ghost coded = { coded_running };
 
     ghost view = { λ a. record {
-      state = record { sheet = of_worksheet a.sheet; pointer = a.pointer; corner = a.corner; mode = a.mode; spent = a.spent };
+      state = record { sheet = of_worksheet a.sheet; corner = a.corner; mode = a.mode; day = a.moment.day; second = a.moment.second; spent = a.spent };
       work = record { dirty = a.sheet.dirty; count = a.tally.count };
     } };
 
-    ghost invariant = { λ a. (a.corner.row ≤ 8172) × (a.corner.col ≤ 248) × (a.sheet.settings ≡ fresh) };
+    ghost invariant = { λ a. a.sheet.settings.protection ≡ false };
 }
 
 impl Session {
@@ -64,9 +64,9 @@ impl Session {
         Ok(Session {
             sheet: Sheet::new(alloc),
             tally: Tally::new(),
-            pointer: HOME,
             corner: HOME,
             mode: Mode::Ready,
+            moment: Moment::unknown(),
             spent: false,
         })
     }
@@ -96,7 +96,8 @@ impl Session {
     }
 
     /// One step: a key exactly where the session wants one. `Quit` never comes yet. After `Memory` the
-    /// session is spent. A step that only moves the pointer takes no memory and leaves the sheet.
+    /// session is spent. A step that only moves the pointer takes no memory and leaves
+    /// all of the sheet but the pointer.
     pub fn step<S: Shelf>(&mut self, event: Event, now: &Moment, _shelf: &mut S) -> Stepped
         requires fresh { self.old.state.spent ≡ false }
         requires key { is_key event ≡ wants_key self.old.state }
@@ -104,7 +105,7 @@ impl Session {
         ensures quit { result ≡ Stepped.Quit → ⊥ }
         ensures memory { result ≡ Stepped.Memory → self.new.state.spent ≡ true }
         ensures moves { OnlyMoves self.old.state.mode event → result ≡ Stepped.More }
-        ensures sheet { OnlyMoves self.old.state.mode event → self.new.state.sheet ≡ self.old.state.sheet }
+        ensures sheet { OnlyMoves self.old.state.mode event → IsMoved self.old.state.sheet self.new.state.sheet }
         ensures shelf { S.faults _shelf.new ≡ S.faults _shelf.old }
     {
         let Event::Key(key) = event else {
@@ -112,7 +113,7 @@ impl Session {
         };
         match self.act(key, now) {
             Ok(()) => {
-                self.follow();
+                self.follow(now);
                 Stepped::More
             }
             Err(Memory) => {
@@ -123,17 +124,36 @@ impl Session {
     }
 
     // The screen follows the pointer.
-    fn follow(&mut self)
-        ensures { self.new ≡ framed self.old }
+    fn follow(&mut self, now: &Moment)
+        ensures { self.new ≡ framed now.now self.old }
     {
-        self.corner = corner_for(self.pointer, self.corner);
+        self.corner = corner_for(&self.sheet, self.corner);
+        self.moment = *now;
+    }
+
+    fn pointer(&self) -> Cell
+        ensures { result ≡ pointer_of self.now.state }
+    {
+        self.sheet.settings().pointer
+    }
+
+    // Puts the pointer into a cell.
+    fn point_at(&mut self, pointer: Cell)
+        ensures state { self.new.state ≡ pointing_at pointer self.old.state }
+        ensures work { self.new.work ≡ self.old.work }
+    {
+        let settings = *self.sheet.settings();
+        self.sheet.set_settings(Settings {
+            pointer,
+            ..settings
+        });
     }
 
     // What a key does before the screen follows it.
     fn act(&mut self, key: Key, now: &Moment) -> Result<(), Memory>
         ensures ok { OnOk result (HasActed key now.now self.old self.new) }
         ensures moves { OnlyMoves self.old.state.mode (Event.Key key) → IsOk result }
-        ensures sheet { OnlyMoves self.old.state.mode (Event.Key key) → self.new.state.sheet ≡ self.old.state.sheet }
+        ensures sheet { OnlyMoves self.old.state.mode (Event.Key key) → IsMoved self.old.state.sheet self.new.state.sheet }
     {
         match key {
             Key::Byte(byte) => {
@@ -154,7 +174,7 @@ impl Session {
         ensures { result ≡ scene_at self.now.state now.now }
     {
         Scene {
-            cursor: self.pointer,
+            cursor: self.pointer(),
             now: *now,
         }
     }
@@ -183,13 +203,13 @@ impl Session {
     // Writes a content into the pointer's cell.
     fn write(&mut self, content: Content, now: &Moment) -> Result<(), Memory>
         requires { HasPrefix content }
-        ensures state { OnOk result (self.new.state ≡ record self.old.state { sheet = put (scene_at self.old.state now.now) self.old.state.pointer content self.old.state.sheet }) }
-        ensures work { OnOk result (HasPut self.old.state.pointer content self.old.state.sheet self.old.work self.new.work) }
+        ensures state { OnOk result (self.new.state ≡ record self.old.state { sheet = put (scene_at self.old.state now.now) (pointer_of self.old.state) content self.old.state.sheet }) }
+        ensures work { OnOk result (HasPut (pointer_of self.old.state) content self.old.state.sheet self.old.work self.new.work) }
     {
         let scene = self.scene(now);
         match self
             .sheet
-            .enter_line(self.pointer, content, &scene, &mut self.tally)
+            .enter_line(scene.cursor, content, &scene, &mut self.tally)
         {
             Ok(()) => {}
             Err(SheetFault::Memory) => return Err(Memory),
@@ -202,8 +222,8 @@ impl Session {
     // Enters a content into the pointer's cell. In Automatic mode a recalculation follows.
     fn enter(&mut self, content: Content, now: &Moment) -> Result<(), Memory>
         requires { HasPrefix content }
-        ensures state { OnOk result (self.new.state ≡ record self.old.state { sheet = with_entry (scene_at self.old.state now.now) self.old.state.pointer content self.old.state.sheet }) }
-        ensures work { OnOk result (HasEntered (scene_at self.old.state now.now) self.old.state.pointer content self.old.state.sheet self.old.work self.new.work) }
+        ensures state { OnOk result (self.new.state ≡ record self.old.state { sheet = with_entry (scene_at self.old.state now.now) (pointer_of self.old.state) content self.old.state.sheet }) }
+        ensures work { OnOk result (HasEntered (scene_at self.old.state now.now) (pointer_of self.old.state) content self.old.state.sheet self.old.work self.new.work) }
     {
         self.write(content, now)?;
         if self.sheet.settings().automatic {
@@ -231,34 +251,16 @@ impl Session {
         requires { act_of key ≡ finishes }
         ensures ok { OnOk result (HasActed key now.now self.old self.new) }
         ensures moves { self.old.state.mode ≡ Mode.Ready → IsOk result }
-        ensures sheet { self.old.state.mode ≡ Mode.Ready → self.new.state.sheet ≡ self.old.state.sheet }
+        ensures sheet { self.old.state.mode ≡ Mode.Ready → IsMoved self.old.state.sheet self.new.state.sheet }
     {
-        let entry = entry_of(&self.mode, &self.sheet, self.pointer)?;
+        let pointer = self.pointer();
+        let entry = entry_of(&self.mode, &self.sheet, pointer)?;
         let moves = moves(&self.mode, &entry);
         self.finish(entry, now)?;
         if moves {
-            self.pointer = moved(key, self.pointer);
+            self.point_at(moved(key, pointer));
         }
         Ok(())
-    }
-
-    // A line of the screen.
-    fn line_at(&self, row: u8) -> [u8; 80]
-        requires { row ≤ 24 }
-        ensures { result ≡ shown_line self.now.state row }
-    {
-        let Cell {
-            row: first_row,
-            col,
-        } = self.corner;
-        match row {
-            0 => pointer_line_of(&self.sheet, self.pointer, &self.mode),
-            1 => typed_text(&self.mode),
-            2 => blank(),
-            3 => column_letters(col),
-            4..=23 => row_of_cells(&self.sheet, first_row + u16::from(row - 4), col),
-            24.. => foot_line(&self.sheet),
-        }
     }
 
     /// The screen. None of its bytes is below 32.
@@ -267,12 +269,12 @@ impl Session {
         ensures shape { IsGrid (screen self.now.state) }
         ensures printed { IsPrinted (screen self.now.state) }
     {
-        let mut grid = Grid::empty();
-        for row in 0..25u8 {
-            grid.set_line(row, self.line_at(row));
-        }
-        grid.is_whole();
-        grid
+        paint(
+            &self.sheet,
+            &panel_of(&self.mode),
+            self.corner,
+            &self.moment,
+        )
     }
 }
 

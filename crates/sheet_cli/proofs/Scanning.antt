@@ -1,6 +1,6 @@
 -- The reader over whole texts of key notation.
 use Rattle.std.proofs.Common.{◌≡◌, ◌≢◌, ℕ, ◌+◌, ◌<◌, ◌≤◌, true, false, List, [], ◌∷◌, ◌++◌, length, take, drop, map, get_or, Option, Some, None, refl, ap, sym, ◌∙◌, subst, arith, append_assoc, inl, inr, ◌⊎◌, length-append}
-use Rattle.std.specs.Prelude.{◌==◌, ◌||◌}
+use Rattle.std.specs.Prelude.{not, nat_le, ◌&&◌, ◌==◌, ◌||◌}
 use Rattle.std.proofs.lemmas.List.{append-nil, map-append, drop_more, length-drop, length-map, drop-map, take-append-drop, take_more, take_all}
 use lib.Dec.{ltb}
 use Rattle.std.proofs.lemmas.Bool.{cases_Bool, eqb-true, eq-eqb, lt-ltb, le-ltb, ltb-true, ltb-false, or_cases}
@@ -74,7 +74,8 @@ typed_fed b is =
     let brace_not : (b == 123) ≡ false = grind (arith, nat_tests, is) in
     let return_not : (b == 13) ≡ false = grind (arith, nat_tests, is) in
     let feed_not : (b == 10) ≡ false = grind (arith, nat_tests, is) in
-    rw (tilde_not, brace_not, return_not, feed_not, is) refl
+    let left : (nat_le 32 b && not (b == 125)) ≡ true = rw (tilde_not, brace_not) at is in
+    rw (tilde_not, brace_not, return_not, feed_not, left) refl
 
 -- the rest of a name and the closing brace
 name_scanned : (key : Key) (len : ℕ) (bs : List ℕ) → map folded bs ≡ drop len (name_of key) → len ≤ length (name_of key) →
@@ -308,7 +309,7 @@ module _ (bytes : List ℕ) (keys : List Key) (b : ℕ) (next : KeyReader) (ende
             | inr l ↦ elim (cases_Bool (is_typed b)) [
               | inl c ↦ (let fed : after_byte AtRest b ≡ Some (AtRest, Some (Byte b)) = typed_fed b c in
                   found (AtRest, Some (Byte b)) (sym fed ∙ is) (ending bytes keys AtRest b s (Byte b) fed (rw alone (byte c))))
-              | inr c ↦ (let fed : after_byte AtRest b ≡ None = rw (t, o, l, c) refl in absurd (none_some (next, ended) (sym fed ∙ is)))
+              | inr c ↦ (let left : (nat_le 32 b && not (b == 125)) ≡ false = rw (t, o) at c in let fed : after_byte AtRest b ≡ None = rw (t, o, l, left) refl in absurd (none_some (next, ended) (sym fed ∙ is)))
             ]
           ]
         ]
@@ -374,7 +375,7 @@ rest_ended b next key is = elim (cases_Bool (b == 126)) [
       | inl l ↦ (let fed : after_byte AtRest b ≡ Some (AtRest, None) = rw (t, o, l) refl in (reader_of (AtRest, None) next key (sym fed ∙ is)).0)
       | inr l ↦ elim (cases_Bool (is_typed b)) [
         | inl c ↦ (let fed : after_byte AtRest b ≡ Some (AtRest, Some (Byte b)) = typed_fed b c in (reader_of (AtRest, Some (Byte b)) next key (sym fed ∙ is)).0)
-        | inr c ↦ (let fed : after_byte AtRest b ≡ None = rw (t, o, l, c) refl in absurd (none_some (next, Some key) (sym fed ∙ is)))
+        | inr c ↦ (let left : (nat_le 32 b && not (b == 125)) ≡ false = rw (t, o) at c in let fed : after_byte AtRest b ≡ None = rw (t, o, l, left) refl in absurd (none_some (next, Some key) (sym fed ∙ is)))
       ]
     ]
   ]

@@ -1,5 +1,6 @@
 // Worked rows of numbers, formulas and circles.
 use crate::tests::{CALM, Given, Left, check, keys_show};
+use serial_date::Moment;
 use std::process::Abort;
 use std::test::Fail;
 
@@ -166,5 +167,58 @@ fn bytes_begin_values_and_labels(rt: HostRuntime) -> Result<(), Fail> {
         "",
         5,
         &[(0, 0, "A1: 'A/1 "), (4, 0, "   1A/1 ")],
+    )
+}
+
+#[test]
+fn the_moment_of_a_step_is_told(rt: HostRuntime) -> Result<(), Fail> {
+    let given = Given {
+        keys: b"A",
+        moment: Moment {
+            day: Some(31929),
+            second: 50700,
+        },
+        ..CALM
+    };
+    let left = Left {
+        status: 0,
+        notes: "",
+        displays: &[1],
+        failed: &[],
+        puts: None,
+        shown: &[(24, 0, "01-Jun-87 14:05     ")],
+    };
+    check(&rt, 1, &given, &left)
+}
+
+#[test]
+fn labels_stand_by_their_prefixes(rt: HostRuntime) -> Result<(), Fail> {
+    keys_show(
+        &rt,
+        b"'7~{RIGHT}\"AB~{RIGHT}^C~{RIGHT}\\-~",
+        0,
+        "",
+        17,
+        &[
+            (0, 0, "D1: \\- "),
+            (4, 0, "   17              AB     C    --------- "),
+        ],
+    )
+}
+
+#[test]
+fn functions_and_operators_are_evaluated(rt: HostRuntime) -> Result<(), Fail> {
+    come_to(
+        &rt,
+        b"3~{DOWN}4~{DOWN}@SUM(A1..A2)~{DOWN}+A3>6#AND#A1<>4~{DOWN}@IF(A4,\"more\"&\"over\",0)~{DOWN}@DATE(87,6,1)^1~",
+        78,
+        "4",
+        &[
+            (0, 0, "A6: @DATE(87,6,1)^1 "),
+            (6, 0, "   3       7 "),
+            (7, 0, "   4       1 "),
+            (8, 0, "   5moreover "),
+            (9, 0, "   6   31929 "),
+        ],
     )
 }

@@ -9,6 +9,7 @@ use formula_text::read;
 use formula_tree::Content;
 use grid_address::{Cell, Format, Span, read_cell, read_span};
 use lics_text::Text;
+use screen_layout::{Mode, Panel};
 use serial_date::Moment;
 use sheet_store::{Order, Settings, SheetFault, Write, Writes, is_prefix};
 use std::alloc::Global;
@@ -31,11 +32,14 @@ pub const SCENE: Scene = Scene {
     },
 };
 
-/// A sheet, and the count of its evaluations.
+/// A sheet and the count of its evaluations, with what its screen shows beside it.
 #[derive(Drop)]
 pub struct Desk {
     pub sheet: Sheet,
     pub tally: Tally,
+    pub panel: Panel,
+    pub corner: Cell,
+    pub moment: Moment,
     pub alloc: Global,
 }
 
@@ -44,20 +48,23 @@ impl Desk {
         Desk {
             sheet: Sheet::new(alloc),
             tally: Tally::new(),
+            panel: Panel::of(Mode::Ready),
+            corner: Cell { row: 0, col: 0 },
+            moment: Moment::unknown(),
             alloc,
         }
     }
 }
 
-// The two parts of bytes, before the first space and behind it.
-fn parts(bytes: &[u8]) -> Result<(&[u8], &[u8]), Stop> {
+/// The two parts of bytes, before the first space and behind it.
+pub fn parts(bytes: &[u8]) -> Result<(&[u8], &[u8]), Stop> {
     match bytes.iter().position(|byte| *byte == b' ') {
         Some(place) => Ok((&bytes[..place], &bytes[place + 1..])),
         None => Err(Stop::Line),
     }
 }
 
-fn cell_of(bytes: &[u8]) -> Result<Cell, Stop> {
+pub fn cell_of(bytes: &[u8]) -> Result<Cell, Stop> {
     match read_cell(bytes) {
         Ok(cell) => Ok(cell),
         Err(_) => Err(Stop::Line),
@@ -71,15 +78,20 @@ fn span_of(bytes: &[u8]) -> Result<Span, Stop> {
     }
 }
 
-// A number below 256.
-fn byte_of(bytes: &[u8]) -> Result<u8, Stop> {
+/// A number in digits, or the largest one.
+pub fn number_of(bytes: &[u8]) -> u32 {
     let mut number: u32 = 0;
     for byte in bytes {
         number = number
             .saturating_mul(10)
             .saturating_add(u32::from(byte.wrapping_sub(b'0')));
     }
-    match u8::try_from(number) {
+    number
+}
+
+/// A number below 256.
+pub fn byte_of(bytes: &[u8]) -> Result<u8, Stop> {
+    match u8::try_from(number_of(bytes)) {
         Ok(number) => Ok(number),
         Err(_) => Err(Stop::Line),
     }

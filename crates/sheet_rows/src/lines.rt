@@ -1,6 +1,7 @@
 // What each line does.
 
 use crate::edits::{Desk, Stop, calculate, copy, enter, erase, format, protect, set, write};
+use crate::screens::work_screen;
 use crate::show::{show, show_fault, show_states, written};
 use sheet_store::SheetFault;
 use std::alloc::Global;
@@ -48,7 +49,7 @@ fn work<W: Write>(desk: &mut Desk, line: &[u8], out: &mut W) -> Result<(), Stop>
         [b'p', rest @ ..] => protect(desk, rest, true)?,
         [b'u', rest @ ..] => protect(desk, rest, false)?,
         [b's', rest @ ..] => set(desk, rest)?,
-        _ => return Err(Stop::Line),
+        _ => return work_screen(desk, line, out),
     }
     show(desk, out)
 }

@@ -6,10 +6,18 @@
 //! and Q protection on and off, N, C and R the orders, and a digit the passes. `!` recalculates, and so does each edit of
 //! contents in Automatic mode. `?` prints the texts and formats. The stored run compares 10,000 edits with another
 //! program's.
+//!
+//! Other lines paint the screen. `wB1 12` gives column B a width of its own, or takes it away at 0; `hB1` hides it and `vB1`
+//! shows it. `g113 9` sets the sheet's format byte and width, `aB7` the pointer, `kB7` the cell at the top left, and `k`
+//! lets that follow the pointer. `m0 12 EC` begins a panel: the digit of its mode in the order of `Mode`, the cursor, and
+//! END and CMD. `t1TEXT` sets one of its texts in the order prompt, typed, menu, below, message and indicate. `n31929 50700`
+//! is the moment, with no day at 0. `@` prints the 25 lines, without the blanks at their ends. The stored run compares
+//! 2,000 screens with another program's.
 #![tactic(auto)]
 
 mod edits;
 mod lines;
+mod screens;
 mod show;
 
 use edits::Stop;

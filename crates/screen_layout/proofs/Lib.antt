@@ -1,0 +1,5 @@
+pub mod Blanks
+pub mod Cuts
+pub mod Nearing
+pub mod Painted
+pub mod Passing

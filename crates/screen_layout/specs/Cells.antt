@@ -1,0 +1,56 @@
+-- What a cell shows.
+use Rattle.std.specs.Prelude.{ℕ, ◌%◌, ◌==◌, not, ◌&&◌, nat_lt, if◌then◌else◌, List, [], length, take, Option, Some, None, codes}
+use Rattle.std.specs.FinMap as map
+use Rattle.cell_format.specs.Labels.{shown_label}
+use Rattle.cell_format.specs.Numbers.{placed, shown_number}
+use Rattle.formula_text.specs.Printed.{printed}
+use Rattle.formula_tree.specs.declared.value.Content.{Content}
+use Rattle.formula_tree.specs.declared.value.Content.TheVariants as content
+use Rattle.formula_tree.specs.declared.value.Value.{Value}
+use Rattle.formula_tree.specs.declared.value.Value.TheVariants as value
+use Rattle.grid_address.specs.Place.{Place}
+use Rattle.natural_recalc.specs.World.{content_of, format_of, value_at}
+use Rattle.range_names.specs.Names.{NameMap}
+use Rattle.screen_layout.specs.Sheets.{Sheet}
+
+-- the sheet's format stands in for the default one
+abbrev pub format_in : ℕ → ℕ → ℕ
+format_in global own = if own % 128 == 127 then global else own
+
+-- a label fills its cell; one that stands at the left and is longer is told whole
+abbrev pub label_text : ℕ → List ℕ → ℕ → List ℕ
+label_text prefix text width = if not (prefix == 92) && nat_lt width (length text) then text else shown_label prefix text width
+
+-- A number, ERR and NA fill the cell, and so does a text that isn't longer, which stands at the left.
+abbrev pub value_text : Value → ℕ → ℕ → List ℕ
+value_text value.Blank format width = []
+value_text (value.Num v) format width = shown_number v format width
+value_text (value.Str text) format width = label_text 39 text width
+value_text value.Err format width = placed (Some (codes "ERR")) width
+value_text value.Na format width = placed (Some (codes "NA")) width
+
+-- the format Text shows a formula as it is printed, cut at the width
+abbrev pub formula_text : List ℕ → Value → ℕ → ℕ → List ℕ
+formula_text text v format width = if format % 128 == 117 then take width text else value_text v format width
+
+-- What a content that isn't blank shows. The format Hidden shows nothing.
+abbrev pub content_text : NameMap → Place → Content → Value → ℕ → ℕ → List ℕ
+content_text names c content.Blank v format width = []
+content_text names c (content.Number x) v format width = value_text v format width
+content_text names c (content.Label prefix text) v format width = label_text prefix text width
+content_text names c (content.Formula t) v format width = formula_text (printed names c t) v format width
+
+abbrev pub visible_text : NameMap → Place → Content → Value → ℕ → ℕ → List ℕ
+visible_text names c x v format width = if format % 128 == 118 then [] else content_text names c x v format width
+
+-- what a cell shows from its left edge on, which may be longer than its width; a blank cell shows nothing of its own
+abbrev pub own_text : NameMap → Place → Option Content → Value → ℕ → ℕ → Option (List ℕ)
+own_text names c None v format width = None
+own_text names c (Some content.Blank) v format width = None
+own_text names c (Some (content.Number x)) v format width = Some (visible_text names c (content.Number x) v format width)
+own_text names c (Some (content.Label prefix text)) v format width = Some (visible_text names c (content.Label prefix text) v format width)
+own_text names c (Some (content.Formula t)) v format width = Some (visible_text names c (content.Formula t) v format width)
+
+-- the same of a cell of a sheet
+abbrev pub cell_text : Sheet → Place → ℕ → Option (List ℕ)
+cell_text s c width = own_text s.names c (content_of (map.get s.grid.cells c)) (value_at s.grid c) (format_in s.settings.format (format_of (map.get s.grid.cells c))) width

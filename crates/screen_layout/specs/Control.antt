@@ -1,0 +1,88 @@
+-- The control panel: what stands in the pointer's cell, the line that is typed, and the menu.
+use Rattle.std.specs.Prelude.{ℕ, ◌+◌, ◌-◌, Bool, true, false, nat_lt, List, [], ◌∷◌, ◌++◌, length, take, drop, Option, Some, None, codes, if◌then◌else◌}
+use Rattle.std.specs.FinMap as map
+use Rattle.cell_format.specs.Indicator.{indicator_of}
+use Rattle.grid_address.specs.Address.{address_of, decimal}
+use Rattle.natural_recalc.specs.World.{format_of}
+use Rattle.sheet_store.specs.Grid.{width_of}
+use Rattle.screen_layout.specs.Lines.{filled}
+use Rattle.screen_layout.specs.Sheets.{Sheet}
+use Rattle.screen_layout.specs.declared.panel.Mode.{Mode}
+use Rattle.screen_layout.specs.declared.panel.Mode.TheVariants.{Ready, Label, Value, Edit, Point, Menu, Error}
+use Rattle.screen_layout.specs.declared.panel.Panel.{Panel}
+use Rattle.work_sheet.specs.Typed.{typed}
+
+-- it tells a mode and nothing else
+abbrev pub plain_panel : Mode → Panel
+plain_panel mode = record { mode = mode; prompt = []; typed = []; cursor = 0; menu = []; below = []; message = []; end = false; running = false; indicate = [] }
+
+abbrev pub mode_name : Mode → List ℕ
+mode_name Ready = codes "READY"
+mode_name Label = codes "LABEL"
+mode_name Value = codes "VALUE"
+mode_name Edit = codes "EDIT"
+mode_name Point = codes "POINT"
+mode_name Menu = codes "MENU"
+mode_name Error = codes "ERROR"
+
+-- the first five bytes of the text that a macro put there, or the mode
+abbrev pub mode_text : List ℕ → Mode → List ℕ
+mode_text [] mode = mode_name mode
+mode_text (b ∷ bs) mode = take 5 (b ∷ bs)
+
+-- an indicator with a blank behind it
+abbrev pub indicator_part : List ℕ → List ℕ
+indicator_part [] = []
+indicator_part (b ∷ bs) = (b ∷ bs) ++ 32 ∷ []
+
+-- a cell without a protection mark is told, and one with it while protection is on
+abbrev pub protection_part : Bool → ℕ → List ℕ
+protection_part protection format = if nat_lt format 128 then codes "U " else if protection then codes "PR " else []
+
+abbrev pub width_part : Option ℕ → List ℕ
+width_part None = []
+width_part (Some width) = codes "[W" ++ decimal width ++ codes "] "
+
+-- the format byte of the pointer's cell
+abbrev pub pointer_format : Sheet → ℕ
+pointer_format s = format_of (map.get s.grid.cells s.settings.pointer)
+
+-- the pointer's address, and what is told of its cell
+abbrev pub front_text : Sheet → List ℕ
+front_text s =
+    address_of s.settings.pointer ++ codes ": " ++ indicator_part (indicator_of (pointer_format s)) ++ protection_part s.settings.protection (pointer_format s)
+    ++ width_part (width_of s.grid s.settings.pointer.col)
+
+-- the same and the content as it would be typed
+abbrev pub pointer_text : Sheet → List ℕ
+pointer_text s = front_text s ++ typed s.names s.grid s.settings.pointer
+
+-- it is cut after column 71, and the mode stands from column 73 on
+abbrev pub pointer_line : Sheet → Panel → List ℕ
+pointer_line s p = filled 73 (take 72 (pointer_text s)) ++ mode_text p.indicate p.mode
+
+-- the prompt with a blank behind it
+abbrev pub prompt_part : List ℕ → List ℕ
+prompt_part [] = []
+prompt_part (b ∷ bs) = (b ∷ bs) ++ 32 ∷ []
+
+-- the line that is typed behind its prompt, from the byte that lets the cursor stand at column 79 at most
+abbrev pub typed_line : Panel → List ℕ
+typed_line p = drop (length (prompt_part p.prompt) + p.cursor - 79) (prompt_part p.prompt ++ p.typed)
+
+abbrev pub is_menu : Mode → Bool
+is_menu Ready = false
+is_menu Label = false
+is_menu Value = false
+is_menu Edit = false
+is_menu Point = false
+is_menu Menu = true
+is_menu Error = false
+
+-- the menu's items, or the line that is typed
+abbrev pub entry_line : Panel → List ℕ
+entry_line p = if is_menu p.mode then p.menu else typed_line p
+
+-- what the highlighted item leads to
+abbrev pub below_line : Panel → List ℕ
+below_line p = if is_menu p.mode then p.below else []

@@ -1,0 +1,37 @@
+-- The last line: the moment or a message, and the indicators.
+use Rattle.std.specs.Prelude.{ℕ, ◌*◌, ◌/◌, ◌%◌, pos, Bool, true, false, not, ◌&&◌, List, [], ◌∷◌, ◌++◌, take, Option, Some, None, codes}
+use Rattle.cell_format.specs.Numbers.{shown_number, two_digits}
+use Rattle.screen_layout.specs.Lines.{filled}
+use Rattle.screen_layout.specs.Sheets.{Sheet}
+use Rattle.screen_layout.specs.declared.panel.Mode.{Mode}
+use Rattle.screen_layout.specs.declared.panel.Mode.TheVariants.{Ready, Label, Value, Edit, Point, Menu, Error}
+use Rattle.screen_layout.specs.declared.panel.Panel.{Panel}
+
+-- the day, the hour and the minute, as 01-Jun-87 14:05; nothing where the clock has no day
+abbrev pub moment_text : Option ℕ → ℕ → List ℕ
+moment_text None second = []
+moment_text (Some day) second = shown_number (pos (day * 1000000)) 114 10 ++ two_digits (second / 3600) ++ 58 ∷ two_digits (second / 60 % 60)
+
+-- in ERROR the message
+abbrev pub first_part : Mode → List ℕ → Option ℕ → ℕ → List ℕ
+first_part Ready message day second = moment_text day second
+first_part Label message day second = moment_text day second
+first_part Value message day second = moment_text day second
+first_part Edit message day second = moment_text day second
+first_part Point message day second = moment_text day second
+first_part Menu message day second = moment_text day second
+first_part Error message day second = message
+
+-- a word from a column on, where it is to be told
+abbrev pub marked : Bool → ℕ → List ℕ → List ℕ → List ℕ
+marked true column word line = filled column line ++ word
+marked false column word line = line
+
+-- a change was made since the last recalculation, and none follows by itself
+abbrev pub wants_recalculation : Sheet → Bool
+wants_recalculation s = s.stale && not s.settings.automatic
+
+-- CALC from column 50 on, CIRC from 56, END from 62 and CMD from 67
+abbrev pub foot_line : Sheet → Panel → Option ℕ → ℕ → List ℕ
+foot_line s p day second =
+    marked p.running 67 (codes "CMD") (marked p.end 62 (codes "END") (marked s.circular 56 (codes "CIRC") (marked (wants_recalculation s) 50 (codes "CALC") (take 50 (first_part p.mode p.message day second)))))

@@ -1,0 +1,16 @@
+//! The screen of a worksheet: 25 lines of 80 bytes, painted from nothing.
+#![tactic(auto)]
+
+mod cells;
+mod columns;
+mod control;
+mod corner;
+mod foot;
+mod painted_line;
+mod panel;
+mod screen;
+mod widths;
+
+pub use corner::corner_for;
+pub use panel::{Mode, Panel};
+pub use screen::paint;

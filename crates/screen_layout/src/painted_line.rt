@@ -1,0 +1,90 @@
+// A line of the screen while it is painted. What is not painted yet is blank.
+ghost use Rattle.std.specs.Prelude.{◌≡◌, ◌≤◌, ◌-◌, ◌++◌, [], length, take, replicate, map};
+ghost use Rattle.screen_layout.specs.Lines.{shown_byte, shown_line};
+
+use std::marker::Model;
+
+#[derive(Drop)]
+pub struct PaintedLine {
+    bytes: [u8; 80],
+    len: usize,
+}
+
+impl Model for PaintedLine {
+    ghost use Rattle.std.specs.Prelude.{◌≡◌, ℕ, List, ◌≤◌, ◌-◌, take, drop, replicate};
+
+    ghost Value = { List ℕ };
+
+    ghost view = { λ a. take a.len a.bytes };
+
+    ghost invariant = { λ a. (a.len ≤ 80) × (drop a.len a.bytes ≡ replicate (80 - a.len) 32) };
+}
+
+impl PaintedLine {
+    pub fn new() -> PaintedLine
+        ensures { result ≡ [] }
+    {
+        PaintedLine {
+            bytes: [b' '; 80],
+            len: 0,
+        }
+    }
+
+    pub fn len(&self) -> usize
+        ensures len { result ≡ length self.now }
+        ensures within { length self.now ≤ 80 }
+    {
+        self.len
+    }
+
+    /// Adds bytes up to a column.
+    pub fn add(&mut self, column: usize, bytes: &[u8])
+        requires { column ≤ 80 }
+        ensures { self.new ≡ self.old ++ take (column - length self.old) bytes.now }
+    {
+        let from = self.len;
+        if from < column && !bytes.is_empty() {
+            let count = bytes.len().min(column - from);
+            self.bytes[from..from + count].copy_from_slice(&bytes[..count]);
+            self.len = from + count;
+        }
+    }
+
+    /// Adds blanks up to a column.
+    pub fn fill(&mut self, column: usize)
+        requires { column ≤ 80 }
+        ensures { self.new ≡ self.old ++ replicate (column - length self.old) 32 }
+    {
+        if self.len < column {
+            self.len = column;
+        }
+    }
+
+    /// The whole line as it is shown, with blanks where nothing is painted.
+    pub fn finish(self) -> [u8; 80]
+        ensures { result ≡ shown_line self }
+    {
+        shown(&self.bytes)
+    }
+}
+
+// A byte as it is shown.
+fn shown_byte(byte: u8) -> u8
+    ensures { result ≡ shown_byte byte }
+{
+    if byte >= b' ' && byte < 127 {
+        byte
+    } else {
+        b'?'
+    }
+}
+
+fn shown(bytes: &[u8; 80]) -> [u8; 80]
+    ensures { result ≡ map shown_byte bytes.now }
+{
+    let mut line = *bytes;
+    for column in 0..80 {
+        line[column] = shown_byte(line[column]);
+    }
+    line
+}

@@ -1,8 +1,0 @@
-use Rattle.std.proofs.Common.{arith}
-use Rattle.std.proofs.lemmas.Grind.{common_steps}
-use Rattle.std.proofs.lemmas.List.Edits.{map_over_more}
-use Rattle.session_core.specs.Screen.{shown_byte}
-use Rattle.session_core.proofs.painted_line.shown.Goals as goal
-
-pub loop-column-preserved : goal.loop-column-preserved
-loop-column-preserved c = grind (arith, common_steps, map_over_more shown_byte)
