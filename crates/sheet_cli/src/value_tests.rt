@@ -34,7 +34,7 @@ fn values_are_rounded_to_millionths(rt: HostRuntime) -> Result<(), Fail> {
     come_to(
         &rt,
         b"+1/3~{DOWN}+2/3~",
-        12,
+        11,
         "2",
         &[
             (0, 0, "A2: 2/3 "),
@@ -73,7 +73,7 @@ fn formulas_are_evaluated_after_each_entry(rt: HostRuntime) -> Result<(), Fail> 
     come_to(
         &rt,
         b"5~{DOWN}+A1~{RIGHT}{UP}7~{DOWN}+B1~{LEFT}{UP}6~",
-        19,
+        20,
         "3",
         &[
             (0, 0, "A1: 6 "),
@@ -84,7 +84,7 @@ fn formulas_are_evaluated_after_each_entry(rt: HostRuntime) -> Result<(), Fail> 
     come_to(
         &rt,
         b"ABC~{RIGHT}+A1~{RIGHT}+B1*1~{RIGHT}1/0~",
-        20,
+        21,
         "3",
         &[(4, 0, "   1ABC      ABC           ERR      ERR ")],
     )
@@ -198,7 +198,7 @@ fn labels_stand_by_their_prefixes(rt: HostRuntime) -> Result<(), Fail> {
         b"'7~{RIGHT}\"AB~{RIGHT}^C~{RIGHT}\\-~",
         0,
         "",
-        17,
+        16,
         &[
             (0, 0, "D1: \\- "),
             (4, 0, "   17              AB     C    --------- "),
