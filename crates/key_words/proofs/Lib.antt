@@ -1,0 +1,4 @@
+pub mod Feeding
+pub mod Scanning
+pub mod Tables
+pub mod Words
