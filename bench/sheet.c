@@ -306,8 +306,29 @@ static uint64_t edit_head(void) {
     return sum + evaluations;
 }
 
+// A number stands at the head of a chain of formulas, and is replaced so many times.
+static uint64_t edit_number(int formulas, int rounds) {
+    put_state(at(0, 0), new_node(NUMBER, 1000000, 0, 0, 0));
+    for (int row = 1; row <= formulas; row++) {
+        put_state(at(row, 0), new_node(ADD, 0, 0, new_node(CELL, 0, -1, 0, 0), new_node(NUMBER, 1000000, 0, 0, 0)));
+        own(at(row, 0), (struct span){row - 1, 0, row - 1, 0});
+    }
+    for (int round = 0; round < rounds; round++) {
+        struct set dirty = {0};
+        put_state(at(0, 0), new_node(NUMBER, round, 0, 0, 0));
+        closure(at(0, 0), &dirty);
+        recalculate(&dirty);
+        drop(&dirty);
+    }
+    return evaluations - (uint64_t)rounds; // the head is no formula
+}
+
 int main(int argc, char **argv) {
     const char *word = argc > 1 ? argv[1] : "";
+    if (!strcmp(word, "number") && argc == 4) {
+        printf("%llu\n", (unsigned long long)edit_number(atoi(argv[2]), atoi(argv[3])));
+        return 0;
+    }
     uint64_t sum = !strcmp(word, "cells") ? touch_cells()
         : !strcmp(word, "owners") ? ask_owners()
         : !strcmp(word, "spans") ? ask_spans()

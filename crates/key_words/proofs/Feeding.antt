@@ -204,3 +204,10 @@ is_no_text bytes keys r apart read others spelled =
     let both : ◌≡◌ {A = Scan} (Some (keys, r.begun)) (Some (others, Nothing)) = sym (scanned bytes keys r 0 read) ∙ text_scanned bytes others spelled in
     let pairs : ◌≡◌ {A = Keys × Begun} (keys, r.begun) (others, Nothing) = cc in
     apart (ap (λ (p : Keys × Begun). p.1) pairs)
+
+-- a word that ends leaves the reader between words
+pub ended : (bytes : List ℕ) (keys : Keys) (r : KeyReader) (b : ℕ) (read : HasRead bytes keys r) (k : Key) (n : ℕ) → after r.begun b ≡ Ended k n →
+    HasRead (bytes ++ b ∷ []) (keys ++ (k, n) ∷ []) (moved r Nothing) × Spells (bytes ++ b ∷ []) (keys ++ (k, n) ∷ [])
+ended bytes keys r b read k n is =
+    let now : HasRead (bytes ++ b ∷ []) (keys ++ (k, n) ∷ []) (moved r Nothing) = ends bytes keys r b read k n is in
+    (now, at_rest_spells (bytes ++ b ∷ []) (keys ++ (k, n) ∷ []) (moved r Nothing) refl now)

@@ -1,3 +1,4 @@
+pub mod Completing
 pub mod Feeding
 pub mod Scanning
 pub mod Tables

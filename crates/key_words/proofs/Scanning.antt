@@ -205,3 +205,16 @@ begins_none bytes none (more, keys, spelled) =
     let stopped : scan Nothing (bytes ++ more) ≡ None = scan-append Nothing bytes more ∙ ap (λ (s : Scan). scan_then s more) none in
     let went_on : scan Nothing (bytes ++ more) ≡ Some (keys, Nothing) = text_scanned (bytes ++ more) keys spelled in
     cc
+
+keys_of_scan : (keys : Keys) (s : Scan) (all : Keys) (r : Begun) → after_keys keys s ≡ Some (all, r) → (more : Keys) × (all ≡ keys ++ more)
+keys_of_scan keys None all r e = absurd cc
+keys_of_scan keys (Some s) all r e =
+    let pairs : ◌≡◌ {A = Keys × Begun} (keys ++ s.0, s.1) (all, r) = cc in
+    (s.0, sym (ap (λ (p : Keys × Begun). p.0) pairs))
+
+-- the keys of a text begin with those of its front
+pub prefix_keys : (front rest : List ℕ) (keys all : Keys) → Spells front keys → Spells (front ++ rest) all → (more : Keys) × (all ≡ keys ++ more)
+prefix_keys front rest keys all p q =
+    let scanned : after_keys keys (scan Nothing rest) ≡ Some (all, Nothing) =
+    ap (λ (s : Scan). scan_then s rest) (sym (text_scanned front keys p)) ∙ sym (scan-append Nothing front rest) ∙ text_scanned (front ++ rest) all q in
+    keys_of_scan keys (scan Nothing rest) all Nothing scanned

@@ -37,8 +37,9 @@ pub record HasRead (bytes : List ℕ) (keys : List (AnyKey × ℕ)) (r : KeyRead
   pub spelled : Spells whole keys
   pub holds : Holds begun r.begun
 
--- What a byte came to behind these: one key more; none yet; or no text of the notation goes on with it.
+-- What a byte came to behind these: one key more, with which a word ends; none yet; or no text of the notation goes on
+-- with it.
 abbrev pub Feeds : List ℕ → List (AnyKey × ℕ) → ℕ → Fed → KeyReader → Type 0
-Feeds bytes keys b (Key k n) now = HasRead (bytes ++ b ∷ []) (keys ++ (k, n) ∷ []) now
+Feeds bytes keys b (Key k n) now = HasRead (bytes ++ b ∷ []) (keys ++ (k, n) ∷ []) now × Spells (bytes ++ b ∷ []) (keys ++ (k, n) ∷ [])
 Feeds bytes keys b More now = HasRead (bytes ++ b ∷ []) keys now
 Feeds bytes keys b (Bad at) now = (at ≡ length bytes) × (Begins (bytes ++ b ∷ []) → ⊥)

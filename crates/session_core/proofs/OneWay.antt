@@ -21,11 +21,14 @@ use Rattle.sheet_store.specs.Grid.{Grid}
 use Rattle.sheet_store.specs.declared.order.Order.{Order}
 use Rattle.sheet_store.specs.declared.order.Order.TheVariants as orders
 use Rattle.session_core.specs.Entry.{IsEntry, IsFormula, IsValue}
-use Rattle.session_core.specs.Machine.{act_of, acted, framed, pointer_of, scene_at, Act, types, finishes, calculates, HasActed, HasCalculated, HasFinished, HasWorked, IsEntryFor, IsSame, IsStep, Running, State}
+use Rattle.session_core.specs.Machine.{acted, framed, pointer_of, scene_at, HasActed, HasCalculated, HasFinished, HasWorked, IsEntryFor, IsSame, IsStep, Running, State}
 use Rattle.screen_layout.specs.Sheets.{Sheet}
 use Rattle.session_core.specs.Sheets.{put, recalculated}
 use Rattle.session_core.specs.Work.{HasPut, HasRecalculated, HasRecalculatedIf, IsSameWork, Work}
-use Rattle.session_core.specs.declared.key.Key.{Key}
+use Rattle.key_words.specs.declared.key.Key.{Key}
+use Rattle.session_core.specs.Acts.{act_of}
+use Rattle.session_core.specs.declared.act.Act.{Act}
+use Rattle.session_core.specs.declared.act.Act.TheVariants.{Typed, Finish, Calculate, Pass}
 use Rattle.session_core.specs.declared.mode.Mode.{Mode}
 use Rattle.session_core.specs.declared.mode.Mode.TheVariants.{Ready, Label, Value}
 use Rattle.work_sheet.proofs.Listed.{both}
@@ -58,9 +61,10 @@ one_entry (Value line) s c e f p q = one_value (decimal_of line) s.names c line 
 
 -- a line means one thing
 one_meaning : (act : Act) (s : State) (e f : Option Content) → IsEntryFor act s e → IsEntryFor act s f → e ≡ f
-one_meaning (types b) s e f p q = p ∙ sym q
-one_meaning finishes s e f p q = one_entry s.mode s.sheet (pointer_of s) e f p q
-one_meaning calculates s e f p q = p ∙ sym q
+one_meaning (Typed b) s e f p q = p ∙ sym q
+one_meaning (Finish way) s e f p q = one_entry s.mode s.sheet (pointer_of s) e f p q
+one_meaning Calculate s e f p q = p ∙ sym q
+one_meaning Pass s e f p q = p ∙ sym q
 
 -- distinct lists of the same cells are as long
 as_long : (xs ys : List Place) → IsDistinct same_place xs → IsDistinct same_place ys → ((c : Place) → has same_place xs c ≡ has same_place ys c) → length xs ≡ length ys
@@ -122,17 +126,18 @@ one_calculation (Label line) scene s w v w' v' same p q = unchanged w v w' v' sa
 one_calculation (Value line) scene s w v w' v' same p q = unchanged w v w' v' same p q
 
 one_work : (act : Act) (scene : Scene) (entry : Option Content) (s : State) (w v w' v' : Work) → IsSameWork w v → HasWorked act scene entry s w w' → HasWorked act scene entry s v v' → IsSameWork w' v'
-one_work (types b) scene entry s w v w' v' same p q = unchanged w v w' v' same p q
-one_work finishes scene entry s w v w' v' same p q = one_finish scene entry s w v w' v' same p q
-one_work calculates scene entry s w v w' v' same p q = one_calculation s.mode scene s w v w' v' same p q
+one_work (Typed b) scene entry s w v w' v' same p q = unchanged w v w' v' same p q
+one_work Pass scene entry s w v w' v' same p q = unchanged w v w' v' same p q
+one_work (Finish way) scene entry s w v w' v' same p q = one_finish scene entry s w v w' v' same p q
+one_work Calculate scene entry s w v w' v' same p q = one_calculation s.mode scene s w v w' v' same p q
 
-one_act : (key : Key) (now : Moment) (s : State) (w v : Work) (c d : Running) → IsSameWork w v → HasActed key now (record { state = s; work = w }) c → HasActed key now (record { state = s; work = v }) d → IsSame c d
-one_act key now s w v c d same p q =
-    let meant : p.entry ≡ q.entry = one_meaning (act_of key) s p.entry q.entry p.meant q.meant in
+one_act : (act : Act) (now : Moment) (s : State) (w v : Work) (c d : Running) → IsSameWork w v → HasActed act now (record { state = s; work = w }) c → HasActed act now (record { state = s; work = v }) d → IsSame c d
+one_act act now s w v c d same p q =
+    let meant : p.entry ≡ q.entry = one_meaning act s p.entry q.entry p.meant q.meant in
     record {
-      state = p.state ∙ ap (λ (e : Option Content). acted (act_of key) key (scene_at s now) e s) meant ∙ sym q.state;
-      work = one_work (act_of key) (scene_at s now) p.entry s w v c.work d.work same p.work
-          (subst (λ (e : Option Content). HasWorked (act_of key) (scene_at s now) e s v d.work) (sym meant) q.work);
+      state = p.state ∙ ap (λ (e : Option Content). acted act (scene_at s now) e s) meant ∙ sym q.state;
+      work = one_work act (scene_at s now) p.entry s w v c.work d.work same p.work
+          (subst (λ (e : Option Content). HasWorked act (scene_at s now) e s v d.work) (sym meant) q.work);
     }
 
 same_framed : (now : Moment) (a b c d : Running) → IsSame a b → c ≡ framed now a → d ≡ framed now b → IsSame c d
@@ -145,6 +150,6 @@ same_framed now a b c d same p q =
 
 pub one_step : (key : Key) (now : Moment) (a b c d : Running) → IsSame a b → IsStep key now a c → IsStep key now b d → IsSame c d
 one_step key now a b c d same p q =
-    let other : HasActed key now (record { state = a.state; work = b.work }) q.before =
-    subst (λ (s : State). HasActed key now (record { state = s; work = b.work }) q.before) (sym same.state) q.acted in
-    same_framed now p.before q.before c d (one_act key now a.state a.work b.work p.before q.before same.work p.acted other) p.shown q.shown
+    let other : HasActed (act_of key) now (record { state = a.state; work = b.work }) q.before =
+    subst (λ (s : State). HasActed (act_of key) now (record { state = s; work = b.work }) q.before) (sym same.state) q.acted in
+    same_framed now p.before q.before c d (one_act (act_of key) now a.state a.work b.work p.before q.before same.work p.acted other) p.shown q.shown

@@ -1,3 +1,4 @@
+pub mod Acts
 pub mod Entry
 pub mod Machine
 pub mod Pointer

@@ -17,8 +17,11 @@ use Rattle.session_core.specs.Work.{coded_work, no_work, HasEntered, HasRecalcul
 use Rattle.session_core.specs.contracts.mode.Mode as mode
 use Rattle.session_core.specs.declared.mode.Mode.{Mode}
 use Rattle.session_core.specs.declared.mode.Mode.TheVariants.{Ready, Label, Value}
-use Rattle.session_core.specs.declared.key.Key.{Key}
-use Rattle.session_core.specs.declared.key.Key.TheVariants.{Byte, Enter, Up, Down, Left, Right, Calc}
+use Rattle.key_words.specs.declared.key.Key.{Key}
+use Rattle.session_core.specs.Acts.{act_of}
+use Rattle.session_core.specs.declared.act.Act.{Act}
+use Rattle.session_core.specs.declared.act.Act.TheVariants.{Typed, Finish, Calculate, Pass}
+use Rattle.session_core.specs.declared.pointer.Way.{Way}
 use Rattle.session_core.specs.declared.key.Event.{Event}
 use Rattle.session_core.specs.declared.key.Event.TheVariants.{Key as KeyEvent, Unit as UnitEvent}
 
@@ -84,8 +87,8 @@ abbrev pub pointing_at : Place → State → State
 pointing_at p s = record s { sheet = with_pointer p s.sheet }
 
 -- the line is finished, and then the pointer moves
-abbrev pub finished_with : Key → Scene → Option Content → State → State
-finished_with key scene entry s = cond (moves s.mode entry) (pointing_at (moved key (pointer_of s)) (finished scene entry s)) (finished scene entry s)
+abbrev pub finished_with : Way → Scene → Option Content → State → State
+finished_with way scene entry s = cond (moves s.mode entry) (pointing_at (moved way (pointer_of s)) (finished scene entry s)) (finished scene entry s)
 
 -- the key CALC recalculates where nothing is typed
 abbrev pub calculated : Mode → Scene → State → State
@@ -93,32 +96,19 @@ calculated Ready scene s = record s { sheet = recalculated scene s.sheet }
 calculated (Label line) scene s = s
 calculated (Value line) scene s = s
 
--- what a key does: it types a byte, finishes the line, or recalculates
-pub data Act : Type 0 where
-  types : ℕ → Act
-  finishes : Act
-  calculates : Act
-
-abbrev pub act_of : Key → Act
-act_of (Byte b) = types b
-act_of Enter = finishes
-act_of Up = finishes
-act_of Down = finishes
-act_of Left = finishes
-act_of Right = finishes
-act_of Calc = calculates
-
 -- a key before the screen follows it
-abbrev pub acted : Act → Key → Scene → Option Content → State → State
-acted (types b) key scene entry s = record s { mode = typed s.mode b }
-acted finishes key scene entry s = finished_with key scene entry s
-acted calculates key scene entry s = calculated s.mode scene s
+abbrev pub acted : Act → Scene → Option Content → State → State
+acted (Typed b) scene entry s = record s { mode = typed s.mode b }
+acted (Finish way) scene entry s = finished_with way scene entry s
+acted Calculate scene entry s = calculated s.mode scene s
+acted Pass scene entry s = s
 
 -- what the line that is typed means, where the key finishes it
 abbrev pub IsEntryFor : Act → State → Option Content → Type 0
-IsEntryFor (types b) s entry = entry ≡ None
-IsEntryFor finishes s entry = IsEntry s.mode s.sheet (pointer_of s) entry
-IsEntryFor calculates s entry = entry ≡ None
+IsEntryFor (Typed b) s entry = entry ≡ None
+IsEntryFor (Finish way) s entry = IsEntry s.mode s.sheet (pointer_of s) entry
+IsEntryFor Calculate s entry = entry ≡ None
+IsEntryFor Pass s entry = entry ≡ None
 
 -- the work of a finished line
 abbrev pub HasFinished : Scene → Option Content → State → Work → Work → Type 0
@@ -132,16 +122,17 @@ HasCalculated (Value line) scene s w v = v ≡ w
 
 -- the work of a key
 abbrev pub HasWorked : Act → Scene → Option Content → State → Work → Work → Type 0
-HasWorked (types b) scene entry s w v = v ≡ w
-HasWorked finishes scene entry s w v = HasFinished scene entry s w v
-HasWorked calculates scene entry s w v = HasCalculated s.mode scene s w v
+HasWorked (Typed b) scene entry s w v = v ≡ w
+HasWorked (Finish way) scene entry s w v = HasFinished scene entry s w v
+HasWorked Calculate scene entry s w v = HasCalculated s.mode scene s w v
+HasWorked Pass scene entry s w v = v ≡ w
 
--- what a key did before the screen follows it
-pub record HasActed (key : Key) (now : Moment) (a b : Running) : Type 0 where
+-- what was done before the screen follows it
+pub record HasActed (act : Act) (now : Moment) (a b : Running) : Type 0 where
   pub entry : Option Content
-  pub meant : IsEntryFor (act_of key) a.state entry
-  pub state : b.state ≡ acted (act_of key) key (scene_at a.state now) entry a.state
-  pub work : HasWorked (act_of key) (scene_at a.state now) entry a.state a.work b.work
+  pub meant : IsEntryFor act a.state entry
+  pub state : b.state ≡ acted act (scene_at a.state now) entry a.state
+  pub work : HasWorked act (scene_at a.state now) entry a.state a.work b.work
 
 -- the pointer's cell is shown, at this moment
 abbrev pub framed : Moment → Running → Running
@@ -151,7 +142,7 @@ framed now r = record r { state = record r.state { corner = corner_for r.state.s
 -- follows it.
 pub record IsStep (key : Key) (now : Moment) (a b : Running) : Type 0 where
   pub before : Running
-  pub acted : HasActed key now a before
+  pub acted : HasActed (act_of key) now a before
   pub shown : b ≡ framed now before
 
 -- the states are equal, and as much work was done and is to do
@@ -171,15 +162,15 @@ is_key UnitEvent = false
 abbrev pub IsMoved : Sheet → Sheet → Type 0
 IsMoved s t = (p : Place) × (t ≡ with_pointer p s)
 
--- nothing is typed, and the event is an arrow or Enter
-abbrev pub OnlyMoves : Mode → Event → Type 0
-OnlyMoves Ready (KeyEvent (Byte b)) = ⊥
-OnlyMoves Ready (KeyEvent Enter) = Unit {0}
-OnlyMoves Ready (KeyEvent Up) = Unit {0}
-OnlyMoves Ready (KeyEvent Down) = Unit {0}
-OnlyMoves Ready (KeyEvent Left) = Unit {0}
-OnlyMoves Ready (KeyEvent Right) = Unit {0}
-OnlyMoves Ready (KeyEvent Calc) = ⊥
-OnlyMoves Ready UnitEvent = ⊥
-OnlyMoves (Label line) event = ⊥
-OnlyMoves (Value line) event = ⊥
+-- a key that is passed over does nothing, and one that finishes a line only moves the pointer where nothing is typed
+abbrev pub OnlyMoves : Mode → Act → Type 0
+OnlyMoves mode (Typed b) = ⊥
+OnlyMoves Ready (Finish way) = Unit {0}
+OnlyMoves (Label line) (Finish way) = ⊥
+OnlyMoves (Value line) (Finish way) = ⊥
+OnlyMoves mode Calculate = ⊥
+OnlyMoves mode Pass = Unit {0}
+
+abbrev pub OnlyMovesBy : Mode → Event → Type 0
+OnlyMovesBy mode (KeyEvent key) = OnlyMoves mode (act_of key)
+OnlyMovesBy mode UnitEvent = ⊥

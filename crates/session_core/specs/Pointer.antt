@@ -1,14 +1,12 @@
 -- Where the pointer stands.
 use Rattle.std.specs.Prelude.{◌+◌, ◌-◌, min}
 use Rattle.grid_address.specs.Place.{Place}
-use Rattle.session_core.specs.declared.key.Key.{Key}
-use Rattle.session_core.specs.declared.key.Key.TheVariants.{Byte, Enter, Up, Down, Left, Right, Calc}
+use Rattle.session_core.specs.declared.pointer.Way.{Way}
+use Rattle.session_core.specs.declared.pointer.Way.TheVariants.{Stay, Up, Down, Left, Right}
 
--- an arrow moves the pointer by one cell, and it stands still at the edge
-abbrev pub moved : Key → Place → Place
-moved (Byte b) p = p
-moved Enter p = p
-moved Calc p = p
+-- the pointer moves by one cell, and it stands still at the edge
+abbrev pub moved : Way → Place → Place
+moved Stay p = p
 moved Up p = record { row = p.row - 1; col = p.col }
 moved Down p = record { row = min (p.row + 1) 8191; col = p.col }
 moved Left p = record { row = p.row; col = p.col - 1 }

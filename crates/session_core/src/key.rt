@@ -1,17 +1,4 @@
-use lics_text::TextByte;
-
-/// The keys that are built. A typed byte is 32 to 255.
-#[derive(Clone, Copy, PartialEq, Eq, Debug)]
-pub enum Key {
-    Byte(TextByte),
-    Enter,
-    Up,
-    Down,
-    Left,
-    Right,
-    /// Recalculates.
-    Calc,
-}
+use key_words::Key;
 
 /// What a step takes: a key, or the next unit of a running macro. No macro runs yet.
 #[derive(Clone, Copy, PartialEq, Eq, Debug)]

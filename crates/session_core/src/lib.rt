@@ -1,6 +1,7 @@
 //! One step of the worksheet session, and the screen that it shows.
 #![tactic(auto)]
 
+mod act;
 mod entry;
 mod key;
 mod mode;
@@ -8,6 +9,7 @@ mod pointer;
 mod session;
 mod told;
 
-pub use key::{Event, Key, Stepped};
+pub use key::{Event, Stepped};
+pub use key_words::Key;
 pub use mode::Mode;
 pub use session::{Session, the_machine_has_one_way};

@@ -2,18 +2,20 @@ ghost use Rattle.std.specs.Prelude.{◌≡◌, IfOk, IsOk, OnOk, None, false, tr
 ghost use Rattle.std.specs.Option.{ForSome};
 ghost use Rattle.screen_show.specs.Grid.{IsGrid, IsPrinted};
 ghost use Rattle.serial_date.specs.declared.moment.Moment.{Moment};
-ghost use Rattle.session_core.specs.Machine.{act_of, finished, finishes, framed, is_key, pointer_of, pointing_at, scene_at, start, wants_key, HasActed, HasFinished, IsMoved, IsSame, IsStep, OnlyMoves, Running, Steps};
-ghost use Rattle.session_core.specs.declared.key.Key.{Key};
+ghost use Rattle.session_core.specs.Machine.{finished, framed, is_key, pointer_of, pointing_at, scene_at, start, wants_key, HasActed, HasFinished, IsMoved, IsSame, IsStep, OnlyMoves, OnlyMovesBy, Running, Steps};
+ghost use Rattle.key_words.specs.declared.key.Key.{Key};
+ghost use Rattle.session_core.specs.declared.act.Act.TheVariants as Act;
 ghost use Rattle.session_core.specs.Screen.{screen};
 ghost use Rattle.session_core.specs.Sheets.{put, recalculated, with_entry};
 ghost use Rattle.session_core.specs.Work.{HasEntered, HasPut, HasRecalculated};
 ghost use Rattle.work_sheet.specs.Edits.{HasPrefix};
 
+use crate::act::{Act, act_of};
 use crate::entry::{entry_of, moves};
 use crate::mode::type_byte;
-use crate::pointer::moved;
+use crate::pointer::{Way, moved};
 use crate::told::panel_of;
-use crate::{Event, Key, Mode, Stepped};
+use crate::{Event, Mode, Stepped};
 use formula_eval::{Scene, Tally};
 use formula_tree::Content;
 use grid_address::Cell;
@@ -96,7 +98,7 @@ impl Session {
     }
 
     /// One step: a key exactly where the session wants one. `Quit` never comes yet. After `Memory` the
-    /// session is spent. A step that only moves the pointer takes no memory and leaves
+    /// session is spent. A step that only moves the pointer, or that is passed over, takes no memory and leaves
     /// all of the sheet but the pointer.
     pub fn step<S: Shelf>(&mut self, event: Event, now: &Moment, _shelf: &mut S) -> Stepped
         requires fresh { self.old.state.spent ≡ false }
@@ -104,14 +106,14 @@ impl Session {
         ensures more { result ≡ Stepped.More → Steps event now.now self.old self.new }
         ensures quit { result ≡ Stepped.Quit → ⊥ }
         ensures memory { result ≡ Stepped.Memory → self.new.state.spent ≡ true }
-        ensures moves { OnlyMoves self.old.state.mode event → result ≡ Stepped.More }
-        ensures sheet { OnlyMoves self.old.state.mode event → IsMoved self.old.state.sheet self.new.state.sheet }
+        ensures moves { OnlyMovesBy self.old.state.mode event → result ≡ Stepped.More }
+        ensures sheet { OnlyMovesBy self.old.state.mode event → IsMoved self.old.state.sheet self.new.state.sheet }
         ensures shelf { S.faults _shelf.new ≡ S.faults _shelf.old }
     {
         let Event::Key(key) = event else {
             unreachable!();
         };
-        match self.act(key, now) {
+        match self.act(act_of(key), now) {
             Ok(()) => {
                 self.follow(now);
                 Stepped::More
@@ -149,23 +151,20 @@ impl Session {
         });
     }
 
-    // What a key does before the screen follows it.
-    fn act(&mut self, key: Key, now: &Moment) -> Result<(), Memory>
-        ensures ok { OnOk result (HasActed key now.now self.old self.new) }
-        ensures moves { OnlyMoves self.old.state.mode (Event.Key key) → IsOk result }
-        ensures sheet { OnlyMoves self.old.state.mode (Event.Key key) → IsMoved self.old.state.sheet self.new.state.sheet }
+    // What is done before the screen follows it.
+    fn act(&mut self, act: Act, now: &Moment) -> Result<(), Memory>
+        ensures ok { OnOk result (HasActed act now.now self.old self.new) }
+        ensures moves { OnlyMoves self.old.state.mode act → IsOk result }
+        ensures sheet { OnlyMoves self.old.state.mode act → IsMoved self.old.state.sheet self.new.state.sheet }
     {
-        match key {
-            Key::Byte(byte) => {
+        match act {
+            Act::Typed(byte) => {
                 type_byte(&mut self.mode, byte);
                 Ok(())
             }
-            Key::Calc => self.calculate_if_ready(now),
-            Key::Enter => self.finish_with(key, now),
-            Key::Up => self.finish_with(key, now),
-            Key::Down => self.finish_with(key, now),
-            Key::Left => self.finish_with(key, now),
-            Key::Right => self.finish_with(key, now),
+            Act::Finish(way) => self.finish_with(way, now),
+            Act::Calculate => self.calculate_if_ready(now),
+            Act::Pass => Ok(()),
         }
     }
 
@@ -181,7 +180,7 @@ impl Session {
 
     // The key CALC, which is passed over while a line is typed.
     fn calculate_if_ready(&mut self, now: &Moment) -> Result<(), Memory>
-        ensures { OnOk result (HasActed Key.Calc now.now self.old self.new) }
+        ensures { OnOk result (HasActed Act.Calculate now.now self.old self.new) }
     {
         match &self.mode {
             Mode::Ready => self.calculate(now),
@@ -247,9 +246,8 @@ impl Session {
     }
 
     // Finishes the line that is typed, and then moves the pointer.
-    fn finish_with(&mut self, key: Key, now: &Moment) -> Result<(), Memory>
-        requires { act_of key ≡ finishes }
-        ensures ok { OnOk result (HasActed key now.now self.old self.new) }
+    fn finish_with(&mut self, way: Way, now: &Moment) -> Result<(), Memory>
+        ensures ok { OnOk result (HasActed (Act.Finish way) now.now self.old self.new) }
         ensures moves { self.old.state.mode ≡ Mode.Ready → IsOk result }
         ensures sheet { self.old.state.mode ≡ Mode.Ready → IsMoved self.old.state.sheet self.new.state.sheet }
     {
@@ -258,7 +256,7 @@ impl Session {
         let moves = moves(&self.mode, &entry);
         self.finish(entry, now)?;
         if moves {
-            self.point_at(moved(key, pointer));
+            self.point_at(moved(way, pointer));
         }
         Ok(())
     }

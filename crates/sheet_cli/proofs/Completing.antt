@@ -2,11 +2,12 @@
 use Rattle.std.proofs.Common.{◌≡◌, ℕ, ◌<◌, ◌≤◌, ◌-◌, ◌^◌, Bool, false, List, [], ◌∷◌, ◌++◌, length, Option, Some, None, Result, Ok, Err, refl, sym, ap, ◌∙◌, subst, arith, inl, inr, length-append}
 use Rattle.std.proofs.lemmas.List.{append-nil, length-map}
 use Rattle.outside_world.specs.Causes.{Rose}
-use Rattle.session_core.specs.declared.key.Key.{Key}
+use Rattle.key_words.specs.declared.key.Key.{Key}
 use Rattle.sheet_cli.specs.Completeness.{HasEndedWell, MustEndWell}
 use Rattle.sheet_cli.specs.Displays.{Watched, views_of}
 use Rattle.sheet_cli.specs.Driving.{HasEnded}
-use Rattle.sheet_cli.specs.Notation.{Spells}
+use Rattle.key_words.specs.Notation.{Spells as SpellsWords}
+use Rattle.sheet_cli.specs.Notation.{pressed, Spells}
 use Rattle.sheet_cli.specs.Notes.{LeavesSession, ending_status}
 use Rattle.sheet_cli.specs.Options.{limit_of}
 use Rattle.sheet_cli.specs.Run.{Ended, Outside, Step, keys_of}
@@ -16,7 +17,8 @@ use Rattle.sheet_cli.specs.declared.drive.Ending.{Ending}
 use Rattle.sheet_cli.specs.declared.drive.Ending.TheVariants.{KeysEnded, BadWord, KeysFailed, Stopped, NoMemory}
 use Rattle.sheet_cli.specs.declared.options.Options.{Options}
 use Rattle.sheet_cli.proofs.Endings.{handled}
-use Rattle.sheet_cli.proofs.Scanning.{prefix_keys}
+use Rattle.key_words.proofs.Scanning.{prefix_keys}
+use Rattle.sheet_cli.proofs.Pressed.{into_length, pressed-append}
 
 -- what the keys told was taken from their bytes
 took : (bytes taken : List ℕ) (told now : Option (List ℕ)) → told ≡ Some bytes → TakesBytes told taken now → (rest : List ℕ) × (bytes ≡ taken ++ rest) × (now ≡ Some rest)
@@ -47,15 +49,18 @@ module _ (o : Options) (before now : Outside) (bytes : List ℕ) (keys : List Ke
       let t = took bytes h.taken before.bytes now.bytes told h.did.bytes in
       let none : t.0 ≡ [] = at_their_end bytes h.taken t.0 now.bytes t.1 t.2 short h.ended in
       let whole : bytes ≡ h.taken = t.1 ∙ ap (λ (r : List ℕ). h.taken ++ r) none ∙ append-nil h.taken in
-      absurd (h.no_text keys (subst (λ (b : List ℕ). Spells b keys) whole spelled))
+      absurd (h.no_text spelled.0 (subst (λ (b : List ℕ). SpellsWords b spelled.0) whole spelled.1))
   only_end (BadWord at) leaves (inr h) =
       let t = took bytes (h.taken ++ h.bad ∷ []) before.bytes now.bytes told h.did.bytes in
-      absurd (h.begins_none (t.0, keys, subst (λ (b : List ℕ). Spells b keys) t.1 spelled))
+      absurd (h.begins_none (t.0, spelled.0, subst (λ (b : List ℕ). SpellsWords b spelled.0) t.1 spelled.1))
   only_end KeysFailed leaves h = absurd (fine h.fault)
   only_end Stopped leaves h =
       let t = took bytes h.taken before.bytes now.bytes told h.did.bytes in
-      let more = prefix_keys h.taken t.0 (keys_of steps ++ h.last ∷ []) keys h.spelled (subst (λ (b : List ℕ). Spells b keys) t.1 spelled) in
-      absurd (omega (arith, ap length more.1, length-append (keys_of steps ++ h.last ∷ []) more.0, length-append (keys_of steps) (h.last ∷ []), length-map steps (λ (x : Step). x.key), h.all))
+      let i = h.spelled in
+      let more = prefix_keys h.taken t.0 i.words spelled.0 i.spelled (subst (λ (b : List ℕ). SpellsWords b spelled.0) t.1 spelled.1) in
+      let all : keys ≡ pressed i.words ++ pressed more.0 = sym spelled.2 ∙ ap pressed more.1 ∙ pressed-append i.words more.0 in
+      let made : length (keys_of steps ++ h.last ∷ []) ≤ length (pressed i.words) = into_length i.words (keys_of steps ++ h.last ∷ []) i.key i.left i.into in
+      absurd (omega (arith, ap length all, length-append (pressed i.words) (pressed more.0), made, length-append (keys_of steps) (h.last ∷ []), length-map steps (λ (x : Step). x.key), h.all))
   only_end NoMemory leaves h = absurd leaves
 
 ended_well : (words : List (List ℕ)) (o : Options) (before now : World) (found : ℕ) (text : List ℕ) (must : MustEndWell words before now) → must.options ≡ o → HasFinished o before.outside now.outside found text →

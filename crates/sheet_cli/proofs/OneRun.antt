@@ -4,7 +4,7 @@ use Rattle.serial_date.specs.declared.moment.Moment.{Moment}
 use Rattle.session_core.proofs.OneWay.{one_step}
 use Rattle.session_core.specs.Machine.{IsSame, IsStep, Running, State}
 use Rattle.session_core.specs.Screen.{screen}
-use Rattle.session_core.specs.declared.key.Key.{Key}
+use Rattle.key_words.specs.declared.key.Key.{Key}
 use Rattle.sheet_cli.specs.Displays.{Screen}
 use Rattle.sheet_cli.specs.Run.{keys_of, moments_of, screens, AreSteps, GoOneWay, Step}
 

@@ -1,7 +1,7 @@
 -- When a run must end well.
 use Rattle.std.specs.Prelude.{◌≡◌, ℕ, ◌<◌, ◌≤◌, ◌-◌, ◌^◌, ◌⊎◌, List, [], length, Some, Ok}
 use Rattle.outside_world.specs.Causes.{Rose}
-use Rattle.session_core.specs.declared.key.Key.{Key}
+use Rattle.key_words.specs.declared.key.Key.{Key}
 use Rattle.sheet_cli.specs.Notation.{Spells}
 use Rattle.sheet_cli.specs.Options.{limit_of, words_read}
 use Rattle.sheet_cli.specs.Status.{World}

@@ -1,8 +1,8 @@
 -- How the steps of a run end.
-use Rattle.std.specs.Prelude.{◌≡◌, ℕ, List, Option, ◌⊎◌}
+use Rattle.std.specs.Prelude.{◌≡◌, ℕ, Bool, true, false, List, Option, ◌⊎◌}
 use Rattle.outside_world.specs.Clock.{TakesReading}
 use Rattle.serial_date.specs.declared.moment.Moment.{Moment}
-use Rattle.session_core.specs.declared.key.Key.{Key}
+use Rattle.key_words.specs.declared.key.Key.{Key}
 use Rattle.session_core.specs.Machine.{start, IsStep, Running}
 use Rattle.session_core.specs.Screen.{screen}
 use Rattle.screen_show.specs.Display.{View}
@@ -10,8 +10,8 @@ use Rattle.screen_show.specs.Grid.{IsPrinted}
 use Rattle.sheet_cli.specs.Displays.{Screen, Watched}
 use Rattle.sheet_cli.specs.Passing.{HasSentOne, Passed}
 use Rattle.sheet_cli.specs.Run.{Outside, Step, after, RanToEnd, RanIntoWord, RanToBadByte, RanToKeyFault, RanToLimit, RanOutOfMemory}
-use Rattle.sheet_cli.specs.declared.reader.KeyReader.{KeyReader}
-use Rattle.sheet_cli.specs.declared.reader.KeyReader.TheVariants.{AtRest, Opened, Named}
+use Rattle.sheet_cli.specs.Reader.{RestsAsTold}
+use Rattle.sheet_cli.specs.declared.reader.KeyFeed.{KeyFeed}
 use Rattle.sheet_cli.specs.declared.drive.StepEnd.{StepEnd}
 use Rattle.sheet_cli.specs.declared.drive.StepEnd.TheVariants.{Done, NoMemory as StepNoMemory}
 use Rattle.sheet_cli.specs.declared.drive.Ending.{Ending}
@@ -38,10 +38,13 @@ HasStepped key s t readings readings' shown shown' displays displays' failed fai
 HasStepped key s t readings readings' shown shown' displays displays' failed failed' StepNoMemory = HasNotMadeStep readings readings' displays displays' failed failed'
 
 -- the ending where the keys are at their end, behind so many bytes
-abbrev pub ended_as : KeyReader → ℕ → Ending
-ended_as AtRest at = KeysEnded
-ended_as Opened at = BadWord at
-ended_as (Named key len) at = BadWord at
+abbrev pub ended_as : Bool → ℕ → Ending
+ended_as true at = KeysEnded
+ended_as false at = BadWord at
+
+-- the keys ended at a word's end or inside a word, as the reader tells
+abbrev pub EndsAsTold : KeyFeed → Ending → Type 0
+EndsAsTold f ending = (rests : Bool) × RestsAsTold f rests × (ending ≡ ended_as rests f.words.taken)
 
 abbrev pub HasEnded : ℕ → List Step → List Watched → List Watched → Outside → Outside → Ending → Type 0
 HasEnded limit steps left out before now KeysEnded = RanToEnd limit steps left out before now

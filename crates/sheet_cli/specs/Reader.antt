@@ -1,51 +1,61 @@
--- The reader of key notation, a byte at a time.
-use Rattle.std.specs.Prelude.{◌≡◌, ℕ, ◌+◌, ◌||◌, ◌==◌, nat_lt, if◌then◌else◌, List, [], ◌∷◌, length, slice_index, Option, Some, None, codes}
-use Rattle.lics_text.specs.Bytes.{folded}
-use Rattle.session_core.specs.declared.key.Key.{Key}
-use Rattle.session_core.specs.declared.key.Key.TheVariants.{Byte, Enter, Up, Down, Left, Right, Calc}
-use Rattle.sheet_cli.specs.Notation.{is_typed}
+-- The reader of keys.
+use Rattle.std.specs.Prelude.{◌≡◌, ℕ, ◌+◌, ◌-◌, ◌*◌, ◌<◌, ◌⊎◌, Bool, true, false, List, [], ◌∷◌, ◌++◌, length, Option}
+use Rattle.key_words.specs.Notation.{Begins, IsNoText, Spells}
+use Rattle.key_words.specs.Reading.{HasRead}
+use Rattle.key_words.specs.declared.key.Key.{Key}
+use Rattle.sheet_cli.specs.Notation.{pressed, HasKeys, IntoLast}
 use Rattle.sheet_cli.specs.Taking.{TakesBytes, AtEnd}
-use Rattle.sheet_cli.specs.declared.reader.KeyReader.{KeyReader}
-use Rattle.sheet_cli.specs.declared.reader.KeyReader.TheVariants.{AtRest, Opened, Named}
+use Rattle.sheet_cli.specs.declared.reader.KeyFeed.{KeyFeed}
 use Rattle.sheet_cli.specs.declared.reader.Read.{Read}
 use Rattle.sheet_cli.specs.declared.reader.Read.TheVariants.{Key as ReadKey, More as ReadMore, Bad as ReadBad, End as ReadEnd, Failed as ReadFailed}
 
--- the name of a key in braces
-abbrev pub name_of : Key → List ℕ
-name_of (Byte b) = []
-name_of Enter = []
-name_of Up = codes "UP"
-name_of Down = codes "DOWN"
-name_of Left = codes "LEFT"
-name_of Right = codes "RIGHT"
-name_of Calc = codes "CALC"
+-- a key is to come, or one byte more can be counted
+abbrev pub HasRoom : KeyFeed → Type 0
+HasRoom f = f.left ≡ 0 → f.words.taken < 18446744073709551615
 
--- the key whose name begins with this letter
-abbrev pub begun_by : ℕ → Option Key
-begun_by b = if b == 85 then Some Up else if b == 68 then Some Down else if b == 76 then Some Left else if b == 82 then Some Right else if b == 67 then Some Calc else None
+-- no key is to come, and as many bytes were read as can be counted
+abbrev pub IsFull : KeyFeed → Type 0
+IsFull f = (f.left ≡ 0) × (f.words.taken ≡ 18446744073709551615)
 
-abbrev pub opened_by : Option Key → Option (KeyReader × Option Key)
-opened_by None = None
-opened_by (Some key) = Some (Named key 1, None)
+-- how much may be read yet; less with each key and each byte
+abbrev pub ahead : KeyFeed → ℕ
+ahead f = (18446744073709551615 - f.words.taken) * 65536 + f.left
 
--- the reader after a byte, and the key that it ends, if it does; none where no text goes on with the byte
-abbrev pub after_byte : KeyReader → ℕ → Option (KeyReader × Option Key)
-after_byte AtRest b =
-    if b == 126 then Some (AtRest, Some Enter)
-    else if b == 123 then Some (Opened, None)
-    else if b == 13 || b == 10 then Some (AtRest, None)
-    else if is_typed b then Some (AtRest, Some (Byte b))
-    else None
-after_byte Opened b = opened_by (begun_by (folded b))
-after_byte (Named key len) b =
-    if nat_lt len (length (name_of key)) then (if folded b == slice_index (name_of key) len then Some (Named key (len + 1), None) else None)
-    else if b == 125 then Some (AtRest, Some key)
-    else None
+-- these bytes were read, and these keys came, of which the last is one of the last word's
+pub record HasJustPressed (bytes : List ℕ) (keys : List Key) (f : KeyFeed) : Type 0 where
+  pub words : List (Key × ℕ)
+  pub read : HasRead bytes words f.words
+  pub spelled : Spells bytes words
+  pub into : IntoLast words keys f.key f.left
 
--- one byte was taken and fed, or there was none
-abbrev pub HasRead : Option (List ℕ) → KeyReader → Option (List ℕ) → KeyReader → Read → Type 0
-HasRead bytes before bytes' now (ReadKey key) = (b : ℕ) × TakesBytes bytes (b ∷ []) bytes' × (after_byte before b ≡ Some (now, Some key))
-HasRead bytes before bytes' now ReadMore = (b : ℕ) × TakesBytes bytes (b ∷ []) bytes' × (after_byte before b ≡ Some (now, None))
-HasRead bytes before bytes' now ReadBad = (b : ℕ) × TakesBytes bytes (b ∷ []) bytes' × (after_byte before b ≡ None)
-HasRead bytes before bytes' now ReadEnd = TakesBytes bytes [] bytes' × AtEnd bytes' × (now ≡ before)
-HasRead bytes before bytes' now ReadFailed = TakesBytes bytes [] bytes' × (now ≡ before)
+-- these bytes were read, and these keys came, of which none are left
+pub record HasPressedAll (bytes : List ℕ) (keys : List Key) (f : KeyFeed) : Type 0 where
+  pub words : List (Key × ℕ)
+  pub read : HasRead bytes words f.words
+  pub keys_are : pressed words ≡ keys
+  pub none : f.left ≡ 0
+
+-- these bytes were read, and these keys came
+abbrev pub HasPressed : List ℕ → List Key → KeyFeed → Type 0
+HasPressed bytes keys f = HasPressedAll bytes keys f ⊎ HasJustPressed bytes keys f
+
+-- what reading came to, behind these bytes and keys
+abbrev pub Reads : List ℕ → List Key → Option (List ℕ) → Option (List ℕ) → KeyFeed → Read → Type 0
+Reads bytes keys told told' f (ReadKey key) = (more : List ℕ) × TakesBytes told more told' × HasJustPressed (bytes ++ more) (keys ++ key ∷ []) f
+Reads bytes keys told told' f ReadMore = (b : ℕ) × TakesBytes told (b ∷ []) told' × HasPressedAll (bytes ++ b ∷ []) keys f
+Reads bytes keys told told' f (ReadBad at) = (b : ℕ) × TakesBytes told (b ∷ []) told' × HasKeys bytes keys × (Begins (bytes ++ b ∷ []) → ⊥) × (at ≡ length bytes)
+Reads bytes keys told told' f ReadEnd = TakesBytes told [] told' × AtEnd told' × HasPressedAll bytes keys f
+Reads bytes keys told told' f ReadFailed = TakesBytes told [] told' × HasKeys bytes keys
+
+-- what a byte came to, behind these bytes and keys
+abbrev pub Takes : List ℕ → List Key → ℕ → KeyFeed → Read → Type 0
+Takes bytes keys b f (ReadKey key) = HasJustPressed (bytes ++ b ∷ []) (keys ++ key ∷ []) f
+Takes bytes keys b f ReadMore = HasPressedAll (bytes ++ b ∷ []) keys f
+Takes bytes keys b f (ReadBad at) = HasKeys bytes keys × (Begins (bytes ++ b ∷ []) → ⊥) × (at ≡ length bytes)
+Takes bytes keys b f ReadEnd = ⊥
+Takes bytes keys b f ReadFailed = ⊥
+
+-- the reader is at rest exactly where the bytes are whole words
+pub record RestsAsTold (f : KeyFeed) (rests : Bool) : Type 0 where
+  pub whole : (bytes : List ℕ) (words : List (Key × ℕ)) → HasRead bytes words f.words → rests ≡ true → Spells bytes words
+  pub inside : (bytes : List ℕ) (words : List (Key × ℕ)) → HasRead bytes words f.words → rests ≡ false → IsNoText bytes

@@ -5,7 +5,7 @@ use std::process::Abort;
 use std::test::Fail;
 
 // The last screen of keys that are all taken, and how many formulas were evaluated.
-fn come_to<R: AllocGlobal + Abort>(
+pub fn come_to<R: AllocGlobal + Abort>(
     rt: &R,
     keys: &[u8],
     frames: usize,
