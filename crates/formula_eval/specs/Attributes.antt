@@ -12,7 +12,7 @@ use Rattle.formula_eval.specs.declared.argument.Operand.{Operand}
 use Rattle.formula_eval.specs.declared.attributes.Attribute.{Attribute}
 use Rattle.formula_eval.specs.declared.attributes.Attribute.TheVariants.{Address, Col, Row, Contents, Format, Prefix, Protect, CellType, Width}
 use Rattle.formula_eval.specs.Lookups.{on_range, range_of}
-use Rattle.formula_eval.specs.Values.{counted, on_text, stop_one, text_in, texted, truth, unless_stopped}
+use Rattle.value_functions.specs.Values.{counted, on_text, stop_one, text_in, texted, truth, unless_stopped}
 use Rattle.formula_eval.specs.World.{Sight}
 
 -- letters of either case are the same

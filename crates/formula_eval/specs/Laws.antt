@@ -16,8 +16,8 @@ use Rattle.formula_eval.specs.Agreement.{in_arguments, in_operand, same_of, with
 use Rattle.formula_eval.specs.Lists.{list_value}
 use Rattle.formula_eval.specs.Lookalike.{same_index, same_lookup}
 use Rattle.formula_eval.specs.Mean.{arguments_at, call_value, called, chosen, filled_in, is_choice, mean, one_value, operand_of, three_value, two_value, value_at, Reads}
-use Rattle.formula_eval.specs.Operators.{binary_value, denied, negated}
-use Rattle.formula_eval.specs.Scalars.{constant_value}
+use Rattle.value_functions.specs.Operators.{binary_value, denied, negated}
+use Rattle.value_functions.specs.Scalars.{constant_value}
 use Rattle.formula_eval.specs.World.{World}
 
 not_blank : (v : Value) → filled_in v ≡ value.Blank → ⊥

@@ -5,8 +5,5 @@ pub mod Lists
 pub mod Lookalike
 pub mod Lookups
 pub mod Mean
-pub mod Operators
-pub mod Scalars
 pub mod Scenes
-pub mod Values
 pub mod World

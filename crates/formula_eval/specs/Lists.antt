@@ -12,8 +12,8 @@ use Rattle.formula_eval.specs.declared.argument.Operand.TheVariants as operand
 use Rattle.formula_eval.specs.declared.argument.Argument.{Argument}
 use Rattle.formula_eval.specs.declared.items.Item.{Item}
 use Rattle.formula_eval.specs.declared.items.Item.TheVariants as item
-use Rattle.formula_eval.specs.Operators.{binary_value}
-use Rattle.formula_eval.specs.Values.{answer, counted, stop, unless_stopped}
+use Rattle.value_functions.specs.Operators.{binary_value}
+use Rattle.value_functions.specs.Values.{answer, counted, stop, unless_stopped}
 use Rattle.formula_eval.specs.World.{filled}
 
 -- a cell of a range: a blank one is passed over, and a label counts as 0

@@ -12,8 +12,8 @@ use Rattle.formula_tree.specs.declared.value.Value.{Value}
 use Rattle.formula_tree.specs.declared.value.Value.TheVariants as value
 use Rattle.formula_eval.specs.declared.argument.Operand.{Operand}
 use Rattle.formula_eval.specs.declared.argument.Operand.TheVariants as operand
-use Rattle.formula_eval.specs.Operators.{order_of_texts}
-use Rattle.formula_eval.specs.Values.{counted, number_in, on_number, on_text, stop_one, stop_two, text_in, unless_stopped}
+use Rattle.value_functions.specs.Operators.{order_of_texts}
+use Rattle.value_functions.specs.Values.{counted, number_in, on_number, on_text, stop_one, stop_two, text_in, unless_stopped}
 use Rattle.formula_eval.specs.World.{height_of, width_of}
 
 -- a cell is a range of one cell

@@ -15,9 +15,9 @@ use Rattle.formula_eval.specs.declared.argument.Operand.TheVariants as operand
 use Rattle.formula_eval.specs.Attributes.{cell_value, told_value}
 use Rattle.formula_eval.specs.Lists.{items_of, list_value}
 use Rattle.formula_eval.specs.Lookups.{extent_value, index_value, lookup_value, on_range, pointed_value, range_of}
-use Rattle.formula_eval.specs.Operators.{binary_value, denied, is_zero, negated}
-use Rattle.formula_eval.specs.Scalars.{changed, char_value, constant_value, cut_value, exact_value, find_value, mid_value, of_number, of_numbers, of_parts, of_text, replace_value, string_value, test_value}
-use Rattle.formula_eval.specs.Values.{number_in, stop_one}
+use Rattle.value_functions.specs.Operators.{binary_value, denied, is_zero, negated}
+use Rattle.value_functions.specs.Scalars.{changed, char_value, constant_value, cut_value, exact_value, find_value, mid_value, of_number, of_numbers, of_parts, of_text, replace_value, string_value, test_value}
+use Rattle.value_functions.specs.Values.{number_in, stop_one}
 use Rattle.formula_eval.specs.World.{World}
 
 -- DAY and its like take a number, LENGTH and its like a text

@@ -2,19 +2,19 @@
 ghost use Rattle.std.specs.Prelude.{◌≡◌, ◌≤◌, ◌<◌, ◌+◌, ◌++◌, length, nat_le, IfOk, codes};
 ghost use Rattle.std.specs.Str.{str_eq_ignore_ascii_case};
 ghost use Rattle.formula_eval.specs.Attributes.{attribute_named, attribute_value, cell_value, on_attribute, prefix_in, prefix_of, told_value, type_in, type_of, without_brackets};
-ghost use Rattle.formula_eval.specs.Values.{texted};
+ghost use Rattle.value_functions.specs.Values.{texted};
 ghost use Rattle.formula_eval.specs.World.{Sight};
 ghost use Rattle.grid_address.specs.Address.{column_name, decimal};
 
 use crate::argument::Operand;
 use crate::look::Look;
 use crate::lookups::range_of;
-use crate::values::{counted, stop_one, text_in, texted, truth};
 use cell_format::indicator;
 use formula_tree::{Content, Value};
 use grid_address::{Cell, column_text, row_text};
 use lics_text::{Line, Memory};
 use std::alloc::Global;
+use value_functions::{counted, stop_one, text_in, texted, truth};
 
 /// What may be asked of a cell.
 #[derive(Clone, Copy)]

@@ -11,18 +11,16 @@ use crate::argument::Argument;
 use crate::attributes::{cell_value, told_value};
 use crate::look::{Look, Scene};
 use crate::lookups::{extent_value, index_value, lookup_value, pointed_value, range_of};
-use crate::operators::is_zero;
-use crate::rows::constant_value;
-use crate::scalars::{
-    changed, char_value, cut_value, exact_value, find_value, mid_value, of_number, of_numbers,
-    of_parts, of_text, replace_value, string_value, test_value,
-};
-use crate::values::{number_in, stop_one};
 use at_functions::whole;
 use fixed_value::Fixed;
 use formula_tree::Value;
 use lics_text::Memory;
 use std::alloc::Global;
+use value_functions::{
+    changed, char_value, constant_value, cut_value, exact_value, find_value, is_zero, mid_value,
+    number_in, of_number, of_numbers, of_parts, of_text, replace_value, stop_one, string_value,
+    test_value,
+};
 
 fn is_one_of(codes: &[u8], code: u8) -> bool
     ensures { result ≡ is_one_of codes.now code }

@@ -8,13 +8,12 @@ ghost use Rattle.formula_eval.specs.World.{filled, Sight};
 
 use crate::argument::{Argument, Operand};
 use crate::look::Look;
-use crate::operators::divided;
-use crate::values::{answer, counted, stop};
 use fixed_value::{Fixed, MAX_SIZE};
 use formula_tree::Value;
 use grid_address::Span;
 use lics_text::Memory;
 use std::alloc::Global;
+use value_functions::{answer, counted, divided, stop};
 
 /// An item of a list: a number, ERR or NA.
 #[derive(Clone, Copy)]

@@ -1,4 +1,4 @@
-//! What formulas mean: each operator and each function over the values of cells, counted for each evaluation.
+//! What formulas mean: operators and functions over the values of cells, counted for each evaluation.
 #![tactic(auto)]
 
 mod argument;
@@ -9,12 +9,8 @@ mod look;
 mod lookups;
 mod meaning;
 mod means;
-mod operators;
-mod rows;
-mod scalars;
 #[cfg(test)]
 mod tests;
-mod values;
 
 pub use look::{Look, Scene};
 pub use meaning::{Tally, evaluate, glance};

@@ -8,7 +8,6 @@ ghost use Rattle.formula_eval.specs.World.{height_of, width_of, Sight};
 
 use crate::argument::Operand;
 use crate::look::Look;
-use crate::values::{counted, number_in, stop_one, stop_two, text_in};
 use at_functions::whole;
 use fixed_value::Fixed;
 use formula_tree::Value;
@@ -16,6 +15,7 @@ use grid_address::{Cell, Span, read_cell};
 use lics_text::{Memory, Text};
 use range_names::Names;
 use std::cmp::Ordering;
+use value_functions::{counted, number_in, stop_one, stop_two, text_in};
 
 /// An argument as a range; a cell is a range of one cell.
 pub fn range_of(operand: Operand) -> Option<Span>

@@ -3,7 +3,7 @@ ghost use Rattle.std.specs.Prelude.{◌≡◌, ℕ, ◌+◌, ◌-◌, ◌^◌, �
 ghost use Rattle.formula_tree.specs.View.{listed, tree_of};
 ghost use Rattle.formula_eval.specs.Lists.{items_of, list_value};
 ghost use Rattle.formula_eval.specs.Mean.{arguments_at, call_value, chosen, filled_in, mean, operand_of, value_at};
-ghost use Rattle.formula_eval.specs.Operators.{binary_value, denied, negated};
+ghost use Rattle.value_functions.specs.Operators.{binary_value, denied, negated};
 ghost use Rattle.formula_eval.specs.Scenes.{world_of};
 ghost use Rattle.formula_eval.specs.World.{Sight};
 ghost use Rattle.formula_tree.specs.declared.value.Value.TheVariants as value;
@@ -12,12 +12,12 @@ use crate::argument::{Argument, Operand};
 use crate::calls::{called, choice, is_choice, is_list};
 use crate::items::{items_of, list_value};
 use crate::look::{Look, Scene};
-use crate::operators::{binary, denied, negated};
 use fixed_value::Fixed;
 use formula_tree::{Expr, Formula, Op, Value};
 use grid_address::{Cell, Span};
 use lics_text::{Memory, Text};
 use std::alloc::Global;
+use value_functions::{binary, denied, negated};
 
 /// A count of evaluations. It stays at the last number that it can hold.
 #[derive(Clone, Copy, Debug, PartialEq, Eq, Drop)]

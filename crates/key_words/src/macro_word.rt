@@ -46,7 +46,7 @@ pub enum MacroWord {
     PlaceCall(Cut),
     /// The text's end.
     End,
-    /// A brace that isn't closed, a closing brace alone, or a slash word without one of its tildes.
+    /// A brace that isn't closed, a closing brace alone, a slash word without one of its tildes, or a byte below 32.
     Bad,
 }
 
@@ -281,7 +281,7 @@ fn slashed(text: &[u8], offset: usize) -> (MacroWord, usize)
 /// The word at an offset of a macro's text, and the offset behind it. Names, of keys, then of commands, stand in
 /// braces up to the first space; the word ends at the first closing brace outside quotes, which are counted from the
 /// opening one. A slash, X and one of the letters I, G, C, R, Q, M, L and N is a command whose arguments end with a
-/// tilde each; letters stand in either case. A tilde is Enter, and any other byte is itself, 32 to 255. At or past the
+/// tilde each; letters stand in either case. A tilde is Enter, and any other byte from 32 on is itself. At or past the
 /// text's end is End (Release 2 manual).
 pub fn unit_at(text: &[u8], offset: usize) -> (MacroWord, usize)
     ensures { result ≡ spec.unit_at text.now offset }

@@ -34,6 +34,7 @@ impl Model for Letters {
 }
 
 impl Letters {
+    // The letters, in capitals.
     pub fn bytes(&self) -> &[u8]
         ensures { result.now ≡ self.now }
     {

@@ -40,7 +40,8 @@ impl KeyReader {
         }
     }
 
-    /// Takes a byte. After a bad one each byte gets the same answer.
+    /// Takes a byte. After a bad one each byte gets the same answer. Fewer than 18,446,744,073,709,551,615 bytes, the
+    /// last u64, may have been fed before.
     pub fn feed(&mut self, byte: u8) -> Fed
         requires room { self.old.taken < 18446744073709551615 }
         ensures taken { self.new.taken ≡ self.old.taken + 1 }

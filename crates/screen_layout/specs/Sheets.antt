@@ -1,5 +1,5 @@
 -- What is seen of a sheet.
-use Rattle.std.specs.Prelude.{ℕ, Bool, refl, min}
+use Rattle.std.specs.Prelude.{ℕ, Bool, refl}
 use Rattle.std.specs.Coded.{Coded, code_by, coded×, coded_bool}
 use Rattle.natural_recalc.specs.World.{width_or}
 use Rattle.range_names.specs.Names.{coded_names, NameMap}
@@ -27,6 +27,6 @@ coded_sheet = code_by (Grid × (Bool × (Bool × (NameMap × Choices))))
 abbrev pub of_worksheet : Worksheet → Sheet
 of_worksheet w = record { grid = w.grid; circular = w.circular; stale = w.stale; names = w.names; settings = w.settings }
 
--- a column has its own width or the sheet's, and at most 240 bytes
+-- a column has its own width or the sheet's
 abbrev pub width_in : Sheet → ℕ → ℕ
-width_in s col = min (width_or s.settings.width (width_of s.grid col)) 240
+width_in s col = width_or s.settings.width (width_of s.grid col)

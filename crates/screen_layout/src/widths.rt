@@ -2,7 +2,6 @@
 ghost use Rattle.std.specs.Prelude.{◌≡◌, ◌≤◌};
 ghost use Rattle.screen_layout.specs.Sheets.{of_worksheet, width_in};
 
-use formula_eval::Look;
 use work_sheet::Sheet;
 
 /// A column's width: its own or the sheet's.
@@ -10,5 +9,10 @@ pub fn width_in(sheet: &Sheet, col: u8) -> u8
     ensures width { result ≡ width_in (of_worksheet sheet.now) col }
     ensures most { result ≤ 240 }
 {
-    sheet.width(col).min(240)
+    let settings = sheet.settings();
+    settings.are_within();
+    match sheet.own_width(col) {
+        Some(width) => width,
+        None => settings.width,
+    }
 }

@@ -19,6 +19,7 @@ pub record OnGrid (row : ℕ) (before after : List (List ℕ)) (s t : Shown) : T
   pub frames : t.frames ≡ s.frames
   pub puts : raised t.puts (changed_runs (drop row before) (drop row after)) ≡ raised s.puts (changed_runs before after)
   pub bytes_put : raised t.bytes_put (differences (drop row before) (drop row after)) ≡ raised s.bytes_put (differences before after)
+  pub closes : t.closes ≡ s.closes
   pub sound : IsSound t
 
 abbrev pub SendingGrid : ℕ → List (List ℕ) → List (List ℕ) → Option Shown → Option Shown → Type 0
@@ -28,7 +29,7 @@ SendingGrid row before after (Some s) (Some t) = OnGrid row before after s t
 
 pub grid_starts : (before after : List (List ℕ)) (was : Option Shown) → TellsSoundly was → SendingGrid 0 before after was was
 grid_starts before after None sound = refl
-grid_starts before after (Some s) sound = record { grid = refl; frames = refl; puts = refl; bytes_put = refl; sound = sound }
+grid_starts before after (Some s) sound = record { grid = refl; frames = refl; puts = refl; bytes_put = refl; closes = refl; sound = sound }
 
 pub grid_sound : (row : ℕ) (before after : List (List ℕ)) (was now : Option Shown) → SendingGrid row before after was now → TellsSoundly now
 grid_sound row before after None None on = tt
@@ -69,6 +70,7 @@ module _ (row : ℕ) (before after : List (List ℕ)) (b a : List ℕ) (below : 
         frames = sent.frames ∙ on.frames;
         puts = omega (arith, sent.puts, runs);
         bytes_put = omega (arith, sent.bytes_put, bytes);
+        closes = sent.closes ∙ on.closes;
         sound = record {
           grid = subst IsGrid (sym sent.grid) (record { lines = length-set t.grid row new ∙ on.sound.grid.lines; columns = All-set (λ l. length l ≡ 80) t.grid row new new_wide on.sound.grid.columns });
           puts = omega (arith, sent.puts);
@@ -88,7 +90,7 @@ grid_fails row before after b a None None now f sent on = sent
 grid_fails row before after b a None (Some t) now f sent on = absurd cc
 grid_fails row before after b a (Some s) None now f sent on = absurd on
 grid_fails row before after b a (Some s) (Some t) None f sent on = absurd sent
-grid_fails row before after b a (Some s) (Some t) (Some u) f sent on = sent ∙ on.frames
+grid_fails row before after b a (Some s) (Some t) (Some u) f sent on = (sent.0 ∙ on.frames, sent.1 ∙ on.closes)
 
 -- a line that agreed is patched to the new one
 line_agrees : (before after line : List ℕ) → length before ≡ length after → length line ≡ length after → AgreesInLine before after line → patched_line before after line ≡ after
@@ -129,6 +131,7 @@ module _ (row : ℕ) (before after : List (List ℕ)) (before_shape : IsGrid bef
         puts = (let all : raised t.puts 0 ≡ raised s.puts (changed_runs before after) = rw none at on.puts in omega (arith, on.sound.puts, all));
         bytes_put = (let all : raised t.bytes_put 0 ≡ raised s.bytes_put (differences before after) = rw none at on.bytes_put in omega (arith, on.sound.bytes_put, all));
         closed = refl;
+        closes = on.closes;
       }
 
 pub grid_ends : (row : ℕ) (before after : List (List ℕ)) (was then now : Option Shown) (result : Result Unit Failed) → IsGrid before → IsGrid after → TellsSoundly was → 25 ≤ row →
@@ -138,4 +141,4 @@ grid_ends row before after None (Some t) now result before_shape after_shape sou
 grid_ends row before after (Some s) None now result before_shape after_shape sound low on done = absurd on
 grid_ends row before after (Some s) (Some t) now (Ok u) before_shape after_shape sound low on done =
     subst (λ (shown : Option Shown). Sends before after (Some s) shown (Ok u)) (sym done) (all_put row before after before_shape after_shape s t sound.grid low on)
-grid_ends row before after (Some s) (Some t) now (Err f) before_shape after_shape sound low on done = rw (done.1) on.frames
+grid_ends row before after (Some s) (Some t) now (Err f) before_shape after_shape sound low on done = rw (done.1) (on.frames, on.closes)

@@ -19,6 +19,7 @@ pub record OnLine (row col : ℕ) (before after : List ℕ) (s t : Shown) : Type
   pub frames : t.frames ≡ s.frames
   pub puts : raised t.puts (line_runs (drop col before) (drop col after)) ≡ raised s.puts (line_runs before after)
   pub bytes_put : raised t.bytes_put (line_differences (drop col before) (drop col after)) ≡ raised s.bytes_put (line_differences before after)
+  pub closes : t.closes ≡ s.closes
   pub puts_in : t.puts ≤ 2 ^ 64 - 1
   pub bytes_in : t.bytes_put ≤ 2 ^ 64 - 1
 
@@ -35,6 +36,7 @@ line_starts row before after (Some s) h sound = record {
   grid = sym (set-get_or s.grid row []);
   line = refl;
   frames = refl;
+  closes = refl;
   puts = refl;
   bytes_put = refl;
   puts_in = sound.puts;
@@ -63,6 +65,7 @@ module _ (row col : ℕ) (before after : List ℕ) (wide_before : length before 
         grid = on.grid;
         line = rw (take_more on.now col 0 (omega (arith, on.wide)), append_assoc (take col on.now) (get_or on.now col 0 ∷ []) (patched_line (drop (col + 1) before) (drop (col + 1) after) (drop (col + 1) on.now))) line';
         frames = on.frames;
+        closes = on.closes;
         puts = rw (b, a, test) at on.puts;
         bytes_put = (let bytes' : raised t.bytes_put (0 + line_differences (drop (col + 1) before) (drop (col + 1) after)) ≡ raised s.bytes_put (line_differences before after) = rw (b, a, test) at on.bytes_put in omega arith);
         puts_in = on.puts_in;
@@ -93,6 +96,7 @@ module _ (row col : ℕ) (before after : List ℕ) (wide_before : length before 
         line = rw (take_at front back (col + n) front_long, drop_at front back (col + n) front_long, back_is, before_later, after_later)
             (append_assoc (take col on.now) piece (patched_line (drop n (drop col before)) (drop n (drop col after)) (drop n (drop col on.now))) ∙ ap (λ (l : List ℕ). take col on.now ++ l) (sym run) ∙ on.line);
         frames = on.frames;
+        closes = on.closes;
         puts = rw (before_later, after_later) (omega (arith, on.puts, count));
         bytes_put = rw (before_later, after_later) (omega (arith, on.bytes_put, differ, long));
         puts_in = omega arith;
@@ -117,7 +121,7 @@ module _ (row col : ℕ) (before after : List ℕ) (wide_before : length before 
   line_fails None None now bytes f put on = put
   line_fails None (Some t) now bytes f put on = absurd cc
   line_fails (Some s) None now bytes f put on = absurd on
-  line_fails (Some s) (Some t) now bytes f put on = rw (put.1) on.frames
+  line_fails (Some s) (Some t) now bytes f put on = rw (put.1) (on.frames, on.closes)
 
   line_done : (s t : Shown) → 80 ≤ col → OnLine row col before after s t → HasSentLine row before after s t
   line_done s t past on =
@@ -127,6 +131,7 @@ module _ (row col : ℕ) (before after : List ℕ) (wide_before : length before 
       record {
         grid = on.grid ∙ ap (λ (l : List ℕ). set s.grid row l) whole;
         frames = on.frames;
+        closes = on.closes;
         puts = (let all : raised t.puts 0 ≡ raised s.puts (line_runs before after) = rw before_none at on.puts in omega (arith, on.puts_in, all));
         bytes_put = (let all : raised t.bytes_put 0 ≡ raised s.bytes_put (line_differences before after) = rw before_none at on.bytes_put in omega (arith, on.bytes_in, all));
       }
@@ -165,6 +170,7 @@ line_unchanged row before after (Some s) u h wide same sound =
     rw (← same) (record {
       grid = sym (ap (λ (l : List ℕ). set s.grid row l) (same_line_patched before line (omega arith)) ∙ set-get_or s.grid row []);
       frames = refl;
+      closes = refl;
       puts = (let none : line_runs before before ≡ 0 = same_line_runs before in omega (arith, none, sound.puts));
       bytes_put = (let none : line_differences before before ≡ 0 = same_line_differences before in omega (arith, none, sound.bytes_put));
     })

@@ -5,13 +5,15 @@ use Rattle.screen_show.specs.declared.display.Kind.{Kind}
 use Rattle.screen_show.specs.Changes.{Agrees, changed_runs, differences}
 use Rattle.screen_show.specs.Grid.{IsGrid, put_in_grid}
 
--- the grid now, the finished frames, how many puts were finished and their bytes, and whether the last finished call was a close
+-- the grid now, the finished frames, how many puts were finished and their bytes, whether the last finished call was a close,
+-- and how many closes were finished
 pub record Shown : Type 0 where
   pub grid : List (List ℕ)
   pub frames : List (List (List ℕ))
   pub puts : ℕ
   pub bytes_put : ℕ
   pub closed : Bool
+  pub closes : ℕ
 
 -- a display as it is seen: its kind, what it shows, where it tells it, and its count of faults
 pub record View : Type 0 where
@@ -39,14 +41,14 @@ LeavesGridOpen s after = (g : List (List ℕ)) × (after ≡ Some (record s { gr
 
 -- what is shown once bytes are put at a place
 abbrev pub with_bytes : ℕ → ℕ → List ℕ → Shown → Shown
-with_bytes row col bytes s = record { grid = put_in_grid row col bytes s.grid; frames = s.frames; puts = raised s.puts 1; bytes_put = raised s.bytes_put (length bytes); closed = false }
+with_bytes row col bytes s = record { grid = put_in_grid row col bytes s.grid; frames = s.frames; puts = raised s.puts 1; bytes_put = raised s.bytes_put (length bytes); closed = false; closes = s.closes }
 
 -- what is shown once the frame is ended: the grid is one more frame
 abbrev pub with_frame : Shown → Shown
-with_frame s = record { grid = s.grid; frames = s.frames ++ s.grid ∷ []; puts = s.puts; bytes_put = s.bytes_put; closed = false }
+with_frame s = record { grid = s.grid; frames = s.frames ++ s.grid ∷ []; puts = s.puts; bytes_put = s.bytes_put; closed = false; closes = s.closes }
 
 abbrev pub with_end : Shown → Shown
-with_end s = record { grid = s.grid; frames = s.frames; puts = s.puts; bytes_put = s.bytes_put; closed = true }
+with_end s = record { grid = s.grid; frames = s.frames; puts = s.puts; bytes_put = s.bytes_put; closed = true; closes = raised s.closes 1 }
 
 abbrev pub Puts : ℕ → ℕ → List ℕ → Option Shown → Option Shown → Result Unit Failed → Type 0
 Puts row col bytes None after result = after ≡ None
@@ -70,10 +72,11 @@ pub record HasSent (before after : List (List ℕ)) (s t : Shown) : Type 0 where
   pub puts : t.puts ≡ raised s.puts (changed_runs before after)
   pub bytes_put : t.bytes_put ≡ raised s.bytes_put (differences before after)
   pub closed : t.closed ≡ false
+  pub closes : t.closes ≡ s.closes
 
--- a screen is sent to a display that shows another; where that fails no frame was added
+-- a screen is sent to a display that shows another; where that fails no frame was added, and no close was finished
 abbrev pub Sends : List (List ℕ) → List (List ℕ) → Option Shown → Option Shown → Result Unit Failed → Type 0
 Sends before after None now result = now ≡ None
 Sends before after (Some s) None result = ⊥
 Sends before after (Some s) (Some t) (Ok _) = HasSent before after s t
-Sends before after (Some s) (Some t) (Err f) = t.frames ≡ s.frames
+Sends before after (Some s) (Some t) (Err f) = (t.frames ≡ s.frames) × (t.closes ≡ s.closes)

@@ -10,9 +10,10 @@ pub record HasSentLine (row : ℕ) (before after : List ℕ) (s t : Shown) : Typ
   pub frames : t.frames ≡ s.frames
   pub puts : t.puts ≡ raised s.puts (line_runs before after)
   pub bytes_put : t.bytes_put ≡ raised s.bytes_put (line_differences before after)
+  pub closes : t.closes ≡ s.closes
 
 abbrev pub SendsLine : ℕ → List ℕ → List ℕ → Option Shown → Option Shown → Result Unit Failed → Type 0
 SendsLine row before after None now result = now ≡ None
 SendsLine row before after (Some s) None result = ⊥
 SendsLine row before after (Some s) (Some t) (Ok _) = HasSentLine row before after s t
-SendsLine row before after (Some s) (Some t) (Err f) = t.frames ≡ s.frames
+SendsLine row before after (Some s) (Some t) (Err f) = (t.frames ≡ s.frames) × (t.closes ≡ s.closes)

@@ -60,6 +60,7 @@ mod tests {
         assert_eq!(rt; recorder.done(), Err(Failed));
         assert_eq!(rt; recorder.close(), Ok(()));
         assert!(rt; recorder.is_closed());
+        assert_eq!(rt; recorder.closes(), 1);
         assert_eq!(rt; recorder.frames().len(), 1);
         Ok(())
     }

@@ -15,6 +15,7 @@ pub struct Recorder {
     puts: u64,
     bytes_put: u64,
     closed: bool,
+    closes: u64,
     room: usize,
     failing: Vec<u64>,
     calls: u64,
@@ -45,6 +46,7 @@ impl Recorder {
             puts: 0,
             bytes_put: 0,
             closed: false,
+            closes: 0,
             room,
             failing,
             calls: 0,
@@ -78,6 +80,13 @@ impl Recorder {
         ensures { result ≡ (recorded self.now).closed }
     {
         self.closed
+    }
+
+    /// How many calls of `close` were finished; it stays at the last `u64`.
+    pub fn closes(&self) -> u64
+        ensures { result ≡ (recorded self.now).closes }
+    {
+        self.closes
     }
 
     // Counts a call, and says whether it is to fail, which it counts too.
@@ -146,6 +155,7 @@ impl Display for Recorder {
             return Err(Failed);
         }
         self.closed = true;
+        self.closes = self.closes.saturating_add(1);
         Ok(())
     }
 }

@@ -31,8 +31,8 @@ use Rattle.session_core.specs.declared.act.Act.{Act}
 use Rattle.session_core.specs.declared.act.Act.TheVariants.{Typed, Finish, Calculate, Pass}
 use Rattle.session_core.specs.declared.mode.Mode.{Mode}
 use Rattle.session_core.specs.declared.mode.Mode.TheVariants.{Ready, Label, Value}
-use Rattle.work_sheet.proofs.Listed.{both}
-use Rattle.work_sheet.specs.Edits.{evaluations, is_evaluated, just, written, AreDirtied, IsDirtied}
+use Rattle.sheet_edits.proofs.Listed.{both}
+use Rattle.sheet_edits.specs.Edits.{evaluations, is_evaluated, just, written, AreDirtied, IsDirtied}
 
 one_formula : (names : NameMap) (c : Place) (line : List ℕ) (e f : Option Content) → IsFormula names c line e → IsFormula names c line f → e ≡ f
 one_formula names c line None None p q = refl

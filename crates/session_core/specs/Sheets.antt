@@ -9,7 +9,7 @@ use Rattle.natural_recalc.specs.Passes.{passes}
 use Rattle.natural_recalc.specs.Reading.{order_in}
 use Rattle.natural_recalc.specs.World.{context_of, Context}
 use Rattle.screen_layout.specs.Sheets.{Sheet}
-use Rattle.work_sheet.specs.Edits.{entered, is_evaluated}
+use Rattle.sheet_edits.specs.Edits.{entered, is_evaluated}
 
 -- what formulas look at beside the cells
 abbrev pub context_in : Scene → Sheet → Context

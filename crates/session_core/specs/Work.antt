@@ -10,7 +10,7 @@ use Rattle.natural_order.specs.Walk.{has}
 use Rattle.natural_recalc.specs.Passes.{raised_by, IsDirtyAfter}
 use Rattle.screen_layout.specs.Sheets.{Sheet}
 use Rattle.session_core.specs.Sheets.{put, recalculated}
-use Rattle.work_sheet.specs.Edits.{evaluations, is_evaluated, just, written, AreDirtied}
+use Rattle.sheet_edits.specs.Edits.{evaluations, is_evaluated, just, written, AreDirtied}
 
 -- the dirty formulas, each once, and how many evaluations there were
 pub record Work : Type 0 where

@@ -7,7 +7,7 @@ ghost use Rattle.session_core.specs.Machine.{moves};
 ghost use Rattle.lics_text.specs.Bytes.{IsText};
 ghost use Rattle.screen_layout.specs.Sheets.{of_worksheet};
 ghost use Rattle.sheet_store.specs.Grid.{is_prefix};
-ghost use Rattle.work_sheet.specs.Edits.{HasPrefix};
+ghost use Rattle.sheet_edits.specs.Edits.{HasPrefix};
 
 use crate::Mode;
 use fixed_value::{Decimal, read_decimal};

@@ -8,7 +8,7 @@ ghost use Rattle.session_core.specs.declared.act.Act.TheVariants as Act;
 ghost use Rattle.session_core.specs.Screen.{screen};
 ghost use Rattle.session_core.specs.Sheets.{put, recalculated, with_entry};
 ghost use Rattle.session_core.specs.Work.{HasEntered, HasPut, HasRecalculated};
-ghost use Rattle.work_sheet.specs.Edits.{HasPrefix};
+ghost use Rattle.sheet_edits.specs.Edits.{HasPrefix};
 
 use crate::act::{Act, act_of};
 use crate::entry::{entry_of, moves};

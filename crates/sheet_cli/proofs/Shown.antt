@@ -7,7 +7,7 @@ use Rattle.outside_world.specs.declared.faults.Failed.{Failed}
 use Rattle.screen_show.specs.Changes.{Agrees, AgreesInLine, changed_runs, differences}
 use Rattle.screen_show.specs.Display.{Shown, View, Closes, HasSent, Sends, raised}
 use Rattle.screen_show.specs.Grid.{IsPrinted, empty_grid}
-use Rattle.sheet_cli.specs.Displays.{Screen, HasClosed, HasFailed, HasGained, HasShown, Gains, IsClosed, Passes, Sent, Shows, Watched, counted, differences_along, last_screen, runs_along, views_of, watched}
+use Rattle.sheet_cli.specs.Displays.{Screen, HasClosed, HasFailed, HasGained, HasShown, Gains, Passes, Sent, Shows, ShowsAndCloses, Watched, counted, differences_along, last_screen, runs_along, views_of, watched}
 use Rattle.sheet_cli.specs.Displays.{none as pass_none, kept as pass_kept, taken_out as pass_out, no_screen, one_more}
 use Rattle.sheet_cli.specs.Passing.{HasClosedOne, HasSentOne, Parts, Passed, none, kept, taken_out}
 
@@ -74,6 +74,7 @@ module _ (screens : List Screen) (shown s : Screen) (printed : IsPrinted s) (las
         grid = grid ∙ sym (last_more a.grid screens s);
         puts = sent.puts ∙ ap (λ (n : ℕ). raised n (changed_runs shown s)) had.puts ∙ ap (λ (g : Screen). raised (counted screens (runs_along empty_grid screens) a.puts) (changed_runs g s)) last ∙ counted_runs screens s a.puts;
         bytes_put = sent.bytes_put ∙ ap (λ (n : ℕ). raised n (differences shown s)) had.bytes_put ∙ ap (λ (g : Screen). raised (counted screens (differences_along empty_grid screens) a.bytes_put) (differences g s)) last ∙ counted_differences screens s a.bytes_put;
+        closes = sent.closes ∙ had.closes;
       }
 
   told_more : (a b c : Option Shown) (u : Unit {0}) → Shows screens a b → Sends shown s b c (Ok u) → Shows (screens ++ s ∷ []) a c
@@ -88,7 +89,7 @@ module _ (screens : List Screen) (shown s : Screen) (printed : IsPrinted s) (las
   told_fails None (Some b) c f had sent = absurd cc
   told_fails (Some a) None c f had sent = absurd had
   told_fails (Some a) (Some b) None f had sent = absurd sent
-  told_fails (Some a) (Some b) (Some c) f had sent = sent ∙ had.frames
+  told_fails (Some a) (Some b) (Some c) f had sent = (sent.0 ∙ had.frames, sent.1 ∙ had.closes)
 
   pub gained_more : (d : Watched) (w : View) (u : Unit {0}) → HasGained screens d.before d.now → HasSentOne shown s d.now w (Ok u) → HasGained (screens ++ s ∷ []) d.before w
   gained_more d w u had sent = record {
@@ -111,7 +112,7 @@ EachGained screens (d ∷ ds) = HasGained screens d.before d.now × EachGained s
 
 nothing_shown : (v : Option Shown) → Shows [] v v
 nothing_shown None = refl
-nothing_shown (Some s) = record { frames = sym (append-nil s.frames); grid = refl; puts = refl; bytes_put = refl }
+nothing_shown (Some s) = record { frames = sym (append-nil s.frames); grid = refl; puts = refl; bytes_put = refl; closes = refl }
 
 pub each_starts : (views : List View) → EachGained [] (map (λ v. watched v v) views)
 each_starts [] = tt
@@ -192,32 +193,23 @@ sent_one start screens shown s left out displays displays' failed_before failed 
 
 -- closing
 module _ (screens : List Screen) where
-  closed_shown : (a b c : Option Shown) (u : Unit {0}) → Shows screens a b → Closes b c (Ok u) → Shows screens a c
+  closed_shown : (a b c : Option Shown) (u : Unit {0}) → Shows screens a b → Closes b c (Ok u) → ShowsAndCloses screens a c
   closed_shown None None c u had closes = closes
   closed_shown None (Some b) c u had closes = absurd cc
   closed_shown (Some a) None c u had closes = absurd had
-  closed_shown (Some a) (Some b) c u had closes = subst (λ (t : Option Shown). Shows screens (Some a) t) (sym closes) (record { frames = had.frames; grid = had.grid; puts = had.puts; bytes_put = had.bytes_put })
-
-  closed_now : (a b c : Option Shown) (u : Unit {0}) → Shows screens a b → Closes b c (Ok u) → IsClosed c
-  closed_now None None c u had closes = subst IsClosed (sym closes) tt
-  closed_now None (Some b) c u had closes = absurd cc
-  closed_now (Some a) None c u had closes = absurd had
-  closed_now (Some a) (Some b) c u had closes = subst IsClosed (sym closes) refl
+  closed_shown (Some a) (Some b) c u had closes = (b, had, closes)
 
   close_fails : (a b c : Option Shown) (f : Failed) → Shows screens a b → Closes b c (Err f) → Gains screens a c
   close_fails None None c f had closes = closes
   close_fails None (Some b) c f had closes = absurd cc
   close_fails (Some a) None c f had closes = absurd had
-  close_fails (Some a) (Some b) c f had closes = subst (λ (t : Option Shown). Gains screens (Some a) t) (sym closes.1) had.frames
+  close_fails (Some a) (Some b) c f had closes = subst (λ (t : Option Shown). Gains screens (Some a) t) (sym closes.1) (had.frames, had.closes)
 
   keeps_closed : (d : Watched) (w : View) (u : Unit {0}) → HasGained screens d.before d.now → HasClosedOne d.now w (Ok u) → HasClosed screens d.before w
   keeps_closed d w u had closes = record {
-    gained = record {
-      same_kind = closes.kind ∙ had.same_kind;
-      shown = closed_shown d.before.told d.now.told w.told u had.shown closes.shown;
-      no_fault = closes.cause.fine ∙ had.no_fault;
-    };
-    closed = closed_now d.before.told d.now.told w.told u had.shown closes.shown;
+    same_kind = closes.kind ∙ had.same_kind;
+    shown = closed_shown d.before.told d.now.told w.told u had.shown closes.shown;
+    no_fault = closes.cause.fine ∙ had.no_fault;
   }
 
   fails_to_close : (d : Watched) (w : View) (f : Failed) → HasGained screens d.before d.now → HasClosedOne d.now w (Err f) → HasFailed screens d.before w

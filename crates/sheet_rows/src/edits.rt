@@ -1,7 +1,7 @@
 // A sheet, and the edits that a line describes.
 ghost use Rattle.std.specs.Prelude.{◌<◌, IfOk};
-ghost use Rattle.work_sheet.specs.Edits.{HasPrefix};
-ghost use Rattle.work_sheet.specs.Spans.{HavePrefixes};
+ghost use Rattle.sheet_edits.specs.Edits.{HasPrefix};
+ghost use Rattle.sheet_edits.specs.Spans.{HavePrefixes};
 
 use fixed_value::{Decimal, read_decimal};
 use formula_eval::{Scene, Tally};

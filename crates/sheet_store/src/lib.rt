@@ -2,6 +2,7 @@
 #![tactic(auto)]
 
 mod order;
+mod own_width;
 mod scan;
 mod settings;
 mod state;

@@ -4,9 +4,10 @@ ghost use Rattle.std.specs.Option.{ForSome};
 ghost use Rattle.std.specs.FinMap as map;
 ghost use Rattle.std.specs.BTreeMap.{IsOrdered};
 ghost use Rattle.grid_address.specs.Place.{place_cmp};
-ghost use Rattle.sheet_store.specs.Grid.{any_state, cells_within, clear_cell, formatted, formulas, formulas_within, further, holds_formula, is_hidden, last_among, last_used, own_width, picked, put_state, set_format_of, set_hidden_of, set_value_at, set_width_of, width_of, AreHeld, HasContent, HasFormula, IsBlankAt, IsSound};
+ghost use Rattle.sheet_store.specs.Grid.{any_state, cells_within, clear_cell, formatted, formulas, formulas_within, further, holds_formula, is_hidden, last_among, last_used, picked, put_state, set_format_of, set_hidden_of, set_value_at, set_width_of, width_of, AreHeld, HasContent, HasFormula, IsBlankAt, IsSound};
 
 use crate::CellState;
+use crate::own_width::OwnWidth;
 use crate::scan::{all_formulas, scan};
 use crate::state::is_blank;
 use formula_tree::Value;
@@ -21,7 +22,7 @@ use std::marker::Model;
 #[derive(Drop)]
 pub struct Store {
     cells: BTreeMap<Cell, CellState>,
-    widths: [u8; 256],
+    widths: [OwnWidth; 256],
     hidden: [bool; 256],
     alloc: Global,
 }
@@ -48,7 +49,7 @@ impl Store {
     {
         Store {
             cells: BTreeMap::new(alloc),
-            widths: [0; 256],
+            widths: [OwnWidth::NONE; 256],
             hidden: [false; 256],
             alloc,
         }
@@ -133,9 +134,10 @@ impl Store {
 
     /// A column's own width, where it has one.
     pub fn width(&self, col: u8) -> Option<u8>
-        ensures { result ≡ width_of self.now col }
+        ensures width { result ≡ width_of self.now col }
+        ensures within { ForSome result (λ n. (1 ≤ n) × (n ≤ 240)) }
     {
-        own_width(self.widths[usize::from(col)])
+        self.widths[usize::from(col)].told()
     }
 
     /// Gives a column a width of its own, or takes it away.
@@ -143,7 +145,7 @@ impl Store {
         requires { ForSome width (λ n. (1 ≤ n) × (n ≤ 240)) }
         ensures { self.new ≡ set_width_of self.old col width }
     {
-        self.widths[usize::from(col)] = width.unwrap_or(0);
+        self.widths[usize::from(col)] = OwnWidth::of(width);
     }
 
     /// Whether a column is hidden.
@@ -257,12 +259,6 @@ fn last_of(cells: &BTreeMap<Cell, CellState>) -> Option<Cell>
         last = further(last, *cell);
     }
     last
-}
-
-fn own_width(width: u8) -> Option<u8>
-    ensures { result ≡ own_width width }
-{
-    if width == 0 { None } else { Some(width) }
 }
 
 fn insert(cells: &mut BTreeMap<Cell, CellState>, cell: Cell, state: CellState) -> Result<(), Memory>

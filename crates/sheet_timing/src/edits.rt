@@ -1,6 +1,6 @@
 // Edits of a cell that nothing reads, in sheets of different lengths.
 ghost use Rattle.std.specs.Prelude.{◌≡◌};
-ghost use Rattle.work_sheet.specs.Edits.{HasPrefix};
+ghost use Rattle.sheet_edits.specs.Edits.{HasPrefix};
 
 use crate::chain::{SCENE, link};
 use crate::graphs::at;

@@ -1,15 +1,14 @@
 -- Why a sheet keeps what it keeps.
-use Rattle.std.specs.Prelude.{◌≡◌, Bool, true, false, cond, is_some, refl, List, [], ◌∷◌, Option, None, Some}
-use Rattle.std.specs.FinMap.{empty, get, get-empty, insert, remove}
+use Rattle.std.specs.Prelude.{◌≡◌, Bool, true, false, is_some, refl, List, [], ◌∷◌, Option, None, Some}
+use Rattle.std.specs.FinMap.{empty, get, get-empty}
 use Rattle.std.proofs.Common.{sym, ◌∙◌, ap, subst, inl, inr}
 use Rattle.std.proofs.lemmas.Bool.{cases_Bool, true≢false}
-use Rattle.grid_address.proofs.Places.{get_inserted, get_removed}
 use Rattle.grid_address.specs.Place.{place_cmp, same_place, Place}
 use Rattle.formula_tree.specs.Tree.{Tree}
 use Rattle.depend_graph.specs.Network.{Network}
 use Rattle.natural_order.specs.Walk.{has, Reaches}
 use Rattle.natural_order.specs.Walk.Reaches.{more, one}
-use Rattle.sheet_store.specs.Grid.{is_kept, put_state, Cells, Grid}
+use Rattle.sheet_store.specs.Grid.{put_state, Cells, Grid}
 use Rattle.sheet_store.specs.declared.order.Order.{Order}
 use Rattle.sheet_store.specs.declared.order.Order.TheVariants as orders
 use Rattle.sheet_store.specs.declared.state.CellState.{CellState}
@@ -21,16 +20,10 @@ use Rattle.natural_recalc.proofs.Members.{pre_along}
 use Rattle.natural_recalc.specs.Passes.{evaluated, IsDirtyAfter, IsMeaning, IsSound, IsSpread, Meaning, SameContents}
 use Rattle.natural_recalc.specs.Reading.{is_formula_at, node_of, pre, Matches}
 use Rattle.natural_recalc.specs.World.{formula_at, formula_of, value_of, world_at, Context}
-use Rattle.work_sheet.proofs.Reaching.{reaching_formula}
-use Rattle.work_sheet.specs.Edits.{just, AreDirtied}
+use Rattle.sheet_edits.proofs.Beside.{beside}
+use Rattle.sheet_edits.proofs.Reaching.{reaching_formula}
+use Rattle.sheet_edits.specs.Edits.{just, AreDirtied}
 use Rattle.work_sheet.specs.Sheets.{AllDirtyIn, IsKept}
-
--- the cells beside the one that is put
-pub beside : (g : Grid) (cell : Place) (s : CellState) (c : Place) → same_place c cell ≡ false → get (put_state g cell s).cells c ≡ get g.cells c
-beside g cell s c h = elim (cases_Bool (is_kept s)) [
-  | inl k ↦ ap (λ b. get (cond b (insert g.cells cell s) (remove g.cells cell)) c) k ∙ get_inserted g.cells cell s c ∙ ap (λ b. cond b (Some s) (get g.cells c)) h
-  | inr k ↦ ap (λ b. get (cond b (insert g.cells cell s) (remove g.cells cell)) c) k ∙ get_removed g.cells cell c ∙ ap (λ b. cond b None (get g.cells c)) h
-]
 
 module _ (mean : Meaning) (meaning : IsMeaning mean) where
   -- what holds in one context holds in each, where formulas and values are the same

@@ -1,11 +1,3 @@
 pub mod Cut
-pub mod Dirtied
-pub mod Gathered
 pub mod Held
-pub mod Listed
-pub mod Overlaid
-pub mod Reaching
 pub mod Reformatted
-pub mod Sound
-pub mod Spanned
-pub mod Undone

@@ -10,9 +10,9 @@ use Rattle.natural_recalc.specs.World.{formula_of, value_of}
 use Rattle.sheet_store.specs.Grid.{AreHeld, Cells, Grid}
 use Rattle.sheet_store.specs.declared.order.Order.{Order}
 use Rattle.work_sheet.proofs.Held.{kept_values}
-use Rattle.work_sheet.proofs.Sound.{same_formula, same_value}
+use Rattle.sheet_edits.proofs.Sound.{same_formula, same_value}
 use Rattle.work_sheet.specs.Sheets.{IsKept}
-use Rattle.work_sheet.specs.Spans.{changed, reformatted, reformatted_state, AreGiven, Becomes}
+use Rattle.sheet_edits.specs.Spans.{changed, reformatted, reformatted_state, AreGiven, Becomes}
 
 module _ (g h : Grid) (rule : ℕ → ℕ) (cells : List Place) (changes : Cells) (held : AreHeld g.cells) (given : AreGiven changes (has same_place cells) (λ c. Some (reformatted_state rule (get g.cells c)))) (b : Becomes g (λ c. changed (get changes c) (get g.cells c)) h) where
   cell_is : (c : Place) → get h.cells c ≡ cond (has same_place cells c) (reformatted rule (get g.cells c)) (get g.cells c)

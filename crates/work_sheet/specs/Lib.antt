@@ -1,4 +1,2 @@
-pub mod Edits
 pub mod Sheets
-pub mod Spans
 pub mod Typed

@@ -13,21 +13,13 @@ ghost use Rattle.range_names.specs.Names.{fault_of, key_of};
 ghost use Rattle.range_names.specs.declared.fault.NameFault.TheVariants as cause;
 ghost use Rattle.sheet_store.specs.Choices.{fresh};
 ghost use Rattle.sheet_store.specs.declared.writes.SheetFault.TheVariants as faults;
-ghost use Rattle.sheet_store.specs.Grid.{is_hidden, last_used, set_hidden_of, set_width_of, width_of};
-ghost use Rattle.work_sheet.specs.Edits.{entered, evaluations, is_evaluated, is_protected, just, written, AreDirtied, HasPrefix};
+ghost use Rattle.sheet_store.specs.Grid.{is_formula, is_hidden, is_kept, last_used, set_hidden_of, set_width_of, width_of, IsSound};
+ghost use Rattle.sheet_edits.specs.Edits.{entered, evaluations, is_evaluated, is_protected, just, written, written_state, AreDirtied, HasPrefix};
 ghost use Rattle.work_sheet.specs.Sheets.{value_told, IsFaultOf, SameBeside};
-ghost use Rattle.work_sheet.specs.Spans.{changed, copied_at, erased, in_span, reformatted, rule_of, target_of, with_code, with_mark, written_all, written_cells, AreSound, Becomes, HasCode, HavePrefixes, IsAnswered};
+ghost use Rattle.sheet_edits.specs.Spans.{changed, copied_at, erased, in_span, reformatted, rule_of, target_of, with_code, with_mark, written_all, written_cells, AreSound, Becomes, HasCode, HavePrefixes, IsAnswered};
 ghost use Rattle.work_sheet.specs.Typed.{typed};
 
-use crate::changes::Changes;
-use crate::edit::write_cell;
-use crate::line::write_evaluated;
-use crate::many::{change_cells, write_cells};
-use crate::spans;
-use crate::spans::{FormatChange, cells_of, copied, first_of, refusing, target_of};
-use crate::states::{format_of, is_marked, mark, state_of};
 use crate::typed::text_of;
-use crate::writes::gathered;
 use depend_graph::Graph;
 use formula_eval::{Look, Means, Scene, Tally};
 use formula_tree::{Content, Value};
@@ -36,7 +28,12 @@ use indexmap::IndexSet;
 use lics_text::{Line, Memory};
 use natural_recalc::{Missing, View, all_dirty, graph_of, recalc};
 use range_names::{NameFault, Names};
-use sheet_store::{Order, SavedSheet, Settings, SheetFault, Store, Writes, is_formula};
+use sheet_edits::{
+    Changes, FormatChange, cells_of, change_cells, copied, erased, first_of, format_of, gathered,
+    is_marked, reformatted, refusing, state_of, target_of, write_cell, write_cells,
+    write_evaluated,
+};
+use sheet_store::{CellState, Order, SavedSheet, Settings, SheetFault, Store, Writes, is_formula};
 use std::alloc::Global;
 use std::marker::{Model, PhantomData};
 
@@ -203,7 +200,8 @@ impl<E: Means> SheetOf<E> {
 
     /// A column's own width, where it has one.
     pub fn own_width(&self, col: u8) -> Option<u8>
-        ensures { result ≡ width_of self.now.grid col }
+        ensures width { result ≡ width_of self.now.grid col }
+        ensures within { ForSome result (λ n. (1 ≤ n) × (n ≤ 240)) }
     {
         self.store.width(col)
     }
@@ -296,13 +294,7 @@ impl<E: Means> SheetOf<E> {
         ensures err { OnErr result (self.new ≡ self.old) }
         ensures fault { IsFaultOf (is_protected self.old.settings self.old.grid cell) cell result }
     {
-        let settings = self.settings;
-        if settings.protection && is_marked(&self.store, cell) {
-            return Err(SheetFault::Protected(cell));
-        }
-        let Ok(state) = state_of(&self.store, cell, content) else {
-            return Err(SheetFault::Memory);
-        };
+        let state = entry_state(&self.store, &self.settings, cell, content)?;
         match write_cell(
             &mut self.store,
             &mut self.graph,
@@ -341,12 +333,7 @@ impl<E: Means> SheetOf<E> {
             self.enter(cell, content)?;
             return Ok(());
         }
-        if settings.protection && is_marked(&self.store, cell) {
-            return Err(SheetFault::Protected(cell));
-        }
-        let Ok(state) = state_of(&self.store, cell, content) else {
-            return Err(SheetFault::Memory);
-        };
+        let state = entry_state(&self.store, &settings, cell, content)?;
         match write_evaluated(
             &mut self.store,
             &mut self.graph,
@@ -409,7 +396,7 @@ impl<E: Means> SheetOf<E> {
         let Ok(cells) = cells_of(self.store.alloc(), span) else {
             return Err(SheetFault::Memory);
         };
-        let Ok(changes) = spans::erased(&self.store, cells.as_slice()) else {
+        let Ok(changes) = erased(&self.store, cells.as_slice()) else {
             return Err(SheetFault::Memory);
         };
         self.put_changes(&cells, changes)
@@ -501,7 +488,7 @@ impl<E: Means> SheetOf<E> {
         ensures err { OnErr result (self.new ≡ self.old) }
     {
         let cells = cells_of(self.store.alloc(), span)?;
-        let changes = spans::reformatted(&self.store, change, cells.as_slice())?;
+        let changes = reformatted(&self.store, change, cells.as_slice())?;
         change_cells(&mut self.store, cells.as_slice(), changes)?;
         Ok(())
     }
@@ -532,6 +519,36 @@ impl<E: Means> SheetOf<E> {
         self.stale = false;
         Ok(())
     }
+}
+
+// The state that a content gives a cell which isn't protected.
+fn entry_state(
+    store: &Store,
+    settings: &Settings,
+    cell: Cell,
+    content: Content,
+) -> Result<CellState, SheetFault>
+    requires { HasPrefix content }
+    ensures state { IfOk result (λ s. s ≡ written_state store.now cell content) }
+    ensures sound { IfOk result (λ s. IsSound s) }
+    ensures kept { IfOk result (λ s. is_formula s.content ≡ true → is_kept s ≡ true) }
+    ensures unprotected { OnOk result (is_protected settings.now store.now cell ≡ false) }
+    ensures err { IfErr result (λ fault. IsFaultOf (is_protected settings.now store.now cell) cell (Err fault)) }
+{
+    if settings.protection && is_marked(store, cell) {
+        return Err(SheetFault::Protected(cell));
+    }
+    match state_of(store, cell, content) {
+        Ok(state) => Ok(state),
+        Err(Memory) => Err(SheetFault::Memory),
+    }
+}
+
+// Marks that a change was made.
+pub fn mark(stale: &mut bool)
+    ensures { stale.new ≡ true }
+{
+    *stale = true;
 }
 
 /// Formulas and blocks of data look at a sheet as it stands.

@@ -1,7 +1,7 @@
 // Worked rows of edits of many cells, by calls.
 ghost use Rattle.std.specs.Prelude.{◌≡◌, ◌<◌};
-ghost use Rattle.work_sheet.specs.Edits.{HasPrefix};
-ghost use Rattle.work_sheet.specs.Spans.{HavePrefixes};
+ghost use Rattle.sheet_edits.specs.Edits.{HasPrefix};
+ghost use Rattle.sheet_edits.specs.Spans.{HavePrefixes};
 
 use crate::Sheet;
 use fixed_value::Fixed;

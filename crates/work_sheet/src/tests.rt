@@ -1,7 +1,7 @@
 // Worked rows of the worksheet, by calls.
 ghost use Rattle.std.specs.Prelude.{◌≡◌, ◌+◌, ◌-◌, ◌^◌, ℕ, min, pos};
 ghost use Rattle.formula_tree.specs.declared.value.Value.TheVariants.{Num};
-ghost use Rattle.work_sheet.specs.Edits.{HasPrefix};
+ghost use Rattle.sheet_edits.specs.Edits.{HasPrefix};
 
 use crate::{Sheet, SheetOf};
 use fixed_value::Fixed;

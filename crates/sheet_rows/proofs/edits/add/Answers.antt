@@ -1,5 +1,5 @@
 use Rattle.std.proofs.Common.{subst, sym}
-use Rattle.work_sheet.specs.Spans.{HavePrefixes}
+use Rattle.sheet_edits.specs.Spans.{HavePrefixes}
 use Rattle.sheet_rows.proofs.Prefixes.{one_more}
 use Rattle.sheet_rows.proofs.edits.add.Goals as goal
 

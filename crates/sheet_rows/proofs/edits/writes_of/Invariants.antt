@@ -1,4 +1,4 @@
-use Rattle.work_sheet.specs.Spans.{HavePrefixes}
+use Rattle.sheet_edits.specs.Spans.{HavePrefixes}
 use Rattle.sheet_rows.proofs.edits.writes_of.Given as goal
 
 abbrev pub invariant-loop-part : goal.invariant-loop-part

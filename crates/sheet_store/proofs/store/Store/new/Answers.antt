@@ -4,5 +4,5 @@ use Rattle.sheet_store.specs.Grid.{AreHeld}
 use Rattle.sheet_store.proofs.Held.{empty_held}
 use Rattle.sheet_store.proofs.store.Store.new.Goals as goal
 
-pub invariant_of-result : goal.invariant_of-result
-invariant_of-result c = subst (λ es. AreHeld (from_entries es)) (sym c.new.ensures.empty) empty_held
+pub invariant_of-result-2 : goal.invariant_of-result-2
+invariant_of-result-2 c = subst (λ es. AreHeld (from_entries es)) (sym c.new.ensures.empty) empty_held

@@ -9,5 +9,5 @@ pub invariant_of-self : goal.invariant_of-self
 invariant_of-self g c =
     let mean : Meaning = g.E.Means.meaning in
     let meaning : IsMeaning mean = record { reads = g.met.E.Means.reads_alone } in
-    kept_edit mean meaning c.self.inside.store c.write_cell.new.store c.args.cell c.in-Ok.state c.self.inside.dirty.keys c.write_cell.new.dirty.keys
-    c.in-Ok-write_cell.ensures.store c.in-Ok-write_cell.ensures.dirty c.self.inside.settings.order c.self.inside.graph c.write_cell.new.graph c.self.invariant c.write_cell.ensures.matches
+    kept_edit mean meaning c.self.inside.store c.write_cell.new.store c.args.cell c.in_ok-state.state c.self.inside.dirty.keys c.write_cell.new.dirty.keys
+    c.in-Ok.ensures.store c.in-Ok.ensures.dirty c.self.inside.settings.order c.self.inside.graph c.write_cell.new.graph c.self.invariant c.write_cell.ensures.matches

@@ -7,5 +7,5 @@ pub invariant_of-self : goal.invariant_of-self
 invariant_of-self g c =
     let mean : Meaning = g.E.Means.meaning in
     let meaning : IsMeaning mean = record { reads = g.met.E.Means.reads_alone } in
-    kept_line mean meaning c.self.inside.store c.write_evaluated.new.store c.args.cell c.in-Ok.state c.self.inside.dirty.keys c.write_evaluated.new.dirty.keys
-    (context_of c.self.inside.names c.self.inside.settings c.args.scene.now) c.in-Ok-write_evaluated.ensures.store c.in-Ok-write_evaluated.ensures.dirty c.self.inside.settings.order c.self.inside.graph c.write_evaluated.new.graph c.self.invariant c.in-Ok-write_evaluated.ensures.matches
+    kept_line mean meaning c.self.inside.store c.write_evaluated.new.store c.args.cell c.in_ok-state.state c.self.inside.dirty.keys c.write_evaluated.new.dirty.keys
+    (context_of c.self.inside.names c.self.inside.settings c.args.scene.now) c.in-Ok.ensures.store c.in-Ok.ensures.dirty c.self.inside.settings.order c.self.inside.graph c.write_evaluated.new.graph c.self.invariant c.in-Ok.ensures.matches

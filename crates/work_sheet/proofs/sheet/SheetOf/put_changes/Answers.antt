@@ -4,7 +4,7 @@ use Rattle.grid_address.specs.Place.{same_place}
 use Rattle.natural_order.specs.Walk.{has}
 use Rattle.natural_recalc.specs.Passes.{IsMeaning, Meaning}
 use Rattle.work_sheet.proofs.Held.{kept_changed}
-use Rattle.work_sheet.specs.Spans.{changed}
+use Rattle.sheet_edits.specs.Spans.{changed}
 use Rattle.work_sheet.proofs.sheet.SheetOf.put_changes.Goals as goal
 
 pub invariant_of-self : goal.invariant_of-self

@@ -1,6 +1,6 @@
 use Rattle.natural_recalc.specs.Passes.{IsMeaning, Meaning}
 use Rattle.work_sheet.proofs.Reformatted.{kept_reformatted}
-use Rattle.work_sheet.specs.Spans.{rule_of}
+use Rattle.sheet_edits.specs.Spans.{rule_of}
 use Rattle.work_sheet.proofs.sheet.SheetOf.reformat.Goals as goal
 
 pub invariant_of-self-2 : goal.invariant_of-self-2

@@ -1,8 +1,8 @@
 use Rattle.std.proofs.Common.{ap, subst}
 use Rattle.sheet_store.specs.Grid.{Grid}
-use Rattle.work_sheet.proofs.Gathered.{on_ok, written_is}
+use Rattle.sheet_edits.proofs.Gathering.{on_ok, written_is}
 use Rattle.work_sheet.specs.Sheets.{Worksheet}
-use Rattle.work_sheet.specs.Spans.{AreGathered}
+use Rattle.sheet_edits.specs.Spans.{AreGathered}
 use Rattle.work_sheet.proofs.sheet.SheetOf.write.Goals as goal
 
 pub returns-in-Ok-clause-grid : goal.returns-in-Ok-clause-grid

@@ -1,0 +1,9 @@
+pub mod Beside
+pub mod Dirtied
+pub mod Gathering
+pub mod Listed
+pub mod Overlaid
+pub mod Reaching
+pub mod Sound
+pub mod Spanned
+pub mod Undone

@@ -1,0 +1,94 @@
+-- The states that cells are given are such as a store may have.
+use Rattle.std.specs.Prelude.{ℕ, ℤ, pos, ◌≡◌, Bool, true, false, cond, not, nat_eq, refl, Option, None, Some}
+use Rattle.std.specs.FinMap.{get}
+use Rattle.std.proofs.Common.{sym, ◌∙◌, ap, subst}
+use Rattle.std.proofs.lemmas.Bool.{true≢false}
+use Rattle.grid_address.specs.Place.{Place}
+use Rattle.grid_address.specs.declared.format.Format.{Format}
+use Rattle.formula_tree.specs.declared.value.Content.{Content}
+use Rattle.formula_tree.specs.declared.value.Content.TheVariants as content
+use Rattle.formula_tree.specs.declared.value.Value.{Value}
+use Rattle.formula_tree.specs.declared.value.Value.TheVariants as value
+use Rattle.natural_recalc.specs.World.{formula_of, value_of}
+use Rattle.sheet_store.specs.Grid.{blank_state, AreHeld, Cells, Fits, IsSound}
+use Rattle.sheet_store.specs.declared.state.CellState.{CellState}
+use Rattle.sheet_edits.proofs.Overlaid.{formula_kept, none_not_some}
+use Rattle.sheet_edits.specs.Edits.{first_value, HasPrefix}
+use Rattle.sheet_edits.specs.Spans.{blanked, copied_state, kept_of, reformatted, reformatted_state, AreGiven, AreSound}
+
+pub the_same : {A : Type 0} (a b : A) → Some a ≡ Some b → a ≡ b
+the_same {A} a b e = ap (λ o. pick o) e
+  where
+    pick : Option A → A
+    pick None = a
+    pick (Some x) = x
+
+pub given_sound : (m : Cells) (written : Place → Bool) (told : Place → Option CellState) → AreGiven m written told → ((c : Place) (s : CellState) → told c ≡ Some s → IsSound s) → AreSound m
+given_sound m written told given sound c s e = by (written c) (sym (given c) ∙ e)
+  where
+    by : (b : Bool) → cond b (told c) None ≡ Some s → IsSound s
+    by true h = sound c s h
+    by false h = absurd (none_not_some s h)
+
+pub blank_sound : (o : Option CellState) (s : CellState) → blanked o ≡ Some s → IsSound s
+blank_sound None s e = absurd (none_not_some s e)
+blank_sound (Some x) s e = subst IsSound (the_same (blank_state x.format) s e) refl
+
+num_not_blank : (x : ℤ) → value.Num x ≡ value.Blank → ⊥
+num_not_blank x e = true≢false (ap is_num e)
+  where
+    is_num : Value → Bool
+    is_num value.Blank = false
+    is_num (value.Num y) = true
+    is_num (value.Str t) = false
+    is_num value.Err = false
+    is_num value.Na = false
+
+-- a content with its first value
+pub first_sound : (x : Content) → HasPrefix x → Fits x (first_value x)
+first_sound content.Blank p = refl
+first_sound (content.Number n) p = refl
+first_sound (content.Label b t) p = (p, refl)
+first_sound (content.Formula f) p = num_not_blank (pos 0)
+
+held_prefix : (x : Content) (v : Value) → Fits x v → HasPrefix x
+held_prefix content.Blank v h = tt
+held_prefix (content.Number n) v h = tt
+held_prefix (content.Label b t) v h = h.0
+held_prefix (content.Formula f) v h = tt
+
+module _ (m : Cells) (held : AreHeld m) where
+  pub copied_sound : (c : Place) → IsSound (copied_state (get m c))
+  copied_sound c = by (get m c) refl
+    where
+      by : (o : Option CellState) → get m c ≡ o → IsSound (copied_state o)
+      by None e = refl
+      by (Some s) e = first_sound s.content (held_prefix s.content s.value (held c s e).sound)
+
+  pub reformatted_sound : (rule : ℕ → ℕ) (c : Place) → IsSound (reformatted_state rule (get m c))
+  reformatted_sound rule c = by (get m c) refl
+    where
+      by : (o : Option CellState) → get m c ≡ o → IsSound (reformatted_state rule o)
+      by None e = refl
+      by (Some s) e = (held c s e).sound
+
+  -- another format leaves formulas and values
+  pub same_formula : (rule : ℕ → ℕ) (c : Place) → formula_of (reformatted rule (get m c)) ≡ formula_of (get m c)
+  same_formula rule c = by (get m c)
+    where
+      by : (o : Option CellState) → formula_of (reformatted rule o) ≡ formula_of o
+      by None = formula_kept content.Blank value.Blank (record { 0 = rule 255 })
+      by (Some s) = formula_kept s.content s.value (record { 0 = rule s.format.0 })
+
+  value_kept : (x : Content) (v : Value) (f : Format) → Fits x v → value_of (kept_of (record { content = x; value = v; format = f })) ≡ v
+  value_kept content.Blank v f h = elim (not (nat_eq f.0 255)) as (λ b. value_of (cond b (Some (record { content = content.Blank; value = v; format = f })) None) ≡ v) [ true ↦ refl | false ↦ sym h ]
+  value_kept (content.Number n) v f h = refl
+  value_kept (content.Label b t) v f h = refl
+  value_kept (content.Formula t) v f h = refl
+
+  pub same_value : (rule : ℕ → ℕ) (c : Place) → value_of (reformatted rule (get m c)) ≡ value_of (get m c)
+  same_value rule c = by (get m c) refl
+    where
+      by : (o : Option CellState) → get m c ≡ o → value_of (reformatted rule o) ≡ value_of o
+      by None e = value_kept content.Blank value.Blank (record { 0 = rule 255 }) refl
+      by (Some s) e = value_kept s.content s.value (record { 0 = rule s.format.0 }) (held c s e).sound

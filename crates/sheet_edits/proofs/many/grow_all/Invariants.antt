@@ -1,0 +1,11 @@
+use Rattle.std.specs.Prelude.{take}
+use Rattle.grid_address.specs.Place.{same_place}
+use Rattle.natural_order.specs.Walk.{has}
+use Rattle.sheet_edits.specs.Spans.{HaveRoom, IsGrown}
+use Rattle.sheet_edits.proofs.many.grow_all.Given as goal
+
+abbrev pub invariant-loop-cell : goal.invariant-loop-cell
+invariant-loop-cell l = record {
+  grown : IsGrown l.changes l.grown l.fn.store l.store;
+  room : HaveRoom l.changes (has same_place (take l.cell-index l.cells)) l.store;
+}

@@ -1,0 +1,22 @@
+use Rattle.std.specs.Prelude.{◌&&◌, cond, List}
+use Rattle.std.specs.FinMap.{get}
+use Rattle.std.proofs.Common.{ap, subst, ◌∙◌}
+use Rattle.grid_address.specs.Place.{same_place, Place}
+use Rattle.natural_order.specs.Walk.{has}
+use Rattle.natural_recalc.specs.Reading.{is_formula_at}
+use Rattle.sheet_store.specs.Grid.{Cells, Grid}
+use Rattle.sheet_edits.proofs.Overlaid.{dirtied_all, put_whole}
+use Rattle.sheet_edits.specs.Spans.{changed, Becomes}
+use Rattle.sheet_edits.proofs.many.write_cells.Goals as goal
+
+pub returns-in-Ok-clause-dirty : goal.returns-in-Ok-clause-dirty
+returns-in-Ok-clause-dirty c =
+    let cells : List Place = c.args.cells.now in
+    let changes : Cells = c.args.changes in
+    let mid : Grid = c.prepare_all.new.store in
+    let keys : List Place = c.prepare_all.new.dirty.keys in
+    let put = subst (λ (l : List Place). Becomes mid (λ x. cond (has same_place l x) (changed (get changes x) (get mid.cells x)) (get mid.cells x)) c.put_all.new.store) c.as_slice.ensures
+    (record { cells = c.put_all.ensures.cells; widths = c.put_all.ensures.widths; hidden = c.put_all.ensures.hidden }) in
+    dirtied_all changes c.args.store.now c.put_all.new.store (put_whole cells changes c.args.store.now mid c.put_all.new.store c.requires.given c.in-Ok.ensures.beside put).cells cells c.requires.given c.args.graph.now c.requires.matches
+    c.args.dirty.now.keys keys c.settle_all.new.dirty.keys c.requires.only c.in-Ok.ensures.dirty
+    (λ x. c.settle_all.ensures.dirty x ∙ ap (λ (l : List Place). cond (has same_place l x) (has same_place keys x && is_formula_at c.put_all.new.store x) (has same_place keys x)) c.as_slice-in-Ok.ensures)

@@ -1,0 +1,241 @@
+-- Edits of many cells: what each cell holds afterwards.
+use Rattle.std.specs.Prelude.{ℕ, ◌≡◌, ◌<◌, ◌⊎◌, ◌+◌, ◌-◌, ◌*◌, ◌/◌, ◌%◌, Bool, false, true, cond, ◌&&◌, nat_eq, nat_le, nat_lt, List, [], ◌∷◌, map, Option, None, Some, Result, Ok, Err}
+use Rattle.std.specs.Coded.{Coded}
+use Rattle.std.specs.FinMap as cells
+use Rattle.std.specs.declared.cmp.Ordering.{Ordering}
+use Rattle.std.specs.declared.cmp.Ordering.TheVariants.{Equal, Greater, Less}
+use Rattle.grid_address.specs.Place.{coded_place, is_within, place_cmp, same_place, Extent, Place}
+use Rattle.grid_address.specs.declared.format.Format.{Format}
+use Rattle.depend_graph.specs.Network.{Network}
+use Rattle.depend_graph.specs.declared.node.Node.{Node}
+use Rattle.formula_eval.specs.World.{height_of, width_of}
+use Rattle.natural_order.specs.Walk.{has}
+use Rattle.natural_recalc.specs.Reading.{node_of}
+use Rattle.natural_recalc.specs.World.{format_of, formula_at, formula_in}
+use Rattle.sheet_store.specs.Choices.{Choices}
+use Rattle.sheet_store.specs.Grid.{blank_state, formatted, is_formula, is_kept, put_state, Cells, Grid, IsSound}
+use Rattle.sheet_store.specs.contracts.state.CellState as state
+use Rattle.sheet_store.specs.declared.state.CellState.{CellState}
+use Rattle.sheet_store.specs.declared.writes.SheetFault.{SheetFault}
+use Rattle.sheet_store.specs.declared.writes.SheetFault.TheVariants as faults
+use Rattle.sheet_store.specs.declared.writes.Write.{Write}
+use Rattle.sheet_edits.specs.declared.spans.FormatChange.{FormatChange}
+use Rattle.sheet_edits.specs.declared.spans.FormatChange.TheVariants as formats
+use Rattle.sheet_edits.specs.Edits.{first_value, is_protected, HasPrefix}
+
+abbrev pub coded_cells : Coded Cells
+coded_cells = cells.code coded_place (state.the_row).coded
+
+-- what a cell holds that is given a state
+abbrev pub kept_of : CellState → Option CellState
+kept_of s = cond (is_kept s) (Some s) None
+
+-- what a cell holds that is given a state or not
+abbrev pub changed : Option CellState → Option CellState → Option CellState
+changed None held = held
+changed (Some s) held = kept_of s
+
+-- the grid with a state put, or without one
+abbrev pub put_given : Grid → Place → Option CellState → Grid
+put_given g c None = g
+put_given g c (Some s) = put_state g c s
+
+-- each cell of the new grid holds what is told of it, and the columns are as before
+pub record Becomes (old : Grid) (held : Place → Option CellState) (new : Grid) : Type 0 where
+  pub cells : (c : Place) → cells.get new.cells c ≡ held c
+  pub widths : new.widths ≡ old.widths
+  pub hidden : new.hidden ≡ old.hidden
+
+-- the cells of a span are changed by a rule, and each other one holds what it did
+abbrev pub in_span : Grid → Extent → (Option CellState → Option CellState) → Place → Option CellState
+in_span g span rule c = cond (is_within span c) (rule (cells.get g.cells c)) (cells.get g.cells c)
+
+-- an erased cell keeps its format
+abbrev pub blanked : Option CellState → Option CellState
+blanked None = None
+blanked (Some s) = Some (blank_state s.format)
+
+abbrev pub erased : Option CellState → Option CellState
+erased o = changed (blanked o) o
+
+-- a code of 0 to 127 takes the place of all bits but the protection mark
+abbrev pub with_code : ℕ → ℕ → ℕ
+with_code code byte = byte / 128 * 128 + code
+
+-- the protection mark alone is set or taken away
+abbrev pub with_mark : Bool → ℕ → ℕ
+with_mark true byte = byte % 128 + 128
+with_mark false byte = byte % 128
+
+abbrev pub reformatted_state : (ℕ → ℕ) → Option CellState → CellState
+reformatted_state rule o = formatted o (record { 0 = rule (format_of o) })
+
+abbrev pub reformatted : (ℕ → ℕ) → Option CellState → Option CellState
+reformatted rule o = kept_of (reformatted_state rule o)
+
+-- a copy has the content and the format; a formula begins with the value 0
+abbrev pub copied_state : Option CellState → CellState
+copied_state None = blank_state (record { 0 = 255 })
+copied_state (Some s) = record s { value = first_value s.content }
+
+abbrev pub copied : Option CellState → Option CellState
+copied o = kept_of (copied_state o)
+
+-- a source of one column is repeated across the target's columns, and one of one row down its rows
+abbrev pub repeated : ℕ → ℕ → ℕ
+repeated from to = cond (nat_eq from 1) to from
+
+-- as many rows and columns from a cell on, where they lie in the sheet
+abbrev pub block_at : Place → ℕ → ℕ → Option Extent
+block_at first rows cols = cond (nat_le (first.row + rows) 8192 && nat_le (first.col + cols) 256)
+    (Some (record { first = first; last = record { row = first.row + rows - 1; col = first.col + cols - 1 } })) None
+
+-- the written span of a copy
+abbrev pub target_of : Extent → Extent → Option Extent
+target_of from to = block_at to.first (repeated (height_of from) (height_of to)) (repeated (width_of from) (width_of to))
+
+-- the cell that a cell of the written span copies
+abbrev pub source_of : Extent → Place → Place → Place
+source_of from first c = record { row = from.first.row + (c.row - first.row) % height_of from; col = from.first.col + (c.col - first.col) % width_of from }
+
+-- all sources are read before a cell is written
+abbrev pub copied_at : Grid → Extent → Extent → Place → Option CellState
+copied_at g from target c = cond (is_within target c) (copied (cells.get g.cells (source_of from target.first c))) (cells.get g.cells c)
+
+-- a write's format, or the cell's own
+abbrev pub given_format : Option Format → Option CellState → Format
+given_format None o = record { 0 = format_of o }
+given_format (Some f) o = f
+
+abbrev pub write_state : Write → Option CellState → CellState
+write_state w o = record { content = w.content; value = first_value w.content; format = given_format w.format o }
+
+-- the writes in their order
+abbrev pub written_by : Grid → Write → Grid
+written_by g w = put_state g w.cell (write_state w (cells.get g.cells w.cell))
+
+abbrev pub written_all : Grid → List Write → Grid
+written_all g [] = g
+written_all g (w ∷ ws) = written_all (written_by g w) ws
+
+abbrev pub written_cells : List Write → List Place
+written_cells ws = map (λ (w : Write). w.cell) ws
+
+abbrev pub HavePrefixes : List Write → Type 0
+HavePrefixes [] = Unit {0}
+HavePrefixes (w ∷ ws) = HasPrefix w.content × HavePrefixes ws
+
+-- c is one of the cells, is protected, and none of the cells before it is
+pub record IsFirstProtected (s : Choices) (g : Grid) (written : Place → Bool) (c : Place) : Type 0 where
+  pub among : written c ≡ true
+  pub protected : is_protected s g c ≡ true
+  pub first : (d : Place) → written d ≡ true → is_protected s g d ≡ true → place_cmp d c ≡ Less → ⊥
+
+abbrev pub NoneProtected : Choices → Grid → (Place → Bool) → Type 0
+NoneProtected s g written = (c : Place) → written c ≡ true → is_protected s g c ≡ false
+
+-- an edit of cells is refused for the first protected one, and is made where none is; beside that, want of memory alone
+-- is answered
+abbrev pub IsAnswered : Choices → Grid → (Place → Bool) → Result (Unit {0}) SheetFault → Type 0
+IsAnswered s g written (Ok x) = NoneProtected s g written
+IsAnswered s g written (Err (faults.Protected c)) = IsFirstProtected s g written c
+IsAnswered s g written (Err (faults.PushedOff c)) = ⊥
+IsAnswered s g written (Err (faults.OutOfSheet p)) = ⊥
+IsAnswered s g written (Err faults.Memory) = Unit {0}
+
+-- a change gives a formula
+abbrev pub gives_formula : Option CellState → Bool
+gives_formula None = false
+gives_formula (Some s) = is_formula s.content
+
+-- what is offered to the graph for a change
+abbrev pub node_given : Option CellState → Place → Option Node
+node_given None c = None
+node_given (Some s) c = node_of (formula_in s.content) c
+
+-- a state that a cell is given is one that a store may have
+abbrev pub AreSound : Cells → Type 0
+AreSound changes = (c : Place) (s : CellState) → cells.get changes c ≡ Some s → IsSound s
+
+-- every cell that is given a state that is kept is there
+abbrev pub HaveRoom : Cells → (Place → Bool) → Grid → Type 0
+HaveRoom changes written g = (c : Place) (s : CellState) → written c ≡ true → cells.get changes c ≡ Some s → is_kept s ≡ true → cells.get g.cells c ≡ None → ⊥
+
+-- some cells were added that weren't there and are to be given a state
+pub record IsGrown (changes : Cells) (grown : List Place) (old new : Grid) : Type 0 where
+  pub absent : (c : Place) → has same_place grown c ≡ true → cells.get old.cells c ≡ None
+  pub given : (c : Place) → has same_place grown c ≡ true → cells.get changes c ≡ None → ⊥
+  pub others : (c : Place) → has same_place grown c ≡ false → cells.get new.cells c ≡ cells.get old.cells c
+  pub widths : new.widths ≡ old.widths
+  pub hidden : new.hidden ≡ old.hidden
+
+-- the cells that are given nothing are as before
+pub record IsKeptBeside (changes : Cells) (old new : Grid) : Type 0 where
+  pub others : (c : Place) → cells.get changes c ≡ None → cells.get new.cells c ≡ cells.get old.cells c
+  pub widths : new.widths ≡ old.widths
+  pub hidden : new.hidden ≡ old.hidden
+
+-- the graph holds or is offered what the cell's formula reads
+pub record IsOffered (n : Network) (g : Grid) (c : Place) : Type 0 where
+  pub offer : (cells.get n.offers c ≡ None) ⊎ (cells.get n.offers c ≡ node_of (formula_at g c) c)
+  pub some : (cells.get n.formulas c ≡ node_of (formula_at g c) c) ⊎ (cells.get n.offers c ≡ node_of (formula_at g c) c)
+
+-- a cell is given a state, or keeps what it is given
+abbrev pub given_at : Cells → Place → Option CellState → Cells
+given_at m c None = m
+given_at m c (Some s) = cells.insert m c s
+
+-- the cells of a list are given what is told of them, and no other cell is
+abbrev pub AreGiven : Cells → (Place → Bool) → (Place → Option CellState) → Type 0
+AreGiven changes written told = (c : Place) → cells.get changes c ≡ cond (written c) (told c) None
+
+-- as many columns, from one on
+abbrev pub in_columns : ℕ → ℕ → Place → Bool
+in_columns first count c = nat_le first c.col && nat_lt c.col (first + count)
+
+-- as many rows, from one on
+abbrev pub in_rows : ℕ → ℕ → Place → Bool
+in_rows first count c = nat_le first c.row && nat_lt c.row (first + count)
+
+-- the first of the marked cells, in row order
+abbrev pub is_marked : Grid → Place → Bool
+is_marked g c = nat_le 128 (format_of (cells.get g.cells c))
+
+abbrev pub before : Ordering → Option Place → Option Place → Option Place
+before Greater a b = b
+before Less a b = a
+before Equal a b = a
+
+abbrev pub sooner_of : Option Place → Place → Option Place
+sooner_of None c = Some c
+sooner_of (Some d) c = before (place_cmp d c) (Some d) (Some c)
+
+abbrev pub sooner : Grid → Option Place → Place → Option Place
+sooner g first c = cond (is_marked g c) (sooner_of first c) first
+
+pub record IsFirstMarked (g : Grid) (among : Place → Bool) (c : Place) : Type 0 where
+  pub here : among c ≡ true
+  pub marked : is_marked g c ≡ true
+  pub first : (d : Place) → among d ≡ true → is_marked g d ≡ true → place_cmp d c ≡ Less → ⊥
+
+abbrev pub NoneMarked : Grid → (Place → Bool) → Type 0
+NoneMarked g among = (c : Place) → among c ≡ true → is_marked g c ≡ false
+
+abbrev pub IsFirstOf : Grid → (Place → Bool) → Option Place → Type 0
+IsFirstOf g among None = NoneMarked g among
+IsFirstOf g among (Some c) = IsFirstMarked g among c
+
+abbrev pub rule_of : FormatChange → ℕ → ℕ
+rule_of (formats.Code code) = with_code code
+rule_of (formats.Mark b) = with_mark b
+
+abbrev pub HasCode : FormatChange → Type 0
+HasCode (formats.Code code) = code < 128
+HasCode (formats.Mark b) = Unit {0}
+
+-- the cells of the writes, and what they hold after all of them
+pub record AreGathered (g : Grid) (ws : List Write) (listed : List Place) (changes : Cells) : Type 0 where
+  pub listed_all : listed ≡ written_cells ws
+  pub held : (c : Place) → changed (cells.get changes c) (cells.get g.cells c) ≡ cells.get (written_all g ws).cells c
+  pub given : (c : Place) → has same_place listed c ≡ false → cells.get changes c ≡ None
+  pub sound : AreSound changes

@@ -1,0 +1,65 @@
+// States that cells are to have.
+ghost use Rattle.std.specs.Prelude.{◌≡◌, OnOk, option_copied};
+ghost use Rattle.std.specs.FinMap as map;
+ghost use Rattle.grid_address.specs.Place.{place_cmp};
+
+use grid_address::Cell;
+use lics_text::Memory;
+use sheet_store::CellState;
+use std::alloc::Global;
+use std::collections::BTreeMap;
+use std::marker::Model;
+
+/// States that cells are to have, one for a cell.
+#[derive(Drop)]
+pub struct Changes {
+    states: BTreeMap<Cell, CellState>,
+}
+
+impl Model for Changes {
+    ghost use Rattle.std.specs.FinMap as map;
+    ghost use Rattle.sheet_store.specs.Grid.{Cells};
+    ghost use Rattle.sheet_edits.specs.Spans.{coded_cells};
+
+    ghost Value = { Cells };
+
+    ghost coded = { coded_cells };
+
+    ghost view = { λ a. map.from_entries a.states.entries };
+}
+
+impl Changes {
+    /// No states.
+    pub fn new(alloc: Global) -> Changes
+        ensures { result ≡ map.empty }
+    {
+        Changes {
+            states: BTreeMap::new(alloc),
+        }
+    }
+
+    /// Gives a cell a state, in place of an earlier one. Want of memory is the one fault.
+    pub fn set(&mut self, cell: Cell, state: CellState) -> Result<(), Memory>
+        ensures { OnOk result (self.new ≡ map.insert self.old cell state) }
+    {
+        match self.states.insert(cell, state) {
+            Ok(_) => Ok(()),
+            Err(_) => Err(Memory),
+        }
+    }
+
+    /// The state of a cell; none where it has none.
+    pub fn get(&self, cell: Cell) -> Option<&CellState>
+        ensures { option_copied result ≡ map.get self.now cell }
+    {
+        self.states.get(&cell)
+    }
+
+    /// Takes the state of a cell out; none where it has none.
+    pub fn take(&mut self, cell: Cell) -> Option<CellState>
+        ensures state { result ≡ map.get self.old cell }
+        ensures rest { self.new ≡ map.remove self.old cell }
+    {
+        self.states.remove(&cell)
+    }
+}

@@ -1,0 +1,128 @@
+// A cell is written into the store, the graph and the dirty set. What takes memory comes first.
+ghost use Rattle.std.specs.Prelude.{◌≡◌, ◌∷◌, [], ◌||◌, IfOk, OnOk, OnErr, false, true};
+ghost use Rattle.std.specs.FinMap as map;
+ghost use Rattle.grid_address.specs.Place.{same_place, Place};
+ghost use Rattle.depend_graph.specs.Within.{Extends};
+ghost use Rattle.natural_order.specs.Walk.{has};
+ghost use Rattle.natural_recalc.specs.Reading.{is_formula_at, node_of, Matches};
+ghost use Rattle.natural_recalc.specs.World.{formula_in};
+ghost use Rattle.sheet_store.specs.Grid.{is_formula, is_kept, put_state, IsSound};
+ghost use Rattle.sheet_edits.specs.Edits.{just, kept_at, settled, AreDirtied, WithReached};
+
+use crate::growth::{cut_back, insert, insert_all, push};
+use depend_graph::{Graph, Node};
+use formula_tree::Content;
+use grid_address::{Cell, CellList};
+use indexmap::IndexSet;
+use lics_text::Memory;
+use sheet_store::{CellState, Store, is_formula};
+use std::alloc::Global;
+
+fn one_cell(alloc: Global, cell: Cell) -> Result<CellList, Memory>
+    ensures { IfOk result (λ l. l ≡ cell ∷ []) }
+{
+    let mut cells = CellList::new(alloc);
+    push(&mut cells, cell)?;
+    Ok(cells)
+}
+
+// What the formula of a content reads, where the content is a formula.
+pub fn node_of(cell: Cell, content: &Content) -> Result<Option<Node>, Memory>
+    ensures { IfOk result (λ node. node ≡ node_of (formula_in content.now) cell) }
+{
+    match content {
+        Content::Formula(formula) => Ok(Some(Node {
+            reads: formula.reads(cell)?,
+            volatile: formula.is_volatile(),
+        })),
+        Content::Blank | Content::Number(_) | Content::Label(_, _) => Ok(None),
+    }
+}
+
+// Offers a formula for a cell, or none.
+pub fn offer(graph: &mut Graph, cell: Cell, node: Option<Node>) -> Result<(), Memory>
+    ensures formulas { graph.new.formulas ≡ graph.old.formulas }
+    ensures others { (c : Place) → same_place c cell ≡ false → map.get graph.new.offers c ≡ map.get graph.old.offers c }
+    ensures offer { OnOk result (map.get graph.new.offers cell ≡ node) }
+{
+    match node {
+        Some(node) => {
+            graph.offer(cell, node)?;
+            Ok(())
+        }
+        None => {
+            graph.withdraw(cell);
+            Ok(())
+        }
+    }
+}
+
+// All that takes memory: the formula is offered, what it will make dirty is added, and the state is put.
+pub fn prepare(
+    store: &mut Store,
+    graph: &mut Graph,
+    dirty: &mut IndexSet<Cell>,
+    cell: Cell,
+    state: CellState,
+) -> Result<(), Memory>
+    requires { IsSound state }
+    ensures store { OnOk result (store.new ≡ put_state store.old cell state) }
+    ensures store_err { OnErr result (store.new ≡ store.old) }
+    ensures formulas { graph.new.formulas ≡ graph.old.formulas }
+    ensures offer { OnOk result (map.get graph.new.offers cell ≡ node_of (formula_in state.content) cell) }
+    ensures extends { Extends dirty.old.keys dirty.new.keys }
+    ensures dirty { OnOk result (WithReached graph.old (cell ∷ []) (just cell) dirty.old.keys dirty.new.keys) }
+{
+    offer(graph, cell, node_of(cell, &state.content)?)?;
+    let reached = graph.closure(&one_cell(store.alloc(), cell)?)?;
+    insert_all(dirty, reached.as_slice())?;
+    insert(dirty, cell)?;
+    store.put(cell, state)?;
+    Ok(())
+}
+
+// The graph and the dirty set take what was prepared. It takes no memory.
+pub fn settle(graph: &mut Graph, dirty: &mut IndexSet<Cell>, cell: Cell, holds_formula: bool)
+    ensures graph { graph.new ≡ settled holds_formula graph.old cell }
+    ensures dirty { (c : Place) → has same_place dirty.new.keys c ≡ kept_at holds_formula cell c (has same_place dirty.old.keys c) }
+{
+    if holds_formula {
+        graph.accept(cell);
+    } else {
+        graph.drop_cell(cell);
+        let _ = dirty.swap_remove(&cell);
+    }
+}
+
+/// Writes a state into a cell. Where there is no memory, the store and the dirty set are as before, and so are the
+/// formulas of the graph.
+pub fn write_cell(
+    store: &mut Store,
+    graph: &mut Graph,
+    dirty: &mut IndexSet<Cell>,
+    cell: Cell,
+    state: CellState,
+) -> Result<(), Memory>
+    requires state { IsSound state }
+    requires kept { is_formula state.content ≡ true → is_kept state ≡ true }
+    requires matches { Matches graph.old store.old }
+    requires only { (c : Place) → has same_place dirty.old.keys c ≡ true → is_formula_at store.old c ≡ true }
+    ensures store { OnOk result (store.new ≡ put_state store.old cell state) }
+    ensures dirty { OnOk result (AreDirtied store.new (has same_place dirty.old.keys) (just cell) (has same_place dirty.new.keys)) }
+    ensures matches { Matches graph.new store.new }
+    ensures store_err { OnErr result (store.new ≡ store.old) }
+    ensures dirty_err { OnErr result (dirty.new.keys ≡ dirty.old.keys) }
+{
+    let count = dirty.len();
+    let holds_formula = is_formula(&state.content);
+    match prepare(store, graph, dirty, cell, state) {
+        Ok(()) => {
+            settle(graph, dirty, cell, holds_formula);
+            Ok(())
+        }
+        Err(Memory) => {
+            cut_back(dirty, count);
+            Err(Memory)
+        }
+    }
+}

@@ -1,0 +1,267 @@
+// Many cells are written into the store, the graph and the dirty set. What takes memory comes first.
+ghost use Rattle.std.specs.Prelude.{◌≡◌, ◌&&◌, ◌||◌, ◌⊎◌, [], cond, IfOk, OnErr, OnOk, None, Some, false, true};
+ghost use Rattle.std.specs.FinMap as map;
+ghost use Rattle.grid_address.specs.Place.{same_place, Place};
+ghost use Rattle.depend_graph.specs.Within.{Extends};
+ghost use Rattle.natural_order.specs.Walk.{has};
+ghost use Rattle.natural_recalc.specs.Reading.{is_formula_at, node_of, Matches};
+ghost use Rattle.natural_recalc.specs.World.{formula_at};
+ghost use Rattle.sheet_store.specs.Grid.{is_formula, is_kept, put_state, IsSound};
+ghost use Rattle.sheet_store.specs.declared.state.CellState.{CellState};
+ghost use Rattle.sheet_edits.specs.Edits.{just, AreDirtied, WithReached};
+ghost use Rattle.sheet_edits.specs.Spans.{changed, gives_formula, node_given, put_given, AreSound, Becomes, HaveRoom, IsGrown, IsKeptBeside, IsOffered};
+
+use crate::changes::Changes;
+use crate::edit::{node_of, offer, settle};
+use crate::growth::{cut_back, insert, insert_all, push};
+use depend_graph::Graph;
+use grid_address::{Cell, CellList, Format};
+use indexmap::IndexSet;
+use lics_text::Memory;
+use sheet_store::{CellState, Store, is_formula};
+
+// Offers the formula that a cell is given, or none.
+fn offer_at(graph: &mut Graph, cell: Cell, changes: &Changes) -> Result<(), Memory>
+    ensures formulas { graph.new.formulas ≡ graph.old.formulas }
+    ensures others { (c : Place) → same_place c cell ≡ false → map.get graph.new.offers c ≡ map.get graph.old.offers c }
+    ensures offer { OnOk result (map.get graph.new.offers cell ≡ node_given (map.get changes.now cell) cell) }
+{
+    let node = match changes.get(cell) {
+        Some(state) => node_of(cell, &state.content)?,
+        None => None,
+    };
+    offer(graph, cell, node)?;
+    Ok(())
+}
+
+fn offer_all(graph: &mut Graph, cells: &[Cell], changes: &Changes) -> Result<(), Memory>
+    ensures formulas { graph.new.formulas ≡ graph.old.formulas }
+    ensures offers { OnOk result ((c : Place) → has same_place cells.now c ≡ true → map.get graph.new.offers c ≡ node_given (map.get changes.now c) c) }
+{
+    for cell in cells {
+        offer_at(graph, *cell, changes)?;
+    }
+    Ok(())
+}
+
+// Whether a cell is given a formula.
+fn is_given(changes: &Changes, cell: Cell) -> bool
+    ensures { result ≡ gives_formula (map.get changes.now cell) }
+{
+    match changes.get(cell) {
+        Some(state) => is_formula(&state.content),
+        None => false,
+    }
+}
+
+// Adds the cells that are given a formula.
+fn insert_given(dirty: &mut IndexSet<Cell>, cells: &[Cell], changes: &Changes) -> Result<(), Memory>
+    ensures members { OnOk result ((c : Place) → has same_place dirty.new.keys c ≡ (has same_place dirty.old.keys c || (has same_place cells.now c && gives_formula (map.get changes.now c)))) }
+    ensures extends { Extends dirty.old.keys dirty.new.keys }
+{
+    for cell in cells {
+        if is_given(changes, *cell) {
+            insert(dirty, *cell)?;
+        }
+    }
+    Ok(())
+}
+
+// Whether a cell is to hold something, and isn't in the store.
+fn is_new(store: &Store, cell: Cell, changes: &Changes) -> bool
+    ensures absent { result ≡ true → map.get store.now.cells cell ≡ None }
+    ensures given { result ≡ true → map.get changes.now cell ≡ None → ⊥ }
+    ensures rest { result ≡ false → (s : CellState) → map.get changes.now cell ≡ Some s → is_kept s ≡ true → map.get store.now.cells cell ≡ None → ⊥ }
+{
+    match changes.get(cell) {
+        Some(state) => state.is_kept() && store.get(cell).is_none(),
+        None => false,
+    }
+}
+
+// Puts a blank cell that holds a place in the store until its state comes.
+fn hold_place(store: &mut Store, grown: &mut CellList, cell: Cell) -> Result<(), Memory>
+    ensures grown { (c : Place) → has same_place grown.new c ≡ true → (has same_place grown.old c ≡ true) ⊎ (same_place c cell ≡ true) }
+    ensures held { (c : Place) → has same_place grown.old c ≡ true → has same_place grown.new c ≡ true }
+    ensures others { (c : Place) → has same_place grown.new c ≡ false → map.get store.new.cells c ≡ map.get store.old.cells c }
+    ensures beside { (c : Place) → same_place c cell ≡ false → map.get store.new.cells c ≡ map.get store.old.cells c }
+    ensures there { OnOk result (map.get store.new.cells cell ≡ None → ⊥) }
+    ensures widths { store.new.widths ≡ store.old.widths }
+    ensures hidden { store.new.hidden ≡ store.old.hidden }
+{
+    push(grown, cell)?;
+    store.put(cell, CellState::blank(Format(0)))?;
+    Ok(())
+}
+
+fn grow_all(
+    store: &mut Store,
+    grown: &mut CellList,
+    cells: &[Cell],
+    changes: &Changes,
+) -> Result<(), Memory>
+    requires { grown.old ≡ [] }
+    ensures grown { IsGrown changes.now grown.new store.old store.new }
+    ensures room { OnOk result (HaveRoom changes.now (has same_place cells.now) store.new) }
+{
+    for cell in cells {
+        if is_new(store, *cell, changes) {
+            hold_place(store, grown, *cell)?;
+        }
+    }
+    Ok(())
+}
+
+fn clear_all(store: &mut Store, cells: &[Cell])
+    ensures cells { (c : Place) → map.get store.new.cells c ≡ cond (has same_place cells.now c) None (map.get store.old.cells c) }
+    ensures widths { store.new.widths ≡ store.old.widths }
+    ensures hidden { store.new.hidden ≡ store.old.hidden }
+{
+    for cell in cells {
+        store.clear(*cell);
+    }
+}
+
+// Makes room for the states that come into cells which aren't there.
+fn grow(store: &mut Store, cells: &[Cell], changes: &Changes) -> Result<(), Memory>
+    ensures beside { OnOk result (IsKeptBeside changes.now store.old store.new) }
+    ensures room { OnOk result (HaveRoom changes.now (has same_place cells.now) store.new) }
+    ensures err { OnErr result (store.new ≡ store.old) }
+{
+    let mut grown = CellList::new(store.alloc());
+    match grow_all(store, &mut grown, cells, changes) {
+        Ok(()) => Ok(()),
+        Err(Memory) => {
+            clear_all(store, grown.as_slice());
+            Err(Memory)
+        }
+    }
+}
+
+// Gives a cell its state. It takes no memory.
+fn put_at(store: &mut Store, cell: Cell, changes: &mut Changes)
+    requires sound { (s : CellState) → map.get changes.old cell ≡ Some s → IsSound s }
+    requires room { (s : CellState) → map.get changes.old cell ≡ Some s → is_kept s ≡ true → map.get store.old.cells cell ≡ None → ⊥ }
+    ensures store { store.new ≡ put_given store.old cell (map.get changes.old cell) }
+    ensures changes { changes.new ≡ map.remove changes.old cell }
+{
+    if let Some(state) = changes.take(cell) {
+        if state.is_kept() {
+            let _ = store.put(cell, state);
+        } else {
+            store.clear(cell);
+        }
+    }
+}
+
+fn put_all(store: &mut Store, cells: &[Cell], changes: &mut Changes)
+    requires sound { AreSound changes.old }
+    requires room { HaveRoom changes.old (has same_place cells.now) store.old }
+    ensures { Becomes store.old (λ c. cond (has same_place cells.now c) (changed (map.get changes.old c) (map.get store.old.cells c)) (map.get store.old.cells c)) store.new }
+{
+    for cell in cells {
+        put_at(store, *cell, changes);
+    }
+}
+
+/// Gives cells their states. The store is unchanged where there is no memory.
+pub fn change_cells(store: &mut Store, cells: &[Cell], mut changes: Changes) -> Result<(), Memory>
+    requires sound { AreSound changes }
+    requires given { (c : Place) → has same_place cells.now c ≡ false → map.get changes c ≡ None }
+    ensures ok { OnOk result (Becomes store.old (λ c. changed (map.get changes c) (map.get store.old.cells c)) store.new) }
+    ensures err { OnErr result (store.new ≡ store.old) }
+{
+    grow(store, cells, &changes)?;
+    put_all(store, cells, &mut changes);
+    Ok(())
+}
+
+fn holds_formula(store: &Store, cell: Cell) -> bool
+    ensures { result ≡ is_formula_at store.now cell }
+{
+    match store.get(cell) {
+        Some(state) => is_formula(&state.content),
+        None => false,
+    }
+}
+
+fn settle_at(store: &Store, graph: &mut Graph, dirty: &mut IndexSet<Cell>, cell: Cell)
+    requires { IsOffered graph.old store.now cell }
+    ensures here { map.get graph.new.formulas cell ≡ node_of (formula_at store.now cell) cell }
+    ensures offer { (map.get graph.new.offers cell ≡ None) ⊎ (map.get graph.new.offers cell ≡ map.get graph.old.offers cell) }
+    ensures formulas { (c : Place) → same_place c cell ≡ false → map.get graph.new.formulas c ≡ map.get graph.old.formulas c }
+    ensures offers { (c : Place) → same_place c cell ≡ false → map.get graph.new.offers c ≡ map.get graph.old.offers c }
+    ensures dirty { (c : Place) → has same_place dirty.new.keys c ≡ cond (same_place c cell) (has same_place dirty.old.keys c && is_formula_at store.now c) (has same_place dirty.old.keys c) }
+{
+    let holds_formula = holds_formula(store, cell);
+    settle(graph, dirty, cell, holds_formula);
+}
+
+// The graph and the dirty set take what was prepared for cells that have their states. It takes no memory.
+fn settle_all(store: &Store, graph: &mut Graph, dirty: &mut IndexSet<Cell>, cells: &[Cell])
+    requires offered { (c : Place) → has same_place cells.now c ≡ true → IsOffered graph.old store.now c }
+    requires others { (c : Place) → has same_place cells.now c ≡ false → map.get graph.old.formulas c ≡ node_of (formula_at store.now c) c }
+    ensures matches { Matches graph.new store.now }
+    ensures dirty { (c : Place) → has same_place dirty.new.keys c ≡ cond (has same_place cells.now c) (has same_place dirty.old.keys c && is_formula_at store.now c) (has same_place dirty.old.keys c) }
+{
+    for cell in cells {
+        settle_at(store, graph, dirty, *cell);
+    }
+}
+
+// All that takes memory: formulas are offered, what they will make dirty is added, and room is made for their states.
+fn prepare_all(
+    store: &mut Store,
+    graph: &mut Graph,
+    dirty: &mut IndexSet<Cell>,
+    cells: &CellList,
+    changes: &Changes,
+) -> Result<(), Memory>
+    ensures formulas { graph.new.formulas ≡ graph.old.formulas }
+    ensures offers { OnOk result ((c : Place) → has same_place cells.now c ≡ true → map.get graph.new.offers c ≡ node_given (map.get changes.now c) c) }
+    ensures extends { Extends dirty.old.keys dirty.new.keys }
+    ensures dirty { OnOk result (WithReached graph.old cells.now (λ c. has same_place cells.now c && gives_formula (map.get changes.now c)) dirty.old.keys dirty.new.keys) }
+    ensures beside { OnOk result (IsKeptBeside changes.now store.old store.new) }
+    ensures room { OnOk result (HaveRoom changes.now (has same_place cells.now) store.new) }
+    ensures err { OnErr result (store.new ≡ store.old) }
+{
+    offer_all(graph, cells.as_slice(), changes)?;
+    let reached = graph.closure(cells)?;
+    insert_all(dirty, reached.as_slice())?;
+    insert_given(dirty, cells.as_slice(), changes)?;
+    grow(store, cells.as_slice(), changes)?;
+    Ok(())
+}
+
+/// Writes states into cells. A written cell that isn't given a state keeps its own. Where there is no memory, the store
+/// and the dirty set are as before, and so are the formulas of the graph.
+pub fn write_cells(
+    store: &mut Store,
+    graph: &mut Graph,
+    dirty: &mut IndexSet<Cell>,
+    cells: &CellList,
+    mut changes: Changes,
+) -> Result<(), Memory>
+    requires sound { AreSound changes }
+    requires given { (c : Place) → has same_place cells.now c ≡ false → map.get changes c ≡ None }
+    requires matches { Matches graph.old store.old }
+    requires only { (c : Place) → has same_place dirty.old.keys c ≡ true → is_formula_at store.old c ≡ true }
+    ensures store { OnOk result (Becomes store.old (λ c. changed (map.get changes c) (map.get store.old.cells c)) store.new) }
+    ensures dirty { OnOk result (AreDirtied store.new (has same_place dirty.old.keys) (has same_place cells.now) (has same_place dirty.new.keys)) }
+    ensures matches { Matches graph.new store.new }
+    ensures store_err { OnErr result (store.new ≡ store.old) }
+    ensures dirty_err { OnErr result (dirty.new.keys ≡ dirty.old.keys) }
+{
+    let count = dirty.len();
+    match prepare_all(store, graph, dirty, cells, &changes) {
+        Ok(()) => {
+            put_all(store, cells.as_slice(), &mut changes);
+            settle_all(store, graph, dirty, cells.as_slice());
+            Ok(())
+        }
+        Err(Memory) => {
+            cut_back(dirty, count);
+            Err(Memory)
+        }
+    }
+}

@@ -1,0 +1,60 @@
+// The state that a written cell takes.
+ghost use Rattle.std.specs.Prelude.{◌≡◌, nat_le, IfOk, true};
+ghost use Rattle.sheet_store.specs.Grid.{is_formula, is_kept, IsSound};
+ghost use Rattle.natural_recalc.specs.World.{format_of};
+ghost use Rattle.sheet_edits.specs.Edits.{first_value, written_state, HasPrefix};
+ghost use Rattle.std.specs.FinMap as map;
+
+use fixed_value::Fixed;
+use formula_tree::{Content, Value};
+use grid_address::{Cell, Format};
+use lics_text::Memory;
+use sheet_store::{CellState, Store};
+
+/// The format of a cell; one that isn't there has the default format.
+pub fn format_of(store: &Store, cell: Cell) -> Format
+    ensures { result.0 ≡ format_of (map.get store.now.cells cell) }
+{
+    match store.get(cell) {
+        Some(state) => state.format,
+        None => Format(0xFF),
+    }
+}
+
+// The value with which a content begins.
+pub fn first_value(content: &Content) -> Result<Value, Memory>
+    ensures { IfOk result (λ v. v ≡ first_value content.now) }
+{
+    match content {
+        Content::Blank => Ok(Value::Blank),
+        Content::Number(number) => Ok(Value::Num(*number)),
+        Content::Label(_, text) => match text.copy() {
+            Ok(text) => Ok(Value::Str(text)),
+            Err(_) => Err(Memory),
+        },
+        Content::Formula(_) => Ok(Value::Num(Fixed::ZERO)),
+    }
+}
+
+/// The content with its first value, in the cell's format.
+pub fn state_of(store: &Store, cell: Cell, content: Content) -> Result<CellState, Memory>
+    requires { HasPrefix content }
+    ensures state { IfOk result (λ s. s ≡ written_state store.now cell content) }
+    ensures sound { IfOk result (λ s. IsSound s) }
+    ensures kept { IfOk result (λ s. is_formula s.content ≡ true → is_kept s ≡ true) }
+{
+    let value = first_value(&content)?;
+    let format = format_of(store, cell);
+    Ok(CellState {
+        content,
+        value,
+        format,
+    })
+}
+
+/// Whether the protection mark of a cell is set, as it is in the default format.
+pub fn is_marked(store: &Store, cell: Cell) -> bool
+    ensures { result ≡ nat_le 128 (format_of (map.get store.now.cells cell)) }
+{
+    format_of(store, cell).0 >= 128
+}

@@ -1,0 +1,78 @@
+// What a list of writes gives its cells.
+ghost use Rattle.std.specs.Prelude.{◌≡◌, ◌++◌, ◌∷◌, [], IfOk, OnOk, None, false};
+ghost use Rattle.std.specs.FinMap as map;
+ghost use Rattle.grid_address.specs.Place.{same_place, Place};
+ghost use Rattle.natural_order.specs.Walk.{has};
+ghost use Rattle.natural_recalc.specs.World.{format_of};
+ghost use Rattle.sheet_edits.specs.Edits.{HasPrefix};
+ghost use Rattle.sheet_edits.specs.Spans.{changed, write_state, written_all, written_cells, AreGathered, HavePrefixes};
+
+use crate::changes::Changes;
+use crate::growth::push;
+use crate::states::{first_value, format_of};
+use grid_address::{Cell, CellList, Format};
+use lics_text::Memory;
+use sheet_store::{CellState, Store, Write, Writes};
+
+// The format that a cell has after the changes.
+fn format_after(store: &Store, changes: &Changes, cell: Cell) -> Format
+    ensures { result.0 ≡ format_of (changed (map.get changes.now cell) (map.get store.now.cells cell)) }
+{
+    match changes.get(cell) {
+        Some(state) => state.format,
+        None => format_of(store, cell),
+    }
+}
+
+// The state that a write gives its cell after the changes.
+fn write_state(store: &Store, changes: &Changes, write: &Write) -> Result<CellState, Memory>
+    ensures { IfOk result (λ s. s ≡ write_state write.now (changed (map.get changes.now write.now.cell) (map.get store.now.cells write.now.cell))) }
+{
+    let content = write.content.copy()?;
+    let value = first_value(&content)?;
+    let format = match write.format {
+        Some(format) => format,
+        None => format_after(store, changes, write.cell),
+    };
+    Ok(CellState {
+        content,
+        value,
+        format,
+    })
+}
+
+// One more write.
+fn gather(
+    store: &Store,
+    write: &Write,
+    cells: &mut CellList,
+    changes: &mut Changes,
+) -> Result<(), Memory>
+    ensures cells { OnOk result (cells.new ≡ cells.old ++ write.now.cell ∷ []) }
+    ensures changes { OnOk result (changes.new ≡ map.insert changes.old write.now.cell (write_state write.now (changed (map.get changes.old write.now.cell) (map.get store.now.cells write.now.cell)))) }
+{
+    let state = write_state(store, changes, write)?;
+    changes.set(write.cell, state)?;
+    push(cells, write.cell)?;
+    Ok(())
+}
+
+/// The cells of the writes, and what they hold after all of them. Later writes come over earlier ones.
+pub fn gathered(
+    store: &Store,
+    writes: &Writes,
+    cells: &mut CellList,
+    changes: &mut Changes,
+) -> Result<(), Memory>
+    requires prefixes { HavePrefixes writes.now.items.items }
+    requires cells { cells.old ≡ [] }
+    requires changes { changes.old ≡ map.empty }
+    ensures { OnOk result (AreGathered store.now writes.now.items.items cells.new changes.new) }
+{
+    for place in 0..writes.len() {
+        if let Some(write) = writes.get(place) {
+            gather(store, write, cells, changes)?;
+        }
+    }
+    Ok(())
+}

@@ -1,0 +1,231 @@
+// Functions of single values.
+ghost use Rattle.std.specs.Prelude.{◌≡◌, IfOk};
+ghost use Rattle.value_functions.specs.Scalars.{changed, char_value, cut_value, exact_value, find_value, in_words, mid_value, of_number, of_numbers, of_parts, of_text, replace_value, string_value, test_value};
+
+use crate::rows::{changed_row, cut_row, number_row, numbers_row, parts_row, text_row};
+use crate::values::{
+    answer, is_err, is_na, is_text, number_in, stop_four, stop_one, stop_three, stop_two, text_in,
+    truth, worded,
+};
+use at_functions::{char_of, find_in, mid, replace, string};
+use fixed_value::Fixed;
+use formula_tree::Value;
+use lics_text::{Memory, Text};
+use std::alloc::Global;
+
+fn in_words(text: Result<Option<Text>, Memory>) -> Result<Value, Memory>
+    ensures { result ≡ in_words text }
+{
+    match text {
+        Ok(text) => Ok(worded(text)),
+        Err(Memory) => Err(Memory),
+    }
+}
+
+/// DAY and its like, of a number.
+pub fn of_number(function: u8, a: &Value) -> Value
+    ensures { result ≡ of_number function a.now }
+{
+    if let Some(stopped) = stop_one(a) {
+        return stopped;
+    }
+    match number_in(a) {
+        Some(x) => answer(number_row(function, x)),
+        None => Value::Err,
+    }
+}
+
+/// LENGTH and its like, of a text.
+pub fn of_text(function: u8, a: &Value) -> Value
+    ensures { result ≡ of_text function a.now }
+{
+    if let Some(stopped) = stop_one(a) {
+        return stopped;
+    }
+    match text_in(a) {
+        Some(text) => answer(text_row(function, text)),
+        None => Value::Err,
+    }
+}
+
+/// UPPER and its like, of a text.
+pub fn changed(function: u8, a: &Value) -> Result<Value, Memory>
+    ensures { IfOk result (λ v. v ≡ changed function a.now) }
+{
+    if let Some(stopped) = stop_one(a) {
+        return Ok(stopped);
+    }
+    match text_in(a) {
+        Some(text) => in_words(changed_row(function, text)),
+        None => Ok(Value::Err),
+    }
+}
+
+/// CHAR.
+pub fn char_value(alloc: Global, a: &Value) -> Result<Value, Memory>
+    ensures { IfOk result (λ v. v ≡ char_value a.now) }
+{
+    if let Some(stopped) = stop_one(a) {
+        return Ok(stopped);
+    }
+    match number_in(a) {
+        Some(code) => in_words(char_of(alloc, code)),
+        None => Ok(Value::Err),
+    }
+}
+
+/// MOD and ROUND.
+pub fn of_numbers(function: u8, a: &Value, b: &Value) -> Value
+    ensures { result ≡ of_numbers function a.now b.now }
+{
+    if let Some(stopped) = stop_two(a, b) {
+        return stopped;
+    }
+    let Some(x) = number_in(a) else {
+        return Value::Err;
+    };
+    let Some(y) = number_in(b) else {
+        return Value::Err;
+    };
+    answer(numbers_row(function, x, y))
+}
+
+/// STRING.
+pub fn string_value(alloc: Global, a: &Value, b: &Value) -> Result<Value, Memory>
+    ensures { IfOk result (λ v. v ≡ string_value a.now b.now) }
+{
+    if let Some(stopped) = stop_two(a, b) {
+        return Ok(stopped);
+    }
+    let Some(x) = number_in(a) else {
+        return Ok(Value::Err);
+    };
+    let Some(places) = number_in(b) else {
+        return Ok(Value::Err);
+    };
+    in_words(string(alloc, x, places))
+}
+
+/// REPEAT, LEFT and RIGHT.
+pub fn cut_value(function: u8, a: &Value, b: &Value) -> Result<Value, Memory>
+    ensures { IfOk result (λ v. v ≡ cut_value function a.now b.now) }
+{
+    if let Some(stopped) = stop_two(a, b) {
+        return Ok(stopped);
+    }
+    let Some(text) = text_in(a) else {
+        return Ok(Value::Err);
+    };
+    let Some(count) = number_in(b) else {
+        return Ok(Value::Err);
+    };
+    in_words(cut_row(function, text, count))
+}
+
+/// EXACT.
+pub fn exact_value(a: &Value, b: &Value) -> Value
+    ensures { result ≡ exact_value a.now b.now }
+{
+    if let Some(stopped) = stop_two(a, b) {
+        return stopped;
+    }
+    let Some(first) = text_in(a) else {
+        return Value::Err;
+    };
+    let Some(second) = text_in(b) else {
+        return Value::Err;
+    };
+    truth(first.bytes() == second.bytes())
+}
+
+/// DATE and TIME.
+pub fn of_parts(function: u8, a: &Value, b: &Value, c: &Value) -> Value
+    ensures { result ≡ of_parts function a.now b.now c.now }
+{
+    if let Some(stopped) = stop_three(a, b, c) {
+        return stopped;
+    }
+    let Some(x) = number_in(a) else {
+        return Value::Err;
+    };
+    let Some(y) = number_in(b) else {
+        return Value::Err;
+    };
+    let Some(z) = number_in(c) else {
+        return Value::Err;
+    };
+    answer(parts_row(function, x, y, z))
+}
+
+/// MID.
+pub fn mid_value(a: &Value, b: &Value, c: &Value) -> Result<Value, Memory>
+    ensures { IfOk result (λ v. v ≡ mid_value a.now b.now c.now) }
+{
+    if let Some(stopped) = stop_three(a, b, c) {
+        return Ok(stopped);
+    }
+    let Some(text) = text_in(a) else {
+        return Ok(Value::Err);
+    };
+    let Some(start) = number_in(b) else {
+        return Ok(Value::Err);
+    };
+    let Some(count) = number_in(c) else {
+        return Ok(Value::Err);
+    };
+    in_words(mid(text, start, count))
+}
+
+/// FIND.
+pub fn find_value(a: &Value, b: &Value, c: &Value) -> Value
+    ensures { result ≡ find_value a.now b.now c.now }
+{
+    if let Some(stopped) = stop_three(a, b, c) {
+        return stopped;
+    }
+    let Some(what) = text_in(a) else {
+        return Value::Err;
+    };
+    let Some(text) = text_in(b) else {
+        return Value::Err;
+    };
+    let Some(start) = number_in(c) else {
+        return Value::Err;
+    };
+    answer(find_in(what, text, start))
+}
+
+/// REPLACE.
+pub fn replace_value(a: &Value, b: &Value, c: &Value, d: &Value) -> Result<Value, Memory>
+    ensures { IfOk result (λ v. v ≡ replace_value a.now b.now c.now d.now) }
+{
+    if let Some(stopped) = stop_four(a, b, c, d) {
+        return Ok(stopped);
+    }
+    let Some(text) = text_in(a) else {
+        return Ok(Value::Err);
+    };
+    let Some(start) = number_in(b) else {
+        return Ok(Value::Err);
+    };
+    let Some(count) = number_in(c) else {
+        return Ok(Value::Err);
+    };
+    let Some(new) = text_in(d) else {
+        return Ok(Value::Err);
+    };
+    in_words(replace(text, start, count, new))
+}
+
+/// ISNA, ISERR, ISNUMBER and ISSTRING.
+#[tactic(auto, unfolding(crate::specs::Scalars::test_value))]
+pub fn test_value(function: u8, a: &Value) -> Value
+    ensures { result ≡ test_value function a.now }
+{
+    match function {
+        0x31 => truth(is_na(a)),
+        0x32 => truth(is_err(a)),
+        0x45 => truth(is_text(a)),
+        _ => truth(!is_text(a)),
+    }
+}

@@ -1,9 +1,0 @@
-use Rattle.std.specs.Prelude.{take, Some}
-use Rattle.std.specs.FinMap.{get}
-use Rattle.grid_address.specs.Place.{same_place}
-use Rattle.natural_order.specs.Walk.{has}
-use Rattle.work_sheet.specs.Spans.{copied_state, source_of, AreGiven}
-use Rattle.work_sheet.proofs.spans.copied.Given as goal
-
-abbrev pub invariant-loop-cell : goal.invariant-loop-cell
-invariant-loop-cell l = AreGiven l.changes (has same_place (take l.cell-index l.cells)) (λ c. Some (copied_state (get l.store.cells (source_of l.fn.from l.first c))))

@@ -1,9 +1,0 @@
-use Rattle.std.specs.Prelude.{take}
-use Rattle.std.specs.FinMap.{get}
-use Rattle.grid_address.specs.Place.{same_place}
-use Rattle.natural_order.specs.Walk.{has}
-use Rattle.work_sheet.specs.Spans.{blanked, AreGiven}
-use Rattle.work_sheet.proofs.spans.erased.Given as goal
-
-abbrev pub invariant-loop-cell : goal.invariant-loop-cell
-invariant-loop-cell l = AreGiven l.changes (has same_place (take l.cell-index l.cells)) (λ c. blanked (get l.store.cells c))
