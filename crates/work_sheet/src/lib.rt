@@ -2,10 +2,6 @@
 #![tactic(auto)]
 
 mod sheet;
-#[cfg(test)]
-mod span_tests;
-#[cfg(test)]
-mod tests;
 mod typed;
 
 pub use sheet::{Sheet, SheetOf};

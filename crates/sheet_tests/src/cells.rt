@@ -3,7 +3,6 @@ ghost use Rattle.std.specs.Prelude.{◌≡◌, ◌+◌, ◌-◌, ◌^◌, ℕ, m
 ghost use Rattle.formula_tree.specs.declared.value.Value.TheVariants.{Num};
 ghost use Rattle.sheet_edits.specs.Edits.{HasPrefix};
 
-use crate::{Sheet, SheetOf};
 use fixed_value::Fixed;
 use formula_eval::{Look, Means, Scene, Tally};
 use formula_tree::{Content, Expr, ExprList, Formula, Function, Op, Value};
@@ -14,6 +13,7 @@ use sheet_store::{Order, Settings, SheetFault};
 use std::alloc::Global;
 use std::process::Abort;
 use std::test::Fail;
+use work_sheet::{Sheet, SheetOf};
 
 const A1: Cell = Cell { row: 0, col: 0 };
 

@@ -3,7 +3,6 @@ ghost use Rattle.std.specs.Prelude.{◌≡◌, ◌<◌};
 ghost use Rattle.sheet_edits.specs.Edits.{HasPrefix};
 ghost use Rattle.sheet_edits.specs.Spans.{HavePrefixes};
 
-use crate::Sheet;
 use fixed_value::Fixed;
 use formula_eval::{Scene, Tally};
 use formula_text::read;
@@ -14,6 +13,7 @@ use serial_date::Moment;
 use sheet_store::{Settings, SheetFault, Write, Writes};
 use std::process::Abort;
 use std::test::Fail;
+use work_sheet::Sheet;
 
 const SCENE: Scene = Scene {
     cursor: Cell { row: 0, col: 0 },
