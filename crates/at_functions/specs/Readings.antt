@@ -1,9 +1,9 @@
 -- Numbers, dates and times that texts spell.
+use Rattle.std.specs.Char.{is_ascii_digit, to_ascii_uppercase}
 use Rattle.std.specs.Prelude.{ℕ, ◌+◌, ◌-◌, ◌*◌, ◌==◌, ◌&&◌, Bool, ℤ, pos, Option, Some, None, List, [], ◌∷◌, get_or, length, if◌then◌else◌}
 use Rattle.fixed_value.specs.declared.decimal.Decimal.{Decimal}
 use Rattle.fixed_value.specs.declared.decimal.Decimal.TheVariants.{Num, TooLarge, NotNumber}
-use Rattle.fixed_value.specs.Decimals.{decimal_of, is_digit}
-use Rattle.lics_text.specs.Bytes.{folded}
+use Rattle.fixed_value.specs.Decimals.{decimal_of}
 use Rattle.lics_text.specs.Texts.{trimmed}
 use Rattle.at_functions.specs.Dates.{date_by, time_of}
 
@@ -36,13 +36,13 @@ byte_at bytes at = get_or bytes at 0
 -- two digits
 abbrev pub two_digits : List ℕ → Option ℕ
 two_digits bytes =
-    if (length bytes == 2) && (is_digit (byte_at bytes 0) && is_digit (byte_at bytes 1))
+    if (length bytes == 2) && (is_ascii_digit (byte_at bytes 0) && is_ascii_digit (byte_at bytes 1))
     then Some ((byte_at bytes 0 - 48) * 10 + (byte_at bytes 1 - 48))
     else None
 
 -- one digit, or two
 abbrev pub short_number : List ℕ → Option ℕ
-short_number bytes = if (length bytes == 1) && is_digit (byte_at bytes 0) then Some (byte_at bytes 0 - 48) else two_digits bytes
+short_number bytes = if (length bytes == 1) && is_ascii_digit (byte_at bytes 0) then Some (byte_at bytes 0 - 48) else two_digits bytes
 
 -- three letters of a month's name
 abbrev pub is_name : ℕ → ℕ → ℕ → ℕ → ℕ → ℕ → Bool
@@ -69,7 +69,7 @@ month_named a b c =
 abbrev pub month_number : List ℕ → Option ℕ
 month_number bytes =
     if length bytes == 3
-    then Some (month_named (folded (byte_at bytes 0)) (folded (byte_at bytes 1)) (folded (byte_at bytes 2)))
+    then Some (month_named (to_ascii_uppercase (byte_at bytes 0)) (to_ascii_uppercase (byte_at bytes 1)) (to_ascii_uppercase (byte_at bytes 2)))
     else None
 
 -- what stands between two such bytes, before and behind them

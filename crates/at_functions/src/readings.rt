@@ -1,12 +1,12 @@
 // Numbers, dates and times that texts spell.
+ghost use Rattle.std.specs.Char.{is_ascii_digit};
 ghost use Rattle.std.specs.Prelude.{◌≡◌, ◌≤◌, ◌<◌, ◌+◌, IfNone, IfSome, Some, None, drop, length, take, map};
 ghost use Rattle.std.specs.Option.{ForSome};
-ghost use Rattle.fixed_value.specs.Decimals.{is_digit};
 ghost use Rattle.at_functions.specs.Readings.{before, behind, clock, dashed, datevalue, is_name, month_named, month_number, number_in, short_number, slashed, three, timevalue, two_digits, value, with_minutes, with_seconds};
 
 use crate::dates::{date_by, time_of};
 use fixed_value::{Decimal, Fixed, read_decimal};
-use lics_text::{Text, fold};
+use lics_text::Text;
 
 /// The number that a text spells as a decimal, spaces at its ends left out; the empty text is 0.
 pub fn value(text: &Text) -> Option<Fixed>
@@ -48,18 +48,12 @@ fn three(bytes: &[u8], sep: u8) -> Option<(&[u8], &[u8], &[u8])>
     Some((&bytes[..first], &rest[..second], &rest[second + 1..]))
 }
 
-fn is_digit(byte: u8) -> bool
-    ensures { result ≡ is_digit byte }
-{
-    byte >= b'0' && byte <= b'9'
-}
-
 // The number of two digits.
 fn two_digits(bytes: &[u8]) -> Option<u16>
     ensures value { result ≡ two_digits bytes.now }
     ensures below { ForSome result (λ n. n < 100) }
 {
-    if bytes.len() == 2 && is_digit(bytes[0]) && is_digit(bytes[1]) {
+    if bytes.len() == 2 && bytes[0].is_ascii_digit() && bytes[1].is_ascii_digit() {
         Some(u16::from(bytes[0] - b'0') * 10 + u16::from(bytes[1] - b'0'))
     } else {
         None
@@ -71,7 +65,7 @@ fn short_number(bytes: &[u8]) -> Option<u16>
     ensures value { result ≡ short_number bytes.now }
     ensures below { ForSome result (λ n. n < 100) }
 {
-    if bytes.len() == 1 && is_digit(bytes[0]) {
+    if bytes.len() == 1 && bytes[0].is_ascii_digit() {
         Some(u16::from(bytes[0] - b'0'))
     } else {
         two_digits(bytes)
@@ -114,7 +108,11 @@ fn month_number(bytes: &[u8]) -> Option<u16>
     ensures below { ForSome result (λ n. n < 100) }
 {
     if bytes.len() == 3 {
-        Some(u16::from(month_named(fold(bytes[0]), fold(bytes[1]), fold(bytes[2]))))
+        Some(u16::from(month_named(
+            bytes[0].to_ascii_uppercase(),
+            bytes[1].to_ascii_uppercase(),
+            bytes[2].to_ascii_uppercase(),
+        )))
     } else {
         None
     }

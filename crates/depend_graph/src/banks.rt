@@ -1,5 +1,6 @@
 // Two indexes of what formulas read.
 ghost use Rattle.std.specs.Prelude.{◌≡◌, OnOk};
+ghost use Rattle.std.specs.FinMap as map;
 ghost use Rattle.std.specs.FinMap.{get};
 ghost use Rattle.range_index.specs.Owners.{spans_in};
 ghost use Rattle.depend_graph.specs.Banks.{spans_at, AreOthers, AreOthersKept};
@@ -35,7 +36,11 @@ fn empty(index: &mut RangeIndex, owner: Cell)
 }
 
 impl Banks {
-    pub fn new(alloc: Global) -> Banks {
+    /// No spans in either.
+    pub fn new(alloc: Global) -> Banks
+        ensures even { result.even ≡ map.empty }
+        ensures odd { result.odd ≡ map.empty }
+    {
         Banks {
             even: RangeIndex::new(alloc),
             odd: RangeIndex::new(alloc),

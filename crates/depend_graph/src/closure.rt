@@ -11,16 +11,6 @@ use indexmap::IndexSet;
 use lics_text::Memory;
 use std::alloc::Global;
 
-fn insert(set: &mut IndexSet<Cell>, cell: Cell) -> Result<(), Memory>
-    ensures keys { OnOk result (set.new.keys ≡ insert_key same_place set.old.keys cell) }
-    ensures unique { IsUnique same_place set.new }
-{
-    match set.insert(cell) {
-        Ok(_) => Ok(()),
-        Err(_) => Err(Memory),
-    }
-}
-
 // Puts the cells into the set, behind those that are there.
 fn grow(set: &mut IndexSet<Cell>, cells: &[Cell]) -> Result<(), Memory>
     ensures extends { OnOk result (Extends set.old.keys set.new.keys) }
@@ -29,7 +19,7 @@ fn grow(set: &mut IndexSet<Cell>, cells: &[Cell]) -> Result<(), Memory>
     ensures has { OnOk result ((c : Place) → (has set.new.keys c ≡ true) ↔ ((has set.old.keys c ≡ true) ⊎ (has cells.now c ≡ true))) }
 {
     for cell in cells {
-        insert(set, *cell)?;
+        set.insert(*cell)?;
     }
     // `len` is called for its clauses: no cell is in the set twice, and the set isn't larger than memory.
     let _len = set.len();

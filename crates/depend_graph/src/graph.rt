@@ -143,8 +143,6 @@ impl Graph {
 fn node(alloc: Global, reads: &SpanList, volatile: bool) -> Result<Node, Memory>
     ensures { IfOk result (λ n. n ≡ record { reads = reads.now; volatile = volatile }) }
 {
-    match reads.copy(alloc) {
-        Ok(reads) => Ok(Node { reads, volatile }),
-        Err(_) => Err(Memory),
-    }
+    let reads = reads.copy(alloc)?;
+    Ok(Node { reads, volatile })
 }

@@ -23,15 +23,6 @@ fn reads(slots: &BTreeMap<Cell, Slot>, formula: Cell, cell: Cell) -> bool
     }
 }
 
-fn push(list: &mut CellList, cell: Cell) -> Result<(), Memory>
-    ensures { OnOk result (list.new ≡ list.old ++ cell ∷ []) }
-{
-    match list.push(cell) {
-        Ok(()) => Ok(()),
-        Err(_) => Err(Memory),
-    }
-}
-
 // Adds those that read the cell.
 fn add_readers(
     slots: &BTreeMap<Cell, Slot>,
@@ -43,7 +34,7 @@ fn add_readers(
 {
     for formula in formulas {
         if reads(slots, *formula, cell) {
-            push(list, *formula)?;
+            list.push(*formula)?;
         }
     }
     Ok(())

@@ -77,10 +77,8 @@ pub fn put_offer(slots: &mut BTreeMap<Cell, Slot>, cell: Cell, node: Node) -> Re
                 offer: Some(node),
                 is_odd: false,
             };
-            match slots.insert(cell, slot) {
-                Ok(_) => Ok(()),
-                Err(_) => Err(Memory),
-            }
+            slots.insert(cell, slot)?;
+            Ok(())
         }
     }
 }

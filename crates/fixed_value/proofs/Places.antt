@@ -1,4 +1,5 @@
 -- The places behind the point, of which seven decide.
+use Rattle.std.specs.Char.{is_ascii_digit}
 use Rattle.std.proofs.Common.{◌≡◌, ℕ, suc, ◌+◌, ◌*◌, ◌/◌, ◌≤◌, ◌<◌, ◌^◌, ◌-◌, min, Bool, true, false, List, [], ◌∷◌, ◌++◌, length, take, drop, replicate, get_or, refl, sym, ap, ◌∙◌, arith, inl, inr, length-append, length-drop}
 use Rattle.std.proofs.Math.Nat.{pow-suc, pow-le-pow_right, mul-le-mul_right}
 use native.Mathlib.Nat.{div-eq_of_lt-le, div-div-eq-div-mul, add-mul-div_right}
@@ -9,7 +10,7 @@ use Rattle.std.proofs.lemmas.Bool.Decides.{nat_tests}
 use Rattle.std.proofs.lemmas.List.{take_more, take-append-drop}
 use Rattle.std.proofs.lemmas.List.Folds.{list_all-append}
 use Rattle.fixed_value.specs.declared.decimal.Decimal.TheVariants.{Num, TooLarge}
-use Rattle.fixed_value.specs.Decimals.{digit_more, fraction_of, number_of, is_digit, whole_digits}
+use Rattle.fixed_value.specs.Decimals.{digit_more, fraction_of, number_of, whole_digits}
 use Rattle.fixed_value.specs.Numbers.{nearest, signed}
 
 pub quotient_is : (d k m : ℕ) → 0 < d → d * k ≤ m → m < d * (k + 1) → m / d ≡ k
@@ -66,15 +67,15 @@ pub right_of : (a b : Bool) → (a && b) ≡ true → b ≡ true
 right_of true b h = h
 right_of false b h = absurd cc
 
-digit_small : (d : ℕ) → is_digit d ≡ true → d - 48 ≤ 9
+digit_small : (d : ℕ) → is_ascii_digit d ≡ true → d - 48 ≤ 9
 digit_small d h = grind (arith, nat_tests)
 
 -- digits stand for less than the power of ten that has one digit more
-below_power : (ds : List ℕ) → list_all is_digit ds ≡ true → number_of ds < 10 ^ length ds
+below_power : (ds : List ℕ) → list_all is_ascii_digit ds ≡ true → number_of ds < 10 ^ length ds
 below_power [] h = omega arith
 below_power (d ∷ ds) h =
-    let small : d - 48 ≤ 9 = digit_small d (left_of (is_digit d) (list_all is_digit ds) h) in
-    let later : number_of ds < 10 ^ length ds = below_power ds (right_of (is_digit d) (list_all is_digit ds) h) in
+    let small : d - 48 ≤ 9 = digit_small d (left_of (is_ascii_digit d) (list_all is_ascii_digit ds) h) in
+    let later : number_of ds < 10 ^ length ds = below_power ds (right_of (is_ascii_digit d) (list_all is_ascii_digit ds) h) in
     let split : number_of (d ∷ ds) ≡ (0 * 10 + (d - 48)) * 10 ^ length ds + number_of ds = folded_on (0 * 10 + (d - 48)) ds in
     let bound : (d - 48) * 10 ^ length ds ≤ 9 * 10 ^ length ds = mul-le-mul_right (10 ^ length ds) small in
     omega (arith, ten_more (length ds), split, bound, later)
@@ -83,13 +84,13 @@ pub power_positive : (n : ℕ) → 0 < 10 ^ n
 power_positive n = pow-le-pow_right {n = 10} (omega arith) {i = 0} {j = n} (omega arith)
 
 -- the first seven of the places and of zeros behind them
-pub seven_first : (places : List ℕ) → list_all is_digit places ≡ true → number_of (take 7 (places ++ replicate 7 48)) ≡ number_of places * 10000000 / 10 ^ length places
+pub seven_first : (places : List ℕ) → list_all is_ascii_digit places ≡ true → number_of (take 7 (places ++ replicate 7 48)) ≡ number_of places * 10000000 / 10 ^ length places
 seven_first places h =
     let xs : List ℕ = places ++ replicate 7 48 in
-    let all : list_all is_digit xs ≡ true = list_all-append is_digit places (replicate 7 48) ∙ ap (λ b. b && true) h in
+    let all : list_all is_ascii_digit xs ≡ true = list_all-append is_ascii_digit places (replicate 7 48) ∙ ap (λ b. b && true) h in
     let parts : take 7 xs ++ drop 7 xs ≡ xs = take-append-drop 7 xs in
-    let rest : list_all is_digit (drop 7 xs) ≡ true =
-    right_of (list_all is_digit (take 7 xs)) (list_all is_digit (drop 7 xs)) (sym (list_all-append is_digit (take 7 xs) (drop 7 xs)) ∙ ap (list_all is_digit) parts ∙ all) in
+    let rest : list_all is_ascii_digit (drop 7 xs) ≡ true =
+    right_of (list_all is_ascii_digit (take 7 xs)) (list_all is_ascii_digit (drop 7 xs)) (sym (list_all-append is_ascii_digit (take 7 xs) (drop 7 xs)) ∙ ap (list_all is_ascii_digit) parts ∙ all) in
     let long : length (drop 7 xs) ≡ length places = omega (arith, length-drop 7 xs, length-append places (replicate 7 48)) in
     let p : ℕ = 10 ^ length places in
     let small : number_of (drop 7 xs) < p = rw (← long) (below_power (drop 7 xs) rest) in
@@ -109,9 +110,9 @@ seven_more places at number digit below is size digit_is small =
     (omega (arith, later, is, digit_is), omega (arith, power, size, small))
 
 -- the digits that bytes begin with are digits
-pub whole_are_digits : (xs : List ℕ) → list_all is_digit (whole_digits xs) ≡ true
+pub whole_are_digits : (xs : List ℕ) → list_all is_ascii_digit (whole_digits xs) ≡ true
 whole_are_digits [] = refl
-whole_are_digits (x ∷ xs) = elim (cases_Bool (is_digit x)) [
+whole_are_digits (x ∷ xs) = elim (cases_Bool (is_ascii_digit x)) [
   | inl digit ↦ rw digit (rw digit (whole_are_digits xs))
   | inr other ↦ rw other refl
 ]

@@ -1,4 +1,5 @@
 -- Numbers that are written without zeros at their end.
+use Rattle.std.specs.Char.{is_ascii_digit}
 use Rattle.std.proofs.Common.{◌≡◌, ℕ, ◌+◌, ◌-◌, ◌*◌, ◌/◌, ◌^◌, ◌≤◌, ◌<◌, Bool, true, false, Some, List, [], ◌∷◌, ◌++◌, length, take, drop, get_or, refl, ap, sym, ◌∙◌, arith, inl, inr, append_assoc}
 use Rattle.std.specs.Prelude.{◌==◌, ◌&&◌, nat_le, ℤ, nat_abs}
 use Rattle.std.specs.List.{list_all}
@@ -6,7 +7,7 @@ use Rattle.std.proofs.lemmas.Bool.{cases_Bool, eqb-true}
 use Rattle.std.proofs.lemmas.Bool.Decides.{nat_tests}
 use Rattle.std.proofs.lemmas.Nat.{pow-add}
 use Rattle.fixed_value.specs.declared.decimal.Decimal.TheVariants.{Num}
-use Rattle.fixed_value.specs.Decimals.{behind_digits, decimal_from, decimal_of, fraction_of, is_digit, number_of, places_of, whole_digits}
+use Rattle.fixed_value.specs.Decimals.{behind_digits, decimal_from, decimal_of, fraction_of, number_of, places_of, whole_digits}
 use Rattle.fixed_value.specs.Numbers.{nearest, signed}
 use Rattle.fixed_value.specs.Written.{fixed_digits, minus_sign, pointed, scaled, short, without_last_zeros, without_zeros}
 use Rattle.fixed_value.proofs.Places.{left_of, number_of-append, power_positive, quotient_is, right_of}
@@ -14,25 +15,25 @@ use Rattle.fixed_value.proofs.Written as long
 
 -- no digit stands first
 abbrev pub Stops : List ℕ → Type 0
-Stops rest = is_digit (get_or rest 0 0) ≡ false
+Stops rest = is_ascii_digit (get_or rest 0 0) ≡ false
 
 digits_stop : (rest : List ℕ) → Stops rest → (whole_digits rest ≡ []) × (behind_digits rest ≡ rest)
 digits_stop [] h = (refl, refl)
 digits_stop (b ∷ bs) h = (rw h refl, rw h refl)
 
 -- digits, and what stands behind them
-pub front_digits : (ds rest : List ℕ) → list_all is_digit ds ≡ true → Stops rest → (whole_digits (ds ++ rest) ≡ ds) × (behind_digits (ds ++ rest) ≡ rest)
+pub front_digits : (ds rest : List ℕ) → list_all is_ascii_digit ds ≡ true → Stops rest → (whole_digits (ds ++ rest) ≡ ds) × (behind_digits (ds ++ rest) ≡ rest)
 front_digits [] rest all h = digits_stop rest h
 front_digits (d ∷ ds) rest all h =
-    let digit : is_digit d ≡ true = left_of (is_digit d) (list_all is_digit ds) all in
-    let more = front_digits ds rest (right_of (is_digit d) (list_all is_digit ds) all) h in
+    let digit : is_ascii_digit d ≡ true = left_of (is_ascii_digit d) (list_all is_ascii_digit ds) all in
+    let more = front_digits ds rest (right_of (is_ascii_digit d) (list_all is_ascii_digit ds) all) h in
     (rw digit (ap (λ (l : List ℕ). d ∷ l) more.0), rw digit more.1)
 
 pub point_stops : (ds rest : List ℕ) → Stops rest → Stops (pointed ds ++ rest)
 point_stops [] rest h = h
 point_stops (d ∷ ds) rest h = refl
 
-pub pointed_places : (ds : List ℕ) → list_all is_digit ds ≡ true → places_of (pointed ds) ≡ Some ds
+pub pointed_places : (ds : List ℕ) → list_all is_ascii_digit ds ≡ true → places_of (pointed ds) ≡ Some ds
 pointed_places [] all = refl
 pointed_places (d ∷ ds) all = rw all refl
 
@@ -40,21 +41,21 @@ append_nothing : (ds : List ℕ) → ds ++ [] ≡ ds
 append_nothing [] = refl
 append_nothing (d ∷ ds) = ap (λ (l : List ℕ). d ∷ l) (append_nothing ds)
 
-read_plain : (minus : Bool) (whole places : List ℕ) → list_all is_digit whole ≡ true → list_all is_digit places ≡ true →
+read_plain : (minus : Bool) (whole places : List ℕ) → list_all is_ascii_digit whole ≡ true → list_all is_ascii_digit places ≡ true →
     decimal_from minus (whole_digits (whole ++ pointed places)) (places_of (behind_digits (whole ++ pointed places))) ≡ decimal_from minus whole (Some places)
 read_plain minus whole places all later =
-    let stops : Stops (pointed places) = ap (λ (l : List ℕ). is_digit (get_or l 0 0)) (sym (append_nothing (pointed places))) ∙ point_stops places [] refl in
+    let stops : Stops (pointed places) = ap (λ (l : List ℕ). is_ascii_digit (get_or l 0 0)) (sym (append_nothing (pointed places))) ∙ point_stops places [] refl in
     let front = front_digits whole (pointed places) all stops in
     rw (front.0, front.1, pointed_places places later) refl
 
-pub read_signed : (minus : Bool) (whole places : List ℕ) → 0 < length whole → list_all is_digit whole ≡ true → list_all is_digit places ≡ true →
+pub read_signed : (minus : Bool) (whole places : List ℕ) → 0 < length whole → list_all is_ascii_digit whole ≡ true → list_all is_ascii_digit places ≡ true →
     decimal_of (minus_sign minus ++ (whole ++ pointed places)) ≡ fraction_of minus whole places
 read_signed true whole places h all later = read_plain true whole places all later ∙ long.from_digits true whole places h
 read_signed false whole places h all later =
     let bare = long.no_sign whole (pointed places) h all in
     rw (bare.0, bare.1) (read_plain false whole places all later ∙ long.from_digits false whole places h)
 
-only_zeros : (ds : List ℕ) → list_all (λ e. e == 48) ds ≡ true → (number_of ds ≡ 0) × (list_all is_digit ds ≡ true)
+only_zeros : (ds : List ℕ) → list_all (λ e. e == 48) ds ≡ true → (number_of ds ≡ 0) × (list_all is_ascii_digit ds ≡ true)
 only_zeros [] h = (refl, refl)
 only_zeros (d ∷ ds) h =
     let nought : d ≡ 48 = eqb-true d 48 (left_of (d == 48) (list_all (λ e. e == 48) ds) h) in
@@ -66,7 +67,7 @@ record IsCut (ds : List ℕ) : Type 0 where
   count : ℕ
   long : length (without_last_zeros ds) + count ≡ length ds
   value : (front : List ℕ) → number_of (front ++ without_last_zeros ds) * 10 ^ count ≡ number_of (front ++ ds)
-  digits : list_all is_digit ds ≡ true → list_all is_digit (without_last_zeros ds) ≡ true
+  digits : list_all is_ascii_digit ds ≡ true → list_all is_ascii_digit (without_last_zeros ds) ≡ true
 
 cut : (ds : List ℕ) → IsCut ds
 cut [] = record { count = 0; long = refl; value = λ front. omega arith; digits = λ h. h }
@@ -83,11 +84,11 @@ cut (d ∷ ds) = elim (cases_Bool (list_all (λ e. e == 48) (d ∷ ds))) [
     value = λ front. rw other (
         ap (λ (l : List ℕ). number_of l * 10 ^ more.count) (sym (append_assoc front (d ∷ []) (without_last_zeros ds))) ∙ more.value (front ++ d ∷ [])
         ∙ ap number_of (append_assoc front (d ∷ []) ds));
-    digits = λ h. rw other (long_digits d ds (left_of (is_digit d) (list_all is_digit ds) h) (more.digits (right_of (is_digit d) (list_all is_digit ds) h)));
+    digits = λ h. rw other (long_digits d ds (left_of (is_ascii_digit d) (list_all is_ascii_digit ds) h) (more.digits (right_of (is_ascii_digit d) (list_all is_ascii_digit ds) h)));
   })
 ]
   where
-    long_digits : (d : ℕ) (ds : List ℕ) → is_digit d ≡ true → list_all is_digit (without_last_zeros ds) ≡ true → (is_digit d && list_all is_digit (without_last_zeros ds)) ≡ true
+    long_digits : (d : ℕ) (ds : List ℕ) → is_ascii_digit d ≡ true → list_all is_ascii_digit (without_last_zeros ds) ≡ true → (is_ascii_digit d && list_all is_ascii_digit (without_last_zeros ds)) ≡ true
     long_digits d ds p q = rw (p, q) refl
 
 -- a factor of both sides
@@ -114,16 +115,16 @@ module _ (v : ℤ) (places : ℕ) (within : nat_abs v ≤ 999999999999999) (enou
   cut_off : IsCut (behind v places)
   cut_off = cut (behind v places)
 
-  both : (list_all is_digit (take 10 (digits v places)) && list_all is_digit (behind v places)) ≡ true
+  both : (list_all is_ascii_digit (take 10 (digits v places)) && list_all is_ascii_digit (behind v places)) ≡ true
   both = long.both v places within enough
 
   pub some : 0 < length (whole v places)
   some = long.stripped_stays (take 10 (digits v places)) (omega (arith, long.front_long v places within enough))
 
-  pub all_whole : list_all is_digit (whole v places) ≡ true
+  pub all_whole : list_all is_ascii_digit (whole v places) ≡ true
   all_whole = long.all_stripped (take 10 (digits v places)) (left_of _ _ both)
 
-  pub all_shown : list_all is_digit (shown v places) ≡ true
+  pub all_shown : list_all is_ascii_digit (shown v places) ≡ true
   all_shown = cut_off.digits (right_of _ _ both)
 
   size : nearest (number_of ((whole v places) ++ (shown v places)) * 1000000) (10 ^ length (shown v places)) ≡ nat_abs v

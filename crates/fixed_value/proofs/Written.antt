@@ -1,4 +1,5 @@
 -- Numbers as they are written.
+use Rattle.std.specs.Char.{is_ascii_digit}
 use Rattle.std.proofs.Common.{◌≡◌, ℕ, zero, suc, ◌+◌, ◌-◌, ◌*◌, ◌/◌, ◌%◌, ◌^◌, ◌≤◌, ◌<◌, Bool, true, false, Some, List, [], ◌∷◌, ◌++◌, length, take, drop, refl, ap, sym, ◌∙◌, arith, inl, inr, length-append, length-drop}
 use Rattle.std.proofs.Math.Nat.{mul-le-mul_right}
 use Rattle.std.specs.Int.RustNames.{int_lt}
@@ -11,7 +12,7 @@ use Rattle.std.proofs.lemmas.Int.{ints}
 use Rattle.std.proofs.lemmas.List.{length-take-le, take-append-drop}
 use Rattle.std.proofs.lemmas.List.Folds.{list_all-append}
 use Rattle.fixed_value.specs.declared.decimal.Decimal.TheVariants.{Num}
-use Rattle.fixed_value.specs.Decimals.{behind_digits, decimal_from, decimal_of, fraction_of, is_digit, is_minus, number_of, whole_digits, without_sign}
+use Rattle.fixed_value.specs.Decimals.{behind_digits, decimal_from, decimal_of, fraction_of, is_minus, number_of, whole_digits, without_sign}
 use Rattle.fixed_value.specs.Numbers.{nearest, signed}
 use Rattle.fixed_value.specs.Written.{fixed_digits, minus_sign, pointed, scaled, without_zeros, written}
 use Rattle.fixed_value.proofs.Places.{left_of, number_of-append, number_of-more, power_positive, quotient_is, right_of, ten_more}
@@ -20,11 +21,11 @@ pub fixed_digits_length : (k n : ℕ) → length (fixed_digits k n) ≡ k
 fixed_digits_length zero n = refl
 fixed_digits_length (suc k) n = omega (arith, length-append (fixed_digits k (n / 10)) ((48 + n % 10) ∷ []), fixed_digits_length k (n / 10))
 
-all_fixed_digits : (k n : ℕ) → list_all is_digit (fixed_digits k n) ≡ true
+all_fixed_digits : (k n : ℕ) → list_all is_ascii_digit (fixed_digits k n) ≡ true
 all_fixed_digits zero n = refl
 all_fixed_digits (suc k) n =
-    let last : is_digit (48 + n % 10) ≡ true = grind (arith, nat_tests) in
-    list_all-append is_digit (fixed_digits k (n / 10)) ((48 + n % 10) ∷ []) ∙ rw (all_fixed_digits k (n / 10), last) refl
+    let last : is_ascii_digit (48 + n % 10) ≡ true = grind (arith, nat_tests) in
+    list_all-append is_ascii_digit (fixed_digits k (n / 10)) ((48 + n % 10) ∷ []) ∙ rw (all_fixed_digits k (n / 10), last) refl
 
 number_of_fixed : (k n : ℕ) → n < 10 ^ k → number_of (fixed_digits k n) ≡ n
 number_of_fixed zero n h = omega arith
@@ -40,11 +41,11 @@ number_of_stripped (d ∷ e ∷ ds) = elim (cases_Bool (d == 48)) [
   | inr other ↦ rw other refl
 ]
 
-pub all_stripped : (ds : List ℕ) → list_all is_digit ds ≡ true → list_all is_digit (without_zeros ds) ≡ true
+pub all_stripped : (ds : List ℕ) → list_all is_ascii_digit ds ≡ true → list_all is_ascii_digit (without_zeros ds) ≡ true
 all_stripped [] h = refl
 all_stripped (d ∷ []) h = h
 all_stripped (d ∷ e ∷ ds) h = elim (cases_Bool (d == 48)) [
-  | inl nought ↦ rw nought (all_stripped (e ∷ ds) (right_of (is_digit d) (list_all is_digit (e ∷ ds)) h))
+  | inl nought ↦ rw nought (all_stripped (e ∷ ds) (right_of (is_ascii_digit d) (list_all is_ascii_digit (e ∷ ds)) h))
   | inr other ↦ rw other h
 ]
 
@@ -57,32 +58,32 @@ stripped_stays (d ∷ e ∷ ds) h = elim (cases_Bool (d == 48)) [
 ]
 
 -- digits up to a point
-whole_to_point : (ds rest : List ℕ) → list_all is_digit ds ≡ true → whole_digits (ds ++ 46 ∷ rest) ≡ ds
+whole_to_point : (ds rest : List ℕ) → list_all is_ascii_digit ds ≡ true → whole_digits (ds ++ 46 ∷ rest) ≡ ds
 whole_to_point [] rest h = refl
 whole_to_point (d ∷ ds) rest h =
-    let digit : is_digit d ≡ true = left_of (is_digit d) (list_all is_digit ds) h in
-    rw digit (ap (λ (l : List ℕ). d ∷ l) (whole_to_point ds rest (right_of (is_digit d) (list_all is_digit ds) h)))
+    let digit : is_ascii_digit d ≡ true = left_of (is_ascii_digit d) (list_all is_ascii_digit ds) h in
+    rw digit (ap (λ (l : List ℕ). d ∷ l) (whole_to_point ds rest (right_of (is_ascii_digit d) (list_all is_ascii_digit ds) h)))
 
-behind_to_point : (ds rest : List ℕ) → list_all is_digit ds ≡ true → behind_digits (ds ++ 46 ∷ rest) ≡ 46 ∷ rest
+behind_to_point : (ds rest : List ℕ) → list_all is_ascii_digit ds ≡ true → behind_digits (ds ++ 46 ∷ rest) ≡ 46 ∷ rest
 behind_to_point [] rest h = refl
 behind_to_point (d ∷ ds) rest h =
-    let digit : is_digit d ≡ true = left_of (is_digit d) (list_all is_digit ds) h in
-    rw digit (behind_to_point ds rest (right_of (is_digit d) (list_all is_digit ds) h))
+    let digit : is_ascii_digit d ≡ true = left_of (is_ascii_digit d) (list_all is_ascii_digit ds) h in
+    rw digit (behind_to_point ds rest (right_of (is_ascii_digit d) (list_all is_ascii_digit ds) h))
 
 pub from_digits : (minus : Bool) (whole places : List ℕ) → 0 < length whole → decimal_from minus whole (Some places) ≡ fraction_of minus whole places
 from_digits minus [] places h = absurd (omega arith)
 from_digits minus (w ∷ ws) places h = refl
 
 -- digits behind a sign or none
-pub no_sign : (ds rest : List ℕ) → 0 < length ds → list_all is_digit ds ≡ true → (without_sign (ds ++ rest) ≡ ds ++ rest) × (is_minus (ds ++ rest) ≡ false)
+pub no_sign : (ds rest : List ℕ) → 0 < length ds → list_all is_ascii_digit ds ≡ true → (without_sign (ds ++ rest) ≡ ds ++ rest) × (is_minus (ds ++ rest) ≡ false)
 no_sign [] rest h all = absurd (omega arith)
 no_sign (d ∷ ds) rest h all =
-    let digit : is_digit d ≡ true = left_of (is_digit d) (list_all is_digit ds) all in
+    let digit : is_ascii_digit d ≡ true = left_of (is_ascii_digit d) (list_all is_ascii_digit ds) all in
     let plus : (d == 43) ≡ false = grind (arith, nat_tests, digit) in
     let minus : (d == 45) ≡ false = grind (arith, nat_tests, digit) in
     (rw (plus, minus) refl, minus)
 
-read_signed : (minus : Bool) (whole places : List ℕ) → 0 < length whole → list_all is_digit whole ≡ true → list_all is_digit places ≡ true →
+read_signed : (minus : Bool) (whole places : List ℕ) → 0 < length whole → list_all is_ascii_digit whole ≡ true → list_all is_ascii_digit places ≡ true →
     decimal_of (minus_sign minus ++ (whole ++ 46 ∷ places)) ≡ fraction_of minus whole places
 read_signed true whole places h all later =
     rw (whole_to_point whole places all, behind_to_point whole places all, later) (from_digits true whole places h)
@@ -146,8 +147,8 @@ module _ (v : ℤ) (places : ℕ) (within : nat_abs v ≤ 999999999999999) (enou
   parts : take 10 digits ++ behind ≡ digits
   parts = take-append-drop 10 digits
 
-  pub both : (list_all is_digit (take 10 digits) && list_all is_digit behind) ≡ true
-  both = sym (list_all-append is_digit (take 10 digits) behind) ∙ ap (list_all is_digit) parts ∙ all_fixed_digits (10 + places) (scaled v places)
+  pub both : (list_all is_ascii_digit (take 10 digits) && list_all is_ascii_digit behind) ≡ true
+  both = sym (list_all-append is_ascii_digit (take 10 digits) behind) ∙ ap (list_all is_ascii_digit) parts ∙ all_fixed_digits (10 + places) (scaled v places)
 
   pub number : number_of (whole ++ behind) ≡ nat_abs v * unit
   number =

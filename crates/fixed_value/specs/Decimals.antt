@@ -1,12 +1,10 @@
 -- The number that a text spells.
+use Rattle.std.specs.Char.{is_ascii_digit}
 use Rattle.std.specs.Prelude.{ℕ, ◌+◌, ◌-◌, ◌*◌, ◌^◌, Bool, false, ◌&&◌, ◌||◌, ◌==◌, nat_le, List, [], ◌∷◌, ◌++◌, length, fold, Option, Some, None, if◌then◌else◌}
 use Rattle.std.specs.List.{list_all}
 use Rattle.fixed_value.specs.declared.decimal.Decimal.{Decimal}
 use Rattle.fixed_value.specs.declared.decimal.Decimal.TheVariants.{Num, TooLarge, NotNumber}
 use Rattle.fixed_value.specs.Numbers.{nearest, signed}
-
-abbrev pub is_digit : ℕ → Bool
-is_digit b = nat_le 48 b && nat_le b 57
 
 abbrev pub digit_more : ℕ → ℕ → ℕ
 digit_more n b = n * 10 + (b - 48)
@@ -26,16 +24,16 @@ without_sign (b ∷ bs) = if b == 43 || b == 45 then bs else b ∷ bs
 -- the digits that the bytes begin with, and the bytes behind them
 abbrev pub whole_digits : List ℕ → List ℕ
 whole_digits [] = []
-whole_digits (b ∷ bs) = if is_digit b then b ∷ whole_digits bs else []
+whole_digits (b ∷ bs) = if is_ascii_digit b then b ∷ whole_digits bs else []
 
 abbrev pub behind_digits : List ℕ → List ℕ
 behind_digits [] = []
-behind_digits (b ∷ bs) = if is_digit b then behind_digits bs else b ∷ bs
+behind_digits (b ∷ bs) = if is_ascii_digit b then behind_digits bs else b ∷ bs
 
 -- the digits behind the point, of which there may be none; no other byte may stand there
 abbrev pub places_of : List ℕ → Option (List ℕ)
 places_of [] = Some []
-places_of (b ∷ bs) = if b == 46 && list_all is_digit bs then Some bs else None
+places_of (b ∷ bs) = if b == 46 && list_all is_ascii_digit bs then Some bs else None
 
 -- the exact fraction, rounded once
 abbrev pub fraction_of : Bool → List ℕ → List ℕ → Decimal

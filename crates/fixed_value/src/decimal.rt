@@ -1,8 +1,9 @@
 // Decimals read from bytes.
+ghost use Rattle.std.specs.Char.{is_ascii_digit};
 ghost use Rattle.std.specs.Prelude.{◌≡◌, ◌≤◌, ◌<◌, ◌-◌, ◌*◌, ◌/◌, ◌^◌, ◌++◌, true, length, take, drop, min, replicate, slice_index_or};
 ghost use Rattle.std.specs.List.{list_all};
 ghost use Rattle.std.specs.Option.{option_copied};
-ghost use Rattle.fixed_value.specs.Decimals.{behind_digits, decimal_of, fraction_of, is_digit, is_minus, number_of, places_of, whole_digits, without_sign};
+ghost use Rattle.fixed_value.specs.Decimals.{behind_digits, decimal_of, fraction_of, is_minus, number_of, places_of, whole_digits, without_sign};
 
 use crate::Fixed;
 
@@ -12,12 +13,6 @@ pub enum Decimal {
     Num(Fixed),
     TooLarge,
     NotNumber,
-}
-
-fn is_digit(byte: u8) -> bool
-    ensures { result ≡ is_digit byte }
-{
-    byte >= b'0' && byte <= b'9'
 }
 
 fn is_minus(bytes: &[u8]) -> bool
@@ -43,7 +38,7 @@ pub fn digits_len(bytes: &[u8]) -> usize
     ensures behind { drop result bytes.now ≡ behind_digits bytes.now }
 {
     let mut len = 0;
-    while len < bytes.len() && is_digit(bytes[len]) {
+    while len < bytes.len() && bytes[len].is_ascii_digit() {
         len += 1;
     }
     len
@@ -51,7 +46,7 @@ pub fn digits_len(bytes: &[u8]) -> usize
 
 // What digits stand for, where it is below 1,000,000,000.
 fn capped_number(digits: &[u8]) -> u64
-    requires { list_all is_digit digits.now ≡ true }
+    requires { list_all is_ascii_digit digits.now ≡ true }
     ensures { result ≡ min (number_of digits.now) 1000000000 }
 {
     let mut number: u64 = 0;
@@ -63,7 +58,7 @@ fn capped_number(digits: &[u8]) -> u64
 
 // A place's digit, 0 where the place isn't there.
 fn digit_at(places: &[u8], at: usize) -> u8
-    requires digits { list_all is_digit places.now ≡ true }
+    requires digits { list_all is_ascii_digit places.now ≡ true }
     requires at_in { at < 7 }
     ensures value { result ≡ slice_index_or (places.now ++ replicate 7 48) at 48 - 48 }
     ensures size { result ≤ 9 }
@@ -78,7 +73,7 @@ fn digit_at(places: &[u8], at: usize) -> u8
 // The first seven places, of which those that aren't there are zeros.
 #[tactic(auto, using(crate::proofs::Places::seven_first))]
 fn seven_places(places: &[u8]) -> u64
-    requires { list_all is_digit places.now ≡ true }
+    requires { list_all is_ascii_digit places.now ≡ true }
     ensures value { result ≡ number_of places.now * 10000000 / 10 ^ length places.now }
     ensures size { result < 10000000 }
 {
@@ -91,8 +86,8 @@ fn seven_places(places: &[u8]) -> u64
 
 // The number of these digits before and behind the point.
 fn fraction(minus: bool, whole: &[u8], places: &[u8]) -> Decimal
-    requires whole { list_all is_digit whole.now ≡ true }
-    requires places { list_all is_digit places.now ≡ true }
+    requires whole { list_all is_ascii_digit whole.now ≡ true }
+    requires places { list_all is_ascii_digit places.now ≡ true }
     ensures { result ≡ fraction_of minus whole.now places.now }
 {
     let size = capped_number(whole) * 1_000_000 + (seven_places(places) + 5) / 10;
@@ -103,9 +98,9 @@ fn fraction(minus: bool, whole: &[u8], places: &[u8]) -> Decimal
 }
 
 fn all_digits(bytes: &[u8]) -> bool
-    ensures { result ≡ list_all is_digit bytes.now }
+    ensures { result ≡ list_all is_ascii_digit bytes.now }
 {
-    bytes.iter().all(|b| is_digit(*b))
+    bytes.iter().all(|b| b.is_ascii_digit())
 }
 
 // The bytes behind the first.

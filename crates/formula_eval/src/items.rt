@@ -47,26 +47,18 @@ fn scalar(value: &Value) -> Item
     }
 }
 
-fn push(items: &mut Vec<Item>, item: Item) -> Result<(), Memory>
-    ensures { OnOk result (items.new.items ≡ items.old.items ++ item ∷ []) }
-{
-    match items.push(item) {
-        Ok(()) => Ok(()),
-        Err(_) => Err(Memory),
-    }
-}
-
 // A cell of a range: a blank one is passed over, and a label counts as 0.
 fn put_cell(items: &mut Vec<Item>, value: &Value) -> Result<(), Memory>
     ensures { OnOk result (items.new.items ≡ items.old.items ++ in_range value.now) }
 {
     match value {
-        Value::Blank => Ok(()),
-        Value::Num(number) => push(items, Item::Is(*number)),
-        Value::Str(_) => push(items, Item::Is(Fixed::ZERO)),
-        Value::Err => push(items, Item::Err),
-        Value::Na => push(items, Item::Na),
+        Value::Blank => {}
+        Value::Num(number) => items.push(Item::Is(*number))?,
+        Value::Str(_) => items.push(Item::Is(Fixed::ZERO))?,
+        Value::Err => items.push(Item::Err)?,
+        Value::Na => items.push(Item::Na)?,
     }
+    Ok(())
 }
 
 #[tactic(auto, using(crate::proofs::Gathered::in_more))]
@@ -86,10 +78,11 @@ fn put_argument<K: Look>(items: &mut Vec<Item>, argument: &Argument, look: &K) -
     ensures { OnOk result (items.new.items ≡ items.old.items ++ items_by (K.sight look.now).values argument.now.operand argument.now.value) }
 {
     match argument.operand {
-        Operand::Other => push(items, scalar(&argument.value)),
-        Operand::Cell(cell) => push(items, alone(look.value(cell))),
-        Operand::Span(span) => put_range(items, span, look),
+        Operand::Other => items.push(scalar(&argument.value))?,
+        Operand::Cell(cell) => items.push(alone(look.value(cell)))?,
+        Operand::Span(span) => put_range(items, span, look)?,
     }
+    Ok(())
 }
 
 /// The items of the arguments, one behind another, the cells of a range in row order.

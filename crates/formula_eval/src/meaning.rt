@@ -53,15 +53,6 @@ fn operand_of(expr: &Expr, at: Cell) -> Operand
     }
 }
 
-fn push(arguments: &mut Vec<Argument>, value: Value, operand: Operand) -> Result<(), Memory>
-    ensures { OnOk result (arguments.new.items ≡ arguments.old.items ++ record { value = value; operand = operand } ∷ []) }
-{
-    match arguments.push(Argument { value, operand }) {
-        Ok(()) => Ok(()),
-        Err(_) => Err(Memory),
-    }
-}
-
 // The arguments of a function.
 #[cycle(value)]
 fn arguments_of<K: Look>(
@@ -76,7 +67,8 @@ fn arguments_of<K: Look>(
     let mut arguments = Vec::new(alloc);
     for expr in exprs {
         let value = value_of(alloc, expr, at, look, scene)?;
-        push(&mut arguments, value, operand_of(expr, at))?;
+        let operand = operand_of(expr, at);
+        arguments.push(Argument { value, operand })?;
     }
     Ok(arguments)
 }

@@ -1,8 +1,8 @@
 -- The text of a formula is read as the formula.
+use Rattle.std.specs.Char.{is_ascii_alphabetic}
 use Rattle.std.proofs.Common.{◌≡◌, ℕ, ◌+◌, ◌≤◌, Bool, true, false, ◌&&◌, ◌||◌, cond, ◌==◌, List, [], ◌∷◌, ◌++◌, length, get_or, Ok, Err, refl, sym, ap, ◌∙◌, subst, arith, append_assoc, append-nil, length-append, pos, negsuc}
 use Rattle.std.specs.Prelude.{codes}
 use Rattle.std.proofs.lemmas.Bool.Decides.{nat_tests}
-use Rattle.lics_text.specs.Bytes.{is_letter}
 use Rattle.fixed_value.specs.Written.{short}
 use Rattle.grid_address.specs.Place.{InSheet, Place}
 use Rattle.range_names.specs.Names.{AreKeys, NameMap}
@@ -225,4 +225,4 @@ module _ (names : NameMap) (at_cell : Place) (keyed : AreKeys names) (inside : I
 
       behind_sign : (bytes : List ℕ) {v : Verdict} → operand_first (parts 0 bytes) [] ≡ v → operand_first (parts 1 bytes) [] ≡ v → operand_first (parts 0 (sign_for bytes ++ bytes)) [] ≡ v
       behind_sign [] zeroth first = zeroth
-      behind_sign (b ∷ bs) {v} zeroth first = signed (is_letter b || b == 34) (b ∷ bs) v zeroth first
+      behind_sign (b ∷ bs) {v} zeroth first = signed (is_ascii_alphabetic b || b == 34) (b ∷ bs) v zeroth first

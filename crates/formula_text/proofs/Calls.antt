@@ -1,11 +1,10 @@
 -- The text of a function is written argument by argument.
-use Rattle.std.proofs.Common.{◌≡◌, ℕ, zero, suc, ◌≤◌, ◌<◌, length, get_or, take, map, List, [], ◌∷◌, ◌++◌, codes, arith, refl, sym, ap, ◌∙◌, append_assoc, append-nil}
+use Rattle.std.proofs.Common.{◌≡◌, ℕ, zero, suc, ◌≤◌, length, take, List, [], ◌∷◌, ◌++◌, codes, arith, refl, sym, ap, ◌∙◌, append_assoc, append-nil}
 use Rattle.grid_address.specs.Place.{Place}
 use Rattle.range_names.specs.Names.{NameMap}
 use Rattle.formula_tree.specs.Tree.{Tree, call}
 use Rattle.formula_tree.specs.declared.ast.Expr.{Expr}
-use Rattle.formula_tree.specs.Nodes.{all_nodes, nodes}
-use Rattle.formula_tree.specs.View.{listed, tree_of}
+use Rattle.formula_tree.specs.View.{listed}
 use Rattle.formula_text.specs.Functions.{name_of}
 use Rattle.formula_text.specs.Printed.{call_text, commaed, end_of, mark_before, more_text, opened, text_of}
 

@@ -1,9 +1,8 @@
 -- A part that stands in front of other bytes.
+use Rattle.std.specs.Char.{is_ascii_alphabetic, is_ascii_digit}
 use Rattle.std.proofs.Common.{◌≡◌, ℕ, ◌+◌, ◌<◌, Bool, true, false, ◌&&◌, cond, ◌==◌, List, [], ◌∷◌, ◌++◌, take, drop, length, get_or, refl, sym, ap, ◌∙◌, arith, length-append}
 use Rattle.std.specs.List.{list_all, prefix_len}
-use Rattle.lics_text.specs.Bytes.{is_letter}
 use Rattle.grid_address.specs.Place.{Place}
-use Rattle.grid_address.specs.Progress.{is_digit}
 use Rattle.range_names.specs.Names.{NameMap}
 use Rattle.formula_text.specs.declared.lexeme.Kind.{Kind}
 use Rattle.formula_text.specs.declared.lexeme.Lexeme.{Lexeme}
@@ -32,10 +31,10 @@ pub record Starts (b : ℕ) : Type 0 where
   pub equal : (b == 61) ≡ false
   pub greater : (b == 62) ≡ false
 
-pub no_digit : (b : ℕ) → is_word_byte b ≡ false → is_digit b ≡ false
+pub no_digit : (b : ℕ) → is_word_byte b ≡ false → is_ascii_digit b ≡ false
 no_digit b h = grind arith
 
-pub no_letter : (b : ℕ) → is_word_byte b ≡ false → is_letter b ≡ false
+pub no_letter : (b : ℕ) → is_word_byte b ≡ false → is_ascii_alphabetic b ≡ false
 no_letter b h = grind arith
 
 pub take_front : (xs ys : List ℕ) → take (length xs) (xs ++ ys) ≡ xs
@@ -77,10 +76,10 @@ pub part_cut : (names : NameMap) (cell : Place) (text rest : List ℕ) (kind : K
 part_cut names cell text rest kind at part stops = cut names cell text rest kind at part.some (part.first rest).space (part.found rest at stops)
 
 -- no number stands first
-pub no_number : (b : ℕ) (bs : List ℕ) → is_digit b ≡ false → (b == 46) ≡ false → number_len (b ∷ bs) ≡ 0
+pub no_number : (b : ℕ) (bs : List ℕ) → is_ascii_digit b ≡ false → (b == 46) ≡ false → number_len (b ∷ bs) ≡ 0
 no_number b bs digit point = rw (digit, point) refl
 
 -- the first byte tells what the part is, where it is no digit and no point
-pub by_first : (names : NameMap) (cell : Place) (at b : ℕ) (bs : List ℕ) → is_digit b ≡ false → (b == 46) ≡ false → part_found names cell at (b ∷ bs) ≡ found_by names cell at (b ∷ bs) b
+pub by_first : (names : NameMap) (cell : Place) (at b : ℕ) (bs : List ℕ) → is_ascii_digit b ≡ false → (b == 46) ≡ false → part_found names cell at (b ∷ bs) ≡ found_by names cell at (b ∷ bs) b
 unfolding part_found
 by_first names cell at b bs digit point = rw (no_number b bs digit point) refl

@@ -1,4 +1,5 @@
 -- Numbers and texts that are written are read.
+use Rattle.std.specs.Char.{is_ascii_digit}
 use Rattle.std.proofs.Common.{◌≡◌, ℕ, ◌+◌, ◌≤◌, ◌<◌, Bool, true, false, not, ◌&&◌, ◌||◌, cond, ◌==◌, nat_le, nat_lt, List, [], ◌∷◌, ◌++◌, take, length, get_or, Some, None, Ok, refl, sym, ap, ◌∙◌, arith, append_assoc, length-append, pos}
 use Rattle.std.specs.Prelude.{codes, position}
 use Rattle.std.specs.List.{list_all, list_any, prefix_len}
@@ -11,7 +12,6 @@ use Rattle.fixed_value.specs.Decimals.{behind_digits, decimal_of}
 use Rattle.fixed_value.specs.Written.{minus_sign, pointed, scaled, short}
 use Rattle.fixed_value.proofs.Short.{all_shown, all_whole, front_digits, point_stops, read_back, shown, some, whole}
 use Rattle.grid_address.specs.Place.{Place}
-use Rattle.grid_address.specs.Progress.{is_digit}
 use Rattle.range_names.specs.Names.{NameMap}
 use Rattle.formula_tree.specs.Ranges.{is_text}
 use Rattle.formula_text.specs.declared.lexeme.Kind.TheVariants.{Num, Str}
@@ -24,7 +24,7 @@ point_none : (rest : List ℕ) → (get_or rest 0 0 == 46) ≡ false → point_l
 point_none [] h = refl
 point_none (b ∷ bs) h = rw h refl
 
-point_is : (ds rest : List ℕ) → list_all is_digit ds ≡ true → Stops rest → point_len (pointed ds ++ rest) ≡ length (pointed ds)
+point_is : (ds rest : List ℕ) → list_all is_ascii_digit ds ≡ true → Stops rest → point_len (pointed ds ++ rest) ≡ length (pointed ds)
 point_is [] rest all stops = point_none rest stops.point
 point_is (d ∷ ds) rest all stops =
     ap (λ (l : List ℕ). 1 + length l) (front_digits (d ∷ ds) rest all (no_digit (get_or rest 0 0) stops.word)).0 ∙ (let e : 1 + length (d ∷ ds) ≡ length (46 ∷ d ∷ ds) = omega arith in e)
@@ -32,12 +32,12 @@ point_is (d ∷ ds) rest all stops =
 some_digits : (w p : ℕ) → 0 < w → digits_len w p ≡ w + p
 some_digits w p h = (let none : (w == 0) ≡ false = grind (arith, nat_tests, h) in rw none refl)
 
-starts_digit : (d : ℕ) → is_digit d ≡ true → Starts d
+starts_digit : (d : ℕ) → is_ascii_digit d ≡ true → Starts d
 starts_digit d h = record { space = grind (arith, nat_tests, h); equal = grind (arith, nat_tests, h); greater = grind (arith, nat_tests, h) }
 
-digit_first : (ds rest : List ℕ) → 0 < length ds → list_all is_digit ds ≡ true → Starts (get_or (ds ++ rest) 0 0)
+digit_first : (ds rest : List ℕ) → 0 < length ds → list_all is_ascii_digit ds ≡ true → Starts (get_or (ds ++ rest) 0 0)
 digit_first [] rest h all = absurd (omega arith)
-digit_first (d ∷ ds) rest h all = starts_digit d (left (is_digit d) (list_all is_digit ds) all)
+digit_first (d ∷ ds) rest h all = starts_digit d (left (is_ascii_digit d) (list_all is_ascii_digit ds) all)
 
 no_minus : (n : ℕ) → short (pos n) 6 ≡ whole (pos n) 6 ++ pointed (shown (pos n) 6)
 no_minus n =
@@ -48,7 +48,7 @@ long : (names : NameMap) (cell : Place) (at len : ℕ) (bytes : List ℕ) → nu
 unfolding part_found
 long names cell at len bytes is more = (let some_len : nat_lt 0 len ≡ true = grind (arith, nat_tests, more) in rw (is, some_len) refl)
 
-digits_part : (names : NameMap) (cell : Place) (text ds ps : List ℕ) (n : ℕ) → text ≡ ds ++ pointed ps → 0 < length ds → list_all is_digit ds ≡ true → list_all is_digit ps ≡ true → decimal_of text ≡ decimal (pos n) → IsPart names cell text (Num (pos n))
+digits_part : (names : NameMap) (cell : Place) (text ds ps : List ℕ) (n : ℕ) → text ≡ ds ++ pointed ps → 0 < length ds → list_all is_ascii_digit ds ≡ true → list_all is_ascii_digit ps ≡ true → decimal_of text ≡ decimal (pos n) → IsPart names cell text (Num (pos n))
 digits_part names cell text ds ps n is some_ds all later value =
     let size : length text ≡ length ds + length (pointed ps) = ap length is ∙ length-append ds (pointed ps) in
     record {

@@ -1,15 +1,15 @@
 -- Cells and spans that are written are read.
+use Rattle.std.specs.Char.{is_ascii_alphabetic, is_ascii_digit}
 use Rattle.std.proofs.Common.{◌≡◌, ℕ, zero, suc, ◌+◌, ◌≤◌, ◌<◌, Bool, true, false, not, ◌&&◌, ◌||◌, cond, ◌==◌, nat_le, List, [], ◌∷◌, ◌++◌, take, drop, length, get_or, Option, Some, None, refl, sym, ap, ◌∙◌, arith, append_assoc, length-append}
 use Rattle.std.specs.Prelude.{codes, is_some, max, min}
 use Rattle.std.specs.List.{list_all}
 use Rattle.std.proofs.lemmas.Bool.Decides.{nat_tests}
 use Rattle.std.proofs.lemmas.List.{take-append-drop}
-use Rattle.lics_text.specs.Bytes.{is_letter}
 use Rattle.grid_address.specs.Address.{column_name, decimal}
 use Rattle.grid_address.specs.Axes.{is_fixed, Reference}
 use Rattle.grid_address.specs.Leads.{reference_to, resolve}
 use Rattle.grid_address.specs.Place.{same_place, spanned, Extent, InSheet, Place}
-use Rattle.grid_address.specs.Progress.{address_in, count_dots, is_digit}
+use Rattle.grid_address.specs.Progress.{address_in, count_dots}
 use Rattle.range_names.specs.Names.{is_word_byte as names_byte, is_plain, is_word, name_of_span, AreKeys, NameMap}
 use Rattle.range_names.proofs.Named.{finds, Finds}
 use Rattle.formula_tree.specs.Ranges.{is_reference}
@@ -24,7 +24,7 @@ use Rattle.formula_text.proofs.WordsRead.{all_two, all_weaker, column_letters, c
 
 -- what an address or a name begins with
 abbrev begins_word : ℕ → Bool
-begins_word b = is_letter b || b == 36
+begins_word b = is_ascii_alphabetic b || b == 36
 
 starts : (b : ℕ) → begins_word b ≡ true → Starts b
 starts b h = record { space = grind (arith, nat_tests, h); equal = grind (arith, nat_tests, h); greater = grind (arith, nat_tests, h) }
@@ -32,7 +32,7 @@ starts b h = record { space = grind (arith, nat_tests, h); equal = grind (arith,
 by_word : (names : NameMap) (cell : Place) (at b : ℕ) (bs : List ℕ) → begins_word b ≡ true → part_found names cell at (b ∷ bs) ≡ word_found names cell at (b ∷ bs)
 unfolding found_by
 by_word names cell at b bs h =
-    let digit : is_digit b ≡ false = grind (arith, nat_tests, h) in
+    let digit : is_ascii_digit b ≡ false = grind (arith, nat_tests, h) in
     let point : (b == 46) ≡ false = grind (arith, nat_tests, h) in
     let quote : (b == 34) ≡ false = grind (arith, nat_tests, h) in
     let at_sign : (b == 64) ≡ false = grind (arith, nat_tests, h) in
@@ -52,7 +52,7 @@ word_is names cell at (b ∷ bs) rest some first all stops =
     ∙ ap (λ (l : List ℕ). found (length word) l (drop (length word) (word ++ rest))) (take_front word rest)
     ∙ ap (found (length word) word) (drop_front word rest)
 
-begins_mark : (fixed : Bool) (rest : List ℕ) → is_letter (get_or rest 0 0) ≡ true → begins_word (get_or (mark fixed ++ rest) 0 0) ≡ true
+begins_mark : (fixed : Bool) (rest : List ℕ) → is_ascii_alphabetic (get_or rest 0 0) ≡ true → begins_word (get_or (mark fixed ++ rest) 0 0) ≡ true
 begins_mark true rest h = refl
 begins_mark false rest h = rw h refl
 
@@ -68,7 +68,7 @@ first_stays (x ∷ xs) ys h = refl
 reference_first : (r : Reference) (cell : Place) → is_reference r ≡ true → begins_word (get_or (reference_text cell r) 0 0) ≡ true
 reference_first r cell h =
     let col : ℕ = (resolve r cell).col in
-    begins_mark (is_fixed r.col) _ (first_passes is_letter (column_name col) (mark (is_fixed r.row) ++ decimal ((resolve r cell).row + 1)) (column_some col) (column_letters col (leads_inside r cell h).1))
+    begins_mark (is_fixed r.col) _ (first_passes is_ascii_alphabetic (column_name col) (mark (is_fixed r.row) ++ decimal ((resolve r cell).row + 1)) (column_some col) (column_letters col (leads_inside r cell h).1))
 
 reference_some : (r : Reference) (cell : Place) → 0 < length (reference_text cell r)
 reference_some r cell =
@@ -113,7 +113,7 @@ corners_part names cell a b inside h g =
 -- a name
 record IsNamed (name : List ℕ) : Type 0 where
   some : 0 < length name
-  letter : is_letter (get_or name 0 0) ≡ true
+  letter : is_ascii_alphabetic (get_or name 0 0) ≡ true
   words : list_all is_word_byte name ≡ true
   undollared : list_all (λ b. not (b == 36)) name ≡ true
   unread : address_in name ≡ None
@@ -125,15 +125,15 @@ no_some : {X : Type 0} (o : Option X) → not (is_some o) ≡ true → o ≡ Non
 no_some None h = refl
 no_some (Some x) h = cc
 
-letter_fits : (b : ℕ) → is_letter b ≡ true → (is_word_byte b ≡ true) × (not (b == 36) ≡ true)
+letter_fits : (b : ℕ) → is_ascii_alphabetic b ≡ true → (is_word_byte b ≡ true) × (not (b == 36) ≡ true)
 letter_fits b h = (grind (arith, nat_tests, h), grind (arith, nat_tests, h))
 
 is_named : (name : List ℕ) → is_plain name ≡ true → IsNamed name
 is_named [] h = absurd cc
 is_named (b ∷ bs) h =
     let word = left (is_word (b ∷ bs)) (not (is_some (address_in (b ∷ bs)))) h in
-    let first = left (is_letter b) (list_all names_byte bs) word in
-    let more = right (is_letter b) (list_all names_byte bs) word in
+    let first = left (is_ascii_alphabetic b) (list_all names_byte bs) word in
+    let more = right (is_ascii_alphabetic b) (list_all names_byte bs) word in
     let fits = letter_fits b first in
     record {
       some = omega arith;
@@ -158,7 +158,7 @@ name_unread cell fixed name n =
     let off = mark_off fixed name (letter_no_dollar (get_or name 0 0) n.letter) in
     let k : ℕ = letters_len name in
     let row = plain_first (drop k name) (dropped_first k name n.undollared) in
-    let none : plain_address (take k name) (drop k name) ≡ None = either_none (list_all is_digit (drop k name)) (address_in (take k name ++ drop k name)) (ap address_in (take-append-drop k name) ∙ n.unread) in
+    let none : plain_address (take k name) (drop k name) ≡ None = either_none (list_all is_ascii_digit (drop k name)) (address_in (take k name ++ drop k name)) (ap address_in (take-append-drop k name) ∙ n.unread) in
     ap (λ b. reference_from cell b (without_dollar (mark fixed ++ name))) off.0 ∙ ap (reference_from cell fixed) off.1
     ∙ ap (λ (l : List ℕ). marked cell fixed (has_dollar (drop k name)) (plain_address (take k name) l)) row.1
     ∙ ap (marked cell fixed (has_dollar (drop k name))) none

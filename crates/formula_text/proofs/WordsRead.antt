@@ -1,18 +1,18 @@
 -- Addresses and names that are written are read.
+use Rattle.std.specs.Char.{is_ascii_alphabetic, is_ascii_digit}
 use Rattle.std.proofs.Common.{◌≡◌, ◌⊎◌, ℕ, ◌+◌, ◌-◌, ◌*◌, ◌%◌, ◌/◌, ◌≤◌, ◌<◌, Bool, true, false, ◌&&◌, cond, ◌==◌, nat_le, nat_lt, List, [], ◌∷◌, ◌++◌, take, drop, length, get_or, Some, None, refl, ap, ◌∙◌, arith, inl, inr}
 use Rattle.std.specs.List.{list_all}
 use Rattle.std.proofs.lemmas.Bool.{cases_Bool}
 use Rattle.std.proofs.lemmas.Bool.Decides.{nat_tests}
 use Rattle.std.proofs.lemmas.Nat.{mod-mul-add, mod_below}
 use Rattle.std.proofs.lemmas.List.Folds.{list_all-append}
-use Rattle.lics_text.specs.Bytes.{is_letter}
 use Rattle.grid_address.specs.declared.reference.Axis.{Axis}
 use Rattle.grid_address.specs.declared.reference.Axis.TheVariants.{Fixed, Offset}
 use Rattle.grid_address.specs.Address.{column_name, decimal}
 use Rattle.grid_address.specs.Axes.{axis_to, is_fixed, number_of, resolved, Reference}
 use Rattle.grid_address.specs.Leads.{reference_to, resolve}
 use Rattle.grid_address.specs.Place.{InSheet, Place}
-use Rattle.grid_address.specs.Progress.{address_in, is_digit}
+use Rattle.grid_address.specs.Progress.{address_in}
 use Rattle.grid_address.proofs.Written.{address_written, decimal_digits, decimal_some}
 use Rattle.formula_tree.specs.Ranges.{is_reference}
 use Rattle.formula_text.specs.Printed.{mark, reference_text}
@@ -60,15 +60,15 @@ leads_inside r cell h =
     (resolved_low r.row cell.row 8192 (omega arith) small.1, resolved_low r.col cell.col 256 (omega arith) small.0)
 
 -- the letters of a column
-capital : (k : ℕ) → k < 26 → is_letter (65 + k) ≡ true
+capital : (k : ℕ) → k < 26 → is_ascii_alphabetic (65 + k) ≡ true
 capital k h = grind (arith, nat_tests, h)
 
-pub column_letters : (col : ℕ) → col < 256 → list_all is_letter (column_name col) ≡ true
+pub column_letters : (col : ℕ) → col < 256 → list_all is_ascii_alphabetic (column_name col) ≡ true
 column_letters col h = elim (cases_Bool (nat_lt col 26)) [
   | inl small ↦ (let less : col < 26 = grind (arith, nat_tests, small) in rw (small, capital col less) refl)
   | inr large ↦ (
       let more : 26 ≤ col = grind (arith, nat_tests, large) in
-      let first : is_letter (64 + col / 26) ≡ true = ap is_letter (let e : 64 + col / 26 ≡ 65 + (col / 26 - 1) = omega (arith, more) in e) ∙ capital (col / 26 - 1) (omega (arith, more, h)) in
+      let first : is_ascii_alphabetic (64 + col / 26) ≡ true = ap is_ascii_alphabetic (let e : 64 + col / 26 ≡ 65 + (col / 26 - 1) = omega (arith, more) in e) ∙ capital (col / 26 - 1) (omega (arith, more, h)) in
       rw (large, first, capital (col % 26) (omega arith)) refl)
 ]
 
@@ -83,13 +83,13 @@ pub plain_first : (bytes : List ℕ) → (get_or bytes 0 0 == 36) ≡ false → 
 plain_first [] h = (refl, refl)
 plain_first (b ∷ bs) h = (h, rw h refl)
 
-pub letter_no_dollar : (b : ℕ) → is_letter b ≡ true → (b == 36) ≡ false
+pub letter_no_dollar : (b : ℕ) → is_ascii_alphabetic b ≡ true → (b == 36) ≡ false
 letter_no_dollar b h = grind (arith, nat_tests, h)
 
-digit_no_dollar : (b : ℕ) → is_digit b ≡ true → (b == 36) ≡ false
+digit_no_dollar : (b : ℕ) → is_ascii_digit b ≡ true → (b == 36) ≡ false
 digit_no_dollar b h = grind (arith, nat_tests, h)
 
-digit_no_letter : (b : ℕ) → is_digit b ≡ true → is_letter b ≡ false
+digit_no_letter : (b : ℕ) → is_ascii_digit b ≡ true → is_ascii_alphabetic b ≡ false
 digit_no_letter b h = grind (arith, nat_tests, h)
 
 -- the first byte of bytes that all pass
@@ -106,20 +106,20 @@ pub mark_off : (fixed : Bool) (rest : List ℕ) → (get_or rest 0 0 == 36) ≡ 
 mark_off true rest h = (refl, refl)
 mark_off false rest h = plain_first rest h
 
-mark_no_letter : (fixed : Bool) (ds : List ℕ) → is_digit (get_or ds 0 0) ≡ true → is_letter (get_or (mark fixed ++ ds) 0 0) ≡ false
+mark_no_letter : (fixed : Bool) (ds : List ℕ) → is_ascii_digit (get_or ds 0 0) ≡ true → is_ascii_alphabetic (get_or (mark fixed ++ ds) 0 0) ≡ false
 mark_no_letter true ds h = refl
 mark_no_letter false ds h = digit_no_letter (get_or ds 0 0) h
 
-parted : (cell : Place) (fixed_col fixed_row : Bool) (column row : List ℕ) (target : Place) → 0 < length column → list_all is_letter column ≡ true → 0 < length row → list_all is_digit row ≡ true → address_in (column ++ row) ≡ Some target →
+parted : (cell : Place) (fixed_col fixed_row : Bool) (column row : List ℕ) (target : Place) → 0 < length column → list_all is_ascii_alphabetic column ≡ true → 0 < length row → list_all is_ascii_digit row ≡ true → address_in (column ++ row) ≡ Some target →
     reference_in cell (mark fixed_col ++ (column ++ (mark fixed_row ++ row))) ≡ Some (reference_to target cell fixed_col fixed_row)
 parted cell fixed_col fixed_row column row target some letters digits all is =
     let behind_column : List ℕ = mark fixed_row ++ row in
     let word : List ℕ = column ++ behind_column in
-    let letter = first_passes is_letter column behind_column some letters in
-    let digit = first_alone is_digit row digits all in
+    let letter = first_passes is_ascii_alphabetic column behind_column some letters in
+    let digit = first_alone is_ascii_digit row digits all in
     let col = mark_off fixed_col word (letter_no_dollar (get_or word 0 0) letter) in
     let bare = mark_off fixed_row row (digit_no_dollar (get_or row 0 0) digit) in
-    let long : letters_len word ≡ length column = front_len is_letter column behind_column letters (mark_no_letter fixed_row row digit) in
+    let long : letters_len word ≡ length column = front_len is_ascii_alphabetic column behind_column letters (mark_no_letter fixed_row row digit) in
     let behind : behind_letters word ≡ behind_column = ap (λ k. drop k word) long ∙ drop_front column behind_column in
     let front : take (letters_len word) word ≡ column = ap (λ k. take k word) long ∙ take_front column behind_column in
     ap (λ b. reference_from cell b (without_dollar (mark fixed_col ++ word))) col.0 ∙ ap (reference_from cell fixed_col) col.1
@@ -139,10 +139,10 @@ reference_read r cell inside h =
     ∙ ap (λ x. Some x) (reference_back r cell inside h)
 
 -- the bytes of an address
-letter_word : (b : ℕ) → is_letter b ≡ true → is_word_byte b ≡ true
+letter_word : (b : ℕ) → is_ascii_alphabetic b ≡ true → is_word_byte b ≡ true
 letter_word b h = grind (arith, h)
 
-digit_word : (b : ℕ) → is_digit b ≡ true → is_word_byte b ≡ true
+digit_word : (b : ℕ) → is_ascii_digit b ≡ true → is_word_byte b ≡ true
 digit_word b h = grind (arith, h)
 
 pub all_weaker : (p q : ℕ → Bool) (xs : List ℕ) → ((b : ℕ) → p b ≡ true → q b ≡ true) → list_all p xs ≡ true → list_all q xs ≡ true
@@ -160,6 +160,6 @@ pub reference_words : (r : Reference) (cell : Place) → is_reference r ≡ true
 reference_words r cell h =
     let target : Place = resolve r cell in
     let within = leads_inside r cell h in
-    let column = all_weaker is_letter is_word_byte (column_name target.col) letter_word (column_letters target.col within.1) in
-    let row = all_weaker is_digit is_word_byte (decimal (target.row + 1)) digit_word (decimal_digits (target.row + 1)) in
+    let column = all_weaker is_ascii_alphabetic is_word_byte (column_name target.col) letter_word (column_letters target.col within.1) in
+    let row = all_weaker is_ascii_digit is_word_byte (decimal (target.row + 1)) digit_word (decimal_digits (target.row + 1)) in
     all_two is_word_byte (mark (is_fixed r.col)) _ (mark_words (is_fixed r.col)) (all_two is_word_byte (column_name target.col) _ column (all_two is_word_byte (mark (is_fixed r.row)) _ (mark_words (is_fixed r.row)) row))

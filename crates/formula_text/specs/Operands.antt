@@ -1,12 +1,12 @@
 -- Numbers, texts and functions in a formula.
+use Rattle.std.specs.Char.{is_ascii_alphabetic, is_ascii_digit}
 use Rattle.std.specs.Prelude.{ℕ, ◌+◌, ◌==◌, ◌&&◌, ◌||◌, nat_le, get_or, position, Bool, Option, Some, None, Result, Ok, Err, List, [], ◌∷◌, length, take, drop, if◌then◌else◌}
 use Rattle.std.specs.List.{prefix_len}
-use Rattle.lics_text.specs.Bytes.{is_letter}
 use Rattle.lics_text.specs.Texts.{text_of}
 use Rattle.lics_text.specs.declared.faults.TextFault.{TextFault}
 use Rattle.fixed_value.specs.declared.decimal.Decimal.{Decimal}
 use Rattle.fixed_value.specs.declared.decimal.Decimal.TheVariants.{Num as decimal, TooLarge, NotNumber}
-use Rattle.fixed_value.specs.Decimals.{behind_digits, decimal_of, is_digit, whole_digits}
+use Rattle.fixed_value.specs.Decimals.{behind_digits, decimal_of, whole_digits}
 use Rattle.formula_tree.specs.Table.{counts_of, takes}
 use Rattle.formula_tree.specs.declared.ast.Function.{Function as Coded}
 use Rattle.formula_text.specs.Functions.{function_named, is_among, left_out}
@@ -50,7 +50,7 @@ abbrev pub text_found : ℕ → List ℕ → Found
 text_found at bytes = closed at (drop 1 bytes) (position (λ b. b == 34) (drop 1 bytes))
 
 abbrev pub is_name_byte : ℕ → Bool
-is_name_byte b = is_letter b || is_digit b
+is_name_byte b = is_ascii_alphabetic b || is_ascii_digit b
 
 abbrev pub outside_kind : ℕ → Bool → Kind
 outside_kind at left = if left then Bad (FunctionOutside at) else Bad (UnknownFunction at)

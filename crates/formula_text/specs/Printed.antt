@@ -1,7 +1,7 @@
 -- The text of a tree.
+use Rattle.std.specs.Char.{is_ascii_alphabetic}
 use Rattle.std.specs.Prelude.{ℕ, ◌+◌, ◌==◌, ◌&&◌, ◌||◌, not, nat_le, Bool, true, false, Option, Some, None, List, [], ◌∷◌, ◌++◌, length, take, codes, if◌then◌else◌}
 use Rattle.fixed_value.specs.Written.{short}
-use Rattle.lics_text.specs.Bytes.{is_letter}
 use Rattle.grid_address.specs.Address.{column_name, decimal}
 use Rattle.grid_address.specs.Axes.{is_fixed, Reference}
 use Rattle.grid_address.specs.Leads.{resolve}
@@ -108,7 +108,7 @@ call_text names at f ts = codes "@" ++ (name_of f ++ (opened names at ts ++ end_
 -- a text that would begin a label takes a + in front
 abbrev pub sign_for : List ℕ → List ℕ
 sign_for [] = []
-sign_for (b ∷ bs) = if is_letter b || b == 34 then codes "+" else []
+sign_for (b ∷ bs) = if is_ascii_alphabetic b || b == 34 then codes "+" else []
 
 -- the text of a formula
 abbrev pub printed : NameMap → Place → Tree → List ℕ

@@ -1,12 +1,12 @@
 -- Addresses and names in a formula.
+use Rattle.std.specs.Char.{is_ascii_alphabetic, is_ascii_digit}
 use Rattle.std.specs.Prelude.{ℕ, ◌+◌, ◌==◌, ◌||◌, nat_le, Bool, false, Option, Some, None, List, [], ◌∷◌, ◌++◌, length, take, drop, if◌then◌else◌}
 use Rattle.std.specs.List.{list_all, prefix_len}
 use Rattle.std.specs.FinMap.{get}
-use Rattle.lics_text.specs.Bytes.{is_letter}
 use Rattle.grid_address.specs.Axes.{Reference}
 use Rattle.grid_address.specs.Leads.{reference_to}
 use Rattle.grid_address.specs.Place.{same_place, Extent, Place}
-use Rattle.grid_address.specs.Progress.{address_in, count_dots, is_digit}
+use Rattle.grid_address.specs.Progress.{address_in, count_dots}
 use Rattle.range_names.specs.Names.{key_of, NameMap}
 use Rattle.formula_text.specs.declared.fault.ParseFault.TheVariants.{UnknownName}
 use Rattle.formula_text.specs.declared.lexeme.Found.{Found}
@@ -15,7 +15,7 @@ use Rattle.formula_text.specs.declared.lexeme.Kind.TheVariants.{Cell, Span, Bad}
 
 -- letters, digits, _ and $
 abbrev pub is_word_byte : ℕ → Bool
-is_word_byte b = is_letter b || (is_digit b || (b == 95 || b == 36))
+is_word_byte b = is_ascii_alphabetic b || (is_ascii_digit b || (b == 95 || b == 36))
 
 abbrev pub word_len : List ℕ → ℕ
 word_len bytes = prefix_len is_word_byte bytes
@@ -29,14 +29,14 @@ without_dollar [] = []
 without_dollar (b ∷ bs) = if b == 36 then bs else b ∷ bs
 
 abbrev pub letters_len : List ℕ → ℕ
-letters_len bytes = prefix_len is_letter bytes
+letters_len bytes = prefix_len is_ascii_alphabetic bytes
 
 abbrev pub behind_letters : List ℕ → List ℕ
 behind_letters bytes = drop (letters_len bytes) bytes
 
 -- a column and the digits of a row
 abbrev pub plain_address : List ℕ → List ℕ → Option Place
-plain_address column row = if list_all is_digit row then address_in (column ++ row) else None
+plain_address column row = if list_all is_ascii_digit row then address_in (column ++ row) else None
 
 abbrev pub marked : Place → Bool → Bool → Option Place → Option Reference
 marked cell fixed_col fixed_row None = None

@@ -10,10 +10,9 @@ ghost use Rattle.fixed_value.specs.Decimals.{decimal_of};
 use crate::ParseFault;
 use crate::functions::{function_named, is_left_out};
 use crate::lexeme::{Found, Kind};
-use crate::words::is_digit;
 use fixed_value::{Decimal, digits_len, read_decimal};
 use formula_tree::{Function, takes};
-use lics_text::{Text, TextFault, is_letter};
+use lics_text::{Text, TextFault};
 use std::alloc::Global;
 
 // The function @@.
@@ -124,7 +123,7 @@ pub fn text_found(alloc: Global, bytes: &[u8], at: usize) -> Result<Found, Parse
 fn is_name_byte(byte: u8) -> bool
     ensures { result ≡ is_name_byte byte }
 {
-    is_letter(byte) || is_digit(byte)
+    byte.is_ascii_alphabetic() || byte.is_ascii_digit()
 }
 
 fn name_len(bytes: &[u8]) -> usize

@@ -10,7 +10,7 @@ use crate::output::{Output, put};
 use fixed_value::write_short;
 use formula_tree::{Expr, ExprList, Formula, Function, Op};
 use grid_address::{Axis, Cell, Ref, Span, column_text, row_text};
-use lics_text::{Line, is_letter};
+use lics_text::Line;
 use range_names::Names;
 
 fn is_fixed(axis: Axis) -> bool
@@ -209,7 +209,7 @@ fn put_tree(expr: &Expr, at: Cell, names: &Names, out: &mut Output)
 fn sign_for(text: &[u8]) -> &'static [u8]
     ensures { result.now ≡ sign_for text.now }
 {
-    if 0 < text.len() && (is_letter(text[0]) || text[0] == b'"') {
+    if 0 < text.len() && (text[0].is_ascii_alphabetic() || text[0] == b'"') {
         b"+"
     } else {
         b""

@@ -1,28 +1,22 @@
 // Addresses and names in a formula.
+ghost use Rattle.std.specs.Char.{is_ascii_digit};
 ghost use Rattle.std.specs.Prelude.{◌≡◌, ◌≤◌, ◌<◌, ◌+◌, true, length};
 ghost use Rattle.std.specs.List.{list_all};
 ghost use Rattle.grid_address.specs.Place.{same_place};
-ghost use Rattle.grid_address.specs.Progress.{is_digit};
 ghost use Rattle.formula_text.specs.Fine.{is_fine_kind};
 ghost use Rattle.formula_text.specs.Words.{address_found, corner_behind, has_dollar, is_word_byte, letters_len, name_kind, named_span, plain_address, reference_from, reference_in, span_kind, with_corner, without_dollar, word_found, word_len};
 
 use crate::ParseFault;
 use crate::lexeme::{Found, Kind};
 use grid_address::{Cell, Ref, Span, count_dots, read_cell};
-use lics_text::{Line, is_letter};
+use lics_text::Line;
 use range_names::Names;
-
-pub fn is_digit(byte: u8) -> bool
-    ensures { result ≡ is_digit byte }
-{
-    byte >= b'0' && byte <= b'9'
-}
 
 // Letters, digits, _ and $.
 pub fn is_word_byte(byte: u8) -> bool
     ensures { result ≡ is_word_byte byte }
 {
-    is_letter(byte) || is_digit(byte) || byte == b'_' || byte == b'$'
+    byte.is_ascii_alphabetic() || byte.is_ascii_digit() || byte == b'_' || byte == b'$'
 }
 
 fn word_len(bytes: &[u8]) -> usize
@@ -36,13 +30,13 @@ fn letters_len(bytes: &[u8]) -> usize
     ensures count { result ≡ letters_len bytes.now }
     ensures within { result ≤ length bytes.now }
 {
-    bytes.iter().take_while(|b| is_letter(**b)).count()
+    bytes.iter().take_while(|b| b.is_ascii_alphabetic()).count()
 }
 
 fn are_digits(bytes: &[u8]) -> bool
-    ensures { result ≡ list_all is_digit bytes.now }
+    ensures { result ≡ list_all is_ascii_digit bytes.now }
 {
-    bytes.iter().all(|b| is_digit(*b))
+    bytes.iter().all(|b| b.is_ascii_digit())
 }
 
 fn has_dollar(bytes: &[u8]) -> bool

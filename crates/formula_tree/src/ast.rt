@@ -67,10 +67,8 @@ impl ExprList {
         ensures ok { OnOk result (trees_in self.new ≡ trees_in self.old ++ tree_of item ∷ []) }
         ensures err { OnErr result (trees_in self.new ≡ trees_in self.old) }
     {
-        match self.items.push(item) {
-            Ok(()) => Ok(()),
-            Err(_) => Err(Memory),
-        }
+        self.items.push(item)?;
+        Ok(())
     }
 
     /// The trees.

@@ -36,10 +36,8 @@ fn copy_box(alloc: Global, expr: &Expr) -> Result<Box<Expr>, Memory>
     ensures { IfOk result (λ e. tree_of e.value ≡ tree_of expr.now) }
 {
     let copied = copy_expr(alloc, expr)?;
-    match Box::new(alloc, copied) {
-        Ok(boxed) => Ok(boxed),
-        Err(_) => Err(Memory),
-    }
+    let boxed = Box::new(alloc, copied)?;
+    Ok(boxed)
 }
 
 #[cycle(copy)]
@@ -49,10 +47,7 @@ fn copy_all(alloc: Global, args: &[Expr]) -> Result<Vec<Expr>, Memory>
     let mut copies = Vec::new(alloc);
     for arg in args {
         let copied = copy_expr(alloc, arg)?;
-        match copies.push(copied) {
-            Ok(()) => {}
-            Err(_) => return Err(Memory),
-        }
+        copies.push(copied)?;
     }
     Ok(copies)
 }

@@ -18,9 +18,13 @@ pub fn collect(expr: &Expr, at: Cell, into: &mut SpanList) -> Result<(), Memory>
         Expr::Num(_) | Expr::Str(_) => Ok(()),
         Expr::Cell(place) => {
             let cell = place.resolve(at);
-            add(into, Span::of(cell, cell))
+            into.push(Span::of(cell, cell))?;
+            Ok(())
         }
-        Expr::Span(first, last) => add(into, Span::of(first.resolve(at), last.resolve(at))),
+        Expr::Span(first, last) => {
+            into.push(Span::of(first.resolve(at), last.resolve(at)))?;
+            Ok(())
+        }
         Expr::Group(inner) | Expr::Neg(inner) | Expr::Not(inner) => collect(inner, at, into),
         Expr::Binary(_, left, right) => {
             collect(left, at, into)?;
@@ -38,15 +42,6 @@ fn collect_all(args: &[Expr], at: Cell, into: &mut SpanList) -> Result<(), Memor
         collect(arg, at, into)?;
     }
     Ok(())
-}
-
-fn add(into: &mut SpanList, span: Span) -> Result<(), Memory>
-    ensures { OnOk result (into.new ≡ into.old ++ span ∷ []) }
-{
-    match into.push(span) {
-        Ok(()) => Ok(()),
-        Err(_) => Err(Memory),
-    }
 }
 
 /// Whether a function whose value changes by itself is called.

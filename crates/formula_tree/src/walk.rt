@@ -56,8 +56,6 @@ fn spread<'a>(stack: &mut Vec<&'a Expr>, expr: &'a Expr) -> Result<(), Memory>
 fn put<'a>(stack: &mut Vec<&'a Expr>, expr: &'a Expr) -> Result<(), Memory>
     ensures { OnOk result (map (λ e. tree_of e.now) stack.new.items ≡ map (λ e. tree_of e.now) stack.old.items ++ tree_of expr.now ∷ []) }
 {
-    match stack.push(expr) {
-        Ok(()) => Ok(()),
-        Err(_) => Err(Memory),
-    }
+    stack.push(expr)?;
+    Ok(())
 }

@@ -58,15 +58,6 @@ fn is_filled(value: &Value) -> bool
     }
 }
 
-fn push(cells: &mut CellList, cell: Cell) -> Result<(), Memory>
-    ensures { OnOk result (cells.new ≡ cells.old ++ cell ∷ []) }
-{
-    match cells.push(cell) {
-        Ok(()) => Ok(()),
-        Err(_) => Err(Memory),
-    }
-}
-
 // The cell so many columns behind another in a row.
 fn cell_in(row: u16, first: u8, place: u16) -> Cell
     requires row { row < 8192 }
@@ -96,7 +87,7 @@ fn put_row(
     for place in 0..count {
         let cell = cell_in(row, first, place);
         if is_filled(value_at(held, blank, cell)) {
-            push(cells, cell)?;
+            cells.push(cell)?;
         }
     }
     Ok(())

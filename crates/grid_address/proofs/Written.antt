@@ -1,4 +1,5 @@
 -- An address that is written is read.
+use Rattle.std.specs.Char.{is_ascii_digit, is_ascii_uppercase, to_ascii_uppercase}
 use Rattle.std.proofs.Common.{◌≡◌, ℕ, zero, suc, ◌+◌, ◌-◌, ◌*◌, ◌/◌, ◌%◌, ◌≤◌, ◌<◌, true, false, Option, Some, List, [], ◌∷◌, ◌++◌, length, refl, ap, ◌∙◌, arith, inl, inr}
 use Rattle.std.specs.Prelude.{fold, nat_lt, nat_le, ◌&&◌}
 use Rattle.std.specs.List.{list_all}
@@ -9,8 +10,7 @@ use Rattle.grid_address.specs.declared.reading.Progress.{Progress}
 use Rattle.grid_address.specs.declared.reading.Progress.TheVariants.{Nothing, Letter, Column, Row}
 use Rattle.grid_address.specs.Address.{column_name, decimal}
 use Rattle.grid_address.specs.Place.{InSheet, Place}
-use Rattle.grid_address.specs.Progress.{address_in, end_of, first_digit, is_capital, is_digit, next_of, step_on}
-use Rattle.grid_address.specs.Reading.{folded}
+use Rattle.grid_address.specs.Progress.{address_in, end_of, first_digit, next_of, step_on}
 use Rattle.grid_address.proofs.Decimals.{decimal_more, decimal_one, length-decimal_more}
 
 fold_append : (s : Option Progress) (xs ys : List ℕ) → fold step_on s (xs ++ ys) ≡ fold step_on (fold step_on s xs) ys
@@ -19,19 +19,19 @@ fold_append s (x ∷ xs) ys = fold_append (step_on s x) xs ys
 
 -- the digits of a row's number go on from here
 abbrev RowFollows : Progress → ℕ → Type 0
-RowFollows s c = (b : ℕ) → is_digit b ≡ true → next_of s b ≡ first_digit c b
+RowFollows s c = (b : ℕ) → is_ascii_digit b ≡ true → next_of s b ≡ first_digit c b
 
 first : (c n : ℕ) → 1 ≤ n → n < 10 → first_digit c (48 + n % 10) ≡ Some (Row c n)
 first c n low high =
     let digit : (nat_le 49 (48 + n % 10) && nat_le (48 + n % 10) 57) ≡ true = grind (arith, nat_tests) in
     rw digit (ap (λ k. Some (Row c k)) (let e : 48 + n % 10 - 48 ≡ n = omega arith in e))
 
-digit_byte : (n : ℕ) → is_digit (48 + n % 10) ≡ true
+digit_byte : (n : ℕ) → is_ascii_digit (48 + n % 10) ≡ true
 digit_byte n = grind (arith, nat_tests)
 
 later : (c n : ℕ) → n ≤ 8192 → next_of (Row c (n / 10)) (48 + n % 10) ≡ Some (Row c n)
 later c n high =
-    let digit : is_digit (48 + n % 10) ≡ true = digit_byte n in
+    let digit : is_ascii_digit (48 + n % 10) ≡ true = digit_byte n in
     let whole : n / 10 * 10 + (48 + n % 10 - 48) ≡ n = omega arith in
     let small : nat_le n 8192 ≡ true = grind (arith, nat_tests, high) in
     rw (digit, whole, small) refl
@@ -47,7 +47,7 @@ row_read (suc fuel) n c s most low high follows = elim (cases_Bool (nat_lt n 10)
       ∙ later c n high)
 ]
 
-capital : (k : ℕ) → k < 26 → (is_capital (folded (65 + k)) ≡ true) × (folded (65 + k) ≡ 65 + k)
+capital : (k : ℕ) → k < 26 → (is_ascii_uppercase (to_ascii_uppercase (65 + k)) ≡ true) × (to_ascii_uppercase (65 + k) ≡ 65 + k)
 capital k h = (grind (arith, nat_tests), grind (arith, nat_tests))
 
 one_letter : (k : ℕ) → k < 26 → next_of Nothing (65 + k) ≡ Some (Letter k)
@@ -62,7 +62,7 @@ two_letters col low high =
     let small : nat_lt col 256 ≡ true = grind (arith, nat_tests, high) in
     rw (c.0, c.1) (rw (is, small) refl)
 
-no_capital : (b : ℕ) → is_digit b ≡ true → is_capital (folded b) ≡ false
+no_capital : (b : ℕ) → is_ascii_digit b ≡ true → is_ascii_uppercase (to_ascii_uppercase b) ≡ false
 no_capital b h = grind (arith, nat_tests)
 
 record IsColumn (col : ℕ) : Type 0 where
@@ -98,16 +98,16 @@ address_written p h =
     ∙ row_read (p.row + 1) (p.row + 1) p.col column.end (omega arith) (omega arith) (omega (arith, h.0)) column.follows)
     ∙ ap (λ n. Some (record { row = n; col = p.col })) (let e : p.row + 1 - 1 ≡ p.row = omega arith in e)
 
-digits_in : (fuel n : ℕ) → n ≤ fuel → list_all is_digit (decimal n) ≡ true
-digits_in zero n most = ap (λ k. list_all is_digit (decimal k)) (let e : n ≡ 0 = omega (arith, most) in e)
+digits_in : (fuel n : ℕ) → n ≤ fuel → list_all is_ascii_digit (decimal n) ≡ true
+digits_in zero n most = ap (λ k. list_all is_ascii_digit (decimal k)) (let e : n ≡ 0 = omega (arith, most) in e)
 digits_in (suc fuel) n most = elim (cases_Bool (nat_lt n 10)) [
-  | inl small ↦ (let less : n < 10 = grind (arith, nat_tests, small) in ap (list_all is_digit) (decimal_one n less) ∙ rw (digit_byte n) refl)
+  | inl small ↦ (let less : n < 10 = grind (arith, nat_tests, small) in ap (list_all is_ascii_digit) (decimal_one n less) ∙ rw (digit_byte n) refl)
   | inr large ↦ (let more : 10 ≤ n = grind (arith, nat_tests, large) in
-      ap (list_all is_digit) (decimal_more n more) ∙ list_all-append is_digit (decimal (n / 10)) ((48 + n % 10) ∷ []) ∙ rw (digits_in fuel (n / 10) (omega arith), digit_byte n) refl)
+      ap (list_all is_ascii_digit) (decimal_more n more) ∙ list_all-append is_ascii_digit (decimal (n / 10)) ((48 + n % 10) ∷ []) ∙ rw (digits_in fuel (n / 10) (omega arith), digit_byte n) refl)
 ]
 
 -- a number is written in digits
-pub decimal_digits : (n : ℕ) → list_all is_digit (decimal n) ≡ true
+pub decimal_digits : (n : ℕ) → list_all is_ascii_digit (decimal n) ≡ true
 decimal_digits n = digits_in n n (omega arith)
 
 -- a number has a digit

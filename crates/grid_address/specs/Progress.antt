@@ -1,23 +1,17 @@
 -- How far an address is read.
-use Rattle.std.specs.Prelude.{ℕ, ◌≡◌, ◌≤◌, ◌<◌, ◌+◌, ◌-◌, ◌*◌, ◌/◌, ◌%◌, ◌&&◌, ◌==◌, nat_le, nat_lt, get_or, length, take, Bool, Option, Some, None, List, [], ◌∷◌, ◌++◌, map, if◌then◌else◌, fold, ⊤}
+use Rattle.std.specs.Char.{is_ascii_digit, is_ascii_uppercase, to_ascii_uppercase}
+use Rattle.std.specs.Prelude.{ℕ, ◌≡◌, ◌≤◌, ◌<◌, ◌+◌, ◌-◌, ◌*◌, ◌/◌, ◌%◌, ◌&&◌, ◌==◌, nat_le, nat_lt, get_or, length, take, Option, Some, None, List, [], ◌∷◌, ◌++◌, map, if◌then◌else◌, fold, ⊤}
 use Rattle.grid_address.specs.declared.reading.Progress.{Progress}
 use Rattle.grid_address.specs.declared.reading.Progress.TheVariants.{Nothing, Letter, Column, Row}
 use Rattle.grid_address.specs.Address.{column_name, decimal}
 use Rattle.grid_address.specs.Place.{Place}
-use Rattle.grid_address.specs.Reading.{folded}
 
 -- these bytes are read that far: one letter, the two letters of a column, or a column and the first digits of a row's number
 abbrev pub IsRead : Progress → List ℕ → Type 0
 IsRead Nothing bytes = bytes ≡ []
-IsRead (Letter c) bytes = (map folded bytes ≡ (65 + c) ∷ []) × (c < 26)
-IsRead (Column c) bytes = (map folded bytes ≡ (64 + c / 26) ∷ (65 + c % 26) ∷ []) × (26 ≤ c) × (c < 256)
-IsRead (Row c n) bytes = (map folded bytes ≡ column_name c ++ decimal n) × (c < 256) × (1 ≤ n) × (n ≤ 8192)
-
-abbrev pub is_capital : ℕ → Bool
-is_capital b = nat_le 65 b && nat_le b 90
-
-abbrev pub is_digit : ℕ → Bool
-is_digit b = nat_le 48 b && nat_le b 57
+IsRead (Letter c) bytes = (map to_ascii_uppercase bytes ≡ (65 + c) ∷ []) × (c < 26)
+IsRead (Column c) bytes = (map to_ascii_uppercase bytes ≡ (64 + c / 26) ∷ (65 + c % 26) ∷ []) × (26 ≤ c) × (c < 256)
+IsRead (Row c n) bytes = (map to_ascii_uppercase bytes ≡ column_name c ++ decimal n) × (c < 256) × (1 ≤ n) × (n ≤ 8192)
 
 -- a row's number begins with 1 to 9
 abbrev pub first_digit : ℕ → ℕ → Option Progress
@@ -31,10 +25,10 @@ later_digit c n = if nat_le n 8192 then Some (Row c n) else None
 
 -- how far it is read with one byte more; none where no address goes on with it
 abbrev pub next_of : Progress → ℕ → Option Progress
-next_of Nothing b = if is_capital (folded b) then Some (Letter (folded b - 65)) else None
-next_of (Letter c) b = if is_capital (folded b) then second_letter c (folded b) else first_digit c b
+next_of Nothing b = if is_ascii_uppercase (to_ascii_uppercase b) then Some (Letter (to_ascii_uppercase b - 65)) else None
+next_of (Letter c) b = if is_ascii_uppercase (to_ascii_uppercase b) then second_letter c (to_ascii_uppercase b) else first_digit c b
 next_of (Column c) b = first_digit c b
-next_of (Row c n) b = if is_digit b then later_digit c (n * 10 + (b - 48)) else None
+next_of (Row c n) b = if is_ascii_digit b then later_digit c (n * 10 + (b - 48)) else None
 
 -- a column and a row that are read are the sheet's
 abbrev pub IsRowOfSheet : Progress → Type 0

@@ -1,15 +1,12 @@
 -- Addresses and spans as they are read.
-use Rattle.std.specs.Prelude.{ℕ, ◌≡◌, ◌≤◌, ◌<◌, ◌+◌, ◌-◌, ◌&&◌, nat_le, List, [], ◌∷◌, ◌++◌, length, take, map, ◌⊎◌, if◌then◌else◌}
+use Rattle.std.specs.Char.{to_ascii_uppercase}
+use Rattle.std.specs.Prelude.{ℕ, ◌≡◌, ◌≤◌, ◌<◌, ◌+◌, List, [], ◌∷◌, ◌++◌, length, take, map, ◌⊎◌}
 use Rattle.grid_address.specs.Address.{address_of}
 use Rattle.grid_address.specs.Place.{spanned, Extent, InSheet, Place}
 
--- a small letter is read as its capital
-abbrev pub folded : ℕ → ℕ
-folded b = if nat_le 97 b && nat_le b 122 then b - 32 else b
-
 -- the bytes are the address of the cell, in letters of either case
 abbrev pub SpellsCell : List ℕ → Place → Type 0
-SpellsCell bytes p = (map folded bytes ≡ address_of p) × InSheet p
+SpellsCell bytes p = (map to_ascii_uppercase bytes ≡ address_of p) × InSheet p
 
 -- one dot, or two
 abbrev pub AreDots : List ℕ → Type 0

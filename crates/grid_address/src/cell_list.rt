@@ -1,7 +1,7 @@
 ghost use Rattle.std.specs.Prelude.{◌≡◌, ◌≤◌, ◌<◌, ◌++◌, ◌∷◌, [], length, OnOk, OnErr, IfSome, IfNone, Some, slice_get};
 
-use crate::{Cell, NoRoom};
-use std::alloc::Global;
+use crate::Cell;
+use std::alloc::{AllocError, Global};
 use std::marker::Model;
 
 /// A list of cells.
@@ -30,14 +30,12 @@ impl CellList {
     }
 
     /// Adds one at the end. The list is unchanged where there is no room.
-    pub fn push(&mut self, item: Cell) -> Result<(), NoRoom>
+    pub fn push(&mut self, item: Cell) -> Result<(), AllocError>
         ensures ok { OnOk result (self.new ≡ self.old ++ item ∷ []) }
         ensures err { OnErr result (self.new ≡ self.old) }
     {
-        match self.items.push(item) {
-            Ok(()) => Ok(()),
-            Err(_) => Err(NoRoom),
-        }
+        self.items.push(item)?;
+        Ok(())
     }
 
     /// How many there are.

@@ -1,7 +1,8 @@
 // Addresses read byte by byte.
+ghost use Rattle.std.specs.Char.{to_ascii_uppercase};
 ghost use Rattle.std.specs.Prelude.{◌≡◌, ◌≤◌, drop, length, IfOk, IfErr, Some, None};
 ghost use Rattle.grid_address.specs.Progress.{address_in, count_dots, first_digit, next_of, read_by, whole_cell, IsFront, IsRowOfSheet};
-ghost use Rattle.grid_address.specs.Reading.{folded, IsAddress, IsSpan, SpellsCell, SpellsSpan, StopsAt};
+ghost use Rattle.grid_address.specs.Reading.{IsAddress, IsSpan, SpellsCell, SpellsSpan, StopsAt};
 ghost use Rattle.grid_address.specs.declared.reading.Progress.TheVariants.{Letter, Row};
 
 use crate::{Cell, Span};
@@ -22,17 +23,6 @@ enum Progress {
     Row(u8, u16),
 }
 
-// A small letter is read as its capital.
-fn fold(byte: u8) -> u8
-    ensures { result ≡ folded byte }
-{
-    if byte >= b'a' && byte <= b'z' {
-        byte - 32
-    } else {
-        byte
-    }
-}
-
 // After a column: the first digit of a row's number.
 fn after_column(col: u8, byte: u8) -> Option<Progress>
     ensures { result ≡ first_digit col byte }
@@ -48,7 +38,7 @@ fn after_column(col: u8, byte: u8) -> Option<Progress>
 fn after_letter(col: u8, byte: u8) -> Option<Progress>
     ensures { result ≡ next_of (Letter col) byte }
 {
-    let capital = fold(byte);
+    let capital = byte.to_ascii_uppercase();
     if capital >= b'A' && capital <= b'Z' {
         let column = (u16::from(col) + 1) * 26 + u16::from(capital - b'A');
         if column < 256 {
@@ -80,7 +70,7 @@ fn after(progress: Progress, byte: u8) -> Option<Progress>
 {
     match progress {
         Progress::Nothing => {
-            let capital = fold(byte);
+            let capital = byte.to_ascii_uppercase();
             if capital >= b'A' && capital <= b'Z' {
                 Some(Progress::Letter(capital - b'A'))
             } else {

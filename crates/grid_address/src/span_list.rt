@@ -1,7 +1,7 @@
 ghost use Rattle.std.specs.Prelude.{◌≡◌, ◌≤◌, ◌<◌, ◌++◌, ◌∷◌, [], length, OnOk, OnErr, IfOk, IfSome, IfNone, Some, slice_get};
 
-use crate::{NoRoom, Span};
-use std::alloc::Global;
+use crate::Span;
+use std::alloc::{AllocError, Global};
 use std::marker::Model;
 
 /// A list of spans.
@@ -30,14 +30,12 @@ impl SpanList {
     }
 
     /// Adds one at the end. The list is unchanged where there is no room.
-    pub fn push(&mut self, item: Span) -> Result<(), NoRoom>
+    pub fn push(&mut self, item: Span) -> Result<(), AllocError>
         ensures ok { OnOk result (self.new ≡ self.old ++ item ∷ []) }
         ensures err { OnErr result (self.new ≡ self.old) }
     {
-        match self.items.push(item) {
-            Ok(()) => Ok(()),
-            Err(_) => Err(NoRoom),
-        }
+        self.items.push(item)?;
+        Ok(())
     }
 
     /// How many there are.
@@ -63,7 +61,7 @@ impl SpanList {
     }
 
     /// An equal list.
-    pub fn copy(&self, alloc: Global) -> Result<SpanList, NoRoom>
+    pub fn copy(&self, alloc: Global) -> Result<SpanList, AllocError>
         ensures { IfOk result (λ l. l ≡ self.now) }
     {
         let mut list = SpanList::new(alloc);

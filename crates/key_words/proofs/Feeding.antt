@@ -1,9 +1,9 @@
 -- What a byte makes of a reader that has read some.
+use Rattle.std.specs.Char.{is_ascii_alphabetic, to_ascii_uppercase}
 use Rattle.std.proofs.Common.{◌≡◌, ℕ, ◌+◌, ◌-◌, ◌*◌, ◌≤◌, true, false, List, [], ◌∷◌, ◌++◌, length, map, Option, Some, None, refl, ap, sym, ◌∙◌, subst, arith, append_assoc, inl, inr, ◌⊎◌, length-append}
 use Rattle.std.specs.Prelude.{not, nat_le, ◌&&◌, ◌==◌, ◌||◌, ⊤}
 use Rattle.std.proofs.lemmas.List.{append-nil, map-append}
 use Rattle.std.proofs.lemmas.Bool.{cases_Bool, eqb-true, and_parts, or_cases, leb-true}
-use Rattle.lics_text.specs.Bytes.{folded, is_letter}
 use Rattle.key_words.specs.declared.key.Key.{Key}
 use Rattle.key_words.specs.declared.key.Key.TheVariants as key
 use Rattle.key_words.specs.declared.name.Named.{Named}
@@ -46,28 +46,28 @@ at_rest_stepped bytes b none = rw none (elim (cases_Bool (b == 126)) [
 ])
 
 -- one more letter of a name
-more_letters : (bytes : List ℕ) (b : ℕ) (done : List ℕ) (letters : List ℕ) → bytes ≡ 123 ∷ letters → map folded letters ≡ done → (o : Option (List ℕ)) → longer done (folded b) ≡ o → Stepped bytes b (lettered o)
+more_letters : (bytes : List ℕ) (b : ℕ) (done : List ℕ) (letters : List ℕ) → bytes ≡ 123 ∷ letters → map to_ascii_uppercase letters ≡ done → (o : Option (List ℕ)) → longer done (to_ascii_uppercase b) ≡ o → Stepped bytes b (lettered o)
 more_letters bytes b done letters is folds None found = tt
 more_letters bytes b done [] is folds (Some l) found =
-    let fact = letter_is done (folded b) l found in
-    inl (b, [], ap (λ (t : List ℕ). t ++ b ∷ []) is, ap (λ (t : List ℕ). t ++ folded b ∷ []) folds ∙ sym fact.0, fact.1)
+    let fact = letter_is done (to_ascii_uppercase b) l found in
+    inl (b, [], ap (λ (t : List ℕ). t ++ b ∷ []) is, ap (λ (t : List ℕ). t ++ to_ascii_uppercase b ∷ []) folds ∙ sym fact.0, fact.1)
 more_letters bytes b done (x ∷ xs) is folds (Some l) found =
-    let fact = letter_is done (folded b) l found in
-    inl (x, xs ++ b ∷ [], ap (λ (t : List ℕ). t ++ b ∷ []) is, ap (λ (t : List ℕ). folded x ∷ t) (map-append folded xs (b ∷ [])) ∙ ap (λ (t : List ℕ). t ++ folded b ∷ []) folds ∙ sym fact.0, fact.1)
+    let fact = letter_is done (to_ascii_uppercase b) l found in
+    inl (x, xs ++ b ∷ [], ap (λ (t : List ℕ). t ++ b ∷ []) is, ap (λ (t : List ℕ). to_ascii_uppercase x ∷ t) (map-append to_ascii_uppercase xs (b ∷ [])) ∙ ap (λ (t : List ℕ). t ++ to_ascii_uppercase b ∷ []) folds ∙ sym fact.0, fact.1)
 
 opened_stepped : (bytes : List ℕ) (b : ℕ) → bytes ≡ 123 ∷ [] → Stepped bytes b (after Opened b)
 opened_stepped bytes b is = elim (cases_Bool (is_mark b)) [
   | inl t ↦ rw t (inl (ap (λ (l : List ℕ). l ++ b ∷ []) is, t))
-  | inr t ↦ rw t (more_letters bytes b [] [] is refl (longer [] (folded b)) refl)
+  | inr t ↦ rw t (more_letters bytes b [] [] is refl (longer [] (to_ascii_uppercase b)) refl)
 ]
 
-name_closed : (bytes letters : List ℕ) → bytes ≡ 123 ∷ letters → (o : Option Named) → looked_up (map folded letters) ≡ o → Stepped bytes 125 (closed o)
+name_closed : (bytes letters : List ℕ) → bytes ≡ 123 ∷ letters → (o : Option Named) → looked_up (map to_ascii_uppercase letters) ≡ o → Stepped bytes 125 (closed o)
 name_closed bytes letters is None found = tt
 name_closed bytes letters is (Some (Repeated k)) found = rw is (named letters found)
 name_closed bytes letters is (Some (Alone k)) found = rw is (alone letters found)
 name_closed bytes letters is (Some Alt) found = tt
 
-name_spaced : (bytes letters : List ℕ) → bytes ≡ 123 ∷ letters → (o : Option Named) → looked_up (map folded letters) ≡ o → Stepped bytes 32 (spaced o)
+name_spaced : (bytes letters : List ℕ) → bytes ≡ 123 ∷ letters → (o : Option Named) → looked_up (map to_ascii_uppercase letters) ≡ o → Stepped bytes 32 (spaced o)
 name_spaced bytes letters is None found = tt
 name_spaced bytes letters is (Some (Repeated k)) found = inl (letters, ap (λ (l : List ℕ). l ++ 32 ∷ []) is, found)
 name_spaced bytes letters is (Some (Alone k)) found = tt
@@ -75,12 +75,12 @@ name_spaced bytes letters is (Some Alt) found = inl (letters, ap (λ (l : List �
 
 letters_stepped : (bytes : List ℕ) (b : ℕ) (l : List ℕ) → Holds bytes (Letters l) → Stepped bytes b (after (Letters l) b)
 letters_stepped bytes b l (x, xs, is, folds, begins) =
-    let same : map folded l ≡ map folded (x ∷ xs) = ap (map folded) (sym folds) ∙ folded_twice (x ∷ xs) in
+    let same : map to_ascii_uppercase l ≡ map to_ascii_uppercase (x ∷ xs) = ap (map to_ascii_uppercase) (sym folds) ∙ folded_twice (x ∷ xs) in
     elim (cases_Bool (b == 125)) [
-      | inl t ↦ rw t (rw (eqb-true b 125 t) (name_closed bytes (x ∷ xs) is (looked_up (map folded l)) (ap looked_up (sym same))))
+      | inl t ↦ rw t (rw (eqb-true b 125 t) (name_closed bytes (x ∷ xs) is (looked_up (map to_ascii_uppercase l)) (ap looked_up (sym same))))
       | inr t ↦ elim (cases_Bool (b == 32)) [
-        | inl s ↦ rw (t, s) (rw (eqb-true b 32 s) (name_spaced bytes (x ∷ xs) is (looked_up (map folded l)) (ap looked_up (sym same))))
-        | inr s ↦ rw (t, s) (more_letters bytes b l (x ∷ xs) is folds (longer l (folded b)) refl)
+        | inl s ↦ rw (t, s) (rw (eqb-true b 32 s) (name_spaced bytes (x ∷ xs) is (looked_up (map to_ascii_uppercase l)) (ap looked_up (sym same))))
+        | inr s ↦ rw (t, s) (more_letters bytes b l (x ∷ xs) is folds (longer l (to_ascii_uppercase b)) refl)
       ]
     ]
 
@@ -122,7 +122,7 @@ counted_stepped bytes b k n (letters, digits, is, found, count) = elim (cases_Bo
 ]
 
 alt_stepped : (bytes : List ℕ) (b : ℕ) → Holds bytes AltSpaced → Stepped bytes b (after AltSpaced b)
-alt_stepped bytes b (letters, is, found) = elim (cases_Bool (is_letter b)) [
+alt_stepped bytes b (letters, is, found) = elim (cases_Bool (is_ascii_alphabetic b)) [
   | inl t ↦ rw t (inl (letters, b, ap (λ (l : List ℕ). l ++ b ∷ []) is ∙ ap (λ (l : List ℕ). 123 ∷ l) (append_assoc letters (32 ∷ []) (b ∷ [])), found, t, refl))
   | inr t ↦ rw t tt
 ]
@@ -140,7 +140,7 @@ stepped bytes (Spaced k) b holds = spaced_stepped bytes b k holds
 stepped bytes (Counted k n) b holds = counted_stepped bytes b k n holds
 stepped bytes AltSpaced b holds = alt_stepped bytes b holds
 stepped bytes (AltLetter l) b (letters, c, is, found, letter, same) = elim (cases_Bool (b == 125)) [
-  | inl t ↦ rw t (rw (eqb-true b 125 t, is, same) (subst (λ (x : List ℕ). SpellsWord (123 ∷ x) (key.Alt (folded c)) 1) (sym (append_assoc letters (32 ∷ c ∷ []) (125 ∷ []))) (alt letters c found letter)))
+  | inl t ↦ rw t (rw (eqb-true b 125 t, is, same) (subst (λ (x : List ℕ). SpellsWord (123 ∷ x) (key.Alt (to_ascii_uppercase c)) 1) (sym (append_assoc letters (32 ∷ c ∷ []) (125 ∷ []))) (alt letters c found letter)))
   | inr t ↦ rw t tt
 ]
 

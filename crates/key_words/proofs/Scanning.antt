@@ -1,10 +1,10 @@
 -- The reader over whole texts of key notation.
+use Rattle.std.specs.Char.{is_ascii_alphabetic, is_ascii_uppercase, to_ascii_uppercase}
 use Rattle.std.proofs.Common.{◌≡◌, ℕ, ◌+◌, ◌-◌, ◌*◌, ◌≤◌, true, false, List, [], ◌∷◌, ◌++◌, map, Option, Some, None, refl, ap, sym, ◌∙◌, arith, append_assoc, inl, inr, ◌⊎◌}
 use Rattle.std.specs.Prelude.{not, nat_le, ◌&&◌, ◌==◌}
 use Rattle.std.proofs.lemmas.List.{append-nil}
 use Rattle.std.proofs.lemmas.Bool.{cases_Bool, and_parts, true≢false}
 use Rattle.std.proofs.lemmas.Bool.Decides.{nat_tests}
-use Rattle.lics_text.specs.Bytes.{folded, is_letter}
 use Rattle.key_words.specs.declared.key.Key.{Key}
 use Rattle.key_words.specs.declared.key.Key.TheVariants as key
 use Rattle.key_words.specs.declared.name.Named.{Named}
@@ -17,7 +17,7 @@ use Rattle.key_words.specs.Names.{looked_up}
 use Rattle.key_words.specs.Notation.{is_mark, is_typed, IsRepeat, first, later, SpellsWord, byte, tilde, mark, named, repeated, alone, alt, Spells, nothing, one_word, line_end, Begins}
 use Rattle.key_words.specs.Begun.{after, closed, lettered, spaced}
 use Rattle.key_words.specs.Reading.{Holds}
-use Rattle.key_words.proofs.Tables.{capitals_split, folded_twice, is_capital, letter_apart, letter_goes_on, looked_up_proper}
+use Rattle.key_words.proofs.Tables.{capitals_split, folded_twice, letter_apart, letter_goes_on, looked_up_proper}
 
 abbrev pub Keys : Type 0
 Keys = List (Key × ℕ)
@@ -72,34 +72,34 @@ pub scan_from : (r next : Begun) (xs ys : List ℕ) → scan r xs ≡ Some ([], 
 scan_from r next xs ys front = scan-append r xs ys ∙ ap (λ (s : Scan). scan_then s ys) front ∙ no_keys (scan next ys)
 
 -- a letter that a name goes on with
-lengthened : (done more : List ℕ) (b : ℕ) (m : Named) → looked_up (done ++ folded b ∷ more) ≡ Some m → after (Letters done) b ≡ Going (Letters (done ++ folded b ∷ []))
+lengthened : (done more : List ℕ) (b : ℕ) (m : Named) → looked_up (done ++ to_ascii_uppercase b ∷ more) ≡ Some m → after (Letters done) b ≡ Going (Letters (done ++ to_ascii_uppercase b ∷ []))
 lengthened done more b m found =
-    let proper = looked_up_proper (done ++ folded b ∷ more) m found in
-    let apart = letter_apart b (and_parts (is_capital (folded b)) _ (capitals_split done (folded b ∷ more) proper.1).1).0 in
-    rw (apart.0, apart.1) (ap lettered (letter_goes_on done more (folded b) m found))
+    let proper = looked_up_proper (done ++ to_ascii_uppercase b ∷ more) m found in
+    let apart = letter_apart b (and_parts (is_ascii_uppercase (to_ascii_uppercase b)) _ (capitals_split done (to_ascii_uppercase b ∷ more) proper.1).1).0 in
+    rw (apart.0, apart.1) (ap lettered (letter_goes_on done more (to_ascii_uppercase b) m found))
 
-opened_with : (more : List ℕ) (b : ℕ) (m : Named) → looked_up (folded b ∷ more) ≡ Some m → after Opened b ≡ Going (Letters (folded b ∷ []))
+opened_with : (more : List ℕ) (b : ℕ) (m : Named) → looked_up (to_ascii_uppercase b ∷ more) ≡ Some m → after Opened b ≡ Going (Letters (to_ascii_uppercase b ∷ []))
 opened_with more b m found =
-    let proper = looked_up_proper (folded b ∷ more) m found in
-    let apart = letter_apart b (and_parts (is_capital (folded b)) _ proper.1).0 in
-    rw (apart.2) (ap lettered (letter_goes_on [] more (folded b) m found))
+    let proper = looked_up_proper (to_ascii_uppercase b ∷ more) m found in
+    let apart = letter_apart b (and_parts (is_ascii_uppercase (to_ascii_uppercase b)) _ proper.1).0 in
+    rw (apart.2) (ap lettered (letter_goes_on [] more (to_ascii_uppercase b) m found))
 
-letters_scanned : (done letters more : List ℕ) (m : Named) → looked_up (done ++ (map folded letters ++ more)) ≡ Some m → scan (Letters done) letters ≡ Some ([], Letters (done ++ map folded letters))
+letters_scanned : (done letters more : List ℕ) (m : Named) → looked_up (done ++ (map to_ascii_uppercase letters ++ more)) ≡ Some m → scan (Letters done) letters ≡ Some ([], Letters (done ++ map to_ascii_uppercase letters))
 letters_scanned done [] more m found = ap (λ (l : List ℕ). Some ([], Letters l)) (sym (append-nil done))
 letters_scanned done (b ∷ bs) more m found =
-    let on : after (Letters done) b ≡ Going (Letters (done ++ folded b ∷ [])) = lengthened done (map folded bs ++ more) b m found in
-    let same : (done ++ folded b ∷ []) ++ (map folded bs ++ more) ≡ done ++ folded b ∷ (map folded bs ++ more) = append_assoc done (folded b ∷ []) (map folded bs ++ more) in
-    let rest : scan (Letters (done ++ folded b ∷ [])) bs ≡ Some ([], Letters ((done ++ folded b ∷ []) ++ map folded bs)) =
-    letters_scanned (done ++ folded b ∷ []) bs more m (ap looked_up same ∙ found) in
-    ap (λ (n : Next). scan_on n (λ next. scan next bs)) on ∙ rest ∙ ap (λ (l : List ℕ). Some ([], Letters l)) (append_assoc done (folded b ∷ []) (map folded bs))
+    let on : after (Letters done) b ≡ Going (Letters (done ++ to_ascii_uppercase b ∷ [])) = lengthened done (map to_ascii_uppercase bs ++ more) b m found in
+    let same : (done ++ to_ascii_uppercase b ∷ []) ++ (map to_ascii_uppercase bs ++ more) ≡ done ++ to_ascii_uppercase b ∷ (map to_ascii_uppercase bs ++ more) = append_assoc done (to_ascii_uppercase b ∷ []) (map to_ascii_uppercase bs ++ more) in
+    let rest : scan (Letters (done ++ to_ascii_uppercase b ∷ [])) bs ≡ Some ([], Letters ((done ++ to_ascii_uppercase b ∷ []) ++ map to_ascii_uppercase bs)) =
+    letters_scanned (done ++ to_ascii_uppercase b ∷ []) bs more m (ap looked_up same ∙ found) in
+    ap (λ (n : Next). scan_on n (λ next. scan next bs)) on ∙ rest ∙ ap (λ (l : List ℕ). Some ([], Letters l)) (append_assoc done (to_ascii_uppercase b ∷ []) (map to_ascii_uppercase bs))
 
-brace_scanned : (b : ℕ) (bs more : List ℕ) (m : Named) → looked_up (map folded (b ∷ bs) ++ more) ≡ Some m → scan Nothing (123 ∷ b ∷ bs) ≡ Some ([], Letters (map folded (b ∷ bs)))
+brace_scanned : (b : ℕ) (bs more : List ℕ) (m : Named) → looked_up (map to_ascii_uppercase (b ∷ bs) ++ more) ≡ Some m → scan Nothing (123 ∷ b ∷ bs) ≡ Some ([], Letters (map to_ascii_uppercase (b ∷ bs)))
 brace_scanned b bs more m found =
-    ap (λ (n : Next). scan_on n (λ next. scan next bs)) (opened_with (map folded bs ++ more) b m found) ∙ letters_scanned (folded b ∷ []) bs more m found
+    ap (λ (n : Next). scan_on n (λ next. scan next bs)) (opened_with (map to_ascii_uppercase bs ++ more) b m found) ∙ letters_scanned (to_ascii_uppercase b ∷ []) bs more m found
 
-name_scanned : (letters : List ℕ) (m : Named) → looked_up (map folded letters) ≡ Some m → scan Nothing (123 ∷ letters) ≡ Some ([], Letters (map folded letters))
+name_scanned : (letters : List ℕ) (m : Named) → looked_up (map to_ascii_uppercase letters) ≡ Some m → scan Nothing (123 ∷ letters) ≡ Some ([], Letters (map to_ascii_uppercase letters))
 name_scanned [] m found = absurd (omega (arith, (looked_up_proper [] m found).0))
-name_scanned (b ∷ bs) m found = brace_scanned b bs [] m (ap looked_up (append-nil (map folded (b ∷ bs))) ∙ found)
+name_scanned (b ∷ bs) m found = brace_scanned b bs [] m (ap looked_up (append-nil (map to_ascii_uppercase (b ∷ bs))) ∙ found)
 
 -- the digits of a number of repeats
 digit_again : (d : ℕ) → (48 + d) - 48 ≡ d
@@ -125,17 +125,17 @@ digits_scanned k digits n (later {digits = front} {n = before} {d} is most withi
     scan_from (Spaced k) (Counted k before) front ((48 + d) ∷ []) (digits_scanned k front before is) ∙ rw (later_fed k before d most within) refl
 
 -- behind a name, a space
-spaced_scanned : (letters : List ℕ) (m : Named) (next : Begun) → looked_up (map folded letters) ≡ Some m → spaced (Some m) ≡ Going next → scan Nothing (123 ∷ (letters ++ 32 ∷ [])) ≡ Some ([], next)
+spaced_scanned : (letters : List ℕ) (m : Named) (next : Begun) → looked_up (map to_ascii_uppercase letters) ≡ Some m → spaced (Some m) ≡ Going next → scan Nothing (123 ∷ (letters ++ 32 ∷ [])) ≡ Some ([], next)
 spaced_scanned letters m next found is =
-    let fed : after (Letters (map folded letters)) 32 ≡ Going next = ap spaced (ap looked_up (folded_twice letters) ∙ found) ∙ is in
-    scan_from Nothing (Letters (map folded letters)) (123 ∷ letters) (32 ∷ []) (name_scanned letters m found) ∙ rw fed refl
+    let fed : after (Letters (map to_ascii_uppercase letters)) 32 ≡ Going next = ap spaced (ap looked_up (folded_twice letters) ∙ found) ∙ is in
+    scan_from Nothing (Letters (map to_ascii_uppercase letters)) (123 ∷ letters) (32 ∷ []) (name_scanned letters m found) ∙ rw fed refl
 
-counted_scanned : (letters digits : List ℕ) (k : Key) (n : ℕ) → looked_up (map folded letters) ≡ Some (Repeated k) → IsRepeat digits n → scan Nothing (123 ∷ (letters ++ 32 ∷ digits)) ≡ Some ([], Counted k n)
+counted_scanned : (letters digits : List ℕ) (k : Key) (n : ℕ) → looked_up (map to_ascii_uppercase letters) ≡ Some (Repeated k) → IsRepeat digits n → scan Nothing (123 ∷ (letters ++ 32 ∷ digits)) ≡ Some ([], Counted k n)
 counted_scanned letters digits k n found is =
     ap (λ (l : List ℕ). scan Nothing (123 ∷ l)) (sym (append_assoc letters (32 ∷ []) digits))
     ∙ scan_from Nothing (Spaced k) (123 ∷ (letters ++ 32 ∷ [])) digits (spaced_scanned letters (Repeated k) (Spaced k) found refl) ∙ digits_scanned k digits n is
 
-lettered_scanned : (letters : List ℕ) (b : ℕ) → looked_up (map folded letters) ≡ Some Alt → is_letter b ≡ true → scan Nothing (123 ∷ (letters ++ 32 ∷ b ∷ [])) ≡ Some ([], AltLetter (folded b))
+lettered_scanned : (letters : List ℕ) (b : ℕ) → looked_up (map to_ascii_uppercase letters) ≡ Some Alt → is_ascii_alphabetic b ≡ true → scan Nothing (123 ∷ (letters ++ 32 ∷ b ∷ [])) ≡ Some ([], AltLetter (to_ascii_uppercase b))
 lettered_scanned letters b found is =
     ap (λ (l : List ℕ). scan Nothing (123 ∷ l)) (sym (append_assoc letters (32 ∷ []) (b ∷ [])))
     ∙ scan_from Nothing AltSpaced (123 ∷ (letters ++ 32 ∷ [])) (b ∷ []) (spaced_scanned letters Alt AltSpaced found refl) ∙ rw is refl
@@ -146,7 +146,7 @@ holds_scanned bytes Nothing holds = rw holds refl
 holds_scanned bytes Opened holds = rw holds refl
 holds_scanned bytes (Mark m) (is, marked) = rw (is, marked) refl
 holds_scanned bytes (Letters l) (b, letters, is, folds, (more, m, found)) =
-    rw is (brace_scanned b letters (map folded more) m (ap (λ (t : List ℕ). looked_up (t ++ map folded more)) folds ∙ found) ∙ ap (λ (t : List ℕ). Some ([], Letters t)) folds)
+    rw is (brace_scanned b letters (map to_ascii_uppercase more) m (ap (λ (t : List ℕ). looked_up (t ++ map to_ascii_uppercase more)) folds ∙ found) ∙ ap (λ (t : List ℕ). Some ([], Letters t)) folds)
 holds_scanned bytes (Spaced k) (letters, is, found) = rw is (spaced_scanned letters (Repeated k) (Spaced k) found refl)
 holds_scanned bytes (Counted k n) (letters, digits, is, found, count) = rw is (counted_scanned letters digits k n found count)
 holds_scanned bytes AltSpaced (letters, is, found) = rw is (spaced_scanned letters Alt AltSpaced found refl)
@@ -162,10 +162,10 @@ typed_fed b is =
     let left : (nat_le 32 b && not (b == 125)) ≡ true = rw (tilde_not, brace_not) at is in
     rw (tilde_not, brace_not, return_not, feed_not, left) refl
 
-closing : (letters : List ℕ) (m : Named) (k : Key) → looked_up (map folded letters) ≡ Some m → closed (Some m) ≡ Ended k 1 → scan Nothing (123 ∷ (letters ++ 125 ∷ [])) ≡ Some ((k, 1) ∷ [], Nothing)
+closing : (letters : List ℕ) (m : Named) (k : Key) → looked_up (map to_ascii_uppercase letters) ≡ Some m → closed (Some m) ≡ Ended k 1 → scan Nothing (123 ∷ (letters ++ 125 ∷ [])) ≡ Some ((k, 1) ∷ [], Nothing)
 closing letters m k found is =
-    let fed : after (Letters (map folded letters)) 125 ≡ Ended k 1 = ap closed (ap looked_up (folded_twice letters) ∙ found) ∙ is in
-    scan_from Nothing (Letters (map folded letters)) (123 ∷ letters) (125 ∷ []) (name_scanned letters m found) ∙ rw fed refl
+    let fed : after (Letters (map to_ascii_uppercase letters)) 125 ≡ Ended k 1 = ap closed (ap looked_up (folded_twice letters) ∙ found) ∙ is in
+    scan_from Nothing (Letters (map to_ascii_uppercase letters)) (123 ∷ letters) (125 ∷ []) (name_scanned letters m found) ∙ rw fed refl
 
 pub word_scanned : (word : List ℕ) (k : Key) (n : ℕ) → SpellsWord word k n → scan Nothing word ≡ Some ((k, n) ∷ [], Nothing)
 word_scanned word k n (byte {b} is) = rw (typed_fed b is) refl
@@ -178,7 +178,7 @@ word_scanned word k n (repeated letters digits found is) =
 word_scanned word k n (alone letters found) = closing letters (Alone k) k found refl
 word_scanned word k n (alt letters b found is) =
     ap (λ (l : List ℕ). scan Nothing (123 ∷ l)) (sym (append_assoc letters (32 ∷ b ∷ []) (125 ∷ [])))
-    ∙ scan_from Nothing (AltLetter (folded b)) (123 ∷ (letters ++ 32 ∷ b ∷ [])) (125 ∷ []) (lettered_scanned letters b found is)
+    ∙ scan_from Nothing (AltLetter (to_ascii_uppercase b)) (123 ∷ (letters ++ 32 ∷ b ∷ [])) (125 ∷ []) (lettered_scanned letters b found is)
 
 line_end_scanned : (b : ℕ) → (b ≡ 13) ⊎ (b ≡ 10) → scan Nothing (b ∷ []) ≡ Some ([], Nothing)
 line_end_scanned b (inl e) = rw e refl

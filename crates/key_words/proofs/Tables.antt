@@ -1,6 +1,7 @@
 -- What the table of names is, and what looking into it tells.
-use Rattle.std.proofs.Common.{◌≡◌, ℕ, ◌+◌, ◌-◌, ◌<◌, true, false, Bool, List, [], ◌∷◌, ◌++◌, length, take, drop, map, get_or, Some, refl, ap, sym, ◌∙◌, subst, arith, length-append, inl, inr}
-use Rattle.std.specs.Prelude.{◌&&◌, ◌==◌, nat_le, nat_lt, nat_eq}
+use Rattle.std.specs.Char.{is_ascii_uppercase, to_ascii_uppercase}
+use Rattle.std.proofs.Common.{◌≡◌, ℕ, ◌+◌, ◌<◌, true, false, Bool, List, [], ◌∷◌, ◌++◌, length, take, drop, map, get_or, Some, refl, ap, sym, ◌∙◌, subst, arith, length-append, inl, inr}
+use Rattle.std.specs.Prelude.{◌&&◌, ◌==◌, nat_lt, nat_eq}
 use Rattle.std.specs.Str.{bytes_eq}
 use Rattle.std.specs.List.{list_all, starts_with}
 use Rattle.std.proofs.lemmas.List.{take_more, take_at, take-append-drop}
@@ -8,18 +9,14 @@ use Rattle.std.proofs.lemmas.Bool.{cases_Bool, and_parts, and_from, eqb-true, eq
 use Rattle.std.proofs.lemmas.Slice.Eq.{bytes_eq-Decides}
 use Rattle.std.proofs.lemmas.Bool.Decides.{nat_tests}
 use Rattle.std.proofs.lemmas.Grind.{common_steps}
-use Rattle.lics_text.specs.Bytes.{folded}
 use Rattle.key_words.specs.declared.name.Named.{Named}
 use Rattle.key_words.specs.Notation.{is_mark}
 use Rattle.key_words.specs.Reading.{BeginsName}
 use Rattle.key_words.specs.Names.{goes_on, longer, longer_in, looked_up, name_in, names}
 
-abbrev pub is_capital : ℕ → Bool
-is_capital b = nat_le 65 b && nat_le b 90
-
 -- the letters are capitals, and there are some
 abbrev is_proper : List ℕ → Bool
-is_proper name = nat_lt 0 (length name) && list_all is_capital name
+is_proper name = nat_lt 0 (length name) && list_all is_ascii_uppercase name
 
 abbrev Table : Type 0
 Table = List (List ℕ × Named)
@@ -103,33 +100,31 @@ longer_is (e ∷ rest) letters b l is = elim (cases_Bool (goes_on e.0 letters b)
       record { same = later.same; more = later.more; found = found_later e rest (l ++ later.more) later.found })
 ]
 
-pub looked_up_proper : (name : List ℕ) (m : Named) → looked_up name ≡ Some m → (0 < length name) × (list_all is_capital name ≡ true)
+pub looked_up_proper : (name : List ℕ) (m : Named) → looked_up name ≡ Some m → (0 < length name) × (list_all is_ascii_uppercase name ≡ true)
 looked_up_proper name m found =
-    let parts = and_parts (nat_lt 0 (length name)) (list_all is_capital name) (found_proper names name m proper_names found) in
+    let parts = and_parts (nat_lt 0 (length name)) (list_all is_ascii_uppercase name) (found_proper names name m proper_names found) in
     (ltb-true _ _ parts.0, parts.1)
 
 pub letter_goes_on : (letters more : List ℕ) (b : ℕ) (m : Named) → looked_up (letters ++ b ∷ more) ≡ Some m → longer letters b ≡ Some (letters ++ b ∷ [])
 letter_goes_on letters more b m found = longer_found names letters more b m found
 
 -- capitals are the same folded
-capital_folded : (b : ℕ) → is_capital b ≡ true → folded b ≡ b
-capital_folded b is =
-    let small_not : nat_le 97 b ≡ false = grind (arith, nat_tests, is) in
-    rw small_not refl
+capital_folded : (b : ℕ) → is_ascii_uppercase b ≡ true → to_ascii_uppercase b ≡ b
+capital_folded b is = grind (arith, nat_tests, is)
 
-capitals_folded : (letters : List ℕ) → list_all is_capital letters ≡ true → map folded letters ≡ letters
+capitals_folded : (letters : List ℕ) → list_all is_ascii_uppercase letters ≡ true → map to_ascii_uppercase letters ≡ letters
 capitals_folded [] all = refl
 capitals_folded (b ∷ bs) all =
-    let parts = and_parts (is_capital b) (list_all is_capital bs) all in
-    let first : folded b ≡ b = capital_folded b parts.0 in
-    let later : map folded bs ≡ bs = capitals_folded bs parts.1 in
+    let parts = and_parts (is_ascii_uppercase b) (list_all is_ascii_uppercase bs) all in
+    let first : to_ascii_uppercase b ≡ b = capital_folded b parts.0 in
+    let later : map to_ascii_uppercase bs ≡ bs = capitals_folded bs parts.1 in
     cc
 
 -- the front of a text of capitals, and what is behind
-pub capitals_split : (xs ys : List ℕ) → list_all is_capital (xs ++ ys) ≡ true → (list_all is_capital xs ≡ true) × (list_all is_capital ys ≡ true)
+pub capitals_split : (xs ys : List ℕ) → list_all is_ascii_uppercase (xs ++ ys) ≡ true → (list_all is_ascii_uppercase xs ≡ true) × (list_all is_ascii_uppercase ys ≡ true)
 capitals_split [] ys all = (refl, all)
 capitals_split (x ∷ xs) ys all =
-    let parts = and_parts (is_capital x) (list_all is_capital (xs ++ ys)) all in
+    let parts = and_parts (is_ascii_uppercase x) (list_all is_ascii_uppercase (xs ++ ys)) all in
     let rest = capitals_split xs ys parts.1 in
     (and_from _ _ parts.0 rest.0, rest.1)
 
@@ -137,29 +132,24 @@ pub letter_is : (letters : List ℕ) (b : ℕ) (l : List ℕ) → longer letters
 letter_is letters b l is =
     let fact = longer_is names letters b l is in
     let proper = looked_up_proper (l ++ fact.more) fact.found.0 fact.found.1 in
-    let same : map folded fact.more ≡ fact.more = capitals_folded fact.more (capitals_split l fact.more proper.1).1 in
+    let same : map to_ascii_uppercase fact.more ≡ fact.more = capitals_folded fact.more (capitals_split l fact.more proper.1).1 in
     (fact.same, (fact.more, fact.found.0, rw same fact.found.1))
 
 -- a letter of a name is no mark, brace or space
-pub letter_apart : (b : ℕ) → is_capital (folded b) ≡ true → ((b == 125) ≡ false) × ((b == 32) ≡ false) × (is_mark b ≡ false)
+pub letter_apart : (b : ℕ) → is_ascii_uppercase (to_ascii_uppercase b) ≡ true → ((b == 125) ≡ false) × ((b == 32) ≡ false) × (is_mark b ≡ false)
 letter_apart b is =
-    let brace : (b == 125) ≡ false = elim (cases_Bool (b == 125)) [ inl t ↦ absurd (true≢false (sym is ∙ ap (λ n. is_capital (folded n)) (eqb-true b 125 t))) | inr f ↦ f ] in
-    let space : (b == 32) ≡ false = elim (cases_Bool (b == 32)) [ inl t ↦ absurd (true≢false (sym is ∙ ap (λ n. is_capital (folded n)) (eqb-true b 32 t))) | inr f ↦ f ] in
-    let tilde : (b == 126) ≡ false = elim (cases_Bool (b == 126)) [ inl t ↦ absurd (true≢false (sym is ∙ ap (λ n. is_capital (folded n)) (eqb-true b 126 t))) | inr f ↦ f ] in
-    let open_brace : (b == 123) ≡ false = elim (cases_Bool (b == 123)) [ inl t ↦ absurd (true≢false (sym is ∙ ap (λ n. is_capital (folded n)) (eqb-true b 123 t))) | inr f ↦ f ] in
+    let brace : (b == 125) ≡ false = elim (cases_Bool (b == 125)) [ inl t ↦ absurd (true≢false (sym is ∙ ap (λ n. is_ascii_uppercase (to_ascii_uppercase n)) (eqb-true b 125 t))) | inr f ↦ f ] in
+    let space : (b == 32) ≡ false = elim (cases_Bool (b == 32)) [ inl t ↦ absurd (true≢false (sym is ∙ ap (λ n. is_ascii_uppercase (to_ascii_uppercase n)) (eqb-true b 32 t))) | inr f ↦ f ] in
+    let tilde : (b == 126) ≡ false = elim (cases_Bool (b == 126)) [ inl t ↦ absurd (true≢false (sym is ∙ ap (λ n. is_ascii_uppercase (to_ascii_uppercase n)) (eqb-true b 126 t))) | inr f ↦ f ] in
+    let open_brace : (b == 123) ≡ false = elim (cases_Bool (b == 123)) [ inl t ↦ absurd (true≢false (sym is ∙ ap (λ n. is_ascii_uppercase (to_ascii_uppercase n)) (eqb-true b 123 t))) | inr f ↦ f ] in
     (brace, space, rw (tilde, open_brace, brace) refl)
 
-folded_again : (b : ℕ) → folded (folded b) ≡ folded b
-folded_again b = elim (cases_Bool (nat_le 97 b && nat_le b 122)) [
-  | inl t ↦ (let parts = and_parts (nat_le 97 b) (nat_le b 122) t in
-      let under : nat_le 97 (b - 32) ≡ false = grind (arith, nat_tests, parts.1) in
-      rw t (rw under refl))
-  | inr f ↦ rw f (rw f refl)
-]
+folded_again : (b : ℕ) → to_ascii_uppercase (to_ascii_uppercase b) ≡ to_ascii_uppercase b
+folded_again b = grind (arith, nat_tests)
 
-pub folded_twice : (letters : List ℕ) → map folded (map folded letters) ≡ map folded letters
+pub folded_twice : (letters : List ℕ) → map to_ascii_uppercase (map to_ascii_uppercase letters) ≡ map to_ascii_uppercase letters
 folded_twice [] = refl
 folded_twice (b ∷ bs) =
-    let first : folded (folded b) ≡ folded b = folded_again b in
-    let later : map folded (map folded bs) ≡ map folded bs = folded_twice bs in
+    let first : to_ascii_uppercase (to_ascii_uppercase b) ≡ to_ascii_uppercase b = folded_again b in
+    let later : map to_ascii_uppercase (map to_ascii_uppercase bs) ≡ map to_ascii_uppercase bs = folded_twice bs in
     cc

@@ -1,6 +1,6 @@
 -- How far a word of key notation was read, and what a byte makes of it.
+use Rattle.std.specs.Char.{is_ascii_alphabetic, to_ascii_uppercase}
 use Rattle.std.specs.Prelude.{ℕ, ◌+◌, ◌-◌, ◌*◌, ◌==◌, ◌||◌, ◌&&◌, nat_le, if◌then◌else◌, Option, Some, None, List, [], map}
-use Rattle.lics_text.specs.Bytes.{folded, is_letter}
 use Rattle.key_words.specs.declared.key.Key.TheVariants as key
 use Rattle.key_words.specs.declared.name.Named.{Named}
 use Rattle.key_words.specs.declared.name.Named.TheVariants as name
@@ -35,10 +35,10 @@ typed b = if is_typed b then Ended (key.Byte b) 1 else Refused
 
 abbrev pub after : Begun → ℕ → Next
 after Nothing b = if b == 126 then Ended key.Enter 1 else if b == 123 then Going Opened else if b == 13 || b == 10 then Going Nothing else typed b
-after Opened b = if is_mark b then Going (Mark b) else lettered (longer [] (folded b))
+after Opened b = if is_mark b then Going (Mark b) else lettered (longer [] (to_ascii_uppercase b))
 after (Mark m) b = if b == 125 then Ended (key.Byte m) 1 else Refused
-after (Letters letters) b = if b == 125 then closed (looked_up (map folded letters)) else if b == 32 then spaced (looked_up (map folded letters)) else lettered (longer letters (folded b))
+after (Letters letters) b = if b == 125 then closed (looked_up (map to_ascii_uppercase letters)) else if b == 32 then spaced (looked_up (map to_ascii_uppercase letters)) else lettered (longer letters (to_ascii_uppercase b))
 after (Spaced k) b = if nat_le 49 b && nat_le b 57 then Going (Counted k (b - 48)) else Refused
 after (Counted k n) b = if b == 125 then Ended k n else if (nat_le 48 b && nat_le b 57) && nat_le (n * 10 + (b - 48)) 9999 then Going (Counted k (n * 10 + (b - 48))) else Refused
-after AltSpaced b = if is_letter b then Going (AltLetter (folded b)) else Refused
+after AltSpaced b = if is_ascii_alphabetic b then Going (AltLetter (to_ascii_uppercase b)) else Refused
 after (AltLetter l) b = if b == 125 then Ended (key.Alt l) 1 else Refused

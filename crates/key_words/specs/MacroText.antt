@@ -1,8 +1,8 @@
 -- The words of a macro's text.
+use Rattle.std.specs.Char.{to_ascii_uppercase}
 use Rattle.std.specs.Prelude.{ℕ, ◌+◌, Bool, false, not, ◌==◌, ◌&&◌, nat_lt, nat_le, if◌then◌else◌, Option, Some, None, List, [], ◌∷◌, length, take, drop, map, get_or}
 use Rattle.std.specs.Option.{option_map, unwrap_or}
 use Rattle.std.specs.List.{position}
-use Rattle.lics_text.specs.Bytes.{folded}
 use Rattle.key_words.specs.declared.key.Key.{Key}
 use Rattle.key_words.specs.declared.key.Key.TheVariants as key
 use Rattle.key_words.specs.declared.name.Named.{Named}
@@ -68,7 +68,7 @@ named_word (Some name.Alt) command name behind = command_or_call command name be
 -- the word of what stands in braces, whose inside begins at this offset
 abbrev pub word_inside : ℕ → List ℕ → MacroWord
 word_inside at inside =
-    named_word (looked_up (map folded (take (name_length inside) inside))) (command_named (map folded (take (name_length inside) inside)))
+    named_word (looked_up (map to_ascii_uppercase (take (name_length inside) inside))) (command_named (map to_ascii_uppercase (take (name_length inside) inside)))
     (cut at (at + name_length inside)) (behind_name at inside)
 
 abbrev pub closed_at : ℕ → ℕ → List ℕ → Option ℕ → Unit
@@ -112,7 +112,7 @@ slashed text offset (Some w) = slash_at text (offset + 3) w
 
 abbrev pub begun_slash : List ℕ → ℕ → Option SlashWord
 begun_slash text offset =
-    if nat_lt (offset + 2) (length text) && folded (get_or text (offset + 1) 0) == 88 then slash_word (folded (get_or text (offset + 2) 0)) else None
+    if nat_lt (offset + 2) (length text) && to_ascii_uppercase (get_or text (offset + 1) 0) == 88 then slash_word (to_ascii_uppercase (get_or text (offset + 2) 0)) else None
 
 abbrev pub unit_of : List ℕ → ℕ → ℕ → Unit
 unit_of text offset b =

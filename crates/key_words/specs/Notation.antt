@@ -1,6 +1,6 @@
 -- Key notation: which bytes spell which keys.
+use Rattle.std.specs.Char.{is_ascii_alphabetic, to_ascii_uppercase}
 use Rattle.std.specs.Prelude.{◌≡◌, ◌≢◌, ℕ, ◌+◌, ◌*◌, ◌≤◌, Bool, true, not, nat_le, ◌==◌, ◌&&◌, ◌||◌, ◌⊎◌, List, [], ◌∷◌, ◌++◌, map, Some}
-use Rattle.lics_text.specs.Bytes.{folded, is_letter}
 use Rattle.key_words.specs.declared.key.Key.{Key}
 use Rattle.key_words.specs.declared.key.Key.TheVariants as key
 use Rattle.key_words.specs.declared.name.Named.TheVariants.{Repeated, Alone, Alt}
@@ -24,10 +24,10 @@ pub data SpellsWord : List ℕ → Key → ℕ → Type 0 where
   byte : {b : ℕ} → is_typed b ≡ true → SpellsWord (b ∷ []) (key.Byte b) 1
   tilde : SpellsWord (126 ∷ []) key.Enter 1
   mark : {b : ℕ} → is_mark b ≡ true → SpellsWord (123 ∷ b ∷ 125 ∷ []) (key.Byte b) 1
-  named : (letters : List ℕ) {k : Key} → looked_up (map folded letters) ≡ Some (Repeated k) → SpellsWord (123 ∷ (letters ++ 125 ∷ [])) k 1
-  repeated : (letters digits : List ℕ) {k : Key} {n : ℕ} → looked_up (map folded letters) ≡ Some (Repeated k) → IsRepeat digits n → SpellsWord (123 ∷ (letters ++ 32 ∷ (digits ++ 125 ∷ []))) k n
-  alone : (letters : List ℕ) {k : Key} → looked_up (map folded letters) ≡ Some (Alone k) → SpellsWord (123 ∷ (letters ++ 125 ∷ [])) k 1
-  alt : (letters : List ℕ) (b : ℕ) → looked_up (map folded letters) ≡ Some Alt → is_letter b ≡ true → SpellsWord (123 ∷ (letters ++ 32 ∷ b ∷ 125 ∷ [])) (key.Alt (folded b)) 1
+  named : (letters : List ℕ) {k : Key} → looked_up (map to_ascii_uppercase letters) ≡ Some (Repeated k) → SpellsWord (123 ∷ (letters ++ 125 ∷ [])) k 1
+  repeated : (letters digits : List ℕ) {k : Key} {n : ℕ} → looked_up (map to_ascii_uppercase letters) ≡ Some (Repeated k) → IsRepeat digits n → SpellsWord (123 ∷ (letters ++ 32 ∷ (digits ++ 125 ∷ []))) k n
+  alone : (letters : List ℕ) {k : Key} → looked_up (map to_ascii_uppercase letters) ≡ Some (Alone k) → SpellsWord (123 ∷ (letters ++ 125 ∷ [])) k 1
+  alt : (letters : List ℕ) (b : ℕ) → looked_up (map to_ascii_uppercase letters) ≡ Some Alt → is_ascii_alphabetic b ≡ true → SpellsWord (123 ∷ (letters ++ 32 ∷ b ∷ 125 ∷ [])) (key.Alt (to_ascii_uppercase b)) 1
 
 -- The bytes are words one after another. A carriage return or a line feed between words is passed over.
 pub data Spells : List ℕ → List (Key × ℕ) → Type 0 where

@@ -1,15 +1,15 @@
 // A word of key notation that is begun.
+ghost use Rattle.std.specs.Char.{to_ascii_uppercase};
 ghost use Rattle.std.specs.Prelude.{◌≡◌, ◌==◌, if◌then◌else◌};
 ghost use Rattle.key_words.specs.Begun as spec;
 ghost use Rattle.key_words.specs.Names.{longer};
 ghost use Rattle.key_words.specs.Notation as notation;
 ghost use Rattle.key_words.specs.declared.begun.Begun.TheVariants as Begun;
 ghost use Rattle.key_words.specs.declared.begun.Next.TheVariants as Next;
-ghost use Rattle.lics_text.specs.Bytes.{folded};
 
 use crate::name::{Letters, Named, longer, look_up};
 use crate::{Key, Letter};
-use lics_text::{TextByte, fold};
+use lics_text::TextByte;
 
 /// How far a word was read.
 #[derive(Drop)]
@@ -70,9 +70,9 @@ fn between_words(byte: u8) -> Next
 }
 
 fn lettered(letters: &[u8], byte: u8) -> Next
-    ensures { result ≡ spec.lettered (longer letters.now (folded byte)) }
+    ensures { result ≡ spec.lettered (longer letters.now (to_ascii_uppercase byte)) }
 {
-    match longer(letters, fold(byte)) {
+    match longer(letters, byte.to_ascii_uppercase()) {
         Some(letters) => Next::Going(Begun::Letters(letters)),
         None => Next::Refused,
     }

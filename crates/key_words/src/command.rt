@@ -1,10 +1,9 @@
 // The commands of macros.
+ghost use Rattle.std.specs.Char.{to_ascii_uppercase};
 ghost use Rattle.std.specs.Prelude.{◌≡◌, map};
-ghost use Rattle.lics_text.specs.Bytes.{folded};
 ghost use Rattle.key_words.specs.Commands as spec;
 
 use crate::name::name_in;
-use lics_text::fold;
 
 /// A command of macros, by its name (Release 2 manual), in the manual's order with the words for text files last.
 #[derive(Clone, Copy, Debug, PartialEq, Eq)]
@@ -99,7 +98,7 @@ const COMMANDS: [(&[u8], Command); 41] = [
 
 /// The command of a name, in letters of either case.
 pub fn command_named(name: &[u8]) -> Option<Command>
-    ensures { result ≡ spec.command_named (map folded name.now) }
+    ensures { result ≡ spec.command_named (map to_ascii_uppercase name.now) }
 {
     name_in(&COMMANDS, name)
 }
@@ -119,9 +118,9 @@ pub enum SlashWord {
 
 /// The word of a letter, in either case.
 pub fn slash_word(letter: u8) -> Option<SlashWord>
-    ensures { result ≡ spec.slash_word (folded letter) }
+    ensures { result ≡ spec.slash_word (to_ascii_uppercase letter) }
 {
-    match fold(letter) {
+    match letter.to_ascii_uppercase() {
         b'I' => Some(SlashWord::WithOne(Command::If)),
         b'G' => Some(SlashWord::WithOne(Command::Branch)),
         b'C' => Some(SlashWord::Call),

@@ -1,8 +1,7 @@
 // A letter, in capitals.
+ghost use Rattle.std.specs.Char.{is_ascii_alphabetic, to_ascii_uppercase};
 ghost use Rattle.std.specs.Prelude.{◌≡◌, ◌≤◌, IfNone, IfSome, false, true};
-ghost use Rattle.lics_text.specs.Bytes.{folded, is_letter};
 
-use lics_text::{fold, is_letter};
 use std::marker::Model;
 
 /// A letter, A to Z.
@@ -26,11 +25,13 @@ impl Model for Letter {
 impl Letter {
     /// The letter in either case, and none for any other byte.
     pub fn of(byte: u8) -> Option<Letter>
-        ensures some { IfSome result (λ l. (is_letter byte ≡ true) × (l ≡ folded byte)) }
-        ensures none { IfNone result (is_letter byte ≡ false) }
+        ensures some { IfSome result (λ l. (is_ascii_alphabetic byte ≡ true) × (l ≡ to_ascii_uppercase byte)) }
+        ensures none { IfNone result (is_ascii_alphabetic byte ≡ false) }
     {
-        if is_letter(byte) {
-            Some(Letter { byte: fold(byte) })
+        if byte.is_ascii_alphabetic() {
+            Some(Letter {
+                byte: byte.to_ascii_uppercase(),
+            })
         } else {
             None
         }

@@ -8,7 +8,7 @@ use crate::Key;
 use crate::begun::is_mark;
 use crate::command::{Command, SlashWord, command_named, slash_word};
 use crate::name::{Named, look_up};
-use lics_text::{TextByte, fold};
+use lics_text::TextByte;
 
 /// A part of a text: the bytes from one offset on up to another.
 #[derive(Clone, Copy, Debug, PartialEq, Eq)]
@@ -256,7 +256,7 @@ fn begun_slash(text: &[u8], offset: usize) -> Option<SlashWord>
     if text.len() - offset < 3 {
         return None;
     }
-    if fold(text[offset + 1]) == b'X' {
+    if text[offset + 1].to_ascii_uppercase() == b'X' {
         slash_word(text[offset + 2])
     } else {
         None

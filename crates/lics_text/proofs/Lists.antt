@@ -1,11 +1,11 @@
 -- Lists that a call looks through.
+use Rattle.std.specs.Char.{to_ascii_uppercase}
 use Rattle.std.proofs.Common.{◌≡◌, ℕ, ◌-◌, ◌≤◌, ◌<◌, false, List, [], ◌∷◌, length, get_or, drop, map, None, refl, ap, ◌∙◌, arith, ◌⊎◌, ⊎_elim, length-drop}
 use Rattle.std.specs.Prelude.{position, nat_lt}
 use Rattle.std.specs.List.{position_or_len}
 use Rattle.std.specs.Ordering.{nat_cmp}
 use Rattle.std.specs.Cmp.Lexicographic.{slice_cmp}
 use Rattle.std.proofs.lemmas.List.Sums.{fails_before_first}
-use Rattle.lics_text.specs.Bytes.{folded}
 use Rattle.std.proofs.lemmas.List.{length-map}
 use Rattle.std.proofs.lemmas.Bool.Decides.{nat_tests}
 
@@ -29,13 +29,13 @@ right_ends xs (y ∷ ys) h = absurd (omega (arith, h))
 same_lengths : (m n i : ℕ) → i ≤ m → i ≤ n → nat_cmp (m - i) (n - i) ≡ nat_cmp m n
 same_lengths m n i p q = grind (arith, nat_tests)
 
-pub at_an_end : (a b : List ℕ) (i : ℕ) → i ≤ length a → i ≤ length b → (length a ≤ i) ⊎ (length b ≤ i) → slice_cmp nat_cmp (map folded (drop i a)) (map folded (drop i b)) ≡ nat_cmp (length a) (length b)
+pub at_an_end : (a b : List ℕ) (i : ℕ) → i ≤ length a → i ≤ length b → (length a ≤ i) ⊎ (length b ≤ i) → slice_cmp nat_cmp (map to_ascii_uppercase (drop i a)) (map to_ascii_uppercase (drop i b)) ≡ nat_cmp (length a) (length b)
 at_an_end a b i p q h =
-    let u : length (map folded (drop i a)) ≡ length a - i = omega (arith, length-map (drop i a) folded, length-drop i a) in
-    let v : length (map folded (drop i b)) ≡ length b - i = omega (arith, length-map (drop i b) folded, length-drop i b) in
-    let e : slice_cmp nat_cmp (map folded (drop i a)) (map folded (drop i b)) ≡ nat_cmp (length (map folded (drop i a))) (length (map folded (drop i b))) =
+    let u : length (map to_ascii_uppercase (drop i a)) ≡ length a - i = omega (arith, length-map (drop i a) to_ascii_uppercase, length-drop i a) in
+    let v : length (map to_ascii_uppercase (drop i b)) ≡ length b - i = omega (arith, length-map (drop i b) to_ascii_uppercase, length-drop i b) in
+    let e : slice_cmp nat_cmp (map to_ascii_uppercase (drop i a)) (map to_ascii_uppercase (drop i b)) ≡ nat_cmp (length (map to_ascii_uppercase (drop i a))) (length (map to_ascii_uppercase (drop i b))) =
     ⊎_elim
-    (λ (k : length a ≤ i). left_ends (map folded (drop i a)) (map folded (drop i b)) (omega arith))
-    (λ (k : length b ≤ i). right_ends (map folded (drop i a)) (map folded (drop i b)) (omega arith))
+    (λ (k : length a ≤ i). left_ends (map to_ascii_uppercase (drop i a)) (map to_ascii_uppercase (drop i b)) (omega arith))
+    (λ (k : length b ≤ i). right_ends (map to_ascii_uppercase (drop i a)) (map to_ascii_uppercase (drop i b)) (omega arith))
     h in
-    e ∙ ap (λ k. nat_cmp k (length (map folded (drop i b)))) u ∙ ap (nat_cmp (length a - i)) v ∙ same_lengths _ _ _ p q
+    e ∙ ap (λ k. nat_cmp k (length (map to_ascii_uppercase (drop i b)))) u ∙ ap (nat_cmp (length a - i)) v ∙ same_lengths _ _ _ p q

@@ -1,6 +1,6 @@
 -- What the calls of a text answer.
+use Rattle.std.specs.Char.{is_ascii_alphabetic, to_ascii_lowercase, to_ascii_uppercase}
 use Rattle.std.specs.Prelude.{ℕ, ◌≡◌, ◌≤◌, ◌<◌, ◌+◌, List, [], ◌∷◌, ◌++◌, length, take, drop, Option, Some, None, Result, Ok, Err, Bool, true, false, nat_lt, nat_le, ◌==◌, ◌&&◌, position, if◌then◌else◌}
-use Rattle.lics_text.specs.Bytes.{folded, lowered, is_letter}
 use Rattle.lics_text.specs.declared.faults.TextFault.{TextFault}
 use Rattle.lics_text.specs.declared.faults.TextFault.TheVariants.{TooLong, BadByte}
 
@@ -24,7 +24,7 @@ line_with line byte = if nat_lt (length line) 240 then line ++ byte ∷ [] else 
 -- Each letter that follows no letter is raised, and the others are lowered; the flag says whether a letter stands before.
 abbrev pub proper_after : Bool → List ℕ → List ℕ
 proper_after before [] = []
-proper_after before (b ∷ bs) = (if before then lowered b else folded b) ∷ proper_after (is_letter b) bs
+proper_after before (b ∷ bs) = (if before then to_ascii_lowercase b else to_ascii_uppercase b) ∷ proper_after (is_ascii_alphabetic b) bs
 
 abbrev pub proper_of : List ℕ → List ℕ
 proper_of bytes = proper_after false bytes

@@ -1,6 +1,5 @@
-// Single bytes: which a text may hold, and what folding and the case functions make of one.
+// Single bytes that a text may hold.
 ghost use Rattle.std.specs.Prelude.{◌≡◌, ◌≤◌, ◌↔◌, IsTrue, IsSome, IfSome};
-ghost use Rattle.lics_text.specs.Bytes.{folded, lowered, is_letter};
 
 use std::marker::Model;
 
@@ -42,34 +41,4 @@ impl TextByte {
     {
         self.byte
     }
-}
-
-/// The capital of a small letter, and any other byte itself.
-pub fn fold(byte: u8) -> u8
-    ensures { result ≡ folded byte }
-{
-    if byte >= b'a' && byte <= b'z' {
-        byte - 32
-    } else {
-        byte
-    }
-}
-
-/// The small letter of a capital, and any other byte itself.
-pub(crate) fn lower(byte: u8) -> u8
-    ensures { result ≡ lowered byte }
-{
-    if byte >= b'A' && byte <= b'Z' {
-        byte + 32
-    } else {
-        byte
-    }
-}
-
-/// Whether a byte is a letter, A to Z in either case.
-pub fn is_letter(byte: u8) -> bool
-    ensures { result ≡ is_letter byte }
-{
-    let capital = fold(byte);
-    capital >= b'A' && capital <= b'Z'
 }

@@ -1,24 +1,18 @@
 // Letters raised and lowered in place.
+ghost use Rattle.std.specs.Char.{to_ascii_lowercase, to_ascii_uppercase};
 ghost use Rattle.std.specs.Prelude.{◌≡◌, map};
-ghost use Rattle.lics_text.specs.Bytes.{folded, lowered};
 ghost use Rattle.lics_text.specs.Texts.{proper_of};
 
-use crate::bytes::{fold, is_letter, lower};
-
 pub fn raise_all(bytes: &mut Vec<u8>)
-    ensures { bytes.new.items ≡ map folded bytes.old.items }
+    ensures { bytes.new.items ≡ map to_ascii_uppercase bytes.old.items }
 {
-    for at in 0..bytes.len() {
-        bytes[at] = fold(bytes[at]);
-    }
+    bytes.as_mut_slice().make_ascii_uppercase();
 }
 
 pub fn lower_all(bytes: &mut Vec<u8>)
-    ensures { bytes.new.items ≡ map lowered bytes.old.items }
+    ensures { bytes.new.items ≡ map to_ascii_lowercase bytes.old.items }
 {
-    for at in 0..bytes.len() {
-        bytes[at] = lower(bytes[at]);
-    }
+    bytes.as_mut_slice().make_ascii_lowercase();
 }
 
 /// Raises each letter that follows no letter, and lowers the others.
@@ -28,7 +22,11 @@ pub fn make_proper(bytes: &mut Vec<u8>)
     let mut inside = false;
     for at in 0..bytes.len() {
         let byte = bytes[at];
-        bytes[at] = if inside { lower(byte) } else { fold(byte) };
-        inside = is_letter(byte);
+        bytes[at] = if inside {
+            byte.to_ascii_lowercase()
+        } else {
+            byte.to_ascii_uppercase()
+        };
+        inside = byte.is_ascii_alphabetic();
     }
 }

@@ -1,3 +1,6 @@
+// Want of memory, and why bytes are no text.
+use std::alloc::{AllocError, AllocFailed};
+
 /// Want of memory.
 #[derive(Clone, Copy, Debug, PartialEq, Eq)]
 pub struct Memory;
@@ -10,4 +13,16 @@ pub enum TextFault {
     /// The byte at this place, counted from 0, is below 32; it is the first one.
     BadByte(usize),
     Memory,
+}
+
+impl From<AllocError> for Memory {
+    fn from(_fault: AllocError) -> Memory {
+        Memory
+    }
+}
+
+impl<T: Drop> From<AllocFailed<T>> for Memory {
+    fn from(_fault: AllocFailed<T>) -> Memory {
+        Memory
+    }
 }

@@ -13,7 +13,7 @@ mod text;
 mod text_line;
 mod trim;
 
-pub use bytes::{TextByte, fold, is_letter};
+pub use bytes::TextByte;
 pub use faults::{Memory, TextFault};
 pub use line::Line;
 pub use text::Text;

@@ -1,11 +1,10 @@
+ghost use Rattle.std.specs.Char.{to_ascii_lowercase, to_ascii_uppercase};
 ghost use Rattle.std.specs.Prelude.{◌≡◌, ◌≤◌, ◌<◌, map, IfOk, OnErr, IfSome, IfNone, position, nat_lt};
 ghost use Rattle.std.specs.Ordering.{nat_cmp};
 ghost use Rattle.std.specs.Cmp.Lexicographic.{slice_cmp};
 ghost use Rattle.lics_text.specs.Answer.{Gives};
-ghost use Rattle.lics_text.specs.Bytes.{folded, lowered};
 ghost use Rattle.lics_text.specs.Texts.{text_of, pushed_text, proper_of, trimmed, IsFirstPlace, IsNoPlace};
 
-use crate::bytes::fold;
 use crate::cases::{lower_all, make_proper, raise_all};
 use crate::places::first_place;
 use crate::trim::{single_spaced, without_front};
@@ -56,10 +55,8 @@ impl Text {
         requires { IsText bytes.now }
         ensures { IfOk result (λ t. t ≡ bytes.now) }
     {
-        match Vec::from_slice(alloc, bytes) {
-            Ok(bytes) => Ok(Text { bytes }),
-            Err(_) => Err(Memory),
-        }
+        let bytes = Vec::from_slice(alloc, bytes)?;
+        Ok(Text { bytes })
     }
 
     /// Another text, of bytes that are a text's, in the memory that this one is in.
@@ -67,15 +64,10 @@ impl Text {
         requires { IsText bytes.now }
         ensures { IfOk result (λ t. t ≡ bytes.now) }
     {
-        let mut items = match self.bytes.clone() {
-            Ok(items) => items,
-            Err(_) => return Err(Memory),
-        };
+        let mut items = self.bytes.clone()?;
         items.clear();
-        match items.extend_from_slice(bytes) {
-            Ok(()) => Ok(Text { bytes: items }),
-            Err(_) => Err(Memory),
-        }
+        items.extend_from_slice(bytes)?;
+        Ok(Text { bytes: items })
     }
 
     // The text of a line.
@@ -115,22 +107,20 @@ impl Text {
     pub fn copy(&self) -> Result<Text, Memory>
         ensures { IfOk result (λ t. t ≡ self.now) }
     {
-        match self.bytes.clone() {
-            Ok(bytes) => Ok(Text { bytes }),
-            Err(_) => Err(Memory),
-        }
+        let bytes = self.bytes.clone()?;
+        Ok(Text { bytes })
     }
 
     /// The order of two texts by their bytes, letters folded onto capitals.
     pub fn fold_cmp(&self, other: &Text) -> Ordering
-        ensures { result ≡ slice_cmp nat_cmp (map folded self.now) (map folded other.now) }
+        ensures { result ≡ slice_cmp nat_cmp (map to_ascii_uppercase self.now) (map to_ascii_uppercase other.now) }
     {
         fold_cmp(self.bytes.as_slice(), other.bytes.as_slice())
     }
 
     /// The text with its small letters raised.
     pub fn upper(&self) -> Result<Text, Memory>
-        ensures { IfOk result (λ t. t ≡ map folded self.now) }
+        ensures { IfOk result (λ t. t ≡ map to_ascii_uppercase self.now) }
     {
         let mut text = self.copy()?;
         raise_all(&mut text.bytes);
@@ -139,7 +129,7 @@ impl Text {
 
     /// The text with its capitals lowered.
     pub fn lower(&self) -> Result<Text, Memory>
-        ensures { IfOk result (λ t. t ≡ map lowered self.now) }
+        ensures { IfOk result (λ t. t ≡ map to_ascii_lowercase self.now) }
     {
         let mut text = self.copy()?;
         lower_all(&mut text.bytes);
@@ -183,11 +173,11 @@ impl Text {
 }
 
 fn fold_cmp(a: &[u8], b: &[u8]) -> Ordering
-    ensures { result ≡ slice_cmp nat_cmp (map folded a.now) (map folded b.now) }
+    ensures { result ≡ slice_cmp nat_cmp (map to_ascii_uppercase a.now) (map to_ascii_uppercase b.now) }
 {
     let mut at = 0;
     while at < a.len() && at < b.len() {
-        let order = fold(a[at]).cmp(&fold(b[at]));
+        let order = a[at].to_ascii_uppercase().cmp(&b[at].to_ascii_uppercase());
         if order != Ordering::Equal {
             return order;
         }

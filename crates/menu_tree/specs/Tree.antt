@@ -1,6 +1,6 @@
 -- The menus, their items and what these ask for.
+use Rattle.std.specs.Char.{eq_ignore_ascii_case}
 use Rattle.std.specs.Prelude.{ℕ, Bool, false, ◌==◌, List, [], ◌∷◌, if◌then◌else◌, Option, Some, None, codes}
-use Rattle.lics_text.specs.Bytes.{folded}
 use Rattle.menu_tree.specs.declared.menu.Menu.{Menu}
 use Rattle.menu_tree.specs.declared.menu.Menu.TheVariants as menu
 use Rattle.menu_tree.specs.declared.menu.Action.{Action}
@@ -330,7 +330,7 @@ prompts (action.Data a) = data_asks a
 -- a name begins with a letter in either case
 abbrev pub begins : List ℕ → ℕ → Bool
 begins [] b = false
-begins (a ∷ rest) b = folded a == folded b
+begins (a ∷ rest) b = eq_ignore_ascii_case a b
 
 -- the first item whose name begins with the letter
 abbrev pub chosen : List Item → ℕ → Option Item

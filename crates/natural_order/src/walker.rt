@@ -45,19 +45,15 @@ fn insert(set: &mut IndexSet<Cell>, cell: Cell) -> Result<(), Memory>
     ensures keys { OnOk result (set.new.keys ≡ insert_key same_place set.old.keys cell) }
     ensures unique { IsUnique same_place set.new }
 {
-    match set.insert(cell) {
-        Ok(_) => Ok(()),
-        Err(_) => Err(Memory),
-    }
+    set.insert(cell)?;
+    Ok(())
 }
 
 fn push(stack: &mut Vec<Frame>, frame: Frame) -> Result<(), Memory>
     ensures { OnOk result (stack.new.items ≡ stack.old.items ++ frame ∷ []) }
 {
-    match stack.push(frame) {
-        Ok(()) => Ok(()),
-        Err(_) => Err(Memory),
-    }
+    stack.push(frame)?;
+    Ok(())
 }
 
 impl Walker {

@@ -5,7 +5,6 @@ ghost use Rattle.grid_address.specs.Place.{same_place, InSheet, Place};
 ghost use Rattle.natural_order.specs.Walk.{has};
 ghost use Rattle.natural_recalc.specs.Reading.{by_columns};
 
-use crate::reads::push;
 use grid_address::Cell;
 use lics_text::Memory;
 use std::alloc::Global;
@@ -25,7 +24,7 @@ fn add_column(list: &mut Vec<Cell>, cells: &[Cell], col: u16) -> Result<(), Memo
 {
     for cell in cells {
         if u16::from(cell.col) == col {
-            push(list, *cell)?;
+            list.push(*cell)?;
         }
     }
     Ok(())

@@ -16,22 +16,13 @@ use natural_order::Precedents;
 use sheet_store::Store;
 use std::alloc::Global;
 
-pub fn push(list: &mut Vec<Cell>, cell: Cell) -> Result<(), Memory>
-    ensures { OnOk result (list.new.items ≡ list.old.items ++ cell ∷ []) }
-{
-    match list.push(cell) {
-        Ok(()) => Ok(()),
-        Err(_) => Err(Memory),
-    }
-}
-
 // Adds those of the cells that are in the set.
 pub fn add_kept(list: &mut Vec<Cell>, set: &IndexSet<Cell>, cells: &[Cell]) -> Result<(), Memory>
     ensures { OnOk result (list.new.items ≡ list.old.items ++ filter (has same_place set.now.keys) cells.now) }
 {
     for cell in cells {
         if set.contains(cell) {
-            push(list, *cell)?;
+            list.push(*cell)?;
         }
     }
     Ok(())

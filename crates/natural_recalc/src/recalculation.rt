@@ -42,10 +42,8 @@ fn kept(alloc: Global, set: &IndexSet<Cell>, cells: &[Cell]) -> Result<Vec<Cell>
 fn copied(alloc: Global, cells: &[Cell]) -> Result<Vec<Cell>, Memory>
     ensures { IfOk result (λ list. list.items ≡ cells.now) }
 {
-    match cells.to_vec(alloc) {
-        Ok(list) => Ok(list),
-        Err(_) => Err(Memory),
-    }
+    let list = cells.to_vec(alloc)?;
+    Ok(list)
 }
 
 // The cells of a set, in row order.

@@ -46,15 +46,6 @@ fn width_of(settings: &Settings) -> u8
     settings.width
 }
 
-fn push(list: &mut CellList, cell: Cell) -> Result<(), Memory>
-    ensures { OnOk result (list.new ≡ list.old ++ cell ∷ []) }
-{
-    match list.push(cell) {
-        Ok(()) => Ok(()),
-        Err(_) => Err(Memory),
-    }
-}
-
 // Those of the cells that aren't blank.
 fn filled_among(store: &Store, missing: &Missing, cells: &[Cell]) -> Result<CellList, Memory>
     ensures { IfOk result (λ l. l ≡ filter (λ (c : Place). is_filled (value_at store.now c)) cells.now) }
@@ -62,7 +53,7 @@ fn filled_among(store: &Store, missing: &Missing, cells: &[Cell]) -> Result<Cell
     let mut list = CellList::new(store.alloc());
     for cell in cells {
         if is_filled(value_in(store, missing, *cell)) {
-            push(&mut list, *cell)?;
+            list.push(*cell)?;
         }
     }
     Ok(list)

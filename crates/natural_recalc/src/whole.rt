@@ -15,20 +15,11 @@ use indexmap::IndexSet;
 use lics_text::Memory;
 use sheet_store::Store;
 
-fn insert(set: &mut IndexSet<Cell>, cell: Cell) -> Result<(), Memory>
-    ensures { OnOk result (set.new.keys ≡ insert_key same_place set.old.keys cell) }
-{
-    match set.insert(cell) {
-        Ok(_) => Ok(()),
-        Err(_) => Err(Memory),
-    }
-}
-
 fn insert_all(set: &mut IndexSet<Cell>, cells: &[Cell]) -> Result<(), Memory>
     ensures { OnOk result ((c : Place) → has same_place set.new.keys c ≡ (has same_place set.old.keys c || has same_place cells.now c)) }
 {
     for cell in cells {
-        insert(set, *cell)?;
+        set.insert(*cell)?;
     }
     Ok(())
 }

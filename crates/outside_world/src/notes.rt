@@ -40,9 +40,7 @@ impl ListNotes {
         ensures fresh { IfOk result (λ n. notes_written n ≡ []) }
         ensures faults { IfOk result (λ n. notes_faults n ≡ 0) }
     {
-        let Ok(bytes) = Vec::with_capacity(alloc, room) else {
-            return Err(Memory);
-        };
+        let bytes = Vec::with_capacity(alloc, room)?;
         Ok(ListNotes {
             bytes,
             room,

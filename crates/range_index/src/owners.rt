@@ -23,10 +23,8 @@ pub fn put(
         Some(spans) => push(spans, span),
         None => {
             let spans = one_span(alloc, span)?;
-            match owners.insert(owner, spans) {
-                Ok(_) => Ok(()),
-                Err(_) => Err(Memory),
-            }
+            owners.insert(owner, spans)?;
+            Ok(())
         }
     }
 }
@@ -35,10 +33,8 @@ fn push(spans: &mut SpanList, span: Span) -> Result<(), Memory>
     ensures ok { OnOk result (spans.new ≡ spans.old ++ span ∷ []) }
     ensures err { OnErr result (spans.new ≡ spans.old) }
 {
-    match spans.push(span) {
-        Ok(()) => Ok(()),
-        Err(_) => Err(Memory),
-    }
+    spans.push(span)?;
+    Ok(())
 }
 
 fn one_span(alloc: Global, span: Span) -> Result<SpanList, Memory>

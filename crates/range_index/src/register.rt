@@ -39,14 +39,9 @@ pub fn enter(
 {
     owner.is_on_sheet();
     let size = size_of(span);
-    match sizes.insert(size) {
-        Ok(_) => {}
-        Err(_) => return Err(Memory),
-    }
-    match registrations.insert(place_of(owner, span)) {
-        Ok(_) => Ok(()),
-        Err(_) => Err(Memory),
-    }
+    sizes.insert(size)?;
+    registrations.insert(place_of(owner, span))?;
+    Ok(())
 }
 
 /// Takes an owner's registrations away.

@@ -18,10 +18,8 @@ fn add(found: &mut BTreeSet<Cell>, owner: Cell) -> Result<(), Memory>
     ensures has { OnOk result (has_place found.new.keys owner ≡ true) }
     ensures only { OnOk result ((q : Place) → has_place found.new.keys q ≡ true → (has_place found.old.keys q ≡ true) ⊎ (q ≡ owner)) }
 {
-    match found.insert(owner) {
-        Ok(_) => Ok(()),
-        Err(_) => Err(Memory),
-    }
+    found.insert(owner)?;
+    Ok(())
 }
 
 fn first_in(block: &Block) -> Registration
@@ -95,10 +93,7 @@ fn listed(alloc: Global, found: &BTreeSet<Cell>) -> Result<CellList, Memory>
 {
     let mut list = CellList::new(alloc);
     for cell in found.iter() {
-        match list.push(*cell) {
-            Ok(()) => {}
-            Err(_) => return Err(Memory),
-        }
+        list.push(*cell)?;
     }
     Ok(list)
 }

@@ -1,4 +1,5 @@
 -- The key of a name is known by the name, and a name that is written for a span is the span's.
+use Rattle.std.specs.Char.{to_ascii_uppercase}
 use Rattle.std.proofs.Common.{◌≡◌, ◌≤◌, ◌+◌, ◌-◌, ℕ, zero, suc, Bool, true, false, cond, ◌&&◌, Option, Some, None, List, [], ◌∷◌, ◌++◌, length, map, refl, sym, ap, ◌∙◌, subst, arith, inl, inr}
 use Rattle.std.specs.Prelude.{◌==◌, nat_lt, not, get_or, position, replicate, T}
 use Rattle.std.specs.List.{prefix_len}
@@ -12,7 +13,6 @@ use Rattle.std.specs.Cmp.Lexicographic.{nat_list_cmp_total}
 use Rattle.std.proofs.lemmas.Bool.{cases_Bool}
 use Rattle.std.proofs.lemmas.Bool.Decides.{nat_tests}
 use Rattle.std.proofs.lemmas.List.{length-map}
-use Rattle.lics_text.specs.Bytes.{folded}
 use Rattle.grid_address.specs.Place.{Extent}
 use Rattle.range_names.specs.declared.fault.NameFault.TheVariants.{Empty, TooLong}
 use Rattle.range_names.proofs.NameMaps.{names_exact, some_is_none}
@@ -28,10 +28,10 @@ right a b p = grind arith
 abbrev Filled : List ℕ → Type 0
 Filled name = position (λ b. nat_lt b 32) name ≡ None
 
-no_zero : (b : ℕ) → nat_lt b 32 ≡ false → (folded b == 0) ≡ false
+no_zero : (b : ℕ) → nat_lt b 32 ≡ false → (to_ascii_uppercase b == 0) ≡ false
 no_zero b h = grind (arith, nat_tests)
 
-folded_twice : (b : ℕ) → folded (folded b) ≡ folded b
+folded_twice : (b : ℕ) → to_ascii_uppercase (to_ascii_uppercase b) ≡ to_ascii_uppercase b
 folded_twice b = grind (arith, nat_tests)
 
 not_some : {X : Type 0} (c : Bool) (x : X) → cond c (Some x) None ≡ None → c ≡ false
@@ -57,13 +57,13 @@ zeros_end : (n : ℕ) → name_in (replicate n 0) ≡ []
 zeros_end zero = refl
 zeros_end (suc n) = refl
 
-name_back : (name : List ℕ) (n : ℕ) → Filled name → name_in (map folded name ++ replicate n 0) ≡ map folded name
+name_back : (name : List ℕ) (n : ℕ) → Filled name → name_in (map to_ascii_uppercase name ++ replicate n 0) ≡ map to_ascii_uppercase name
 name_back [] n h = zeros_end n
 name_back (b ∷ bs) n h =
     let f = first_filled b bs h in
-    rw (no_zero b f.0) (ap (λ (l : List ℕ). folded b ∷ l) (name_back bs n f.1))
+    rw (no_zero b f.0) (ap (λ (l : List ℕ). to_ascii_uppercase b ∷ l) (name_back bs n f.1))
 
-all_twice : (name : List ℕ) → map folded (map folded name) ≡ map folded name
+all_twice : (name : List ℕ) → map to_ascii_uppercase (map to_ascii_uppercase name) ≡ map to_ascii_uppercase name
 all_twice [] = refl
 all_twice (b ∷ bs) = λ i. folded_twice b i ∷ all_twice bs i
 
@@ -81,10 +81,10 @@ pub is_key : (name : List ℕ) → fault_of name ≡ None → IsKey (key_of name
 is_key name h =
     let good = no_fault (length name == 0) (nat_lt 15 (length name)) (bad_place name) h in
     let short : length name ≤ 15 = (let past = good.0 in grind (arith, nat_tests, past)) in
-    let back : name_in (key_of name) ≡ map folded name = name_back name (15 - length name) (no_space (get_or name 0 0 == 32) (position (λ c. nat_lt c 32) name) good.1) in
-    let long : length (map folded name) ≡ length name = length-map name folded in (
+    let back : name_in (key_of name) ≡ map to_ascii_uppercase name = name_back name (15 - length name) (no_space (get_or name 0 0 == 32) (position (λ c. nat_lt c 32) name) good.1) in
+    let long : length (map to_ascii_uppercase name) ≡ length name = length-map name to_ascii_uppercase in (
       omega (arith, ap length back, long, short),
-      ap key_of back ∙ ap (λ k. map folded (map folded name) ++ replicate (15 - k) 0) long ∙ ap (λ (l : List ℕ). l ++ replicate (15 - length name) 0) (all_twice name),
+      ap key_of back ∙ ap (λ k. map to_ascii_uppercase (map to_ascii_uppercase name) ++ replicate (15 - k) 0) long ∙ ap (λ (l : List ℕ). l ++ replicate (15 - length name) 0) (all_twice name),
     )
 
 less_apart : (o : Ordering) (b : Bool) → T (is_lt o && b) → (is_eq o ≡ false) × T b

@@ -1,4 +1,5 @@
 -- Names are a finite map from folded texts of 1 to 15 bytes to spans.
+use Rattle.std.specs.Char.{is_ascii_alphabetic, is_ascii_digit, to_ascii_uppercase}
 use Rattle.std.specs.Prelude.{◌≡◌, ◌≤◌, ℕ, ◌-◌, ◌==◌, ◌&&◌, ◌||◌, not, nat_lt, Bool, false, Option, Some, None, List, [], ◌∷◌, ◌++◌, length, map, replicate, position, is_some, get_or, take, if◌then◌else◌}
 use Rattle.std.specs.List.{list_all}
 use Rattle.std.specs.Ordering.{nat_cmp, is_gt}
@@ -6,9 +7,8 @@ use Rattle.std.specs.declared.cmp.Ordering.{Ordering}
 use Rattle.std.specs.Cmp.Lexicographic.{slice_cmp}
 use Rattle.std.specs.Coded.{Coded, coded_list, coded_ℕ}
 use Rattle.std.specs.FinMap.{FinMap, code, entries, get}
-use Rattle.lics_text.specs.Bytes.{folded, is_letter}
 use Rattle.grid_address.specs.Place.{same_place, coded_extent, Extent}
-use Rattle.grid_address.specs.Progress.{address_in, is_digit}
+use Rattle.grid_address.specs.Progress.{address_in}
 use Rattle.range_names.specs.declared.fault.NameFault.{NameFault}
 use Rattle.range_names.specs.declared.fault.NameFault.TheVariants.{Empty, TooLong, BadByte}
 
@@ -24,7 +24,7 @@ abbrev pub coded_names : Coded NameMap
 coded_names = code (coded_list coded_ℕ) coded_extent
 
 abbrev pub key_of : List ℕ → List ℕ
-key_of name = map folded name ++ replicate (15 - length name) 0
+key_of name = map to_ascii_uppercase name ++ replicate (15 - length name) 0
 
 -- the bytes before the zeros
 abbrev pub name_in : List ℕ → List ℕ
@@ -55,12 +55,12 @@ fault_of name =
     else bad_byte (bad_place name)
 
 abbrev pub is_word_byte : ℕ → Bool
-is_word_byte c = is_letter c || (is_digit c || (c == 95))
+is_word_byte c = is_ascii_alphabetic c || (is_ascii_digit c || (c == 95))
 
 -- a letter, and then letters, digits and _ alone
 abbrev pub is_word : List ℕ → Bool
 is_word [] = false
-is_word (b ∷ bs) = is_letter b && list_all is_word_byte bs
+is_word (b ∷ bs) = is_ascii_alphabetic b && list_all is_word_byte bs
 
 -- a name that can be written for its span: a word that is no address
 abbrev pub is_plain : List ℕ → Bool

@@ -3,7 +3,6 @@ ghost use Rattle.std.specs.Prelude.{◌≡◌, ◌≤◌, ◌<◌, ◌==◌, get
 ghost use Rattle.range_names.specs.Names.{bad_place, fault_of, key_of, name_in};
 
 use crate::NameFault;
-use lics_text::fold;
 
 // The key of at most 15 bytes.
 pub fn key_of(name: &[u8]) -> [u8; 15]
@@ -12,7 +11,7 @@ pub fn key_of(name: &[u8]) -> [u8; 15]
 {
     let mut key = [0; 15];
     for at in 0..name.len() {
-        key[at] = fold(name[at]);
+        key[at] = name[at].to_ascii_uppercase();
     }
     key
 }

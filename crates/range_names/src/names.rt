@@ -121,10 +121,8 @@ impl Names {
     pub fn copy(&self) -> Result<Names, Memory>
         ensures { IfOk result (λ names. names ≡ self.now) }
     {
-        match self.map.clone() {
-            Ok(map) => Ok(Names { map }),
-            Err(_) => Err(Memory),
-        }
+        let map = self.map.clone()?;
+        Ok(Names { map })
     }
 }
 

@@ -4,12 +4,11 @@ ghost use Rattle.std.specs.List.{list_all};
 ghost use Rattle.range_names.specs.Names.{is_plain, is_word, is_word_byte};
 
 use grid_address::read_cell;
-use lics_text::is_letter;
 
 fn is_word_byte(byte: u8) -> bool
     ensures { result ≡ is_word_byte byte }
 {
-    is_letter(byte) || byte >= b'0' && byte <= b'9' || byte == b'_'
+    byte.is_ascii_alphabetic() || byte.is_ascii_digit() || byte == b'_'
 }
 
 fn are_word_bytes(bytes: &[u8]) -> bool
@@ -22,7 +21,7 @@ fn are_word_bytes(bytes: &[u8]) -> bool
 fn is_word(name: &[u8]) -> bool
     ensures { result ≡ is_word name.now }
 {
-    name.len() > 0 && is_letter(name[0]) && are_word_bytes(&name[1..])
+    name.len() > 0 && name[0].is_ascii_alphabetic() && are_word_bytes(&name[1..])
 }
 
 // A word that is no address.

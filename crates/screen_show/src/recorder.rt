@@ -36,9 +36,7 @@ impl Recorder {
         ensures kind { IfOk result (λ r. recorder_kind r ≡ kind) }
         ensures fresh { IfOk result (λ r. (recorded r).frames ≡ []) }
     {
-        let Ok(frames) = Vec::with_capacity(alloc, room) else {
-            return Err(Memory);
-        };
+        let frames = Vec::with_capacity(alloc, room)?;
         Ok(Recorder {
             kind,
             grid: Grid::empty(),

@@ -1,9 +1,6 @@
 -- Seconds of a day, and days in millionths.
-use Rattle.std.specs.Prelude.{ℕ, ◌+◌, ◌*◌, ◌/◌, ◌%◌, ℤ, pos, negsuc}
-
--- the whole number that is nearest to a fraction, halves up
-abbrev pub nearest : ℕ → ℕ → ℕ
-nearest n d = (2 * n + d) / (2 * d)
+use Rattle.std.specs.Prelude.{ℕ, ◌*◌, ◌/◌, ◌%◌, ℤ, pos, negsuc}
+use Rattle.fixed_value.specs.Numbers.{nearest}
 
 -- the nearest second of so many millionths of a day, on a clock of one day
 abbrev pub second_of_day : ℕ → ℕ

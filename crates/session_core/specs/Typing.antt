@@ -1,13 +1,13 @@
 -- Typing a line.
+use Rattle.std.specs.Char.{is_ascii_digit}
 use Rattle.std.specs.Prelude.{ℕ, Bool, ◌==◌, ◌||◌, if◌then◌else◌, []}
-use Rattle.fixed_value.specs.Decimals.{is_digit}
 use Rattle.lics_text.specs.Texts.{line_with}
 use Rattle.session_core.specs.declared.mode.Mode.{Mode}
 use Rattle.session_core.specs.declared.mode.Mode.TheVariants.{Ready, Label, Value}
 
 -- a digit, or one of + - . ( @ # $
 abbrev pub begins_value : ℕ → Bool
-begins_value b = is_digit b || (b == 43 || (b == 45 || (b == 46 || (b == 40 || (b == 64 || (b == 35 || b == 36))))))
+begins_value b = is_ascii_digit b || (b == 43 || (b == 45 || (b == 46 || (b == 40 || (b == 64 || (b == 35 || b == 36))))))
 
 -- a byte begins a value or a label; a slash, which begins a menu, is passed over
 abbrev pub begun : ℕ → Mode

@@ -42,10 +42,8 @@ impl Changes {
     pub fn set(&mut self, cell: Cell, state: CellState) -> Result<(), Memory>
         ensures { OnOk result (self.new ≡ map.insert self.old cell state) }
     {
-        match self.states.insert(cell, state) {
-            Ok(_) => Ok(()),
-            Err(_) => Err(Memory),
-        }
+        self.states.insert(cell, state)?;
+        Ok(())
     }
 
     /// The state of a cell; none where it has none.

@@ -9,7 +9,7 @@ ghost use Rattle.natural_recalc.specs.World.{formula_in};
 ghost use Rattle.sheet_store.specs.Grid.{is_formula, is_kept, put_state, IsSound};
 ghost use Rattle.sheet_edits.specs.Edits.{just, kept_at, settled, AreDirtied, WithReached};
 
-use crate::growth::{cut_back, insert, insert_all, push};
+use crate::growth::{cut_back, insert, insert_all};
 use depend_graph::{Graph, Node};
 use formula_tree::Content;
 use grid_address::{Cell, CellList};
@@ -22,7 +22,7 @@ fn one_cell(alloc: Global, cell: Cell) -> Result<CellList, Memory>
     ensures { IfOk result (λ l. l ≡ cell ∷ []) }
 {
     let mut cells = CellList::new(alloc);
-    push(&mut cells, cell)?;
+    cells.push(cell)?;
     Ok(cells)
 }
 

@@ -9,26 +9,13 @@ use grid_address::{Cell, CellList};
 use indexmap::IndexSet;
 use lics_text::Memory;
 
-// Adds a cell to a list.
-pub fn push(cells: &mut CellList, cell: Cell) -> Result<(), Memory>
-    ensures ok { OnOk result (cells.new ≡ cells.old ++ cell ∷ []) }
-    ensures err { OnErr result (cells.new ≡ cells.old) }
-{
-    match cells.push(cell) {
-        Ok(()) => Ok(()),
-        Err(_) => Err(Memory),
-    }
-}
-
 // Adds a cell behind the others, unless it is in the set.
 pub fn insert(set: &mut IndexSet<Cell>, cell: Cell) -> Result<(), Memory>
     ensures keys { OnOk result (set.new.keys ≡ insert_key same_place set.old.keys cell) }
     ensures extends { Extends set.old.keys set.new.keys }
 {
-    match set.insert(cell) {
-        Ok(_) => Ok(()),
-        Err(_) => Err(Memory),
-    }
+    set.insert(cell)?;
+    Ok(())
 }
 
 // Adds cells behind the others.

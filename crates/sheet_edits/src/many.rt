@@ -13,7 +13,7 @@ ghost use Rattle.sheet_edits.specs.Spans.{changed, gives_formula, node_given, pu
 
 use crate::changes::Changes;
 use crate::edit::{node_of, offer, settle};
-use crate::growth::{cut_back, insert, insert_all, push};
+use crate::growth::{cut_back, insert, insert_all};
 use depend_graph::Graph;
 use grid_address::{Cell, CellList, Format};
 use indexmap::IndexSet;
@@ -89,7 +89,7 @@ fn hold_place(store: &mut Store, grown: &mut CellList, cell: Cell) -> Result<(),
     ensures widths { store.new.widths ≡ store.old.widths }
     ensures hidden { store.new.hidden ≡ store.old.hidden }
 {
-    push(grown, cell)?;
+    grown.push(cell)?;
     store.put(cell, CellState::blank(Format(0)))?;
     Ok(())
 }

@@ -11,7 +11,6 @@ ghost use Rattle.sheet_edits.specs.Edits.{HasPrefix};
 ghost use Rattle.sheet_edits.specs.Spans.{blanked, block_at, copied_state, given_at, in_columns, in_rows, reformatted_state, repeated, rule_of, sooner, source_of, target_of, AreGiven, AreSound, HasCode, IsFirstMarked, IsFirstProtected, NoneMarked, NoneProtected};
 
 use crate::changes::Changes;
-use crate::growth::push;
 use crate::states::{first_value, format_of, is_marked};
 use grid_address::{Cell, CellList, Format, Span};
 use lics_text::Memory;
@@ -49,7 +48,7 @@ fn put_row(cells: &mut CellList, row: u16, first: u8, count: u16) -> Result<(), 
 {
     for place in 0..count {
         let col = (u16::from(first) + place) as u8;
-        push(cells, Cell { row, col })?;
+        cells.push(Cell { row, col })?;
     }
     Ok(())
 }

@@ -28,10 +28,7 @@ pub fn first_value(content: &Content) -> Result<Value, Memory>
     match content {
         Content::Blank => Ok(Value::Blank),
         Content::Number(number) => Ok(Value::Num(*number)),
-        Content::Label(_, text) => match text.copy() {
-            Ok(text) => Ok(Value::Str(text)),
-            Err(_) => Err(Memory),
-        },
+        Content::Label(_, text) => Ok(Value::Str(text.copy()?)),
         Content::Formula(_) => Ok(Value::Num(Fixed::ZERO)),
     }
 }

@@ -8,7 +8,6 @@ ghost use Rattle.sheet_edits.specs.Edits.{HasPrefix};
 ghost use Rattle.sheet_edits.specs.Spans.{changed, write_state, written_all, written_cells, AreGathered, HavePrefixes};
 
 use crate::changes::Changes;
-use crate::growth::push;
 use crate::states::{first_value, format_of};
 use grid_address::{Cell, CellList, Format};
 use lics_text::Memory;
@@ -53,7 +52,7 @@ fn gather(
 {
     let state = write_state(store, changes, write)?;
     changes.set(write.cell, state)?;
-    push(cells, write.cell)?;
+    cells.push(write.cell)?;
     Ok(())
 }
 

@@ -13,15 +13,6 @@ use lics_text::Memory;
 use std::alloc::Global;
 use std::collections::BTreeMap;
 
-fn push(list: &mut CellList, cell: Cell) -> Result<(), Memory>
-    ensures { OnOk result (list.new ≡ list.old ++ cell ∷ []) }
-{
-    match list.push(cell) {
-        Ok(()) => Ok(()),
-        Err(_) => Err(Memory),
-    }
-}
-
 fn is_wanted(state: &CellState, only_formulas: bool) -> bool
     ensures { result ≡ wanted only_formulas state.now }
 {
@@ -39,7 +30,7 @@ fn pick(
     ensures { OnOk result (list.new ≡ list.old ++ picked (wanted only_formulas) span ((cell, state.now) ∷ [])) }
 {
     if span.contains(cell) && is_wanted(state, only_formulas) {
-        push(list, cell)?;
+        list.push(cell)?;
     }
     Ok(())
 }
@@ -124,7 +115,7 @@ fn add_formula(list: &mut CellList, cell: Cell, state: &CellState) -> Result<(),
     ensures { OnOk result (list.new ≡ list.old ++ formulas_among ((cell, state.now) ∷ [])) }
 {
     if is_formula(&state.content) {
-        push(list, cell)?;
+        list.push(cell)?;
     }
     Ok(())
 }

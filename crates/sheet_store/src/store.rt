@@ -95,10 +95,8 @@ impl Store {
             let _ = self.cells.remove(&cell);
             return Ok(());
         }
-        match self.cells.insert(cell, state) {
-            Ok(_) => Ok(()),
-            Err(_) => Err(Memory),
-        }
+        self.cells.insert(cell, state)?;
+        Ok(())
     }
 
     /// The used cells of the span, in row order.
@@ -264,10 +262,8 @@ fn last_of(cells: &BTreeMap<Cell, CellState>) -> Option<Cell>
 fn insert(cells: &mut BTreeMap<Cell, CellState>, cell: Cell, state: CellState) -> Result<(), Memory>
     ensures { OnOk result (map.from_entries cells.new.entries ≡ map.insert {R = place_cmp} (map.from_entries cells.old.entries) cell state) }
 {
-    match cells.insert(cell, state) {
-        Ok(_) => Ok(()),
-        Err(_) => Err(Memory),
-    }
+    cells.insert(cell, state)?;
+    Ok(())
 }
 
 // Equal entries.

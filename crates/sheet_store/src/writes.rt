@@ -37,10 +37,8 @@ impl Writes {
         ensures ok { OnOk result (self.new.items.items ≡ self.old.items.items ++ write ∷ []) }
         ensures err { OnErr result (self.new.items.items ≡ self.old.items.items) }
     {
-        match self.items.push(write) {
-            Ok(()) => Ok(()),
-            Err(_) => Err(Memory),
-        }
+        self.items.push(write)?;
+        Ok(())
     }
 
     /// How many there are.

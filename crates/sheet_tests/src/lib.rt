@@ -1,7 +1,5 @@
-//! Tests of the worksheet by calls: what is entered, and what then stands in the cells.
+//! Tests of the worksheet by calls: what is entered in single cells, and what then stands in them.
 #![tactic(auto)]
 
 #[cfg(test)]
 mod cells;
-#[cfg(test)]
-mod spans;

@@ -27,19 +27,12 @@ pub const SCENE: Scene = Scene {
     },
 };
 
-fn boxed(alloc: Global, expr: Expr) -> Result<Box<Expr>, Memory> {
-    match Box::new(alloc, expr) {
-        Ok(boxed) => Ok(boxed),
-        Err(_) => Err(Memory),
-    }
-}
-
 // The formula that adds a number to another one.
 fn sum(alloc: Global, left: Expr, number: Fixed) -> Result<Formula, Memory> {
     let tree = Expr::Binary(
         Op::Add,
-        boxed(alloc, left)?,
-        boxed(alloc, Expr::Num(number))?,
+        Box::new(alloc, left)?,
+        Box::new(alloc, Expr::Num(number))?,
     );
     match Formula::of(alloc, tree) {
         Ok(formula) => Ok(formula),

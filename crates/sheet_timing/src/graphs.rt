@@ -15,19 +15,15 @@ pub fn at(row: u16, col: u8) -> Cell {
 
 fn one_span(alloc: Global, span: Span) -> Result<SpanList, Memory> {
     let mut spans = SpanList::new(alloc);
-    match spans.push(span) {
-        Ok(()) => Ok(spans),
-        Err(_) => Err(Memory),
-    }
+    spans.push(span)?;
+    Ok(spans)
 }
 
 /// A list of one cell.
 pub fn one_cell(alloc: Global, cell: Cell) -> Result<CellList, Memory> {
     let mut cells = CellList::new(alloc);
-    match cells.push(cell) {
-        Ok(()) => Ok(cells),
-        Err(_) => Err(Memory),
-    }
+    cells.push(cell)?;
+    Ok(cells)
 }
 
 fn count(index: &RangeIndex, cell: Cell) -> Result<u64, Memory> {

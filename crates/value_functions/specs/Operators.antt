@@ -1,10 +1,10 @@
 -- Operators between two values, and in front of one.
+use Rattle.std.specs.Char.{to_ascii_uppercase}
 use Rattle.std.specs.Prelude.{ℕ, ◌++◌, ◌+ℤ◌, ◌-ℤ◌, neg_ℤ, nat_abs, ◌==◌, ◌&&◌, ◌||◌, not, ℤ, pos, Bool, Option, Some, None, List, [], map}
 use Rattle.std.specs.Ordering.{nat_cmp, int_cmp, is_lt, is_eq, is_gt}
 use Rattle.std.specs.declared.cmp.Ordering.{Ordering}
 use Rattle.std.specs.declared.cmp.Ordering.TheVariants.{Less, Greater}
 use Rattle.std.specs.Cmp.Lexicographic.{slice_cmp}
-use Rattle.lics_text.specs.Bytes.{folded}
 use Rattle.fixed_value.specs.Numbers.{product, quotient, within}
 use Rattle.fixed_value.specs.Powers.{power}
 use Rattle.formula_tree.specs.declared.ast.Op.{Op}
@@ -18,7 +18,7 @@ is_zero x = nat_abs x == 0
 
 -- texts by folded bytes; any number is less than any text
 abbrev pub order_of_texts : List ℕ → List ℕ → Ordering
-order_of_texts a b = slice_cmp nat_cmp (map folded a) (map folded b)
+order_of_texts a b = slice_cmp nat_cmp (map to_ascii_uppercase a) (map to_ascii_uppercase b)
 
 abbrev pub order_with_number : ℤ → Value → Ordering
 order_with_number x (value.Str t) = Less

@@ -1,9 +1,9 @@
 -- Functions of single values, one row each, by their codes (worksheet file format).
+use Rattle.std.specs.Char.{to_ascii_lowercase, to_ascii_uppercase}
 use Rattle.std.specs.Prelude.{ℕ, ◌+◌, ◌*◌, ◌==◌, not, ℤ, pos, Option, Some, None, Result, Ok, Err, List, length, map, if◌then◌else◌}
 use Rattle.std.specs.Str.{bytes_eq}
 use Rattle.fixed_value.specs.Numbers.{remainder, whole_part}
 use Rattle.serial_date.specs.Fractions.{millionths_of_day}
-use Rattle.lics_text.specs.Bytes.{folded, lowered}
 use Rattle.lics_text.specs.declared.faults.Memory.{Memory}
 use Rattle.lics_text.specs.Texts.{proper_of, trimmed}
 use Rattle.at_functions.specs.Dates.{date, day, hour, minute, month, second, time, year}
@@ -58,8 +58,8 @@ text_row f t =
 -- UPPER, LOWER, PROPER, TRIM and CLEAN
 unfoldable pub changed_row : ℕ → List ℕ → Option (List ℕ)
 changed_row f t =
-    if f == 102 then Some (map folded t)
-    else if f == 103 then Some (map lowered t)
+    if f == 102 then Some (map to_ascii_uppercase t)
+    else if f == 103 then Some (map to_ascii_lowercase t)
     else if f == 107 then Some (proper_of t)
     else if f == 109 then Some (trimmed t)
     else if f == 110 then Some t

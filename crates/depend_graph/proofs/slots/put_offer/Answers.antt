@@ -16,11 +16,11 @@ returns-in-Some-clause-ok c =
     slot_put c.args.slots.now.entries (c.get_mut.follows.lender c.write_offer.new.slot).entries c.args.cell c.write_offer.new.slot ((c.get_mut.follows.holds c.write_offer.new.slot).3 (subst IsSome c.in-Some.ensures.value refl)).0
     ∙ ap (λ (s : Slot). placed m c.args.cell (Some s)) c.write_offer.ensures ∙ ap (λ (o : Option Slot). placed m c.args.cell (Some (offering o c.args.node))) (sym found)
 
-pub returns-in-Ok-clause-ok : goal.returns-in-Ok-clause-ok
-returns-in-Ok-clause-ok c =
+pub returns-in_ok-insert-in-None-clause-ok : goal.returns-in_ok-insert-in-None-clause-ok
+returns-in_ok-insert-in-None-clause-ok c =
     let m : Slots = slots_of c.args.slots.now.entries in
     let new : Slot = offering None c.args.node in
     let found : get m c.args.cell ≡ None = slot_found c.args.slots.now.entries c.args.cell None c.in-None.ensures.value in
     let put : (q : Place) → lookup (is_at (place_cmp q)) c.insert.new.self.entries ≡ cond (is_at (place_cmp c.args.cell) q) (Some new) (lookup (is_at (place_cmp q)) c.args.slots.now.entries) =
-    λ q. c.in-Ok.ensures.updates.0 q ∙ ap (λ (b : BTreeMap Place Slot). cond (is_at (place_cmp c.args.cell) q) (Some new) (lookup (is_at (place_cmp q)) b.entries)) c.get_mut.follows.holds-at-none in
+    λ q. c.in_ok-insert-in-None.ensures.updates.0 q ∙ ap (λ (b : BTreeMap Place Slot). cond (is_at (place_cmp c.args.cell) q) (Some new) (lookup (is_at (place_cmp q)) b.entries)) c.get_mut.follows.holds-at-none in
     slot_put c.args.slots.now.entries c.insert.new.self.entries c.args.cell new put ∙ ap (λ (o : Option Slot). placed m c.args.cell (Some (offering o c.args.node))) (sym found)

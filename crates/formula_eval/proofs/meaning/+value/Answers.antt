@@ -22,9 +22,9 @@ arguments_of-loop-expr-preserved g t c =
     let es = c.args.exprs.now in
     let item = c.expr-item.result in
     let before = c.loop-expr.arguments.items in
-    c.in_ok-push.ensures
-    ∙ ap (λ v. before ++ record { value = v; operand = c.operand_of.result } ∷ []) c.in_ok-value.ensures
-    ∙ ap (λ o. before ++ record { value = value_at (tree_of item) at w; operand = o } ∷ []) c.operand_of.ensures
+    c.in_ok-push.ensures.items
+    ∙ ap (λ v. before ++ record { value = v; operand = c.operand_of-operand.result } ∷ []) c.in_ok-value.ensures
+    ∙ ap (λ o. before ++ record { value = value_at (tree_of item) at w; operand = o } ∷ []) c.operand_of-operand.ensures
     ∙ ap (λ e. before ++ argument at w (tree_of e) ∷ []) c.expr-item.is
     ∙ ap (λ (l : List Argument). l ++ argument at w (tree_of (get_or es c.loop-expr.expr-index item)) ∷ []) c.loop-expr.invariant
     ∙ sym (one_more at w es c.loop-expr.expr-index item c.loop-expr-test.true)

@@ -14,7 +14,7 @@ loop-place-preserved c =
     let test : p cell ≡ c.is_filled.result = sym (c.is_filled.ensures ∙ ap is_filled c.value_at.ensures) in
     elim c.if-is_filled.branch [
       | then-is_filled+in_ok-push w ↦
-          listed_cell p c.args.cells.now c.loop-place.cells c.if-is_filled.cells c.args.row c.args.first c.loop-place.place cell c.loop-place.invariant is (test ∙ w.if-is_filled.true) (w.cells-is ∙ w.in_ok-push.ensures)
+          listed_cell p c.args.cells.now c.loop-place.cells c.if-is_filled.cells c.args.row c.args.first c.loop-place.place cell c.loop-place.invariant is (test ∙ w.if-is_filled.true) (w.cells-is ∙ w.in_ok-push.ensures.ok)
       | else-is_filled w ↦
           w.cells-is ∙ passed_cell p c.args.cells.now c.loop-place.cells c.args.row c.args.first c.loop-place.place cell c.loop-place.invariant is (test ∙ w.if-is_filled.false)
     ]

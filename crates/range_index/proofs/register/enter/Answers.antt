@@ -5,12 +5,12 @@ use Rattle.range_index.specs.Powers.{powers_cmp}
 use Rattle.range_index.specs.Registered.{has_registration, registration_cmp}
 use Rattle.range_index.proofs.register.enter.Goals as goal
 
-pub returns-in-Ok-insert-clause-kept : goal.returns-in-Ok-insert-clause-kept
-returns-in-Ok-insert-clause-kept c = stays _ _ _ _
-    (λ z h. grows powers_cmp _ _ c.size_of-size.result z (c.in-Ok.ensures.updates.0 z) h)
-    (λ r h. grows registration_cmp _ _ c.place_of.result r (c.in-Ok-insert.ensures.updates.0 r) h)
+pub returns-clause-kept : goal.returns-clause-kept
+returns-clause-kept c = stays _ _ _ _
+    (λ z h. grows powers_cmp _ _ c.size_of-size.result z (c.in_ok-insert.ensures.updates.0 z) h)
+    (λ r h. grows registration_cmp _ _ c.place_of.result r (c.in_ok-insert-2.ensures.updates.0 r) h)
 
-pub returns-in-Err-insert-clause-kept : goal.returns-in-Err-insert-clause-kept
-returns-in-Err-insert-clause-kept c = stays _ _ _ _
-    (λ z h. grows powers_cmp _ _ c.size_of-size.result z (c.in-Ok.ensures.updates.0 z) h)
-    (λ r h. subst (λ rs. has_registration rs r ≡ true) (sym c.in-Err-insert.ensures.err) h)
+pub returns-in_err-insert-2-clause-kept : goal.returns-in_err-insert-2-clause-kept
+returns-in_err-insert-2-clause-kept c = stays _ _ _ _
+    (λ z h. grows powers_cmp _ _ c.size_of-size.result z (c.in_ok-insert.ensures.updates.0 z) h)
+    (λ r h. subst (λ rs. has_registration rs r ≡ true) (sym c.in_err-insert-2.ensures.err) h)

@@ -7,7 +7,7 @@ use Rattle.sheet_edits.proofs.Undone.{is_there}
 use Rattle.sheet_edits.proofs.many.hold_place.Goals as goal
 
 pub returns-clause-others : goal.returns-clause-others
-returns-clause-others c = λ x h. ap (λ (g : Grid). get g.cells x) c.in_ok-put.ensures.ok ∙ beside c.args.store.now c.args.cell c.blank.result x (not_pushed c.args.grown.now c.push.new.cells c.args.cell c.in_ok-push.ensures.ok x h)
+returns-clause-others c = λ x h. ap (λ (g : Grid). get g.cells x) c.in_ok-put.ensures.ok ∙ beside c.args.store.now c.args.cell c.blank.result x (not_pushed c.args.grown.now c.push.new.self c.args.cell c.in_ok-push.ensures.ok x h)
 
 pub returns-clause-beside : goal.returns-clause-beside
 returns-clause-beside c = λ x h. ap (λ (g : Grid). get g.cells x) c.in_ok-put.ensures.ok ∙ beside c.args.store.now c.args.cell c.blank.result x h

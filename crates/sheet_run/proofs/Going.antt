@@ -1,0 +1,302 @@
+-- A run that is going on.
+use Rattle.std.proofs.Common.{◌≡◌, ℕ, ◌<◌, ◌≤◌, ◌+◌, ◌-◌, ◌^◌, List, [], ◌∷◌, ◌++◌, length, Bool, cond, true, false, Option, None, Some, refl, sym, ap, ◌∙◌, subst, arith, inl, inr, length-append}
+use Rattle.std.proofs.lemmas.List.{append-nil, map-append}
+use Rattle.outside_world.specs.Causes.{Rose}
+use Rattle.outside_world.specs.Clock.{TakesReading}
+use Rattle.serial_date.specs.declared.moment.Moment.{Moment}
+use Rattle.key_words.specs.declared.key.Key.{Key}
+use Rattle.grid_address.specs.Place.{Place}
+use Rattle.formula_eval.specs.declared.look.Scene.{Scene}
+use Rattle.formula_tree.specs.declared.value.Content.{Content}
+use Rattle.session_core.specs.Acts.{act_of}
+use Rattle.session_core.specs.Machine.{Running, State, start, acted, calculated, finished, moves, pointing_at, IsStep}
+use Rattle.session_core.specs.declared.act.Act.{Act}
+use Rattle.session_core.specs.declared.act.Act.TheVariants.{Typed, Finish, Calculate, Pass}
+use Rattle.session_core.specs.declared.mode.Mode.{Mode}
+use Rattle.session_core.specs.declared.mode.Mode.TheVariants.{Ready, Label, Value}
+use Rattle.session_core.specs.Screen.{screen}
+use Rattle.screen_show.specs.Display.{View}
+use Rattle.screen_show.specs.Grid.{empty_grid}
+use Rattle.sheet_run.specs.Displays.{Screen, Sent, Watched, last_screen, no_screen}
+use Rattle.sheet_run.specs.Driving.{ended_as, EndsAsTold, HasEnded, HasMadeStep, HasNotMadeStep, LeavesState}
+use Rattle.sheet_run.specs.Notation.{SpellsInto}
+use Rattle.sheet_run.specs.Reader.{HasJustPressed, HasPressed, HasPressedAll, IsFull, Reads, RestsAsTold}
+use Rattle.sheet_run.specs.Run.{Step, after, screens, keys_of, AreSteps, moments_of, Outside, outside, HasRun, Ended, RanToBadByte, RanToKeyFault, RanToLimit, RanOutOfMemory}
+use Rattle.sheet_run.specs.Taking.{TakesBytes, TakesReadings}
+use Rattle.sheet_run.specs.declared.reader.KeyFeed.{KeyFeed}
+use Rattle.sheet_run.specs.declared.drive.Ending.{Ending}
+use Rattle.sheet_run.specs.declared.reader.Read.{Read}
+use Rattle.sheet_run.specs.declared.reader.Read.TheVariants.{Key as ReadKey, More as ReadMore, Bad as ReadBad, End as ReadEnd, Failed as ReadFailed}
+use Rattle.sheet_run.proofs.Pressed.{has, settled}
+use Rattle.sheet_run.proofs.Shown.{each_left, last_more, sent_one, views_start}
+use Rattle.sheet_run.proofs.Taken.{takes_none, takes_both, reads_one_more}
+
+-- one more step
+after_more : (steps : List Step) (r : Running) (x : Step) → after r (steps ++ x ∷ []) ≡ x.next
+after_more [] r x = refl
+after_more (y ∷ ys) r x = after_more ys y.next x
+
+are_steps_more : (steps : List Step) (r : Running) (x : Step) → AreSteps r steps → IsStep x.key x.moment (after r steps) x.next → AreSteps r (steps ++ x ∷ [])
+are_steps_more [] r x made is = (is, tt)
+are_steps_more (y ∷ ys) r x made is = (made.0, are_steps_more ys y.next x made.1 is)
+
+-- no step spends the session
+spent_finished : (scene : Scene) (entry : Option Content) (s : State) → (finished scene entry s).spent ≡ s.spent
+spent_finished scene None s = refl
+spent_finished scene (Some x) s = refl
+
+spent_calculated : (mode : Mode) (scene : Scene) (s : State) → (calculated mode scene s).spent ≡ s.spent
+spent_calculated Ready scene s = refl
+spent_calculated (Label line) scene s = refl
+spent_calculated (Value line) scene s = refl
+
+spent_moved : (b : Bool) (p : Place) (s : State) → (cond b (pointing_at p s) s).spent ≡ s.spent
+spent_moved true p s = refl
+spent_moved false p s = refl
+
+spent_acted : (act : Act) (scene : Scene) (entry : Option Content) (s : State) → (acted act scene entry s).spent ≡ s.spent
+spent_acted (Typed b) scene entry s = refl
+spent_acted Pass scene entry s = refl
+spent_acted (Finish way) scene entry s = spent_moved (moves s.mode entry) _ (finished scene entry s) ∙ spent_finished scene entry s
+spent_acted Calculate scene entry s = spent_calculated s.mode scene s
+
+spent_kept : (key : Key) (now : Moment) (a b : Running) → IsStep key now a b → b.state.spent ≡ a.state.spent
+spent_kept key now a b step =
+    ap (λ (r : Running). r.state.spent) step.shown ∙ ap (λ (s : State). s.spent) step.acted.state ∙ spent_acted (act_of key) _ step.acted.entry a.state
+
+-- these keys came from the bytes that were taken, and each made a step
+pub record Going (limit count : ℕ) (s : Running) (f : KeyFeed) (shown : Screen) (before now : Outside) : Type 0 where
+  pub taken : List ℕ
+  pub first : Moment
+  pub steps : List Step
+  pub left : List Watched
+  pub out : List Watched
+  pub did : HasRun limit taken (first ∷ moments_of steps) steps left out before now
+  pub typed : HasPressed taken (keys_of steps) f
+  pub state : s ≡ after start steps
+  pub fresh : s.state.spent ≡ false
+  pub no_fault : now.key_faults ≡ before.key_faults
+  pub made : length steps ≡ count
+  pub shows : shown ≡ last_screen empty_grid (screens steps)
+
+pub going_starts : (limit : ℕ) (bytes : Option (List ℕ)) (faults : ℕ) (told now : Option (List Moment)) (shelf : ℕ) (displays failed : List View) (s : Running) (first : Moment) (f : KeyFeed) (shown : Screen) →
+    s ≡ start → TakesReading told now first → HasPressedAll [] [] f → shown ≡ empty_grid → Going limit 0 s f shown (outside bytes faults told shelf displays failed) (outside bytes faults now shelf displays failed)
+going_starts limit bytes faults told now shelf displays failed s first f shown is took none empty = record {
+  taken = [];
+  first = first;
+  steps = [];
+  left = _;
+  out = [];
+  did = record {
+    bytes = takes_none bytes bytes refl;
+    readings = (now, took, refl);
+    shelf = refl;
+    made = tt;
+    sent = no_screen;
+    displays = views_start displays;
+    failed = sym (append-nil failed);
+    within = omega arith;
+  };
+  typed = inl none;
+  state = is;
+  fresh = rw is refl;
+  no_fault = refl;
+  made = refl;
+  shows = empty;
+}
+
+module _ (limit count : ℕ) (s : Running) (f : KeyFeed) (shown : Screen) (before : Outside) (bytes : Option (List ℕ)) (faults : ℕ) (told : Option (List Moment)) (shelf : ℕ) (displays failed : List View)
+    (going : Going limit count s f shown before (outside bytes faults told shelf displays failed)) where
+  -- what was done, when more bytes are taken
+  did_take : (more : List ℕ) (bytes' : Option (List ℕ)) (faults' : ℕ) → TakesBytes bytes more bytes' →
+      HasRun limit (going.taken ++ more) (going.first ∷ moments_of going.steps) going.steps going.left going.out before (outside bytes' faults' told shelf displays failed)
+  did_take more bytes' faults' took = record {
+    bytes = takes_both before.bytes bytes bytes' going.taken more going.did.bytes took;
+    readings = going.did.readings;
+    shelf = going.did.shelf;
+    made = going.did.made;
+    sent = going.did.sent;
+    displays = going.did.displays;
+    failed = going.did.failed;
+    within = going.did.within;
+  }
+
+  did_none : (bytes' : Option (List ℕ)) (faults' : ℕ) → TakesBytes bytes [] bytes' →
+      HasRun limit going.taken (going.first ∷ moments_of going.steps) going.steps going.left going.out before (outside bytes' faults' told shelf displays failed)
+  did_none bytes' faults' none = subst (λ (t : List ℕ). HasRun limit t (going.first ∷ moments_of going.steps) going.steps going.left going.out before (outside bytes' faults' told shelf displays failed)) (append-nil going.taken) (did_take [] bytes' faults' none)
+
+  -- what reading comes to here
+  abbrev ReadHere : Option (List ℕ) → KeyFeed → Read → Type 0
+  ReadHere bytes' g result = (taken : List ℕ) (made : List Key) → HasPressed taken made f → Reads taken made bytes bytes' g result
+
+  -- a byte that goes on
+  pub going_on : (bytes' : Option (List ℕ)) (faults' : ℕ) (g : KeyFeed) → ReadHere bytes' g ReadMore → faults' ≡ faults →
+      Going limit count s g shown before (outside bytes' faults' told shelf displays failed)
+  going_on bytes' faults' g reads same =
+      let read = reads going.taken (keys_of going.steps) going.typed in
+      record {
+        taken = going.taken ++ read.0 ∷ [];
+        first = going.first;
+        steps = going.steps;
+        left = going.left;
+        out = going.out;
+        did = did_take (read.0 ∷ []) bytes' faults' read.1;
+        typed = inl read.2;
+        state = going.state;
+        fresh = going.fresh;
+        no_fault = same ∙ going.no_fault;
+        made = going.made;
+        shows = going.shows;
+      }
+
+  at_end : (bytes' : Option (List ℕ)) (faults' : ℕ) (g : KeyFeed) → TakesBytes bytes [] bytes' → Ended going.taken bytes' → faults' ≡ faults → HasPressedAll going.taken (keys_of going.steps) g →
+      (rests : Bool) → RestsAsTold g rests → HasEnded limit going.steps going.left going.out before (outside bytes' faults' told shelf displays failed) (ended_as rests g.words.taken)
+  at_end bytes' faults' g none ended same all true rest = record {
+    taken = going.taken;
+    first = going.first;
+    did = did_none bytes' faults' none;
+    spelled = (all.words, rest.whole going.taken all.words all.read refl, all.keys_are);
+    ended = ended;
+    no_fault = same ∙ going.no_fault;
+  }
+  at_end bytes' faults' g none ended same all false rest = inl (record {
+    taken = going.taken;
+    first = going.first;
+    did = did_none bytes' faults' none;
+    keys = has going.taken (keys_of going.steps) g all;
+    no_text = rest.inside going.taken all.words all.read refl;
+    ended = ended;
+    place = all.read.taken;
+    no_fault = same ∙ going.no_fault;
+  })
+
+  told_end : (bytes' : Option (List ℕ)) (faults' : ℕ) (g : KeyFeed) (ending : Ending) → TakesBytes bytes [] bytes' → Ended going.taken bytes' → faults' ≡ faults → HasPressedAll going.taken (keys_of going.steps) g → EndsAsTold g ending →
+      HasEnded limit going.steps going.left going.out before (outside bytes' faults' told shelf displays failed) ending
+  told_end bytes' faults' g ending none ended same all (rests, rest, is) = rw is (at_end bytes' faults' g none ended same all rests rest)
+
+  pub ran_to_end : (bytes' : Option (List ℕ)) (faults' : ℕ) (g : KeyFeed) (ending : Ending) → ReadHere bytes' g ReadEnd → faults' ≡ faults → EndsAsTold g ending →
+      HasEnded limit going.steps going.left going.out before (outside bytes' faults' told shelf displays failed) ending
+  ran_to_end bytes' faults' g ending reads same ends =
+      let read = reads going.taken (keys_of going.steps) going.typed in
+      told_end bytes' faults' g ending read.0 (inl read.1) same read.2 ends
+
+  -- as many bytes were read as can be counted
+  pub ran_all : (ending : Ending) → IsFull f → EndsAsTold f ending → HasEnded limit going.steps going.left going.out before (outside bytes faults told shelf displays failed) ending
+  ran_all ending full ends =
+      let all : HasPressedAll going.taken (keys_of going.steps) f = settled going.taken (keys_of going.steps) f full.0 going.typed in
+      let long : length going.taken ≡ 2 ^ 64 - 1 = sym all.read.taken ∙ full.1 in
+      told_end bytes faults f ending (takes_none bytes bytes refl) (inr long) refl all ends
+
+  pub ran_to_bad : (bytes' : Option (List ℕ)) (faults' : ℕ) (g : KeyFeed) (at : ℕ) → ReadHere bytes' g (ReadBad at) → faults' ≡ faults →
+      RanToBadByte limit at going.steps going.left going.out before (outside bytes' faults' told shelf displays failed)
+  ran_to_bad bytes' faults' g at reads same =
+      let read = reads going.taken (keys_of going.steps) going.typed in
+      record {
+        taken = going.taken;
+        bad = read.0;
+        first = going.first;
+        did = did_take (read.0 ∷ []) bytes' faults' read.1;
+        keys = read.2;
+        begins_none = read.3;
+        place = read.4;
+        no_fault = same ∙ going.no_fault;
+      }
+
+  pub ran_to_fault : (bytes' : Option (List ℕ)) (faults' : ℕ) (g : KeyFeed) → ReadHere bytes' g ReadFailed → Rose faults faults' →
+      RanToKeyFault limit going.steps going.left going.out before (outside bytes' faults' told shelf displays failed)
+  ran_to_fault bytes' faults' g reads rose =
+      let read = reads going.taken (keys_of going.steps) going.typed in
+      record {
+        taken = going.taken;
+        first = going.first;
+        did = did_none bytes' faults' read.0;
+        keys = read.1;
+        fault = rw (← going.no_fault) rose;
+      }
+
+  module _ (bytes' : Option (List ℕ)) (faults' : ℕ) (g : KeyFeed) (key : Key) (reads : ReadHere bytes' g (ReadKey key)) (same : faults' ≡ faults) where
+    abbrev read : Reads going.taken (keys_of going.steps) bytes bytes' g (ReadKey key)
+    read = reads going.taken (keys_of going.steps) going.typed
+
+    just : HasJustPressed (going.taken ++ read.0) (keys_of going.steps ++ key ∷ []) g
+    just = read.2
+
+    into : SpellsInto (going.taken ++ read.0) (keys_of going.steps ++ key ∷ [])
+    into = record { words = just.words; spelled = just.spelled; key = g.key; left = g.left; into = just.into }
+
+    keys_more : (m : Moment) (t : Running) → keys_of (going.steps ++ record { key = key; moment = m; next = t } ∷ []) ≡ keys_of going.steps ++ key ∷ []
+    keys_more m t = map-append (λ (x : Step). x.key) going.steps (record { key = key; moment = m; next = t } ∷ [])
+
+    moments_more : (m : Moment) (t : Running) → moments_of (going.steps ++ record { key = key; moment = m; next = t } ∷ []) ≡ moments_of going.steps ++ m ∷ []
+    moments_more m t = map-append (λ (x : Step). x.moment) going.steps (record { key = key; moment = m; next = t } ∷ [])
+
+    readings_more : (m : Moment) (told' : Option (List Moment)) → TakesReading told told' m → TakesReadings before.readings (going.first ∷ moments_of going.steps ++ m ∷ []) told'
+    readings_more m told' took = reads_one_more (going.first ∷ moments_of going.steps) before.readings told told' m going.did.readings took
+
+    pub ran_to_limit : limit ≤ count → RanToLimit limit going.steps going.left going.out before (outside bytes' faults' told shelf displays failed)
+    ran_to_limit all = record {
+      taken = going.taken ++ read.0;
+      first = going.first;
+      last = key;
+      did = did_take read.0 bytes' faults' read.1;
+      all = omega (arith, going.did.within, going.made);
+      spelled = into;
+      no_fault = same ∙ going.no_fault;
+    }
+
+    pub ran_out : (told' : Option (List Moment)) (shelf' : ℕ) (displays' failed' : List View) → shelf' ≡ shelf → count < limit → HasNotMadeStep told told' displays displays' failed failed' →
+        RanOutOfMemory limit going.steps going.left going.out before (outside bytes' faults' told' shelf' displays' failed')
+    ran_out told' shelf' displays' failed' still below not_made = record {
+      taken = going.taken ++ read.0;
+      first = going.first;
+      unfinished = key;
+      reading = not_made.moment;
+      did = record {
+        bytes = takes_both before.bytes bytes bytes' going.taken read.0 going.did.bytes read.1;
+        readings = readings_more not_made.moment told' not_made.took;
+        shelf = still ∙ going.did.shelf;
+        made = going.did.made;
+        sent = going.did.sent;
+        displays = not_made.displays_stay ∙ going.did.displays;
+        failed = not_made.failed_stay ∙ going.did.failed;
+        within = going.did.within;
+      };
+      more = omega (arith, going.made);
+      spelled = into;
+      no_fault = same ∙ going.no_fault;
+    }
+
+    pub step_made : (told' : Option (List Moment)) (shelf' : ℕ) (t : Running) (shown' : Screen) (displays' failed' : List View) → shelf' ≡ shelf → count < limit → HasMadeStep key s t told told' shown shown' displays displays' failed failed' →
+        Going limit (count + 1) t g shown' before (outside bytes' faults' told' shelf' displays' failed')
+    step_made told' shelf' t shown' displays' failed' still below made =
+        let x : Step = record { key = key; moment = made.moment; next = t } in
+        let more : screens (going.steps ++ x ∷ []) ≡ screens going.steps ++ screen t.state ∷ [] = map-append (λ (y : Step). screen y.next.state) going.steps (x ∷ []) in
+        let sent = sent_one before.displays (screens going.steps) shown (screen t.state) going.left going.out displays displays' before.failed failed failed' made.printed going.shows going.did.sent
+        (each_left before.displays (screens going.steps) going.left going.out going.did.sent) going.did.displays going.did.failed made.passed in
+        record {
+          taken = going.taken ++ read.0;
+          first = going.first;
+          steps = going.steps ++ x ∷ [];
+          left = sent.left;
+          out = sent.out;
+          did = record {
+            bytes = takes_both before.bytes bytes bytes' going.taken read.0 going.did.bytes read.1;
+            readings = subst (λ (ms : List Moment). TakesReadings before.readings (going.first ∷ ms) told') (sym (moments_more made.moment t)) (readings_more made.moment told' made.took);
+            shelf = still ∙ going.did.shelf;
+            made = are_steps_more going.steps start x going.did.made (subst (λ (u : Running). IsStep key made.moment u t) going.state made.stepped);
+            sent = subst (λ (ss : List Screen). Sent before.displays ss sent.left sent.out) (sym more) sent.sent;
+            displays = sent.displays_are;
+            failed = sent.failed_are;
+            within = omega (arith, length-append going.steps (x ∷ []), going.made);
+          };
+          typed = inr (subst (λ (ks : List Key). HasJustPressed (going.taken ++ read.0) ks g) (sym (keys_more made.moment t)) just);
+          state = sym (after_more going.steps start x);
+          fresh = spent_kept key made.moment s t made.stepped ∙ going.fresh;
+          no_fault = same ∙ going.no_fault;
+          made = omega (arith, length-append going.steps (x ∷ []), going.made);
+          shows = made.shows ∙ sym (last_more empty_grid (screens going.steps) (screen t.state)) ∙ ap (last_screen empty_grid) (sym more);
+        }
+
+pub leaves : (s : Running) (steps : List Step) (f : KeyFeed) (ending : Ending) → EndsAsTold f ending → s ≡ after start steps → LeavesState s steps ending
+leaves s steps f ending (true, rest, is) same = rw is same
+leaves s steps f ending (false, rest, is) same = rw is same

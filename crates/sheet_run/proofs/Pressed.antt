@@ -1,0 +1,114 @@
+-- The reader of keys over whole texts.
+use Rattle.std.proofs.Common.{◌≡◌, ℕ, zero, suc, ◌+◌, ◌-◌, ◌<◌, ◌≤◌, List, [], ◌∷◌, ◌++◌, length, refl, sym, ap, ◌∙◌, subst, arith, append_assoc, inl, inr, length-append, Option, Some, None, Ok, Err}
+use Rattle.std.specs.Prelude.{replicate}
+use Rattle.std.proofs.lemmas.List.{append-nil, length-replicate}
+use Rattle.outside_world.specs.Keys.{TakesByte}
+use Rattle.outside_world.specs.declared.faults.Failed.{Failed}
+use Rattle.key_words.specs.Notation.{Spells}
+use Rattle.key_words.specs.Reading.{HasRead}
+use Rattle.key_words.specs.declared.key.Key.{Key}
+use Rattle.key_words.specs.declared.reader.KeyReader.{KeyReader}
+use Rattle.key_words.proofs.Completing.{has_keys, last_positive}
+use Rattle.sheet_run.specs.Notation.{pressed, HasKeys, IntoLast}
+use Rattle.sheet_run.specs.Reader.{HasJustPressed, HasPressed, HasPressedAll, Reads, Takes}
+use Rattle.sheet_run.specs.Taking.{AtEnd, TakesBytes}
+use Rattle.sheet_run.specs.declared.reader.Read.{Read}
+use Rattle.sheet_run.specs.declared.reader.Read.TheVariants.{Key as ReadKey, More as ReadMore, Bad as ReadBad, End as ReadEnd, Failed as ReadFailed}
+use Rattle.sheet_run.specs.declared.reader.KeyFeed.{KeyFeed}
+
+pub pressed-append : (xs ys : List (Key × ℕ)) → pressed (xs ++ ys) ≡ pressed xs ++ pressed ys
+pressed-append [] ys = refl
+pressed-append (x ∷ xs) ys = ap (λ (l : List Key). replicate x.1 x.0 ++ l) (pressed-append xs ys) ∙ sym (append_assoc (replicate x.1 x.0) (pressed xs) (pressed ys))
+
+replicate_more : (n : ℕ) (k : Key) → replicate n k ++ k ∷ [] ≡ replicate (suc n) k
+replicate_more zero k = refl
+replicate_more (suc n) k = ap (λ (l : List Key). k ∷ l) (replicate_more n k)
+
+-- none are left of the last word
+all_pressed : (words : List (Key × ℕ)) (keys : List Key) (key : Key) (left : ℕ) → left ≡ 0 → IntoLast words keys key left → pressed words ≡ keys
+all_pressed words keys key left none i =
+    let times : i.done + left ≡ i.done = omega (arith, none) in
+    ap pressed i.words_are ∙ pressed-append i.front ((key, i.done + left) ∷ []) ∙ ap (λ (l : List Key). pressed i.front ++ l) (append-nil (replicate (i.done + left) key))
+    ∙ ap (λ n. pressed i.front ++ replicate n key) times ∙ sym i.keys_are
+
+-- the keys are at most all keys of the words
+pub into_length : (words : List (Key × ℕ)) (keys : List Key) (key : Key) (left : ℕ) → IntoLast words keys key left → length keys ≤ length (pressed words)
+into_length words keys key left i = omega (
+  arith,
+  ap length i.keys_are,
+  length-append (pressed i.front) (replicate i.done key),
+  length-replicate i.done key,
+  ap (λ (ws : List (Key × ℕ)). length (pressed ws)) i.words_are,
+  ap length (pressed-append i.front ((key, i.done + left) ∷ [])),
+  length-append (pressed i.front) (replicate (i.done + left) key ++ []),
+  length-append (replicate (i.done + left) key) [],
+  length-replicate (i.done + left) key,
+)
+
+pub settled : (bytes : List ℕ) (keys : List Key) (f : KeyFeed) → f.left ≡ 0 → HasPressed bytes keys f → HasPressedAll bytes keys f
+settled bytes keys f none (inl all) = all
+settled bytes keys f none (inr just) = record { words = just.words; read = just.read; keys_are = all_pressed just.words keys f.key f.left none just.into; none = none }
+
+-- the last word's key once more
+pub again : (bytes : List ℕ) (keys : List Key) (f g : KeyFeed) → 0 < f.left → g ≡ record f { left = f.left - 1 } → HasPressed bytes keys f → HasJustPressed (bytes ++ []) (keys ++ f.key ∷ []) g
+again bytes keys f g some is (inl all) = absurd (omega (arith, all.none))
+again bytes keys f g some is (inr just) =
+    let i = just.into in
+    let times : i.done + f.left ≡ suc i.done + (f.left - 1) = omega (arith, some) in
+    rw (is, append-nil bytes) (record {
+      words = just.words;
+      read = just.read;
+      spelled = just.spelled;
+      into = record {
+        front = i.front;
+        done = suc i.done;
+        some = omega arith;
+        words_are = i.words_are ∙ ap (λ n. i.front ++ (f.key, n) ∷ []) times;
+        keys_are = ap (λ (l : List Key). l ++ f.key ∷ []) i.keys_are ∙ append_assoc (pressed i.front) (replicate i.done f.key) (f.key ∷ []) ∙ ap (λ (l : List Key). pressed i.front ++ l) (replicate_more i.done f.key);
+      };
+    })
+
+-- a word's key for the first time
+pub first_time : (bytes : List ℕ) (keys : List Key) (f : KeyFeed) (b : ℕ) (r : KeyReader) (k : Key) (n left : ℕ) → (all : HasPressedAll bytes keys f) →
+    HasRead (bytes ++ b ∷ []) (all.words ++ (k, n) ∷ []) r × Spells (bytes ++ b ∷ []) (all.words ++ (k, n) ∷ []) → left ≡ n - 1 →
+    HasJustPressed (bytes ++ b ∷ []) (keys ++ k ∷ []) (record { words = r; key = k; left = left })
+first_time bytes keys f b r k n left all (read, spelled) is =
+    let some : 1 ≤ n = last_positive (bytes ++ b ∷ []) (all.words ++ (k, n) ∷ []) all.words k n spelled refl in
+    let times : n ≡ 1 + left = omega (arith, some, is) in
+    (record {
+      words = all.words ++ (k, n) ∷ [];
+      read = read;
+      spelled = spelled;
+      into = record {
+        front = all.words;
+        done = 1;
+        some = omega arith;
+        words_are = ap (λ m. all.words ++ (k, m) ∷ []) times;
+        keys_are = ap (λ (l : List Key). l ++ k ∷ []) (sym all.keys_are);
+      };
+    })
+
+pub has : (bytes : List ℕ) (keys : List Key) (f : KeyFeed) → HasPressedAll bytes keys f → HasKeys bytes keys
+has bytes keys f all = (all.words, has_keys bytes all.words f.words all.read, all.keys_are)
+
+-- a byte that was taken, and what it came to
+pub reads_taken : (bytes : List ℕ) (keys : List Key) (b : ℕ) (told told' : Option (List ℕ)) (f : KeyFeed) (r : Read) → TakesBytes told (b ∷ []) told' → Takes bytes keys b f r → Reads bytes keys told told' f r
+reads_taken bytes keys b told told' f (ReadKey k) took t = (b ∷ [], took, t)
+reads_taken bytes keys b told told' f ReadMore took t = (b, took, t)
+reads_taken bytes keys b told told' f (ReadBad at) took t = (b, took, t.0, t.1, t.2)
+reads_taken bytes keys b told told' f ReadEnd took t = absurd t
+reads_taken bytes keys b told told' f ReadFailed took t = absurd t
+
+-- no byte is left
+none_left : (told now : Option (List ℕ)) → TakesByte told now (Ok None) → TakesBytes told [] now × AtEnd now
+none_left None now took = (took, rw took tt)
+none_left (Some []) now took = (([], refl, took.1), rw (took.1) refl)
+none_left (Some (x ∷ xs)) now took = absurd cc
+
+pub no_byte : (told now : Option (List ℕ)) (got : Option ℕ) → got ≡ None → TakesByte told now (Ok got) → TakesBytes told [] now × AtEnd now
+no_byte told now got is took = none_left told now (subst (λ (g : Option ℕ). TakesByte told now (Ok g)) is took)
+
+-- a failed call takes none
+pub failed_byte : (told now : Option (List ℕ)) (e : Failed) → TakesByte told now (Err e) → TakesBytes told [] now
+failed_byte None now e took = took
+failed_byte (Some bytes) now e took = (bytes, refl, took)

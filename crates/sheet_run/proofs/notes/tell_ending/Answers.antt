@@ -1,0 +1,20 @@
+use Rattle.std.proofs.Common.{ap, ◌∙◌, sym}
+use Rattle.sheet_run.specs.Notes.{ending_note, ending_status}
+use Rattle.sheet_run.proofs.Telling.{told_as, display_note, display_status, stopped_line}
+use Rattle.sheet_run.proofs.notes.tell_ending.Goals as goal
+
+pub returns-then-moved : goal.returns-then-moved
+returns-then-moved g c =
+    told_as _ _ _ _ _ _ _ _ _ (display_note c.args.limit c.args.moved c.args.ending c.in-KeysEnded.is c.if-moved.true) (display_status c.args.moved c.args.ending c.in-KeysEnded.is c.if-moved.true) c.tell_line.ensures
+
+pub returns-in-BadWord : goal.returns-in-BadWord
+returns-in-BadWord g c =
+    told_as _ _ _ _ _ _ _ _ _ (ap (ending_note c.args.limit c.args.moved) c.in-BadWord.is ∙ sym (c.bytes.ensures ∙ c.number_line-line.ensures)) (ap (ending_status c.args.moved) c.in-BadWord.is) c.tell_line-in-BadWord.ensures
+
+pub returns-in-KeysFailed : goal.returns-in-KeysFailed
+returns-in-KeysFailed g c =
+    told_as _ _ _ _ _ _ _ _ _ (ap (ending_note c.args.limit c.args.moved) c.in-KeysFailed.is) (ap (ending_status c.args.moved) c.in-KeysFailed.is) c.tell_line-in-KeysFailed.ensures
+
+pub returns-in-Stopped : goal.returns-in-Stopped
+returns-in-Stopped g c =
+    told_as _ _ _ _ _ _ _ _ _ (ap (ending_note c.args.limit c.args.moved) c.in-Stopped.is ∙ stopped_line c.args.limit ∙ sym (c.bytes-in-Stopped.ensures ∙ c.number_line-line-in-Stopped.ensures)) (ap (ending_status c.args.moved) c.in-Stopped.is) c.tell_line-in-Stopped.ensures

@@ -1,0 +1,70 @@
+-- How the steps of a run end.
+use Rattle.std.specs.Prelude.{◌≡◌, ℕ, Bool, true, false, List, Option, ◌⊎◌}
+use Rattle.outside_world.specs.Clock.{TakesReading}
+use Rattle.serial_date.specs.declared.moment.Moment.{Moment}
+use Rattle.key_words.specs.declared.key.Key.{Key}
+use Rattle.session_core.specs.Machine.{start, IsStep, Running}
+use Rattle.session_core.specs.Screen.{screen}
+use Rattle.screen_show.specs.Display.{View}
+use Rattle.screen_show.specs.Grid.{IsPrinted}
+use Rattle.sheet_run.specs.Displays.{Screen, Watched}
+use Rattle.sheet_run.specs.Passing.{HasSentOne, Passed}
+use Rattle.sheet_run.specs.Run.{Outside, Step, after, RanToEnd, RanIntoWord, RanToBadByte, RanToKeyFault, RanToLimit, RanOutOfMemory}
+use Rattle.sheet_run.specs.Reader.{RestsAsTold}
+use Rattle.sheet_run.specs.declared.reader.KeyFeed.{KeyFeed}
+use Rattle.sheet_run.specs.declared.drive.StepEnd.{StepEnd}
+use Rattle.sheet_run.specs.declared.drive.StepEnd.TheVariants.{Done, NoMemory as StepNoMemory}
+use Rattle.sheet_run.specs.declared.drive.Ending.{Ending}
+use Rattle.sheet_run.specs.declared.drive.Ending.TheVariants.{KeysEnded, BadWord, KeysFailed, Stopped, NoMemory}
+
+-- a step was made and its screen sent
+pub record HasMadeStep (key : Key) (s t : Running) (readings readings' : Option (List Moment)) (shown shown' : Screen) (displays displays' failed failed' : List View) : Type 0 where
+  pub moment : Moment
+  pub took : TakesReading readings readings' moment
+  pub stepped : IsStep key moment s t
+  pub passed : Passed (HasSentOne shown (screen t.state)) displays displays' failed failed'
+  pub shows : shown' ≡ screen t.state
+  pub printed : IsPrinted (screen t.state)
+
+-- memory ran out in a step, of which nothing is shown
+pub record HasNotMadeStep (readings readings' : Option (List Moment)) (displays displays' failed failed' : List View) : Type 0 where
+  pub moment : Moment
+  pub took : TakesReading readings readings' moment
+  pub displays_stay : displays' ≡ displays
+  pub failed_stay : failed' ≡ failed
+
+abbrev pub HasStepped : Key → Running → Running → Option (List Moment) → Option (List Moment) → Screen → Screen → List View → List View → List View → List View → StepEnd → Type 0
+HasStepped key s t readings readings' shown shown' displays displays' failed failed' Done = HasMadeStep key s t readings readings' shown shown' displays displays' failed failed'
+HasStepped key s t readings readings' shown shown' displays displays' failed failed' StepNoMemory = HasNotMadeStep readings readings' displays displays' failed failed'
+
+-- the ending where the keys are at their end, behind so many bytes
+abbrev pub ended_as : Bool → ℕ → Ending
+ended_as true at = KeysEnded
+ended_as false at = BadWord at
+
+-- the keys ended at a word's end or inside a word, as the reader tells
+abbrev pub EndsAsTold : KeyFeed → Ending → Type 0
+EndsAsTold f ending = (rests : Bool) × RestsAsTold f rests × (ending ≡ ended_as rests f.words.taken)
+
+abbrev pub HasEnded : ℕ → List Step → List Watched → List Watched → Outside → Outside → Ending → Type 0
+HasEnded limit steps left out before now KeysEnded = RanToEnd limit steps left out before now
+HasEnded limit steps left out before now (BadWord at) = RanIntoWord limit at steps left out before now ⊎ RanToBadByte limit at steps left out before now
+HasEnded limit steps left out before now KeysFailed = RanToKeyFault limit steps left out before now
+HasEnded limit steps left out before now Stopped = RanToLimit limit steps left out before now
+HasEnded limit steps left out before now NoMemory = RanOutOfMemory limit steps left out before now
+
+-- the state after an ending that leaves one
+abbrev pub LeavesState : Running → List Step → Ending → Type 0
+LeavesState s steps KeysEnded = s ≡ after start steps
+LeavesState s steps (BadWord at) = s ≡ after start steps
+LeavesState s steps KeysFailed = s ≡ after start steps
+LeavesState s steps Stopped = s ≡ after start steps
+LeavesState s steps NoMemory = Unit {0}
+
+-- the steps of a run were made up to an ending
+pub record HasDriven (limit : ℕ) (s : Running) (before now : Outside) (ending : Ending) : Type 0 where
+  pub steps : List Step
+  pub left : List Watched
+  pub out : List Watched
+  pub ended : HasEnded limit steps left out before now ending
+  pub state : LeavesState s steps ending

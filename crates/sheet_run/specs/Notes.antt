@@ -1,0 +1,77 @@
+-- The notes of a run.
+use Rattle.std.specs.Prelude.{◌≡◌, ℕ, ◌≤◌, ◌⊎◌, Bool, Result, Ok, Err, List, [], ◌∷◌, ◌++◌, length, take, Option, Some, None, codes, if◌then◌else◌}
+use Rattle.grid_address.specs.Address.{decimal}
+use Rattle.outside_world.specs.Causes.{Rose}
+use Rattle.outside_world.specs.declared.faults.Failed.{Failed}
+use Rattle.session_core.specs.Machine.{Running}
+use Rattle.sheet_run.specs.declared.drive.Ending.{Ending}
+use Rattle.sheet_run.specs.declared.drive.Ending.TheVariants.{KeysEnded, BadWord, KeysFailed, Stopped, NoMemory}
+use Rattle.sheet_run.specs.declared.options.Options.{Options}
+
+-- a line that begins with the program's name
+abbrev pub note : List ℕ → List ℕ
+note text = codes "1-2-3: " ++ text ++ 10 ∷ []
+
+abbrev pub refused_note : List ℕ → List ℕ
+refused_note word = note (codes "bad word: " ++ word)
+
+abbrev pub memory_note : List ℕ
+memory_note = note (codes "memory full")
+
+-- how many formulas were evaluated, where the words ask for it
+abbrev pub count_of : Options → Running → Option ℕ
+count_of o r = if o.count then Some r.work.count else None
+
+abbrev pub count_note : Option ℕ → List ℕ
+count_note None = []
+count_note (Some n) = note (codes "evaluations " ++ decimal n)
+
+-- the note of an ending; the flag says whether a display failed
+abbrev pub ending_note : ℕ → Bool → Ending → List ℕ
+ending_note limit moved KeysEnded = if moved then note (codes "display failed") else []
+ending_note limit moved (BadWord at) = note (codes "bad key word at byte " ++ decimal at)
+ending_note limit moved KeysFailed = note (codes "keys failed")
+ending_note limit moved Stopped = note (codes "stopped after " ++ decimal limit ++ codes " steps")
+ending_note limit moved NoMemory = memory_note
+
+-- the status of an ending; the flag says whether a display failed
+abbrev pub ending_status : Bool → Ending → ℕ
+ending_status moved KeysEnded = if moved then 7 else 0
+ending_status moved (BadWord at) = 4
+ending_status moved KeysFailed = 5
+ending_status moved Stopped = 3
+ending_status moved NoMemory = 9
+
+abbrev pub LeavesSession : Ending → Type 0
+LeavesSession KeysEnded = Unit {0}
+LeavesSession (BadWord at) = Unit {0}
+LeavesSession KeysFailed = Unit {0}
+LeavesSession Stopped = Unit {0}
+LeavesSession NoMemory = ⊥
+
+-- where the notes tell their bytes, this text was added
+abbrev pub AddsText : List ℕ → Option (List ℕ) → Option (List ℕ) → Type 0
+AddsText text None now = now ≡ None
+AddsText text (Some old) now = now ≡ Some (old ++ text)
+
+-- where they tell them, a part of it was added, from its beginning on
+abbrev pub AddsPart : List ℕ → Option (List ℕ) → Option (List ℕ) → Type 0
+AddsPart text None now = now ≡ None
+AddsPart text (Some old) now = (n : ℕ) × (n ≤ length text) × (now ≡ Some (old ++ take n text))
+
+-- the text was written, or a write of it failed and no more was written
+abbrev pub Tried : List ℕ → Option (List ℕ) → Option (List ℕ) → ℕ → ℕ → Type 0
+Tried text before now faults faults' = (AddsText text before now × (faults' ≡ faults)) ⊎ (AddsPart text before now × Rose faults faults')
+
+-- the text was written and the status is the one found, or a write failed and the status is 8
+abbrev pub Tells : List ℕ → ℕ → Option (List ℕ) → Option (List ℕ) → ℕ → ℕ → ℕ → Type 0
+Tells text found before now faults faults' status = ((status ≡ found) × AddsText text before now × (faults' ≡ faults)) ⊎ ((status ≡ 8) × AddsPart text before now × Rose faults faults')
+
+-- one write: all of it was added, or it failed
+abbrev pub HasWritten : List ℕ → Option (List ℕ) → Option (List ℕ) → ℕ → ℕ → Result Unit Failed → Type 0
+HasWritten text before now faults faults' (Ok _) = AddsText text before now × (faults' ≡ faults)
+HasWritten text before now faults faults' (Err f) = AddsPart text before now × Rose faults faults'
+
+-- a refused word was told, or there was no memory for its line
+abbrev pub ToldRefused : List ℕ → Option (List ℕ) → Option (List ℕ) → ℕ → ℕ → ℕ → Type 0
+ToldRefused word before now faults faults' status = Tells (refused_note word) 1 before now faults faults' status ⊎ ((status ≡ 9) × Tried memory_note before now faults faults')

@@ -1,0 +1,99 @@
+-- The grammar of the command line's words.
+use Rattle.std.specs.Char.{is_ascii_digit}
+use Rattle.std.specs.Prelude.{ℕ, ◌+◌, ◌-◌, ◌*◌, Bool, true, false, ◌&&◌, nat_lt, nat_le, if◌then◌else◌, List, [], ◌∷◌, length, take, drop, fold, slice_index, Option, Some, None, Result, Ok, Err, codes, is_some, unwrap_or}
+use Rattle.std.specs.List.{list_all}
+use Rattle.std.specs.Str.{bytes_eq}
+use Rattle.fixed_value.specs.Decimals.{number_of}
+use Rattle.screen_show.specs.declared.display.Kind.{Kind}
+use Rattle.screen_show.specs.declared.display.Kind.TheVariants.{Pages, Ansi, Last}
+use Rattle.sheet_run.specs.declared.options.Options.{Options}
+use Rattle.sheet_run.specs.declared.options.Wanted.{Wanted}
+use Rattle.sheet_run.specs.declared.options.Wanted.TheVariants.{Steps, Show}
+
+abbrev pub no_options : Options
+no_options = record { steps = None; show = None; count = false }
+
+-- the most steps of the run, one million where the words don't say it
+abbrev pub limit_of : Options → ℕ
+limit_of o = unwrap_or o.steps 1000000
+
+-- the kind of display that is used, pages where the words don't say it
+abbrev pub shown_kind : Options → Kind
+shown_kind o = unwrap_or o.show Pages
+
+-- digits without a leading zero, of a number that is not 0
+abbrev pub is_number : List ℕ → Bool
+is_number digits = nat_lt 48 (slice_index digits 0) && list_all is_ascii_digit digits
+
+-- a number of at most 10,000,000
+unfoldable pub steps_of : List ℕ → Option ℕ
+steps_of v = if is_number v && nat_le (number_of v) 10000000 then Some (number_of v) else None
+
+abbrev pub kind_of : List ℕ → Option Kind
+kind_of v = if bytes_eq v (codes "pages") then Some Pages else if bytes_eq v (codes "ansi") then Some Ansi else if bytes_eq v (codes "last") then Some Last else None
+
+abbrev pub has_front : List ℕ → List ℕ → Bool
+has_front word front = bytes_eq (take (length front) word) front
+
+-- the word of an option whose value stands in the next word
+abbrev pub option_text : Wanted → List ℕ
+option_text Steps = codes "--steps"
+option_text Show = codes "--show"
+
+abbrev pub steps_taken : Options → Option ℕ → List ℕ → Result Options (List ℕ)
+steps_taken o None value = Err value
+steps_taken o (Some n) value = Ok (record o { steps = Some n })
+
+abbrev pub show_taken : Options → Option Kind → List ℕ → Result Options (List ℕ)
+show_taken o None value = Err value
+show_taken o (Some kind) value = Ok (record o { show = Some kind })
+
+-- a value takes its option's place, or is refused alone
+abbrev pub on_value : Options → Wanted → List ℕ → Result Options (List ℕ)
+on_value o Steps value = steps_taken o (steps_of value) value
+on_value o Show value = show_taken o (kind_of value) value
+
+-- the option was given before
+abbrev pub is_given : Options → Wanted → Bool
+is_given o Steps = is_some o.steps
+is_given o Show = is_some o.show
+
+abbrev pub complete : Result Options (List ℕ) → Result (Options × Option Wanted) (List ℕ)
+complete (Ok o) = Ok (o, None)
+complete (Err text) = Err text
+
+-- an option that was not given before, with its value behind `=`
+abbrev pub on_joined : Options → List ℕ → Result (Options × Option Wanted) (List ℕ)
+on_joined o w =
+    if has_front w (codes "--steps=") then (if is_given o Steps then Err w else complete (on_value o Steps (drop 8 w)))
+    else if has_front w (codes "--show=") then (if is_given o Show then Err w else complete (on_value o Show (drop 7 w)))
+    else Err w
+
+-- a word where no value is wanted: an option that was not given before, alone or with its value
+abbrev pub on_word : Options → List ℕ → Result (Options × Option Wanted) (List ℕ)
+on_word o w =
+    if bytes_eq w (codes "--count") then (if o.count then Err w else Ok (record o { count = true }, None))
+    else if bytes_eq w (codes "--steps") then (if is_given o Steps then Err w else Ok (o, Some Steps))
+    else if bytes_eq w (codes "--show") then (if is_given o Show then Err w else Ok (o, Some Show))
+    else on_joined o w
+
+-- what a word comes to, where a value is wanted or not
+abbrev pub taken : Options → Option Wanted → List ℕ → Result (Options × Option Wanted) (List ℕ)
+taken o None word = on_word o word
+taken o (Some wanted) value = complete (on_value o wanted value)
+
+abbrev pub go_on : Result (Options × Option Wanted) (List ℕ) → (Options → Option Wanted → Result Options (List ℕ)) → Result Options (List ℕ)
+go_on (Ok t) rest = rest t.0 t.1
+go_on (Err text) rest = Err text
+
+abbrev pub at_end : Options → Option Wanted → Result Options (List ℕ)
+at_end o None = Ok o
+at_end o (Some wanted) = Err (option_text wanted)
+
+-- The words from the left: what they ask for, or the first word or value that can't go on, or the option whose value is missing.
+abbrev pub read_on : Options → Option Wanted → List (List ℕ) → Result Options (List ℕ)
+read_on o wanted [] = at_end o wanted
+read_on o wanted (w ∷ ws) = go_on (taken o wanted w) (λ p next. read_on p next ws)
+
+abbrev pub words_read : List (List ℕ) → Result Options (List ℕ)
+words_read words = read_on no_options None words

@@ -1,0 +1,131 @@
+-- A whole run, from the first reading of the clock to the last step.
+use Rattle.std.specs.Prelude.{◌≡◌, ℕ, ◌<◌, ◌≤◌, ◌-◌, ◌^◌, ◌⊎◌, List, [], ◌∷◌, ◌++◌, length, map, Option}
+use Rattle.outside_world.specs.Causes.{Rose}
+use Rattle.serial_date.specs.declared.moment.Moment.{Moment}
+use Rattle.key_words.specs.Notation.{Begins, IsNoText}
+use Rattle.key_words.specs.declared.key.Key.{Key}
+use Rattle.session_core.specs.Machine.{start, IsSame, IsStep, Running}
+use Rattle.session_core.specs.Screen.{screen}
+use Rattle.screen_show.specs.Display.{View}
+use Rattle.sheet_run.specs.Displays.{Screen, Sent, Watched, views_of}
+use Rattle.sheet_run.specs.Notation.{HasKeys, Spells, SpellsInto}
+use Rattle.sheet_run.specs.Taking.{TakesBytes, TakesReadings, AtEnd}
+
+-- a step takes a key and a reading of the clock, and leaves the machine in a state
+pub record Step : Type 0 where
+  pub key : Key
+  pub moment : Moment
+  pub next : Running
+
+-- each of the steps is one of the machine's, from the state before it
+abbrev pub AreSteps : Running → List Step → Type 0
+AreSteps r [] = Unit {0}
+AreSteps r (x ∷ xs) = IsStep x.key x.moment r x.next × AreSteps x.next xs
+
+-- the state after these steps
+abbrev pub after : Running → List Step → Running
+after r [] = r
+after r (x ∷ xs) = after x.next xs
+
+-- the screens of these steps
+abbrev pub screens : List Step → List Screen
+screens steps = map (λ x. screen x.next.state) steps
+
+abbrev pub keys_of : List Step → List Key
+keys_of steps = map (λ x. x.key) steps
+
+abbrev pub moments_of : List Step → List Moment
+moments_of steps = map (λ x. x.moment) steps
+
+-- steps with the same keys and readings show the same screens, and leave the same state and count
+pub record GoOneWay (a b : Running) (xs ys : List Step) : Type 0 where
+  pub screens : screens xs ≡ screens ys
+  pub after : IsSame (after a xs) (after b ys)
+
+-- the outside as it is told, and the counts of its faults
+pub record Outside : Type 0 where
+  pub bytes : Option (List ℕ)
+  pub key_faults : ℕ
+  pub readings : Option (List Moment)
+  pub shelf_faults : ℕ
+  pub displays : List View
+  pub failed : List View
+
+abbrev pub outside : Option (List ℕ) → ℕ → Option (List Moment) → ℕ → List View → List View → Outside
+outside bytes key_faults readings shelf_faults displays failed =
+    record { bytes = bytes; key_faults = key_faults; readings = readings; shelf_faults = shelf_faults; displays = displays; failed = failed }
+
+-- These bytes and readings were taken, the steps are the machine's from its start on, and their screens were sent; they are at most as many as the limit. The displays that never failed are left; those that failed stand at the end of the failed ones.
+pub record HasRun (limit : ℕ) (taken : List ℕ) (moments : List Moment) (steps : List Step) (left out : List Watched) (before now : Outside) : Type 0 where
+  pub bytes : TakesBytes before.bytes taken now.bytes
+  pub readings : TakesReadings before.readings moments now.readings
+  pub shelf : now.shelf_faults ≡ before.shelf_faults
+  pub made : AreSteps start steps
+  pub sent : Sent before.displays (screens steps) left out
+  pub displays : now.displays ≡ views_of left
+  pub failed : now.failed ≡ before.failed ++ views_of out
+  pub within : length steps ≤ limit
+
+-- at the last u64 of bytes the keys count as ended
+abbrev pub Ended : List ℕ → Option (List ℕ) → Type 0
+Ended taken bytes = AtEnd bytes ⊎ (length taken ≡ 2 ^ 64 - 1)
+
+-- the keys ended at a word's end
+pub record RanToEnd (limit : ℕ) (steps : List Step) (left out : List Watched) (before now : Outside) : Type 0 where
+  pub taken : List ℕ
+  pub first : Moment
+  pub did : HasRun limit taken (first ∷ moments_of steps) steps left out before now
+  pub spelled : Spells taken (keys_of steps)
+  pub ended : Ended taken now.bytes
+  pub no_fault : now.key_faults ≡ before.key_faults
+
+-- the keys ended inside a word, behind so many bytes
+pub record RanIntoWord (limit at : ℕ) (steps : List Step) (left out : List Watched) (before now : Outside) : Type 0 where
+  pub taken : List ℕ
+  pub first : Moment
+  pub did : HasRun limit taken (first ∷ moments_of steps) steps left out before now
+  pub keys : HasKeys taken (keys_of steps)
+  pub no_text : IsNoText taken
+  pub ended : Ended taken now.bytes
+  pub place : at ≡ length taken
+  pub no_fault : now.key_faults ≡ before.key_faults
+
+-- behind so many bytes came one with which no text of the notation goes on
+pub record RanToBadByte (limit at : ℕ) (steps : List Step) (left out : List Watched) (before now : Outside) : Type 0 where
+  pub taken : List ℕ
+  pub bad : ℕ
+  pub first : Moment
+  pub did : HasRun limit (taken ++ bad ∷ []) (first ∷ moments_of steps) steps left out before now
+  pub keys : HasKeys taken (keys_of steps)
+  pub begins_none : Begins (taken ++ bad ∷ []) → ⊥
+  pub place : at ≡ length taken
+  pub no_fault : now.key_faults ≡ before.key_faults
+
+-- the keys failed
+pub record RanToKeyFault (limit : ℕ) (steps : List Step) (left out : List Watched) (before now : Outside) : Type 0 where
+  pub taken : List ℕ
+  pub first : Moment
+  pub did : HasRun limit taken (first ∷ moments_of steps) steps left out before now
+  pub keys : HasKeys taken (keys_of steps)
+  pub fault : Rose before.key_faults now.key_faults
+
+-- as many steps as the limit were made, and a key was there for one more
+pub record RanToLimit (limit : ℕ) (steps : List Step) (left out : List Watched) (before now : Outside) : Type 0 where
+  pub taken : List ℕ
+  pub first : Moment
+  pub last : Key
+  pub did : HasRun limit taken (first ∷ moments_of steps) steps left out before now
+  pub all : length steps ≡ limit
+  pub spelled : SpellsInto taken (keys_of steps ++ last ∷ [])
+  pub no_fault : now.key_faults ≡ before.key_faults
+
+-- memory ran out in a step, which is not shown
+pub record RanOutOfMemory (limit : ℕ) (steps : List Step) (left out : List Watched) (before now : Outside) : Type 0 where
+  pub taken : List ℕ
+  pub first : Moment
+  pub unfinished : Key
+  pub reading : Moment
+  pub did : HasRun limit taken (first ∷ moments_of steps ++ reading ∷ []) steps left out before now
+  pub more : length steps < limit
+  pub spelled : SpellsInto taken (keys_of steps ++ unfinished ∷ [])
+  pub no_fault : now.key_faults ≡ before.key_faults

@@ -1,0 +1,66 @@
+-- What a run did, by its status.
+use Rattle.std.specs.Prelude.{◌≡◌, ℕ, Bool, true, false, List, [], ◌∷◌, ◌++◌, Option, Ok, Err}
+use Rattle.std.specs.List.{filter}
+use Rattle.session_core.specs.Machine.{start}
+use Rattle.sheet_run.specs.Displays.{HasClosed, HasFailed, Passes, Watched, same_kind, views_of}
+use Rattle.sheet_run.specs.Driving.{HasEnded}
+use Rattle.sheet_run.specs.Notes.{LeavesSession, Tells, Tried, count_note, count_of, ending_note, ending_status, memory_note, refused_note}
+use Rattle.sheet_run.specs.Options.{limit_of, shown_kind, words_read}
+use Rattle.sheet_run.specs.Run.{Outside, RanOutOfMemory, Step, after, screens}
+use Rattle.sheet_run.specs.declared.drive.Ending.{Ending}
+use Rattle.sheet_run.specs.declared.options.Options.{Options}
+
+-- the outside, with the notes
+pub record World : Type 0 where
+  pub outside : Outside
+  pub notes : Option (List ℕ)
+  pub note_faults : ℕ
+
+abbrev pub world : Outside → Option (List ℕ) → ℕ → World
+world outside notes note_faults = record { outside = outside; notes = notes; note_faults = note_faults }
+
+-- the outside where the displays of other kinds were dropped
+abbrev pub asked : Options → Outside → Outside
+asked o before = record before { displays = filter (λ v. same_kind v.kind (shown_kind o)) before.displays }
+
+abbrev pub is_any : List Watched → Bool
+is_any [] = false
+is_any (d ∷ ds) = true
+
+-- the outside once the displays that were left are closed
+abbrev pub closed_outside : Outside → List Watched → List Watched → Outside
+closed_outside middle left out = record middle { displays = views_of left; failed = middle.failed ++ views_of out }
+
+-- The steps were made up to an ending that leaves the session, and each display that was left was closed. The status is found, and the text is that of the notes.
+pub record HasFinished (options : Options) (before now : Outside) (found : ℕ) (text : List ℕ) : Type 0 where
+  pub ending : Ending
+  pub leaves : LeavesSession ending
+  pub steps : List Step
+  pub left : List Watched
+  pub out : List Watched
+  pub middle : Outside
+  pub ended : HasEnded (limit_of options) steps left out (asked options before) middle ending
+  pub left_now : List Watched
+  pub out_now : List Watched
+  pub closed : Passes (HasClosed (screens steps)) (HasFailed (screens steps)) left left_now out_now
+  pub now_is : now ≡ closed_outside middle left_now out_now
+  pub found_is : found ≡ ending_status (is_any (out ++ out_now)) ending
+  pub text_is : text ≡ count_note (count_of options (after start steps)) ++ ending_note (limit_of options) (is_any (out ++ out_now)) ending
+
+-- what a run with these options did, by its status
+pub data RunsWith (options : Options) (before now : World) : ℕ → Type 0 where
+  finished : (found : ℕ) (text : List ℕ) {status : ℕ} → HasFinished options before.outside now.outside found text → Tells text found before.notes now.notes before.note_faults now.note_faults status → RunsWith options before now status
+  -- memory ran out before room was there for each display
+  no_room : now.outside ≡ before.outside → Tried memory_note before.notes now.notes before.note_faults now.note_faults → RunsWith options before now 9
+  -- memory ran out before the session was there, and no reading was taken
+  no_session : now.outside ≡ asked options before.outside → Tried memory_note before.notes now.notes before.note_faults now.note_faults → RunsWith options before now 9
+  -- memory ran out in a step; the displays have the screens of the finished steps
+  no_memory : (steps : List Step) (left out : List Watched) → RanOutOfMemory (limit_of options) steps left out (asked options before.outside) now.outside →
+      Tried memory_note before.notes now.notes before.note_faults now.note_faults → RunsWith options before now 9
+
+-- What a run did, by its status. Where the words are refused nothing but the notes was called.
+pub data IsRun (words : List (List ℕ)) (before now : World) : ℕ → Type 0 where
+  refused : (word : List ℕ) {status : ℕ} → words_read words ≡ Err word → now.outside ≡ before.outside → Tells (refused_note word) 1 before.notes now.notes before.note_faults now.note_faults status → IsRun words before now status
+  ran : (options : Options) {status : ℕ} → words_read words ≡ Ok options → RunsWith options before now status → IsRun words before now status
+  -- memory ran out while the note on the refused word was made
+  no_note : (word : List ℕ) → words_read words ≡ Err word → now.outside ≡ before.outside → Tried memory_note before.notes now.notes before.note_faults now.note_faults → IsRun words before now 9

@@ -1,0 +1,118 @@
+// Drives a session by keys.
+ghost use Rattle.std.specs.Prelude.{◌≡◌, ◌≤◌, ◌+◌, false, map, vec_len, vec_capacity};
+ghost use Rattle.screen_show.specs.Grid.{empty_grid};
+ghost use Rattle.session_core.specs.Machine.{start};
+ghost use Rattle.sheet_run.specs.Driving.{EndsAsTold, HasStepped, HasDriven};
+ghost use Rattle.sheet_run.specs.Run.{outside};
+
+use crate::displays::{Work, work_on_all};
+use crate::reader::{KeyFeed, Read};
+use key_words::Key;
+use outside_world::{Clock, Keys, Shelf};
+use screen_show::{Display, Grid};
+use session_core::{Event, Session, Stepped};
+
+/// How a step ended.
+#[derive(Clone, Copy)]
+pub enum StepEnd {
+    Done,
+    NoMemory,
+}
+
+/// How the steps of a run ended.
+#[derive(Clone, Copy)]
+pub enum Ending {
+    /// The keys ended at a word's end.
+    KeysEnded,
+    /// The keys ended inside a word, or a byte came with which none goes on, behind so many bytes.
+    BadWord(u64),
+    KeysFailed,
+    /// A key was there for one step more than the limit allows.
+    Stopped,
+    NoMemory,
+}
+
+// Reads the clock, makes a step, and sends its screen.
+fn make_step<S: Shelf, C: Clock>(
+    key: Key,
+    shelf: &mut S,
+    clock: &mut C,
+    displays: &mut Vec<Box<dyn Display>>,
+    failed: &mut Vec<Box<dyn Display>>,
+    session: &mut Session,
+    shown: &mut Grid,
+) -> StepEnd
+    requires fresh { session.old.state.spent ≡ false }
+    requires room { vec_len failed.old + vec_len displays.old ≤ vec_capacity failed.old }
+    ensures stepped { HasStepped key session.old session.new (C.readings clock.old) (C.readings clock.new) shown.old shown.new (map seen displays.old.items) (map seen displays.new.items) (map seen failed.old.items) (map seen failed.new.items) result }
+    ensures shelf { S.faults shelf.new ≡ S.faults shelf.old }
+    ensures room { vec_len failed.new + vec_len displays.new ≤ vec_capacity failed.new }
+{
+    let now = clock.read();
+    match session.step(Event::Key(key), &now, shelf) {
+        Stepped::More => {}
+        Stepped::Quit => unreachable!(),
+        Stepped::Memory => return StepEnd::NoMemory,
+    }
+    let after = session.grid();
+    let work = Work::Send {
+        before: shown,
+        after: &after,
+    };
+    work_on_all(&work, displays, failed);
+    *shown = after;
+    StepEnd::Done
+}
+
+// The ending where the keys are at their end.
+fn ended(feed: &KeyFeed) -> Ending
+    ensures { EndsAsTold feed.now result }
+{
+    if feed.at_rest() {
+        Ending::KeysEnded
+    } else {
+        Ending::BadWord(feed.taken())
+    }
+}
+
+/// Reads the clock for the start, and makes steps until the keys end, the limit is reached or something
+/// fails.
+pub fn drive<K: Keys, S: Shelf, C: Clock>(
+    limit: u32,
+    keys: &mut K,
+    shelf: &mut S,
+    clock: &mut C,
+    displays: &mut Vec<Box<dyn Display>>,
+    failed: &mut Vec<Box<dyn Display>>,
+    session: &mut Session,
+) -> Ending
+    requires fresh { session.old ≡ start }
+    requires room { vec_len failed.old + vec_len displays.old ≤ vec_capacity failed.old }
+    ensures driven { HasDriven limit session.new
+        (outside (K.left keys.old) (K.faults keys.old) (C.readings clock.old) (S.faults shelf.old) (map seen displays.old.items) (map seen failed.old.items))
+        (outside (K.left keys.new) (K.faults keys.new) (C.readings clock.new) (S.faults shelf.new) (map seen displays.new.items) (map seen failed.new.items))
+        result }
+    ensures room { vec_len failed.new + vec_len displays.new ≤ vec_capacity failed.new }
+{
+    let _first = clock.read();
+    let mut shown = Grid::empty();
+    let mut feed = KeyFeed::new();
+    let mut steps: u32 = 0;
+    while !feed.is_full() {
+        let key = match feed.read(keys) {
+            Read::Key(key) => key,
+            Read::More => continue,
+            Read::End => return ended(&feed),
+            Read::Bad(at) => return Ending::BadWord(at),
+            Read::Failed => return Ending::KeysFailed,
+        };
+        if steps >= limit {
+            return Ending::Stopped;
+        }
+        match make_step(key, shelf, clock, displays, failed, session, &mut shown) {
+            StepEnd::Done => steps += 1,
+            StepEnd::NoMemory => return Ending::NoMemory,
+        }
+    }
+    ended(&feed)
+}

@@ -1,0 +1,14 @@
+//! A run of the worksheet program: words of the command line, keys, clock and files go in, and screens and notes come
+//! out, until the keys end or a named cause ends it.
+#![tactic(auto)]
+
+mod displays;
+mod drive;
+mod notes;
+mod options;
+mod reader;
+mod runs;
+mod words;
+
+pub use runs::{a_run_goes_one_way, run};
+pub use words::Words;

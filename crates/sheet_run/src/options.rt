@@ -1,0 +1,278 @@
+// Reads the words of the command line.
+ghost use Rattle.std.specs.Char.{is_ascii_digit};
+ghost use Rattle.std.specs.Prelude.{◌≡◌, ◌≤◌, ◌<◌, min, drop, length, slice_index_or, []};
+ghost use Rattle.std.specs.List.{list_all};
+ghost use Rattle.std.specs.Str.{bytes_eq};
+ghost use Rattle.fixed_value.specs.Decimals.{number_of};
+ghost use Rattle.sheet_run.specs.Options.{is_number, steps_of, kind_of, on_joined, on_value, on_word, complete, taken, limit_of, shown_kind, has_front};
+ghost use Rattle.sheet_run.specs.OptionAnswers.{HasValue, HasTaken, HasReadWords};
+
+use crate::Words;
+use screen_show::Kind;
+
+/// What the words ask for: at most once each, in any order.
+#[derive(Clone, Copy, PartialEq, Eq, Debug)]
+pub struct Options {
+    /// `--steps N`: the most steps of the run, 1 to 10,000,000.
+    pub steps: Option<u32>,
+    /// `--show pages`, `ansi` or `last`: the kind of display that is used.
+    pub show: Option<Kind>,
+    /// `--count`: the number of evaluations is told.
+    pub count: bool,
+}
+
+/// An option that waits for its value, which is the next word.
+#[derive(Clone, Copy, PartialEq, Eq, Debug)]
+pub enum Wanted {
+    Steps,
+    Show,
+}
+
+/// What is refused of the words.
+#[derive(Clone, Copy, PartialEq, Eq, Debug)]
+pub enum Refused {
+    /// The bytes of the word at this place, from this byte on.
+    Part { place: usize, from: usize },
+    /// An option at the end of the words, whose value is missing.
+    NoValue(Wanted),
+}
+
+/// The most steps that a limit can allow.
+pub const MAX_STEPS: u32 = 10_000_000;
+
+/// How many steps a run makes where the words don't say it.
+pub const DEFAULT_STEPS: u32 = 1_000_000;
+
+impl Options {
+    /// The most steps of the run.
+    pub fn limit(&self) -> u32
+        ensures { result ≡ limit_of self.now }
+    {
+        match self.steps {
+            Some(steps) => steps,
+            None => DEFAULT_STEPS,
+        }
+    }
+
+    /// The kind of display that is used.
+    pub fn kind(&self) -> Kind
+        ensures { result ≡ shown_kind self.now }
+    {
+        match self.show {
+            Some(kind) => kind,
+            None => Kind::Pages,
+        }
+    }
+}
+
+fn is_same(bytes: &[u8], other: &[u8]) -> bool
+    ensures { result ≡ bytes_eq bytes.now other.now }
+{
+    bytes == other
+}
+
+// Whether the bytes begin with these.
+fn has_front(bytes: &[u8], front: &[u8]) -> bool
+    ensures { result ≡ has_front bytes.now front.now }
+{
+    is_same(&bytes[..front.len().min(bytes.len())], front)
+}
+
+fn are_digits(bytes: &[u8]) -> bool
+    ensures { result ≡ list_all is_ascii_digit bytes.now }
+{
+    bytes.iter().all(|byte| byte.is_ascii_digit())
+}
+
+// Whether these are digits of a number above 0 without a leading zero.
+fn is_number(digits: &[u8]) -> bool
+    ensures { result ≡ is_number digits.now }
+{
+    !digits.is_empty() && digits[0] > b'0' && are_digits(digits)
+}
+
+// What digits stand for, and at most a number that is too large for a limit.
+#[tactic(auto, using(crate::proofs::Numbers::capped, std::proofs::lemmas::List::Sums::fold_more))]
+fn capped_number(digits: &[u8]) -> u32
+    ensures { result ≡ min (number_of digits.now) 10000001 }
+{
+    let mut number: u32 = 0;
+    for byte in digits {
+        number = (number * 10 + u32::from(byte.saturating_sub(b'0'))).min(MAX_STEPS + 1);
+    }
+    number
+}
+
+// The number of a step limit.
+#[tactic(auto, unfolding(crate::specs::Options::steps_of))]
+fn steps_of(value: &[u8]) -> Option<u32>
+    ensures { result ≡ steps_of value.now }
+{
+    if !is_number(value) {
+        return None;
+    }
+    let number = capped_number(value);
+    if number <= MAX_STEPS {
+        Some(number)
+    } else {
+        None
+    }
+}
+
+fn kind_of(value: &[u8]) -> Option<Kind>
+    ensures { result ≡ kind_of value.now }
+{
+    if is_same(value, b"pages") {
+        Some(Kind::Pages)
+    } else if is_same(value, b"ansi") {
+        Some(Kind::Ansi)
+    } else if is_same(value, b"last") {
+        Some(Kind::Last)
+    } else {
+        None
+    }
+}
+
+// Takes a value, which is refused alone.
+fn on_value(options: Options, wanted: Wanted, value: &[u8]) -> Option<Options>
+    ensures { HasValue value.now (on_value options wanted value.now) result }
+{
+    match wanted {
+        Wanted::Steps => {
+            let steps = Some(steps_of(value)?);
+            Some(Options { steps, ..options })
+        }
+        Wanted::Show => {
+            let show = Some(kind_of(value)?);
+            Some(Options { show, ..options })
+        }
+    }
+}
+
+// Takes an option whose value stands behind `=`, from this byte on.
+fn with_value(
+    options: Options,
+    wanted: Wanted,
+    word: &[u8],
+    from: usize,
+) -> Result<(Options, Option<Wanted>), usize>
+    requires { from ≤ length word.now }
+    ensures { HasTaken word.now (complete (on_value options wanted (drop from word.now))) result }
+{
+    match on_value(options, wanted, rest(word, from)) {
+        Some(options) => Ok((options, None)),
+        None => Err(from),
+    }
+}
+
+fn rest(word: &[u8], from: usize) -> &[u8]
+    requires { from ≤ length word.now }
+    ensures { result.now ≡ drop from word.now }
+{
+    &word[from..]
+}
+
+// Takes an option with its value behind `=`.
+fn on_joined(options: Options, word: &[u8]) -> Result<(Options, Option<Wanted>), usize>
+    ensures { HasTaken word.now (on_joined options word.now) result }
+{
+    if has_front(word, b"--steps=") {
+        return if options.steps.is_some() {
+            Err(0)
+        } else {
+            with_value(options, Wanted::Steps, word, 8)
+        };
+    }
+    if has_front(word, b"--show=") {
+        return if options.show.is_some() {
+            Err(0)
+        } else {
+            with_value(options, Wanted::Show, word, 7)
+        };
+    }
+    Err(0)
+}
+
+// Takes a word where no value is wanted.
+fn on_word(options: Options, word: &[u8]) -> Result<(Options, Option<Wanted>), usize>
+    ensures { HasTaken word.now (on_word options word.now) result }
+{
+    if is_same(word, b"--count") {
+        if options.count {
+            return Err(0);
+        }
+        return Ok((
+            Options {
+                count: true,
+                ..options
+            },
+            None,
+        ));
+    }
+    if is_same(word, b"--steps") {
+        return if options.steps.is_some() {
+            Err(0)
+        } else {
+            Ok((options, Some(Wanted::Steps)))
+        };
+    }
+    if is_same(word, b"--show") {
+        return if options.show.is_some() {
+            Err(0)
+        } else {
+            Ok((options, Some(Wanted::Show)))
+        };
+    }
+    on_joined(options, word)
+}
+
+// Takes the next word.
+fn take_word(
+    options: Options,
+    wanted: Option<Wanted>,
+    word: &[u8],
+) -> Result<(Options, Option<Wanted>), usize>
+    ensures { HasTaken word.now (taken options wanted word.now) result }
+{
+    match wanted {
+        None => on_word(options, word),
+        Some(wanted) => with_value(options, wanted, word, 0),
+    }
+}
+
+/// The word at a place.
+pub fn word_at(words: &Words, place: usize) -> &[u8]
+    requires { place < length words.now }
+    ensures { result.now ≡ slice_index_or words.now place [] }
+{
+    match words.get(place) {
+        Some(word) => word,
+        None => unreachable!(),
+    }
+}
+
+/// Reads the words of the command line: what they ask for, or the first word or value that can't go on,
+/// or the option whose value is missing (this project's choice of options).
+pub fn read_words(words: &Words) -> Result<Options, Refused>
+    ensures { HasReadWords words.now result }
+{
+    let mut options = Options {
+        steps: None,
+        show: None,
+        count: false,
+    };
+    let mut wanted = None;
+    for place in 0..words.len() {
+        match take_word(options, wanted, word_at(words, place)) {
+            Ok((next, waits)) => {
+                options = next;
+                wanted = waits;
+            }
+            Err(from) => return Err(Refused::Part { place, from }),
+        }
+    }
+    match wanted {
+        None => Ok(options),
+        Some(wanted) => Err(Refused::NoValue(wanted)),
+    }
+}

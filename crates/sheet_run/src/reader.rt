@@ -1,0 +1,104 @@
+// Reads the keys that bytes of key notation stand for.
+ghost use Rattle.std.specs.Prelude.{◌≡◌, ◌<◌, ℕ, List, [], false, true};
+ghost use Rattle.key_words.specs.declared.key.Key.{Key};
+ghost use Rattle.outside_world.specs.Causes.{Rose};
+ghost use Rattle.sheet_run.specs.Reader.{ahead, HasPressed, HasPressedAll, HasRoom, IsFull, Reads, RestsAsTold, Takes};
+ghost use Rattle.sheet_run.specs.declared.reader.Read.TheVariants as Read;
+
+use key_words::{Fed, Key, KeyReader};
+use outside_world::Keys;
+
+/// A reader of keys: the reader of their words, and how often the last word's key is still to come.
+#[derive(Drop)]
+pub struct KeyFeed {
+    words: KeyReader,
+    key: Key,
+    left: u16,
+}
+
+/// What reading came to.
+#[derive(Clone, Copy)]
+pub enum Read {
+    Key(Key),
+    More,
+    /// No text goes on with a byte, before which so many were read.
+    Bad(u64),
+    End,
+    Failed,
+}
+
+impl KeyFeed {
+    /// A reader that has read nothing.
+    pub fn new() -> KeyFeed
+        ensures { HasPressedAll [] [] result }
+    {
+        KeyFeed {
+            words: KeyReader::new(),
+            key: Key::Enter,
+            left: 0,
+        }
+    }
+
+    /// Whether as many bytes were read as can be counted, and no key is still to come.
+    pub fn is_full(&self) -> bool
+        ensures full { result ≡ true → IsFull self.now }
+        ensures room { result ≡ false → HasRoom self.now }
+    {
+        self.left == 0 && self.words.taken() == u64::MAX
+    }
+
+    /// How many bytes were read.
+    pub fn taken(&self) -> u64
+        ensures { result ≡ self.now.words.taken }
+    {
+        self.words.taken()
+    }
+
+    /// Whether the bytes that were read are whole words.
+    pub fn at_rest(&self) -> bool
+        ensures { RestsAsTold self.now result }
+    {
+        self.words.at_rest()
+    }
+
+    /// The last word's key once more, or what one byte more comes to.
+    pub fn read<K: Keys>(&mut self, keys: &mut K) -> Read
+        requires room { HasRoom self.old }
+        ensures read { (bytes : List ℕ) (made : List Key) → HasPressed bytes made self.old → Reads bytes made (K.left keys.old) (K.left keys.new) self.new result }
+        ensures key { (key : Key) → result ≡ Read.Key key → ahead self.new < ahead self.old }
+        ensures more { result ≡ Read.More → ahead self.new < ahead self.old }
+        ensures fault { result ≡ Read.Failed → Rose (K.faults keys.old) (K.faults keys.new) }
+        ensures fine { (result ≡ Read.Failed → ⊥) → K.faults keys.new ≡ K.faults keys.old }
+    {
+        if self.left > 0 {
+            self.left -= 1;
+            return Read::Key(self.key);
+        }
+        match keys.next() {
+            Ok(Some(byte)) => self.take(byte),
+            Ok(None) => Read::End,
+            Err(_) => Read::Failed,
+        }
+    }
+
+    // What a byte comes to.
+    fn take(&mut self, byte: u8) -> Read
+        requires none { self.old.left ≡ 0 }
+        requires room { self.old.words.taken < 18446744073709551615 }
+        ensures took { (bytes : List ℕ) (made : List Key) → HasPressedAll bytes made self.old → Takes bytes made byte self.new result }
+        ensures key { (key : Key) → result ≡ Read.Key key → ahead self.new < ahead self.old }
+        ensures more { result ≡ Read.More → ahead self.new < ahead self.old }
+        ensures fine { result ≡ Read.Failed → ⊥ }
+        ensures going { result ≡ Read.End → ⊥ }
+    {
+        match self.words.feed(byte) {
+            Fed::Key(key, times) => {
+                self.key = key;
+                self.left = times.saturating_sub(1);
+                Read::Key(self.key)
+            }
+            Fed::More => Read::More,
+            Fed::Bad(at) => Read::Bad(at),
+        }
+    }
+}

@@ -1,0 +1,131 @@
+// The top call.
+ghost use Rattle.std.specs.Prelude.{◌≡◌, map, List};
+ghost use Rattle.session_core.specs.Machine.{IsSame, Running};
+ghost use Rattle.sheet_run.specs.Completeness.{HasEndedWell, MustEndWell};
+ghost use Rattle.sheet_run.specs.Notes.{count_of};
+ghost use Rattle.sheet_run.specs.OptionAnswers.{refused_text, IsPart};
+ghost use Rattle.sheet_run.specs.Run.{keys_of, moments_of, outside, AreSteps, GoOneWay, Step};
+ghost use Rattle.sheet_run.specs.Status.{world, IsRun, RunsWith};
+
+use crate::Words;
+use crate::displays::{Work, keep_kind, work_on_all};
+use crate::drive::{Ending, drive};
+use crate::notes::{tell, tell_memory, tell_refused};
+use crate::options::{Options, Refused, Wanted, read_words, word_at};
+use outside_world::{Clock, Keys, Notes, Shelf};
+use screen_show::Display;
+use session_core::Session;
+use std::alloc::Global;
+
+// The refused part of the words.
+fn refused_text(words: &Words, refused: Refused) -> &[u8]
+    requires { IsPart words.now refused }
+    ensures { result.now ≡ refused_text words.now refused }
+{
+    match refused {
+        Refused::Part { place, from } => {
+            let word = word_at(words, place);
+            &word[from..]
+        }
+        Refused::NoValue(Wanted::Steps) => b"--steps",
+        Refused::NoValue(Wanted::Show) => b"--show",
+    }
+}
+
+/// Runs the worksheet program over these words, keys, files, clock, displays and notes, and answers its
+/// status.
+///
+/// The order of work: the words are read; room for every display is reserved in `failed`; displays of a
+/// kind that wasn't asked for are dropped; the clock is read once for the start; then the steps follow.
+/// Before each step bytes are read until a key is there or the keys end, then the limit is tested, then
+/// the clock is read, the step is made and its screen is sent to each display in order. A display whose
+/// call failed moves to the end of `failed`, and the others go on. At the end each display that is left
+/// is closed.
+///
+/// | Status | Comes | Note |
+/// |---|---|---|
+/// | 0 | the keys ended at a word's end | none |
+/// | 1 | exactly where the words are outside the grammar | `bad word: W` |
+/// | 3 | exactly where as many steps as the limit were made and a key was there for one more | `stopped after N steps` |
+/// | 4 | exactly where the bytes begin no text of key notation, or end inside a word | `bad key word at byte N` |
+/// | 5 | only where the count of the keys' faults rose | `keys failed` |
+/// | 7 | exactly where status 0 would come and `failed` grew | `display failed` |
+/// | 8 | only where the count of the notes' faults rose; it takes the place of the others | none |
+/// | 9 | memory ran out | `memory full`, of which one write is tried |
+///
+/// Every note begins with `1-2-3: ` and ends with a line feed. With `--count`, `evaluations N` comes
+/// first wherever a session was made and memory didn't run out. (This project's choice.)
+pub fn run<K: Keys, S: Shelf, C: Clock, N: Notes>(
+    alloc: Global,
+    words: &Words,
+    keys: &mut K,
+    shelf: &mut S,
+    clock: &mut C,
+    displays: &mut Vec<Box<dyn Display>>,
+    failed: &mut Vec<Box<dyn Display>>,
+    notes: &mut N,
+) -> u8
+    ensures ran { IsRun words.now
+        (world (outside (K.left keys.old) (K.faults keys.old) (C.readings clock.old) (S.faults shelf.old) (map seen displays.old.items) (map seen failed.old.items)) (N.written notes.old) (N.faults notes.old))
+        (world (outside (K.left keys.new) (K.faults keys.new) (C.readings clock.new) (S.faults shelf.new) (map seen displays.new.items) (map seen failed.new.items)) (N.written notes.new) (N.faults notes.new))
+        result }
+    ensures complete { MustEndWell words.now
+        (world (outside (K.left keys.old) (K.faults keys.old) (C.readings clock.old) (S.faults shelf.old) (map seen displays.old.items) (map seen failed.old.items)) (N.written notes.old) (N.faults notes.old))
+        (world (outside (K.left keys.new) (K.faults keys.new) (C.readings clock.new) (S.faults shelf.new) (map seen displays.new.items) (map seen failed.new.items)) (N.written notes.new) (N.faults notes.new))
+        → HasEndedWell (world (outside (K.left keys.new) (K.faults keys.new) (C.readings clock.new) (S.faults shelf.new) (map seen displays.new.items) (map seen failed.new.items)) (N.written notes.new) (N.faults notes.new)) result }
+{
+    match read_words(words) {
+        Ok(options) => run_with(alloc, options, keys, shelf, clock, displays, failed, notes),
+        Err(refused) => tell_refused(alloc, refused_text(words, refused), notes),
+    }
+}
+
+// Runs the program with these options.
+fn run_with<K: Keys, S: Shelf, C: Clock, N: Notes>(
+    alloc: Global,
+    options: Options,
+    keys: &mut K,
+    shelf: &mut S,
+    clock: &mut C,
+    displays: &mut Vec<Box<dyn Display>>,
+    failed: &mut Vec<Box<dyn Display>>,
+    notes: &mut N,
+) -> u8
+    ensures { RunsWith options
+        (world (outside (K.left keys.old) (K.faults keys.old) (C.readings clock.old) (S.faults shelf.old) (map seen displays.old.items) (map seen failed.old.items)) (N.written notes.old) (N.faults notes.old))
+        (world (outside (K.left keys.new) (K.faults keys.new) (C.readings clock.new) (S.faults shelf.new) (map seen displays.new.items) (map seen failed.new.items)) (N.written notes.new) (N.faults notes.new))
+        result }
+{
+    let failed_before = failed.len();
+    if failed.reserve(displays.len()).is_err() {
+        return tell_memory(notes);
+    }
+    keep_kind(options.kind(), displays);
+    let Ok(mut session) = Session::start(alloc) else {
+        return tell_memory(notes);
+    };
+    let limit = options.limit();
+    let ending = drive(limit, keys, shelf, clock, displays, failed, &mut session);
+    if let Ending::NoMemory = ending {
+        return tell_memory(notes);
+    }
+    work_on_all(&Work::Close, displays, failed);
+    let moved = failed.len() > failed_before;
+    tell(notes, count_of(&options, &session), limit, moved, ending)
+}
+
+// How many formulas were evaluated, where the words ask for it.
+fn count_of(options: &Options, session: &Session) -> Option<u64>
+    ensures { result ≡ count_of options.now session.now }
+{
+    if options.count {
+        Some(session.evaluations())
+    } else {
+        None
+    }
+}
+
+/// Keys and readings of the clock give one list of screens, and one count of evaluations.
+pub fn a_run_goes_one_way()
+    ensures { (xs ys : List Step) (a b : Running) → IsSame a b → AreSteps a xs → AreSteps b ys → keys_of xs ≡ keys_of ys → moments_of xs ≡ moments_of ys → GoOneWay a b xs ys }
+{}
