@@ -58,6 +58,16 @@ fn whole_at<E: Means>(sheet: &SheetOf<E>, cell: Cell) -> Option<i64> {
     }
 }
 
+fn calculate<R: Abort, E: Means>(rt: &R, sheet: &mut SheetOf<E>, tally: &mut E) {
+    sheet.calc(&SCENE, tally).expect(rt, "memory");
+}
+
+fn write<R: Abort, E: Means>(rt: &R, sheet: &mut SheetOf<E>, cell: Cell, content: Content)
+    requires { HasPrefix content }
+{
+    sheet.enter(cell, content).expect(rt, "an edit");
+}
+
 // Writes a content and recalculates, as an entry in Automatic mode does.
 fn enter<R: Abort, E: Means>(
     rt: &R,
@@ -68,8 +78,27 @@ fn enter<R: Abort, E: Means>(
 )
     requires { HasPrefix content }
 {
-    sheet.enter(cell, content).expect(rt, "an edit");
-    sheet.calc(&SCENE, tally).expect(rt, "memory");
+    write(rt, sheet, cell, content);
+    calculate(rt, sheet, tally);
+}
+
+// Writes a content as an entry in Manual mode does.
+fn enter_line<R: Abort, E: Means>(
+    rt: &R,
+    sheet: &mut SheetOf<E>,
+    cell: Cell,
+    content: Content,
+    tally: &mut E,
+)
+    requires { HasPrefix content }
+{
+    sheet
+        .enter_line(cell, content, &SCENE, tally)
+        .expect(rt, "an edit");
+}
+
+fn set_order<R: Abort, E: Means>(rt: &R, sheet: &mut SheetOf<E>, order: Order) {
+    sheet.set_order(order).expect(rt, "memory");
 }
 
 #[test]
@@ -83,8 +112,8 @@ fn a_circle_goes_on(rt: HostRuntime) -> Result<(), Fail> {
         one_more(&rt, rt.alloc(), A1),
         &mut tally,
     );
-    sheet.calc(&SCENE, &mut tally).expect(&rt, "memory");
-    sheet.calc(&SCENE, &mut tally).expect(&rt, "memory");
+    calculate(&rt, &mut sheet, &mut tally);
+    calculate(&rt, &mut sheet, &mut tally);
     assert_eq!(&rt; whole_at(&sheet, A1), Some(3));
     assert_eq!(&rt; sheet.is_circular(), true);
     assert_eq!(&rt; tally.count(), 3);
@@ -111,7 +140,7 @@ fn two_formulas_read_each_other(rt: HostRuntime) -> Result<(), Fail> {
     );
     assert_eq!(&rt; whole_at(&sheet, A1), Some(3));
     assert_eq!(&rt; whole_at(&sheet, B1), Some(2));
-    sheet.calc(&SCENE, &mut tally).expect(&rt, "memory");
+    calculate(&rt, &mut sheet, &mut tally);
     assert_eq!(&rt; whole_at(&sheet, A1), Some(5));
     assert_eq!(&rt; whole_at(&sheet, B1), Some(4));
     assert_eq!(&rt; tally.count(), 5);
@@ -152,11 +181,11 @@ fn rows_are_gone_along(rt: HostRuntime) -> Result<(), Fail> {
         one_more(&rt, rt.alloc(), C1),
         &mut tally,
     );
-    sheet.set_order(Order::Rowwise).expect(&rt, "memory");
+    set_order(&rt, &mut sheet, Order::Rowwise);
     enter(&rt, &mut sheet, C1, number(5), &mut tally);
     assert_eq!(&rt; whole_at(&sheet, A1), Some(2));
     assert_eq!(&rt; whole_at(&sheet, B1), Some(6));
-    sheet.calc(&SCENE, &mut tally).expect(&rt, "memory");
+    calculate(&rt, &mut sheet, &mut tally);
     assert_eq!(&rt; whole_at(&sheet, A1), Some(7));
     assert_eq!(&rt; tally.count(), 7);
     Ok(())
@@ -173,8 +202,8 @@ fn columnwise_order_tells_no_circle(rt: HostRuntime) -> Result<(), Fail> {
         one_more(&rt, rt.alloc(), A1),
         &mut tally,
     );
-    sheet.set_order(Order::Columnwise).expect(&rt, "memory");
-    sheet.calc(&SCENE, &mut tally).expect(&rt, "memory");
+    set_order(&rt, &mut sheet, Order::Columnwise);
+    calculate(&rt, &mut sheet, &mut tally);
     assert_eq!(&rt; whole_at(&sheet, A1), Some(2));
     assert_eq!(&rt; sheet.is_circular(), false);
     Ok(())
@@ -195,7 +224,7 @@ fn a_saved_sheet_is_restored(rt: HostRuntime) -> Result<(), Fail> {
     let saved = sheet.snapshot().expect(&rt, "memory");
     let mut other: Sheet = SheetOf::restore(saved).expect(&rt, "memory");
     assert_eq!(&rt; whole_at(&other, A1), Some(6));
-    other.calc(&SCENE, &mut tally).expect(&rt, "memory");
+    calculate(&rt, &mut other, &mut tally);
     assert_eq!(&rt; tally.count(), 2);
     Ok(())
 }
@@ -256,7 +285,7 @@ fn another_evaluator_gives_the_values(rt: HostRuntime) -> Result<(), Fail> {
         one_more(&rt, rt.alloc(), B1),
         &mut sevens,
     );
-    sheet.calc(&SCENE, &mut sevens).expect(&rt, "memory");
+    calculate(&rt, &mut sheet, &mut sevens);
     assert_eq!(&rt; whole_at(&sheet, A1), Some(7));
     assert_eq!(&rt; sevens.count, 1);
     Ok(())
@@ -270,17 +299,19 @@ fn a_line_is_evaluated_once_in_manual_mode(rt: HostRuntime) -> Result<(), Fail> 
         automatic: false,
         ..Settings::fresh()
     });
-    sheet
-        .enter_line(A1, one_more(&rt, rt.alloc(), B1), &SCENE, &mut tally)
-        .expect(&rt, "an edit");
+    enter_line(
+        &rt,
+        &mut sheet,
+        A1,
+        one_more(&rt, rt.alloc(), B1),
+        &mut tally,
+    );
     assert_eq!(&rt; whole_at(&sheet, A1), Some(1));
-    sheet
-        .enter_line(B1, number(2), &SCENE, &mut tally)
-        .expect(&rt, "an edit");
+    enter_line(&rt, &mut sheet, B1, number(2), &mut tally);
     assert_eq!(&rt; tally.count(), 1);
     assert_eq!(&rt; whole_at(&sheet, A1), Some(1));
     assert_eq!(&rt; sheet.is_stale(), true);
-    sheet.calc(&SCENE, &mut tally).expect(&rt, "memory");
+    calculate(&rt, &mut sheet, &mut tally);
     assert_eq!(&rt; whole_at(&sheet, A1), Some(3));
     assert_eq!(&rt; tally.count(), 2);
     assert_eq!(&rt; sheet.is_stale(), false);
@@ -292,13 +323,9 @@ fn texts_are_as_typed(rt: HostRuntime) -> Result<(), Fail> {
     let alloc = rt.alloc();
     let mut sheet = Sheet::new(alloc);
     let text = Text::from_bytes(alloc, b"NET").expect(&rt, "a text");
-    sheet
-        .enter(C1, Content::Label(b'^', text))
-        .expect(&rt, "an edit");
-    sheet.enter(B1, number(-5)).expect(&rt, "an edit");
-    sheet
-        .enter(A1, one_more(&rt, alloc, B1))
-        .expect(&rt, "an edit");
+    write(&rt, &mut sheet, C1, Content::Label(b'^', text));
+    write(&rt, &mut sheet, B1, number(-5));
+    write(&rt, &mut sheet, A1, one_more(&rt, alloc, B1));
     for (cell, wanted) in [(A1, b"$B$1+1".as_slice()), (B1, b"-5"), (C1, b"^NET")] {
         let mut line = Line::new();
         assert_eq!(&rt; sheet.text_of(cell, &mut line), true);
