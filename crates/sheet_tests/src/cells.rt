@@ -5,12 +5,12 @@ ghost use Rattle.sheet_edits.specs.Edits.{HasPrefix};
 
 use fixed_value::Fixed;
 use formula_eval::{Look, Means, Scene, Tally};
-use formula_tree::{Content, Expr, ExprList, Formula, Function, Op, Value};
-use grid_address::{Axis, Cell, Ref};
+use formula_text::read;
+use formula_tree::{Content, Formula, Value};
+use grid_address::Cell;
 use lics_text::{Line, Memory, Text};
 use serial_date::Moment;
 use sheet_store::{Order, Settings, SheetFault};
-use std::alloc::Global;
 use std::process::Abort;
 use std::test::Fail;
 use work_sheet::{Sheet, SheetOf};
@@ -35,20 +35,11 @@ fn number(whole: i64) -> Content
     Content::Number(Fixed::of(whole.saturating_mul(1_000_000)).unwrap_or(Fixed::ZERO))
 }
 
-// The formula that adds one to a cell.
-fn one_more<R: Abort>(rt: &R, alloc: Global, cell: Cell) -> Content
+// The formula of a text in the cell A1.
+fn formula<R: Abort, E: Means>(rt: &R, sheet: &SheetOf<E>, text: &[u8]) -> Content
     ensures { HasPrefix result }
 {
-    let reference = Ref {
-        col: Axis::Fixed(u16::from(cell.col)),
-        row: Axis::Fixed(cell.row),
-    };
-    let tree = Expr::Binary(
-        Op::Add,
-        Box::new(alloc, Expr::Cell(reference)).expect(rt, "memory"),
-        Box::new(alloc, Expr::Num(Fixed::ONE)).expect(rt, "memory"),
-    );
-    Content::Formula(Formula::of(alloc, tree).expect(rt, "a formula"))
+    Content::Formula(read(sheet.alloc(), text, A1, sheet.names()).expect(rt, "a formula"))
 }
 
 fn whole_at<E: Means>(sheet: &SheetOf<E>, cell: Cell) -> Option<i64> {
@@ -68,28 +59,33 @@ fn write<R: Abort, E: Means>(rt: &R, sheet: &mut SheetOf<E>, cell: Cell, content
     sheet.enter(cell, content).expect(rt, "an edit");
 }
 
-// Writes a content and recalculates, as an entry in Automatic mode does.
-fn enter<R: Abort, E: Means>(
+// Enters a number and recalculates, as in Automatic mode.
+fn enter_number<R: Abort, E: Means>(
     rt: &R,
     sheet: &mut SheetOf<E>,
     cell: Cell,
-    content: Content,
+    whole: i64,
     tally: &mut E,
-)
-    requires { HasPrefix content }
-{
+) {
+    write(rt, sheet, cell, number(whole));
+    calculate(rt, sheet, tally);
+}
+
+// Enters a formula and recalculates, as in Automatic mode.
+fn enter_formula<R: Abort, E: Means>(
+    rt: &R,
+    sheet: &mut SheetOf<E>,
+    cell: Cell,
+    text: &[u8],
+    tally: &mut E,
+) {
+    let content = formula(rt, sheet, text);
     write(rt, sheet, cell, content);
     calculate(rt, sheet, tally);
 }
 
-// Writes a content as an entry in Manual mode does.
-fn enter_line<R: Abort, E: Means>(
-    rt: &R,
-    sheet: &mut SheetOf<E>,
-    cell: Cell,
-    content: Content,
-    tally: &mut E,
-)
+// Enters a content as in Manual mode.
+fn enter_line<R: Abort>(rt: &R, sheet: &mut Sheet, cell: Cell, content: Content, tally: &mut Tally)
     requires { HasPrefix content }
 {
     sheet
@@ -97,21 +93,21 @@ fn enter_line<R: Abort, E: Means>(
         .expect(rt, "an edit");
 }
 
-fn set_order<R: Abort, E: Means>(rt: &R, sheet: &mut SheetOf<E>, order: Order) {
+fn set_order<R: Abort>(rt: &R, sheet: &mut Sheet, order: Order) {
     sheet.set_order(order).expect(rt, "memory");
+}
+
+fn is_typed<R: Abort>(rt: &R, sheet: &Sheet, cell: Cell, text: &[u8]) {
+    let mut line = Line::new();
+    assert!(rt; sheet.text_of(cell, &mut line));
+    assert_eq!(rt; line.bytes(), text);
 }
 
 #[test]
 fn a_circle_goes_on(rt: HostRuntime) -> Result<(), Fail> {
     let mut sheet = Sheet::new(rt.alloc());
     let mut tally = Tally::new();
-    enter(
-        &rt,
-        &mut sheet,
-        A1,
-        one_more(&rt, rt.alloc(), A1),
-        &mut tally,
-    );
+    enter_formula(&rt, &mut sheet, A1, b"+A1+1", &mut tally);
     calculate(&rt, &mut sheet, &mut tally);
     calculate(&rt, &mut sheet, &mut tally);
     assert_eq!(&rt; whole_at(&sheet, A1), Some(3));
@@ -124,20 +120,8 @@ fn a_circle_goes_on(rt: HostRuntime) -> Result<(), Fail> {
 fn two_formulas_read_each_other(rt: HostRuntime) -> Result<(), Fail> {
     let mut sheet = Sheet::new(rt.alloc());
     let mut tally = Tally::new();
-    enter(
-        &rt,
-        &mut sheet,
-        A1,
-        one_more(&rt, rt.alloc(), B1),
-        &mut tally,
-    );
-    enter(
-        &rt,
-        &mut sheet,
-        B1,
-        one_more(&rt, rt.alloc(), A1),
-        &mut tally,
-    );
+    enter_formula(&rt, &mut sheet, A1, b"+$B$1+1", &mut tally);
+    enter_formula(&rt, &mut sheet, B1, b"+$A$1+1", &mut tally);
     assert_eq!(&rt; whole_at(&sheet, A1), Some(3));
     assert_eq!(&rt; whole_at(&sheet, B1), Some(2));
     calculate(&rt, &mut sheet, &mut tally);
@@ -149,16 +133,13 @@ fn two_formulas_read_each_other(rt: HostRuntime) -> Result<(), Fail> {
 
 #[test]
 fn a_volatile_formula_is_evaluated_in_each_pass(rt: HostRuntime) -> Result<(), Fail> {
-    let alloc = rt.alloc();
-    let mut sheet = Sheet::new(alloc);
+    let mut sheet = Sheet::new(rt.alloc());
     let mut tally = Tally::new();
     sheet.set_settings(Settings {
         passes: 3,
         ..Settings::fresh()
     });
-    let now = Expr::Call(Function(0x37), ExprList::new(alloc));
-    let now = Content::Formula(Formula::of(alloc, now).expect(&rt, "a formula"));
-    enter(&rt, &mut sheet, A1, now, &mut tally);
+    enter_formula(&rt, &mut sheet, A1, b"@NOW", &mut tally);
     assert_eq!(&rt; tally.count(), 3);
     Ok(())
 }
@@ -167,22 +148,10 @@ fn a_volatile_formula_is_evaluated_in_each_pass(rt: HostRuntime) -> Result<(), F
 fn rows_are_gone_along(rt: HostRuntime) -> Result<(), Fail> {
     let mut sheet = Sheet::new(rt.alloc());
     let mut tally = Tally::new();
-    enter(
-        &rt,
-        &mut sheet,
-        A1,
-        one_more(&rt, rt.alloc(), B1),
-        &mut tally,
-    );
-    enter(
-        &rt,
-        &mut sheet,
-        B1,
-        one_more(&rt, rt.alloc(), C1),
-        &mut tally,
-    );
+    enter_formula(&rt, &mut sheet, A1, b"+$B$1+1", &mut tally);
+    enter_formula(&rt, &mut sheet, B1, b"+$C$1+1", &mut tally);
     set_order(&rt, &mut sheet, Order::Rowwise);
-    enter(&rt, &mut sheet, C1, number(5), &mut tally);
+    enter_number(&rt, &mut sheet, C1, 5, &mut tally);
     assert_eq!(&rt; whole_at(&sheet, A1), Some(2));
     assert_eq!(&rt; whole_at(&sheet, B1), Some(6));
     calculate(&rt, &mut sheet, &mut tally);
@@ -195,13 +164,7 @@ fn rows_are_gone_along(rt: HostRuntime) -> Result<(), Fail> {
 fn columnwise_order_tells_no_circle(rt: HostRuntime) -> Result<(), Fail> {
     let mut sheet = Sheet::new(rt.alloc());
     let mut tally = Tally::new();
-    enter(
-        &rt,
-        &mut sheet,
-        A1,
-        one_more(&rt, rt.alloc(), A1),
-        &mut tally,
-    );
+    enter_formula(&rt, &mut sheet, A1, b"+A1+1", &mut tally);
     set_order(&rt, &mut sheet, Order::Columnwise);
     calculate(&rt, &mut sheet, &mut tally);
     assert_eq!(&rt; whole_at(&sheet, A1), Some(2));
@@ -213,14 +176,8 @@ fn columnwise_order_tells_no_circle(rt: HostRuntime) -> Result<(), Fail> {
 fn a_saved_sheet_is_restored(rt: HostRuntime) -> Result<(), Fail> {
     let mut sheet = Sheet::new(rt.alloc());
     let mut tally = Tally::new();
-    enter(&rt, &mut sheet, B1, number(5), &mut tally);
-    enter(
-        &rt,
-        &mut sheet,
-        A1,
-        one_more(&rt, rt.alloc(), B1),
-        &mut tally,
-    );
+    enter_number(&rt, &mut sheet, B1, 5, &mut tally);
+    enter_formula(&rt, &mut sheet, A1, b"+$B$1+1", &mut tally);
     let saved = sheet.snapshot().expect(&rt, "memory");
     let mut other: Sheet = SheetOf::restore(saved).expect(&rt, "memory");
     assert_eq!(&rt; whole_at(&other, A1), Some(6));
@@ -277,14 +234,8 @@ impl Means for Sevens {
 fn another_evaluator_gives_the_values(rt: HostRuntime) -> Result<(), Fail> {
     let mut sheet = SheetOf::new(rt.alloc());
     let mut sevens = Sevens { count: 0 };
-    enter(&rt, &mut sheet, B1, number(5), &mut sevens);
-    enter(
-        &rt,
-        &mut sheet,
-        A1,
-        one_more(&rt, rt.alloc(), B1),
-        &mut sevens,
-    );
+    enter_number(&rt, &mut sheet, B1, 5, &mut sevens);
+    enter_formula(&rt, &mut sheet, A1, b"+$B$1+1", &mut sevens);
     calculate(&rt, &mut sheet, &mut sevens);
     assert_eq!(&rt; whole_at(&sheet, A1), Some(7));
     assert_eq!(&rt; sevens.count, 1);
@@ -299,13 +250,8 @@ fn a_line_is_evaluated_once_in_manual_mode(rt: HostRuntime) -> Result<(), Fail> 
         automatic: false,
         ..Settings::fresh()
     });
-    enter_line(
-        &rt,
-        &mut sheet,
-        A1,
-        one_more(&rt, rt.alloc(), B1),
-        &mut tally,
-    );
+    let content = formula(&rt, &sheet, b"+$B$1+1");
+    enter_line(&rt, &mut sheet, A1, content, &mut tally);
     assert_eq!(&rt; whole_at(&sheet, A1), Some(1));
     enter_line(&rt, &mut sheet, B1, number(2), &mut tally);
     assert_eq!(&rt; tally.count(), 1);
@@ -320,16 +266,14 @@ fn a_line_is_evaluated_once_in_manual_mode(rt: HostRuntime) -> Result<(), Fail> 
 
 #[test]
 fn texts_are_as_typed(rt: HostRuntime) -> Result<(), Fail> {
-    let alloc = rt.alloc();
-    let mut sheet = Sheet::new(alloc);
-    let text = Text::from_bytes(alloc, b"NET").expect(&rt, "a text");
+    let mut sheet = Sheet::new(rt.alloc());
+    let text = Text::from_bytes(rt.alloc(), b"NET").expect(&rt, "a text");
     write(&rt, &mut sheet, C1, Content::Label(b'^', text));
     write(&rt, &mut sheet, B1, number(-5));
-    write(&rt, &mut sheet, A1, one_more(&rt, alloc, B1));
-    for (cell, wanted) in [(A1, b"$B$1+1".as_slice()), (B1, b"-5"), (C1, b"^NET")] {
-        let mut line = Line::new();
-        assert_eq!(&rt; sheet.text_of(cell, &mut line), true);
-        assert_eq!(&rt; line.bytes(), wanted);
-    }
+    let content = formula(&rt, &sheet, b"$B$1+1");
+    write(&rt, &mut sheet, A1, content);
+    is_typed(&rt, &sheet, A1, b"$B$1+1");
+    is_typed(&rt, &sheet, B1, b"-5");
+    is_typed(&rt, &sheet, C1, b"^NET");
     Ok(())
 }
