@@ -6,8 +6,6 @@ mod counts;
 mod dates;
 mod numbers;
 mod readings;
-#[cfg(test)]
-mod tests;
 mod texts;
 
 pub use counts::whole;

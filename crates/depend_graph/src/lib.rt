@@ -7,8 +7,6 @@ mod graph;
 mod node;
 mod readers;
 mod slots;
-#[cfg(test)]
-mod tests;
 
 pub use graph::Graph;
 pub use node::Node;

@@ -12,8 +12,6 @@ mod printing;
 mod reading;
 mod rows;
 mod signs;
-#[cfg(test)]
-mod tests;
 mod words;
 
 pub use fault::ParseFault;

@@ -8,8 +8,6 @@ mod leave;
 mod missing;
 mod reads;
 mod recalculation;
-#[cfg(test)]
-mod tests;
 mod view;
 mod whole;
 

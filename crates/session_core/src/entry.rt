@@ -83,8 +83,7 @@ fn label_of(line: &TextLine, sheet: &Sheet) -> Result<Content, Memory>
 }
 
 /// What the line that is typed means in a cell: a label, which begins with its prefix or takes the sheet's, a number
-/// or a formula. None
-/// where nothing is typed, and where a value spells nothing.
+/// or a formula. None where nothing is typed, and where a value spells nothing.
 pub(crate) fn entry_of(mode: &Mode, sheet: &Sheet, cell: Cell) -> Result<Option<Content>, Memory>
     ensures entry { IfOk result (IsEntry mode.now (of_worksheet sheet.now) cell) }
     ensures prefix { IfOk result (λ entry. ForSome entry HasPrefix) }

@@ -18,7 +18,7 @@ pub enum Mode {
 fn begins_value(byte: u8) -> bool
     ensures { result ≡ begins_value byte }
 {
-    byte >= b'0' && byte <= b'9'
+    byte.is_ascii_digit()
         || byte == b'+'
         || byte == b'-'
         || byte == b'.'

@@ -7,8 +7,6 @@ mod scan;
 mod settings;
 mod state;
 mod store;
-#[cfg(test)]
-mod tests;
 mod writes;
 
 pub use order::Order;

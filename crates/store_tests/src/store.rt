@@ -1,11 +1,11 @@
 // Worked rows of the store.
 ghost use Rattle.sheet_store.specs.Grid.{IsSound};
 
-use crate::{CellState, Order, Settings, Store, is_prefix};
 use fixed_value::Fixed;
 use formula_tree::{Content, Expr, ExprList, Formula, Function, Value};
 use grid_address::{Cell, Format, Span};
 use lics_text::Text;
+use sheet_store::{CellState, Order, Settings, Store, is_prefix};
 use std::alloc::Global;
 use std::process::Abort;
 use std::test::Fail;

@@ -1,5 +1,5 @@
 // Worked rows of the functions.
-use crate::{
+use at_functions::{
     char_of, date, datevalue, day, find_in, hour, mid, minute, month, repeat, replace, second,
     string, time, timevalue, value, year,
 };

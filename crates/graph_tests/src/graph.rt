@@ -1,5 +1,5 @@
 // Worked rows of the graph.
-use crate::{Graph, Node};
+use depend_graph::{Graph, Node};
 use grid_address::{Cell, CellList, Span, SpanList};
 use std::alloc::Global;
 use std::process::Abort;

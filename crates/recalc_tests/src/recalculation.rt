@@ -3,12 +3,12 @@ ghost use Rattle.std.specs.Prelude.{◌≡◌, ◌+◌, ◌-◌, ◌^◌, ℕ, m
 ghost use Rattle.formula_tree.specs.declared.value.Value.TheVariants.{Num};
 ghost use Rattle.sheet_store.specs.Grid.{IsSound};
 
-use crate::{Circ, all_dirty, graph_of, recalc};
 use fixed_value::Fixed;
 use formula_eval::{Look, Means, Scene, Tally};
 use formula_tree::{Content, Expr, Formula, Op, Value};
 use grid_address::{Axis, Cell, Format, Ref};
 use lics_text::Memory;
+use natural_recalc::{Circ, all_dirty, graph_of, recalc};
 use range_names::Names;
 use serial_date::Moment;
 use sheet_store::{CellState, Order, Settings, Store};

@@ -1,5 +1,5 @@
 // Worked rows of formula text.
-use crate::{ParseFault, print, read};
+use formula_text::{ParseFault, print, read};
 use formula_tree::{Expr, Formula, Op};
 use grid_address::{Cell, Span};
 use lics_text::Line;
