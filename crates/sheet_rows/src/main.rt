@@ -4,8 +4,8 @@
 //! `uA1..B2` takes protection away. `xA1 CODE TEXT` makes a list of writes, which tabs part; the code is a format byte,
 //! or `-` for the cell's own. `sLETTERS` changes settings letter by letter: A and M are the modes Automatic and Manual, P
 //! and Q protection on and off, N, C and R the orders, and a digit the passes. `!` recalculates, and so does each edit of
-//! contents in Automatic mode. `?` prints the texts and formats. The stored run compares 10,000 edits with another
-//! program's.
+//! contents in Automatic mode. `?` prints the texts and formats. The stored run begins with worked edits and compares
+//! 10,000 random ones with another program's.
 //!
 //! Other lines paint the screen. `wB1 12` gives column B a width of its own, or takes it away at 0; `hB1` hides it and `vB1`
 //! shows it. `g113 9` sets the sheet's format byte and width, `aB7` the pointer, `kB7` the cell at the top left, and `k`

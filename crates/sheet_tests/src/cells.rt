@@ -1,5 +1,5 @@
-// Worked rows of the worksheet, by calls.
-ghost use Rattle.std.specs.Prelude.{◌≡◌, ◌+◌, ◌-◌, ◌^◌, ℕ, min, pos};
+// What the lines of sheet_rows don't reach: a sheet that was saved, another evaluator, and a long sheet.
+ghost use Rattle.std.specs.Prelude.{◌≡◌, ◌<◌, ◌+◌, ◌-◌, ◌^◌, ℕ, min, pos};
 ghost use Rattle.formula_tree.specs.declared.value.Value.TheVariants.{Num};
 ghost use Rattle.sheet_edits.specs.Edits.{HasPrefix};
 
@@ -7,10 +7,9 @@ use fixed_value::Fixed;
 use formula_eval::{Look, Means, Scene, Tally};
 use formula_text::read;
 use formula_tree::{Content, Formula, Value};
-use grid_address::Cell;
-use lics_text::{Line, Memory, Text};
+use grid_address::{Cell, cell_text};
+use lics_text::{Line, Memory};
 use serial_date::Moment;
-use sheet_store::{Order, Settings, SheetFault};
 use std::process::Abort;
 use std::test::Fail;
 use work_sheet::{Sheet, SheetOf};
@@ -18,8 +17,6 @@ use work_sheet::{Sheet, SheetOf};
 const A1: Cell = Cell { row: 0, col: 0 };
 
 const B1: Cell = Cell { row: 0, col: 1 };
-
-const C1: Cell = Cell { row: 0, col: 2 };
 
 const SCENE: Scene = Scene {
     cursor: A1,
@@ -29,17 +26,30 @@ const SCENE: Scene = Scene {
     },
 };
 
-fn number(whole: i64) -> Content
-    ensures { HasPrefix result }
+fn at(row: u16, col: u8) -> Cell
+    requires { row < 8192 }
 {
-    Content::Number(Fixed::of(whole.saturating_mul(1_000_000)).unwrap_or(Fixed::ZERO))
+    Cell { row, col }
 }
 
-// The formula of a text in the cell A1.
-fn formula<R: Abort, E: Means>(rt: &R, sheet: &SheetOf<E>, text: &[u8]) -> Content
-    ensures { HasPrefix result }
+fn write<R: Abort, E: Means>(rt: &R, sheet: &mut SheetOf<E>, cell: Cell, content: Content)
+    requires { HasPrefix content }
 {
-    Content::Formula(read(sheet.alloc(), text, A1, sheet.names()).expect(rt, "a formula"))
+    sheet.enter(cell, content).expect(rt, "an edit");
+}
+
+fn enter_number<R: Abort, E: Means>(rt: &R, sheet: &mut SheetOf<E>, cell: Cell, whole: u16) {
+    let number = Fixed::of(i64::from(whole) * 1_000_000).unwrap_or(Fixed::ZERO);
+    write(rt, sheet, cell, Content::Number(number));
+}
+
+fn enter_formula<R: Abort, E: Means>(rt: &R, sheet: &mut SheetOf<E>, cell: Cell, text: &[u8]) {
+    let formula = read(sheet.alloc(), text, cell, sheet.names()).expect(rt, "a formula");
+    write(rt, sheet, cell, Content::Formula(formula));
+}
+
+fn calculate<R: Abort, E: Means>(rt: &R, sheet: &mut SheetOf<E>, tally: &mut E) {
+    sheet.calc(&SCENE, tally).expect(rt, "memory");
 }
 
 fn whole_at<E: Means>(sheet: &SheetOf<E>, cell: Cell) -> Option<i64> {
@@ -49,154 +59,27 @@ fn whole_at<E: Means>(sheet: &SheetOf<E>, cell: Cell) -> Option<i64> {
     }
 }
 
-fn calculate<R: Abort, E: Means>(rt: &R, sheet: &mut SheetOf<E>, tally: &mut E) {
-    sheet.calc(&SCENE, tally).expect(rt, "memory");
+// A1 reads B1, which is 5.
+fn enter_two<R: Abort, E: Means>(rt: &R, sheet: &mut SheetOf<E>) {
+    enter_number(rt, sheet, B1, 5);
+    enter_formula(rt, sheet, A1, b"+B1+1");
 }
 
-fn write<R: Abort, E: Means>(rt: &R, sheet: &mut SheetOf<E>, cell: Cell, content: Content)
-    requires { HasPrefix content }
-{
-    sheet.enter(cell, content).expect(rt, "an edit");
-}
-
-// Enters a number and recalculates, as in Automatic mode.
-fn enter_number<R: Abort, E: Means>(
-    rt: &R,
-    sheet: &mut SheetOf<E>,
-    cell: Cell,
-    whole: i64,
-    tally: &mut E,
-) {
-    write(rt, sheet, cell, number(whole));
-    calculate(rt, sheet, tally);
-}
-
-// Enters a formula and recalculates, as in Automatic mode.
-fn enter_formula<R: Abort, E: Means>(
-    rt: &R,
-    sheet: &mut SheetOf<E>,
-    cell: Cell,
-    text: &[u8],
-    tally: &mut E,
-) {
-    let content = formula(rt, sheet, text);
-    write(rt, sheet, cell, content);
-    calculate(rt, sheet, tally);
-}
-
-// Enters a content as in Manual mode.
-fn enter_line<R: Abort>(rt: &R, sheet: &mut Sheet, cell: Cell, content: Content, tally: &mut Tally)
-    requires { HasPrefix content }
-{
-    sheet
-        .enter_line(cell, content, &SCENE, tally)
-        .expect(rt, "an edit");
-}
-
-fn set_order<R: Abort>(rt: &R, sheet: &mut Sheet, order: Order) {
-    sheet.set_order(order).expect(rt, "memory");
-}
-
-fn is_typed<R: Abort>(rt: &R, sheet: &Sheet, cell: Cell, text: &[u8]) {
-    let mut line = Line::new();
-    assert!(rt; sheet.text_of(cell, &mut line));
-    assert_eq!(rt; line.bytes(), text);
-}
-
-#[test]
-fn a_circle_goes_on(rt: HostRuntime) -> Result<(), Fail> {
-    let mut sheet = Sheet::new(rt.alloc());
-    let mut tally = Tally::new();
-    enter_formula(&rt, &mut sheet, A1, b"+A1+1", &mut tally);
-    calculate(&rt, &mut sheet, &mut tally);
-    calculate(&rt, &mut sheet, &mut tally);
-    assert_eq!(&rt; whole_at(&sheet, A1), Some(3));
-    assert_eq!(&rt; sheet.is_circular(), true);
-    assert_eq!(&rt; tally.count(), 3);
-    Ok(())
-}
-
-#[test]
-fn two_formulas_read_each_other(rt: HostRuntime) -> Result<(), Fail> {
-    let mut sheet = Sheet::new(rt.alloc());
-    let mut tally = Tally::new();
-    enter_formula(&rt, &mut sheet, A1, b"+$B$1+1", &mut tally);
-    enter_formula(&rt, &mut sheet, B1, b"+$A$1+1", &mut tally);
-    assert_eq!(&rt; whole_at(&sheet, A1), Some(3));
-    assert_eq!(&rt; whole_at(&sheet, B1), Some(2));
-    calculate(&rt, &mut sheet, &mut tally);
-    assert_eq!(&rt; whole_at(&sheet, A1), Some(5));
-    assert_eq!(&rt; whole_at(&sheet, B1), Some(4));
-    assert_eq!(&rt; tally.count(), 5);
-    Ok(())
-}
-
-#[test]
-fn a_volatile_formula_is_evaluated_in_each_pass(rt: HostRuntime) -> Result<(), Fail> {
-    let mut sheet = Sheet::new(rt.alloc());
-    let mut tally = Tally::new();
-    sheet.set_settings(Settings {
-        passes: 3,
-        ..Settings::fresh()
-    });
-    enter_formula(&rt, &mut sheet, A1, b"@NOW", &mut tally);
-    assert_eq!(&rt; tally.count(), 3);
-    Ok(())
-}
-
-#[test]
-fn rows_are_gone_along(rt: HostRuntime) -> Result<(), Fail> {
-    let mut sheet = Sheet::new(rt.alloc());
-    let mut tally = Tally::new();
-    enter_formula(&rt, &mut sheet, A1, b"+$B$1+1", &mut tally);
-    enter_formula(&rt, &mut sheet, B1, b"+$C$1+1", &mut tally);
-    set_order(&rt, &mut sheet, Order::Rowwise);
-    enter_number(&rt, &mut sheet, C1, 5, &mut tally);
-    assert_eq!(&rt; whole_at(&sheet, A1), Some(2));
-    assert_eq!(&rt; whole_at(&sheet, B1), Some(6));
-    calculate(&rt, &mut sheet, &mut tally);
-    assert_eq!(&rt; whole_at(&sheet, A1), Some(7));
-    assert_eq!(&rt; tally.count(), 7);
-    Ok(())
-}
-
-#[test]
-fn columnwise_order_tells_no_circle(rt: HostRuntime) -> Result<(), Fail> {
-    let mut sheet = Sheet::new(rt.alloc());
-    let mut tally = Tally::new();
-    enter_formula(&rt, &mut sheet, A1, b"+A1+1", &mut tally);
-    set_order(&rt, &mut sheet, Order::Columnwise);
-    calculate(&rt, &mut sheet, &mut tally);
-    assert_eq!(&rt; whole_at(&sheet, A1), Some(2));
-    assert_eq!(&rt; sheet.is_circular(), false);
-    Ok(())
+fn saved_and_restored<R: Abort, E: Means>(rt: &R, sheet: &SheetOf<E>) -> SheetOf<E> {
+    let saved = sheet.snapshot().expect(rt, "memory");
+    SheetOf::restore(saved).expect(rt, "memory")
 }
 
 #[test]
 fn a_saved_sheet_is_restored(rt: HostRuntime) -> Result<(), Fail> {
     let mut sheet = Sheet::new(rt.alloc());
     let mut tally = Tally::new();
-    enter_number(&rt, &mut sheet, B1, 5, &mut tally);
-    enter_formula(&rt, &mut sheet, A1, b"+$B$1+1", &mut tally);
-    let saved = sheet.snapshot().expect(&rt, "memory");
-    let mut other: Sheet = SheetOf::restore(saved).expect(&rt, "memory");
+    enter_two(&rt, &mut sheet);
+    calculate(&rt, &mut sheet, &mut tally);
+    let mut other = saved_and_restored(&rt, &sheet);
     assert_eq!(&rt; whole_at(&other, A1), Some(6));
     calculate(&rt, &mut other, &mut tally);
     assert_eq!(&rt; tally.count(), 2);
-    Ok(())
-}
-
-#[test]
-fn protected_cells_are_kept(rt: HostRuntime) -> Result<(), Fail> {
-    let mut sheet = Sheet::new(rt.alloc());
-    sheet.set_settings(Settings {
-        protection: true,
-        ..Settings::fresh()
-    });
-    let answer = sheet.enter(B1, number(5));
-    assert_eq!(&rt; answer, Err(SheetFault::Protected(B1)));
-    assert_eq!(&rt; whole_at(&sheet, B1), None);
-    assert_eq!(&rt; sheet.is_stale(), false);
     Ok(())
 }
 
@@ -234,46 +117,48 @@ impl Means for Sevens {
 fn another_evaluator_gives_the_values(rt: HostRuntime) -> Result<(), Fail> {
     let mut sheet = SheetOf::new(rt.alloc());
     let mut sevens = Sevens { count: 0 };
-    enter_number(&rt, &mut sheet, B1, 5, &mut sevens);
-    enter_formula(&rt, &mut sheet, A1, b"+$B$1+1", &mut sevens);
+    enter_two(&rt, &mut sheet);
+    calculate(&rt, &mut sheet, &mut sevens);
     calculate(&rt, &mut sheet, &mut sevens);
     assert_eq!(&rt; whole_at(&sheet, A1), Some(7));
     assert_eq!(&rt; sevens.count, 1);
     Ok(())
 }
 
-#[test]
-fn a_line_is_evaluated_once_in_manual_mode(rt: HostRuntime) -> Result<(), Fail> {
-    let mut sheet = Sheet::new(rt.alloc());
-    let mut tally = Tally::new();
-    sheet.set_settings(Settings {
-        automatic: false,
-        ..Settings::fresh()
-    });
-    let content = formula(&rt, &sheet, b"+$B$1+1");
-    enter_line(&rt, &mut sheet, A1, content, &mut tally);
-    assert_eq!(&rt; whole_at(&sheet, A1), Some(1));
-    enter_line(&rt, &mut sheet, B1, number(2), &mut tally);
-    assert_eq!(&rt; tally.count(), 1);
-    assert_eq!(&rt; whole_at(&sheet, A1), Some(1));
-    assert_eq!(&rt; sheet.is_stale(), true);
-    calculate(&rt, &mut sheet, &mut tally);
-    assert_eq!(&rt; whole_at(&sheet, A1), Some(3));
-    assert_eq!(&rt; tally.count(), 2);
-    assert_eq!(&rt; sheet.is_stale(), false);
-    Ok(())
+// A number, three times the number, and the sum so far.
+fn enter_row<R: Abort, E: Means>(rt: &R, sheet: &mut SheetOf<E>, row: u16)
+    requires { row < 8192 }
+{
+    let number = (u32::from(row) + 1) * 37 % 101;
+    enter_number(rt, sheet, at(row, 0), number as u16);
+    let mut line = Line::new();
+    line.put_all(b"+");
+    line.put_all(cell_text(at(row, 0)).bytes());
+    line.put_all(b"*3");
+    enter_formula(rt, sheet, at(row, 1), line.bytes());
+    let mut line = Line::new();
+    line.put_all(b"+");
+    if row > 0 {
+        line.put_all(cell_text(at(row - 1, 2)).bytes());
+        line.put_all(b"+");
+    }
+    line.put_all(cell_text(at(row, 1)).bytes());
+    enter_formula(rt, sheet, at(row, 2), line.bytes());
 }
 
 #[test]
-fn texts_are_as_typed(rt: HostRuntime) -> Result<(), Fail> {
+fn a_long_sheet_is_evaluated_as_far_as_an_entry_reaches(rt: HostRuntime) -> Result<(), Fail> {
     let mut sheet = Sheet::new(rt.alloc());
-    let text = Text::from_bytes(rt.alloc(), b"NET").expect(&rt, "a text");
-    write(&rt, &mut sheet, C1, Content::Label(b'^', text));
-    write(&rt, &mut sheet, B1, number(-5));
-    let content = formula(&rt, &sheet, b"$B$1+1");
-    write(&rt, &mut sheet, A1, content);
-    is_typed(&rt, &sheet, A1, b"$B$1+1");
-    is_typed(&rt, &sheet, B1, b"-5");
-    is_typed(&rt, &sheet, C1, b"^NET");
+    let mut tally = Tally::new();
+    for row in 0..8000 {
+        enter_row(&rt, &mut sheet, row);
+    }
+    calculate(&rt, &mut sheet, &mut tally);
+    assert_eq!(&rt; whole_at(&sheet, at(7999, 2)), Some(1_200_069));
+    assert_eq!(&rt; tally.count(), 16_000);
+    enter_number(&rt, &mut sheet, A1, 5);
+    calculate(&rt, &mut sheet, &mut tally);
+    assert_eq!(&rt; whole_at(&sheet, at(7999, 2)), Some(1_199_973));
+    assert_eq!(&rt; tally.count(), 24_001);
     Ok(())
 }

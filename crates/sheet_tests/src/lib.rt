@@ -1,4 +1,4 @@
-//! Tests of the worksheet by calls: what is entered in single cells, and what then stands in them.
+//! Tests of the worksheet by calls.
 #![tactic(auto)]
 
 #[cfg(test)]
