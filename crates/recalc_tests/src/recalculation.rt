@@ -1,13 +1,10 @@
 // Worked rows of recalculation.
-ghost use Rattle.std.specs.Prelude.{◌≡◌, ◌+◌, ◌-◌, ◌^◌, ℕ, min, pos, OnOk};
-ghost use Rattle.formula_tree.specs.declared.value.Value.TheVariants.{Num};
 ghost use Rattle.sheet_store.specs.Grid.{IsSound};
 
 use fixed_value::Fixed;
-use formula_eval::{Look, Means, Scene, Tally};
+use formula_eval::{Means, Scene, Tally};
 use formula_tree::{Content, Expr, Formula, Op, Value};
 use grid_address::{Axis, Cell, Format, Ref};
-use lics_text::Memory;
 use natural_recalc::{Circ, all_dirty, graph_of, recalc};
 use range_names::Names;
 use serial_date::Moment;
@@ -162,73 +159,5 @@ fn rows_and_columns_are_gone_along(rt: HostRuntime) -> Result<(), Fail> {
         assert_eq!(&rt; whole_at(&store, A1), Some(first));
         assert_eq!(&rt; whole_at(&store, A2), Some(below));
     }
-    Ok(())
-}
-
-// An evaluator for which every formula means 7.
-#[derive(Drop)]
-struct Sevens {
-    count: u64,
-}
-
-impl Means for Sevens {
-    ghost meaning = { λ t at w. Num (pos 7000000) };
-
-    ghost count = { λ s. s.count };
-
-    ghost never_blank = { λ t at w e. Prim.cc };
-
-    ghost reads_alone = { λ t at w u s h. Prim.cc };
-
-    fn evaluate<K: Look>(
-        &mut self,
-        _formula: &Formula,
-        _at: Cell,
-        _look: &K,
-        _scene: &Scene,
-    ) -> Result<Value, Memory> {
-        self.count = self.count.saturating_add(1);
-        match Fixed::of(7_000_000) {
-            Some(seven) => Ok(Value::Num(seven)),
-            None => Err(Memory),
-        }
-    }
-}
-
-#[test]
-fn clean_formulas_are_not_evaluated(rt: HostRuntime) -> Result<(), Fail> {
-    let alloc = rt.alloc();
-    let mut store = Store::new(alloc);
-    store.put(A1, sum(&rt, alloc, B1, 0)).expect(&rt, "memory");
-    store.put(B1, number(5)).expect(&rt, "memory");
-    let graph = graph_of(&store).expect(&rt, "memory");
-    let mut dirty = all_dirty(&store).expect(&rt, "memory");
-    let names = Names::new(alloc);
-    let settings = Settings::fresh();
-    let mut sevens = Sevens { count: 0 };
-    recalc(
-        &mut store,
-        &graph,
-        &mut dirty,
-        settings.passes,
-        &names,
-        &settings,
-        &SCENE,
-        &mut sevens,
-    )
-    .expect(&rt, "memory");
-    recalc(
-        &mut store,
-        &graph,
-        &mut dirty,
-        settings.passes,
-        &names,
-        &settings,
-        &SCENE,
-        &mut sevens,
-    )
-    .expect(&rt, "memory");
-    assert_eq!(&rt; whole_at(&store, A1), Some(7));
-    assert_eq!(&rt; sevens.count, 1);
     Ok(())
 }
