@@ -1,13 +1,13 @@
 // The notes that a run writes.
-ghost use Rattle.std.specs.Prelude.{◌≡◌, ◌≤◌, ◌+◌, ◌++◌, [], length, IfOk, OnOk};
+ghost use Rattle.std.specs.Prelude.{◌≡◌, ◌≤◌, ◌++◌, length, IfOk, OnOk};
 ghost use Rattle.grid_address.specs.Address.{decimal};
 ghost use Rattle.sheet_run.specs.Notes.{count_note, ending_note, ending_status, memory_note, refused_note, HasWritten, LeavesSession, Tells, ToldRefused, Tried};
 
 use crate::drive::Ending;
 use grid_address::decimal_text;
+use lics_text::Line;
 use outside_world::{Failed, Memory, Notes};
 use std::alloc::Global;
-use std::marker::Model;
 
 const MEMORY_NOTE: &[u8] = b"1-2-3: memory full\n";
 
@@ -18,60 +18,17 @@ pub const MEMORY: u8 = 9;
 
 const REFUSED: u8 = 1;
 
-// A line of at most 80 bytes.
-#[derive(Drop)]
-struct NoteLine {
-    bytes: [u8; 80],
-    len: usize,
-}
-
-impl Model for NoteLine {
-    ghost use Rattle.std.specs.Prelude.{ℕ, List, take, ◌≤◌};
-
-    ghost Value = { List ℕ };
-
-    ghost view = { λ a. take a.len a.bytes };
-
-    ghost invariant = { λ a. a.len ≤ 80 };
-}
-
-impl NoteLine {
-    fn new() -> NoteLine
-        ensures { result ≡ [] }
-    {
-        NoteLine {
-            bytes: [0; 80],
-            len: 0,
-        }
-    }
-
-    fn add(&mut self, bytes: &[u8])
-        requires { length self.old + length bytes.now ≤ 80 }
-        ensures { self.new ≡ self.old ++ bytes.now }
-    {
-        let end = self.len + bytes.len();
-        self.bytes[self.len..end].copy_from_slice(bytes);
-        self.len = end;
-    }
-
-    fn bytes(&self) -> &[u8]
-        ensures { result.now ≡ self.now }
-    {
-        &self.bytes[..self.len]
-    }
-}
-
 // A line with a number in it.
-fn number_line(front: &[u8], number: u64, back: &[u8]) -> NoteLine
+fn number_line(front: &[u8], number: u64, back: &[u8]) -> Line
     requires front_fits { length front.now ≤ 40 }
     requires back_fits { length back.now ≤ 20 }
     ensures { result ≡ (front.now ++ decimal number) ++ back.now }
 {
     let digits = decimal_text(number);
-    let mut line = NoteLine::new();
-    line.add(front);
-    line.add(digits.bytes());
-    line.add(back);
+    let mut line = Line::new();
+    line.put_all(front);
+    line.put_all(digits.bytes());
+    line.put_all(back);
     line
 }
 

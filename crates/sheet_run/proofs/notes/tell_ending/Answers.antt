@@ -9,7 +9,7 @@ returns-then-moved g c =
 
 pub returns-in-BadWord : goal.returns-in-BadWord
 returns-in-BadWord g c =
-    told_as _ _ _ _ _ _ _ _ _ (ap (ending_note c.args.limit c.args.moved) c.in-BadWord.is ∙ sym (c.bytes.ensures ∙ c.number_line-line.ensures)) (ap (ending_status c.args.moved) c.in-BadWord.is) c.tell_line-in-BadWord.ensures
+    told_as _ _ _ _ _ _ _ _ _ (ap (ending_note c.args.limit c.args.moved) c.in-BadWord.is ∙ sym (c.bytes.ensures.bytes ∙ c.number_line-line.ensures)) (ap (ending_status c.args.moved) c.in-BadWord.is) c.tell_line-in-BadWord.ensures
 
 pub returns-in-KeysFailed : goal.returns-in-KeysFailed
 returns-in-KeysFailed g c =
@@ -17,4 +17,4 @@ returns-in-KeysFailed g c =
 
 pub returns-in-Stopped : goal.returns-in-Stopped
 returns-in-Stopped g c =
-    told_as _ _ _ _ _ _ _ _ _ (ap (ending_note c.args.limit c.args.moved) c.in-Stopped.is ∙ stopped_line c.args.limit ∙ sym (c.bytes-in-Stopped.ensures ∙ c.number_line-line-in-Stopped.ensures)) (ap (ending_status c.args.moved) c.in-Stopped.is) c.tell_line-in-Stopped.ensures
+    told_as _ _ _ _ _ _ _ _ _ (ap (ending_note c.args.limit c.args.moved) c.in-Stopped.is ∙ stopped_line c.args.limit ∙ sym (c.bytes-in-Stopped.ensures.bytes ∙ c.number_line-line-in-Stopped.ensures)) (ap (ending_status c.args.moved) c.in-Stopped.is) c.tell_line-in-Stopped.ensures
