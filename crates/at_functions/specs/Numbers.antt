@@ -1,5 +1,5 @@
 -- Arguments and results of functions, in millionths.
-use Rattle.std.specs.Prelude.{ℕ, ◌*◌, ℤ, pos, negsuc, int_div, nat_abs, unsigned_abs, Option, Some, None, if◌then◌else◌}
+use Rattle.std.specs.Prelude.{ℕ, ◌*◌, ℤ, pos, negsuc, int_div, unsigned_abs, Option, Some, None, if◌then◌else◌}
 use Rattle.fixed_value.specs.Powers.{rounded_to}
 use Rattle.serial_date.specs.Calendar.{is_between}
 
@@ -26,9 +26,6 @@ count_of v = not_negative (whole v)
 -- a whole number within bounds
 abbrev pub within : ℕ → ℕ → ℤ → Option ℕ
 within low high z = if is_between low high z then Some (unsigned_abs z) else None
-
-abbrev pub size : ℤ → ℤ
-size v = pos (nat_abs v)
 
 -- to so many decimals, cut toward zero
 abbrev pub round : ℤ → ℤ → Option ℤ

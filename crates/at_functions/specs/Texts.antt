@@ -1,13 +1,7 @@
 -- The functions of texts.
-use Rattle.std.specs.Prelude.{ℕ, zero, suc, ◌+◌, ◌-◌, ◌*◌, ◌==◌, ◌&&◌, nat_le, ℤ, pos, negsuc, Bool, true, false, Option, Some, None, Result, Ok, Err, List, [], ◌∷◌, ◌++◌, length, take, drop, if◌then◌else◌}
+use Rattle.std.specs.Prelude.{ℕ, zero, suc, ◌+◌, ◌-◌, ◌*◌, ◌==◌, ◌&&◌, nat_le, ℤ, pos, negsuc, Bool, true, false, Option, Some, None, List, [], ◌∷◌, ◌++◌, length, take, drop, if◌then◌else◌}
 use Rattle.fixed_value.specs.Written.{written}
-use Rattle.lics_text.specs.declared.faults.Memory.{Memory}
 use Rattle.at_functions.specs.Numbers.{count_of, in_units, units, whole, within}
-
--- a text that is there, but for want of memory
-abbrev pub wrapped : Result (List ℕ) Memory → Result (Option (List ℕ)) Memory
-wrapped (Ok text) = Ok (Some text)
-wrapped (Err e) = Err e
 
 abbrev pub string_by : ℤ → Option ℕ → Option (List ℕ)
 string_by v None = None

@@ -10,6 +10,6 @@ mod texts;
 
 pub use counts::whole;
 pub use dates::{date, day, hour, minute, month, second, time, year};
-pub use numbers::{round, size};
+pub use numbers::round;
 pub use readings::{datevalue, timevalue, value};
 pub use texts::{char_of, code, find_in, left, length, mid, repeat, replace, right, string};

@@ -1,20 +1,9 @@
 // The functions of numbers.
-ghost use Rattle.std.specs.Prelude.{◌≡◌, ◌≤◌, ℤ, pos, negsuc, nat_abs, ◌≤ℤ◌};
-ghost use Rattle.at_functions.specs.Numbers.{round, size};
+ghost use Rattle.std.specs.Prelude.{◌≡◌, pos, negsuc, ◌≤ℤ◌};
+ghost use Rattle.at_functions.specs.Numbers.{round};
 
 use crate::counts::whole;
 use fixed_value::Fixed;
-
-/// The size of a number.
-pub fn size(value: Fixed) -> Fixed
-    ensures { result ≡ size value }
-{
-    if value.millionths() < 0 {
-        value.neg()
-    } else {
-        value
-    }
-}
 
 fn narrow(places: i64) -> i8
     requires low { negsuc 14 ≤ℤ places }

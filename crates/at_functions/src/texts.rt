@@ -1,7 +1,7 @@
 // The functions of texts.
 ghost use Rattle.std.specs.Prelude.{◌≡◌, ◌≤◌, ◌+◌, ◌*◌, ◌++◌, ◌∷◌, [], IfOk, IfSome, IfNone, Some, None, drop, length, take};
 ghost use Rattle.at_functions.specs.Numbers.{units};
-ghost use Rattle.at_functions.specs.Texts.{again, char_of, code, find_in, found, left, mid, repeat, replace, right, string, wrapped};
+ghost use Rattle.at_functions.specs.Texts.{again, char_of, code, find_in, found, left, mid, repeat, replace, right, string};
 
 use crate::counts::{count_of, units, whole, within};
 use fixed_value::{Fixed, write_decimal};
@@ -16,7 +16,7 @@ pub fn string(alloc: Global, number: Fixed, places: Fixed) -> Result<Option<Text
         return Ok(None);
     };
     let digits = write_decimal(number, places as u8);
-    some(Text::copy_of(alloc, digits.bytes()))
+    Ok(Some(Text::copy_of(alloc, digits.bytes())?))
 }
 
 // So many bytes from a place on.
@@ -38,17 +38,7 @@ pub fn mid(text: &Text, start: Fixed, count: Fixed) -> Result<Option<Text>, Memo
     let Some(count) = count_of(count) else {
         return Ok(None);
     };
-    some(text.like(part(text.bytes(), start as usize, count as usize)))
-}
-
-// A text that is there, but for want of memory.
-fn some(text: Result<Text, Memory>) -> Result<Option<Text>, Memory>
-    ensures { result ≡ wrapped text }
-{
-    match text {
-        Ok(text) => Ok(Some(text)),
-        Err(Memory) => Err(Memory),
-    }
+    Ok(Some(text.like(part(text.bytes(), start as usize, count as usize))?))
 }
 
 /// The first bytes of a text, fewer at its end; none for a count below zero.
@@ -58,7 +48,7 @@ pub fn left(text: &Text, count: Fixed) -> Result<Option<Text>, Memory>
     let Some(count) = count_of(count) else {
         return Ok(None);
     };
-    some(text.like(part(text.bytes(), 0, count as usize)))
+    Ok(Some(text.like(part(text.bytes(), 0, count as usize))?))
 }
 
 /// The last bytes of a text, fewer at its front; none for a count below zero.
@@ -70,7 +60,7 @@ pub fn right(text: &Text, count: Fixed) -> Result<Option<Text>, Memory>
     };
     let bytes = text.bytes();
     let start = bytes.len().saturating_sub(count as usize);
-    some(text.like(part(bytes, start, count as usize)))
+    Ok(Some(text.like(part(bytes, start, count as usize))?))
 }
 
 /// How many bytes a text has.
@@ -113,7 +103,7 @@ pub fn replace(text: &Text, start: Fixed, count: Fixed, new: &Text) -> Result<Op
     line.put_all(front);
     line.put_all(new.bytes());
     line.put_all(back);
-    some(text.like(line.bytes()))
+    Ok(Some(text.like(line.bytes())?))
 }
 
 // The bytes so many times.
@@ -142,7 +132,7 @@ pub fn repeat(text: &Text, count: Fixed) -> Result<Option<Text>, Memory>
         return Ok(None);
     }
     let line = again(bytes, count as usize);
-    some(text.like(line.bytes()))
+    Ok(Some(text.like(line.bytes())?))
 }
 
 /// The byte of a code from 32 to 255.
@@ -152,7 +142,7 @@ pub fn char_of(alloc: Global, code: Fixed) -> Result<Option<Text>, Memory>
     let Some(code) = within(32, 255, whole(code)) else {
         return Ok(None);
     };
-    some(Text::copy_of(alloc, &[code as u8]))
+    Ok(Some(Text::copy_of(alloc, &[code as u8])?))
 }
 
 /// The first place of a text, at or after one, at which the bytes stand, case told apart; the empty text stands

@@ -13,9 +13,9 @@ fn lettered(letter: u8, places: u8) -> AddressText
 {
     let digits = decimal_text(u64::from(places));
     let mut text = AddressText::new();
-    text.push(&[b'(', letter]);
-    text.push(digits.bytes());
-    text.push(b")");
+    text.put_all(&[b'(', letter]);
+    text.put_all(digits.bytes());
+    text.put_all(b")");
     text
 }
 
@@ -36,7 +36,7 @@ fn plain(bytes: &[u8]) -> AddressText
     ensures { result ≡ bytes.now }
 {
     let mut text = AddressText::new();
-    text.push(bytes);
+    text.put_all(bytes);
     text
 }
 

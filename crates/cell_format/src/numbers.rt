@@ -1,6 +1,6 @@
 // Numbers as they are shown.
 ghost use Rattle.std.specs.Int.RustNames.{int_lt};
-ghost use Rattle.std.specs.Prelude.{◌≡◌, ◌≤◌, ◌<◌, ◌+◌, ◌-◌, ◌*◌, ◌++◌, ◌∷◌, ◌&&◌, ◌==◌, not, [], length, pos, nat_abs, Some};
+ghost use Rattle.std.specs.Prelude.{◌≡◌, ◌≤◌, ◌<◌, ◌+◌, ◌-◌, ◌*◌, ◌++◌, ◌∷◌, ◌&&◌, ◌==◌, not, [], length, Some};
 ghost use Rattle.cell_format.specs.Format.{shape_of, HasFewPlaces};
 ghost use Rattle.cell_format.specs.Numbers.{at_right, bracketed, fitting, grouped, number_text, placed, shown_number, size_text};
 ghost use Rattle.fixed_value.specs.Written.{hundredfold, scaled};
@@ -22,17 +22,6 @@ fn line_of(bytes: &[u8]) -> Line
     let mut line = Line::new();
     line.put_all(bytes);
     line
-}
-
-// The number without its sign.
-fn size_of(value: Fixed) -> Fixed
-    ensures { result ≡ pos (nat_abs value) }
-{
-    if value.millionths() < 0 {
-        value.neg()
-    } else {
-        value
-    }
 }
 
 // Adds digits in groups of three.
@@ -57,7 +46,7 @@ fn push_size(into: &mut Line, value: Fixed, places: u8)
     ensures text { into.new ≡ into.old ++ size_text value places }
     ensures size { length into.new ≤ length into.old + 96 }
 {
-    let digits = write_decimal(size_of(value), places);
+    let digits = write_decimal(value.abs(), places);
     let bytes = digits.bytes();
     let len = digits_len(bytes);
     push_grouped(into, &bytes[..len]);

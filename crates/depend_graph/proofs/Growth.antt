@@ -1,5 +1,5 @@
 -- What goes into the set, and that it ends with all that is within.
-use Rattle.std.specs.Prelude.{ℕ, zero, suc, ◌≡◌, ◌<◌, ◌≤◌, ◌+◌, ◌||◌, true, false, cond, refl, List, [], ◌∷◌, ◌++◌, length, take, ◌↔◌, ◌⊎◌, Option, Some, None, slice_get, is_some}
+use Rattle.std.specs.Prelude.{ℕ, Bool, zero, suc, ◌≡◌, ◌<◌, ◌≤◌, ◌+◌, ◌||◌, true, false, cond, refl, List, [], ◌∷◌, ◌++◌, length, take, ◌↔◌, ◌⊎◌, Option, Some, None, slice_get, is_some}
 use Rattle.std.specs.FinMap.{entries, get}
 use Rattle.std.specs.BTreeMap.{is_at}
 use Rattle.std.specs.List.{IsDistinct}
@@ -18,6 +18,15 @@ use Rattle.depend_graph.specs.Network.Reaches.{at_once, through}
 use Rattle.depend_graph.specs.Within.{Extends, Grown, Within}
 use Rattle.depend_graph.specs.Within.Within.{reader, seed}
 use Rattle.depend_graph.specs.declared.node.Node.{Node}
+
+pub either : (a b c : Bool) → a ≡ (b || c) → (a ≡ true) ↔ ((b ≡ true) ⊎ (c ≡ true))
+either a b c is = (
+  (λ h. or_cases b c (sym is ∙ h)),
+  (λ h. elim h [
+    | inl one ↦ is ∙ or_left b c one
+    | inr other ↦ is ∙ or_right b c other
+  ]),
+)
 
 -- every formula
 abbrev pub all : Network → List Place

@@ -1,11 +1,11 @@
 // What reaches cells through what formulas read.
 ghost use Rattle.std.specs.Prelude.{◌≡◌, ◌<◌, ◌^◌, ◌⊎◌, ◌↔◌, length, true, IfOk, OnOk};
 ghost use Rattle.grid_address.specs.Place.{same_place, Place};
-ghost use Rattle.indexmap.specs.IndexSet.{insert_key, IsUnique};
+ghost use Rattle.indexmap.specs.IndexSet.{IsUnique};
 ghost use Rattle.depend_graph.specs.Network.{has, is_formula, IsSpread};
 ghost use Rattle.depend_graph.specs.Within.{Extends, Within};
 
-use crate::Graph;
+use crate::{Graph, insert_all};
 use grid_address::Cell;
 use indexmap::IndexSet;
 use lics_text::Memory;
@@ -18,9 +18,7 @@ fn grow(set: &mut IndexSet<Cell>, cells: &[Cell]) -> Result<(), Memory>
     ensures small { OnOk result (length set.new.keys < 2 ^ 63) }
     ensures has { OnOk result ((c : Place) → (has set.new.keys c ≡ true) ↔ ((has set.old.keys c ≡ true) ⊎ (has cells.now c ≡ true))) }
 {
-    for cell in cells {
-        set.insert(*cell)?;
-    }
+    insert_all(set, cells)?;
     // `len` is called for its clauses: no cell is in the set twice, and the set isn't larger than memory.
     let _len = set.len();
     Ok(())

@@ -6,7 +6,9 @@ mod closure;
 mod graph;
 mod node;
 mod readers;
+mod sets;
 mod slots;
 
 pub use graph::Graph;
 pub use node::Node;
+pub use sets::{cut_back, insert, insert_all};

@@ -44,8 +44,15 @@ pub fn digits_len(bytes: &[u8]) -> usize
     len
 }
 
-// What digits stand for, where it is below 1,000,000,000.
-fn capped_number(digits: &[u8]) -> u64
+/// Whether all bytes are digits.
+pub fn all_digits(bytes: &[u8]) -> bool
+    ensures { result ≡ list_all is_ascii_digit bytes.now }
+{
+    bytes.iter().all(|b| b.is_ascii_digit())
+}
+
+/// What digits stand for, and 1,000,000,000 where it is more.
+pub fn capped_number(digits: &[u8]) -> u64
     requires { list_all is_ascii_digit digits.now ≡ true }
     ensures { result ≡ min (number_of digits.now) 1000000000 }
 {
@@ -95,12 +102,6 @@ fn fraction(minus: bool, whole: &[u8], places: &[u8]) -> Decimal
         return Decimal::TooLarge;
     }
     Decimal::Num(Fixed::of_size(minus, size))
-}
-
-fn all_digits(bytes: &[u8]) -> bool
-    ensures { result ≡ list_all is_ascii_digit bytes.now }
-{
-    bytes.iter().all(|b| b.is_ascii_digit())
 }
 
 // The bytes behind the first.

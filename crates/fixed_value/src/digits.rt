@@ -1,66 +1,16 @@
 // Decimals as they are written.
 ghost use Rattle.std.specs.Int.RustNames.{int_lt};
-ghost use Rattle.std.specs.Prelude.{◌≡◌, ◌≤◌, ◌<◌, ◌+◌, ◌++◌, ◌∷◌, ◌&&◌, ◌==◌, not, [], length, take, drop, ℕ, ℤ, pos, nat_abs};
+ghost use Rattle.std.specs.Prelude.{◌≡◌, ◌≤◌, ◌<◌, ◌+◌, ◌++◌, ◌&&◌, ◌==◌, not, length, take, drop, ℕ, ℤ, pos, nat_abs};
 ghost use Rattle.fixed_value.specs.Decimals.{decimal_of};
 ghost use Rattle.fixed_value.specs.Written.{fixed_digits, hundredfold, minus_sign, pointed, scaled, short, without_last_zeros, without_zeros, written};
 ghost use Rattle.fixed_value.specs.declared.decimal.Decimal.TheVariants.{Num};
 
 use crate::Fixed;
 use crate::power_of_ten::ten_to;
-use std::marker::Model;
+use byte_list::ByteList;
 
 /// A written decimal: at most 32 bytes.
-#[derive(Drop)]
-pub struct Digits {
-    bytes: [u8; 32],
-    len: usize,
-}
-
-impl Model for Digits {
-    ghost use Rattle.std.specs.Prelude.{ℕ, List, take, ◌≤◌};
-
-    ghost Value = { List ℕ };
-
-    ghost view = { λ a. take a.len a.bytes };
-
-    ghost invariant = { λ a. a.len ≤ 32 };
-}
-
-impl Digits {
-    fn new() -> Digits
-        ensures { result ≡ [] }
-    {
-        Digits {
-            bytes: [0; 32],
-            len: 0,
-        }
-    }
-
-    fn push(&mut self, byte: u8)
-        requires { length self.old < 32 }
-        ensures { self.new ≡ self.old ++ byte ∷ [] }
-    {
-        self.bytes[self.len] = byte;
-        self.len += 1;
-    }
-
-    fn push_all(&mut self, bytes: &[u8])
-        requires { length self.old + length bytes.now ≤ 32 }
-        ensures { self.new ≡ self.old ++ bytes.now }
-    {
-        let end = self.len + bytes.len();
-        self.bytes[self.len..end].copy_from_slice(bytes);
-        self.len = end;
-    }
-
-    /// The bytes, at most 32.
-    pub fn bytes(&self) -> &[u8]
-        ensures bytes { result.now ≡ self.now }
-        ensures length { length result.now ≤ 32 }
-    {
-        &self.bytes[..self.len]
-    }
-}
+pub type Digits = ByteList<32>;
 
 // Adds so many digits of a number, with zeros in front.
 #[tactic(auto, using(crate::proofs::Written::fixed_digits_length))]
@@ -71,7 +21,7 @@ fn push_digits(text: &mut Digits, count: u8, number: u128)
 {
     if count > 0 {
         push_digits(text, count - 1, number / 10);
-        text.push(b'0' + (number % 10) as u8);
+        text.put_all(&[b'0' + (number % 10) as u8]);
     }
 }
 
@@ -155,8 +105,8 @@ fn push_places(text: &mut Digits, places: &[u8])
     ensures { text.new ≡ text.old ++ pointed places.now }
 {
     if places.len() > 0 {
-        text.push(b'.');
-        text.push_all(places);
+        text.put_all(b".");
+        text.put_all(places);
     }
 }
 
@@ -166,8 +116,8 @@ fn write(sign: &[u8], whole: &[u8], places: &[u8]) -> Digits
     ensures { result ≡ sign.now ++ (without_zeros whole.now ++ pointed places.now) }
 {
     let mut text = Digits::new();
-    text.push_all(sign);
-    text.push_all(without_zeros(whole));
+    text.put_all(sign);
+    text.put_all(without_zeros(whole));
     push_places(&mut text, places);
     text
 }

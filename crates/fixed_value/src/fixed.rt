@@ -77,6 +77,17 @@ impl Fixed {
         }
     }
 
+    /// The number without its sign.
+    pub fn abs(self) -> Fixed
+        ensures { result ≡ pos (nat_abs self) }
+    {
+        if self.millionths < 0 {
+            self.neg()
+        } else {
+            self
+        }
+    }
+
     /// The whole part, cut toward zero.
     pub fn int(self) -> Fixed
         ensures { result ≡ whole_part self }

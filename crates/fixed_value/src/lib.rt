@@ -11,7 +11,7 @@ mod power;
 mod power_of_ten;
 mod round;
 
-pub use decimal::{Decimal, digits_len, read_decimal};
+pub use decimal::{Decimal, all_digits, capped_number, digits_len, read_decimal};
 pub use digits::{
     Digits, rounds_to_zero, short_is_read, write_decimal, write_hundredfold, write_short,
     written_is_read,

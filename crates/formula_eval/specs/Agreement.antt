@@ -4,13 +4,14 @@ use Rattle.std.specs.List.{filter, list_all, list_any}
 use Rattle.std.proofs.Common.{ap, sym, ◌∙◌, arith, inl, inr}
 use Rattle.std.proofs.lemmas.Bool.{cases_Bool}
 use Rattle.std.proofs.lemmas.Bool.Decides.{nat_tests}
-use Rattle.grid_address.specs.Place.{is_within, spanned, Extent, Place}
+use Rattle.grid_address.specs.Place.{height_of, is_within, spanned, width_of, Extent, Place}
 use Rattle.formula_tree.specs.declared.value.Value.{Value}
 use Rattle.formula_eval.specs.declared.argument.Argument.{Argument}
 use Rattle.formula_eval.specs.declared.argument.Operand.{Operand}
 use Rattle.formula_eval.specs.declared.argument.Operand.TheVariants as operand
 use Rattle.formula_eval.specs.Lists.{alone, in_range, items_by, items_in, items_of}
-use Rattle.formula_eval.specs.World.{block_cells, cells_of, height_of, is_filled, row_cells, width_of}
+use Rattle.formula_tree.specs.Values.{is_filled}
+use Rattle.formula_eval.specs.World.{block_cells, cells_of, row_cells}
 
 -- a place is in the range of an argument
 abbrev pub in_operand : Operand → Place → Bool

@@ -3,7 +3,7 @@ use Rattle.std.specs.Prelude.{◌≡◌, ℕ, zero, suc, ◌+◌, ◌≤◌, ◌
 use Rattle.std.specs.List.{prefix_len}
 use Rattle.std.proofs.Common.{ap, ◌∙◌, arith}
 use Rattle.std.proofs.lemmas.Bool.Decides.{nat_tests}
-use Rattle.grid_address.specs.Place.{is_within, spanned, Extent, Place}
+use Rattle.grid_address.specs.Place.{height_of, is_within, spanned, width_of, Extent, Place}
 use Rattle.at_functions.specs.Numbers.{count_of}
 use Rattle.formula_tree.specs.declared.value.Value.{Value}
 use Rattle.formula_tree.specs.declared.value.Value.TheVariants as value
@@ -12,7 +12,6 @@ use Rattle.formula_eval.specs.declared.argument.Operand.TheVariants as operand
 use Rattle.formula_eval.specs.Agreement.{Agree, AgreeIn}
 use Rattle.formula_eval.specs.Lookups.{by_number, by_passed, by_place, by_text, depth_of, firsts, index_value, is_label, line_cell, lines_of, looked_up, lookup_value, on_place, passes, place_by, place_in}
 use Rattle.value_functions.specs.Values.{counted, number_in, on_number, stop_two, unless_stopped}
-use Rattle.formula_eval.specs.World.{height_of, width_of}
 
 corner : (s : Extent) (row col : ℕ) → row < height_of s → col < width_of s → is_within s (record { row = s.first.row + row; col = s.first.col + col }) ≡ true
 corner s row col h g =

@@ -4,7 +4,7 @@ use Rattle.std.specs.FinMap.{get}
 use Rattle.std.specs.Int.RustNames.{int_lt}
 use Rattle.std.specs.List.{prefix_len}
 use Rattle.std.specs.Ordering.{is_eq}
-use Rattle.grid_address.specs.Place.{spanned, Extent, Place}
+use Rattle.grid_address.specs.Place.{height_of, spanned, width_of, Extent, Place}
 use Rattle.grid_address.specs.Progress.{address_in}
 use Rattle.range_names.specs.Names.{key_of, NameMap}
 use Rattle.at_functions.specs.Numbers.{count_of}
@@ -14,7 +14,6 @@ use Rattle.formula_eval.specs.declared.argument.Operand.{Operand}
 use Rattle.formula_eval.specs.declared.argument.Operand.TheVariants as operand
 use Rattle.value_functions.specs.Operators.{order_of_texts}
 use Rattle.value_functions.specs.Values.{counted, number_in, on_number, on_text, stop_one, stop_two, text_in, unless_stopped}
-use Rattle.formula_eval.specs.World.{height_of, width_of}
 
 -- a cell is a range of one cell
 abbrev pub range_of : Operand → Option Extent

@@ -1,11 +1,11 @@
 -- What formulas look at.
-use Rattle.std.specs.Prelude.{ℕ, ◌+◌, ◌-◌, zero, suc, Bool, true, false, Option, List, [], ◌∷◌, ◌++◌}
+use Rattle.std.specs.Prelude.{ℕ, ◌+◌, zero, suc, Option, List, [], ◌∷◌, ◌++◌}
 use Rattle.std.specs.List.{filter}
-use Rattle.grid_address.specs.Place.{Extent, Place}
+use Rattle.grid_address.specs.Place.{height_of, width_of, Extent, Place}
 use Rattle.range_names.specs.Names.{NameMap}
 use Rattle.formula_tree.specs.declared.value.Content.{Content}
 use Rattle.formula_tree.specs.declared.value.Value.{Value}
-use Rattle.formula_tree.specs.declared.value.Value.TheVariants as value
+use Rattle.formula_tree.specs.Values.{is_filled}
 
 -- values, contents, format bytes and column widths, and the names of spans
 pub record Sight : Type 0 where
@@ -32,22 +32,9 @@ abbrev pub block_cells : ℕ → ℕ → ℕ → ℕ → List Place
 block_cells row col zero cols = []
 block_cells row col (suc rows) cols = row_cells row col cols ++ block_cells (row + 1) col rows cols
 
-abbrev pub width_of : Extent → ℕ
-width_of s = s.last.col + 1 - s.first.col
-
-abbrev pub height_of : Extent → ℕ
-height_of s = s.last.row + 1 - s.first.row
-
 -- the cells of a span, in row order
 abbrev pub cells_of : Extent → List Place
 cells_of s = block_cells s.first.row s.first.col (height_of s) (width_of s)
-
-abbrev pub is_filled : Value → Bool
-is_filled value.Blank = false
-is_filled (value.Num x) = true
-is_filled (value.Str t) = true
-is_filled value.Err = true
-is_filled value.Na = true
 
 -- the cells of a span that aren't blank, in row order
 abbrev pub filled : (Place → Value) → Extent → List Place

@@ -13,7 +13,7 @@ use crate::look::{Look, Scene};
 use crate::lookups::{extent_value, index_value, lookup_value, pointed_value, range_of};
 use at_functions::whole;
 use fixed_value::Fixed;
-use formula_tree::Value;
+use formula_tree::{Value, is_one_of};
 use lics_text::Memory;
 use std::alloc::Global;
 use value_functions::{
@@ -21,12 +21,6 @@ use value_functions::{
     number_in, of_number, of_numbers, of_parts, of_text, replace_value, stop_one, string_value,
     test_value,
 };
-
-fn is_one_of(codes: &[u8], code: u8) -> bool
-    ensures { result ≡ is_one_of codes.now code }
-{
-    codes.contains(&code)
-}
 
 // ABS, INT, DAY, MONTH, YEAR, HOUR, MINUTE and SECOND.
 fn takes_number(function: u8) -> bool

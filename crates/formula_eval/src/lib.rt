@@ -9,8 +9,6 @@ mod look;
 mod lookups;
 mod meaning;
 mod means;
-#[cfg(test)]
-mod tests;
 
 pub use look::{Look, Scene};
 pub use meaning::{Tally, evaluate, glance};

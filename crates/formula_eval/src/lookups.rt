@@ -3,8 +3,9 @@ ghost use Rattle.std.specs.Prelude.{◌≡◌, ◌<◌, ◌≤◌, ◌+◌, not,
 ghost use Rattle.std.specs.Int.RustNames.{int_lt};
 ghost use Rattle.std.specs.List.{prefix_len};
 ghost use Rattle.std.specs.Option.{ForSome};
+ghost use Rattle.grid_address.specs.Place.{height_of, width_of};
 ghost use Rattle.formula_eval.specs.Lookups.{by_number, by_text, cell_or_name, depth_of, extent_value, firsts, index_value, is_label, line_cell, lines_of, looked_up, lookup_value, passes, place_in, pointed_value, range_of, spelled_cell};
-ghost use Rattle.formula_eval.specs.World.{height_of, width_of, Sight};
+ghost use Rattle.formula_eval.specs.World.{Sight};
 
 use crate::argument::Operand;
 use crate::look::Look;
@@ -28,28 +29,14 @@ pub fn range_of(operand: Operand) -> Option<Span>
     }
 }
 
-fn width_of(span: Span) -> u16
-    ensures width { result ≡ width_of span }
-    ensures bound { result ≤ 256 }
-{
-    (u16::from(span.last.col) + 1).saturating_sub(u16::from(span.first.col))
-}
-
-fn height_of(span: Span) -> u16
-    ensures height { result ≡ height_of span }
-    ensures bound { result ≤ 8192 }
-{
-    (span.last.row + 1).saturating_sub(span.first.row)
-}
-
 /// COLS and ROWS.
 pub fn extent_value(function: u8, span: Span) -> Value
     ensures { result ≡ extent_value function span }
 {
     if function == 0x63 {
-        counted(usize::from(width_of(span)))
+        counted(usize::from(span.width()))
     } else {
-        counted(usize::from(height_of(span)))
+        counted(usize::from(span.height()))
     }
 }
 
@@ -58,11 +45,7 @@ fn lines_of(across: bool, span: Span) -> u16
     ensures lines { result ≡ lines_of across span }
     ensures bound { result ≤ 8192 }
 {
-    if across {
-        width_of(span)
-    } else {
-        height_of(span)
-    }
+    if across { span.width() } else { span.height() }
 }
 
 // How many cells a line has.
@@ -70,11 +53,7 @@ fn depth_of(across: bool, span: Span) -> u16
     ensures depth { result ≡ depth_of across span }
     ensures bound { result ≤ 8192 }
 {
-    if across {
-        height_of(span)
-    } else {
-        width_of(span)
-    }
+    if across { span.height() } else { span.width() }
 }
 
 // A cell by its row and its column in a range.
@@ -281,10 +260,10 @@ pub fn index_value<K: Look>(
     let Some(row) = number_in(row) else {
         return Ok(Value::Err);
     };
-    let Some(col) = place_in(col, width_of(span)) else {
+    let Some(col) = place_in(col, span.width()) else {
         return Ok(Value::Err);
     };
-    let Some(row) = place_in(row, height_of(span)) else {
+    let Some(row) = place_in(row, span.height()) else {
         return Ok(Value::Err);
     };
     look.value(line_cell(false, span, row, col)).copy()

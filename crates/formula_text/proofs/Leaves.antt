@@ -17,7 +17,7 @@ use Rattle.formula_tree.specs.Ranges.{is_text}
 use Rattle.formula_text.specs.declared.lexeme.Kind.TheVariants.{Num, Str}
 use Rattle.formula_text.specs.Lexed.{found_by, part_found}
 use Rattle.formula_text.specs.Operands.{closed, digits_len, number_kind, number_len, point_len, text_kind}
-use Rattle.formula_text.specs.Fine.{has_no_quote}
+use Rattle.formula_tree.specs.Shape.{has_no_quote}
 use Rattle.formula_text.proofs.Cuts.{left, no_digit, right, take_front, IsPart, Starts, Stops}
 
 point_none : (rest : List ℕ) → (get_or rest 0 0 == 46) ≡ false → point_len rest ≡ 0

@@ -1,15 +1,12 @@
 -- What the parts of a text keep.
-use Rattle.std.specs.Prelude.{ℕ, Bool, true, not, ◌&&◌, ◌==◌, nat_le, List, length}
-use Rattle.std.specs.List.{list_all, list_any}
-use Rattle.formula_tree.specs.Shape.{not_negative}
+use Rattle.std.specs.Prelude.{Bool, true, ◌&&◌, nat_le, List, length}
+use Rattle.std.specs.List.{list_all}
+use Rattle.formula_tree.specs.Shape.{has_no_quote, not_negative}
 use Rattle.formula_tree.specs.Table.{counts_of, takes}
 use Rattle.formula_text.specs.declared.lexeme.Kind.{Kind}
 use Rattle.formula_text.specs.declared.lexeme.Kind.TheVariants.{Num, Str, Cell, Span, Constant, Function, Infix, Not, Open, Close, Comma, Unclosed, Bad}
 use Rattle.formula_text.specs.declared.lexeme.Lexeme.{Lexeme}
 use Rattle.formula_text.specs.Tokens.{Token, number, text, place, places, constant, called, opening, closing, comma, front_minus, front_not, infix_op}
-
-abbrev pub has_no_quote : List ℕ → Bool
-has_no_quote t = not (list_any (λ b. b == 34) t)
 
 -- a number isn't negative, a text has no quote and at most 240 bytes, and a constant takes no arguments
 abbrev pub is_fine_kind : Kind → Bool

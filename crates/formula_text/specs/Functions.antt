@@ -1,6 +1,8 @@
 -- The names of functions (Release 2 manual), with their codes (worksheet file format).
-use Rattle.std.specs.Prelude.{ℕ, ◌==◌, Bool, true, false, Option, Some, None, List, [], ◌∷◌, codes, if◌then◌else◌}
-use Rattle.std.specs.Str.{str_eq_ignore_ascii_case}
+use Rattle.std.specs.Char.{to_ascii_uppercase}
+use Rattle.std.specs.Prelude.{ℕ, ◌==◌, Bool, true, false, Option, List, [], ◌∷◌, codes, map, if◌then◌else◌}
+use Rattle.std.specs.Str.{bytes_eq}
+use Rattle.lics_text.specs.Names.{name_in}
 use Rattle.formula_tree.specs.declared.ast.Function.{Function}
 
 abbrev pub Named : Type 0
@@ -35,22 +37,18 @@ left_out =
     ∷ codes "SLN" ∷ codes "SYD" ∷ codes "DDB" ∷ codes "DSUM" ∷ codes "DAVG" ∷ codes "DCOUNT" ∷ codes "DMIN" ∷ codes "DMAX" ∷ []
 
 -- letters of either case are the same
-abbrev pub lookup : List Named → List ℕ → Option Function
-lookup [] name = None
-lookup (f ∷ fs) name = if str_eq_ignore_ascii_case f.0 name then Some f.1 else lookup fs name
-
 abbrev pub function_named : List ℕ → Option Function
-function_named = lookup functions
+function_named name = name_in functions (map to_ascii_uppercase name)
 
 abbrev pub is_among : List (List ℕ) → List ℕ → Bool
 is_among [] name = false
-is_among (n ∷ ns) name = if str_eq_ignore_ascii_case n name then true else is_among ns name
+is_among (n ∷ ns) name = if bytes_eq n (map to_ascii_uppercase name) then true else is_among ns name
 
 -- the name of a code
-abbrev pub name_in : List Named → ℕ → List ℕ
-name_in [] code = []
-name_in (f ∷ fs) code = if f.1.0 == code then f.0 else name_in fs code
+abbrev pub name_by_code : List Named → ℕ → List ℕ
+name_by_code [] code = []
+name_by_code (f ∷ fs) code = if f.1.0 == code then f.0 else name_by_code fs code
 
 -- 115 is @@
 abbrev pub name_of : ℕ → List ℕ
-name_of code = if code == 115 then codes "@" else name_in functions code
+name_of code = if code == 115 then codes "@" else name_by_code functions code

@@ -1,9 +1,9 @@
 // The names of functions.
 ghost use Rattle.std.specs.Prelude.{◌≡◌, map};
-ghost use Rattle.std.specs.Str.{str_eq_ignore_ascii_case};
 ghost use Rattle.formula_text.specs.Functions as spec;
 
 use formula_tree::Function;
+use lics_text::{is_name, name_in};
 
 const FUNCTIONS: [(&[u8], Function); 54] = [
     (b"NA", Function(0x1F)),
@@ -69,37 +69,18 @@ const LEFT_OUT: [&[u8]; 35] = [
     b"DMAX",
 ];
 
-// The same word, in letters of either case.
-fn is_same(word: &[u8], name: &[u8]) -> bool
-    ensures { result ≡ str_eq_ignore_ascii_case word.now name.now }
-{
-    word.eq_ignore_ascii_case(name)
-}
-
-fn lookup(mut table: &[(&[u8], Function)], name: &[u8]) -> Option<Function>
-    ensures { result ≡ spec.lookup (map (λ f. (f.0.now, f.1)) table.entry.now) name.now }
-{
-    while let [entry, rest @ ..] = table {
-        if is_same(entry.0, name) {
-            return Some(entry.1);
-        }
-        table = rest;
-    }
-    None
-}
-
 // The function of a name, in letters of either case.
 pub fn function_named(name: &[u8]) -> Option<Function>
     ensures { result ≡ spec.function_named name.now }
 {
-    lookup(&FUNCTIONS, name)
+    name_in(&FUNCTIONS, name)
 }
 
 fn is_among(mut names: &[&[u8]], name: &[u8]) -> bool
     ensures { result ≡ spec.is_among (map (λ n. n.now) names.entry.now) name.now }
 {
     while let [first, rest @ ..] = names {
-        if is_same(first, name) {
+        if is_name(first, name) {
             return true;
         }
         names = rest;
@@ -114,8 +95,8 @@ pub fn is_left_out(name: &[u8]) -> bool
     is_among(&LEFT_OUT, name)
 }
 
-fn name_in(mut table: &[(&'static [u8], Function)], function: Function) -> &'static [u8]
-    ensures { result.now ≡ spec.name_in (map (λ f. (f.0.now, f.1)) table.entry.now) function.0 }
+fn name_by_code(mut table: &[(&'static [u8], Function)], function: Function) -> &'static [u8]
+    ensures { result.now ≡ spec.name_by_code (map (λ f. (f.0.now, f.1)) table.entry.now) function.0 }
 {
     while let [entry, rest @ ..] = table {
         if entry.1.0 == function.0 {
@@ -133,6 +114,6 @@ pub fn name_of(function: Function) -> &'static [u8]
     if function.0 == 0x73 {
         b"@"
     } else {
-        name_in(&FUNCTIONS, function)
+        name_by_code(&FUNCTIONS, function)
     }
 }

@@ -1,13 +1,12 @@
 // Addresses and names in a formula.
-ghost use Rattle.std.specs.Char.{is_ascii_digit};
 ghost use Rattle.std.specs.Prelude.{◌≡◌, ◌≤◌, ◌<◌, ◌+◌, true, length};
-ghost use Rattle.std.specs.List.{list_all};
 ghost use Rattle.grid_address.specs.Place.{same_place};
 ghost use Rattle.formula_text.specs.Fine.{is_fine_kind};
 ghost use Rattle.formula_text.specs.Words.{address_found, corner_behind, has_dollar, is_word_byte, letters_len, name_kind, named_span, plain_address, reference_from, reference_in, span_kind, with_corner, without_dollar, word_found, word_len};
 
 use crate::ParseFault;
 use crate::lexeme::{Found, Kind};
+use fixed_value::all_digits;
 use grid_address::{Cell, Ref, Span, count_dots, read_cell};
 use lics_text::Line;
 use range_names::Names;
@@ -33,12 +32,6 @@ fn letters_len(bytes: &[u8]) -> usize
     bytes.iter().take_while(|b| b.is_ascii_alphabetic()).count()
 }
 
-fn are_digits(bytes: &[u8]) -> bool
-    ensures { result ≡ list_all is_ascii_digit bytes.now }
-{
-    bytes.iter().all(|b| b.is_ascii_digit())
-}
-
 fn has_dollar(bytes: &[u8]) -> bool
     ensures { result ≡ has_dollar bytes.now }
 {
@@ -61,7 +54,7 @@ fn plain_address(column: &[u8], row: &[u8]) -> Option<Cell>
     requires { length column.now + length row.now ≤ 240 }
     ensures { result ≡ plain_address column.now row.now }
 {
-    if !are_digits(row) {
+    if !all_digits(row) {
         return None;
     }
     let mut line = Line::new();

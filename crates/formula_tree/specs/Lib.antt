@@ -6,4 +6,5 @@ pub mod Shape
 pub mod Spans
 pub mod Table
 pub mod Tree
+pub mod Values
 pub mod View

@@ -1,5 +1,5 @@
 -- The shape of a tree.
-use Rattle.std.specs.Prelude.{ℕ, ◌+◌, ◌≤◌, ◌≡◌, max, min, ℤ, pos, negsuc, nat_abs, ◌%◌, ◌==◌, Bool, true, false, not, ◌&&◌, nat_le, nat_lt, length, if◌then◌else◌}
+use Rattle.std.specs.Prelude.{ℕ, ◌+◌, ◌≤◌, ◌≡◌, max, min, ℤ, pos, negsuc, nat_abs, ◌%◌, ◌==◌, Bool, true, false, not, ◌&&◌, nat_le, nat_lt, List, length, if◌then◌else◌}
 use Rattle.std.specs.List.{list_any}
 use Rattle.formula_tree.specs.declared.ast.Op.{Op}
 use Rattle.formula_tree.specs.declared.ast.Op.TheVariants.{Pow, Mul, Div, Add, Sub, Eq, Ne, Lt, Gt, Le, Ge, And, Or, Join}
@@ -96,10 +96,13 @@ abbrev pub not_negative : ℤ → Bool
 not_negative (pos n) = true
 not_negative (negsuc n) = false
 
+abbrev pub has_no_quote : List ℕ → Bool
+has_no_quote t = not (list_any (λ b. b == 34) t)
+
 -- whether a number isn't negative, and a text holds no quote
 abbrev pub is_plain : Tree → Bool
 is_plain (num v) = not_negative v
-is_plain (str t) = not (list_any (λ b. b == 34) t)
+is_plain (str t) = has_no_quote t
 is_plain (cell r) = true
 is_plain (span a b) = true
 is_plain (group a) = true

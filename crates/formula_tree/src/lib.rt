@@ -17,5 +17,5 @@ mod walk;
 pub use ast::{Expr, ExprList, Function, Op};
 pub use formula::{Formula, TreeFault};
 pub use shape::{level, top};
-pub use table::{Counts, call_size, counts_of, is_volatile_code, takes};
+pub use table::{Counts, call_size, counts_of, is_one_of, is_volatile_code, takes};
 pub use value::{Content, Value};

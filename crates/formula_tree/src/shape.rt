@@ -1,7 +1,6 @@
 // The shape of a tree's nodes.
-ghost use Rattle.std.specs.Prelude.{◌≡◌, ◌≤◌, ◌==◌, nat_le, not};
-ghost use Rattle.std.specs.List.{list_any};
-ghost use Rattle.formula_tree.specs.Shape.{is_bracketed, is_counted, is_fine, is_plain, is_short, level, lowest, node_size, not_negative, top};
+ghost use Rattle.std.specs.Prelude.{◌≡◌, ◌≤◌, nat_le};
+ghost use Rattle.formula_tree.specs.Shape.{has_no_quote, is_bracketed, is_counted, is_fine, is_plain, is_short, level, lowest, node_size, not_negative, top};
 ghost use Rattle.formula_tree.specs.View.{tree_of};
 
 use crate::table::{call_size, takes};
@@ -96,7 +95,7 @@ fn is_not_negative(number: Fixed) -> bool
 }
 
 fn has_no_quote(text: &Text) -> bool
-    ensures { result ≡ not (list_any (λ b. b == 34) text.now) }
+    ensures { result ≡ has_no_quote text.now }
 {
     !text.bytes().contains(&b'"')
 }

@@ -37,8 +37,8 @@ const LISTS_TAKEN: [u8; 5] = [0x50, 0x51, 0x52, 0x53, 0x54];
 // NOW, CELLPOINTER, CELL, @@, DSUM, DAVG, DCOUNT, DMIN and DMAX.
 const VOLATILE: [u8; 9] = [0x37, 0x4F, 0x6C, 0x73, 0x5B, 0x5C, 0x5D, 0x5E, 0x5F];
 
-// Whether a code is one of these.
-fn is_one_of(codes: &[u8], code: u8) -> bool
+/// Whether a code is one of these.
+pub fn is_one_of(codes: &[u8], code: u8) -> bool
     ensures { result ≡ is_one_of codes.now code }
 {
     codes.contains(&code)

@@ -1,6 +1,6 @@
 // What cells hold, and their values.
-
 ghost use Rattle.std.specs.Prelude.{◌≡◌, IfOk};
+ghost use Rattle.formula_tree.specs.Values.{is_filled};
 
 use crate::Formula;
 use fixed_value::Fixed;
@@ -17,6 +17,16 @@ pub enum Value {
 }
 
 impl Value {
+    /// Whether it isn't blank.
+    pub fn is_filled(&self) -> bool
+        ensures { result ≡ is_filled self.now }
+    {
+        match self {
+            Value::Blank => false,
+            Value::Num(_) | Value::Str(_) | Value::Err | Value::Na => true,
+        }
+    }
+
     /// An equal value.
     pub fn copy(&self) -> Result<Value, Memory>
         ensures { IfOk result (λ v. v ≡ self.now) }

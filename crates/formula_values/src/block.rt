@@ -1,7 +1,8 @@
 // A block of cells that formulas look at: the columns A to H, row by row from the top, as many as there are.
 ghost use Rattle.std.specs.Prelude.{◌≡◌, ◌≤◌, ◌<◌, ◌+◌, ◌-◌, ◌*◌, ◌%◌, ◌++◌, ◌∷◌, [], IfOk, IfSome, IfNone, OnOk, Some, None, slice_get};
 ghost use Rattle.std.specs.List.{filter};
-ghost use Rattle.formula_eval.specs.World.{block_cells, filled, height_of, is_filled, row_cells, width_of, Sight};
+ghost use Rattle.formula_tree.specs.Values.{is_filled};
+ghost use Rattle.formula_eval.specs.World.{block_cells, filled, row_cells, Sight};
 ghost use Rattle.formula_values.specs.Blocks.{content_of, format_of, held_at, index_of, value_of};
 
 use crate::held::Held;
@@ -49,15 +50,6 @@ fn value_at<'a>(held: &'a [Held], blank: &'a Value, cell: Cell) -> &'a Value
     }
 }
 
-fn is_filled(value: &Value) -> bool
-    ensures { result ≡ is_filled value.now }
-{
-    match value {
-        Value::Blank => false,
-        Value::Num(_) | Value::Str(_) | Value::Err | Value::Na => true,
-    }
-}
-
 // The cell so many columns behind another in a row.
 fn cell_in(row: u16, first: u8, place: u16) -> Cell
     requires row { row < 8192 }
@@ -86,36 +78,22 @@ fn put_row(
 {
     for place in 0..count {
         let cell = cell_in(row, first, place);
-        if is_filled(value_at(held, blank, cell)) {
+        if value_at(held, blank, cell).is_filled() {
             cells.push(cell)?;
         }
     }
     Ok(())
 }
 
-fn width_of(span: Span) -> u16
-    ensures width { result ≡ width_of span }
-    ensures fits { span.first.col + result ≤ 256 }
-{
-    u16::from(span.last.col) + 1 - u16::from(span.first.col)
-}
-
-fn height_of(span: Span) -> u16
-    ensures height { result ≡ height_of span }
-    ensures fits { span.first.row + result ≤ 8192 }
-{
-    span.last.row + 1 - span.first.row
-}
-
 // The cells of a span that aren't blank, in row order.
 fn filled(alloc: Global, held: &[Held], blank: &Value, span: Span) -> Result<CellList, Memory>
     ensures { IfOk result (λ l. l ≡ filled (λ p. value_of blank.now (held_at held.now p)) span) }
 {
-    let width = width_of(span);
+    let width = span.width();
     let row = span.first.row;
     let col = span.first.col;
     let mut cells = CellList::new(alloc);
-    for place in 0..height_of(span) {
+    for place in 0..span.height() {
         put_row(&mut cells, held, blank, row + place, col, width)?;
     }
     Ok(cells)

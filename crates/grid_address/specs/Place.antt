@@ -1,5 +1,5 @@
 -- A place of the sheet, and the order of places: by row, then by column.
-use Rattle.std.specs.Prelude.{ℕ, ◌<◌, refl, Bool, ◌&&◌, nat_eq, nat_le, min, max}
+use Rattle.std.specs.Prelude.{ℕ, ◌+◌, ◌-◌, ◌<◌, refl, Bool, ◌&&◌, nat_eq, nat_le, min, max}
 use Rattle.std.specs.declared.cmp.Ordering.{Ordering}
 use Rattle.std.specs.Ordering.{nat_cmp, ordering_then}
 use Rattle.std.specs.Coded.{Coded, code_by, coded×, coded_ℕ}
@@ -33,6 +33,14 @@ coded_extent = code_by (Place × Place) (coded× coded_place coded_place) (λ s.
 
 abbrev pub is_within : Extent → Place → Bool
 is_within s p = (nat_le s.first.row p.row && nat_le p.row s.last.row) && (nat_le s.first.col p.col && nat_le p.col s.last.col)
+
+-- how many columns it has
+abbrev pub width_of : Extent → ℕ
+width_of s = s.last.col + 1 - s.first.col
+
+-- how many rows it has
+abbrev pub height_of : Extent → ℕ
+height_of s = s.last.row + 1 - s.first.row
 
 -- the corners in order
 abbrev pub spanned : Place → Place → Extent

@@ -1,57 +1,13 @@
 // How addresses are written: A1 to IV8192.
-ghost use Rattle.std.specs.Prelude.{◌≡◌, ◌≤◌, ◌<◌, ◌+◌, ◌++◌, ◌∷◌, [], length};
+ghost use Rattle.std.specs.Prelude.{◌≡◌, ◌≤◌, ◌<◌, ◌+◌, ◌++◌, [], length};
 ghost use Rattle.grid_address.specs.Address.{address_of, column_name, decimal};
 
 use crate::Cell;
 use crate::decimal::decimal_text;
-use std::marker::Model;
+use byte_list::ByteList;
 
 /// A short text, as an address or a piece of one: at most 6 bytes.
-#[derive(Drop)]
-pub struct AddressText {
-    bytes: [u8; 6],
-    len: usize,
-}
-
-impl Model for AddressText {
-    ghost use Rattle.std.specs.Prelude.{ℕ, List, take, ◌≤◌};
-
-    ghost Value = { List ℕ };
-
-    ghost view = { λ a. take a.len a.bytes };
-
-    ghost invariant = { λ a. a.len ≤ 6 };
-}
-
-impl AddressText {
-    /// The empty text.
-    pub fn new() -> AddressText
-        ensures { result ≡ [] }
-    {
-        AddressText {
-            bytes: [0; 6],
-            len: 0,
-        }
-    }
-
-    /// Adds bytes, for which there must be room.
-    pub fn push(&mut self, bytes: &[u8])
-        requires { length self.old + length bytes.now ≤ 6 }
-        ensures { self.new ≡ self.old ++ bytes.now }
-    {
-        let end = self.len + bytes.len();
-        self.bytes[self.len..end].copy_from_slice(bytes);
-        self.len = end;
-    }
-
-    /// The bytes, at most 6.
-    pub fn bytes(&self) -> &[u8]
-        ensures bytes { result.now ≡ self.now }
-        ensures length { length result.now ≤ 6 }
-    {
-        &self.bytes[..self.len]
-    }
-}
+pub type AddressText = ByteList<6>;
 
 // Adds the letters of a column.
 fn push_column(text: &mut AddressText, col: u8)
@@ -59,9 +15,9 @@ fn push_column(text: &mut AddressText, col: u8)
     ensures { text.new ≡ column_name col }
 {
     if col >= 26 {
-        text.push(&[b'A' - 1 + col / 26]);
+        text.put_all(&[b'A' - 1 + col / 26]);
     }
-    text.push(&[b'A' + col % 26]);
+    text.put_all(&[b'A' + col % 26]);
 }
 
 // Adds a row's number, counted from 1.
@@ -72,7 +28,7 @@ fn push_row(text: &mut AddressText, row: u16)
     ensures { text.new ≡ text.old ++ decimal (row + 1) }
 {
     let number = decimal_text(u64::from(row) + 1);
-    text.push(number.bytes());
+    text.put_all(number.bytes());
 }
 
 /// A column's letters, A to IV.

@@ -1,5 +1,5 @@
-ghost use Rattle.std.specs.Prelude.{◌≡◌};
-ghost use Rattle.grid_address.specs.Place.{is_within, spanned, whole};
+ghost use Rattle.std.specs.Prelude.{◌≡◌, ◌≤◌, ◌+◌};
+ghost use Rattle.grid_address.specs.Place.{height_of, is_within, spanned, whole, width_of};
 
 use crate::Cell;
 use std::marker::Model;
@@ -35,6 +35,24 @@ impl Span {
             && cell.row <= self.last.row
             && self.first.col <= cell.col
             && cell.col <= self.last.col
+    }
+
+    /// How many columns it has, 1 to 256.
+    pub fn width(self) -> u16
+        ensures width { result ≡ width_of self }
+        ensures some { 1 ≤ result }
+        ensures fits { self.first.col + result ≤ 256 }
+    {
+        u16::from(self.last.col) + 1 - u16::from(self.first.col)
+    }
+
+    /// How many rows it has, 1 to 8192.
+    pub fn height(self) -> u16
+        ensures height { result ≡ height_of self }
+        ensures some { 1 ≤ result }
+        ensures fits { self.first.row + result ≤ 8192 }
+    {
+        self.last.row + 1 - self.first.row
     }
 
     /// The span of two corners, put in order.

@@ -12,7 +12,8 @@ use Rattle.std.proofs.lemmas.Grind.{common_steps}
 use Rattle.key_words.specs.declared.name.Named.{Named}
 use Rattle.key_words.specs.Notation.{is_mark}
 use Rattle.key_words.specs.Reading.{BeginsName}
-use Rattle.key_words.specs.Names.{goes_on, longer, longer_in, looked_up, name_in, names}
+use Rattle.lics_text.specs.Names.{name_in}
+use Rattle.key_words.specs.Names.{goes_on, longer, longer_in, looked_up, names}
 
 -- the letters are capitals, and there are some
 abbrev is_proper : List ℕ → Bool

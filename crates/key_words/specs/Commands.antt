@@ -4,7 +4,7 @@ use Rattle.key_words.specs.declared.command.Command.{Command}
 use Rattle.key_words.specs.declared.command.Command.TheVariants as command
 use Rattle.key_words.specs.declared.command.SlashWord.{SlashWord}
 use Rattle.key_words.specs.declared.command.SlashWord.TheVariants.{Alone, WithOne, WithTwo, Call}
-use Rattle.key_words.specs.Names.{name_in}
+use Rattle.lics_text.specs.Names.{name_in}
 
 -- in capitals
 abbrev pub commands : List (List ℕ × Command)

@@ -1,7 +1,7 @@
 -- The names that stand in braces: of keys in key notation, and of commands in macros (Release 2 manual).
 use Rattle.std.specs.Prelude.{ℕ, ◌+◌, ◌==◌, ◌&&◌, Bool, if◌then◌else◌, nat_lt, nat_eq, Option, Some, None, List, [], ◌∷◌, codes, length, take, get_or}
-use Rattle.std.specs.Str.{bytes_eq}
 use Rattle.std.specs.List.{starts_with}
+use Rattle.lics_text.specs.Names.{name_in}
 use Rattle.key_words.specs.declared.key.Key.TheVariants.{Up, Down, Left, Right, Home, End, PgUp, PgDn, BigLeft, BigRight, Esc, Bs, Del, Edit, Name, Abs, Goto, Window, Query, Table, Calc, Graph, Break, Undo}
 use Rattle.key_words.specs.declared.name.Named.{Named}
 use Rattle.key_words.specs.declared.name.Named.TheVariants.{Repeated, Alone, Alt}
@@ -19,10 +19,6 @@ names =
     ∷ (codes "GRAPH", Repeated Graph) ∷ (codes "BREAK", Alone Break) ∷ (codes "UNDO", Alone Undo) ∷ (codes "ALT", Alt) ∷ []
 
 -- what a name stands for
-abbrev pub name_in : {A : Type 0} → List (List ℕ × A) → List ℕ → Option A
-name_in [] name = None
-name_in (e ∷ rest) name = if bytes_eq e.0 name then Some e.1 else name_in rest name
-
 abbrev pub looked_up : List ℕ → Option Named
 looked_up = name_in names
 

@@ -3,7 +3,7 @@ ghost use Rattle.std.specs.Char.{to_ascii_uppercase};
 ghost use Rattle.std.specs.Prelude.{◌≡◌, map};
 ghost use Rattle.key_words.specs.Commands as spec;
 
-use crate::name::name_in;
+use lics_text::name_in;
 
 /// A command of macros, by its name (Release 2 manual), in the manual's order with the words for text files last.
 #[derive(Clone, Copy, Debug, PartialEq, Eq)]

@@ -1,6 +1,7 @@
 -- What the calls of a text answer.
 use Rattle.std.specs.Char.{is_ascii_alphabetic, to_ascii_lowercase, to_ascii_uppercase}
 use Rattle.std.specs.Prelude.{ℕ, ◌≡◌, ◌≤◌, ◌<◌, ◌+◌, List, [], ◌∷◌, ◌++◌, length, take, drop, Option, Some, None, Result, Ok, Err, Bool, true, false, nat_lt, nat_le, ◌==◌, ◌&&◌, position, if◌then◌else◌}
+use Rattle.byte_list.specs.Lists.{with_byte}
 use Rattle.lics_text.specs.declared.faults.TextFault.{TextFault}
 use Rattle.lics_text.specs.declared.faults.TextFault.TheVariants.{TooLong, BadByte}
 
@@ -19,7 +20,7 @@ pushed_text bytes b = if nat_le 240 (length bytes) then Err TooLong else (if nat
 
 -- a line with one more byte, which is passed over at 240
 abbrev pub line_with : List ℕ → ℕ → List ℕ
-line_with line byte = if nat_lt (length line) 240 then line ++ byte ∷ [] else line
+line_with = with_byte 240
 
 -- Each letter that follows no letter is raised, and the others are lowered; the flag says whether a letter stands before.
 abbrev pub proper_after : Bool → List ℕ → List ℕ

@@ -6,6 +6,7 @@ mod bytes;
 mod cases;
 mod faults;
 mod line;
+mod names;
 mod places;
 #[cfg(test)]
 mod tests;
@@ -16,6 +17,7 @@ mod trim;
 pub use bytes::TextByte;
 pub use faults::{Memory, TextFault};
 pub use line::Line;
+pub use names::{is_name, name_in};
 pub use text::Text;
 pub use text_line::TextLine;
 

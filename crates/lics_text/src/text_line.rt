@@ -1,26 +1,25 @@
 ghost use Rattle.std.specs.Prelude.{◌≡◌, ◌≤◌, [], length, nat_lt, IfOk};
 ghost use Rattle.lics_text.specs.Texts.{line_with};
 
-use crate::{MAX_LEN, Memory, Text, TextByte};
+use crate::{Line, Memory, Text, TextByte};
 use std::alloc::Global;
 use std::marker::Model;
 
 /// A text while it is typed: at most 240 bytes, each 32 to 255, which takes no memory.
 #[derive(Drop)]
 pub struct TextLine {
-    bytes: [u8; 240],
-    len: usize,
+    line: Line,
 }
 
 impl Model for TextLine {
-    ghost use Rattle.std.specs.Prelude.{ℕ, List, take, ◌≤◌};
+    ghost use Rattle.std.specs.Prelude.{ℕ, List};
     ghost use Rattle.lics_text.specs.Bytes.{IsText};
 
     ghost Value = { List ℕ };
 
-    ghost view = { λ a. take a.len a.bytes };
+    ghost view = { λ a. a.line };
 
-    ghost invariant = { λ a. (a.len ≤ 240) × IsText (take a.len a.bytes) };
+    ghost invariant = { λ a. IsText a.line };
 }
 
 impl TextLine {
@@ -30,10 +29,7 @@ impl TextLine {
     pub fn new() -> TextLine
         ensures { result ≡ [] }
     {
-        TextLine {
-            bytes: [0; 240],
-            len: 0,
-        }
+        TextLine { line: Line::new() }
     }
 
     /// Adds a byte at the end. It answers false, and leaves the line as it was, exactly at 240 bytes.
@@ -41,13 +37,7 @@ impl TextLine {
         ensures put { result ≡ nat_lt (length self.old) 240 }
         ensures line { self.new ≡ line_with self.old byte }
     {
-        if self.len < MAX_LEN {
-            self.bytes[self.len] = byte.get();
-            self.len += 1;
-            true
-        } else {
-            false
-        }
+        self.line.put(byte.get())
     }
 
     /// The bytes: at most 240, each at least 32.
@@ -55,7 +45,7 @@ impl TextLine {
         ensures value { result.now ≡ self.now }
         ensures text { IsText self.now }
     {
-        &self.bytes[..self.len]
+        self.line.bytes()
     }
 
     /// The line as a text.

@@ -12,8 +12,9 @@ use Rattle.std.proofs.lemmas.Bool.Decides.{nat_tests}
 use Rattle.std.proofs.lemmas.List.Folds.{list_any-append}
 use Rattle.std.proofs.lemmas.List.Kept.{IsStrictlySortedBy-filter}
 use Rattle.grid_address.proofs.Places.{same_place_is}
-use Rattle.grid_address.specs.Place.{is_within, place_cmp, same_place, Extent, Place}
-use Rattle.formula_eval.specs.World.{block_cells, cells_of, height_of, is_filled, row_cells, width_of}
+use Rattle.grid_address.specs.Place.{height_of, is_within, place_cmp, same_place, width_of, Extent, Place}
+use Rattle.formula_tree.specs.Values.{is_filled}
+use Rattle.formula_eval.specs.World.{block_cells, cells_of, row_cells}
 use Rattle.natural_order.proofs.Cut.{filter_passes, has-filter}
 use Rattle.natural_order.specs.Walk.{has}
 use Rattle.sheet_store.specs.Grid.{any_state, cells_within, Grid}

@@ -1,6 +1,7 @@
 //! Recalculation: the dirty formulas alone are evaluated, and the values are those of evaluating all.
 #![tactic(auto)]
 
+mod cells;
 mod columns;
 mod evaluate;
 mod laws;
@@ -11,6 +12,7 @@ mod recalculation;
 mod view;
 mod whole;
 
+pub use cells::{content_of, format_of, value_of, width_of};
 pub use evaluate::evaluate_at;
 pub use laws::{edit_keeps_sound, pass_is_cut, recalculation_is_cut};
 pub use missing::Missing;

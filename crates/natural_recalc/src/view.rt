@@ -2,10 +2,11 @@
 ghost use Rattle.std.specs.Prelude.{◌≡◌, ◌++◌, ◌∷◌, [], IfOk, OnOk};
 ghost use Rattle.std.specs.List.{filter};
 ghost use Rattle.grid_address.specs.Place.{Place};
-ghost use Rattle.formula_eval.specs.World.{is_filled};
+ghost use Rattle.formula_tree.specs.Values.{is_filled};
 ghost use Rattle.natural_recalc.specs.World.{sight_of, value_at};
 
 use crate::Missing;
+use crate::cells::{content_of, format_of, value_of, width_of};
 use formula_eval::Look;
 use formula_tree::{Content, Value};
 use grid_address::{Cell, CellList, Format, Span};
@@ -22,37 +23,13 @@ pub struct View<'a> {
     pub missing: &'a Missing,
 }
 
-fn is_filled(value: &Value) -> bool
-    ensures { result ≡ is_filled value.now }
-{
-    match value {
-        Value::Blank => false,
-        Value::Num(_) | Value::Str(_) | Value::Err | Value::Na => true,
-    }
-}
-
-fn value_in<'a>(store: &'a Store, missing: &'a Missing, cell: Cell) -> &'a Value
-    ensures { result.now ≡ value_at store.now cell }
-{
-    match store.get(cell) {
-        Some(state) => &state.value,
-        None => missing.value(),
-    }
-}
-
-fn width_of(settings: &Settings) -> u8
-    ensures { result ≡ settings.now.width }
-{
-    settings.width
-}
-
 // Those of the cells that aren't blank.
 fn filled_among(store: &Store, missing: &Missing, cells: &[Cell]) -> Result<CellList, Memory>
     ensures { IfOk result (λ l. l ≡ filter (λ (c : Place). is_filled (value_at store.now c)) cells.now) }
 {
     let mut list = CellList::new(store.alloc());
     for cell in cells {
-        if is_filled(value_in(store, missing, *cell)) {
+        if value_of(store, missing, *cell).is_filled() {
             list.push(*cell)?;
         }
     }
@@ -63,28 +40,19 @@ impl<'a> Look for View<'a> {
     ghost sight = { λ v. sight_of v.names.now v.settings.now v.store.now };
 
     fn value(&self, cell: Cell) -> &Value {
-        value_in(self.store, self.missing, cell)
+        value_of(self.store, self.missing, cell)
     }
 
     fn content(&self, cell: Cell) -> Option<&Content> {
-        match self.store.get(cell) {
-            Some(state) => Some(&state.content),
-            None => None,
-        }
+        content_of(self.store, cell)
     }
 
     fn format(&self, cell: Cell) -> Format {
-        match self.store.get(cell) {
-            Some(state) => state.format,
-            None => Format(255),
-        }
+        format_of(self.store, cell)
     }
 
     fn width(&self, col: u8) -> u8 {
-        match self.store.width(col) {
-            Some(width) => width,
-            None => width_of(self.settings),
-        }
+        width_of(self.store, self.settings, col)
     }
 
     fn names(&self) -> &Names {

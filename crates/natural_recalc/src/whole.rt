@@ -1,28 +1,18 @@
 // A store whose formulas all are dirty.
-ghost use Rattle.std.specs.Prelude.{◌≡◌, ◌&&◌, ◌||◌, cond, IfOk, OnOk};
+ghost use Rattle.std.specs.Prelude.{◌≡◌, ◌&&◌, cond, IfOk, OnOk};
 ghost use Rattle.std.specs.FinMap as map;
 ghost use Rattle.grid_address.specs.Place.{same_place, Place};
-ghost use Rattle.indexmap.specs.IndexSet.{insert_key};
 ghost use Rattle.natural_order.specs.Walk.{has};
 ghost use Rattle.natural_recalc.specs.Passes.{IsSound, Meaning};
 ghost use Rattle.natural_recalc.specs.Reading.{is_formula_at, node_of, with_formula, Matches};
 ghost use Rattle.natural_recalc.specs.World.{formula_at, Context};
 
-use depend_graph::Graph;
+use depend_graph::{Graph, insert_all};
 use formula_tree::Content;
 use grid_address::Cell;
 use indexmap::IndexSet;
 use lics_text::Memory;
 use sheet_store::Store;
-
-fn insert_all(set: &mut IndexSet<Cell>, cells: &[Cell]) -> Result<(), Memory>
-    ensures { OnOk result ((c : Place) → has same_place set.new.keys c ≡ (has same_place set.old.keys c || has same_place cells.now c)) }
-{
-    for cell in cells {
-        set.insert(*cell)?;
-    }
-    Ok(())
-}
 
 /// Every formula of a store, as a dirty set, whatever their values are.
 pub fn all_dirty(store: &Store) -> Result<IndexSet<Cell>, Memory>

@@ -6,8 +6,6 @@ mod index;
 mod owners;
 mod register;
 mod search;
-#[cfg(test)]
-mod tests;
 
 pub use index::RangeIndex;
 pub use owners::hold;

@@ -30,10 +30,10 @@ abbrev pub mode_text : List ℕ → Mode → List ℕ
 mode_text [] mode = mode_name mode
 mode_text (b ∷ bs) mode = take 5 (b ∷ bs)
 
--- an indicator with a blank behind it
-abbrev pub indicator_part : List ℕ → List ℕ
-indicator_part [] = []
-indicator_part (b ∷ bs) = (b ∷ bs) ++ 32 ∷ []
+-- what stands there with a blank behind it
+abbrev pub with_space : List ℕ → List ℕ
+with_space [] = []
+with_space (b ∷ bs) = (b ∷ bs) ++ 32 ∷ []
 
 -- a cell without a protection mark is told, and one with it while protection is on
 abbrev pub protection_part : Bool → ℕ → List ℕ
@@ -50,7 +50,7 @@ pointer_format s = format_of (map.get s.grid.cells s.settings.pointer)
 -- the pointer's address, and what is told of its cell
 abbrev pub front_text : Sheet → List ℕ
 front_text s =
-    address_of s.settings.pointer ++ codes ": " ++ indicator_part (indicator_of (pointer_format s)) ++ protection_part s.settings.protection (pointer_format s)
+    address_of s.settings.pointer ++ codes ": " ++ with_space (indicator_of (pointer_format s)) ++ protection_part s.settings.protection (pointer_format s)
     ++ width_part (width_of s.grid s.settings.pointer.col)
 
 -- the same and the content as it would be typed
@@ -61,14 +61,9 @@ pointer_text s = front_text s ++ typed s.names s.grid s.settings.pointer
 abbrev pub pointer_line : Sheet → Panel → List ℕ
 pointer_line s p = filled 73 (take 72 (pointer_text s)) ++ mode_text p.indicate p.mode
 
--- the prompt with a blank behind it
-abbrev pub prompt_part : List ℕ → List ℕ
-prompt_part [] = []
-prompt_part (b ∷ bs) = (b ∷ bs) ++ 32 ∷ []
-
 -- the line that is typed behind its prompt, from the byte that lets the cursor stand at column 79 at most
 abbrev pub typed_line : Panel → List ℕ
-typed_line p = drop (length (prompt_part p.prompt) + p.cursor - 79) (prompt_part p.prompt ++ p.typed)
+typed_line p = drop (length (with_space p.prompt) + p.cursor - 79) (with_space p.prompt ++ p.typed)
 
 abbrev pub is_menu : Mode → Bool
 is_menu Ready = false

@@ -4,7 +4,7 @@ ghost use Rattle.std.specs.FinMap as map;
 ghost use Rattle.cell_format.specs.Indicator.{indicator_of};
 ghost use Rattle.grid_address.specs.Address.{address_of};
 ghost use Rattle.natural_recalc.specs.World.{format_of};
-ghost use Rattle.screen_layout.specs.Control.{below_line, entry_line, front_text, indicator_part, is_menu, mode_name, mode_text, pointer_format, pointer_line, pointer_text, prompt_part, protection_part, typed_line, width_part};
+ghost use Rattle.screen_layout.specs.Control.{below_line, entry_line, front_text, is_menu, mode_name, mode_text, pointer_format, pointer_line, pointer_text, protection_part, typed_line, width_part, with_space};
 ghost use Rattle.screen_layout.specs.Lines.{filled, padded, shown_line};
 ghost use Rattle.screen_layout.specs.Sheets.{of_worksheet};
 ghost use Rattle.work_sheet.specs.Typed.{typed};
@@ -47,7 +47,7 @@ fn mode_text(panel: &Panel) -> &[u8]
 
 fn put_indicator(format: Format, into: &mut Line)
     requires { length into.old ≤ 100 }
-    ensures text { into.new ≡ into.old ++ indicator_part (indicator_of format.0) }
+    ensures text { into.new ≡ into.old ++ with_space (indicator_of format.0) }
     ensures size { length into.new ≤ length into.old + 7 }
 {
     let text = indicator(format);
@@ -140,7 +140,7 @@ fn add_from(line: &mut PaintedLine, text: &[u8], from: usize)
 
 // The blank behind a prompt.
 fn blank_behind(prompt: &[u8]) -> &'static [u8]
-    ensures text { prompt_part prompt.now ≡ prompt.now ++ result.now }
+    ensures text { with_space prompt.now ≡ prompt.now ++ result.now }
     ensures size { length result.now ≤ 1 }
 {
     if prompt.is_empty() { b"" } else { b" " }

@@ -8,8 +8,7 @@ use Rattle.std.proofs.Common.{sym, arith, ◌∙◌, ap, inl, inr, subst}
 use Rattle.std.proofs.lemmas.Bool.{and_parts, cases_Bool, false≢true, or_cases, or_left, or_right, true≢false}
 use Rattle.std.proofs.lemmas.Bool.Decides.{nat_tests}
 use Rattle.grid_address.proofs.Places.{cells_total, same_place_is, same_place_itself}
-use Rattle.grid_address.specs.Place.{is_within, place_cmp, same_place, Extent, Place}
-use Rattle.formula_eval.specs.World.{height_of, width_of}
+use Rattle.grid_address.specs.Place.{height_of, is_within, place_cmp, same_place, width_of, Extent, Place}
 use Rattle.natural_order.specs.Walk.{has}
 use Rattle.sheet_store.specs.Grid.{Cells, Grid}
 use Rattle.sheet_edits.proofs.Listed.{both}

@@ -4,11 +4,10 @@ use Rattle.std.specs.Coded.{Coded}
 use Rattle.std.specs.FinMap as cells
 use Rattle.std.specs.declared.cmp.Ordering.{Ordering}
 use Rattle.std.specs.declared.cmp.Ordering.TheVariants.{Equal, Greater, Less}
-use Rattle.grid_address.specs.Place.{coded_place, is_within, place_cmp, same_place, Extent, Place}
+use Rattle.grid_address.specs.Place.{coded_place, height_of, is_within, place_cmp, same_place, width_of, Extent, Place}
 use Rattle.grid_address.specs.declared.format.Format.{Format}
 use Rattle.depend_graph.specs.Network.{Network}
 use Rattle.depend_graph.specs.declared.node.Node.{Node}
-use Rattle.formula_eval.specs.World.{height_of, width_of}
 use Rattle.natural_order.specs.Walk.{has}
 use Rattle.natural_recalc.specs.Reading.{node_of}
 use Rattle.natural_recalc.specs.World.{format_of, formula_at, formula_in}

@@ -9,22 +9,12 @@ ghost use Rattle.natural_recalc.specs.World.{formula_in};
 ghost use Rattle.sheet_store.specs.Grid.{is_formula, is_kept, put_state, IsSound};
 ghost use Rattle.sheet_edits.specs.Edits.{just, kept_at, settled, AreDirtied, WithReached};
 
-use crate::growth::{cut_back, insert, insert_all};
-use depend_graph::{Graph, Node};
+use depend_graph::{Graph, Node, cut_back, insert, insert_all};
 use formula_tree::Content;
 use grid_address::{Cell, CellList};
 use indexmap::IndexSet;
 use lics_text::Memory;
 use sheet_store::{CellState, Store, is_formula};
-use std::alloc::Global;
-
-fn one_cell(alloc: Global, cell: Cell) -> Result<CellList, Memory>
-    ensures { IfOk result (λ l. l ≡ cell ∷ []) }
-{
-    let mut cells = CellList::new(alloc);
-    cells.push(cell)?;
-    Ok(cells)
-}
 
 // What the formula of a content reads, where the content is a formula.
 pub fn node_of(cell: Cell, content: &Content) -> Result<Option<Node>, Memory>
@@ -74,7 +64,7 @@ pub fn prepare(
     ensures dirty { OnOk result (WithReached graph.old (cell ∷ []) (just cell) dirty.old.keys dirty.new.keys) }
 {
     offer(graph, cell, node_of(cell, &state.content)?)?;
-    let reached = graph.closure(&one_cell(store.alloc(), cell)?)?;
+    let reached = graph.closure(&CellList::one(store.alloc(), cell)?)?;
     insert_all(dirty, reached.as_slice())?;
     insert(dirty, cell)?;
     store.put(cell, state)?;

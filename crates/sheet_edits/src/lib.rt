@@ -3,7 +3,6 @@
 
 mod changes;
 mod edit;
-mod growth;
 mod line;
 mod many;
 mod spans;
@@ -17,5 +16,5 @@ pub use many::{change_cells, write_cells};
 pub use spans::{
     FormatChange, cells_of, copied, erased, first_of, reformatted, refusing, target_of,
 };
-pub use states::{format_of, is_marked, state_of};
+pub use states::{is_marked, state_of};
 pub use writes::gathered;

@@ -11,8 +11,7 @@ ghost use Rattle.sheet_store.specs.Grid.{is_formula, is_kept, put_state, IsSound
 ghost use Rattle.sheet_edits.specs.Edits.{just, put_back, AreDirtied, IsOldState};
 
 use crate::edit::{prepare, settle};
-use crate::growth::cut_back;
-use depend_graph::Graph;
+use depend_graph::{Graph, cut_back};
 use formula_eval::{Means, Scene};
 use grid_address::Cell;
 use indexmap::IndexSet;

@@ -13,8 +13,7 @@ ghost use Rattle.sheet_edits.specs.Spans.{changed, gives_formula, node_given, pu
 
 use crate::changes::Changes;
 use crate::edit::{node_of, offer, settle};
-use crate::growth::{cut_back, insert, insert_all};
-use depend_graph::Graph;
+use depend_graph::{Graph, cut_back, insert, insert_all};
 use grid_address::{Cell, CellList, Format};
 use indexmap::IndexSet;
 use lics_text::Memory;

@@ -1,7 +1,6 @@
 // What the cells of a span, of a copy or of a list of writes are given.
 ghost use Rattle.std.specs.Prelude.{◌≡◌, ◌≤◌, ◌<◌, ◌+◌, ◌-◌, ◌%◌, ◌&&◌, ◌||◌, [], length, IfOk, IfSome, IfNone, OnOk, None, Some, nat_eq, nat_le, false, true};
 ghost use Rattle.std.specs.FinMap as map;
-ghost use Rattle.formula_eval.specs.World.{height_of, width_of};
 ghost use Rattle.grid_address.specs.Place.{is_within, same_place, Place};
 ghost use Rattle.natural_order.specs.Walk.{has};
 ghost use Rattle.natural_recalc.specs.World.{format_of};
@@ -11,9 +10,10 @@ ghost use Rattle.sheet_edits.specs.Edits.{HasPrefix};
 ghost use Rattle.sheet_edits.specs.Spans.{blanked, block_at, copied_state, given_at, in_columns, in_rows, reformatted_state, repeated, rule_of, sooner, source_of, target_of, AreGiven, AreSound, HasCode, IsFirstMarked, IsFirstProtected, NoneMarked, NoneProtected};
 
 use crate::changes::Changes;
-use crate::states::{first_value, format_of, is_marked};
+use crate::states::{first_value, is_marked};
 use grid_address::{Cell, CellList, Format, Span};
 use lics_text::Memory;
+use natural_recalc::format_of;
 use sheet_store::{CellState, Settings, Store};
 use std::alloc::Global;
 
@@ -22,22 +22,6 @@ pub fn first_of(span: Span) -> Cell
     ensures { result ≡ span.first }
 {
     span.first
-}
-
-fn width_of(span: Span) -> u16
-    ensures width { result ≡ width_of span }
-    ensures some { 1 ≤ result }
-    ensures fits { span.first.col + result ≤ 256 }
-{
-    u16::from(span.last.col) + 1 - u16::from(span.first.col)
-}
-
-fn height_of(span: Span) -> u16
-    ensures height { result ≡ height_of span }
-    ensures some { 1 ≤ result }
-    ensures fits { span.first.row + result ≤ 8192 }
-{
-    span.last.row + 1 - span.first.row
 }
 
 // As many cells of a row, from a column on.
@@ -76,8 +60,8 @@ pub fn cells_of(alloc: Global, span: Span) -> Result<CellList, Memory>
         &mut cells,
         first.row,
         first.col,
-        height_of(span),
-        width_of(span),
+        span.height(),
+        span.width(),
     )?;
     Ok(cells)
 }
@@ -175,8 +159,8 @@ fn source_of(from: Span, first: Cell, cell: Cell) -> Cell
     requires col { first.col ≤ cell.col }
     ensures { result ≡ source_of from first cell }
 {
-    let down = repeat(cell.row - first.row, height_of(from));
-    let across = repeat(u16::from(cell.col - first.col), width_of(from));
+    let down = repeat(cell.row - first.row, from.height());
+    let across = repeat(u16::from(cell.col - first.col), from.width());
     Cell {
         row: from.first.row + down,
         col: (u16::from(from.first.col) + across) as u8,
@@ -226,8 +210,8 @@ fn repeated(from: u16, to: u16) -> u16
 pub fn target_of(from: Span, to: Span) -> Option<Span>
     ensures { result ≡ target_of from to }
 {
-    let rows = repeated(height_of(from), height_of(to));
-    let cols = repeated(width_of(from), width_of(to));
+    let rows = repeated(from.height(), to.height());
+    let cols = repeated(from.width(), to.width());
     block_at(to.first, rows, cols)
 }
 

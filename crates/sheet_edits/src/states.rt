@@ -7,19 +7,10 @@ ghost use Rattle.std.specs.FinMap as map;
 
 use fixed_value::Fixed;
 use formula_tree::{Content, Value};
-use grid_address::{Cell, Format};
+use grid_address::Cell;
 use lics_text::Memory;
+use natural_recalc::format_of;
 use sheet_store::{CellState, Store};
-
-/// The format of a cell; one that isn't there has the default format.
-pub fn format_of(store: &Store, cell: Cell) -> Format
-    ensures { result.0 ≡ format_of (map.get store.now.cells cell) }
-{
-    match store.get(cell) {
-        Some(state) => state.format,
-        None => Format(0xFF),
-    }
-}
 
 // The value with which a content begins.
 pub fn first_value(content: &Content) -> Result<Value, Memory>

@@ -8,9 +8,10 @@ ghost use Rattle.sheet_edits.specs.Edits.{HasPrefix};
 ghost use Rattle.sheet_edits.specs.Spans.{changed, write_state, written_all, written_cells, AreGathered, HavePrefixes};
 
 use crate::changes::Changes;
-use crate::states::{first_value, format_of};
+use crate::states::first_value;
 use grid_address::{Cell, CellList, Format};
 use lics_text::Memory;
+use natural_recalc::format_of;
 use sheet_store::{CellState, Store, Write, Writes};
 
 // The format that a cell has after the changes.

@@ -1,13 +1,11 @@
 // Reads the words of the command line.
-ghost use Rattle.std.specs.Char.{is_ascii_digit};
 ghost use Rattle.std.specs.Prelude.{◌≡◌, ◌≤◌, ◌<◌, min, drop, length, slice_index_or, []};
-ghost use Rattle.std.specs.List.{list_all};
 ghost use Rattle.std.specs.Str.{bytes_eq};
-ghost use Rattle.fixed_value.specs.Decimals.{number_of};
 ghost use Rattle.sheet_run.specs.Options.{is_number, steps_of, kind_of, on_joined, on_value, on_word, complete, taken, limit_of, shown_kind, has_front};
 ghost use Rattle.sheet_run.specs.OptionAnswers.{HasValue, HasTaken, HasReadWords};
 
 use crate::Words;
+use fixed_value::{all_digits, capped_number};
 use screen_show::Kind;
 
 /// What the words ask for: at most once each, in any order.
@@ -78,29 +76,11 @@ fn has_front(bytes: &[u8], front: &[u8]) -> bool
     is_same(&bytes[..front.len().min(bytes.len())], front)
 }
 
-fn are_digits(bytes: &[u8]) -> bool
-    ensures { result ≡ list_all is_ascii_digit bytes.now }
-{
-    bytes.iter().all(|byte| byte.is_ascii_digit())
-}
-
 // Whether these are digits of a number above 0 without a leading zero.
 fn is_number(digits: &[u8]) -> bool
     ensures { result ≡ is_number digits.now }
 {
-    !digits.is_empty() && digits[0] > b'0' && are_digits(digits)
-}
-
-// What digits stand for, and at most a number that is too large for a limit.
-#[tactic(auto, using(crate::proofs::Numbers::capped, std::proofs::lemmas::List::Sums::fold_more))]
-fn capped_number(digits: &[u8]) -> u32
-    ensures { result ≡ min (number_of digits.now) 10000001 }
-{
-    let mut number: u32 = 0;
-    for byte in digits {
-        number = (number * 10 + u32::from(byte.saturating_sub(b'0'))).min(MAX_STEPS + 1);
-    }
-    number
+    !digits.is_empty() && digits[0] > b'0' && all_digits(digits)
 }
 
 // The number of a step limit.
@@ -112,8 +92,8 @@ fn steps_of(value: &[u8]) -> Option<u32>
         return None;
     }
     let number = capped_number(value);
-    if number <= MAX_STEPS {
-        Some(number)
+    if number <= u64::from(MAX_STEPS) {
+        Some(number as u32)
     } else {
         None
     }

@@ -3,12 +3,12 @@ ghost use Rattle.std.specs.Prelude.{◌≡◌, OnOk, IfOk};
 ghost use Rattle.sheet_store.specs.Grid.{IsSound};
 ghost use Rattle.natural_recalc.specs.Reading.{Matches};
 
-use crate::graphs::{at, one_cell};
+use crate::graphs::at;
 use depend_graph::Graph;
 use fixed_value::Fixed;
 use formula_eval::{Scene, Tally};
 use formula_tree::{Content, Expr, Formula, Op, Value};
-use grid_address::{Axis, Cell, Format, Ref};
+use grid_address::{Axis, Cell, CellList, Format, Ref};
 use lics_text::Memory;
 use natural_recalc::{all_dirty, graph_of, recalc};
 use range_names::Names;
@@ -104,7 +104,7 @@ fn edit(
         HEAD,
         sum(alloc, Expr::Num(number), Fixed::ONE)?,
     )?;
-    let reached = graph.closure(&one_cell(alloc, HEAD)?)?;
+    let reached = graph.closure(&CellList::one(alloc, HEAD)?)?;
     let mut dirty = all_dirty(store)?;
     let settings = Settings::fresh();
     recalc(

@@ -19,13 +19,6 @@ fn one_span(alloc: Global, span: Span) -> Result<SpanList, Memory> {
     Ok(spans)
 }
 
-/// A list of one cell.
-pub fn one_cell(alloc: Global, cell: Cell) -> Result<CellList, Memory> {
-    let mut cells = CellList::new(alloc);
-    cells.push(cell)?;
-    Ok(cells)
-}
-
 fn count(index: &RangeIndex, cell: Cell) -> Result<u64, Memory> {
     let owners = index.owners_of(cell)?;
     Ok(u64::try_from(owners.len()).unwrap_or(0))
@@ -71,7 +64,7 @@ pub fn go_along(alloc: Global) -> Result<u64, Memory> {
     }
     let mut sum = 0_u64;
     for _round in 0..10 {
-        let reached = graph.closure(&one_cell(alloc, at(0, 0))?)?;
+        let reached = graph.closure(&CellList::one(alloc, at(0, 0))?)?;
         sum = sum.wrapping_add(u64::try_from(reached.len()).unwrap_or(0));
     }
     Ok(sum)

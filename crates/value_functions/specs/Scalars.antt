@@ -1,13 +1,13 @@
 -- Functions of single values, one row each, by their codes (worksheet file format).
 use Rattle.std.specs.Char.{to_ascii_lowercase, to_ascii_uppercase}
-use Rattle.std.specs.Prelude.{ℕ, ◌+◌, ◌*◌, ◌==◌, not, ℤ, pos, Option, Some, None, Result, Ok, Err, List, length, map, if◌then◌else◌}
+use Rattle.std.specs.Prelude.{ℕ, ◌+◌, ◌*◌, ◌==◌, not, ℤ, pos, nat_abs, Option, Some, None, Result, Ok, Err, List, length, map, if◌then◌else◌}
 use Rattle.std.specs.Str.{bytes_eq}
 use Rattle.fixed_value.specs.Numbers.{remainder, whole_part}
 use Rattle.serial_date.specs.Fractions.{millionths_of_day}
 use Rattle.lics_text.specs.declared.faults.Memory.{Memory}
 use Rattle.lics_text.specs.Texts.{proper_of, trimmed}
 use Rattle.at_functions.specs.Dates.{date, day, hour, minute, month, second, time, year}
-use Rattle.at_functions.specs.Numbers.{round, size, units}
+use Rattle.at_functions.specs.Numbers.{round, units}
 use Rattle.at_functions.specs.Readings.{datevalue, timevalue, value as value_of_text}
 use Rattle.at_functions.specs.Texts.{char_of, code, find_in, left, mid, repeat, replace, right, string}
 use Rattle.formula_tree.specs.declared.value.Value.{Value}
@@ -35,7 +35,7 @@ constant_value f day second =
 -- ABS, INT, DAY, MONTH, YEAR, HOUR, MINUTE and SECOND
 unfoldable pub number_row : ℕ → ℤ → Option ℤ
 number_row f x =
-    if f == 33 then Some (size x)
+    if f == 33 then Some (pos (nat_abs x))
     else if f == 34 then Some (whole_part x)
     else if f == 60 then day x
     else if f == 61 then month x

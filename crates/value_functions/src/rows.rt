@@ -1,12 +1,11 @@
 // Functions of numbers and texts, one row each, by their codes (worksheet file format).
 ghost use Rattle.std.specs.Prelude.{◌≡◌, ℕ, ◌+◌, ◌*◌, pos, IfOk, Some, length, map};
 ghost use Rattle.value_functions.specs.Scalars.{changed_row, constant_value, cut_row, now_value, number_row, numbers_row, parts_row, text_row};
-ghost use Rattle.at_functions.specs.Texts.{wrapped};
 
 use crate::values::answer;
 use at_functions::{
     code, date, datevalue, day, hour, left, length, minute, month, repeat, right, round, second,
-    size, time, timevalue, year,
+    time, timevalue, year,
 };
 use fixed_value::Fixed;
 use formula_tree::Value;
@@ -45,7 +44,7 @@ pub fn number_row(function: u8, x: Fixed) -> Option<Fixed>
     ensures { result ≡ number_row function x }
 {
     match function {
-        0x21 => Some(size(x)),
+        0x21 => Some(x.abs()),
         0x22 => Some(x.int()),
         0x3C => day(x),
         0x3D => month(x),
@@ -72,27 +71,17 @@ pub fn text_row(function: u8, text: &Text) -> Option<Fixed>
     }
 }
 
-// A text that is there, but for want of memory.
-fn wrapped(text: Result<Text, Memory>) -> Result<Option<Text>, Memory>
-    ensures { result ≡ wrapped text }
-{
-    match text {
-        Ok(text) => Ok(Some(text)),
-        Err(Memory) => Err(Memory),
-    }
-}
-
 /// UPPER, LOWER, PROPER, TRIM and CLEAN.
 #[tactic(auto, unfolding(crate::specs::Scalars::changed_row))]
 pub fn changed_row(function: u8, text: &Text) -> Result<Option<Text>, Memory>
     ensures { IfOk result (λ t. t ≡ changed_row function text.now) }
 {
     match function {
-        0x66 => wrapped(text.upper()),
-        0x67 => wrapped(text.lower()),
-        0x6B => wrapped(text.proper()),
-        0x6D => wrapped(text.trim()),
-        0x6E => wrapped(text.copy()),
+        0x66 => Ok(Some(text.upper()?)),
+        0x67 => Ok(Some(text.lower()?)),
+        0x6B => Ok(Some(text.proper()?)),
+        0x6D => Ok(Some(text.trim()?)),
+        0x6E => Ok(Some(text.copy()?)),
         _ => Ok(None),
     }
 }

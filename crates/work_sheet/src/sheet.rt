@@ -26,12 +26,13 @@ use formula_tree::{Content, Value};
 use grid_address::{Cell, CellList, Format, Span};
 use indexmap::IndexSet;
 use lics_text::{Line, Memory};
-use natural_recalc::{Missing, View, all_dirty, graph_of, recalc};
+use natural_recalc::{
+    Missing, View, all_dirty, content_of, format_of, graph_of, recalc, value_of, width_of,
+};
 use range_names::{NameFault, Names};
 use sheet_edits::{
-    Changes, FormatChange, cells_of, change_cells, copied, erased, first_of, format_of, gathered,
-    is_marked, reformatted, refusing, state_of, target_of, write_cell, write_cells,
-    write_evaluated,
+    Changes, FormatChange, cells_of, change_cells, copied, erased, first_of, gathered, is_marked,
+    reformatted, refusing, state_of, target_of, write_cell, write_cells, write_evaluated,
 };
 use sheet_store::{CellState, Order, SavedSheet, Settings, SheetFault, Store, Writes, is_formula};
 use std::alloc::Global;
@@ -556,17 +557,11 @@ impl<E: Means> Look for SheetOf<E> {
     ghost sight = { λ s. sight_of s.names s.settings s.grid };
 
     fn value(&self, cell: Cell) -> &Value {
-        match self.store.get(cell) {
-            Some(state) => &state.value,
-            None => self.missing.value(),
-        }
+        value_of(&self.store, &self.missing, cell)
     }
 
     fn content(&self, cell: Cell) -> Option<&Content> {
-        match self.store.get(cell) {
-            Some(state) => Some(&state.content),
-            None => None,
-        }
+        content_of(&self.store, cell)
     }
 
     fn format(&self, cell: Cell) -> Format {
@@ -574,11 +569,7 @@ impl<E: Means> Look for SheetOf<E> {
     }
 
     fn width(&self, col: u8) -> u8 {
-        let settings = self.settings;
-        match self.store.width(col) {
-            Some(width) => width,
-            None => settings.width,
-        }
+        width_of(&self.store, &self.settings, col)
     }
 
     fn names(&self) -> &Names {

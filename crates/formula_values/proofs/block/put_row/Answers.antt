@@ -1,6 +1,6 @@
 use Rattle.std.proofs.Common.{◌≡◌, ◌+◌, Bool, sym, ap, ◌∙◌}
 use Rattle.grid_address.specs.Place.{Place}
-use Rattle.formula_eval.specs.World.{is_filled}
+use Rattle.formula_tree.specs.Values.{is_filled}
 use Rattle.formula_values.specs.Blocks.{held_at, value_of}
 use Rattle.formula_values.proofs.Scans.{listed_cell, passed_cell}
 use Rattle.formula_values.proofs.block.put_row.Goals as goal

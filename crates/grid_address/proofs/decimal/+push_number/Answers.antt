@@ -7,16 +7,16 @@ use Rattle.grid_address.proofs.decimal.+push_number.Goals.{then-number-ge10, els
 pub push_number-requires : goal.push_number-requires
 push_number-requires t c = (omega arith, omega (arith, c.requires, length-decimal_more c.args.number (omega arith)))
 
-more_room : (text old : List ℕ) (n : ℕ) → text ≡ old ++ decimal (n / 10) → 10 ≤ n → length old + length (decimal n) ≤ 20 → length text < 20
+more_room : (text old : List ℕ) (n : ℕ) → text ≡ old ++ decimal (n / 10) → 10 ≤ n → length old + length (decimal n) ≤ 20 → length text + 1 ≤ 20
 more_room text old n is more room = omega (arith, ap length is, length-append old (decimal (n / 10)), length-decimal_more n more)
 
-one_room : (text old : List ℕ) (n : ℕ) → text ≡ old → n < 10 → length old + length (decimal n) ≤ 20 → length text < 20
+one_room : (text old : List ℕ) (n : ℕ) → text ≡ old → n < 10 → length old + length (decimal n) ≤ 20 → length text + 1 ≤ 20
 one_room text old n is one room = omega (arith, ap length is, ap length (decimal_one n one))
 
-pub push-requires : goal.push-requires
-push-requires t c = elim c.if-number-ge10.branch [
-  | then-number-ge10 w ↦ more_room _ c.args.text.now c.args.number (w.text-is ∙ w.push_number.ensures) (omega arith) c.requires
-  | else-number-ge10 w ↦ one_room _ c.args.text.now c.args.number w.text-is (omega arith) c.requires
+pub put_all-requires : goal.put_all-requires
+put_all-requires t c = elim c.if-number-ge10.branch [
+  | then-number-ge10 w ↦ (omega arith, more_room _ c.args.text.now c.args.number (w.text-is ∙ w.push_number.ensures) (omega arith) c.requires)
+  | else-number-ge10 w ↦ (omega arith, one_room _ c.args.text.now c.args.number w.text-is (omega arith) c.requires)
 ]
 
 last_digit : (text old new : List ℕ) (n : ℕ) → text ≡ old ++ decimal (n / 10) → 10 ≤ n → new ≡ text ++ (48 + n % 10) ∷ [] → new ≡ old ++ decimal n
@@ -28,6 +28,6 @@ one_digit text old new n is one pushed = pushed ∙ ap (λ ds. ds ++ (48 + n % 1
 
 pub returns : goal.returns
 returns t c = elim c.if-number-ge10.branch [
-  | then-number-ge10 w ↦ last_digit _ c.args.text.now _ c.args.number (w.text-is ∙ w.push_number.ensures) (omega arith) c.push.ensures
-  | else-number-ge10 w ↦ one_digit _ c.args.text.now _ c.args.number w.text-is (omega arith) c.push.ensures
+  | then-number-ge10 w ↦ last_digit _ c.args.text.now _ c.args.number (w.text-is ∙ w.push_number.ensures) (omega arith) c.put_all.ensures
+  | else-number-ge10 w ↦ one_digit _ c.args.text.now _ c.args.number w.text-is (omega arith) c.put_all.ensures
 ]

@@ -8,5 +8,5 @@ pub returns-clause-line : goal.returns-clause-line
 returns-clause-line c =
     let text : List ℕ = c.bytes-bytes.result.now in
     c.put_all.ensures
-    ∙ ap (λ l. l ++ take c.min-room.result text) (c.put.ensures.line ∙ ap (λ l. line_with l c.args.prefix) c.requires)
+    ∙ ap (λ l. l ++ take c.min-room.result text) (c.put.ensures.list ∙ ap (λ l. line_with l c.args.prefix) c.requires)
     ∙ ap (λ l. c.args.prefix ∷ l) (ap (λ n. take n text) c.min-room.ensures ∙ cut_at text ∙ ap (take 239) c.bytes-bytes.ensures.value)

@@ -1,0 +1,5 @@
+//! Tests by calls of what formulas mean.
+#![tactic(auto)]
+
+#[cfg(test)]
+mod formulas;

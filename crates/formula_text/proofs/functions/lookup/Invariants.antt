@@ -1,9 +1,0 @@
-use Rattle.std.proofs.Common.{◌≡◌, map, length}
-use Rattle.formula_text.specs.Functions as spec
-use Rattle.formula_text.proofs.functions.lookup.Given as goal
-
-abbrev pub invariant-loop-table : goal.invariant-loop-table
-invariant-loop-table l = spec.lookup (map (λ f. (f.0.now, f.1)) l.table) l.name ≡ spec.lookup (map (λ f. (f.0.now, f.1)) l.fn.table) l.name
-
-abbrev pub decreases-loop-table : goal.decreases-loop-table
-decreases-loop-table l = length l.table

@@ -1,5 +1,0 @@
-//! Tests of the graph of the formulas by calls.
-#![tactic(auto)]
-
-#[cfg(test)]
-mod graph;

@@ -1,0 +1,183 @@
+// Worked rows of the graph.
+use crate::draws::{below, cell_below};
+use depend_graph::{Graph, Node};
+use grid_address::{Cell, CellList, Span, SpanList};
+use std::alloc::Global;
+use std::process::Abort;
+use std::test::Fail;
+
+fn a(row: u16) -> Cell {
+    Cell {
+        row: row.min(8191),
+        col: 0,
+    }
+}
+
+fn spans(rt: &impl Abort, alloc: Global, list: &[Span]) -> SpanList {
+    let mut spans = SpanList::new(alloc);
+    for span in list {
+        spans.push(*span).expect(rt, "memory");
+    }
+    spans
+}
+
+fn cells(rt: &impl Abort, alloc: Global, list: &[Cell]) -> CellList {
+    let mut cells = CellList::new(alloc);
+    for cell in list {
+        cells.push(*cell).expect(rt, "memory");
+    }
+    cells
+}
+
+// Each formula reads the cell above it.
+fn chain(rt: &impl Abort, alloc: Global, count: u16) -> Graph {
+    let mut graph = Graph::new(alloc);
+    for row in 1..count {
+        let above = a(row.saturating_sub(1));
+        graph
+            .set(a(row), &spans(rt, alloc, &[Span::of(above, above)]), false)
+            .expect(rt, "memory");
+    }
+    graph
+}
+
+#[test]
+fn a_closure_goes_along_the_chain(rt: HostRuntime) -> Result<(), Fail> {
+    let graph = chain(&rt, rt.alloc(), 100);
+    let all = graph
+        .closure(&cells(&rt, rt.alloc(), &[a(0)]))
+        .expect(&rt, "memory");
+    assert_eq!(&rt; all.len(), 99);
+    assert!(&rt; !all.contains(&a(0)));
+    assert!(&rt; all.contains(&a(99)));
+    let rest = graph
+        .closure(&cells(&rt, rt.alloc(), &[a(60)]))
+        .expect(&rt, "memory");
+    assert_eq!(&rt; rest.len(), 40);
+    assert!(&rt; rest.contains(&a(60)));
+    assert!(&rt; !rest.contains(&a(59)));
+    Ok(())
+}
+
+// How many formulas reach the cell.
+fn count(rt: &impl Abort, alloc: Global, graph: &Graph, cell: Cell) -> usize {
+    graph
+        .closure(&cells(rt, alloc, &[cell]))
+        .expect(rt, "memory")
+        .len()
+}
+
+fn node(rt: &impl Abort, alloc: Global, first: Cell, last: Cell) -> Node {
+    Node {
+        reads: spans(rt, alloc, &[Span::of(first, last)]),
+        volatile: false,
+    }
+}
+
+#[test]
+fn an_offer_waits_until_it_is_accepted(rt: HostRuntime) -> Result<(), Fail> {
+    let mut graph = chain(&rt, rt.alloc(), 3);
+    graph
+        .offer(a(1), node(&rt, rt.alloc(), a(10), a(20)))
+        .expect(&rt, "memory");
+    assert_eq!(&rt; count(&rt, rt.alloc(), &graph, a(15)), 0);
+    assert_eq!(&rt; count(&rt, rt.alloc(), &graph, a(0)), 2);
+    graph.accept(a(1));
+    assert_eq!(&rt; count(&rt, rt.alloc(), &graph, a(15)), 2);
+    assert_eq!(&rt; count(&rt, rt.alloc(), &graph, a(0)), 0);
+    Ok(())
+}
+
+#[test]
+fn an_offer_that_is_withdrawn_leaves_the_formula(rt: HostRuntime) -> Result<(), Fail> {
+    let mut graph = chain(&rt, rt.alloc(), 3);
+    graph
+        .offer(a(2), node(&rt, rt.alloc(), a(7), a(7)))
+        .expect(&rt, "memory");
+    graph.withdraw(a(2));
+    graph.accept(a(2));
+    assert_eq!(&rt; count(&rt, rt.alloc(), &graph, a(7)), 0);
+    assert_eq!(&rt; count(&rt, rt.alloc(), &graph, a(0)), 2);
+    graph.drop_cell(a(1));
+    assert_eq!(&rt; count(&rt, rt.alloc(), &graph, a(0)), 0);
+    assert_eq!(&rt; count(&rt, rt.alloc(), &graph, a(1)), 1);
+    Ok(())
+}
+
+fn any(state: u32) -> (Cell, u32) {
+    cell_below(state, 16, 1)
+}
+
+// Whether the formula at a cell reads one of the cells that are marked.
+fn reads_marked(pairs: &[(Cell, Span)], cell: Cell, marked: &[bool]) -> bool {
+    for (formula, span) in pairs {
+        if *formula == cell {
+            for row in 0..16 {
+                if marked.get(row).copied().unwrap_or(false)
+                    && span.contains(a(u16::try_from(row).unwrap_or(0)))
+                {
+                    return true;
+                }
+            }
+        }
+    }
+    false
+}
+
+// The marks of a cell and of all that reach it, by going over the pairs until nothing is marked any more.
+fn plain(pairs: &[(Cell, Span)], seed: Cell) -> [bool; 16] {
+    let mut marked = [false; 16];
+    marked[usize::from(seed.row.min(15))] = true;
+    for _round in 0..16 {
+        for row in 0..16 {
+            if reads_marked(pairs, a(u16::try_from(row).unwrap_or(0)), &marked) {
+                marked[row] = true;
+            }
+        }
+    }
+    marked
+}
+
+fn has_formula(pairs: &[(Cell, Span)], cell: Cell) -> bool {
+    for (formula, _) in pairs {
+        if *formula == cell {
+            return true;
+        }
+    }
+    false
+}
+
+#[test]
+fn it_agrees_with_a_plain_search(rt: HostRuntime) -> Result<(), Fail> {
+    let mut graph = Graph::new(rt.alloc());
+    let mut pairs = Vec::new(rt.alloc());
+    let mut state = 7;
+    for _turn in 0..150 {
+        let (formula, next) = any(state);
+        let (first, next) = any(next);
+        let (kind, next) = below(next, 4);
+        let (other, next) = any(next);
+        let (seed, next) = any(next);
+        state = next;
+        pairs.retain(|pair: &(Cell, Span)| pair.0 != formula);
+        if kind == 0 {
+            graph.drop_cell(formula);
+        } else {
+            let span = Span::of(first, if kind == 1 { other } else { first });
+            graph
+                .set(formula, &spans(&rt, rt.alloc(), &[span]), false)
+                .expect(&rt, "memory");
+            pairs.push((formula, span)).expect(&rt, "memory");
+        }
+        let closure = graph
+            .closure(&cells(&rt, rt.alloc(), &[seed]))
+            .expect(&rt, "memory");
+        let marked = plain(pairs.as_slice(), seed);
+        for row in 0..16 {
+            let cell = a(u16::try_from(row).unwrap_or(0));
+            let expected = marked[row] && has_formula(pairs.as_slice(), cell);
+            assert_eq!(&rt; closure.contains(&cell), expected);
+        }
+    }
+    Ok(())
+}

@@ -1,0 +1,203 @@
+// Worked rows of the store.
+ghost use Rattle.sheet_store.specs.Grid.{IsSound};
+
+use crate::draws::{below, cell_below};
+use fixed_value::Fixed;
+use formula_tree::{Content, Expr, ExprList, Formula, Function, Value};
+use grid_address::{Cell, Format, Span};
+use lics_text::Text;
+use sheet_store::{CellState, Order, Settings, Store, is_prefix};
+use std::alloc::Global;
+use std::process::Abort;
+use std::test::Fail;
+
+const DEFAULT: Format = Format(0xFF);
+
+const A1: Cell = Cell { row: 0, col: 0 };
+
+const C1: Cell = Cell { row: 0, col: 2 };
+
+const B5: Cell = Cell { row: 4, col: 1 };
+
+fn number(millionths: i64) -> CellState
+    ensures { IsSound result }
+{
+    let number = Fixed::of(millionths).unwrap_or(Fixed::ZERO);
+    CellState {
+        content: Content::Number(number),
+        value: Value::Num(number),
+        format: DEFAULT,
+    }
+}
+
+fn label<R: Abort>(rt: &R, alloc: Global, bytes: &[u8]) -> CellState
+    ensures { IsSound result }
+{
+    let text = Text::from_bytes(alloc, bytes).expect(rt, "a text");
+    let copy = text.copy().expect(rt, "memory");
+    CellState {
+        content: Content::Label(b'\'', text),
+        value: Value::Str(copy),
+        format: DEFAULT,
+    }
+}
+
+// A formula whose value isn't made yet.
+fn formula<R: Abort>(rt: &R, alloc: Global) -> CellState
+    ensures { IsSound result }
+{
+    let now = Expr::Call(Function(0x37), ExprList::new(alloc));
+    CellState {
+        content: Content::Formula(Formula::of(alloc, now).expect(rt, "a formula")),
+        value: Value::Num(Fixed::ZERO),
+        format: DEFAULT,
+    }
+}
+
+fn filled<R: Abort>(rt: &R, alloc: Global) -> Store {
+    let mut store = Store::new(alloc);
+    store.put(B5, formula(rt, alloc)).expect(rt, "memory");
+    store.put(C1, label(rt, alloc, b"NET")).expect(rt, "memory");
+    store.put(A1, number(1_500_000)).expect(rt, "memory");
+    store
+}
+
+fn millionths(store: &Store, cell: Cell) -> Option<i64> {
+    match store.get(cell) {
+        Some(state) => match &state.value {
+            Value::Num(number) => Some(number.millionths()),
+            Value::Blank | Value::Str(_) | Value::Err | Value::Na => None,
+        },
+        None => None,
+    }
+}
+
+#[test]
+fn cells_come_in_row_order(rt: HostRuntime) -> Result<(), Fail> {
+    let alloc = rt.alloc();
+    let store = filled(&rt, alloc);
+    let cells = store.cells_in(Span::whole()).expect(&rt, "memory");
+    assert_eq!(&rt; cells.len(), 3);
+    assert_eq!(&rt; cells.get(0).copied(), Some(A1));
+    assert_eq!(&rt; cells.get(1).copied(), Some(C1));
+    assert_eq!(&rt; cells.get(2).copied(), Some(B5));
+    let formulas = store.formulas_in(Span::whole()).expect(&rt, "memory");
+    assert_eq!(&rt; formulas.len(), 1);
+    assert_eq!(&rt; formulas.get(0).copied(), Some(B5));
+    assert_eq!(&rt;
+        store.cells_in(Span::of(A1, A1)).expect(&rt, "memory").len(),
+        1
+    );
+    assert_eq!(&rt; store.last_used(), Some(Cell { row: 4, col: 2 }));
+    assert_eq!(&rt; Store::new(alloc).last_used(), None);
+    Ok(())
+}
+
+#[test]
+fn a_blank_cell_in_the_default_format_is_not_kept(rt: HostRuntime) -> Result<(), Fail> {
+    let alloc = rt.alloc();
+    let mut store = filled(&rt, alloc);
+    store
+        .put(A1, CellState::blank(DEFAULT))
+        .expect(&rt, "memory");
+    assert!(&rt; store.get(A1).is_none());
+    store.set_format(A1, Format(0x82)).expect(&rt, "memory");
+    assert!(&rt; store.get(A1).is_some());
+    store.set_format(A1, DEFAULT).expect(&rt, "memory");
+    assert!(&rt; store.get(A1).is_none());
+    store.set_format(C1, Format(0x02)).expect(&rt, "memory");
+    store.clear(C1);
+    assert!(&rt; store.get(C1).is_none());
+    Ok(())
+}
+
+#[test]
+fn a_copy_is_a_store_of_its_own(rt: HostRuntime) -> Result<(), Fail> {
+    let alloc = rt.alloc();
+    let mut store = filled(&rt, alloc);
+    store.set_width(3, Some(240));
+    store.set_hidden(7, true);
+    let copy = store.copy().expect(&rt, "memory");
+    store.clear(A1);
+    store.set_width(3, None);
+    store.set_hidden(7, false);
+    assert_eq!(&rt; millionths(&copy, A1), Some(1_500_000));
+    assert_eq!(&rt; millionths(&store, A1), None);
+    assert_eq!(&rt; copy.width(3), Some(240));
+    assert_eq!(&rt; store.width(3), None);
+    assert!(&rt; copy.is_hidden(7));
+    assert!(&rt; !store.is_hidden(7));
+    Ok(())
+}
+
+#[test]
+fn a_fresh_sheet_has_these_settings(rt: HostRuntime) -> Result<(), Fail> {
+    let fresh = Settings::fresh();
+    assert!(&rt; fresh.automatic);
+    assert_eq!(&rt; fresh.passes, 1);
+    assert_eq!(&rt; fresh.width, 9);
+    assert_eq!(&rt; fresh.order, Order::Natural);
+    assert!(&rt; is_prefix(b'|'));
+    assert!(&rt; !is_prefix(b'+'));
+    Ok(())
+}
+
+fn any(state: u32) -> (Cell, u32) {
+    cell_below(state, 9, 7)
+}
+
+// What a plain list of cells with their marks says of a span: how many of its cells are used, and how many hold formulas.
+fn counts(marks: &[(Cell, bool)], span: Span) -> (usize, usize) {
+    let mut used = 0usize;
+    let mut formulas = 0usize;
+    for (cell, is_formula) in marks {
+        if span.contains(*cell) {
+            used = used.saturating_add(1);
+            if *is_formula {
+                formulas = formulas.saturating_add(1);
+            }
+        }
+    }
+    (used, formulas)
+}
+
+#[test]
+fn it_agrees_with_a_plain_list(rt: HostRuntime) -> Result<(), Fail> {
+    let mut store = Store::new(rt.alloc());
+    let mut marks = Vec::new(rt.alloc());
+    let mut state = 3;
+    for _turn in 0..200 {
+        let (cell, next) = any(state);
+        let (kind, next) = below(next, 4);
+        let (first, next) = any(next);
+        let (last, next) = any(next);
+        state = next;
+        marks.retain(|mark: &(Cell, bool)| mark.0 != cell);
+        if kind == 0 {
+            store.clear(cell);
+        } else if kind == 1 {
+            store
+                .put(cell, formula(&rt, rt.alloc()))
+                .expect(&rt, "memory");
+            marks.push((cell, true)).expect(&rt, "memory");
+        } else {
+            store.put(cell, number(5)).expect(&rt, "memory");
+            marks.push((cell, false)).expect(&rt, "memory");
+        }
+        let span = Span::of(first, last);
+        let used = store.cells_in(span).expect(&rt, "memory");
+        let formulas = store.formulas_in(span).expect(&rt, "memory");
+        assert_eq!(&rt;
+            (used.len(), formulas.len()),
+            counts(marks.as_slice(), span)
+        );
+        let mut before = None;
+        for found in used.as_slice() {
+            assert!(&rt;
+                span.contains(*found) && store.get(*found).is_some() && before < Some(*found)
+            );
+            before = Some(*found);
+        }
+    }
+    Ok(())
+}
