@@ -5,14 +5,14 @@ pub mod FunctionsRead
 pub mod Grows
 pub mod Lexing
 pub mod Leaves
-pub mod Only
 pub mod Outputs
 pub mod Calls
 pub mod Cuts
 pub mod PlacesRead
 pub mod Quotes
+pub mod Treed
 pub mod Shaped
+pub mod Spelling
 pub mod SignsRead
-pub mod Unique
 pub mod Unsigned
 pub mod WordsRead

@@ -16,4 +16,4 @@ mod words;
 
 pub use fault::ParseFault;
 pub use printing::print;
-pub use reading::{a_text_spells_one_tree, read};
+pub use reading::{a_text_is_read_as_it_spells, read};

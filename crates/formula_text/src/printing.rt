@@ -1,8 +1,8 @@
 // From a formula to its text.
-ghost use Rattle.std.specs.Prelude.{◌≡◌, IfSome, IfNone, Some, None, nat_le, length, map, take, ◌++◌, [], true, codes};
+ghost use Rattle.std.specs.Prelude.{Ok, ◌≡◌, IfSome, IfNone, Some, None, nat_le, length, map, take, ◌++◌, [], true, codes};
 ghost use Rattle.formula_tree.specs.View.{tree_of};
 ghost use Rattle.grid_address.specs.Axes.{is_fixed};
-ghost use Rattle.formula_text.specs.Texts.{SpelledBy};
+ghost use Rattle.formula_text.specs.Reading.{reading};
 ghost use Rattle.formula_text.specs.Printed.{alike, call_text, cell_text, in_order, end_of, mark, name_of_cell, name_of_corners, op_text, printed, reference_text, same, sign_for, span_text, text_of, written};
 
 use crate::functions::name_of;
@@ -258,7 +258,7 @@ pub fn print(formula: &Formula, at: Cell, names: &Names, into: &mut Line) -> boo
     requires { into.old ≡ [] }
     ensures line { into.new ≡ take 240 (printed names.now at formula.now) }
     ensures whole { result ≡ nat_le (length (printed names.now at formula.now)) 240 }
-    ensures again { result ≡ true → SpelledBy names.now at into.new formula.now }
+    ensures again { result ≡ true → reading names.now at into.new ≡ Ok formula.now }
 {
     at.is_on_sheet();
     names.are_keyed();

@@ -1,11 +1,12 @@
 // From a text to its formula.
-ghost use Rattle.std.specs.Prelude.{◌≡◌, ◌⊎◌, ℕ, List, IfOk, IfErr};
+ghost use Rattle.std.specs.Prelude.{◌≡◌, ◌⊎◌, ◌↔◌, ℕ, List, IfOk, IfErr, Ok, Err};
 ghost use Rattle.formula_tree.specs.Shape.{IsFormula};
 ghost use Rattle.formula_tree.specs.Tree.{Tree};
 ghost use Rattle.formula_tree.specs.View.{tree_of};
 ghost use Rattle.grid_address.specs.Place.{Place};
 ghost use Rattle.range_names.specs.Names.{NameMap};
-ghost use Rattle.formula_text.specs.Texts.{IsFirstFault, IsFormulaOf, SpelledBy};
+ghost use Rattle.formula_text.specs.Reading.{reading};
+ghost use Rattle.formula_text.specs.Texts.{SpelledBy};
 
 use crate::ParseFault;
 use crate::lex::lex;
@@ -33,9 +34,8 @@ fn formula(alloc: Global, expr: Expr) -> Result<Formula, ParseFault>
 /// `BadNumber` come before `ArgCount`, and that before `Unexpected`. (The grammar of Release 2; the functions are those
 /// of this project's table.)
 pub fn read(alloc: Global, text: &[u8], at: Cell, names: &Names) -> Result<Formula, ParseFault>
-    ensures found { IfOk result (λ f. SpelledBy names.now at text.now f) }
-    ensures only { (t : Tree) → SpelledBy names.now at text.now t → IsFormulaOf result t }
-    ensures fault { IfErr result (λ f. (f ≡ ParseFault.Memory) ⊎ IsFirstFault names.now at text.now f) }
+    ensures found { IfOk result (λ f. reading names.now at text.now ≡ Ok f) }
+    ensures fault { IfErr result (λ f. (f ≡ ParseFault.Memory) ⊎ (reading names.now at text.now ≡ Err f)) }
 {
     if text.len() > 240 {
         return Err(ParseFault::TooLong);
@@ -45,7 +45,8 @@ pub fn read(alloc: Global, text: &[u8], at: Cell, names: &Names) -> Result<Formu
     formula(alloc, expr)
 }
 
-/// A text spells one tree at most where it stands in a cell, with the names.
-pub fn a_text_spells_one_tree()
-    ensures { (names : NameMap) (cell : Place) (text : List ℕ) (a b : Tree) → SpelledBy names cell text a → SpelledBy names cell text b → a ≡ b }
+/// What is read of a text is the tree that it spells: the tree is spelled by the text wherever it is read of it, and a
+/// text spells no other. So a text spells one tree where it has no fault, and else none.
+pub fn a_text_is_read_as_it_spells()
+    ensures { (names : NameMap) (at : Place) (text : List ℕ) (t : Tree) → (reading names at text ≡ Ok t) ↔ SpelledBy names at text t }
 {}
