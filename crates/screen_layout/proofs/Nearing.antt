@@ -4,7 +4,8 @@ use Rattle.std.specs.Prelude.{nat_le}
 use Rattle.std.proofs.lemmas.Bool.Decides.{nat_tests}
 use Rattle.sheet_store.specs.Grid.{is_hidden}
 use Rattle.screen_layout.specs.Corner.{nearest, wide}
-use Rattle.screen_layout.specs.Sheets.{width_in, Sheet}
+use Rattle.work_sheet.specs.Seen.{Sheet}
+use Rattle.screen_layout.specs.Sheets.{width_in}
 
 pub wide_none : (s : Sheet) (col : ℕ) → wide s 0 col ≡ 0
 unfolding wide

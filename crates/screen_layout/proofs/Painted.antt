@@ -8,7 +8,7 @@ use Rattle.std.specs.List.{All, range_with_len}
 use Rattle.grid_address.specs.Place.{Place}
 use Rattle.screen_layout.specs.Lines.{padded, shown_byte}
 use Rattle.screen_layout.specs.Screen.{line_text, screen, screen_line}
-use Rattle.screen_layout.specs.Sheets.{Sheet}
+use Rattle.work_sheet.specs.Seen.{Sheet}
 use Rattle.screen_layout.specs.declared.panel.Panel.{Panel}
 use Rattle.screen_show.specs.Grid.{IsPrinted}
 

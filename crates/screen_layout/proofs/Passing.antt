@@ -5,7 +5,8 @@ use Rattle.std.proofs.lemmas.List.{append-nil, take_all}
 use Rattle.sheet_store.specs.Grid.{is_hidden}
 use Rattle.screen_layout.specs.Columns.{beside, column_text, columns_from, columns_line, Column, margin, shown_columns}
 use Rattle.screen_layout.specs.Lines.{padded}
-use Rattle.screen_layout.specs.Sheets.{width_in, Sheet}
+use Rattle.work_sheet.specs.Seen.{Sheet}
+use Rattle.screen_layout.specs.Sheets.{width_in}
 use Rattle.screen_layout.proofs.Cuts.{cut_twice}
 
 module _ (s : Sheet) (is_first : Bool) (col room : ℕ) (within : col ≤ 255) where

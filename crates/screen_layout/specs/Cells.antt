@@ -11,7 +11,7 @@ use Rattle.formula_tree.specs.declared.value.Value.TheVariants as value
 use Rattle.grid_address.specs.Place.{Place}
 use Rattle.natural_recalc.specs.World.{content_of, format_of, value_at}
 use Rattle.range_names.specs.Names.{NameMap}
-use Rattle.screen_layout.specs.Sheets.{Sheet}
+use Rattle.work_sheet.specs.Seen.{Sheet}
 
 -- the sheet's format stands in for the default one
 abbrev pub format_in : ℕ → ℕ → ℕ

@@ -4,7 +4,8 @@ use Rattle.grid_address.specs.Address.{column_name, decimal}
 use Rattle.sheet_store.specs.Grid.{is_hidden}
 use Rattle.screen_layout.specs.Cells.{cell_text}
 use Rattle.screen_layout.specs.Lines.{padded}
-use Rattle.screen_layout.specs.Sheets.{width_in, Sheet}
+use Rattle.work_sheet.specs.Seen.{Sheet}
+use Rattle.screen_layout.specs.Sheets.{width_in}
 
 pub record Column : Type 0 where
   pub col : ℕ

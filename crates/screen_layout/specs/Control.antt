@@ -6,7 +6,7 @@ use Rattle.grid_address.specs.Address.{address_of, decimal}
 use Rattle.natural_recalc.specs.World.{format_of}
 use Rattle.sheet_store.specs.Grid.{width_of}
 use Rattle.screen_layout.specs.Lines.{filled}
-use Rattle.screen_layout.specs.Sheets.{Sheet}
+use Rattle.work_sheet.specs.Seen.{Sheet}
 use Rattle.screen_layout.specs.declared.panel.Mode.{Mode}
 use Rattle.screen_layout.specs.declared.panel.Mode.TheVariants.{Ready, Label, Value, Edit, Point, Menu, Error}
 use Rattle.screen_layout.specs.declared.panel.Panel.{Panel}

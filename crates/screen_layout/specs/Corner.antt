@@ -2,7 +2,8 @@
 use Rattle.std.specs.Prelude.{ℕ, zero, suc, ◌+◌, ◌-◌, max, nat_le, nat_lt, if◌then◌else◌}
 use Rattle.grid_address.specs.Place.{Place}
 use Rattle.sheet_store.specs.Grid.{is_hidden}
-use Rattle.screen_layout.specs.Sheets.{width_in, Sheet}
+use Rattle.work_sheet.specs.Seen.{Sheet}
+use Rattle.screen_layout.specs.Sheets.{width_in}
 
 -- the first of 20 shown rows moves as little as lets the pointer's be one of them
 abbrev pub first_row : ℕ → ℕ → ℕ

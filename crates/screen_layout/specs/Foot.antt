@@ -2,7 +2,7 @@
 use Rattle.std.specs.Prelude.{ℕ, ◌*◌, ◌/◌, ◌%◌, pos, Bool, true, false, not, ◌&&◌, List, [], ◌∷◌, ◌++◌, take, Option, Some, None, codes}
 use Rattle.cell_format.specs.Numbers.{shown_number, two_digits}
 use Rattle.screen_layout.specs.Lines.{filled}
-use Rattle.screen_layout.specs.Sheets.{Sheet}
+use Rattle.work_sheet.specs.Seen.{Sheet}
 use Rattle.screen_layout.specs.declared.panel.Mode.{Mode}
 use Rattle.screen_layout.specs.declared.panel.Mode.TheVariants.{Ready, Label, Value, Edit, Point, Menu, Error}
 use Rattle.screen_layout.specs.declared.panel.Panel.{Panel}

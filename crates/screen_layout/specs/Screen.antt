@@ -6,7 +6,7 @@ use Rattle.screen_layout.specs.Columns.{columns_line}
 use Rattle.screen_layout.specs.Control.{below_line, entry_line, pointer_line}
 use Rattle.screen_layout.specs.Foot.{foot_line}
 use Rattle.screen_layout.specs.Lines.{shown_line}
-use Rattle.screen_layout.specs.Sheets.{Sheet}
+use Rattle.work_sheet.specs.Seen.{Sheet}
 use Rattle.screen_layout.specs.declared.panel.Panel.{Panel}
 
 -- a row of the sheet; below row 8192 there is none

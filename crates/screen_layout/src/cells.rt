@@ -4,7 +4,7 @@ ghost use Rattle.cell_format.specs.Labels.{shown_label};
 ghost use Rattle.cell_format.specs.Numbers.{placed, shown_number};
 ghost use Rattle.screen_layout.specs.Cells.{cell_text, content_text, format_in, formula_text, label_text, value_text, visible_text};
 ghost use Rattle.screen_layout.specs.Lines.{padded};
-ghost use Rattle.screen_layout.specs.Sheets.{of_worksheet};
+ghost use Rattle.work_sheet.specs.Seen.{of_worksheet};
 ghost use Rattle.formula_text.specs.Printed.{printed};
 ghost use Rattle.natural_recalc.specs.World.{format_of, value_at};
 ghost use Rattle.std.specs.FinMap as map;

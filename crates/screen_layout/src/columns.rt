@@ -3,7 +3,7 @@ ghost use Rattle.std.specs.Prelude.{◌≡◌, ◌<◌, ◌≤◌, ◌++◌, ◌
 ghost use Rattle.std.specs.Option.{ForSome};
 ghost use Rattle.screen_layout.specs.Columns.{column_text, columns_line, head_text, margin};
 ghost use Rattle.screen_layout.specs.Lines.{padded, shown_line};
-ghost use Rattle.screen_layout.specs.Sheets.{of_worksheet};
+ghost use Rattle.work_sheet.specs.Seen.{of_worksheet};
 
 use crate::cells::{add_cell, add_text, put_blanks};
 use crate::painted_line::PaintedLine;

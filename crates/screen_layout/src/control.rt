@@ -6,7 +6,7 @@ ghost use Rattle.grid_address.specs.Address.{address_of};
 ghost use Rattle.natural_recalc.specs.World.{format_of};
 ghost use Rattle.screen_layout.specs.Control.{below_line, entry_line, front_text, is_menu, mode_name, mode_text, pointer_format, pointer_line, pointer_text, protection_part, typed_line, width_part, with_space};
 ghost use Rattle.screen_layout.specs.Lines.{filled, padded, shown_line};
-ghost use Rattle.screen_layout.specs.Sheets.{of_worksheet};
+ghost use Rattle.work_sheet.specs.Seen.{of_worksheet};
 ghost use Rattle.work_sheet.specs.Typed.{typed};
 
 use crate::painted_line::PaintedLine;

@@ -1,7 +1,7 @@
 // Which cell stands at the top left of the screen.
 ghost use Rattle.std.specs.Prelude.{◌≡◌, ◌≤◌, ◌+◌, ◌-◌, ◌*◌};
 ghost use Rattle.screen_layout.specs.Corner.{corner_for, first_column, first_row, nearest, wide};
-ghost use Rattle.screen_layout.specs.Sheets.{of_worksheet};
+ghost use Rattle.work_sheet.specs.Seen.{of_worksheet};
 
 use crate::widths::width_in;
 use grid_address::Cell;

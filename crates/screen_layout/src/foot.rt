@@ -3,7 +3,7 @@ ghost use Rattle.std.specs.Prelude.{◌≡◌, ◌≤◌, ◌+◌, ◌++◌, [],
 ghost use Rattle.cell_format.specs.Numbers.{shown_number, two_digits};
 ghost use Rattle.screen_layout.specs.Foot.{first_part, foot_line, marked, moment_text, wants_recalculation};
 ghost use Rattle.screen_layout.specs.Lines.{shown_line};
-ghost use Rattle.screen_layout.specs.Sheets.{of_worksheet};
+ghost use Rattle.work_sheet.specs.Seen.{of_worksheet};
 
 use crate::painted_line::PaintedLine;
 use crate::panel::{Mode, Panel};

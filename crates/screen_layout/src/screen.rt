@@ -2,7 +2,7 @@
 ghost use Rattle.std.specs.Prelude.{◌≡◌, ◌≤◌};
 ghost use Rattle.screen_layout.specs.Screen.{row_line, screen, screen_line};
 ghost use Rattle.screen_layout.specs.Lines.{shown_line};
-ghost use Rattle.screen_layout.specs.Sheets.{of_worksheet};
+ghost use Rattle.work_sheet.specs.Seen.{of_worksheet};
 ghost use Rattle.screen_show.specs.Grid.{IsGrid, IsPrinted};
 
 use crate::columns::columns_line;

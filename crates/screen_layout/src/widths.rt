@@ -1,6 +1,7 @@
 // How wide columns are.
 ghost use Rattle.std.specs.Prelude.{◌≡◌, ◌≤◌};
-ghost use Rattle.screen_layout.specs.Sheets.{of_worksheet, width_in};
+ghost use Rattle.work_sheet.specs.Seen.{of_worksheet};
+ghost use Rattle.screen_layout.specs.Sheets.{width_in};
 
 use work_sheet::Sheet;
 

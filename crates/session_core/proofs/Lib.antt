@@ -1,2 +1,1 @@
-pub mod OneWay
 pub mod Prefixed

@@ -1,5 +1,5 @@
 -- The session as a machine over one map of cells, in which every formula is evaluated at each recalculation.
-use Rattle.std.specs.Prelude.{◌≡◌, ℕ, Bool, true, false, cond, Option, None, Some, replicate, refl}
+use Rattle.std.specs.Prelude.{◌≡◌, ℕ, Bool, true, false, Option, None, Some, List, [], replicate, refl, if◌then◌else◌}
 use Rattle.std.specs.Coded.{Coded, code_by, coded×, coded_bool, coded_option, coded_ℕ}
 use Rattle.std.specs.FinMap as map
 use Rattle.formula_eval.specs.declared.look.Scene.{Scene}
@@ -7,17 +7,16 @@ use Rattle.formula_tree.specs.declared.value.Content.{Content}
 use Rattle.grid_address.specs.Place.{Place, coded_place}
 use Rattle.serial_date.specs.declared.moment.Moment.{Moment}
 use Rattle.sheet_store.specs.Choices.{fresh}
-use Rattle.session_core.specs.Entry.{IsEntry}
 use Rattle.screen_layout.specs.Corner.{corner_for}
-use Rattle.screen_layout.specs.Sheets.{coded_sheet, Sheet}
+use Rattle.work_sheet.specs.Doing.{recalculated, with_entry, with_pointer, Done, Happened}
+use Rattle.work_sheet.specs.Lines.{label_content, value_content}
+use Rattle.work_sheet.specs.Seen.{coded_sheet, Sheet}
+use Rattle.work_sheet.specs.Work.{coded_work, no_work, HasWorked, Work}
 use Rattle.session_core.specs.Pointer.{moved}
-use Rattle.session_core.specs.Sheets.{recalculated, with_entry, with_pointer}
 use Rattle.session_core.specs.Typing.{typed}
-use Rattle.session_core.specs.Work.{coded_work, no_work, HasEntered, HasRecalculated, IsSameWork, Work}
 use Rattle.session_core.specs.contracts.mode.Mode as mode
 use Rattle.session_core.specs.declared.mode.Mode.{Mode}
 use Rattle.session_core.specs.declared.mode.Mode.TheVariants.{Ready, Label, Value}
-use Rattle.key_words.specs.declared.key.Key.{Key}
 use Rattle.session_core.specs.Acts.{act_of}
 use Rattle.session_core.specs.declared.act.Act.{Act}
 use Rattle.session_core.specs.declared.act.Act.TheVariants.{Typed, Finish, Calculate, Pass}
@@ -25,29 +24,29 @@ use Rattle.session_core.specs.declared.pointer.Way.{Way}
 use Rattle.session_core.specs.declared.key.Event.{Event}
 use Rattle.session_core.specs.declared.key.Event.TheVariants.{Key as KeyEvent, Unit as UnitEvent}
 
--- the sheet with its pointer, the cell at the top left of the screen, the mode with its line, the day and the second
--- of the last step, and whether memory ran out
+-- the sheet with its pointer, the cell at the top left of the screen, the mode with its line, and the day and the second
+-- of the last step
 pub record State : Type 0 where
   pub sheet : Sheet
   pub corner : Place
   pub mode : Mode
   pub day : Option ℕ
   pub second : ℕ
-  pub spent : Bool
 
--- a session: the machine's state, and the work that was done
+-- a session: the machine's state, the work that was done, and whether memory ran out
 pub record Running : Type 0 where
   pub state : State
   pub work : Work
+  pub spent : Bool
 
 abbrev pub coded_state : Coded State
 coded_state =
-    code_by (Sheet × (Place × (Mode × (Option ℕ × (ℕ × Bool))))) (coded× coded_sheet (coded× coded_place (coded× (mode.the_row).coded (coded× (coded_option coded_ℕ) (coded× coded_ℕ coded_bool)))))
-    (λ s. (s.sheet, (s.corner, (s.mode, (s.day, (s.second, s.spent))))))
-    (λ p. record { sheet = p.0; corner = p.1.0; mode = p.1.1.0; day = p.1.1.1.0; second = p.1.1.1.1.0; spent = p.1.1.1.1.1 }) (λ _. refl)
+    code_by (Sheet × (Place × (Mode × (Option ℕ × ℕ)))) (coded× coded_sheet (coded× coded_place (coded× (mode.the_row).coded (coded× (coded_option coded_ℕ) coded_ℕ))))
+    (λ s. (s.sheet, (s.corner, (s.mode, (s.day, s.second)))))
+    (λ p. record { sheet = p.0; corner = p.1.0; mode = p.1.1.0; day = p.1.1.1.0; second = p.1.1.1.1 }) (λ _. refl)
 
 abbrev pub coded_running : Coded Running
-coded_running = code_by (State × Work) (coded× coded_state coded_work) (λ r. (r.state, r.work)) (λ p. record { state = p.0; work = p.1 }) (λ _. refl)
+coded_running = code_by (State × (Work × Bool)) (coded× coded_state (coded× coded_work coded_bool)) (λ r. (r.state, (r.work, r.spent))) (λ p. record { state = p.0; work = p.1.0; spent = p.1.1 }) (λ _. refl)
 
 abbrev pub home : Place
 home = record { row = 0; col = 0 }
@@ -56,9 +55,12 @@ home = record { row = 0; col = 0 }
 abbrev pub fresh_sheet : Sheet
 fresh_sheet = record { grid = record { cells = map.empty; widths = replicate 256 0; hidden = replicate 256 false }; circular = false; stale = false; names = map.empty; settings = fresh }
 
+abbrev pub start : State
+start = record { sheet = fresh_sheet; corner = home; mode = Ready; day = None; second = 0 }
+
 -- a fresh session
-abbrev pub start : Running
-start = record { state = record { sheet = fresh_sheet; corner = home; mode = Ready; day = None; second = 0; spent = false }; work = no_work }
+abbrev pub started : Running
+started = record { state = start; work = no_work; spent = false }
 
 -- it wants a key, since no macro runs
 abbrev pub wants_key : State → Bool
@@ -71,10 +73,29 @@ pointer_of s = s.sheet.settings.pointer
 abbrev pub scene_at : State → Moment → Scene
 scene_at s now = record { cursor = pointer_of s; now = now }
 
--- the line that is typed is finished: what it means is entered, and a line that means nothing leaves the cell
-abbrev pub finished : Scene → Option Content → State → State
-finished scene None s = record s { mode = Ready }
-finished scene (Some x) s = record s { sheet = with_entry scene (pointer_of s) x s.sheet; mode = Ready }
+-- what an act comes to: the next state, and what happened in the sheet
+pub record Outcome : Type 0 where
+  pub state : State
+  pub log : List Happened
+
+-- nothing happens in the sheet
+abbrev pub quiet : State → Outcome
+quiet s = record { state = s; log = [] }
+
+-- the sheet becomes what was done to it
+abbrev pub with_done : Done → State → Outcome
+with_done d s = record { state = record s { sheet = d.sheet }; log = d.log }
+
+-- what the line that is typed means in a cell: a label, a number or a formula, or nothing
+abbrev pub entry_of : Mode → Sheet → Place → Option Content
+entry_of Ready s c = None
+entry_of (Label line) s c = Some (label_content s.settings.prefix line)
+entry_of (Value line) s c = value_content s.names c line
+
+-- the line is finished: what it means is entered, and a line that means nothing leaves the cell
+abbrev pub finished : Scene → Option Content → State → Outcome
+finished scene None s = quiet (record s { mode = Ready })
+finished scene (Some x) s = with_done (with_entry scene (pointer_of s) x s.sheet) (record s { mode = Ready })
 
 -- the key that finishes a line moves the pointer, unless the line is a value that spells nothing
 abbrev pub moves : Mode → Option Content → Bool
@@ -87,72 +108,42 @@ abbrev pub pointing_at : Place → State → State
 pointing_at p s = record s { sheet = with_pointer p s.sheet }
 
 -- the line is finished, and then the pointer moves
-abbrev pub finished_with : Way → Scene → Option Content → State → State
-finished_with way scene entry s = cond (moves s.mode entry) (pointing_at (moved way (pointer_of s)) (finished scene entry s)) (finished scene entry s)
+abbrev pub finished_with : Way → Scene → Option Content → State → Outcome
+finished_with way scene entry s =
+    if moves s.mode entry then record (finished scene entry s) { state = pointing_at (moved way (pointer_of s)) (finished scene entry s).state } else finished scene entry s
 
 -- the key CALC recalculates where nothing is typed
-abbrev pub calculated : Mode → Scene → State → State
-calculated Ready scene s = record s { sheet = recalculated scene s.sheet }
-calculated (Label line) scene s = s
-calculated (Value line) scene s = s
+abbrev pub calculated : Mode → Scene → State → Outcome
+calculated Ready scene s = with_done (recalculated scene s.sheet) s
+calculated (Label line) scene s = quiet s
+calculated (Value line) scene s = quiet s
 
 -- a key before the screen follows it
-abbrev pub acted : Act → Scene → Option Content → State → State
-acted (Typed b) scene entry s = record s { mode = typed s.mode b }
-acted (Finish way) scene entry s = finished_with way scene entry s
-acted Calculate scene entry s = calculated s.mode scene s
-acted Pass scene entry s = s
-
--- what the line that is typed means, where the key finishes it
-abbrev pub IsEntryFor : Act → State → Option Content → Type 0
-IsEntryFor (Typed b) s entry = entry ≡ None
-IsEntryFor (Finish way) s entry = IsEntry s.mode s.sheet (pointer_of s) entry
-IsEntryFor Calculate s entry = entry ≡ None
-IsEntryFor Pass s entry = entry ≡ None
-
--- the work of a finished line
-abbrev pub HasFinished : Scene → Option Content → State → Work → Work → Type 0
-HasFinished scene None s w v = v ≡ w
-HasFinished scene (Some x) s w v = HasEntered scene (pointer_of s) x s.sheet w v
-
-abbrev pub HasCalculated : Mode → Scene → State → Work → Work → Type 0
-HasCalculated Ready scene s w v = HasRecalculated scene s.sheet w v
-HasCalculated (Label line) scene s w v = v ≡ w
-HasCalculated (Value line) scene s w v = v ≡ w
-
--- the work of a key
-abbrev pub HasWorked : Act → Scene → Option Content → State → Work → Work → Type 0
-HasWorked (Typed b) scene entry s w v = v ≡ w
-HasWorked (Finish way) scene entry s w v = HasFinished scene entry s w v
-HasWorked Calculate scene entry s w v = HasCalculated s.mode scene s w v
-HasWorked Pass scene entry s w v = v ≡ w
-
--- what was done before the screen follows it
-pub record HasActed (act : Act) (now : Moment) (a b : Running) : Type 0 where
-  pub entry : Option Content
-  pub meant : IsEntryFor act a.state entry
-  pub state : b.state ≡ acted act (scene_at a.state now) entry a.state
-  pub work : HasWorked act (scene_at a.state now) entry a.state a.work b.work
+abbrev pub acted : Act → Scene → State → Outcome
+acted (Typed b) scene s = quiet (record s { mode = typed s.mode b })
+acted (Finish way) scene s = finished_with way scene (entry_of s.mode s.sheet (pointer_of s)) s
+acted Calculate scene s = calculated s.mode scene s
+acted Pass scene s = quiet s
 
 -- the pointer's cell is shown, at this moment
-abbrev pub framed : Moment → Running → Running
-framed now r = record r { state = record r.state { corner = corner_for r.state.sheet r.state.corner; day = now.day; second = now.second } }
+abbrev pub framed : Moment → State → State
+framed now s = record s { corner = corner_for s.sheet s.corner; day = now.day; second = now.second }
 
--- One step with a key: the line that it finishes is entered, all is recalculated, the pointer moves, and the screen
--- follows it.
-pub record IsStep (key : Key) (now : Moment) (a b : Running) : Type 0 where
-  pub before : Running
-  pub acted : HasActed (act_of key) now a before
-  pub shown : b ≡ framed now before
+-- what is done, and then the screen follows it
+abbrev pub shown_at : Moment → Outcome → Outcome
+shown_at now o = record o { state = framed now o.state }
 
--- the states are equal, and as much work was done and is to do
-pub record IsSame (a b : Running) : Type 0 where
-  pub state : a.state ≡ b.state
-  pub work : IsSameWork a.work b.work
+-- One step: the line that the key finishes is entered, all is recalculated, the pointer moves, and the screen follows it.
+-- No macro runs yet, whose unit would do something.
+abbrev pub step : Event → Moment → State → Outcome
+step (KeyEvent key) now s = shown_at now (acted (act_of key) (scene_at s now) s)
+step UnitEvent now s = quiet s
 
-abbrev pub Steps : Event → Moment → Running → Running → Type 0
-Steps (KeyEvent key) now a b = IsStep key now a b
-Steps UnitEvent now a b = ⊥
+-- a session goes on to what an act comes to, with the work of what happened
+pub record Follows (o : Outcome) (a b : Running) : Type 0 where
+  pub state : b.state ≡ o.state
+  pub work : HasWorked o.log a.work b.work
+  pub spent : b.spent ≡ a.spent
 
 abbrev pub is_key : Event → Bool
 is_key (KeyEvent key) = true

@@ -1,11 +1,11 @@
 // What a finished line means.
 ghost use Rattle.std.specs.Prelude.{◌≡◌, IfOk, IsOk, true};
 ghost use Rattle.std.specs.Option.{ForSome};
-ghost use Rattle.fixed_value.specs.Decimals.{decimal_of};
-ghost use Rattle.session_core.specs.Entry.{label_content, IsEntry, IsFormula, IsValue};
-ghost use Rattle.session_core.specs.Machine.{moves};
+ghost use Rattle.formula_text.specs.Reading.{reading};
+ghost use Rattle.session_core.specs.Machine.{entry_of, moves};
+ghost use Rattle.work_sheet.specs.Lines.{formula_content, label_content, value_content};
 ghost use Rattle.lics_text.specs.Bytes.{IsText};
-ghost use Rattle.screen_layout.specs.Sheets.{of_worksheet};
+ghost use Rattle.work_sheet.specs.Seen.{of_worksheet};
 ghost use Rattle.sheet_store.specs.Grid.{is_prefix};
 ghost use Rattle.sheet_edits.specs.Edits.{HasPrefix};
 
@@ -27,7 +27,7 @@ fn formula_of(
     cell: Cell,
     names: &Names,
 ) -> Result<Option<Content>, Memory>
-    ensures { IfOk result (IsFormula names.now cell line.now) }
+    ensures { IfOk result (λ entry. entry ≡ formula_content (reading names.now cell line.now)) }
 {
     match read(alloc, line, cell, names) {
         Ok(formula) => Ok(Some(Content::Formula(formula))),
@@ -43,7 +43,7 @@ fn value_of(
     cell: Cell,
     names: &Names,
 ) -> Result<Option<Content>, Memory>
-    ensures { IfOk result (IsValue (decimal_of line.now) names.now cell line.now) }
+    ensures { IfOk result (λ entry. entry ≡ value_content names.now cell line.now) }
 {
     match read_decimal(line) {
         Decimal::Num(number) => Ok(Some(Content::Number(number))),
@@ -85,7 +85,7 @@ fn label_of(line: &TextLine, sheet: &Sheet) -> Result<Content, Memory>
 /// What the line that is typed means in a cell: a label, which begins with its prefix or takes the sheet's, a number
 /// or a formula. None where nothing is typed, and where a value spells nothing.
 pub(crate) fn entry_of(mode: &Mode, sheet: &Sheet, cell: Cell) -> Result<Option<Content>, Memory>
-    ensures entry { IfOk result (IsEntry mode.now (of_worksheet sheet.now) cell) }
+    ensures entry { IfOk result (λ entry. entry ≡ entry_of mode.now (of_worksheet sheet.now) cell) }
     ensures prefix { IfOk result (λ entry. ForSome entry HasPrefix) }
     ensures ready { mode.now ≡ Mode.Ready → IsOk result }
 {

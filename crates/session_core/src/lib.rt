@@ -12,4 +12,4 @@ mod told;
 pub use key::{Event, Stepped};
 pub use key_words::Key;
 pub use mode::Mode;
-pub use session::{Session, the_machine_has_one_way};
+pub use session::Session;

@@ -2,12 +2,9 @@ ghost use Rattle.std.specs.Prelude.{◌≡◌, IfOk, IsOk, OnOk, None, false, tr
 ghost use Rattle.std.specs.Option.{ForSome};
 ghost use Rattle.screen_show.specs.Grid.{IsGrid, IsPrinted};
 ghost use Rattle.serial_date.specs.declared.moment.Moment.{Moment};
-ghost use Rattle.session_core.specs.Machine.{finished, framed, is_key, pointer_of, pointing_at, scene_at, start, wants_key, HasActed, HasFinished, IsMoved, IsSame, IsStep, OnlyMoves, OnlyMovesBy, Running, Steps};
-ghost use Rattle.key_words.specs.declared.key.Key.{Key};
-ghost use Rattle.session_core.specs.declared.act.Act.TheVariants as Act;
+ghost use Rattle.session_core.specs.Machine.{acted, calculated, entry_of, finished, finished_with, framed, is_key, pointer_of, pointing_at, scene_at, started, step, wants_key, with_done, Follows, IsMoved, OnlyMoves, OnlyMovesBy};
 ghost use Rattle.session_core.specs.Screen.{screen};
-ghost use Rattle.session_core.specs.Sheets.{put, recalculated, with_entry};
-ghost use Rattle.session_core.specs.Work.{HasEntered, HasPut, HasRecalculated};
+ghost use Rattle.work_sheet.specs.Doing.{put, recalculated, with_entry};
 ghost use Rattle.sheet_edits.specs.Edits.{HasPrefix};
 
 use crate::act::{Act, act_of};
@@ -43,7 +40,7 @@ pub struct Session {
 
 impl Model for Session {
     ghost use Rattle.std.specs.Prelude.{◌≡◌, false};
-    ghost use Rattle.screen_layout.specs.Sheets.{of_worksheet};
+    ghost use Rattle.work_sheet.specs.Seen.{of_worksheet};
     ghost use Rattle.session_core.specs.Machine.{coded_running, Running};
 
     ghost Value = { Running };
@@ -51,8 +48,9 @@ impl Model for Session {
     ghost coded = { coded_running };
 
     ghost view = { λ a. record {
-      state = record { sheet = of_worksheet a.sheet; corner = a.corner; mode = a.mode; day = a.moment.day; second = a.moment.second; spent = a.spent };
+      state = record { sheet = of_worksheet a.sheet; corner = a.corner; mode = a.mode; day = a.moment.day; second = a.moment.second };
       work = record { dirty = a.sheet.dirty; count = a.tally.count };
+      spent = a.spent;
     } };
 
     ghost invariant = { λ a. a.sheet.settings.protection ≡ false };
@@ -61,7 +59,7 @@ impl Model for Session {
 impl Session {
     /// A fresh session: an empty worksheet, the pointer at A1.
     pub fn start(alloc: Global) -> Result<Session, Memory>
-        ensures { IfOk result (λ s. s ≡ start) }
+        ensures { IfOk result (λ s. s ≡ started) }
     {
         Ok(Session {
             sheet: Sheet::new(alloc),
@@ -75,7 +73,7 @@ impl Session {
 
     /// Whether memory ran out in a step. A spent session makes no step.
     pub fn is_spent(&self) -> bool
-        ensures { result ≡ self.now.state.spent }
+        ensures { result ≡ self.now.spent }
     {
         self.spent
     }
@@ -101,11 +99,11 @@ impl Session {
     /// session is spent. A step that only moves the pointer, or that is passed over, takes no memory and leaves
     /// all of the sheet but the pointer.
     pub fn step<S: Shelf>(&mut self, event: Event, now: &Moment, _shelf: &mut S) -> Stepped
-        requires fresh { self.old.state.spent ≡ false }
+        requires fresh { self.old.spent ≡ false }
         requires key { is_key event ≡ wants_key self.old.state }
-        ensures more { result ≡ Stepped.More → Steps event now.now self.old self.new }
+        ensures more { result ≡ Stepped.More → Follows (step event now.now self.old.state) self.old self.new }
         ensures quit { result ≡ Stepped.Quit → ⊥ }
-        ensures memory { result ≡ Stepped.Memory → self.new.state.spent ≡ true }
+        ensures memory { result ≡ Stepped.Memory → self.new.spent ≡ true }
         ensures moves { OnlyMovesBy self.old.state.mode event → result ≡ Stepped.More }
         ensures sheet { OnlyMovesBy self.old.state.mode event → IsMoved self.old.state.sheet self.new.state.sheet }
         ensures shelf { S.faults _shelf.new ≡ S.faults _shelf.old }
@@ -127,7 +125,9 @@ impl Session {
 
     // The screen follows the pointer.
     fn follow(&mut self, now: &Moment)
-        ensures { self.new ≡ framed now.now self.old }
+        ensures state { self.new.state ≡ framed now.now self.old.state }
+        ensures work { self.new.work ≡ self.old.work }
+        ensures spent { self.new.spent ≡ self.old.spent }
     {
         self.corner = corner_for(&self.sheet, self.corner);
         self.moment = *now;
@@ -143,6 +143,7 @@ impl Session {
     fn point_at(&mut self, pointer: Cell)
         ensures state { self.new.state ≡ pointing_at pointer self.old.state }
         ensures work { self.new.work ≡ self.old.work }
+        ensures spent { self.new.spent ≡ self.old.spent }
     {
         let settings = *self.sheet.settings();
         self.sheet.set_settings(Settings {
@@ -153,7 +154,7 @@ impl Session {
 
     // What is done before the screen follows it.
     fn act(&mut self, act: Act, now: &Moment) -> Result<(), Memory>
-        ensures ok { OnOk result (HasActed act now.now self.old self.new) }
+        ensures ok { OnOk result (Follows (acted act (scene_at self.old.state now.now) self.old.state) self.old self.new) }
         ensures moves { OnlyMoves self.old.state.mode act → IsOk result }
         ensures sheet { OnlyMoves self.old.state.mode act → IsMoved self.old.state.sheet self.new.state.sheet }
     {
@@ -180,7 +181,7 @@ impl Session {
 
     // The key CALC, which is passed over while a line is typed.
     fn calculate_if_ready(&mut self, now: &Moment) -> Result<(), Memory>
-        ensures { OnOk result (HasActed Act.Calculate now.now self.old self.new) }
+        ensures { OnOk result (Follows (calculated self.old.state.mode (scene_at self.old.state now.now) self.old.state) self.old self.new) }
     {
         match &self.mode {
             Mode::Ready => self.calculate(now),
@@ -190,8 +191,7 @@ impl Session {
     }
 
     fn calculate(&mut self, now: &Moment) -> Result<(), Memory>
-        ensures state { OnOk result (self.new.state ≡ record self.old.state { sheet = recalculated (scene_at self.old.state now.now) self.old.state.sheet }) }
-        ensures work { OnOk result (HasRecalculated (scene_at self.old.state now.now) self.old.state.sheet self.old.work self.new.work) }
+        ensures { OnOk result (Follows (with_done (recalculated (scene_at self.old.state now.now) self.old.state.sheet) self.old.state) self.old self.new) }
     {
         let scene = self.scene(now);
         self.sheet.calc(&scene, &mut self.tally)?;
@@ -202,8 +202,7 @@ impl Session {
     // Writes a content into the pointer's cell.
     fn write(&mut self, content: Content, now: &Moment) -> Result<(), Memory>
         requires { HasPrefix content }
-        ensures state { OnOk result (self.new.state ≡ record self.old.state { sheet = put (scene_at self.old.state now.now) (pointer_of self.old.state) content self.old.state.sheet }) }
-        ensures work { OnOk result (HasPut (pointer_of self.old.state) content self.old.state.sheet self.old.work self.new.work) }
+        ensures { OnOk result (Follows (with_done (put (scene_at self.old.state now.now) (pointer_of self.old.state) content self.old.state.sheet) self.old.state) self.old self.new) }
     {
         let scene = self.scene(now);
         match self
@@ -221,8 +220,7 @@ impl Session {
     // Enters a content into the pointer's cell. In Automatic mode a recalculation follows.
     fn enter(&mut self, content: Content, now: &Moment) -> Result<(), Memory>
         requires { HasPrefix content }
-        ensures state { OnOk result (self.new.state ≡ record self.old.state { sheet = with_entry (scene_at self.old.state now.now) (pointer_of self.old.state) content self.old.state.sheet }) }
-        ensures work { OnOk result (HasEntered (scene_at self.old.state now.now) (pointer_of self.old.state) content self.old.state.sheet self.old.work self.new.work) }
+        ensures { OnOk result (Follows (with_done (with_entry (scene_at self.old.state now.now) (pointer_of self.old.state) content self.old.state.sheet) self.old.state) self.old self.new) }
     {
         self.write(content, now)?;
         if self.sheet.settings().automatic {
@@ -234,8 +232,7 @@ impl Session {
     // Finishes the line that is typed, which means this entry.
     fn finish(&mut self, entry: Option<Content>, now: &Moment) -> Result<(), Memory>
         requires { ForSome entry HasPrefix }
-        ensures state { OnOk result (self.new.state ≡ finished (scene_at self.old.state now.now) entry self.old.state) }
-        ensures work { OnOk result (HasFinished (scene_at self.old.state now.now) entry self.old.state self.old.work self.new.work) }
+        ensures ok { OnOk result (Follows (finished (scene_at self.old.state now.now) entry self.old.state) self.old self.new) }
         ensures none { entry ≡ None → IsOk result }
     {
         if let Some(content) = entry {
@@ -247,7 +244,7 @@ impl Session {
 
     // Finishes the line that is typed, and then moves the pointer.
     fn finish_with(&mut self, way: Way, now: &Moment) -> Result<(), Memory>
-        ensures ok { OnOk result (HasActed (Act.Finish way) now.now self.old self.new) }
+        ensures ok { OnOk result (Follows (finished_with way (scene_at self.old.state now.now) (entry_of self.old.state.mode self.old.state.sheet (pointer_of self.old.state)) self.old.state) self.old self.new) }
         ensures moves { self.old.state.mode ≡ Mode.Ready → IsOk result }
         ensures sheet { self.old.state.mode ≡ Mode.Ready → IsMoved self.old.state.sheet self.new.state.sheet }
     {
@@ -275,8 +272,3 @@ impl Session {
         )
     }
 }
-
-/// The machine has one next state for a key and a moment, and one count of evaluations.
-pub fn the_machine_has_one_way()
-    ensures { (key : Key) (now : Moment) (a b c d : Running) → IsSame a b → IsStep key now a c → IsStep key now b d → IsSame c d }
-{}

@@ -5,15 +5,15 @@ use Rattle.std.specs.List.{filter}
 use Rattle.std.proofs.lemmas.List.{length-map}
 use Rattle.std.proofs.lemmas.Bool.{lt-ltb, le-ltb}
 use Rattle.serial_date.specs.declared.moment.Moment.{Moment}
-use Rattle.session_core.specs.Machine.{Running, start}
+use Rattle.session_core.specs.Machine.{Running}
 use Rattle.screen_show.specs.Display.{View}
 use Rattle.screen_show.specs.declared.display.Kind.{Kind}
 use Rattle.sheet_run.specs.Displays.{HasClosed, HasFailed, Sent, Watched, same_kind, views_of}
-use Rattle.sheet_run.specs.Driving.{HasDriven, HasEnded, LeavesState}
+use Rattle.sheet_run.specs.Driving.{HasDriven, HasEnded, IsAfter, LeavesState}
 use Rattle.sheet_run.specs.Notes.{LeavesSession, Tells, Tried, count_note, count_of, ending_note, ending_status, memory_note, ToldRefused}
 use Rattle.sheet_run.specs.Options.{limit_of, shown_kind, words_read}
 use Rattle.sheet_run.specs.Passing.{HasClosedOne, Passed}
-use Rattle.sheet_run.specs.Run.{Outside, RanOutOfMemory, Step, after, outside, screens}
+use Rattle.sheet_run.specs.Run.{Outside, RanOutOfMemory, Step, outside, screens}
 use Rattle.sheet_run.specs.Status.{RunsWith, World, asked, finished, is_any, no_memory, no_note, refused, IsRun}
 use Rattle.sheet_run.specs.OptionAnswers.{refused_text}
 use Rattle.sheet_run.specs.declared.options.Refused.{Refused}
@@ -50,7 +50,7 @@ handled limit steps left out before now KeysFailed h = record { sent = h.did.sen
 handled limit steps left out before now Stopped h = record { sent = h.did.sent; displays = h.did.displays; failed = h.did.failed }
 handled limit steps left out before now NoMemory h = record { sent = h.did.sent; displays = h.did.displays; failed = h.did.failed }
 
-state_is : (s : Running) (steps : List Step) (ending : Ending) → LeavesSession ending → LeavesState s steps ending → s ≡ after start steps
+state_is : (s : Running) (steps : List Step) (ending : Ending) → LeavesSession ending → LeavesState s steps ending → IsAfter s steps
 state_is s steps KeysEnded leaves is = is
 state_is s steps (BadWord at) leaves is = is
 state_is s steps KeysFailed leaves is = is
@@ -74,7 +74,7 @@ any_moved before now failed' out out' first second =
 pub finish : (o : Options) (limit : ℕ) (s : Running) (ending : Ending) (begun middle : Outside) (before now : World) (displays' failed' : List View) (moved : Bool) (status : ℕ) →
     limit ≡ limit_of o → begun ≡ asked o before.outside → LeavesSession ending → HasDriven limit s begun middle ending →
     Passed HasClosedOne middle.displays displays' middle.failed failed' → now.outside ≡ record middle { displays = displays'; failed = failed' } → moved ≡ nat_lt (length before.outside.failed) (length failed') →
-    Tells (count_note (count_of o s) ++ ending_note limit moved ending) (ending_status moved ending) before.notes now.notes before.note_faults now.note_faults status → RunsWith o before now status
+    Tells (count_note (count_of o s.work) ++ ending_note limit moved ending) (ending_status moved ending) before.notes now.notes before.note_faults now.note_faults status → RunsWith o before now status
 finish o limit s ending begun middle before now displays' failed' moved status limit_is begun_is leaves driven passed now_is moved_is told =
     let ended : HasEnded (limit_of o) driven.steps driven.left driven.out (asked o before.outside) middle ending =
     subst (λ (n : ℕ). HasEnded n driven.steps driven.left driven.out (asked o before.outside) middle ending) limit_is (subst (λ (b : Outside). HasEnded limit driven.steps driven.left driven.out b middle ending) begun_is driven.ended) in
@@ -83,8 +83,8 @@ finish o limit s ending begun middle before now displays' failed' moved status l
     all_closed (screens driven.steps) driven.left middle.displays displays' passed.out passed.parts h.displays (each_left _ _ _ _ h.sent) in
     let gone : failed' ≡ middle.failed ++ views_of l.gone = passed.handed ∙ ap (λ (fs : List View). middle.failed ++ fs) l.gone_views in
     let any : moved ≡ is_any (driven.out ++ l.gone) = moved_is ∙ any_moved before.outside.failed middle.failed failed' driven.out l.gone h.failed gone in
-    let state : s ≡ after start driven.steps = state_is s driven.steps ending leaves driven.state in
-    finished (ending_status moved ending) (count_note (count_of o s) ++ ending_note limit moved ending) (record {
+    let state : IsAfter s driven.steps = state_is s driven.steps ending leaves driven.state in
+    finished (ending_status moved ending) (count_note (count_of o s.work) ++ ending_note limit moved ending) (record {
       ending = ending;
       leaves = leaves;
       steps = driven.steps;
@@ -92,13 +92,14 @@ finish o limit s ending begun middle before now displays' failed' moved status l
       out = driven.out;
       middle = middle;
       ended = ended;
+      work = s.work;
+      worked = state.work;
       left_now = l.stay;
       out_now = l.gone;
       closed = l.passes;
       now_is = now_is ∙ ap (λ (ds : List View). record middle { displays = ds; failed = failed' }) l.stay_views ∙ ap (λ (fs : List View). record middle { displays = views_of l.stay; failed = fs }) gone;
       found_is = ap (λ (m : Bool). ending_status m ending) any;
-      text_is = ap (λ (u : Running). count_note (count_of o u) ++ ending_note limit moved ending) state ∙ ap (λ (n : ℕ). count_note (count_of o (after start driven.steps)) ++ ending_note n moved ending) limit_is
-          ∙ ap (λ (m : Bool). count_note (count_of o (after start driven.steps)) ++ ending_note (limit_of o) m ending) any;
+      text_is = ap (λ (n : ℕ). count_note (count_of o s.work) ++ ending_note n moved ending) limit_is ∙ ap (λ (m : Bool). count_note (count_of o s.work) ++ ending_note (limit_of o) m ending) any;
     }) told
 
 pub ran_out : (o : Options) (limit : ℕ) (s : Running) (begun : Outside) (before now : World) → limit ≡ limit_of o → begun ≡ asked o before.outside → HasDriven limit s begun now.outside NoMemory →

@@ -1,27 +1,22 @@
 -- A run that is going on.
-use Rattle.std.proofs.Common.{◌≡◌, ℕ, ◌<◌, ◌≤◌, ◌+◌, ◌-◌, ◌^◌, List, [], ◌∷◌, ◌++◌, length, Bool, cond, true, false, Option, None, Some, refl, sym, ap, ◌∙◌, subst, arith, inl, inr, length-append}
+use Rattle.std.proofs.Common.{◌≡◌, ℕ, ◌<◌, ◌≤◌, ◌+◌, ◌-◌, ◌^◌, List, [], ◌∷◌, ◌++◌, length, Bool, cond, true, false, Option, None, Some, refl, sym, ap, ◌∙◌, subst, arith, inl, inr, append_assoc, length-append}
 use Rattle.std.proofs.lemmas.List.{append-nil, map-append}
 use Rattle.outside_world.specs.Causes.{Rose}
 use Rattle.outside_world.specs.Clock.{TakesReading}
 use Rattle.serial_date.specs.declared.moment.Moment.{Moment}
 use Rattle.key_words.specs.declared.key.Key.{Key}
-use Rattle.grid_address.specs.Place.{Place}
-use Rattle.formula_eval.specs.declared.look.Scene.{Scene}
-use Rattle.formula_tree.specs.declared.value.Content.{Content}
-use Rattle.session_core.specs.Acts.{act_of}
-use Rattle.session_core.specs.Machine.{Running, State, start, acted, calculated, finished, moves, pointing_at, IsStep}
-use Rattle.session_core.specs.declared.act.Act.{Act}
-use Rattle.session_core.specs.declared.act.Act.TheVariants.{Typed, Finish, Calculate, Pass}
-use Rattle.session_core.specs.declared.mode.Mode.{Mode}
-use Rattle.session_core.specs.declared.mode.Mode.TheVariants.{Ready, Label, Value}
+use Rattle.session_core.specs.Machine.{start, started, Follows, Outcome, Running, State}
+use Rattle.work_sheet.proofs.OneWork.{worked_both}
+use Rattle.work_sheet.specs.Doing.{Happened}
+use Rattle.work_sheet.specs.Work.{no_work, HasWorked}
 use Rattle.session_core.specs.Screen.{screen}
 use Rattle.screen_show.specs.Display.{View}
 use Rattle.screen_show.specs.Grid.{empty_grid}
 use Rattle.sheet_run.specs.Displays.{Screen, Sent, Watched, last_screen, no_screen}
-use Rattle.sheet_run.specs.Driving.{ended_as, EndsAsTold, HasEnded, HasMadeStep, HasNotMadeStep, LeavesState}
+use Rattle.sheet_run.specs.Driving.{ended_as, EndsAsTold, HasEnded, HasMadeStep, HasNotMadeStep, IsAfter, LeavesState}
 use Rattle.sheet_run.specs.Notation.{SpellsInto}
 use Rattle.sheet_run.specs.Reader.{HasJustPressed, HasPressed, HasPressedAll, IsFull, Reads, RestsAsTold}
-use Rattle.sheet_run.specs.Run.{Step, after, screens, keys_of, AreSteps, moments_of, Outside, outside, HasRun, Ended, RanToBadByte, RanToKeyFault, RanToLimit, RanOutOfMemory}
+use Rattle.sheet_run.specs.Run.{Step, after, happened, outcome, screens, screens_from, keys_of, moments_of, Outside, outside, HasRun, Ended, RanToBadByte, RanToKeyFault, RanToLimit, RanOutOfMemory}
 use Rattle.sheet_run.specs.Taking.{TakesBytes, TakesReadings}
 use Rattle.sheet_run.specs.declared.reader.KeyFeed.{KeyFeed}
 use Rattle.sheet_run.specs.declared.drive.Ending.{Ending}
@@ -32,37 +27,26 @@ use Rattle.sheet_run.proofs.Shown.{each_left, last_more, sent_one, views_start}
 use Rattle.sheet_run.proofs.Taken.{takes_none, takes_both, reads_one_more}
 
 -- one more step
-after_more : (steps : List Step) (r : Running) (x : Step) → after r (steps ++ x ∷ []) ≡ x.next
-after_more [] r x = refl
-after_more (y ∷ ys) r x = after_more ys y.next x
+after_more : (steps : List Step) (s : State) (x : Step) → after s (steps ++ x ∷ []) ≡ (outcome (after s steps) x).state
+after_more [] s x = refl
+after_more (y ∷ ys) s x = after_more ys (outcome s y).state x
 
-are_steps_more : (steps : List Step) (r : Running) (x : Step) → AreSteps r steps → IsStep x.key x.moment (after r steps) x.next → AreSteps r (steps ++ x ∷ [])
-are_steps_more [] r x made is = (is, tt)
-are_steps_more (y ∷ ys) r x made is = (made.0, are_steps_more ys y.next x made.1 is)
+happened_more : (steps : List Step) (s : State) (x : Step) → happened s (steps ++ x ∷ []) ≡ happened s steps ++ (outcome (after s steps) x).log
+happened_more [] s x = append-nil (outcome s x).log
+happened_more (y ∷ ys) s x = ap (λ (l : List Happened). (outcome s y).log ++ l) (happened_more ys (outcome s y).state x) ∙ sym (append_assoc (outcome s y).log (happened (outcome s y).state ys) (outcome (after s (y ∷ ys)) x).log)
 
--- no step spends the session
-spent_finished : (scene : Scene) (entry : Option Content) (s : State) → (finished scene entry s).spent ≡ s.spent
-spent_finished scene None s = refl
-spent_finished scene (Some x) s = refl
+screens_more : (steps : List Step) (s : State) (x : Step) → screens_from s (steps ++ x ∷ []) ≡ screens_from s steps ++ screen (outcome (after s steps) x).state ∷ []
+screens_more [] s x = refl
+screens_more (y ∷ ys) s x = ap (λ (l : List Screen). screen (outcome s y).state ∷ l) (screens_more ys (outcome s y).state x)
 
-spent_calculated : (mode : Mode) (scene : Scene) (s : State) → (calculated mode scene s).spent ≡ s.spent
-spent_calculated Ready scene s = refl
-spent_calculated (Label line) scene s = refl
-spent_calculated (Value line) scene s = refl
-
-spent_moved : (b : Bool) (p : Place) (s : State) → (cond b (pointing_at p s) s).spent ≡ s.spent
-spent_moved true p s = refl
-spent_moved false p s = refl
-
-spent_acted : (act : Act) (scene : Scene) (entry : Option Content) (s : State) → (acted act scene entry s).spent ≡ s.spent
-spent_acted (Typed b) scene entry s = refl
-spent_acted Pass scene entry s = refl
-spent_acted (Finish way) scene entry s = spent_moved (moves s.mode entry) _ (finished scene entry s) ∙ spent_finished scene entry s
-spent_acted Calculate scene entry s = spent_calculated s.mode scene s
-
-spent_kept : (key : Key) (now : Moment) (a b : Running) → IsStep key now a b → b.state.spent ≡ a.state.spent
-spent_kept key now a b step =
-    ap (λ (r : Running). r.state.spent) step.shown ∙ ap (λ (s : State). s.spent) step.acted.state ∙ spent_acted (act_of key) _ step.acted.entry a.state
+one_more_after : (s t : Running) (steps : List Step) (x : Step) → IsAfter s steps → Follows (outcome s.state x) s t → IsAfter t (steps ++ x ∷ [])
+one_more_after s t steps x was made =
+    let now : Outcome = outcome (after start steps) x in
+    let follows : Follows now s t = subst (λ (u : State). Follows (outcome u x) s t) was.state made in
+    record {
+      state = follows.state ∙ sym (after_more steps start x);
+      work = subst (λ (l : List Happened). HasWorked l no_work t.work) (sym (happened_more steps start x)) (worked_both (happened start steps) now.log no_work s.work t.work was.work follows.work);
+    }
 
 -- these keys came from the bytes that were taken, and each made a step
 pub record Going (limit count : ℕ) (s : Running) (f : KeyFeed) (shown : Screen) (before now : Outside) : Type 0 where
@@ -73,14 +57,14 @@ pub record Going (limit count : ℕ) (s : Running) (f : KeyFeed) (shown : Screen
   pub out : List Watched
   pub did : HasRun limit taken (first ∷ moments_of steps) steps left out before now
   pub typed : HasPressed taken (keys_of steps) f
-  pub state : s ≡ after start steps
-  pub fresh : s.state.spent ≡ false
+  pub session : IsAfter s steps
+  pub fresh : s.spent ≡ false
   pub no_fault : now.key_faults ≡ before.key_faults
   pub made : length steps ≡ count
   pub shows : shown ≡ last_screen empty_grid (screens steps)
 
 pub going_starts : (limit : ℕ) (bytes : Option (List ℕ)) (faults : ℕ) (told now : Option (List Moment)) (shelf : ℕ) (displays failed : List View) (s : Running) (first : Moment) (f : KeyFeed) (shown : Screen) →
-    s ≡ start → TakesReading told now first → HasPressedAll [] [] f → shown ≡ empty_grid → Going limit 0 s f shown (outside bytes faults told shelf displays failed) (outside bytes faults now shelf displays failed)
+    s ≡ started → TakesReading told now first → HasPressedAll [] [] f → shown ≡ empty_grid → Going limit 0 s f shown (outside bytes faults told shelf displays failed) (outside bytes faults now shelf displays failed)
 going_starts limit bytes faults told now shelf displays failed s first f shown is took none empty = record {
   taken = [];
   first = first;
@@ -91,14 +75,13 @@ going_starts limit bytes faults told now shelf displays failed s first f shown i
     bytes = takes_none bytes bytes refl;
     readings = (now, took, refl);
     shelf = refl;
-    made = tt;
     sent = no_screen;
     displays = views_start displays;
     failed = sym (append-nil failed);
     within = omega arith;
   };
   typed = inl none;
-  state = is;
+  session = rw is (record { state = refl; work = refl });
   fresh = rw is refl;
   no_fault = refl;
   made = refl;
@@ -114,7 +97,6 @@ module _ (limit count : ℕ) (s : Running) (f : KeyFeed) (shown : Screen) (befor
     bytes = takes_both before.bytes bytes bytes' going.taken more going.did.bytes took;
     readings = going.did.readings;
     shelf = going.did.shelf;
-    made = going.did.made;
     sent = going.did.sent;
     displays = going.did.displays;
     failed = going.did.failed;
@@ -142,7 +124,7 @@ module _ (limit count : ℕ) (s : Running) (f : KeyFeed) (shown : Screen) (befor
         out = going.out;
         did = did_take (read.0 ∷ []) bytes' faults' read.1;
         typed = inl read.2;
-        state = going.state;
+        session = going.session;
         fresh = going.fresh;
         no_fault = same ∙ going.no_fault;
         made = going.made;
@@ -224,11 +206,11 @@ module _ (limit count : ℕ) (s : Running) (f : KeyFeed) (shown : Screen) (befor
     into : SpellsInto (going.taken ++ read.0) (keys_of going.steps ++ key ∷ [])
     into = record { words = just.words; spelled = just.spelled; key = g.key; left = g.left; into = just.into }
 
-    keys_more : (m : Moment) (t : Running) → keys_of (going.steps ++ record { key = key; moment = m; next = t } ∷ []) ≡ keys_of going.steps ++ key ∷ []
-    keys_more m t = map-append (λ (x : Step). x.key) going.steps (record { key = key; moment = m; next = t } ∷ [])
+    keys_more : (m : Moment) → keys_of (going.steps ++ record { key = key; moment = m } ∷ []) ≡ keys_of going.steps ++ key ∷ []
+    keys_more m = map-append (λ (x : Step). x.key) going.steps (record { key = key; moment = m } ∷ [])
 
-    moments_more : (m : Moment) (t : Running) → moments_of (going.steps ++ record { key = key; moment = m; next = t } ∷ []) ≡ moments_of going.steps ++ m ∷ []
-    moments_more m t = map-append (λ (x : Step). x.moment) going.steps (record { key = key; moment = m; next = t } ∷ [])
+    moments_more : (m : Moment) → moments_of (going.steps ++ record { key = key; moment = m } ∷ []) ≡ moments_of going.steps ++ m ∷ []
+    moments_more m = map-append (λ (x : Step). x.moment) going.steps (record { key = key; moment = m } ∷ [])
 
     readings_more : (m : Moment) (told' : Option (List Moment)) → TakesReading told told' m → TakesReadings before.readings (going.first ∷ moments_of going.steps ++ m ∷ []) told'
     readings_more m told' took = reads_one_more (going.first ∷ moments_of going.steps) before.readings told told' m going.did.readings took
@@ -255,7 +237,6 @@ module _ (limit count : ℕ) (s : Running) (f : KeyFeed) (shown : Screen) (befor
         bytes = takes_both before.bytes bytes bytes' going.taken read.0 going.did.bytes read.1;
         readings = readings_more not_made.moment told' not_made.took;
         shelf = still ∙ going.did.shelf;
-        made = going.did.made;
         sent = going.did.sent;
         displays = not_made.displays_stay ∙ going.did.displays;
         failed = not_made.failed_stay ∙ going.did.failed;
@@ -269,8 +250,9 @@ module _ (limit count : ℕ) (s : Running) (f : KeyFeed) (shown : Screen) (befor
     pub step_made : (told' : Option (List Moment)) (shelf' : ℕ) (t : Running) (shown' : Screen) (displays' failed' : List View) → shelf' ≡ shelf → count < limit → HasMadeStep key s t told told' shown shown' displays displays' failed failed' →
         Going limit (count + 1) t g shown' before (outside bytes' faults' told' shelf' displays' failed')
     step_made told' shelf' t shown' displays' failed' still below made =
-        let x : Step = record { key = key; moment = made.moment; next = t } in
-        let more : screens (going.steps ++ x ∷ []) ≡ screens going.steps ++ screen t.state ∷ [] = map-append (λ (y : Step). screen y.next.state) going.steps (x ∷ []) in
+        let x : Step = record { key = key; moment = made.moment } in
+        let now : t.state ≡ (outcome (after start going.steps) x).state = made.stepped.state ∙ ap (λ (u : State). (outcome u x).state) going.session.state in
+        let more : screens (going.steps ++ x ∷ []) ≡ screens going.steps ++ screen t.state ∷ [] = screens_more going.steps start x ∙ ap (λ (u : State). screens going.steps ++ screen u ∷ []) (sym now) in
         let sent = sent_one before.displays (screens going.steps) shown (screen t.state) going.left going.out displays displays' before.failed failed failed' made.printed going.shows going.did.sent
         (each_left before.displays (screens going.steps) going.left going.out going.did.sent) going.did.displays going.did.failed made.passed in
         record {
@@ -281,22 +263,21 @@ module _ (limit count : ℕ) (s : Running) (f : KeyFeed) (shown : Screen) (befor
           out = sent.out;
           did = record {
             bytes = takes_both before.bytes bytes bytes' going.taken read.0 going.did.bytes read.1;
-            readings = subst (λ (ms : List Moment). TakesReadings before.readings (going.first ∷ ms) told') (sym (moments_more made.moment t)) (readings_more made.moment told' made.took);
+            readings = subst (λ (ms : List Moment). TakesReadings before.readings (going.first ∷ ms) told') (sym (moments_more made.moment)) (readings_more made.moment told' made.took);
             shelf = still ∙ going.did.shelf;
-            made = are_steps_more going.steps start x going.did.made (subst (λ (u : Running). IsStep key made.moment u t) going.state made.stepped);
             sent = subst (λ (ss : List Screen). Sent before.displays ss sent.left sent.out) (sym more) sent.sent;
             displays = sent.displays_are;
             failed = sent.failed_are;
             within = omega (arith, length-append going.steps (x ∷ []), going.made);
           };
-          typed = inr (subst (λ (ks : List Key). HasJustPressed (going.taken ++ read.0) ks g) (sym (keys_more made.moment t)) just);
-          state = sym (after_more going.steps start x);
-          fresh = spent_kept key made.moment s t made.stepped ∙ going.fresh;
+          typed = inr (subst (λ (ks : List Key). HasJustPressed (going.taken ++ read.0) ks g) (sym (keys_more made.moment)) just);
+          session = one_more_after s t going.steps x going.session made.stepped;
+          fresh = made.stepped.spent ∙ going.fresh;
           no_fault = same ∙ going.no_fault;
           made = omega (arith, length-append going.steps (x ∷ []), going.made);
           shows = made.shows ∙ sym (last_more empty_grid (screens going.steps) (screen t.state)) ∙ ap (last_screen empty_grid) (sym more);
         }
 
-pub leaves : (s : Running) (steps : List Step) (f : KeyFeed) (ending : Ending) → EndsAsTold f ending → s ≡ after start steps → LeavesState s steps ending
+pub leaves : (s : Running) (steps : List Step) (f : KeyFeed) (ending : Ending) → EndsAsTold f ending → IsAfter s steps → LeavesState s steps ending
 leaves s steps f ending (true, rest, is) same = rw is same
 leaves s steps f ending (false, rest, is) same = rw is same

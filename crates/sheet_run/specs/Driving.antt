@@ -3,13 +3,14 @@ use Rattle.std.specs.Prelude.{◌≡◌, ℕ, Bool, true, false, List, Option, �
 use Rattle.outside_world.specs.Clock.{TakesReading}
 use Rattle.serial_date.specs.declared.moment.Moment.{Moment}
 use Rattle.key_words.specs.declared.key.Key.{Key}
-use Rattle.session_core.specs.Machine.{start, IsStep, Running}
+use Rattle.session_core.specs.Machine.{start, step, Follows, Running}
+use Rattle.session_core.specs.declared.key.Event.TheVariants.{Key as KeyEvent}
 use Rattle.session_core.specs.Screen.{screen}
 use Rattle.screen_show.specs.Display.{View}
 use Rattle.screen_show.specs.Grid.{IsPrinted}
 use Rattle.sheet_run.specs.Displays.{Screen, Watched}
 use Rattle.sheet_run.specs.Passing.{HasSentOne, Passed}
-use Rattle.sheet_run.specs.Run.{Outside, Step, after, RanToEnd, RanIntoWord, RanToBadByte, RanToKeyFault, RanToLimit, RanOutOfMemory}
+use Rattle.sheet_run.specs.Run.{Outside, Step, after, IsWorkOf, RanToEnd, RanIntoWord, RanToBadByte, RanToKeyFault, RanToLimit, RanOutOfMemory}
 use Rattle.sheet_run.specs.Reader.{RestsAsTold}
 use Rattle.sheet_run.specs.declared.reader.KeyFeed.{KeyFeed}
 use Rattle.sheet_run.specs.declared.drive.StepEnd.{StepEnd}
@@ -21,7 +22,7 @@ use Rattle.sheet_run.specs.declared.drive.Ending.TheVariants.{KeysEnded, BadWord
 pub record HasMadeStep (key : Key) (s t : Running) (readings readings' : Option (List Moment)) (shown shown' : Screen) (displays displays' failed failed' : List View) : Type 0 where
   pub moment : Moment
   pub took : TakesReading readings readings' moment
-  pub stepped : IsStep key moment s t
+  pub stepped : Follows (step (KeyEvent key) moment s.state) s t
   pub passed : Passed (HasSentOne shown (screen t.state)) displays displays' failed failed'
   pub shows : shown' ≡ screen t.state
   pub printed : IsPrinted (screen t.state)
@@ -53,12 +54,17 @@ HasEnded limit steps left out before now KeysFailed = RanToKeyFault limit steps 
 HasEnded limit steps left out before now Stopped = RanToLimit limit steps left out before now
 HasEnded limit steps left out before now NoMemory = RanOutOfMemory limit steps left out before now
 
--- the state after an ending that leaves one
+-- the session has the state and the work that the steps leave
+pub record IsAfter (s : Running) (steps : List Step) : Type 0 where
+  pub state : s.state ≡ after start steps
+  pub work : IsWorkOf steps s.work
+
+-- the session after an ending that leaves it
 abbrev pub LeavesState : Running → List Step → Ending → Type 0
-LeavesState s steps KeysEnded = s ≡ after start steps
-LeavesState s steps (BadWord at) = s ≡ after start steps
-LeavesState s steps KeysFailed = s ≡ after start steps
-LeavesState s steps Stopped = s ≡ after start steps
+LeavesState s steps KeysEnded = IsAfter s steps
+LeavesState s steps (BadWord at) = IsAfter s steps
+LeavesState s steps KeysFailed = IsAfter s steps
+LeavesState s steps Stopped = IsAfter s steps
 LeavesState s steps NoMemory = Unit {0}
 
 -- the steps of a run were made up to an ending

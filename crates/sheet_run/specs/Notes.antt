@@ -3,7 +3,7 @@ use Rattle.std.specs.Prelude.{◌≡◌, ℕ, ◌≤◌, ◌⊎◌, Bool, Result
 use Rattle.grid_address.specs.Address.{decimal}
 use Rattle.outside_world.specs.Causes.{Rose}
 use Rattle.outside_world.specs.declared.faults.Failed.{Failed}
-use Rattle.session_core.specs.Machine.{Running}
+use Rattle.work_sheet.specs.Work.{Work}
 use Rattle.sheet_run.specs.declared.drive.Ending.{Ending}
 use Rattle.sheet_run.specs.declared.drive.Ending.TheVariants.{KeysEnded, BadWord, KeysFailed, Stopped, NoMemory}
 use Rattle.sheet_run.specs.declared.options.Options.{Options}
@@ -19,8 +19,8 @@ abbrev pub memory_note : List ℕ
 memory_note = note (codes "memory full")
 
 -- how many formulas were evaluated, where the words ask for it
-abbrev pub count_of : Options → Running → Option ℕ
-count_of o r = if o.count then Some r.work.count else None
+abbrev pub count_of : Options → Work → Option ℕ
+count_of o w = if o.count then Some w.count else None
 
 abbrev pub count_note : Option ℕ → List ℕ
 count_note None = []

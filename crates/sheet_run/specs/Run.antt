@@ -4,32 +4,42 @@ use Rattle.outside_world.specs.Causes.{Rose}
 use Rattle.serial_date.specs.declared.moment.Moment.{Moment}
 use Rattle.key_words.specs.Notation.{Begins, IsNoText}
 use Rattle.key_words.specs.declared.key.Key.{Key}
-use Rattle.session_core.specs.Machine.{start, IsSame, IsStep, Running}
+use Rattle.session_core.specs.Machine.{start, step, Outcome, State}
+use Rattle.session_core.specs.declared.key.Event.TheVariants.{Key as KeyEvent}
 use Rattle.session_core.specs.Screen.{screen}
+use Rattle.work_sheet.specs.Doing.{Happened}
+use Rattle.work_sheet.specs.Work.{no_work, HasWorked, Work}
 use Rattle.screen_show.specs.Display.{View}
 use Rattle.sheet_run.specs.Displays.{Screen, Sent, Watched, views_of}
 use Rattle.sheet_run.specs.Notation.{HasKeys, Spells, SpellsInto}
 use Rattle.sheet_run.specs.Taking.{TakesBytes, TakesReadings, AtEnd}
 
--- a step takes a key and a reading of the clock, and leaves the machine in a state
+-- a step takes a key and a reading of the clock
 pub record Step : Type 0 where
   pub key : Key
   pub moment : Moment
-  pub next : Running
 
--- each of the steps is one of the machine's, from the state before it
-abbrev pub AreSteps : Running → List Step → Type 0
-AreSteps r [] = Unit {0}
-AreSteps r (x ∷ xs) = IsStep x.key x.moment r x.next × AreSteps x.next xs
+-- what a step comes to
+abbrev pub outcome : State → Step → Outcome
+outcome s x = step (KeyEvent x.key) x.moment s
 
 -- the state after these steps
-abbrev pub after : Running → List Step → Running
-after r [] = r
-after r (x ∷ xs) = after x.next xs
+abbrev pub after : State → List Step → State
+after s [] = s
+after s (x ∷ xs) = after (outcome s x).state xs
+
+-- what happened in the sheet
+abbrev pub happened : State → List Step → List Happened
+happened s [] = []
+happened s (x ∷ xs) = (outcome s x).log ++ happened (outcome s x).state xs
 
 -- the screens of these steps
+abbrev pub screens_from : State → List Step → List Screen
+screens_from s [] = []
+screens_from s (x ∷ xs) = screen (outcome s x).state ∷ screens_from (outcome s x).state xs
+
 abbrev pub screens : List Step → List Screen
-screens steps = map (λ x. screen x.next.state) steps
+screens steps = screens_from start steps
 
 abbrev pub keys_of : List Step → List Key
 keys_of steps = map (λ x. x.key) steps
@@ -37,10 +47,9 @@ keys_of steps = map (λ x. x.key) steps
 abbrev pub moments_of : List Step → List Moment
 moments_of steps = map (λ x. x.moment) steps
 
--- steps with the same keys and readings show the same screens, and leave the same state and count
-pub record GoOneWay (a b : Running) (xs ys : List Step) : Type 0 where
-  pub screens : screens xs ≡ screens ys
-  pub after : IsSame (after a xs) (after b ys)
+-- the work that these steps leave
+abbrev pub IsWorkOf : List Step → Work → Type 0
+IsWorkOf steps w = HasWorked (happened start steps) no_work w
 
 -- the outside as it is told, and the counts of its faults
 pub record Outside : Type 0 where
@@ -55,12 +64,11 @@ abbrev pub outside : Option (List ℕ) → ℕ → Option (List Moment) → ℕ 
 outside bytes key_faults readings shelf_faults displays failed =
     record { bytes = bytes; key_faults = key_faults; readings = readings; shelf_faults = shelf_faults; displays = displays; failed = failed }
 
--- These bytes and readings were taken, the steps are the machine's from its start on, and their screens were sent; they are at most as many as the limit. The displays that never failed are left; those that failed stand at the end of the failed ones.
+-- These bytes and readings were taken, and the screens of the machine's steps from its start on were sent; they are at most as many as the limit. The displays that never failed are left; those that failed stand at the end of the failed ones.
 pub record HasRun (limit : ℕ) (taken : List ℕ) (moments : List Moment) (steps : List Step) (left out : List Watched) (before now : Outside) : Type 0 where
   pub bytes : TakesBytes before.bytes taken now.bytes
   pub readings : TakesReadings before.readings moments now.readings
   pub shelf : now.shelf_faults ≡ before.shelf_faults
-  pub made : AreSteps start steps
   pub sent : Sent before.displays (screens steps) left out
   pub displays : now.displays ≡ views_of left
   pub failed : now.failed ≡ before.failed ++ views_of out

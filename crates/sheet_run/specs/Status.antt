@@ -1,12 +1,12 @@
 -- What a run did, by its status.
 use Rattle.std.specs.Prelude.{◌≡◌, ℕ, Bool, true, false, List, [], ◌∷◌, ◌++◌, Option, Ok, Err}
 use Rattle.std.specs.List.{filter}
-use Rattle.session_core.specs.Machine.{start}
+use Rattle.work_sheet.specs.Work.{Work}
 use Rattle.sheet_run.specs.Displays.{HasClosed, HasFailed, Passes, Watched, same_kind, views_of}
 use Rattle.sheet_run.specs.Driving.{HasEnded}
 use Rattle.sheet_run.specs.Notes.{LeavesSession, Tells, Tried, count_note, count_of, ending_note, ending_status, memory_note, refused_note}
 use Rattle.sheet_run.specs.Options.{limit_of, shown_kind, words_read}
-use Rattle.sheet_run.specs.Run.{Outside, RanOutOfMemory, Step, after, screens}
+use Rattle.sheet_run.specs.Run.{IsWorkOf, Outside, RanOutOfMemory, Step, screens}
 use Rattle.sheet_run.specs.declared.drive.Ending.{Ending}
 use Rattle.sheet_run.specs.declared.options.Options.{Options}
 
@@ -40,12 +40,14 @@ pub record HasFinished (options : Options) (before now : Outside) (found : ℕ) 
   pub out : List Watched
   pub middle : Outside
   pub ended : HasEnded (limit_of options) steps left out (asked options before) middle ending
+  pub work : Work
+  pub worked : IsWorkOf steps work
   pub left_now : List Watched
   pub out_now : List Watched
   pub closed : Passes (HasClosed (screens steps)) (HasFailed (screens steps)) left left_now out_now
   pub now_is : now ≡ closed_outside middle left_now out_now
   pub found_is : found ≡ ending_status (is_any (out ++ out_now)) ending
-  pub text_is : text ≡ count_note (count_of options (after start steps)) ++ ending_note (limit_of options) (is_any (out ++ out_now)) ending
+  pub text_is : text ≡ count_note (count_of options work) ++ ending_note (limit_of options) (is_any (out ++ out_now)) ending
 
 -- what a run with these options did, by its status
 pub data RunsWith (options : Options) (before now : World) : ℕ → Type 0 where

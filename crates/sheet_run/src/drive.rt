@@ -1,7 +1,7 @@
 // Drives a session by keys.
 ghost use Rattle.std.specs.Prelude.{◌≡◌, ◌≤◌, ◌+◌, false, map, vec_len, vec_capacity};
 ghost use Rattle.screen_show.specs.Grid.{empty_grid};
-ghost use Rattle.session_core.specs.Machine.{start};
+ghost use Rattle.session_core.specs.Machine.{started};
 ghost use Rattle.sheet_run.specs.Driving.{EndsAsTold, HasStepped, HasDriven};
 ghost use Rattle.sheet_run.specs.Run.{outside};
 
@@ -42,7 +42,7 @@ fn make_step<S: Shelf, C: Clock>(
     session: &mut Session,
     shown: &mut Grid,
 ) -> StepEnd
-    requires fresh { session.old.state.spent ≡ false }
+    requires fresh { session.old.spent ≡ false }
     requires room { vec_len failed.old + vec_len displays.old ≤ vec_capacity failed.old }
     ensures stepped { HasStepped key session.old session.new (C.readings clock.old) (C.readings clock.new) shown.old shown.new (map seen displays.old.items) (map seen displays.new.items) (map seen failed.old.items) (map seen failed.new.items) result }
     ensures shelf { S.faults shelf.new ≡ S.faults shelf.old }
@@ -86,7 +86,7 @@ pub fn drive<K: Keys, S: Shelf, C: Clock>(
     failed: &mut Vec<Box<dyn Display>>,
     session: &mut Session,
 ) -> Ending
-    requires fresh { session.old ≡ start }
+    requires fresh { session.old ≡ started }
     requires room { vec_len failed.old + vec_len displays.old ≤ vec_capacity failed.old }
     ensures driven { HasDriven limit session.new
         (outside (K.left keys.old) (K.faults keys.old) (C.readings clock.old) (S.faults shelf.old) (map seen displays.old.items) (map seen failed.old.items))

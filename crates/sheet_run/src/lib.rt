@@ -10,5 +10,5 @@ mod reader;
 mod runs;
 mod words;
 
-pub use runs::{a_run_goes_one_way, run};
+pub use runs::{a_run_ends_well, run};
 pub use words::Words;

@@ -1,11 +1,10 @@
 // The top call.
-ghost use Rattle.std.specs.Prelude.{◌≡◌, map, List};
-ghost use Rattle.session_core.specs.Machine.{IsSame, Running};
+ghost use Rattle.std.specs.Prelude.{◌≡◌, ℕ, map, List};
 ghost use Rattle.sheet_run.specs.Completeness.{HasEndedWell, MustEndWell};
 ghost use Rattle.sheet_run.specs.Notes.{count_of};
 ghost use Rattle.sheet_run.specs.OptionAnswers.{refused_text, IsPart};
-ghost use Rattle.sheet_run.specs.Run.{keys_of, moments_of, outside, AreSteps, GoOneWay, Step};
-ghost use Rattle.sheet_run.specs.Status.{world, IsRun, RunsWith};
+ghost use Rattle.sheet_run.specs.Run.{outside};
+ghost use Rattle.sheet_run.specs.Status.{world, IsRun, RunsWith, World};
 
 use crate::Words;
 use crate::displays::{Work, keep_kind, work_on_all};
@@ -69,10 +68,6 @@ pub fn run<K: Keys, S: Shelf, C: Clock, N: Notes>(
         (world (outside (K.left keys.old) (K.faults keys.old) (C.readings clock.old) (S.faults shelf.old) (map seen displays.old.items) (map seen failed.old.items)) (N.written notes.old) (N.faults notes.old))
         (world (outside (K.left keys.new) (K.faults keys.new) (C.readings clock.new) (S.faults shelf.new) (map seen displays.new.items) (map seen failed.new.items)) (N.written notes.new) (N.faults notes.new))
         result }
-    ensures complete { MustEndWell words.now
-        (world (outside (K.left keys.old) (K.faults keys.old) (C.readings clock.old) (S.faults shelf.old) (map seen displays.old.items) (map seen failed.old.items)) (N.written notes.old) (N.faults notes.old))
-        (world (outside (K.left keys.new) (K.faults keys.new) (C.readings clock.new) (S.faults shelf.new) (map seen displays.new.items) (map seen failed.new.items)) (N.written notes.new) (N.faults notes.new))
-        → HasEndedWell (world (outside (K.left keys.new) (K.faults keys.new) (C.readings clock.new) (S.faults shelf.new) (map seen displays.new.items) (map seen failed.new.items)) (N.written notes.new) (N.faults notes.new)) result }
 {
     match read_words(words) {
         Ok(options) => run_with(alloc, options, keys, shelf, clock, displays, failed, notes),
@@ -116,7 +111,7 @@ fn run_with<K: Keys, S: Shelf, C: Clock, N: Notes>(
 
 // How many formulas were evaluated, where the words ask for it.
 fn count_of(options: &Options, session: &Session) -> Option<u64>
-    ensures { result ≡ count_of options.now session.now }
+    ensures { result ≡ count_of options.now session.now.work }
 {
     if options.count {
         Some(session.evaluations())
@@ -125,7 +120,8 @@ fn count_of(options: &Options, session: &Session) -> Option<u64>
     }
 }
 
-/// Keys and readings of the clock give one list of screens, and one count of evaluations.
-pub fn a_run_goes_one_way()
-    ensures { (xs ys : List Step) (a b : Running) → IsSame a b → AreSteps a xs → AreSteps b ys → keys_of xs ≡ keys_of ys → moments_of xs ≡ moments_of ys → GoOneWay a b xs ys }
+/// A run ends well where the words are in the grammar, the bytes spell at most as many keys as the limit allows, and
+/// nothing failed, unless memory ran out.
+pub fn a_run_ends_well()
+    ensures { (words : List (List ℕ)) (before now : World) (status : ℕ) → IsRun words before now status → MustEndWell words before now → HasEndedWell now status }
 {}

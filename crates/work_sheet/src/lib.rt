@@ -3,5 +3,7 @@
 
 mod sheet;
 mod typed;
+mod work;
 
 pub use sheet::{Sheet, SheetOf};
+pub use work::what_happened_tells_the_work;

@@ -3,7 +3,8 @@ use Rattle.std.specs.Prelude.{nat_le, unwrap_or}
 use Rattle.std.proofs.lemmas.Bool.Decides.{nat_tests}
 use Rattle.std.proofs.lemmas.List.{length-take}
 use Rattle.screen_layout.specs.Columns.{column_text, columns_line}
-use Rattle.screen_layout.specs.Sheets.{of_worksheet, width_in, Sheet}
+use Rattle.work_sheet.specs.Seen.{of_worksheet, Sheet}
+use Rattle.screen_layout.specs.Sheets.{width_in}
 use Rattle.screen_layout.specs.Lines.{padded, shown_line}
 use Rattle.screen_layout.proofs.Cuts.{shown_cut}
 use Rattle.screen_layout.proofs.Passing.{all_painted, no_room, one_painted, passed_over, Painting}

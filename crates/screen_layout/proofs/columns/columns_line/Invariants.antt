@@ -1,5 +1,5 @@
 use Rattle.screen_layout.specs.Columns.{columns_line}
-use Rattle.screen_layout.specs.Sheets.{of_worksheet}
+use Rattle.work_sheet.specs.Seen.{of_worksheet}
 use Rattle.screen_layout.proofs.Passing.{Painting}
 use Rattle.screen_layout.proofs.columns.columns_line.Given as goal
 

@@ -1,7 +1,7 @@
 use Rattle.std.proofs.Common.{◌≡◌, ◌++◌, ◌-◌, length, replicate, take, ap, ◌∙◌, List, ℕ}
 use Rattle.grid_address.specs.Place.{Place}
 use Rattle.screen_layout.specs.Control.{front_text}
-use Rattle.screen_layout.specs.Sheets.{of_worksheet}
+use Rattle.work_sheet.specs.Seen.{of_worksheet}
 use Rattle.work_sheet.specs.Typed.{typed}
 use Rattle.screen_layout.proofs.Cuts.{added_two}
 use Rattle.screen_layout.proofs.control.pointer_part.Goals as goal

@@ -1,6 +1,6 @@
 use Rattle.std.proofs.Common.{◌≡◌, ℕ, suc, ◌+◌, ◌-◌, ap, sym, ◌∙◌, arith}
 use Rattle.screen_layout.specs.Corner.{nearest, wide}
-use Rattle.screen_layout.specs.Sheets.{of_worksheet, Sheet}
+use Rattle.work_sheet.specs.Seen.{of_worksheet, Sheet}
 use Rattle.screen_layout.proofs.Nearing.{nearest_here, nearest_last, nearest_later, wide_first}
 use Rattle.screen_layout.proofs.corner.nearest.Goals as goal
 

@@ -1,6 +1,6 @@
 use Rattle.std.proofs.Common.{◌≡◌, ℕ, ◌+◌, ◌-◌, ap, sym, ◌∙◌, arith}
 use Rattle.screen_layout.specs.Corner.{wide}
-use Rattle.screen_layout.specs.Sheets.{of_worksheet, Sheet}
+use Rattle.work_sheet.specs.Seen.{of_worksheet, Sheet}
 use Rattle.screen_layout.proofs.Nearing.{wide_more, wide_none}
 use Rattle.screen_layout.proofs.corner.wide.Goals as goal
 

@@ -1,6 +1,6 @@
 use Rattle.std.proofs.Common.{◌≡◌, ◌≤◌, ◌-◌, ◌*◌}
 use Rattle.screen_layout.specs.Corner.{wide}
-use Rattle.screen_layout.specs.Sheets.{of_worksheet}
+use Rattle.work_sheet.specs.Seen.{of_worksheet}
 use Rattle.screen_layout.proofs.corner.wide.Given as goal
 
 abbrev pub invariant-loop-col : goal.invariant-loop-col

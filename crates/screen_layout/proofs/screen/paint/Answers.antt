@@ -1,7 +1,7 @@
 use Rattle.std.proofs.Common.{arith, subst}
 use Rattle.screen_show.specs.Grid.{IsGrid}
 use Rattle.screen_layout.specs.Screen.{screen_line}
-use Rattle.screen_layout.specs.Sheets.{of_worksheet}
+use Rattle.work_sheet.specs.Seen.{of_worksheet}
 use Rattle.screen_layout.proofs.Painted.{painted_more, painted_all, printed}
 use Rattle.screen_layout.proofs.screen.paint.Goals as goal
 

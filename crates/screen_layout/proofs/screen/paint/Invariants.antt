@@ -1,5 +1,5 @@
 use Rattle.screen_layout.specs.Screen.{screen_line}
-use Rattle.screen_layout.specs.Sheets.{of_worksheet}
+use Rattle.work_sheet.specs.Seen.{of_worksheet}
 use Rattle.screen_layout.proofs.Painted.{Painted}
 use Rattle.screen_layout.proofs.screen.paint.Given as goal
 

@@ -29,7 +29,7 @@ returns-in-End-clause-driven g c = record {
   left = c.loop-shown.invariant.going.left;
   out = c.loop-shown.invariant.going.out;
   ended = ran_to_end _ _ _ _ _ _ _ _ _ _ _ _ c.loop-shown.invariant.going _ _ _ c.ended.result c.in-End.ensures.read (c.in-End.ensures.fine (λ e. cc)) c.ended.ensures;
-  state = leaves c.loop-shown.session c.loop-shown.invariant.going.steps _ c.ended.result c.ended.ensures c.loop-shown.invariant.going.state;
+  state = leaves c.loop-shown.session c.loop-shown.invariant.going.steps _ c.ended.result c.ended.ensures c.loop-shown.invariant.going.session;
 }
 
 pub returns-in-Bad-clause-driven : goal.returns-in-Bad-clause-driven
@@ -38,7 +38,7 @@ returns-in-Bad-clause-driven g c = record {
   left = c.loop-shown.invariant.going.left;
   out = c.loop-shown.invariant.going.out;
   ended = inr (ran_to_bad _ _ _ _ _ _ _ _ _ _ _ _ c.loop-shown.invariant.going _ _ c.read.new.self c.in-Bad.at c.in-Bad.ensures.read (c.in-Bad.ensures.fine (λ e. cc)));
-  state = c.loop-shown.invariant.going.state;
+  state = c.loop-shown.invariant.going.session;
 }
 
 pub returns-in-Failed-clause-driven : goal.returns-in-Failed-clause-driven
@@ -47,7 +47,7 @@ returns-in-Failed-clause-driven g c = record {
   left = c.loop-shown.invariant.going.left;
   out = c.loop-shown.invariant.going.out;
   ended = ran_to_fault _ _ _ _ _ _ _ _ _ _ _ _ c.loop-shown.invariant.going _ _ c.read.new.self c.in-Failed.ensures.read (c.in-Failed.ensures.fault refl);
-  state = c.loop-shown.invariant.going.state;
+  state = c.loop-shown.invariant.going.session;
 }
 
 pub returns-then-steps-limit-clause-driven : goal.returns-then-steps-limit-clause-driven
@@ -56,7 +56,7 @@ returns-then-steps-limit-clause-driven g c = record {
   left = c.loop-shown.invariant.going.left;
   out = c.loop-shown.invariant.going.out;
   ended = ran_to_limit _ _ _ _ _ _ _ _ _ _ _ _ c.loop-shown.invariant.going _ _ _ c.in-Key.key c.in-Key.ensures.read (c.in-Key.ensures.fine (λ e. cc)) (omega arith);
-  state = c.loop-shown.invariant.going.state;
+  state = c.loop-shown.invariant.going.session;
 }
 
 pub returns-in-NoMemory-clause-driven : goal.returns-in-NoMemory-clause-driven
@@ -74,5 +74,5 @@ returns-clause-driven g c = record {
   left = c.loop-shown.invariant.going.left;
   out = c.loop-shown.invariant.going.out;
   ended = ran_all _ _ _ _ _ _ _ _ _ _ _ _ c.loop-shown.invariant.going c.ended-2.result (c.is_full.ensures.full (c.loop-shown-test.false)) c.ended-2.ensures;
-  state = leaves c.loop-shown.session c.loop-shown.invariant.going.steps _ c.ended-2.result c.ended-2.ensures c.loop-shown.invariant.going.state;
+  state = leaves c.loop-shown.session c.loop-shown.invariant.going.steps _ c.ended-2.result c.ended-2.ensures c.loop-shown.invariant.going.session;
 }

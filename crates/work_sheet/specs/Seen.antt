@@ -1,0 +1,27 @@
+-- What is seen of a sheet.
+use Rattle.std.specs.Prelude.{Bool, refl}
+use Rattle.std.specs.Coded.{Coded, code_by, coded×, coded_bool}
+use Rattle.range_names.specs.Names.{coded_names, NameMap}
+use Rattle.sheet_store.specs.Choices.{Choices}
+use Rattle.sheet_store.specs.Grid.{coded_grid, Grid}
+use Rattle.sheet_store.specs.contracts.settings.Settings as settings
+use Rattle.work_sheet.specs.Sheets.{Worksheet}
+
+-- one map of cells, with the columns, whether the last recalculation told a circle, whether a change was made since
+-- then, the names and the settings
+pub record Sheet : Type 0 where
+  pub grid : Grid
+  pub circular : Bool
+  pub stale : Bool
+  pub names : NameMap
+  pub settings : Choices
+
+abbrev pub coded_sheet : Coded Sheet
+coded_sheet = code_by (Grid × (Bool × (Bool × (NameMap × Choices))))
+    (coded× coded_grid (coded× coded_bool (coded× coded_bool (coded× coded_names (settings.the_row).coded))))
+    (λ s. (s.grid, (s.circular, (s.stale, (s.names, s.settings)))))
+    (λ p. record { grid = p.0; circular = p.1.0; stale = p.1.1.0; names = p.1.1.1.0; settings = p.1.1.1.1 }) (λ _. refl)
+
+-- a worksheet without its dirty formulas
+abbrev pub of_worksheet : Worksheet → Sheet
+of_worksheet w = record { grid = w.grid; circular = w.circular; stale = w.stale; names = w.names; settings = w.settings }

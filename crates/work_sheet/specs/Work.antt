@@ -1,0 +1,54 @@
+-- The work of recalculation: which formulas are dirty, and how many evaluations there were. It has no part in what the
+-- sheet becomes, and what happened tells it.
+use Rattle.std.specs.Prelude.{◌≡◌, ℕ, ◌+◌, ◌-◌, ◌*◌, Bool, List, [], ◌∷◌, length, refl}
+use Rattle.std.specs.Coded.{Coded, code_by, coded×, coded_list, coded_ℕ}
+use Rattle.std.specs.List.{IsDistinct}
+use Rattle.grid_address.specs.Place.{coded_place, same_place, Place}
+use Rattle.natural_order.specs.Walk.{has}
+use Rattle.natural_recalc.specs.Passes.{raised_by, IsDirtyAfter}
+use Rattle.sheet_edits.specs.Edits.{AreDirtied}
+use Rattle.sheet_store.specs.Grid.{Grid}
+use Rattle.sheet_store.specs.declared.order.Order.{Order}
+use Rattle.work_sheet.specs.Doing.{evaluated_once, passed, wrote, Happened}
+
+-- the dirty formulas, each once, and how many evaluations there were
+pub record Work : Type 0 where
+  pub dirty : List Place
+  pub count : ℕ
+
+abbrev pub coded_work : Coded Work
+coded_work = code_by (List Place × ℕ) (coded× (coded_list coded_place) coded_ℕ) (λ w. (w.dirty, w.count)) (λ p. record { dirty = p.0; count = p.1 }) (λ _. refl)
+
+-- none
+abbrev pub no_work : Work
+no_work = record { dirty = []; count = 0 }
+
+-- Written cells make dirty the formulas that they hold and each that reaches one of them; a cell that holds no formula is
+-- dirty no more.
+pub record HasMarked (cells : Place → Bool) (g : Grid) (w v : Work) : Type 0 where
+  pub dirty : AreDirtied g (has same_place w.dirty) cells (has same_place v.dirty)
+  pub distinct : IsDistinct same_place v.dirty
+  pub count : v.count ≡ w.count
+
+-- A recalculation evaluates the dirty formulas, and in each further pass those that stay dirty.
+pub record HasPassed (order : Order) (passes : ℕ) (g : Grid) (w v : Work) : Type 0 where
+  pub dirty : IsDirtyAfter order g (has same_place w.dirty) (has same_place v.dirty)
+  pub distinct : IsDistinct same_place v.dirty
+  pub count : v.count ≡ raised_by (length w.dirty + (passes - 1) * length v.dirty) w.count
+
+-- the work of one thing that happened
+abbrev pub Works : Happened → Work → Work → Type 0
+Works (wrote cells g) w v = HasMarked cells g w v
+Works evaluated_once w v = v ≡ record w { count = raised_by 1 w.count }
+Works (passed order passes g) w v = HasPassed order passes g w v
+
+-- the work of what happened, one after another
+abbrev pub HasWorked : List Happened → Work → Work → Type 0
+HasWorked [] w v = v ≡ w
+HasWorked (h ∷ hs) w v = (between : Work) × Works h w between × HasWorked hs between v
+
+-- the same formulas are dirty, each once, and the counts are equal
+pub record IsSameWork (w v : Work) : Type 0 where
+  pub dirty : (c : Place) → has same_place w.dirty c ≡ has same_place v.dirty c
+  pub long : length w.dirty ≡ length v.dirty
+  pub count : w.count ≡ v.count
