@@ -4,7 +4,8 @@ use Rattle.sheet_run.proofs.Endings.{refused_run}
 use Rattle.sheet_run.proofs.runs.run.Goals as goal
 
 pub returns-in-Ok : goal.returns-in-Ok
-returns-in-Ok g c = ran c.in-Ok.options c.in-Ok.ensures c.run_with.ensures
+returns-in-Ok g c = record { ran = ran c.in-Ok.options c.in-Ok.ensures c.run_with.ensures }
 
 pub returns-in-Err : goal.returns-in-Err
-returns-in-Err g c = refused_run c.args.words.now c.in-Err.refused c.refused_text.result.now _ _ _ c.in-Err.ensures.1 c.refused_text.ensures refl c.tell_refused.ensures
+returns-in-Err g c =
+    record { ran = refused_run c.args.words.now c.in-Err.refused c.refused_text.result.now _ _ _ c.in-Err.ensures.1 c.refused_text.ensures refl c.tell_refused.ensures }
