@@ -79,6 +79,7 @@ going_starts limit bytes faults told now shelf displays failed s first f shown i
     displays = views_start displays;
     failed = sym (append-nil failed);
     within = omega arith;
+    few = omega arith;
   };
   typed = inl none;
   session = rw is (record { state = refl; work = refl });
@@ -91,9 +92,9 @@ going_starts limit bytes faults told now shelf displays failed s first f shown i
 module _ (limit count : ℕ) (s : Running) (f : KeyFeed) (shown : Screen) (before : Outside) (bytes : Option (List ℕ)) (faults : ℕ) (told : Option (List Moment)) (shelf : ℕ) (displays failed : List View)
     (going : Going limit count s f shown before (outside bytes faults told shelf displays failed)) where
   -- what was done, when more bytes are taken
-  did_take : (more : List ℕ) (bytes' : Option (List ℕ)) (faults' : ℕ) → TakesBytes bytes more bytes' →
+  did_take : (more : List ℕ) (bytes' : Option (List ℕ)) (faults' : ℕ) → TakesBytes bytes more bytes' → length (going.taken ++ more) ≤ 2 ^ 64 - 1 →
       HasRun limit (going.taken ++ more) (going.first ∷ moments_of going.steps) going.steps going.left going.out before (outside bytes' faults' told shelf displays failed)
-  did_take more bytes' faults' took = record {
+  did_take more bytes' faults' took few = record {
     bytes = takes_both before.bytes bytes bytes' going.taken more going.did.bytes took;
     readings = going.did.readings;
     shelf = going.did.shelf;
@@ -101,20 +102,21 @@ module _ (limit count : ℕ) (s : Running) (f : KeyFeed) (shown : Screen) (befor
     displays = going.did.displays;
     failed = going.did.failed;
     within = going.did.within;
+    few = few;
   }
 
   did_none : (bytes' : Option (List ℕ)) (faults' : ℕ) → TakesBytes bytes [] bytes' →
       HasRun limit going.taken (going.first ∷ moments_of going.steps) going.steps going.left going.out before (outside bytes' faults' told shelf displays failed)
-  did_none bytes' faults' none = subst (λ (t : List ℕ). HasRun limit t (going.first ∷ moments_of going.steps) going.steps going.left going.out before (outside bytes' faults' told shelf displays failed)) (append-nil going.taken) (did_take [] bytes' faults' none)
+  did_none bytes' faults' none = subst (λ (t : List ℕ). HasRun limit t (going.first ∷ moments_of going.steps) going.steps going.left going.out before (outside bytes' faults' told shelf displays failed)) (append-nil going.taken) (did_take [] bytes' faults' none (omega (arith, length-append going.taken [], going.did.few)))
 
   -- what reading comes to here
   abbrev ReadHere : Option (List ℕ) → KeyFeed → Read → Type 0
   ReadHere bytes' g result = (taken : List ℕ) (made : List Key) → HasPressed taken made f → Reads taken made bytes bytes' g result
 
   -- a byte that goes on
-  pub going_on : (bytes' : Option (List ℕ)) (faults' : ℕ) (g : KeyFeed) → ReadHere bytes' g ReadMore → faults' ≡ faults →
+  pub going_on : (bytes' : Option (List ℕ)) (faults' : ℕ) (g : KeyFeed) → ReadHere bytes' g ReadMore → g.words.taken ≤ 2 ^ 64 - 1 → faults' ≡ faults →
       Going limit count s g shown before (outside bytes' faults' told shelf displays failed)
-  going_on bytes' faults' g reads same =
+  going_on bytes' faults' g reads few same =
       let read = reads going.taken (keys_of going.steps) going.typed in
       record {
         taken = going.taken ++ read.0 ∷ [];
@@ -122,7 +124,7 @@ module _ (limit count : ℕ) (s : Running) (f : KeyFeed) (shown : Screen) (befor
         steps = going.steps;
         left = going.left;
         out = going.out;
-        did = did_take (read.0 ∷ []) bytes' faults' read.1;
+        did = did_take (read.0 ∷ []) bytes' faults' read.1 (omega (arith, read.2.read.taken, few));
         typed = inl read.2;
         session = going.session;
         fresh = going.fresh;
@@ -177,7 +179,7 @@ module _ (limit count : ℕ) (s : Running) (f : KeyFeed) (shown : Screen) (befor
         taken = going.taken;
         bad = read.0;
         first = going.first;
-        did = did_take (read.0 ∷ []) bytes' faults' read.1;
+        did = did_take (read.0 ∷ []) bytes' faults' read.1 (omega (arith, length-append going.taken (read.0 ∷ []), read.4, read.5));
         keys = read.2;
         begins_none = read.3;
         place = read.4;
@@ -196,12 +198,15 @@ module _ (limit count : ℕ) (s : Running) (f : KeyFeed) (shown : Screen) (befor
         fault = rw (← going.no_fault) rose;
       }
 
-  module _ (bytes' : Option (List ℕ)) (faults' : ℕ) (g : KeyFeed) (key : Key) (reads : ReadHere bytes' g (ReadKey key)) (same : faults' ≡ faults) where
+  module _ (bytes' : Option (List ℕ)) (faults' : ℕ) (g : KeyFeed) (key : Key) (reads : ReadHere bytes' g (ReadKey key)) (counted : g.words.taken ≤ 2 ^ 64 - 1) (same : faults' ≡ faults) where
     abbrev read : Reads going.taken (keys_of going.steps) bytes bytes' g (ReadKey key)
     read = reads going.taken (keys_of going.steps) going.typed
 
     just : HasJustPressed (going.taken ++ read.0) (keys_of going.steps ++ key ∷ []) g
     just = read.2
+
+    few : length (going.taken ++ read.0) ≤ 2 ^ 64 - 1
+    few = omega (arith, just.read.taken, counted)
 
     into : SpellsInto (going.taken ++ read.0) (keys_of going.steps ++ key ∷ [])
     into = record { words = just.words; spelled = just.spelled; key = g.key; left = g.left; into = just.into }
@@ -220,7 +225,7 @@ module _ (limit count : ℕ) (s : Running) (f : KeyFeed) (shown : Screen) (befor
       taken = going.taken ++ read.0;
       first = going.first;
       last = key;
-      did = did_take read.0 bytes' faults' read.1;
+      did = did_take read.0 bytes' faults' read.1 few;
       all = omega (arith, going.did.within, going.made);
       spelled = into;
       no_fault = same ∙ going.no_fault;
@@ -241,6 +246,7 @@ module _ (limit count : ℕ) (s : Running) (f : KeyFeed) (shown : Screen) (befor
         displays = not_made.displays_stay ∙ going.did.displays;
         failed = not_made.failed_stay ∙ going.did.failed;
         within = going.did.within;
+        few = few;
       };
       more = omega (arith, going.made);
       spelled = into;
@@ -269,6 +275,7 @@ module _ (limit count : ℕ) (s : Running) (f : KeyFeed) (shown : Screen) (befor
             displays = sent.displays_are;
             failed = sent.failed_are;
             within = omega (arith, length-append going.steps (x ∷ []), going.made);
+            few = few;
           };
           typed = inr (subst (λ (ks : List Key). HasJustPressed (going.taken ++ read.0) ks g) (sym (keys_more made.moment)) just);
           session = one_more_after s t going.steps x going.session made.stepped;

@@ -95,7 +95,7 @@ has bytes keys f all = (all.words, has_keys bytes all.words f.words all.read, al
 pub reads_taken : (bytes : List ℕ) (keys : List Key) (b : ℕ) (told told' : Option (List ℕ)) (f : KeyFeed) (r : Read) → TakesBytes told (b ∷ []) told' → Takes bytes keys b f r → Reads bytes keys told told' f r
 reads_taken bytes keys b told told' f (ReadKey k) took t = (b ∷ [], took, t)
 reads_taken bytes keys b told told' f ReadMore took t = (b, took, t)
-reads_taken bytes keys b told told' f (ReadBad at) took t = (b, took, t.0, t.1, t.2)
+reads_taken bytes keys b told told' f (ReadBad at) took t = (b, took, t.0, t.1, t.2, t.3)
 reads_taken bytes keys b told told' f ReadEnd took t = absurd t
 reads_taken bytes keys b told told' f ReadFailed took t = absurd t
 

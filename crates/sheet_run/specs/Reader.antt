@@ -43,7 +43,7 @@ HasPressed bytes keys f = HasPressedAll bytes keys f ⊎ HasJustPressed bytes ke
 abbrev pub Reads : List ℕ → List Key → Option (List ℕ) → Option (List ℕ) → KeyFeed → Read → Type 0
 Reads bytes keys told told' f (ReadKey key) = (more : List ℕ) × TakesBytes told more told' × HasJustPressed (bytes ++ more) (keys ++ key ∷ []) f
 Reads bytes keys told told' f ReadMore = (b : ℕ) × TakesBytes told (b ∷ []) told' × HasPressedAll (bytes ++ b ∷ []) keys f
-Reads bytes keys told told' f (ReadBad at) = (b : ℕ) × TakesBytes told (b ∷ []) told' × HasKeys bytes keys × (Begins (bytes ++ b ∷ []) → ⊥) × (at ≡ length bytes)
+Reads bytes keys told told' f (ReadBad at) = (b : ℕ) × TakesBytes told (b ∷ []) told' × HasKeys bytes keys × (Begins (bytes ++ b ∷ []) → ⊥) × (at ≡ length bytes) × (at < 18446744073709551615)
 Reads bytes keys told told' f ReadEnd = TakesBytes told [] told' × AtEnd told' × HasPressedAll bytes keys f
 Reads bytes keys told told' f ReadFailed = TakesBytes told [] told' × HasKeys bytes keys
 
@@ -51,7 +51,7 @@ Reads bytes keys told told' f ReadFailed = TakesBytes told [] told' × HasKeys b
 abbrev pub Takes : List ℕ → List Key → ℕ → KeyFeed → Read → Type 0
 Takes bytes keys b f (ReadKey key) = HasJustPressed (bytes ++ b ∷ []) (keys ++ key ∷ []) f
 Takes bytes keys b f ReadMore = HasPressedAll (bytes ++ b ∷ []) keys f
-Takes bytes keys b f (ReadBad at) = HasKeys bytes keys × (Begins (bytes ++ b ∷ []) → ⊥) × (at ≡ length bytes)
+Takes bytes keys b f (ReadBad at) = HasKeys bytes keys × (Begins (bytes ++ b ∷ []) → ⊥) × (at ≡ length bytes) × (at < 18446744073709551615)
 Takes bytes keys b f ReadEnd = ⊥
 Takes bytes keys b f ReadFailed = ⊥
 

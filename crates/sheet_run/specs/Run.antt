@@ -64,7 +64,7 @@ abbrev pub outside : Option (List ℕ) → ℕ → Option (List Moment) → ℕ 
 outside bytes key_faults readings shelf_faults displays failed =
     record { bytes = bytes; key_faults = key_faults; readings = readings; shelf_faults = shelf_faults; displays = displays; failed = failed }
 
--- These bytes and readings were taken, and the screens of the machine's steps from its start on were sent; they are at most as many as the limit. The displays that never failed are left; those that failed stand at the end of the failed ones.
+-- These bytes and readings were taken, and the screens of the machine's steps from its start on were sent; they are at most as many as the limit, and no more bytes are taken than can be counted. The displays that never failed are left; those that failed stand at the end of the failed ones.
 pub record HasRun (limit : ℕ) (taken : List ℕ) (moments : List Moment) (steps : List Step) (left out : List Watched) (before now : Outside) : Type 0 where
   pub bytes : TakesBytes before.bytes taken now.bytes
   pub readings : TakesReadings before.readings moments now.readings
@@ -73,6 +73,7 @@ pub record HasRun (limit : ℕ) (taken : List ℕ) (moments : List Moment) (step
   pub displays : now.displays ≡ views_of left
   pub failed : now.failed ≡ before.failed ++ views_of out
   pub within : length steps ≤ limit
+  pub few : length taken ≤ 2 ^ 64 - 1
 
 -- at the last u64 of bytes the keys count as ended
 abbrev pub Ended : List ℕ → Option (List ℕ) → Type 0

@@ -1,5 +1,5 @@
 // Reads the keys that bytes of key notation stand for.
-ghost use Rattle.std.specs.Prelude.{◌≡◌, ◌<◌, ℕ, List, [], false, true};
+ghost use Rattle.std.specs.Prelude.{◌≡◌, ◌<◌, ◌≤◌, ℕ, List, [], false, true};
 ghost use Rattle.key_words.specs.declared.key.Key.{Key};
 ghost use Rattle.outside_world.specs.Causes.{Rose};
 ghost use Rattle.sheet_run.specs.Reader.{ahead, HasPressed, HasPressedAll, HasRoom, IsFull, Reads, RestsAsTold, Takes};
@@ -67,9 +67,11 @@ impl KeyFeed {
         ensures read { (bytes : List ℕ) (made : List Key) → HasPressed bytes made self.old → Reads bytes made (K.left keys.old) (K.left keys.new) self.new result }
         ensures key { (key : Key) → result ≡ Read.Key key → ahead self.new < ahead self.old }
         ensures more { result ≡ Read.More → ahead self.new < ahead self.old }
+        ensures few { self.new.words.taken ≤ 18446744073709551615 }
         ensures fault { result ≡ Read.Failed → Rose (K.faults keys.old) (K.faults keys.new) }
         ensures fine { (result ≡ Read.Failed → ⊥) → K.faults keys.new ≡ K.faults keys.old }
     {
+        let _taken = self.words.taken();
         if self.left > 0 {
             self.left -= 1;
             return Read::Key(self.key);
@@ -88,10 +90,13 @@ impl KeyFeed {
         ensures took { (bytes : List ℕ) (made : List Key) → HasPressedAll bytes made self.old → Takes bytes made byte self.new result }
         ensures key { (key : Key) → result ≡ Read.Key key → ahead self.new < ahead self.old }
         ensures more { result ≡ Read.More → ahead self.new < ahead self.old }
+        ensures few { self.new.words.taken ≤ 18446744073709551615 }
         ensures fine { result ≡ Read.Failed → ⊥ }
         ensures going { result ≡ Read.End → ⊥ }
     {
-        match self.words.feed(byte) {
+        let fed = self.words.feed(byte);
+        let _taken = self.words.taken();
+        match fed {
             Fed::Key(key, times) => {
                 self.key = key;
                 self.left = times.saturating_sub(1);

@@ -11,14 +11,14 @@ loop-shown-init g c = record {
 
 pub loop-shown-preserved-in-More : goal.loop-shown-preserved-in-More
 loop-shown-preserved-in-More g c = record {
-  going = going_on _ _ _ _ _ _ _ _ _ _ _ _ c.loop-shown.invariant.going _ _ _ c.in-More.ensures.read (c.in-More.ensures.fine (λ e. cc));
+  going = going_on _ _ _ _ _ _ _ _ _ _ _ _ c.loop-shown.invariant.going _ _ _ c.in-More.ensures.read c.in-More.ensures.few (c.in-More.ensures.fine (λ e. cc));
   room = c.loop-shown.invariant.room;
   within = c.loop-shown.invariant.within;
 }
 
 pub loop-shown-preserved : goal.loop-shown-preserved
 loop-shown-preserved g c = record {
-  going = step_made _ _ _ _ _ _ _ _ _ _ _ _ c.loop-shown.invariant.going _ _ _ c.in-Key.key c.in-Key.ensures.read (c.in-Key.ensures.fine (λ e. cc)) _ _ _ _ _ _ c.in-Done.ensures.shelf (omega arith) c.in-Done.ensures.stepped;
+  going = step_made _ _ _ _ _ _ _ _ _ _ _ _ c.loop-shown.invariant.going _ _ _ c.in-Key.key c.in-Key.ensures.read c.in-Key.ensures.few (c.in-Key.ensures.fine (λ e. cc)) _ _ _ _ _ _ c.in-Done.ensures.shelf (omega arith) c.in-Done.ensures.stepped;
   room = c.in-Done.ensures.room;
   within = omega arith;
 }
@@ -55,7 +55,7 @@ returns-then-steps-limit-clause-driven g c = record {
   steps = c.loop-shown.invariant.going.steps;
   left = c.loop-shown.invariant.going.left;
   out = c.loop-shown.invariant.going.out;
-  ended = ran_to_limit _ _ _ _ _ _ _ _ _ _ _ _ c.loop-shown.invariant.going _ _ _ c.in-Key.key c.in-Key.ensures.read (c.in-Key.ensures.fine (λ e. cc)) (omega arith);
+  ended = ran_to_limit _ _ _ _ _ _ _ _ _ _ _ _ c.loop-shown.invariant.going _ _ _ c.in-Key.key c.in-Key.ensures.read c.in-Key.ensures.few (c.in-Key.ensures.fine (λ e. cc)) (omega arith);
   state = c.loop-shown.invariant.going.session;
 }
 
@@ -64,7 +64,7 @@ returns-in-NoMemory-clause-driven g c = record {
   steps = c.loop-shown.invariant.going.steps;
   left = c.loop-shown.invariant.going.left;
   out = c.loop-shown.invariant.going.out;
-  ended = ran_out _ _ _ _ _ _ _ _ _ _ _ _ c.loop-shown.invariant.going _ _ _ c.in-Key.key c.in-Key.ensures.read (c.in-Key.ensures.fine (λ e. cc)) _ _ _ _ c.in-NoMemory.ensures.shelf (omega arith) c.in-NoMemory.ensures.stepped;
+  ended = ran_out _ _ _ _ _ _ _ _ _ _ _ _ c.loop-shown.invariant.going _ _ _ c.in-Key.key c.in-Key.ensures.read c.in-Key.ensures.few (c.in-Key.ensures.fine (λ e. cc)) _ _ _ _ c.in-NoMemory.ensures.shelf (omega arith) c.in-NoMemory.ensures.stepped;
   state = tt;
 }
 

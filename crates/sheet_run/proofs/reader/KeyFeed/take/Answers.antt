@@ -1,3 +1,4 @@
+use Rattle.std.proofs.Common.{arith}
 use Rattle.sheet_run.proofs.Pressed.{first_time, has}
 use Rattle.sheet_run.proofs.reader.KeyFeed.take.Goals as goal
 
@@ -11,4 +12,4 @@ returns-in-More-clause-took c bytes made all = record { words = all.words; read 
 pub returns-in-Bad-clause-took : goal.returns-in-Bad-clause-took
 returns-in-Bad-clause-took c bytes made all =
     let bad = c.in-Bad.ensures.fed bytes all.words all.read in
-    (has bytes made c.args.self.now all, bad.1, bad.0)
+    (has bytes made c.args.self.now all, bad.1, bad.0, omega (arith, bad.0, all.read.taken, c.requires.room))
