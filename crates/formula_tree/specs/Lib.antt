@@ -2,6 +2,7 @@ pub mod Code
 pub mod Formulas
 pub mod Nodes
 pub mod Ranges
+pub mod Redirected
 pub mod Shape
 pub mod Spans
 pub mod Table

@@ -2,15 +2,17 @@
 ghost use Rattle.std.specs.Prelude.{◌≡◌, true, IfOk};
 ghost use Rattle.formula_tree.specs.Formulas.{formula_of, Gives};
 ghost use Rattle.formula_tree.specs.Ranges.{is_ranged};
+ghost use Rattle.formula_tree.specs.Redirected.{redirected};
 ghost use Rattle.formula_tree.specs.Shape.{every, IsFormula};
 ghost use Rattle.formula_tree.specs.Spans.{is_volatile, spans_of};
 ghost use Rattle.formula_tree.specs.View.{tree_of};
 
-use crate::Expr;
 use crate::copies::copy_expr;
 use crate::depth::depth_within;
 use crate::reads::{collect, is_volatile};
+use crate::redirect::redirect_tree;
 use crate::walk::has_shape;
+use crate::{Expr, Redirect};
 use grid_address::{Cell, SpanList};
 use lics_text::Memory;
 use std::alloc::Global;
@@ -94,6 +96,16 @@ impl Formula {
             }),
             Err(Memory) => Err(Memory),
         }
+    }
+
+    /// The formula with each reference redirected, and `@ERR` in the place of an operand that is lost. It takes no
+    /// memory: the tree is changed where it lies.
+    pub fn redirected<R: Redirect>(self, by: &R) -> Formula
+        ensures { result ≡ redirected (R.new_reference by.now) self }
+    {
+        let Formula { mut expr, alloc } = self;
+        redirect_tree(alloc, &mut expr, by);
+        Formula { expr, alloc }
     }
 
     /// The spans that the formula reads where it stands in the cell, from left to right.

@@ -7,6 +7,7 @@ mod depth;
 mod formula;
 mod ranges;
 mod reads;
+mod redirect;
 mod shape;
 mod table;
 #[cfg(test)]
@@ -16,6 +17,7 @@ mod walk;
 
 pub use ast::{Expr, ExprList, Function, Op};
 pub use formula::{Formula, TreeFault};
+pub use redirect::Redirect;
 pub use shape::{level, top};
 pub use table::{Counts, call_size, counts_of, is_one_of, is_volatile_code, takes};
 pub use value::{Content, Value};

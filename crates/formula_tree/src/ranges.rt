@@ -22,7 +22,8 @@ fn text_is_ranged(text: &Text)
     let _ = text.bytes();
 }
 
-fn reference_is_ranged(reference: Ref)
+/// A reference is in its range.
+pub fn reference_is_ranged(reference: Ref)
     ensures { is_reference reference ≡ true }
 {
     let _ = reference.col;
