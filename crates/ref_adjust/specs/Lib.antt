@@ -1,0 +1,3 @@
+pub mod Adjusted
+pub mod Lines
+pub mod Moves

@@ -1,0 +1,58 @@
+-- Where places are after lines, rows or columns, were inserted or deleted.
+use Rattle.std.specs.Prelude.{ℕ, ◌+◌, ◌-◌, ◌≤◌, nat_lt, Option, Some, None, if◌then◌else◌}
+use Rattle.grid_address.specs.Place.{Extent, Place}
+use Rattle.ref_adjust.specs.declared.change.Change.{Change}
+use Rattle.ref_adjust.specs.declared.change.Change.TheVariants.{InsertRows, InsertColumns, DeleteRows, DeleteColumns}
+use Rattle.ref_adjust.specs.Moves.{span_of_corners}
+
+-- a later line moves on by the count, and is lost past the last of so many lines
+abbrev pub line_inserted : ℕ → ℕ → ℕ → ℕ → Option ℕ
+line_inserted lines first count line = if nat_lt line first then Some line else (if nat_lt (line + count) lines then Some (line + count) else None)
+
+-- a deleted line is lost, and a later one moves back by the count
+abbrev pub line_deleted : ℕ → ℕ → ℕ → Option ℕ
+line_deleted first count line = if nat_lt line first then Some line else (if nat_lt line (first + count) then None else Some (line - count))
+
+-- a place with another row, or with another column
+abbrev pub with_row : Place → Option ℕ → Option Place
+with_row p (Some row) = Some (record { row = row; col = p.col })
+with_row p None = None
+
+abbrev pub with_col : Place → Option ℕ → Option Place
+with_col p (Some col) = Some (record { row = p.row; col = col })
+with_col p None = None
+
+abbrev pub place_shifted : Change → Place → Option Place
+place_shifted (InsertRows first count) p = with_row p (line_inserted 8192 first count p.row)
+place_shifted (InsertColumns first count) p = with_col p (line_inserted 256 first count p.col)
+place_shifted (DeleteRows first count) p = with_row p (line_deleted first count p.row)
+place_shifted (DeleteColumns first count) p = with_col p (line_deleted first count p.col)
+
+abbrev pub span_shifted : Change → Extent → Option Extent
+span_shifted change s = span_of_corners (place_shifted change s.first) (place_shifted change s.last)
+
+-- at least one line, and none past the last of so many
+abbrev pub AreLines : ℕ → ℕ → ℕ → Type 0
+AreLines lines first count = (1 ≤ count) × (first + count ≤ lines)
+
+-- the lines of a change, and how many of their kind the sheet has
+abbrev pub first_of : Change → ℕ
+first_of (InsertRows first count) = first
+first_of (InsertColumns first count) = first
+first_of (DeleteRows first count) = first
+first_of (DeleteColumns first count) = first
+
+abbrev pub count_of : Change → ℕ
+count_of (InsertRows first count) = count
+count_of (InsertColumns first count) = count
+count_of (DeleteRows first count) = count
+count_of (DeleteColumns first count) = count
+
+abbrev pub lines_of : Change → ℕ
+lines_of (InsertRows first count) = 8192
+lines_of (InsertColumns first count) = 256
+lines_of (DeleteRows first count) = 8192
+lines_of (DeleteColumns first count) = 256
+
+abbrev pub IsChange : Change → Type 0
+IsChange change = AreLines (lines_of change) (first_of change) (count_of change)
