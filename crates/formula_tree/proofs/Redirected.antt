@@ -10,7 +10,7 @@ use Rattle.formula_tree.specs.declared.ast.Expr.TheVariants.{Call}
 use Rattle.formula_tree.specs.Tree.{Tree, num, str, cell, span, group, neg, not, binary, call, Trees, no_trees, trees}
 use Rattle.formula_tree.specs.Ranges.{is_ranged}
 use Rattle.formula_tree.specs.Redirected.{all_redirected, cell_or_error, error_call, redirected, span_or_error}
-use Rattle.formula_tree.specs.Shape.{all_sizes, code_size, count, depth, every, every_one, greatest_depth, has_shape, is_fine, level, lowest, node_size, nodes_size, top, IsFormula}
+use Rattle.formula_tree.specs.Shape.{all_sizes, code_size, count, depth, every, every_one, greatest_depth, is_fine, level, lowest, nodes_size, top, IsFormula}
 use Rattle.formula_tree.specs.Table.{counts_of, takes}
 use Rattle.formula_tree.specs.View.{tree_of, trees_in, listed}
 use Rattle.formula_tree.proofs.Rows.{tree_of-Call}

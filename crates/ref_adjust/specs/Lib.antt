@@ -1,3 +1,4 @@
 pub mod Adjusted
+pub mod Laws
 pub mod Lines
 pub mod Moves

@@ -1,5 +1,5 @@
 -- Where places are after a span was moved.
-use Rattle.std.specs.Prelude.{ℕ, ◌+◌, ◌-◌, Option, Some, None, if◌then◌else◌}
+use Rattle.std.specs.Prelude.{◌+◌, ◌-◌, Option, Some, None, if◌then◌else◌}
 use Rattle.grid_address.specs.Place.{is_within, spanned, Extent, InSheet, Place}
 
 -- where a place of the span comes: as far from `to` as it was from the span's first corner

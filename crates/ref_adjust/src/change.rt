@@ -82,7 +82,10 @@ fn cell_shifted(change: Change, cell: Cell) -> Option<Cell>
     let col = u16::from(cell.col);
     match change {
         Change::InsertRows(first, count) => with_row(cell, line_inserted(8192, first, count, row)),
-        Change::InsertColumns(first, count) => with_col(cell, line_inserted(256, first, count, col)),
+        Change::InsertColumns(first, count) => with_col(
+            cell,
+            line_inserted(256, first, count, col),
+        ),
         Change::DeleteRows(first, count) => with_row(cell, line_deleted(8192, first, count, row)),
         Change::DeleteColumns(first, count) => with_col(cell, line_deleted(256, first, count, col)),
     }

@@ -20,12 +20,7 @@ pub fn reference_like(reference: Ref, at: Cell, place: Option<Cell>) -> Option<R
     ensures { result ≡ reference_like reference at place }
 {
     match place {
-        Some(place) => Some(Ref::of(
-            place,
-            at,
-            is_fixed(reference.col),
-            is_fixed(reference.row),
-        )),
+        Some(place) => Some(Ref::of(place, at, is_fixed(reference.col), is_fixed(reference.row))),
         None => None,
     }
 }

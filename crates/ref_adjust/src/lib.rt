@@ -3,9 +3,11 @@
 
 mod change;
 mod kinds;
+mod laws;
 mod moves;
 #[cfg(test)]
 mod tests;
 
 pub use change::{Change, shifted, span_shifted};
+pub use laws::{references_follow_a_change, references_follow_a_move};
 pub use moves::{moved, span_moved};

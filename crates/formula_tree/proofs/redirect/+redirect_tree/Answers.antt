@@ -1,4 +1,4 @@
-use Rattle.std.proofs.Common.{◌≡◌, true, map, ap, sym, ◌∙◌}
+use Rattle.std.proofs.Common.{◌≡◌, map, ap, sym, ◌∙◌}
 use Rattle.formula_tree.specs.declared.ast.ExprList.{ExprList}
 use Rattle.formula_tree.specs.declared.ast.Expr.{Expr}
 use Rattle.formula_tree.specs.declared.ast.Expr.TheVariants.{Call}

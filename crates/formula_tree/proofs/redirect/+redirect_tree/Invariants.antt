@@ -1,4 +1,4 @@
-use Rattle.std.proofs.Common.{◌≡◌, true, take, map, length}
+use Rattle.std.proofs.Common.{◌≡◌, true, take, map}
 use Rattle.std.specs.List.{list_all}
 use Rattle.formula_tree.specs.Ranges.{is_ranged}
 use Rattle.formula_tree.specs.Redirected.{redirected}

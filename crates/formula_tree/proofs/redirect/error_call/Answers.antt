@@ -1,4 +1,4 @@
-use Rattle.std.proofs.Common.{◌≡◌, true, ap, ◌∙◌}
+use Rattle.std.proofs.Common.{ap}
 use Rattle.formula_tree.specs.Ranges.{is_ranged}
 use Rattle.formula_tree.specs.Shape.{every}
 use Rattle.formula_tree.proofs.Redirected.{no_arguments}

@@ -1,4 +1,4 @@
-use Rattle.std.proofs.Common.{◌≡◌, true, subst, sym}
+use Rattle.std.proofs.Common.{subst, sym}
 use Rattle.formula_tree.specs.Shape.{IsFormula}
 use Rattle.formula_tree.specs.View.{tree_of}
 use Rattle.formula_tree.proofs.Redirected.{formula_kept}
