@@ -7,7 +7,7 @@ use Rattle.std.proofs.lemmas.List.{take_more}
 use Rattle.std.proofs.lemmas.List.Folds.{list_all-append}
 use Rattle.fixed_value.specs.Written.{without_last_zeros}
 
-abbrev is_zero : ℕ → Bool
+abbrev pub is_zero : ℕ → Bool
 is_zero e = e == 48
 
 and_true : (a : Bool) → (a && true) ≡ a
@@ -18,13 +18,13 @@ and_false : (a : Bool) → (a && false) ≡ false
 and_false true = refl
 and_false false = refl
 
-zero_dropped : (xs : List ℕ) → without_last_zeros (xs ++ 48 ∷ []) ≡ without_last_zeros xs
+pub zero_dropped : (xs : List ℕ) → without_last_zeros (xs ++ 48 ∷ []) ≡ without_last_zeros xs
 zero_dropped [] = refl
 zero_dropped (x ∷ xs) =
     let all : list_all is_zero ((x ∷ xs) ++ 48 ∷ []) ≡ list_all is_zero (x ∷ xs) = list_all-append is_zero (x ∷ xs) (48 ∷ []) ∙ and_true (list_all is_zero (x ∷ xs)) in
     rw (all, zero_dropped xs) refl
 
-digit_kept : (xs : List ℕ) (d : ℕ) → (d == 48) ≡ false → without_last_zeros (xs ++ d ∷ []) ≡ xs ++ d ∷ []
+pub digit_kept : (xs : List ℕ) (d : ℕ) → (d == 48) ≡ false → without_last_zeros (xs ++ d ∷ []) ≡ xs ++ d ∷ []
 digit_kept [] d h = rw h refl
 digit_kept (x ∷ xs) d h =
     let last : list_all is_zero (d ∷ []) ≡ false = rw h refl in

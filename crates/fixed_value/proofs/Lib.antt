@@ -1,3 +1,5 @@
+pub mod Kept
+pub mod LastDigits
 pub mod LastZeros
 pub mod Places
 pub mod Powers

@@ -1,6 +1,6 @@
 -- How a number is written.
 use Rattle.std.specs.Int.RustNames.{int_lt}
-use Rattle.std.specs.Prelude.{ℕ, zero, suc, ◌+◌, ◌*◌, ◌/◌, ◌%◌, ◌^◌, ℤ, pos, nat_abs, Bool, true, false, not, ◌&&◌, ◌==◌, List, [], ◌∷◌, ◌++◌, take, drop, if◌then◌else◌}
+use Rattle.std.specs.Prelude.{ℕ, zero, suc, ◌+◌, ◌*◌, ◌/◌, ◌%◌, ◌^◌, ℤ, pos, nat_abs, Bool, true, false, not, ◌&&◌, ◌==◌, List, [], ◌∷◌, ◌++◌, length, take, drop, if◌then◌else◌}
 use Rattle.std.specs.List.{list_all}
 use Rattle.fixed_value.specs.Numbers.{nearest}
 
@@ -37,6 +37,14 @@ written v places = minus_sign (int_lt v (pos 0) && not (scaled v places == 0)) +
 abbrev pub without_last_zeros : List ℕ → List ℕ
 without_last_zeros [] = []
 without_last_zeros (d ∷ ds) = if list_all (λ e. e == 48) (d ∷ ds) then [] else d ∷ without_last_zeros ds
+
+-- how many decimals a number has, without zeros at their end
+abbrev pub decimals : ℤ → ℕ
+decimals v = length (without_last_zeros (fixed_digits 6 (nat_abs v)))
+
+-- how many whole digits a number has, at least one
+abbrev pub whole_len : ℤ → ℕ
+whole_len v = length (without_zeros (fixed_digits 10 (nat_abs v / 1000000)))
 
 -- with at most so many places, and no more than are needed
 abbrev pub short : ℤ → ℕ → List ℕ

@@ -1,125 +1,174 @@
 // Decimals as they are written.
 ghost use Rattle.std.specs.Int.RustNames.{int_lt};
-ghost use Rattle.std.specs.Prelude.{◌≡◌, ◌≤◌, ◌<◌, ◌+◌, ◌++◌, ◌&&◌, ◌==◌, not, length, take, drop, ℕ, ℤ, pos, nat_abs};
+ghost use Rattle.std.specs.Prelude.{◌≡◌, ◌≤◌, ◌<◌, ◌+◌, ◌/◌, ◌^◌, ◌++◌, ◌&&◌, ◌==◌, not, length, replicate, ℕ, ℤ, pos, nat_abs};
 ghost use Rattle.fixed_value.specs.Decimals.{decimal_of};
-ghost use Rattle.fixed_value.specs.Written.{fixed_digits, hundredfold, minus_sign, pointed, scaled, short, without_last_zeros, without_zeros, written};
+ghost use Rattle.fixed_value.specs.Written.{decimals, fixed_digits, hundredfold, minus_sign, pointed, scaled, short, without_last_zeros, whole_len, without_zeros, written};
 ghost use Rattle.fixed_value.specs.declared.decimal.Decimal.TheVariants.{Num};
 
 use crate::Fixed;
-use crate::power_of_ten::ten_to;
+use crate::front::Front;
 use byte_list::ByteList;
 
 /// A written decimal: at most 32 bytes.
 pub type Digits = ByteList<32>;
 
-// Adds so many digits of a number, with zeros in front.
-#[tactic(auto, using(crate::proofs::Written::fixed_digits_length))]
-fn push_digits(text: &mut Digits, count: u8, number: u128)
+// Puts so many zeros in front.
+fn put_zeros(text: &mut Front, count: u8)
     requires { length text.old + count ≤ 32 }
-    ensures digits { text.new ≡ text.old ++ fixed_digits count number }
+    ensures digits { text.new ≡ replicate count 48 ++ text.old }
     ensures size { length text.new ≡ length text.old + count }
 {
-    if count > 0 {
-        push_digits(text, count - 1, number / 10);
-        text.put_all(&[b'0' + (number % 10) as u8]);
+    let mut more = count;
+    while more > 0 {
+        text.put(b'0');
+        more -= 1;
     }
 }
 
-// So many digits of a number, with zeros in front.
-fn digits_of(count: u8, number: u128) -> Digits
-    requires { count ≤ 32 }
-    ensures digits { result ≡ fixed_digits count number }
-    ensures size { length result ≡ count }
+// Puts so many digits of a number in front, and answers what stands before these.
+#[tactic(auto, using(crate::proofs::LastDigits::one_more, crate::proofs::LastDigits::by_ten))]
+fn put_places(text: &mut Front, count: u8, number: u64) -> u64
+    requires { length text.old + count ≤ 32 }
+    ensures digits { text.new ≡ fixed_digits count number ++ text.old }
+    ensures size { length text.new ≡ length text.old + count }
+    ensures left { result ≡ number / 10 ^ count }
 {
-    let mut text = Digits::new();
-    push_digits(&mut text, count, number);
-    text
-}
-
-// The first digits, so many.
-fn front(digits: &[u8], count: usize) -> &[u8]
-    requires { count ≤ length digits.now }
-    ensures front { result.now ≡ take count digits.now }
-    ensures size { length result.now ≡ count }
-{
-    &digits[..count]
-}
-
-// The digits behind the first, so many.
-fn behind(digits: &[u8], count: usize) -> &[u8]
-    requires { count ≤ length digits.now }
-    ensures behind { result.now ≡ drop count digits.now }
-    ensures size { length result.now + count ≡ length digits.now }
-{
-    &digits[count..]
-}
-
-// The digits without the zeros in front, but for the last.
-fn without_zeros(digits: &[u8]) -> &[u8]
-    ensures value { result.now ≡ without_zeros digits.now }
-    ensures size { length result.now ≤ length digits.now }
-{
-    let mut at = 0;
-    while at + 1 < digits.len() && digits[at] == b'0' {
-        at += 1;
+    let mut left = number;
+    let mut more = count;
+    while more > 0 {
+        text.put(b'0' + (left % 10) as u8);
+        left /= 10;
+        more -= 1;
     }
-    &digits[at..]
+    left
 }
 
-// The digits without the zeros at the end.
-fn without_last_zeros(digits: &[u8]) -> &[u8]
-    ensures value { result.now ≡ without_last_zeros digits.now }
-    ensures size { length result.now ≤ length digits.now }
+// Puts the digits of a number in front, of which there are at most so many.
+#[tactic(auto, using(crate::proofs::LastDigits::whole_more, crate::proofs::LastDigits::smaller, crate::proofs::LastDigits::one_digit))]
+fn put_whole(text: &mut Front, most: u8, number: u64)
+    requires below { number < 10 ^ most }
+    requires some { 1 ≤ most }
+    requires room { length text.old + most ≤ 32 }
+    ensures digits { text.new ≡ without_zeros (fixed_digits most number) ++ text.old }
+    ensures size { length text.new ≤ length text.old + most }
 {
-    let mut end = digits.len();
-    while end > 0 && digits[end - 1] == b'0' {
-        end -= 1;
+    let mut left = number;
+    let mut more = most;
+    while left >= 10 {
+        text.put(b'0' + (left % 10) as u8);
+        left /= 10;
+        more -= 1;
     }
-    front(digits, end)
+    text.put(b'0' + left as u8);
+}
+
+// How many digits a number below 10,000,000,000 has.
+#[tactic(auto, using(crate::proofs::LastDigits::count_more, crate::proofs::LastDigits::smaller, crate::proofs::LastDigits::one_digit))]
+fn count_digits(number: u64) -> u8
+    requires { number < 10000000000 }
+    ensures { result ≡ length (without_zeros (fixed_digits 10 number)) }
+{
+    let mut left = number;
+    let mut more: u8 = 10;
+    while left >= 10 {
+        left /= 10;
+        more -= 1;
+    }
+    11 - more
 }
 
 // The number in units of the last place.
-fn scaled(value: Fixed, places: u8) -> u128
-    requires { places ≤ 17 }
-    ensures { result ≡ scaled value places }
+fn scaled(value: Fixed, places: u8) -> u64
+    requires { places ≤ 6 }
+    ensures value { result ≡ scaled value places }
+    ensures whole { result / 10 ^ places ≤ 1000000000 }
+    ensures size { nat_abs value ≤ 999999999999999 }
 {
-    let size = u128::from(value.millionths().unsigned_abs());
-    (2 * (size * ten_to(u32::from(places))) + 1_000_000) / 2_000_000
-}
-
-// The sign of a number, none where all digits are zero.
-fn sign_of(value: Fixed, number: u128) -> &'static [u8]
-    ensures sign { result.now ≡ minus_sign (int_lt value (pos 0) && not (number == 0)) }
-    ensures size { length result.now ≤ 1 }
-{
-    if value.millionths() < 0 && number != 0 {
-        b"-"
-    } else {
-        b""
+    let size = value.millionths().unsigned_abs();
+    match places {
+        0 => (size + 500_000) / 1_000_000,
+        1 => (size + 50_000) / 100_000,
+        2 => (size + 5_000) / 10_000,
+        3 => (size + 500) / 1_000,
+        4 => (size + 50) / 100,
+        5 => (size + 5) / 10,
+        _ => size,
     }
 }
 
-// Adds a point and the places, and nothing where there are none.
-fn push_places(text: &mut Digits, places: &[u8])
-    requires { length text.old + length places.now < 32 }
-    ensures { text.new ≡ text.old ++ pointed places.now }
+// The size in millionths.
+fn size_of(value: Fixed) -> u64
+    ensures { result ≡ nat_abs value }
 {
-    if places.len() > 0 {
-        text.put_all(b".");
-        text.put_all(places);
+    value.millionths().unsigned_abs()
+}
+
+// What stands before so many digits.
+fn before(number: u64, places: u8) -> u64
+    requires { places ≤ 6 }
+    ensures { result ≡ number / 10 ^ places }
+{
+    match places {
+        0 => number,
+        1 => number / 10,
+        2 => number / 100,
+        3 => number / 1_000,
+        4 => number / 10_000,
+        5 => number / 100_000,
+        _ => number / 1_000_000,
     }
 }
 
-// Writes a sign, whole digits and places, of which there are at most 29.
-fn write(sign: &[u8], whole: &[u8], places: &[u8]) -> Digits
-    requires { length sign.now + length whole.now + length places.now ≤ 31 }
-    ensures { result ≡ sign.now ++ (without_zeros whole.now ++ pointed places.now) }
+// Whether it is below zero.
+fn is_minus(value: Fixed) -> bool
+    ensures { result ≡ int_lt value (pos 0) }
 {
-    let mut text = Digits::new();
-    text.put_all(sign);
-    text.put_all(without_zeros(whole));
-    push_places(&mut text, places);
-    text
+    value.millionths() < 0
+}
+
+// How long the sign of a number is, of which none stands where all digits are zero.
+fn sign_len(value: Fixed, number: u64) -> u8
+    ensures len { result ≡ length (minus_sign (int_lt value (pos 0) && not (number == 0))) }
+    ensures most { result ≤ 1 }
+{
+    if is_minus(value) && number != 0 { 1 } else { 0 }
+}
+
+// Writes a number of units of the last place, and so many zeros behind its places.
+fn write(minus: bool, number: u64, places: u8, zeros: u8, most: u8) -> Digits
+    requires below { number / 10 ^ places < 10 ^ most }
+    requires some { 1 ≤ most }
+    requires room { most + places + zeros ≤ 30 }
+    ensures { result ≡ minus_sign (minus && not (number == 0)) ++ (without_zeros (fixed_digits most (number / 10 ^ places)) ++ pointed (fixed_digits places number ++ replicate zeros 48)) }
+{
+    let mut text = Front::new();
+    put_zeros(&mut text, zeros);
+    let whole = put_places(&mut text, places, number);
+    if places + zeros > 0 {
+        text.put(b'.');
+    }
+    put_whole(&mut text, most, whole);
+    if minus && number != 0 {
+        text.put(b'-');
+    }
+    text.digits()
+}
+
+// A number of units without the zeros at its end, of which so many may go.
+#[tactic(auto, using(crate::proofs::LastDigits::zero_gone, crate::proofs::LastDigits::digit_stays, crate::proofs::LastDigits::no_digits, crate::proofs::LastDigits::by_ten))]
+fn without_zeros_at_end(number: u64, places: u8) -> (u64, u8)
+    ensures places { fixed_digits result.1 result.0 ≡ without_last_zeros (fixed_digits places number) }
+    ensures whole { result.0 / 10 ^ result.1 ≡ number / 10 ^ places }
+    ensures zero { (result.0 == 0) ≡ (number == 0) }
+    ensures size { result.1 ≤ places }
+{
+    let mut left = number;
+    let mut more = places;
+    while more > 0 && left % 10 == 0 {
+        left /= 10;
+        more -= 1;
+    }
+    (left, more)
 }
 
 /// Whether all digits are zero of a number that is written with so many places, at most 15.
@@ -127,7 +176,7 @@ pub fn rounds_to_zero(value: Fixed, places: u8) -> bool
     requires { places ≤ 15 }
     ensures { result ≡ (scaled value places == 0) }
 {
-    scaled(value, places) == 0
+    scaled(value, places.min(6)) == 0
 }
 
 /// Writes a number with so many places, at most 15: rounded once, halves away from zero, with zeros past the
@@ -136,14 +185,8 @@ pub fn write_decimal(value: Fixed, places: u8) -> Digits
     requires { places ≤ 15 }
     ensures { result ≡ written value places }
 {
-    let number = scaled(value, places);
-    let all = digits_of(10 + places, number);
-    let digits = all.bytes();
-    write(
-        sign_of(value, number),
-        front(digits, 10),
-        behind(digits, 10),
-    )
+    let kept = places.min(6);
+    write(is_minus(value), scaled(value, kept), kept, places - kept, 10)
 }
 
 /// Writes a number with at most so many places, at most 15: rounded once, halves away from zero, without the
@@ -152,11 +195,9 @@ pub fn write_short(value: Fixed, places: u8) -> Digits
     requires { places ≤ 15 }
     ensures { result ≡ short value places }
 {
-    let number = scaled(value, places);
-    let all = digits_of(10 + places, number);
-    let digits = all.bytes();
-    let places = without_last_zeros(behind(digits, 10));
-    write(sign_of(value, number), front(digits, 10), places)
+    let kept = places.min(6);
+    let (number, left) = without_zeros_at_end(scaled(value, kept), kept);
+    write(is_minus(value), number, left, 0, 10)
 }
 
 /// Writes a hundred times a number with so many places, at most 15: multiplied exactly and rounded once, halves
@@ -165,14 +206,40 @@ pub fn write_hundredfold(value: Fixed, places: u8) -> Digits
     requires { places ≤ 15 }
     ensures { result ≡ hundredfold value places }
 {
-    let number = scaled(value, places + 2);
-    let all = digits_of(12 + places, number);
-    let digits = all.bytes();
-    write(
-        sign_of(value, number),
-        front(digits, 12),
-        behind(digits, 12),
-    )
+    let kept = places.min(4);
+    let number = scaled(value, kept + 2);
+    write(is_minus(value), number, kept, places - kept, 12)
+}
+
+/// How many decimals a number has, without zeros at their end.
+pub fn decimals(value: Fixed) -> u8
+    ensures decimals { result ≡ decimals value }
+    ensures most { result ≤ 6 }
+{
+    let (_, places) = without_zeros_at_end(size_of(value), 6);
+    places
+}
+
+/// How many whole digits a number has, at least one.
+pub fn whole_len(value: Fixed) -> u8
+    ensures { result ≡ whole_len value }
+{
+    count_digits(size_of(value) / 1_000_000)
+}
+
+/// How long a number is when it is written with so many places, at most 6.
+pub fn written_len(value: Fixed, places: u8) -> u8
+    requires { places ≤ 6 }
+    ensures { result ≡ length (written value places) }
+{
+    let number = scaled(value, places);
+    let whole = count_digits(before(number, places));
+    let sign = sign_len(value, number);
+    if places > 0 {
+        sign + whole + 1 + places
+    } else {
+        sign + whole
+    }
 }
 
 /// A number that is written with six places or more is read back as itself.
