@@ -1,15 +1,18 @@
 // Numbers as they are shown.
 ghost use Rattle.std.specs.Int.RustNames.{int_lt};
-ghost use Rattle.std.specs.Prelude.{◌≡◌, ◌≤◌, ◌<◌, ◌+◌, ◌-◌, ◌*◌, ◌++◌, ◌∷◌, ◌&&◌, ◌==◌, not, [], length, Some};
+ghost use Rattle.std.specs.Prelude.{◌≡◌, ◌≤◌, ◌<◌, ◌+◌, ◌-◌, ◌*◌, ◌++◌, ◌∷◌, ◌&&◌, ◌==◌, not, [], length, Some, ℕ};
 ghost use Rattle.cell_format.specs.Format.{shape_of, HasFewPlaces};
-ghost use Rattle.cell_format.specs.Numbers.{at_right, bracketed, fitting, grouped, number_text, placed, shown_number, size_text};
-ghost use Rattle.fixed_value.specs.Written.{hundredfold, scaled};
+ghost use Rattle.cell_format.specs.Numbers.{at_right, bracketed, dated, fitting, grouped, number_text, placed, shown_number, size_text};
+ghost use Rattle.fixed_value.specs.Written.{hundredfold, scaled, written};
+ghost use Rattle.serial_date.specs.Calendar.{date_of};
+ghost use Rattle.serial_date.specs.Fractions.{whole_day};
 
 use crate::dates::day_text;
 use crate::push::{fill, push};
-use crate::{Shape, shape_of};
+use crate::{DateForm, Shape, shape_of};
 use fixed_value::{
-    Fixed, digits_len, rounds_to_zero, write_decimal, write_hundredfold, write_short,
+    Digits, Fixed, decimals, digits_len, rounds_to_zero, whole_len, write_decimal, write_hundredfold,
+    write_short, written_len,
 };
 use grid_address::Format;
 use lics_text::Line;
@@ -83,39 +86,40 @@ fn percent_text(value: Fixed, places: u8) -> Line
     text
 }
 
-// A number with as many decimals as fit, at most so many.
-fn fitting(value: Fixed, places: u8, room: usize) -> Option<Line>
-    requires { places ≤ 6 }
-    ensures { result ≡ fitting places value room }
+// The most places, up to six, for which there may be room beside the whole digits and the point.
+fn most_places(value: Fixed, room: usize) -> u8
+    ensures few { result ≤ 6 }
+    ensures most { (places : ℕ) → result < places → places ≤ 6 → room < length (written value places) }
 {
-    if write_decimal(value, places).bytes().len() <= room {
-        return Some(line_of(write_short(value, places).bytes()));
-    }
-    if places > 0 {
-        fitting(value, places - 1, room)
-    } else {
-        None
-    }
+    let whole = usize::from(whole_len(value));
+    room.saturating_sub(whole + 1).min(6) as u8
 }
 
-// The text of a number; none where all bytes are stars.
-fn number_text(value: Fixed, format: Format, room: usize) -> Option<Line>
-    ensures { result ≡ number_text (shape_of format.0) value room }
+// A number with as many decimals as fit, at most so many.
+#[tactic(auto, using(crate::proofs::Fitting::fits, crate::proofs::Fitting::one_less, crate::proofs::Fitting::nothing_fits))]
+fn rounded(value: Fixed, most: u8, room: usize) -> Option<Digits>
+    requires { most ≤ 6 }
+    ensures { result ≡ fitting most value room }
 {
-    match shape_of(format) {
-        Shape::Fixed(places) => Some(line_of(write_decimal(value, places).bytes())),
-        Shape::Currency(places) => Some(grouped_text(value, places, b"$")),
-        Shape::Comma(places) => Some(grouped_text(value, places, b"")),
-        Shape::Percent(places) => Some(percent_text(value, places)),
-        Shape::Date(form) => day_text(form, value),
-        Shape::Hidden => Some(Line::new()),
-        Shape::Scientific(_) => fitting(value, 6, room),
-        Shape::Bar => fitting(value, 6, room),
-        Shape::General => fitting(value, 6, room),
-        Shape::Text => fitting(value, 6, room),
-        Shape::Default => fitting(value, 6, room),
-        Shape::Unnamed => fitting(value, 6, room),
+    let mut places = most;
+    while usize::from(written_len(value, places)) > room {
+        if places == 0 {
+            return None;
+        }
+        places -= 1;
     }
+    Some(write_short(value, places))
+}
+
+// A number with as many decimals as fit, at most six.
+fn fitting(value: Fixed, room: usize) -> Option<Digits>
+    ensures { result ≡ fitting 6 value room }
+{
+    let exact = decimals(value);
+    if usize::from(written_len(value, exact)) <= room {
+        return Some(write_decimal(value, exact));
+    }
+    rounded(value, most_places(value, room), room)
 }
 
 /// Adds a number in a cell of that width, by the format byte. A number that is too long is shown as stars;
@@ -134,7 +138,39 @@ fn put_number(value: Fixed, format: Format, width: usize, into: &mut Line)
     requires { length into.old + width ≤ 240 }
     ensures { into.new ≡ into.old ++ shown_number value format.0 width }
 {
-    match number_text(value, format, width.saturating_sub(1)) {
+    match shape_of(format) {
+        Shape::Fixed(places) => put_right(write_decimal(value, places).bytes(), width, into),
+        Shape::Currency(places) => put_right(grouped_text(value, places, b"$").bytes(), width, into),
+        Shape::Comma(places) => put_right(grouped_text(value, places, b"").bytes(), width, into),
+        Shape::Percent(places) => put_right(percent_text(value, places).bytes(), width, into),
+        Shape::Date(form) => put_day(form, value, width, into),
+        Shape::Hidden => put_right(b"", width, into),
+        Shape::Scientific(_) => put_general(value, width, into),
+        Shape::Bar => put_general(value, width, into),
+        Shape::General => put_general(value, width, into),
+        Shape::Text => put_general(value, width, into),
+        Shape::Default => put_general(value, width, into),
+        Shape::Unnamed => put_general(value, width, into),
+    }
+}
+
+// Adds a day, or stars.
+fn put_day(form: DateForm, value: Fixed, width: usize, into: &mut Line)
+    requires { length into.old + width ≤ 240 }
+    ensures { into.new ≡ into.old ++ placed (dated form (date_of (whole_day value))) width }
+{
+    match day_text(form, value) {
+        Some(text) => put_right(text.bytes(), width, into),
+        None => fill(into, b'*', width),
+    }
+}
+
+// Adds a number with as many decimals as fit, at most six, or stars.
+fn put_general(value: Fixed, width: usize, into: &mut Line)
+    requires { length into.old + width ≤ 240 }
+    ensures { into.new ≡ into.old ++ placed (fitting 6 value (width - 1)) width }
+{
+    match fitting(value, width.saturating_sub(1)) {
         Some(text) => put_right(text.bytes(), width, into),
         None => fill(into, b'*', width),
     }

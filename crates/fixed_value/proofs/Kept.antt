@@ -1,6 +1,6 @@
 -- Six places tell all of a number; past these there are zeros.
 use Rattle.std.specs.Int.RustNames.{int_lt}
-use Rattle.std.proofs.Common.{◌≡◌, ℕ, zero, suc, ◌+◌, ◌-◌, ◌*◌, ◌/◌, ◌%◌, ◌^◌, ◌≤◌, ◌<◌, Bool, true, false, List, [], ◌∷◌, ◌++◌, length, take, drop, replicate, min, refl, sym, ap, ◌∙◌, arith, inl, inr, append_assoc, length-append, subst}
+use Rattle.std.proofs.Common.{◌≡◌, ℕ, zero, suc, ◌+◌, ◌-◌, ◌*◌, ◌/◌, ◌^◌, ◌≤◌, ◌<◌, Bool, false, List, [], ◌∷◌, ◌++◌, length, take, drop, replicate, min, refl, sym, ap, ◌∙◌, arith, inl, inr, append_assoc, length-append}
 use Rattle.std.specs.Prelude.{◌==◌, ◌&&◌, not, nat_le, ℤ, pos, nat_abs}
 use Rattle.std.proofs.lemmas.Bool.{cases_Bool, eqb-true}
 use Rattle.std.proofs.lemmas.Bool.Decides.{nat_tests}
@@ -38,19 +38,19 @@ pub zero_kept : (v : ℤ) (places kept n : ℕ) → nat_abs v ≤ 99999999999999
 zero_kept v places kept n within is number = ap (λ k. k == 0) number ∙ zero_same (scaled v kept) (places - kept) ∙ ap (λ k. k == 0) (sym (raised_kept v places kept within is))
 
 -- the parts of a written number, by its kept places
-front_kept : (a k z all n m : ℕ) → all ≡ k + z → m ≡ n * 10 ^ z → take a (fixed_digits (a + all) m) ≡ fixed_digits a (n / 10 ^ k)
+pub front_kept : (a k z all n m : ℕ) → all ≡ k + z → m ≡ n * 10 ^ z → take a (fixed_digits (a + all) m) ≡ fixed_digits a (n / 10 ^ k)
 front_kept a k z all n m parts is = ap (λ l. take a (fixed_digits (a + l) m)) parts ∙ ap (λ l. take a (fixed_digits (a + (k + z)) l)) is ∙ front_part a k z n
 
-last_kept : (a k z all n m : ℕ) → all ≡ k + z → m ≡ n * 10 ^ z → drop a (fixed_digits (a + all) m) ≡ fixed_digits k n ++ replicate z 48
+pub last_kept : (a k z all n m : ℕ) → all ≡ k + z → m ≡ n * 10 ^ z → drop a (fixed_digits (a + all) m) ≡ fixed_digits k n ++ replicate z 48
 last_kept a k z all n m parts is = ap (λ l. drop a (fixed_digits (a + l) m)) parts ∙ ap (λ l. drop a (fixed_digits (a + (k + z)) l)) is ∙ last_part a k z n
 
-zero_raised : (n z m : ℕ) → m ≡ n * 10 ^ z → (m == 0) ≡ (n == 0)
+pub zero_raised : (n z m : ℕ) → m ≡ n * 10 ^ z → (m == 0) ≡ (n == 0)
 zero_raised n z m is = ap (λ k. k == 0) is ∙ sym (zero_same n z)
 
 abbrev signed_text : Bool → Bool → List ℕ → List ℕ → List ℕ
 signed_text minus none whole places = minus_sign (minus && not none) ++ (without_zeros whole ++ pointed places)
 
-same_text : (minus minus2 none none2 : Bool) (whole whole2 places places2 : List ℕ) → minus ≡ minus2 → none ≡ none2 → whole ≡ whole2 → places ≡ places2 → signed_text minus none whole places ≡ signed_text minus2 none2 whole2 places2
+pub same_text : (minus minus2 none none2 : Bool) (whole whole2 places places2 : List ℕ) → minus ≡ minus2 → none ≡ none2 → whole ≡ whole2 → places ≡ places2 → signed_text minus none whole places ≡ signed_text minus2 none2 whole2 places2
 same_text minus minus2 none none2 whole whole2 places places2 a b c d =
     ap (λ m. signed_text m none whole places) a ∙ ap (λ n. signed_text minus2 n whole places) b ∙ ap (λ (l : List ℕ). signed_text minus2 none2 l places) c ∙ ap (λ (l : List ℕ). signed_text minus2 none2 whole2 l) d
 
@@ -63,9 +63,9 @@ decimal_is v places kept n minus within is number sign =
     let parts : places ≡ kept + (places - kept) = omega (arith, is) in
     let value : scaled v places ≡ n * 10 ^ (places - kept) = raised_kept v places kept within is ∙ ap (λ k. k * 10 ^ (places - kept)) (sym number) in
     same_text minus (int_lt v (pos 0)) (n == 0) (scaled v places == 0) (fixed_digits 10 (n / 10 ^ kept)) (take 10 (fixed_digits (10 + places) (scaled v places))) (fixed_digits kept n ++ replicate (places - kept) 48) (drop 10 (fixed_digits (10 + places) (scaled v places)))
-      sign (sym (zero_raised n (places - kept) (scaled v places) value)) (sym (front_kept 10 kept (places - kept) places n (scaled v places) parts value)) (sym (last_kept 10 kept (places - kept) places n (scaled v places) parts value))
+    sign (sym (zero_raised n (places - kept) (scaled v places) value)) (sym (front_kept 10 kept (places - kept) places n (scaled v places) parts value)) (sym (last_kept 10 kept (places - kept) places n (scaled v places) parts value))
 
-zeros_dropped : (xs : List ℕ) (z : ℕ) → without_last_zeros (xs ++ replicate z 48) ≡ without_last_zeros xs
+pub zeros_dropped : (xs : List ℕ) (z : ℕ) → without_last_zeros (xs ++ replicate z 48) ≡ without_last_zeros xs
 zeros_dropped xs zero = ap without_last_zeros (append_nothing xs)
   where
     append_nothing : (l : List ℕ) → l ++ [] ≡ l
@@ -80,9 +80,9 @@ short_is v places kept n left rest minus within is number sign digits whole none
     let parts : places ≡ kept + (places - kept) = omega (arith, is) in
     let value : scaled v places ≡ n * 10 ^ (places - kept) = raised_kept v places kept within is ∙ ap (λ k. k * 10 ^ (places - kept)) (sym number) in
     let behind : without_last_zeros (drop 10 (fixed_digits (10 + places) (scaled v places))) ≡ fixed_digits left rest ++ [] =
-      ap without_last_zeros (last_kept 10 kept (places - kept) places n (scaled v places) parts value) ∙ zeros_dropped (fixed_digits kept n) (places - kept) ∙ sym digits ∙ nothing_behind (fixed_digits left rest) in
+    ap without_last_zeros (last_kept 10 kept (places - kept) places n (scaled v places) parts value) ∙ zeros_dropped (fixed_digits kept n) (places - kept) ∙ sym digits ∙ nothing_behind (fixed_digits left rest) in
     same_text minus (int_lt v (pos 0)) (rest == 0) (scaled v places == 0) (fixed_digits 10 (rest / 10 ^ left)) (take 10 (fixed_digits (10 + places) (scaled v places))) (fixed_digits left rest ++ []) (without_last_zeros (drop 10 (fixed_digits (10 + places) (scaled v places))))
-      sign (none ∙ sym (zero_raised n (places - kept) (scaled v places) value)) (ap (fixed_digits 10) whole ∙ sym (front_kept 10 kept (places - kept) places n (scaled v places) parts value)) (sym behind)
+    sign (none ∙ sym (zero_raised n (places - kept) (scaled v places) value)) (ap (fixed_digits 10) whole ∙ sym (front_kept 10 kept (places - kept) places n (scaled v places) parts value)) (sym behind)
   where
     nothing_behind : (l : List ℕ) → l ≡ l ++ []
     nothing_behind [] = refl
@@ -96,7 +96,7 @@ hundredfold_is v places kept n minus within is number sign =
     let behind : places + 2 - (kept + 2) ≡ places - kept = omega arith in
     let value : scaled v (places + 2) ≡ n * 10 ^ (places - kept) = raised_kept v (places + 2) (kept + 2) within both ∙ ap (λ k. scaled v (kept + 2) * 10 ^ k) behind ∙ ap (λ k. k * 10 ^ (places - kept)) (sym number) in
     same_text minus (int_lt v (pos 0)) (n == 0) (scaled v (places + 2) == 0) (fixed_digits 12 (n / 10 ^ kept)) (take 12 (fixed_digits (12 + places) (scaled v (places + 2)))) (fixed_digits kept n ++ replicate (places - kept) 48) (drop 12 (fixed_digits (12 + places) (scaled v (places + 2))))
-      sign (sym (zero_raised n (places - kept) (scaled v (places + 2)) value)) (sym (front_kept 12 kept (places - kept) places n (scaled v (places + 2)) parts value)) (sym (last_kept 12 kept (places - kept) places n (scaled v (places + 2)) parts value))
+    sign (sym (zero_raised n (places - kept) (scaled v (places + 2)) value)) (sym (front_kept 12 kept (places - kept) places n (scaled v (places + 2)) parts value)) (sym (last_kept 12 kept (places - kept) places n (scaled v (places + 2)) parts value))
 
 -- twelve digits hold a hundred times a number
 pub hundredfold_below : (n k : ℕ) → n / 10 ^ (k + 2) ≤ 1000000000 → n / 10 ^ k < 1000000000000
@@ -121,7 +121,7 @@ parts_len v places n number =
     let front = front_kept 10 places 0 places n (scaled v places) all value in
     let last : drop 10 (fixed_digits (10 + places) (scaled v places)) ≡ fixed_digits places n = last_kept 10 places 0 places n (scaled v places) all value ∙ nothing_behind (fixed_digits places n) in
     let text = same_text (int_lt v (pos 0)) (int_lt v (pos 0)) (n == 0) (scaled v places == 0) (fixed_digits 10 (n / 10 ^ places)) (take 10 (fixed_digits (10 + places) (scaled v places))) (fixed_digits places n) (drop 10 (fixed_digits (10 + places) (scaled v places)))
-      refl (ap (λ k. k == 0) number) (sym front) (sym last) in
+    refl (ap (λ k. k == 0) number) (sym front) (sym last) in
     sym (ap length text) ∙ length-append (minus_sign (int_lt v (pos 0) && not (n == 0))) (without_zeros (fixed_digits 10 (n / 10 ^ places)) ++ pointed (fixed_digits places n))
     ∙ ap (λ k. length (minus_sign (int_lt v (pos 0) && not (n == 0))) + k) (length-append (without_zeros (fixed_digits 10 (n / 10 ^ places))) (pointed (fixed_digits places n)))
   where

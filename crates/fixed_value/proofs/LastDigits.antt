@@ -1,6 +1,6 @@
 -- Digits of a number, from its end.
-use Rattle.std.proofs.Common.{◌≡◌, ℕ, zero, suc, ◌+◌, ◌-◌, ◌*◌, ◌/◌, ◌%◌, ◌^◌, ◌≤◌, ◌<◌, Bool, true, false, List, [], ◌∷◌, ◌++◌, length, take, drop, replicate, refl, sym, ap, ◌∙◌, arith, inl, inr, append_assoc, length-append}
-use Rattle.std.specs.Prelude.{◌==◌, ◌&&◌, ℤ, nat_abs}
+use Rattle.std.proofs.Common.{◌≡◌, ℕ, zero, suc, ◌+◌, ◌-◌, ◌*◌, ◌/◌, ◌%◌, ◌^◌, ◌≤◌, ◌<◌, true, false, List, [], ◌∷◌, ◌++◌, length, take, drop, replicate, refl, sym, ap, ◌∙◌, arith, inl, inr, append_assoc, length-append}
+use Rattle.std.specs.Prelude.{◌==◌}
 use Rattle.std.specs.List.{list_all}
 use Rattle.std.proofs.Math.Nat.{div-div-eq-div-mul}
 use Rattle.std.proofs.lemmas.Bool.{cases_Bool, eqb-true}
@@ -11,7 +11,7 @@ use Rattle.std.proofs.lemmas.List.Folds.{list_all-append}
 use Rattle.fixed_value.specs.Written.{fixed_digits, without_last_zeros, without_zeros}
 use Rattle.fixed_value.proofs.LastZeros.{digit_kept, is_zero, zero_dropped}
 use Rattle.fixed_value.proofs.Places.{power_positive, quotient_is, ten_more}
-use Rattle.fixed_value.proofs.Written.{fixed_digits_length, stripped_stays}
+use Rattle.fixed_value.proofs.Written.{fixed_digits_length}
 
 -- one digit at the end, and the digits before it
 pub last_digit : (k n : ℕ) → 0 < k → fixed_digits k n ≡ fixed_digits (k - 1) (n / 10) ++ (48 + n % 10) ∷ []
@@ -60,10 +60,13 @@ front_part a k z n =
     let number : n * 10 ^ z / 10 ^ (k + z) ≡ n / 10 ^ k = ap (λ m. n * 10 ^ z / m) power ∙ sym (div-div-eq-div-mul (n * 10 ^ z) (10 ^ z) (10 ^ k)) ∙ ap (λ m. m / 10 ^ k) (raised z n) in
     ap (take a) (split a (k + z) (n * 10 ^ z)) ∙ take_at (fixed_digits a (n * 10 ^ z / 10 ^ (k + z))) (fixed_digits (k + z) (n * 10 ^ z)) a (fixed_digits_length a (n * 10 ^ z / 10 ^ (k + z))) ∙ ap (fixed_digits a) number
 
+pub zeros_behind : (k z n : ℕ) → fixed_digits (k + z) (n * 10 ^ z) ≡ fixed_digits k n ++ replicate z 48
+zeros_behind k z n = split k z (n * 10 ^ z) ∙ ap (λ m. fixed_digits k m ++ fixed_digits z (n * 10 ^ z)) (raised z n) ∙ ap (λ (l : List ℕ). fixed_digits k n ++ l) (zeros z n)
+
 pub last_part : (a k z n : ℕ) → drop a (fixed_digits (a + (k + z)) (n * 10 ^ z)) ≡ fixed_digits k n ++ replicate z 48
 last_part a k z n =
     ap (drop a) (split a (k + z) (n * 10 ^ z)) ∙ drop_at (fixed_digits a (n * 10 ^ z / 10 ^ (k + z))) (fixed_digits (k + z) (n * 10 ^ z)) a (fixed_digits_length a (n * 10 ^ z / 10 ^ (k + z)))
-    ∙ split k z (n * 10 ^ z) ∙ ap (λ m. fixed_digits k m ++ fixed_digits z (n * 10 ^ z)) (raised z n) ∙ ap (λ (l : List ℕ). fixed_digits k n ++ l) (zeros z n)
+    ∙ zeros_behind k z n
 
 -- zeros in front
 no_digit : (ds : List ℕ) (e : ℕ) → list_all is_zero ds ≡ true → without_zeros (ds ++ e ∷ []) ≡ e ∷ []

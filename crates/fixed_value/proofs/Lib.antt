@@ -1,3 +1,4 @@
+pub mod Exact
 pub mod Kept
 pub mod LastDigits
 pub mod LastZeros

@@ -66,7 +66,8 @@ fn put_whole(text: &mut Front, most: u8, number: u64)
 #[tactic(auto, using(crate::proofs::LastDigits::count_more, crate::proofs::LastDigits::smaller, crate::proofs::LastDigits::one_digit))]
 fn count_digits(number: u64) -> u8
     requires { number < 10000000000 }
-    ensures { result ≡ length (without_zeros (fixed_digits 10 number)) }
+    ensures len { result ≡ length (without_zeros (fixed_digits 10 number)) }
+    ensures most { result ≤ 10 }
 {
     let mut left = number;
     let mut more: u8 = 10;
@@ -98,7 +99,8 @@ fn scaled(value: Fixed, places: u8) -> u64
 
 // The size in millionths.
 fn size_of(value: Fixed) -> u64
-    ensures { result ≡ nat_abs value }
+    ensures size { result ≡ nat_abs value }
+    ensures most { nat_abs value ≤ 999999999999999 }
 {
     value.millionths().unsigned_abs()
 }
@@ -186,7 +188,13 @@ pub fn write_decimal(value: Fixed, places: u8) -> Digits
     ensures { result ≡ written value places }
 {
     let kept = places.min(6);
-    write(is_minus(value), scaled(value, kept), kept, places - kept, 10)
+    write(
+        is_minus(value),
+        scaled(value, kept),
+        kept,
+        places - kept,
+        10,
+    )
 }
 
 /// Writes a number with at most so many places, at most 15: rounded once, halves away from zero, without the
@@ -211,18 +219,21 @@ pub fn write_hundredfold(value: Fixed, places: u8) -> Digits
     write(is_minus(value), number, kept, places - kept, 12)
 }
 
-/// How many decimals a number has, without zeros at their end.
+/// How many decimals a number has, without zeros at their end: with more places its short text is the same.
 pub fn decimals(value: Fixed) -> u8
     ensures decimals { result ≡ decimals value }
     ensures most { result ≤ 6 }
+    ensures enough { (places : ℕ) → result ≤ places → short value places ≡ written value result }
 {
     let (_, places) = without_zeros_at_end(size_of(value), 6);
     places
 }
 
-/// How many whole digits a number has, at least one.
+/// How many whole digits a number has, at least one: with places it is at least so long, a point and the places.
 pub fn whole_len(value: Fixed) -> u8
-    ensures { result ≡ whole_len value }
+    ensures len { result ≡ whole_len value }
+    ensures most { result ≤ 10 }
+    ensures least { (places : ℕ) → 0 < places → result + 1 + places ≤ length (written value places) }
 {
     count_digits(size_of(value) / 1_000_000)
 }
