@@ -11,8 +11,8 @@ use crate::dates::day_text;
 use crate::push::{fill, push};
 use crate::{DateForm, Shape, shape_of};
 use fixed_value::{
-    Digits, Fixed, decimals, digits_len, rounds_to_zero, whole_len, write_decimal, write_hundredfold,
-    write_short, written_len,
+    Digits, Fixed, decimals, digits_len, rounds_to_zero, whole_len, write_decimal,
+    write_hundredfold, write_short, written_len,
 };
 use grid_address::Format;
 use lics_text::Line;
@@ -140,7 +140,11 @@ fn put_number(value: Fixed, format: Format, width: usize, into: &mut Line)
 {
     match shape_of(format) {
         Shape::Fixed(places) => put_right(write_decimal(value, places).bytes(), width, into),
-        Shape::Currency(places) => put_right(grouped_text(value, places, b"$").bytes(), width, into),
+        Shape::Currency(places) => put_right(
+            grouped_text(value, places, b"$").bytes(),
+            width,
+            into,
+        ),
         Shape::Comma(places) => put_right(grouped_text(value, places, b"").bytes(), width, into),
         Shape::Percent(places) => put_right(percent_text(value, places).bytes(), width, into),
         Shape::Date(form) => put_day(form, value, width, into),
