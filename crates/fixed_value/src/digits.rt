@@ -219,14 +219,14 @@ pub fn write_hundredfold(value: Fixed, places: u8) -> Digits
     write(is_minus(value), number, kept, places - kept, 12)
 }
 
-/// How many decimals a number has, without zeros at their end: with more places its short text is the same.
-pub fn decimals(value: Fixed) -> u8
-    ensures decimals { result ≡ decimals value }
-    ensures most { result ≤ 6 }
-    ensures enough { (places : ℕ) → result ≤ places → short value places ≡ written value result }
+/// Writes a number with the decimals that it has, without zeros at their end: with more places its short text is
+/// the same.
+pub fn write_exact(value: Fixed) -> Digits
+    ensures text { result ≡ written value (decimals value) }
+    ensures few { decimals value ≤ 6 }
+    ensures enough { (places : ℕ) → decimals value ≤ places → short value places ≡ written value (decimals value) }
 {
-    let (_, places) = without_zeros_at_end(size_of(value), 6);
-    places
+    write_short(value, 6)
 }
 
 /// How many whole digits a number has, at least one: with places it is at least so long, a point and the places.
