@@ -8,10 +8,10 @@ ghost use Rattle.serial_date.specs.Calendar.{date_of};
 ghost use Rattle.serial_date.specs.Fractions.{whole_day};
 
 use crate::dates::day_text;
-use crate::push::{fill, push};
+use crate::push::{fill, push, put_spaces};
 use crate::{DateForm, Shape, shape_of};
 use fixed_value::{
-    Digits, Fixed, decimals, digits_len, rounds_to_zero, whole_len, write_decimal,
+    Digits, Fixed, digits_len, rounds_to_zero, whole_len, write_decimal, write_exact,
     write_hundredfold, write_short, written_len,
 };
 use grid_address::Format;
@@ -115,9 +115,9 @@ fn rounded(value: Fixed, most: u8, room: usize) -> Option<Digits>
 fn fitting(value: Fixed, room: usize) -> Option<Digits>
     ensures { result ≡ fitting 6 value room }
 {
-    let exact = decimals(value);
-    if usize::from(written_len(value, exact)) <= room {
-        return Some(write_decimal(value, exact));
+    let text = write_exact(value);
+    if text.bytes().len() <= room {
+        return Some(text);
     }
     rounded(value, most_places(value, room), room)
 }
@@ -139,14 +139,10 @@ fn put_number(value: Fixed, format: Format, width: usize, into: &mut Line)
     ensures { into.new ≡ into.old ++ shown_number value format.0 width }
 {
     match shape_of(format) {
-        Shape::Fixed(places) => put_right(write_decimal(value, places).bytes(), width, into),
-        Shape::Currency(places) => put_right(
-            grouped_text(value, places, b"$").bytes(),
-            width,
-            into,
-        ),
-        Shape::Comma(places) => put_right(grouped_text(value, places, b"").bytes(), width, into),
-        Shape::Percent(places) => put_right(percent_text(value, places).bytes(), width, into),
+        Shape::Fixed(places) => put_decimal(value, places, width, into),
+        Shape::Currency(places) => put_grouped(value, places, b"$", width, into),
+        Shape::Comma(places) => put_grouped(value, places, b"", width, into),
+        Shape::Percent(places) => put_percent(value, places, width, into),
         Shape::Date(form) => put_day(form, value, width, into),
         Shape::Hidden => put_right(b"", width, into),
         Shape::Scientific(_) => put_general(value, width, into),
@@ -156,6 +152,34 @@ fn put_number(value: Fixed, format: Format, width: usize, into: &mut Line)
         Shape::Default => put_general(value, width, into),
         Shape::Unnamed => put_general(value, width, into),
     }
+}
+
+// Adds a number with so many decimals, or stars.
+fn put_decimal(value: Fixed, places: u8, width: usize, into: &mut Line)
+    requires places { places ≤ 15 }
+    requires room { length into.old + width ≤ 240 }
+    ensures { into.new ≡ into.old ++ placed (Some (written value places)) width }
+{
+    put_right(write_decimal(value, places).bytes(), width, into);
+}
+
+// Adds a number in groups of three behind a mark, or stars.
+fn put_grouped(value: Fixed, places: u8, mark: &[u8], width: usize, into: &mut Line)
+    requires places { places ≤ 15 }
+    requires mark { length mark.now ≤ 1 }
+    requires room { length into.old + width ≤ 240 }
+    ensures { into.new ≡ into.old ++ placed (Some (bracketed value places (mark.now ++ size_text value places))) width }
+{
+    put_right(grouped_text(value, places, mark).bytes(), width, into);
+}
+
+// Adds a hundred times the number and the percent sign, or stars.
+fn put_percent(value: Fixed, places: u8, width: usize, into: &mut Line)
+    requires places { places ≤ 15 }
+    requires room { length into.old + width ≤ 240 }
+    ensures { into.new ≡ into.old ++ placed (Some (hundredfold value places ++ 37 ∷ [])) width }
+{
+    put_right(percent_text(value, places).bytes(), width, into);
 }
 
 // Adds a day, or stars.
@@ -186,7 +210,7 @@ fn put_right(text: &[u8], width: usize, into: &mut Line)
     ensures { into.new ≡ into.old ++ placed (Some text.now) width }
 {
     if text.len() < width {
-        fill(into, b' ', width - 1 - text.len());
+        put_spaces(into, width - 1 - text.len());
         into.put_all(text);
         push(into, b' ');
     } else {

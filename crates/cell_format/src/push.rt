@@ -11,6 +11,16 @@ pub fn push(into: &mut Line, byte: u8)
     into.put(byte);
 }
 
+static SPACES: [u8; 240] = [b' '; 240];
+
+// Adds so many spaces.
+pub fn put_spaces(into: &mut Line, count: usize)
+    requires { length into.old + count ≤ 240 }
+    ensures { into.new ≡ into.old ++ replicate count 32 }
+{
+    into.put_all(&SPACES[..count]);
+}
+
 // Adds one byte so many times.
 pub fn fill(into: &mut Line, byte: u8, count: usize)
     requires { length into.old + count ≤ 240 }

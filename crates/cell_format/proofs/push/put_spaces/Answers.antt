@@ -1,0 +1,6 @@
+use Rattle.std.proofs.Common.{◌++◌, ℕ, List, ap, ◌∙◌, arith}
+use Rattle.std.proofs.lemmas.List.{take-replicate}
+use Rattle.cell_format.proofs.push.put_spaces.Goals as goal
+
+pub returns : goal.returns
+returns c = c.put_all.ensures ∙ ap (λ (l : List ℕ). c.args.into.now ++ l) (take-replicate c.args.count 240 32 (omega (arith, c.requires)))
