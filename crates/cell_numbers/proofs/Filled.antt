@@ -1,0 +1,204 @@
+-- What a map of held cells has, and what it has after an item is put in or taken out.
+use Rattle.std.specs.Prelude.{ℕ, suc, zero, ◌≡◌, ◌<◌, ◌++◌, ◌-◌, IsSome, cond, refl, Bool, true, false, List, [], ◌∷◌, length, map, get_or, set, slice_get, Option, None, Some}
+use Rattle.std.specs.FinMap.{empty, find, from_entries, from_entries_push, get, get-from_entries, insert, remove}
+use Rattle.std.specs.Ordering.{eq_by_cmp}
+use Rattle.std.proofs.Common.{sym, ◌∙◌, ap, subst, arith, inl, inr, ◌⊎◌}
+use Rattle.std.proofs.lemmas.Bool.{cases_Bool}
+use Rattle.std.proofs.lemmas.List.{length-map}
+use Rattle.std.specs.Option.{option_map}
+use Rattle.std.proofs.lemmas.Option.{slice_get-get_or, slice_get-map, slice_get_within}
+use Rattle.grid_address.specs.Place.{place_cmp, same_place, InSheet, Place}
+use Rattle.grid_address.proofs.Places.{cells_exact, cells_total, get_inserted, get_removed, place_tied, same_place_is, same_place_itself, same_places}
+use Rattle.cell_numbers.specs.Numbers.{number_at}
+use Rattle.cell_numbers.specs.Filled.{cells_of, filled, with_item, Numbered}
+use Rattle.cell_numbers.specs.declared.held.Held.{Held}
+
+same_some : {X : Type 0} {x y : X} → Some x ≡ Some y → x ≡ y
+same_some h = cc
+
+no_some : {X : Type 0} {x : X} → None ≡ Some x → ⊥
+no_some h = absurd cc
+
+same_suc : {i j : ℕ} → suc i ≡ suc j → i ≡ j
+same_suc h = omega (arith, h)
+
+apart : (q c : Place) → (c ≡ q → ⊥) → eq_by_cmp place_cmp q c ≡ false
+apart q c n = elim (cases_Bool (same_place q c)) [
+  | inl t ↦ absurd (n (sym (same_place_is q c t)))
+  | inr f ↦ place_tied q c ∙ f
+]
+
+no_item : (X : Type 0) → IsSome {T = X} None → ⊥
+no_item X h = absurd cc
+
+module _ {T : Type 0} where
+  skip : (q c : Place) (o : Option T) (es : List (Place × T)) → (c ≡ q → ⊥) → find place_cmp q (with_item c o es) ≡ find place_cmp q es
+  skip q c None es n = refl
+  skip q c (Some x) es n = ap (λ b. cond b (Some x) (find place_cmp q es)) (apart q c n)
+
+  here : (q c : Place) (o : Option T) (es : List (Place × T)) → c ≡ q → find place_cmp q es ≡ None → find place_cmp q (with_item c o es) ≡ o
+  here q c None es e none = none
+  here q c (Some x) es e none = ap (λ b. cond b (Some x) (find place_cmp q es)) (place_tied q c ∙ ap (same_place q) e ∙ same_place_itself q)
+
+  under : (q c : Place) (o : Option T) (es fs : List (Place × T)) → find place_cmp q es ≡ find place_cmp q fs → find place_cmp q (with_item c o es) ≡ find place_cmp q (with_item c o fs)
+  under q c None es fs h = h
+  under q c (Some x) es fs h = ap (λ f. cond (eq_by_cmp place_cmp q c) (Some x) f) h
+
+  with_append : (c : Place) (o : Option T) (es fs : List (Place × T)) → with_item c o (es ++ fs) ≡ with_item c o es ++ fs
+  with_append c None es fs = refl
+  with_append c (Some x) es fs = refl
+
+  filled_push : (hs : List (Held T)) (h : Held T) → filled (hs ++ h ∷ []) ≡ filled hs ++ filled (h ∷ [])
+  filled_push [] h = refl
+  filled_push (x ∷ hs) h = ap (with_item x.cell x.item) (filled_push hs h) ∙ with_append x.cell x.item (filled hs) (filled (h ∷ []))
+
+  none_at : (q : Place) (hs : List (Held T)) → ((i : ℕ) → slice_get (cells_of hs) i ≡ Some q → ⊥) → find place_cmp q (filled hs) ≡ None
+  none_at q [] n = refl
+  none_at q (x ∷ hs) n = skip q x.cell x.item (filled hs) (λ e. n 0 (ap Some e)) ∙ none_at q hs (λ i. n (suc i))
+
+  item_at : (q : Place) (hs : List (Held T)) (i : ℕ) (h : Held T) → slice_get hs i ≡ Some h → h.cell ≡ q → ((j : ℕ) → slice_get (cells_of hs) j ≡ Some q → j ≡ i) → find place_cmp q (filled hs) ≡ h.item
+  item_at q [] i h e c u = absurd (no_some e)
+  item_at q (x ∷ hs) zero h e c u =
+      let is : x ≡ h = same_some e in
+      here q x.cell x.item (filled hs) (ap (λ (y : Held T). y.cell) is ∙ c) (none_at q hs (λ i k. (let z : suc i ≡ 0 = u (suc i) k in absurd (omega (arith, z))))) ∙ ap (λ (y : Held T). y.item) is
+  item_at q (x ∷ hs) (suc i) h e c u =
+      skip q x.cell x.item (filled hs) (λ k. (let z : 0 ≡ suc i = u 0 (ap Some k) in absurd (omega (arith, z))))
+      ∙ item_at q hs i h e c (λ j k. same_suc (u (suc j) k))
+
+  beside : (q : Place) (hs : List (Held T)) (i : ℕ) (g : Held T) → (g.cell ≡ q → ⊥) → slice_get (cells_of hs) i ≡ Some g.cell → find place_cmp q (filled (set hs i g)) ≡ find place_cmp q (filled hs)
+  beside q [] i g n e = refl
+  beside q (x ∷ hs) zero g n e = skip q g.cell g.item (filled hs) n ∙ sym (skip q x.cell x.item (filled hs) (λ k. n (sym (same_some e) ∙ k)))
+  beside q (x ∷ hs) (suc i) g n e = under q x.cell x.item (filled (set hs i g)) (filled hs) (beside q hs i g n e)
+
+  set_here : (hs : List (Held T)) (i : ℕ) (g h : Held T) → slice_get hs i ≡ Some h → slice_get (set hs i g) i ≡ Some g
+  set_here [] i g h e = absurd (no_some e)
+  set_here (x ∷ hs) zero g h e = refl
+  set_here (x ∷ hs) (suc i) g h e = set_here hs i g h e
+
+  pub same_cells : (hs : List (Held T)) (i : ℕ) (g : Held T) → slice_get (cells_of hs) i ≡ Some g.cell → cells_of (set hs i g) ≡ cells_of hs
+  same_cells [] i g e = refl
+  same_cells (x ∷ hs) zero g e = ap (λ c. c ∷ cells_of hs) (sym (same_some e))
+  same_cells (x ∷ hs) (suc i) g e = ap (λ l. x.cell ∷ l) (same_cells hs i g e)
+
+  module _ (bands : List (List ℕ)) (hs : List (Held T)) (ok : Numbered bands (cells_of hs)) (c : Place) (inside : InSheet c) where
+    only : (i : ℕ) → number_at bands c ≡ suc i → (j : ℕ) → slice_get (cells_of hs) j ≡ Some c → j ≡ i
+    only i e j k = same_suc (sym (ok.told j c k) ∙ e)
+
+    pub within : (i : ℕ) → number_at bands c ≡ suc i → i < length hs
+    within i e = subst (λ n. i < n) (length-map hs (λ (h : Held T). h.cell)) (slice_get_within (cells_of hs) i c (ok.found c i inside e))
+
+    pub cell_at : (i : ℕ) (d : Held T) → number_at bands c ≡ suc i → (get_or hs i d).cell ≡ c
+    cell_at i d e = same_some (sym (slice_get-map (λ (h : Held T). h.cell) hs i ∙ ap (λ o. option_map (λ (h : Held T). h.cell) o) (slice_get-get_or hs i d (within i e))) ∙ ok.found c i inside e)
+
+    -- a cell with a number has the item that is held there
+    pub got : (i : ℕ) (d : Held T) → number_at bands c ≡ suc i → get (from_entries {R = place_cmp} (filled hs)) c ≡ (get_or hs i d).item
+    got i d e = get-from_entries cells_total (filled hs) c ∙ item_at c hs i (get_or hs i d) (slice_get-get_or hs i d (within i e)) (cell_at i d e) (only i e)
+
+    unnumbered : number_at bands c ≡ 0 → (i : ℕ) → slice_get (cells_of hs) i ≡ Some c → ⊥
+    unnumbered z i k = let n : suc i ≡ 0 = sym (ok.told i c k) ∙ z in absurd (omega (arith, n))
+
+    -- one without a number has none
+    pub got_none : number_at bands c ≡ 0 → get (from_entries {R = place_cmp} (filled hs)) c ≡ None
+    got_none z = get-from_entries cells_total (filled hs) c ∙ none_at c hs (unnumbered z)
+
+    -- a cell with an item has a number
+    pub number_of_item : IsSome (get (from_entries {R = place_cmp} (filled hs)) c) → number_at bands c ≡ suc (number_at bands c - 1)
+    number_of_item h = with (number_at bands c) refl
+      where
+        with : (n : ℕ) → number_at bands c ≡ n → number_at bands c ≡ suc (number_at bands c - 1)
+        with zero e = absurd (no_item T (subst IsSome (got_none e) h))
+        with (suc n) e = omega (arith, e)
+
+    pub same_numbered : (i : ℕ) (o : Option T) → number_at bands c ≡ suc i → Numbered bands (cells_of (set hs i (record { cell = c; item = o })))
+    same_numbered i o e = subst (Numbered bands) (sym (same_cells hs i (record { cell = c; item = o }) (ok.found c i inside e))) ok
+
+    found_set : (i : ℕ) (o : Option T) → number_at bands c ≡ suc i → (q : Place) → find place_cmp q (filled (set hs i (record { cell = c; item = o }))) ≡ cond (same_place q c) o (find place_cmp q (filled hs))
+    found_set i o e q =
+        let g : Held T = record { cell = c; item = o } in
+        let at = ok.found c i inside e in
+        elim (cases_Bool (same_place q c)) [
+          | inl t ↦
+              let is : q ≡ c = same_place_is q c t in
+              ap (λ x. find place_cmp x (filled (set hs i g))) is
+              ∙ item_at c (set hs i g) i g (set_here hs i g (get_or hs i g) (slice_get-get_or hs i g (within i e))) refl
+              (λ j k. only i e j (subst (λ l. slice_get l j ≡ Some c) (same_cells hs i g at) k))
+              ∙ ap (λ b. cond b o (find place_cmp q (filled hs))) (sym t)
+          | inr f ↦ beside q hs i g (λ k. false_true (sym f ∙ ap (λ x. same_place x c) (sym k) ∙ same_place_itself c)) at ∙ ap (λ b. cond b o (find place_cmp q (filled hs))) (sym f)
+        ]
+      where
+        false_true : false ≡ true → ⊥
+        false_true h = absurd cc
+
+    -- an item put in where a cell is held
+    pub put_in : (i : ℕ) (x : T) → number_at bands c ≡ suc i → from_entries {R = place_cmp} (filled (set hs i (record { cell = c; item = Some x }))) ≡ insert (from_entries (filled hs)) c x
+    put_in i x e = same_places _ _ (λ q. get-from_entries cells_total (filled (set hs i (record { cell = c; item = Some x }))) q ∙ found_set i (Some x) e q
+        ∙ ap (λ o. cond (same_place q c) (Some x) o) (sym (get-from_entries cells_total (filled hs) q)) ∙ sym (get_inserted (from_entries (filled hs)) c x q))
+
+    -- and taken out
+    pub taken_out : (i : ℕ) → number_at bands c ≡ suc i → from_entries {R = place_cmp} (filled (set hs i (record { cell = c; item = None }))) ≡ remove (from_entries (filled hs)) c
+    taken_out i e = same_places _ _ (λ q. get-from_entries cells_total (filled (set hs i (record { cell = c; item = None }))) q ∙ found_set i None e q
+        ∙ ap (λ o. cond (same_place q c) None o) (sym (get-from_entries cells_total (filled hs) q)) ∙ sym (get_removed (from_entries (filled hs)) c q))
+
+    taken_cases : (z : number_at bands c ≡ 0) (q : Place) → (same_place q c ≡ true) ⊎ (same_place q c ≡ false) → get (from_entries {R = place_cmp} (filled hs)) q ≡ cond (same_place q c) None (get (from_entries {R = place_cmp} (filled hs)) q)
+    taken_cases z q (inl t) = ap (get (from_entries {R = place_cmp} (filled hs))) (same_place_is q c t) ∙ got_none z ∙ ap (λ b. cond b None (get (from_entries {R = place_cmp} (filled hs)) q)) (sym t)
+    taken_cases z q (inr f) = ap (λ b. cond b None (get (from_entries {R = place_cmp} (filled hs)) q)) (sym f)
+
+    pub taken_none : number_at bands c ≡ 0 → from_entries {R = place_cmp} (filled hs) ≡ remove (from_entries (filled hs)) c
+    taken_none z = same_places _ _ (λ q. taken_cases z q (cases_Bool (same_place q c)) ∙ sym (get_removed (from_entries (filled hs)) c q))
+
+    -- a cell that gets its number
+    pub added : (x : T) → number_at bands c ≡ 0 → from_entries {R = place_cmp} (filled (hs ++ record { cell = c; item = Some x } ∷ [])) ≡ insert (from_entries (filled hs)) c x
+    added x z = ap (λ es. from_entries {R = place_cmp} es) (filled_push hs (record { cell = c; item = Some x })) ∙ from_entries_push cells_total cells_exact (filled hs) c x (none_at c hs (unnumbered z))
+
+last_or : (xs : List Place) (x y : Place) (i : ℕ) → slice_get (xs ++ x ∷ []) i ≡ Some y → (slice_get xs i ≡ Some y) ⊎ ((i ≡ length xs) × (x ≡ y))
+last_or [] x y zero h = inr (refl, same_some h)
+last_or [] x y (suc i) h = absurd (no_some h)
+last_or (z ∷ xs) x y zero h = inl h
+last_or (z ∷ xs) x y (suc i) h = with (last_or xs x y i h)
+  where
+    with : (slice_get xs i ≡ Some y) ⊎ ((i ≡ length xs) × (x ≡ y)) → (slice_get xs i ≡ Some y) ⊎ ((suc i ≡ suc (length xs)) × (x ≡ y))
+    with (inl k) = inl k
+    with (inr k) = inr (ap suc k.0, k.1)
+
+longer : (xs zs : List Place) (y : Place) (i : ℕ) → slice_get xs i ≡ Some y → slice_get (xs ++ zs) i ≡ Some y
+longer [] zs y i h = absurd (no_some h)
+longer (x ∷ xs) zs y zero h = h
+longer (x ∷ xs) zs y (suc i) h = longer xs zs y i h
+
+last_is : (xs : List Place) (x : Place) → slice_get (xs ++ x ∷ []) (length xs) ≡ Some x
+last_is [] x = refl
+last_is (y ∷ xs) x = last_is xs x
+
+number_last : (old new : List (List ℕ)) (cells : List Place) (c : Place) → Numbered old cells → InSheet c → number_at old c ≡ 0
+    → ((d : Place) → InSheet d → number_at new d ≡ cond (same_place c d) (suc (length cells)) (number_at old d)) → Numbered new (cells ++ c ∷ [])
+number_last old new cells c ok inside z h = record {
+  inside = λ i d k. elim (last_or cells c d i k) [ inl e ↦ ok.inside i d e | inr e ↦ subst InSheet e.1 inside ];
+  told = λ i d k. told i d (last_or cells c d i k);
+  found = λ d i hd k. elim (cases_Bool (same_place c d)) [
+    | inl t ↦
+        let n : suc (length cells) ≡ suc i = sym (ap (λ b. cond b (suc (length cells)) (number_at old d)) t) ∙ sym (h d hd) ∙ k in
+        subst (λ j. slice_get (cells ++ c ∷ []) j ≡ Some d) (same_suc n) (last_is cells c ∙ ap Some (same_place_is c d t))
+    | inr f ↦ longer cells (c ∷ []) d i (ok.found d i hd (sym (ap (λ b. cond b (suc (length cells)) (number_at old d)) f) ∙ sym (h d hd) ∙ k))
+  ];
+}
+  where
+    told : (i : ℕ) (d : Place) → (slice_get cells i ≡ Some d) ⊎ ((i ≡ length cells) × (c ≡ d)) → number_at new d ≡ suc i
+    told i d (inr e) = h d (subst InSheet e.1 inside) ∙ ap (λ b. cond b (suc (length cells)) (number_at old d)) (ap (same_place c) (sym e.1) ∙ same_place_itself c) ∙ ap suc (sym e.0)
+    told i d (inl e) = h d (ok.inside i d e) ∙ ap (λ b. cond b (suc (length cells)) (number_at old d)) (differ (cases_Bool (same_place c d))) ∙ ok.told i d e
+      where
+        differ : (same_place c d ≡ true) ⊎ (same_place c d ≡ false) → same_place c d ≡ false
+        differ (inr f) = f
+        differ (inl t) = let n : 0 ≡ suc i = sym z ∙ ap (number_at old) (same_place_is c d t) ∙ ok.told i d e in absurd (omega (arith, n))
+
+cells_pushed : {T : Type 0} (hs : List (Held T)) (h : Held T) → cells_of (hs ++ h ∷ []) ≡ cells_of hs ++ h.cell ∷ []
+cells_pushed [] h = refl
+cells_pushed (x ∷ hs) h = ap (λ l. x.cell ∷ l) (cells_pushed hs h)
+
+pub added_numbered : {T : Type 0} (old new : List (List ℕ)) (hs : List (Held T)) (c : Place) (x : T) → Numbered old (cells_of hs) → InSheet c → number_at old c ≡ 0
+    → ((d : Place) → InSheet d → number_at new d ≡ cond (same_place c d) (suc (length hs)) (number_at old d)) → Numbered new (cells_of (hs ++ record { cell = c; item = Some x } ∷ []))
+added_numbered {T} old new hs c x ok inside z h = subst (Numbered new) (sym (cells_pushed hs (record { cell = c; item = Some x })))
+    (number_last old new (cells_of hs) c ok inside z (λ d k. h d k ∙ ap (λ n. cond (same_place c d) (suc n) (number_at old d)) (sym (length-map hs (λ (h : Held T). h.cell)))))
+
+-- the same numbers in another table
+pub same_table : (old new : List (List ℕ)) (cells : List Place) → ((d : Place) → number_at new d ≡ number_at old d) → Numbered old cells → Numbered new cells
+same_table old new cells h ok = record { inside = ok.inside; told = λ i c k. h c ∙ ok.told i c k; found = λ c i k e. ok.found c i k (sym (h c) ∙ e) }

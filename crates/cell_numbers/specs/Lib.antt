@@ -1,0 +1,4 @@
+pub mod Filled
+pub mod Lends
+pub mod MapLends
+pub mod Numbers

@@ -1,0 +1,171 @@
+// Maps from cells to items.
+ghost use Rattle.std.specs.Prelude.{◌≡◌, ◌++◌, ◌∷◌, [], ◌<◌, suc, ℕ, cond, length, false, Some, None, option_copied, IfSome, IfNone, IsSome, IsTrue, ◌↔◌, OnOk, OnErr};
+ghost use Rattle.std.specs.Option.{option_copied_mut};
+ghost use Rattle.std.specs.Borrow.{sem};
+ghost use Rattle.std.specs.FinMap as map;
+ghost use Rattle.grid_address.specs.Place.{same_place, InSheet, Place};
+ghost use Rattle.cell_numbers.specs.Numbers.{band_of, number_at};
+
+use crate::{Held, PlaceTable};
+use grid_address::Cell;
+use std::alloc::{AllocError, Global};
+use std::marker::Model;
+
+/// The most numbers that a table can tell apart.
+const MOST: usize = 0xFFFF_FFFF;
+
+/// A finite map from cells to items. Each cell that was ever put in keeps a number, and an item is found by its cell's
+/// number, so that only a cell that is put in for the first time takes memory.
+#[derive(Drop)]
+pub struct CellMap<T> {
+    table: PlaceTable,
+    held: Vec<Held<T>>,
+}
+
+impl<T> Model for CellMap<T> {
+    ghost use Rattle.std.specs.FinMap as map;
+    ghost use Rattle.std.specs.FinMap.{FinMap};
+    ghost use Rattle.grid_address.specs.Place.{coded_place, place_cmp};
+
+    ghost Value = { FinMap place_cmp T };
+
+    ghost coded = { map.code coded_place T.code };
+
+    ghost use Rattle.cell_numbers.specs.Filled.{cells_of, filled, Numbered};
+
+    ghost view = { λ m. map.from_entries (filled m.held.items) };
+
+    ghost invariant = { λ m. Numbered m.table (cells_of m.held.items) };
+}
+
+// Where a cell is held, if it has a number.
+fn index_of(table: &PlaceTable, cell: Cell) -> Option<usize>
+    ensures none { IfNone result (number_at table.now cell ≡ 0) }
+    ensures some { IfSome result (λ i. number_at table.now cell ≡ suc i) }
+{
+    match table.number_at(cell) {
+        0 => None,
+        number => Some(number as usize - 1),
+    }
+}
+
+// Holds an item at a cell that has no number yet.
+fn add<T: Drop>(
+    table: &mut PlaceTable,
+    held: &mut Vec<Held<T>>,
+    cell: Cell,
+    item: T,
+) -> Result<(), AllocError>
+    ensures held { OnOk result (held.new.items ≡ held.old.items ++ record { cell = cell; item = Some item } ∷ []) }
+    ensures numbers { OnOk result ((d : Place) → InSheet d → number_at table.new d ≡ cond (same_place cell d) (suc (length held.old.items)) (number_at table.old d)) }
+    ensures err_held { OnErr result (held.new.items ≡ held.old.items) }
+    ensures err_numbers { OnErr result ((d : Place) → number_at table.new d ≡ number_at table.old d) }
+{
+    table.make_room(cell)?;
+    if held.len() >= MOST {
+        return Err(AllocError);
+    }
+    let number = held.len() as u32 + 1;
+    held.push(Held {
+        cell,
+        item: Some(item),
+    })?;
+    table.set(cell, number);
+    Ok(())
+}
+
+impl<T> CellMap<T> {
+    ghost use Rattle.cell_numbers.specs.Filled.{cells_of, filled, AreOnce};
+    ghost use Rattle.cell_numbers.specs.MapLends.{lends_at, lends_get};
+
+    /// An empty map. It takes no memory.
+    pub fn new(alloc: Global) -> CellMap<T>
+        ensures { result ≡ map.empty }
+    {
+        CellMap {
+            table: PlaceTable::new(alloc),
+            held: Vec::new(alloc),
+        }
+    }
+
+    /// The item of a cell.
+    pub fn get(&self, cell: Cell) -> Option<&T>
+        ensures { option_copied result ≡ map.get self.now cell }
+    {
+        cell.is_on_sheet();
+        match index_of(&self.table, cell) {
+            Some(at) => self.held[at].item.as_ref(),
+            None => None,
+        }
+    }
+
+    /// The item of a cell, to be changed in place.
+    pub fn get_mut(&mut self, cell: Cell) -> Option<&mut T>
+        ensures* writes_back { sem 𝓛 (lends_get T.row self.entry cell result) }
+        ensures value { option_copied_mut result ≡ map.get self.old cell }
+    {
+        if self.contains(cell) {
+            Some(self.item_mut(cell))
+        } else {
+            None
+        }
+    }
+
+    /// Whether a cell has an item.
+    pub fn contains(&self, cell: Cell) -> bool
+        ensures { IsTrue result ↔ IsSome (map.get self.now cell) }
+    {
+        self.get(cell).is_some()
+    }
+
+    fn item_mut(&mut self, cell: Cell) -> &mut T
+        requires { IsSome (map.get self.old cell) }
+        ensures* writes_back { sem 𝓛 (lends_at T.row self.entry cell result) }
+        ensures value { map.get self.old cell ≡ Some result.now }
+    {
+        cell.is_on_sheet();
+        let at = self.table.number_at(cell) as usize - 1;
+        self.held[at].item_mut()
+    }
+
+    /// Gives a cell an item in place of the one that it has. Only a cell that was never put in can find no memory.
+    pub fn insert(&mut self, cell: Cell, item: T) -> Result<(), AllocError>
+    where
+        T: Drop,
+        ensures ok { OnOk result (self.new ≡ map.insert self.old cell item) }
+        ensures err { OnErr result (self.new ≡ self.old) }
+        ensures absent { OnErr result (map.get self.old cell ≡ None) }
+    {
+        cell.is_on_sheet();
+        match index_of(&self.table, cell) {
+            Some(at) => {
+                self.held[at].item = Some(item);
+                Ok(())
+            }
+            None => {
+                add(&mut self.table, &mut self.held, cell, item)?;
+                Ok(())
+            }
+        }
+    }
+
+    /// Takes a cell's item out. The cell keeps its number.
+    pub fn remove(&mut self, cell: Cell)
+    where
+        T: Drop,
+        ensures { self.new ≡ map.remove self.old cell }
+    {
+        cell.is_on_sheet();
+        if let Some(at) = index_of(&self.table, cell) {
+            self.held[at].item = None;
+        }
+    }
+
+    /// The cells that have numbers, in the order in which they got them, each once.
+    pub fn held(&self) -> &[Held<T>]
+        ensures items { map.from_entries (filled result.now) ≡ self.now }
+        ensures once { AreOnce (cells_of result.now) }
+    {
+        self.held.as_slice()
+    }
+}
