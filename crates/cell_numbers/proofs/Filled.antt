@@ -52,7 +52,7 @@ module _ {T : Type 0} where
   filled_push [] h = refl
   filled_push (x ∷ hs) h = ap (with_item x.cell x.item) (filled_push hs h) ∙ with_append x.cell x.item (filled hs) (filled (h ∷ []))
 
-  none_at : (q : Place) (hs : List (Held T)) → ((i : ℕ) → slice_get (cells_of hs) i ≡ Some q → ⊥) → find place_cmp q (filled hs) ≡ None
+  pub none_at : (q : Place) (hs : List (Held T)) → ((i : ℕ) → slice_get (cells_of hs) i ≡ Some q → ⊥) → find place_cmp q (filled hs) ≡ None
   none_at q [] n = refl
   none_at q (x ∷ hs) n = skip q x.cell x.item (filled hs) (λ e. n 0 (ap Some e)) ∙ none_at q hs (λ i. n (suc i))
 

@@ -3,7 +3,8 @@ use Rattle.std.specs.Prelude.{◌≡◌, ◌<◌, Bool, true, false, cond, ◌&&
 use Rattle.std.specs.BTreeMap.Comparable.{le_lt_trans}
 use Rattle.std.specs.declared.cmp.Ordering.{Ordering}
 use Rattle.std.specs.declared.cmp.Ordering.TheVariants.{Less, Equal, Greater}
-use Rattle.std.specs.Ordering.{is_le, is_lt, ordering_reverse}
+use Rattle.std.specs.Ordering.{eq_by_cmp, is_eq, is_le, is_lt, ordering_reverse}
+use Rattle.std.specs.FinMap.{find}
 use Rattle.std.specs.List.{filter, AllByRecursion}
 use Rattle.std.specs.List.Sorted.{IsStrictlySortedBy}
 use Rattle.std.specs.Map.{keys_of}
@@ -13,8 +14,9 @@ use Rattle.std.proofs.lemmas.Cmp.{tied_itself}
 use Rattle.grid_address.proofs.Places.{cells_total}
 use Rattle.grid_address.specs.Place.{is_within, place_cmp, Extent, InSheet, Place}
 use Rattle.sheet_store.specs.Grid.{picked}
-use Rattle.sheet_store.specs.Scan.{entries_from, left_from, number_of, places_left}
+use Rattle.sheet_store.specs.Scan.{entries_from, left_from, number_of, picked_at, places_left}
 use Rattle.sheet_store.specs.declared.state.CellState.{CellState}
+use Rattle.sheet_store.proofs.Held.{same_some, tied}
 
 heads_are : {A : Type 0} {x y : A} {xs ys : List A} → x ∷ xs ≡ y ∷ ys → x ≡ y
 heads_are h = cc
@@ -72,15 +74,6 @@ all_weaker : (P Q : Place → Type 0) → ((y : Place) → P y → Q y) → (es 
 all_weaker P Q f [] h = h
 all_weaker P Q f (e ∷ es) h = (f e.0 h.0, all_weaker P Q f es h.1)
 
--- the first that passes is one of the entries
-first_has : (P : Place → Type 0) (f : Place × CellState → Bool) (es : List (Place × CellState)) (e : Place × CellState) (rest : List (Place × CellState)) → AllByRecursion P (keys_of es) → filter f es ≡ e ∷ rest → P e.0
-first_has P f [] e rest h k = absurd cc
-first_has P f (x ∷ es) e rest h k = with (f x) k (first_has P f es e rest h.1)
-  where
-    with : (b : Bool) → cond b (x ∷ filter f es) (filter f es) ≡ e ∷ rest → (filter f es ≡ e ∷ rest → P e.0) → P e.0
-    with true k later = subst (λ (y : Place × CellState). P y.0) (heads_are k) h.0
-    with false k later = later k
-
 reversed : (o : Ordering) → o ≡ Less → is_lt (ordering_reverse o) ≡ false
 reversed Less h = refl
 reversed Equal h = absurd cc
@@ -92,44 +85,64 @@ not_behind e x h = ap is_lt (cells_total.antisymm e x) ∙ reversed (place_cmp x
 not_itself : (x : Place) → is_lt (place_cmp x x) ≡ false
 not_itself x = ap is_lt (tied_itself cells_total x)
 
--- behind the first entry from a place on stand the entries behind it
-tail_behind : (c : Place) (es : List (Place × CellState)) → IsStrictlySortedBy place_cmp (keys_of es) → (e : Place × CellState) (rest : List (Place × CellState)) → entries_from c es ≡ e ∷ rest → rest ≡ behind e.0 es
+not_le : (e x : Place) → place_cmp x e ≡ Less → is_le (place_cmp e x) ≡ false
+not_le e x h = ap is_le (cells_total.antisymm e x) ∙ over (place_cmp x e) h
+  where
+    over : (o : Ordering) → o ≡ Less → is_le (ordering_reverse o) ≡ false
+    over Less h = refl
+    over Equal h = absurd cc
+    over Greater h = absurd cc
+
+find_has : (P : Place → Type 0) (c : Place) (s : CellState) (es : List (Place × CellState)) → AllByRecursion P (keys_of es) → find place_cmp c es ≡ Some s → P c
+find_has P c s [] h k = absurd cc
+find_has P c s (x ∷ es) h k = elim (cases_Bool (eq_by_cmp place_cmp c x.0)) [
+  | inl t ↦ subst P (sym (tied c x.0 t)) h.0
+  | inr f ↦ find_has P c s es h.1 (sym (ap (λ b. cond b (Some x.1) (find place_cmp c es)) f) ∙ k)
+]
+
+-- a place that has a state is the first from there on
+next_here : (c : Place) (s : CellState) (es : List (Place × CellState)) → IsStrictlySortedBy place_cmp (keys_of es) → find place_cmp c es ≡ Some s → entries_from c es ≡ (c, s) ∷ behind c es
 unfolding IsStrictlySortedBy behind
-tail_behind c [] s e rest k = absurd cc
-tail_behind c (x ∷ xs) s e rest k = with (is_le (place_cmp c x.0)) refl k (tail_behind c xs s.1 e rest)
-  where
-    with : (b : Bool) → b ≡ is_le (place_cmp c x.0) → cond b (x ∷ entries_from c xs) (entries_from c xs) ≡ e ∷ rest → (entries_from c xs ≡ e ∷ rest → rest ≡ behind e.0 xs) → rest ≡ behind e.0 (x ∷ xs)
-    with true is k later =
-        let same : x ≡ e = heads_are k in
-        let le : (y : Place) → place_cmp x.0 y ≡ Less → is_le (place_cmp c y) ≡ true = λ y l. less_is_le c x.0 y (sym is) l in
-        let lt : (y : Place) → place_cmp x.0 y ≡ Less → is_lt (place_cmp x.0 y) ≡ true = λ y l. ap is_lt l in
-        sym (tails_are k) ∙ filter_all (λ y. is_le (place_cmp c y)) xs (all_weaker _ _ le xs s.0)
-        ∙ sym (ap (λ b. cond b (x ∷ behind x.0 xs) (behind x.0 xs)) (not_itself x.0) ∙ filter_all (λ y. is_lt (place_cmp x.0 y)) xs (all_weaker _ _ lt xs s.0))
-        ∙ ap (λ (y : Place × CellState). behind y.0 (x ∷ xs)) same
-    with false is k later =
-        let less : place_cmp x.0 e.0 ≡ Less = first_has (λ y. place_cmp x.0 y ≡ Less) (λ y. is_le (place_cmp c y.0)) xs e rest s.0 k in
-        later k ∙ sym (ap (λ b. cond b (x ∷ behind e.0 xs) (behind e.0 xs)) (not_behind e.0 x.0 less))
+next_here c s [] h k = absurd cc
+next_here c s (x ∷ xs) h k = elim (cases_Bool (eq_by_cmp place_cmp c x.0)) [
+  | inl t ↦
+      let same : c ≡ x.0 = tied c x.0 t in
+      let value : x.1 ≡ s = same_some x.1 s (sym (ap (λ b. cond b (Some x.1) (find place_cmp c xs)) t) ∙ k) in
+      let le : (y : Place) → place_cmp x.0 y ≡ Less → is_le (place_cmp x.0 y) ≡ true = λ y l. ap is_le l in
+      let lt : (y : Place) → place_cmp x.0 y ≡ Less → is_lt (place_cmp x.0 y) ≡ true = λ y l. ap is_lt l in
+      ap (λ d. entries_from d (x ∷ xs)) same
+      ∙ ap (λ b. cond b (x ∷ entries_from x.0 xs) (entries_from x.0 xs)) (ap is_le (tied_itself cells_total x.0))
+      ∙ ap (λ l. x ∷ l) (filter_all (λ y. is_le (place_cmp x.0 y)) xs (all_weaker _ _ le xs h.0)
+      ∙ sym (ap (λ b. cond b (x ∷ behind x.0 xs) (behind x.0 xs)) (not_itself x.0) ∙ filter_all (λ y. is_lt (place_cmp x.0 y)) xs (all_weaker _ _ lt xs h.0)))
+      ∙ (λ i. (sym same i, value i) ∷ behind (sym same i) (x ∷ xs))
+  | inr f ↦
+      let later : find place_cmp c xs ≡ Some s = sym (ap (λ b. cond b (Some x.1) (find place_cmp c xs)) f) ∙ k in
+      let less : place_cmp x.0 c ≡ Less = find_has (λ y. place_cmp x.0 y ≡ Less) c s xs h.0 later in
+      ap (λ b. cond b (x ∷ entries_from c xs) (entries_from c xs)) (not_le c x.0 less) ∙ next_here c s xs h.1 later
+      ∙ ap (λ l. (c, s) ∷ l) (sym (ap (λ b. cond b (x ∷ behind c xs) (behind c xs)) (not_behind c x.0 less)))
+]
 
-passes : (f : Place → Bool) (es : List (Place × CellState)) (e : Place × CellState) (rest : List (Place × CellState)) → filter (λ x. f x.0) es ≡ e ∷ rest → f e.0 ≡ true
-passes f [] e rest k = absurd cc
-passes f (x ∷ es) e rest k = with (f x.0) refl k (passes f es e rest)
-  where
-    with : (b : Bool) → b ≡ f x.0 → cond b (x ∷ filter (λ x. f x.0) es) (filter (λ x. f x.0) es) ≡ e ∷ rest → (filter (λ x. f x.0) es ≡ e ∷ rest → f e.0 ≡ true) → f e.0 ≡ true
-    with true is k later = ap (λ (y : Place × CellState). f y.0) (sym (heads_are k)) ∙ sym is
-    with false is k later = later k
+le_is_lt : (o : Ordering) → is_eq o ≡ false → is_le o ≡ is_lt o
+le_is_lt Less h = refl
+le_is_lt Equal h = absurd cc
+le_is_lt Greater h = refl
 
-number_order : (c p : Place) → InSheet c → is_le (place_cmp c p) ≡ true → number_of c ≤ number_of p
-number_order c p inside h = search rules
+-- one that has none isn't among them
+none_here : (c : Place) (es : List (Place × CellState)) → find place_cmp c es ≡ None → entries_from c es ≡ behind c es
+unfolding behind
+none_here c [] h = refl
+none_here c (x ∷ xs) h = elim (cases_Bool (eq_by_cmp place_cmp c x.0)) [
+  | inl t ↦ absurd (some_none x.1 (sym (ap (λ b. cond b (Some x.1) (find place_cmp c xs)) t) ∙ h))
+  | inr f ↦
+      ap (λ b. cond b (x ∷ entries_from c xs) (entries_from c xs)) (le_is_lt (place_cmp c x.0) f)
+      ∙ ap (λ l. cond (is_lt (place_cmp c x.0)) (x ∷ l) l) (none_here c xs (sym (ap (λ b. cond b (Some x.1) (find place_cmp c xs)) f) ∙ h))
+]
+  where
+    some_none : (s : CellState) → Some s ≡ None → ⊥
+    some_none s h = absurd cc
 
 pub within_from : (s : Extent) (p : Place) → is_within s p ≡ true → is_le (place_cmp s.first p) ≡ true
 within_from s p h = search rules
-
-and_true : (b : Bool) → (b && true) ≡ b
-and_true true = refl
-and_true false = refl
-
-pub from_range : (c : Place) (es : List (Place × CellState)) → filter (λ e. is_le (place_cmp c e.0) && true) es ≡ entries_from c es
-from_range c es = ap (λ (f : Place × CellState → Bool). filter f es) (λ i e. and_true (is_le (place_cmp c e.0)) i)
 
 module _ (test : CellState → Bool) (span : Extent) (es : List (Place × CellState)) where
   pub scan_begins : ((p : Place) → is_within span p ≡ true → is_le (place_cmp span.first p) ≡ true) → picked test span (entries_from span.first es) ≡ picked test span es
@@ -141,21 +154,22 @@ module _ (test : CellState → Bool) (span : Extent) (es : List (Place × CellSt
   left_behind e None some none = picked_filter test span (λ p. is_lt (place_cmp e p)) (λ p. false) none es ∙ picked_none test span es
   left_behind e (Some c) some none = picked_filter test span (λ p. is_lt (place_cmp e p)) (λ p. is_le (place_cmp c p)) some es
 
-  pub scan_goes_on : (list new : List Place) (c : Place) (e : Place × CellState) (rest : List (Place × CellState)) (next : Option Place) → IsStrictlySortedBy place_cmp (keys_of es) → entries_from c es ≡ e ∷ rest
-      → IfSome next (λ c. (p : Place) → is_within span p ≡ true → is_lt (place_cmp e.0 p) ≡ is_le (place_cmp c p)) → IfNone next ((p : Place) → is_within span p ≡ true → is_lt (place_cmp e.0 p) ≡ false)
-      → new ≡ list ++ picked test span (e ∷ []) → list ++ picked test span (entries_from c es) ≡ picked test span es → new ++ picked test span (left_from next es) ≡ picked test span es
-  scan_goes_on list new c e rest next s k some none is h =
-      ap (λ l. l ++ picked test span (left_from next es)) is ∙ append_assoc list (picked test span (e ∷ [])) (picked test span (left_from next es))
-      ∙ ap (λ l. list ++ (picked test span (e ∷ []) ++ l)) (sym (left_behind e.0 next some none) ∙ ap (picked test span) (sym (tail_behind c es s e rest k)))
-      ∙ ap (λ l. list ++ l) (sym (picked_first test span e rest)) ∙ ap (λ l. list ++ picked test span l) (sym k) ∙ h
-
-  -- what is left gets less
-  pub scan_shrinks : (c : Place) (e : Place × CellState) (rest : List (Place × CellState)) (next : Option Place) → InSheet c → entries_from c es ≡ e ∷ rest → IfSome next (λ n. number_of e.0 < number_of n) → places_left next < places_left (Some c)
-  scan_shrinks c e rest next inside k behind = with next behind
+  picked_here : (c : Place) → IsStrictlySortedBy place_cmp (keys_of es) → picked test span (entries_from c es) ≡ picked_at test span c (find place_cmp c es) ++ picked test span (behind c es)
+  picked_here c s = with (find place_cmp c es) refl
     where
-      le : is_le (place_cmp c e.0) ≡ true
-      le = passes (λ p. is_le (place_cmp c p)) es e rest k
+      with : (o : Option CellState) → find place_cmp c es ≡ o → picked test span (entries_from c es) ≡ picked_at test span c o ++ picked test span (behind c es)
+      with None e = ap (picked test span) (none_here c es e)
+      with (Some x) e = ap (picked test span) (next_here c x es s e) ∙ picked_first test span (c, x) (behind c es)
 
-      with : (n : Option Place) → IfSome n (λ n. number_of e.0 < number_of n) → places_left n < places_left (Some c)
-      with None h = omega (arith, inside)
-      with (Some n) h = let low = number_order c e.0 inside le in omega (arith, inside)
+  pub scan_goes_on : (list new : List Place) (c : Place) (next : Option Place) → IsStrictlySortedBy place_cmp (keys_of es)
+      → IfSome next (λ d. (p : Place) → is_within span p ≡ true → is_lt (place_cmp c p) ≡ is_le (place_cmp d p)) → IfNone next ((p : Place) → is_within span p ≡ true → is_lt (place_cmp c p) ≡ false)
+      → new ≡ list ++ picked_at test span c (find place_cmp c es) → list ++ picked test span (entries_from c es) ≡ picked test span es → new ++ picked test span (left_from next es) ≡ picked test span es
+  scan_goes_on list new c next s some none is h =
+      ap (λ l. l ++ picked test span (left_from next es)) is ∙ append_assoc list (picked_at test span c (find place_cmp c es)) (picked test span (left_from next es))
+      ∙ ap (λ l. list ++ (picked_at test span c (find place_cmp c es) ++ l)) (sym (left_behind c next some none))
+      ∙ ap (λ l. list ++ l) (sym (picked_here c s)) ∙ h
+
+-- what is left gets less
+pub scan_shrinks : (c : Place) (next : Option Place) → InSheet c → IfSome next (λ n. number_of c < number_of n) → places_left next < places_left (Some c)
+scan_shrinks c None inside h = omega (arith, inside)
+scan_shrinks c (Some n) inside h = omega (arith, inside, h)

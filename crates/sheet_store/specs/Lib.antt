@@ -1,3 +1,4 @@
 pub mod Choices
+pub mod Copies
 pub mod Grid
 pub mod Scan

@@ -2,8 +2,8 @@
 use Rattle.std.specs.Prelude.{ℕ, ◌≡◌, ◌+◌, ◌*◌, ◌-◌, Bool, true, cond, List, [], ◌∷◌, Option, None, Some}
 use Rattle.std.specs.List.{filter}
 use Rattle.std.specs.Ordering.{is_le}
-use Rattle.grid_address.specs.Place.{place_cmp, Place}
-use Rattle.sheet_store.specs.Grid.{holds_formula}
+use Rattle.grid_address.specs.Place.{place_cmp, Extent, Place}
+use Rattle.sheet_store.specs.Grid.{holds_formula, picked}
 use Rattle.sheet_store.specs.declared.state.CellState.{CellState}
 
 abbrev pub wanted : Bool → CellState → Bool
@@ -12,10 +12,10 @@ wanted only_formulas s = cond only_formulas (holds_formula s) true
 abbrev pub entries_from : Place → List (Place × CellState) → List (Place × CellState)
 entries_from c es = filter (λ e. is_le (place_cmp c e.0)) es
 
--- the entries from the place on begin with this one
-pub record IsNext (c : Place) (es : List (Place × CellState)) (e : Place × CellState) : Type 0 where
-  pub rest : List (Place × CellState)
-  pub begins : entries_from c es ≡ e ∷ rest
+-- a place with what it has, if that is wanted and lies in the span
+abbrev pub picked_at : (CellState → Bool) → Extent → Place → Option CellState → List Place
+picked_at test p c None = []
+picked_at test p c (Some s) = picked test p ((c, s) ∷ [])
 
 -- the places in their order, as numbers
 abbrev pub number_of : Place → ℕ

@@ -2,42 +2,42 @@
 ghost use Rattle.std.specs.Prelude.{◌≡◌, ◌≤◌, ◌++◌, ◌∷◌, [], OnOk, OnErr, IfOk, IfSome, IfNone, Some, None, option_copied, replicate, true, false};
 ghost use Rattle.std.specs.Option.{ForSome};
 ghost use Rattle.std.specs.FinMap as map;
-ghost use Rattle.std.specs.BTreeMap.{IsOrdered};
+ghost use Rattle.cell_numbers.specs.Filled.{filled, with_item};
 ghost use Rattle.grid_address.specs.Place.{place_cmp};
+ghost use Rattle.sheet_store.specs.Copies.{inserted_all};
 ghost use Rattle.sheet_store.specs.Grid.{any_state, cells_within, clear_cell, formatted, formulas, formulas_within, further, holds_formula, is_hidden, last_among, last_used, picked, put_state, set_format_of, set_hidden_of, set_value_at, set_width_of, width_of, AreHeld, HasContent, HasFormula, IsBlankAt, IsSound};
 
 use crate::CellState;
 use crate::own_width::OwnWidth;
-use crate::scan::{all_formulas, scan};
+use crate::scan::scan;
 use crate::state::is_blank;
+use cell_numbers::{CellMap, Held};
 use formula_tree::Value;
 use grid_address::{Cell, CellList, Format, Span};
 use lics_text::Memory;
 use std::alloc::Global;
-use std::collections::BTreeMap;
 use std::marker::Model;
 
 /// A finite map from cells to states, and each column's own width and whether it is hidden. A blank cell in the
 /// default format isn't in the map, each value is one that its content may have, and an own width is 1 to 240.
 #[derive(Drop)]
 pub struct Store {
-    cells: BTreeMap<Cell, CellState>,
+    cells: CellMap<CellState>,
     widths: [OwnWidth; 256],
     hidden: [bool; 256],
     alloc: Global,
 }
 
 impl Model for Store {
-    ghost use Rattle.std.specs.FinMap as map;
     ghost use Rattle.sheet_store.specs.Grid.{coded_grid, AreHeld, Grid};
 
     ghost Value = { Grid };
 
     ghost coded = { coded_grid };
 
-    ghost view = { λ a. record { cells = map.from_entries a.cells.entries; widths = a.widths; hidden = a.hidden } };
+    ghost view = { λ a. record { cells = a.cells; widths = a.widths; hidden = a.hidden } };
 
-    ghost invariant = { λ a. AreHeld (map.from_entries a.cells.entries) };
+    ghost invariant = { λ a. AreHeld a.cells };
 }
 
 impl Store {
@@ -48,7 +48,7 @@ impl Store {
         ensures hidden { result.hidden ≡ replicate 256 false }
     {
         Store {
-            cells: BTreeMap::new(alloc),
+            cells: CellMap::new(alloc),
             widths: [OwnWidth::NONE; 256],
             hidden: [false; 256],
             alloc,
@@ -64,21 +64,21 @@ impl Store {
     pub fn are_held(&self)
         ensures { AreHeld self.now.cells }
     {
-        let _len = self.cells.len();
+        let _cells = &self.cells;
     }
 
     /// The state of a cell.
     pub fn get(&self, cell: Cell) -> Option<&CellState>
         ensures { option_copied result ≡ map.get self.now.cells cell }
     {
-        self.cells.get(&cell)
+        self.cells.get(cell)
     }
 
     /// Takes a cell out.
     pub fn clear(&mut self, cell: Cell)
         ensures { self.new ≡ clear_cell self.old cell }
     {
-        let _ = self.cells.remove(&cell);
+        self.cells.remove(cell);
     }
 
     /// Puts a state whose value its content may have. One that is blank in the default format takes the cell out. Only a
@@ -92,7 +92,7 @@ impl Store {
     {
         cell.is_on_sheet();
         if !state.is_kept() {
-            let _ = self.cells.remove(&cell);
+            self.cells.remove(cell);
             return Ok(());
         }
         self.cells.insert(cell, state)?;
@@ -119,7 +119,8 @@ impl Store {
     pub fn formulas(&self) -> Result<CellList, Memory>
         ensures { IfOk result (λ l. l ≡ formulas self.now) }
     {
-        let list = all_formulas(self.alloc, &self.cells)?;
+        self.are_held();
+        let list = self.formulas_in(Span::whole())?;
         Ok(list)
     }
 
@@ -127,7 +128,7 @@ impl Store {
     pub fn last_used(&self) -> Option<Cell>
         ensures { result ≡ last_used self.now }
     {
-        last_of(&self.cells)
+        last_of(self.cells.held())
     }
 
     /// A column's own width, where it has one.
@@ -191,7 +192,7 @@ impl Store {
         ensures blank { result ≡ true → IsBlankAt self.now cell }
         ensures filled { result ≡ false → HasContent self.now cell }
     {
-        match self.cells.get(&cell) {
+        match self.cells.get(cell) {
             Some(state) => is_blank(&state.content),
             None => true,
         }
@@ -202,7 +203,7 @@ impl Store {
         requires { HasContent self.old cell }
         ensures { self.new ≡ set_format_of self.old cell format }
     {
-        match self.cells.get_mut(&cell) {
+        match self.cells.get_mut(cell) {
             Some(state) => write_format(state, format),
             None => {}
         }
@@ -214,7 +215,7 @@ impl Store {
         requires some { value ≡ Value.Blank → ⊥ }
         ensures { self.new ≡ set_value_at self.old cell value }
     {
-        match self.cells.get_mut(&cell) {
+        match self.cells.get_mut(cell) {
             Some(state) => write_value(state, value),
             None => let_go(value),
         }
@@ -247,35 +248,44 @@ fn further(last: Option<Cell>, cell: Cell) -> Option<Cell>
     }
 }
 
-// The last row and the last column among the entries.
-fn last_of(cells: &BTreeMap<Cell, CellState>) -> Option<Cell>
-    ensures last { result ≡ last_among None cells.now.entries }
-    ensures ordered { IsOrdered place_cmp cells.now }
+// The same for a cell that has a state.
+fn further_held(last: Option<Cell>, held: &Held<CellState>) -> Option<Cell>
+    ensures { result ≡ last_among last (with_item held.now.cell held.now.item []) }
+{
+    match &held.item {
+        Some(_) => further(last, held.cell),
+        None => last,
+    }
+}
+
+// The last row and the last column among the held cells.
+fn last_of(held: &[Held<CellState>]) -> Option<Cell>
+    ensures { result ≡ last_among None (filled held.now) }
 {
     let mut last = None;
-    for (cell, _) in cells.iter() {
-        last = further(last, *cell);
+    for one in held {
+        last = further_held(last, one);
     }
     last
 }
 
-fn insert(cells: &mut BTreeMap<Cell, CellState>, cell: Cell, state: CellState) -> Result<(), Memory>
-    ensures { OnOk result (map.from_entries cells.new.entries ≡ map.insert {R = place_cmp} (map.from_entries cells.old.entries) cell state) }
+// Puts an equal state of a held cell into a map.
+fn copy_held(cells: &mut CellMap<CellState>, held: &Held<CellState>) -> Result<(), Memory>
+    ensures { OnOk result (cells.new ≡ inserted_all cells.old (with_item held.now.cell held.now.item [])) }
 {
-    cells.insert(cell, state)?;
+    if let Some(state) = &held.item {
+        cells.insert(held.cell, state.copy()?)?;
+    }
     Ok(())
 }
 
-// Equal entries.
-fn copy_cells(
-    alloc: Global,
-    cells: &BTreeMap<Cell, CellState>,
-) -> Result<BTreeMap<Cell, CellState>, Memory>
-    ensures { IfOk result (λ m. map.from_entries {R = place_cmp} m.entries ≡ map.from_entries cells.now.entries) }
+// An equal map.
+fn copy_cells(alloc: Global, cells: &CellMap<CellState>) -> Result<CellMap<CellState>, Memory>
+    ensures { IfOk result (λ m. m ≡ cells.now) }
 {
-    let mut copy = BTreeMap::new(alloc);
-    for (cell, state) in cells.iter() {
-        insert(&mut copy, *cell, state.copy()?)?;
+    let mut copy = CellMap::new(alloc);
+    for held in cells.held() {
+        copy_held(&mut copy, held)?;
     }
     Ok(copy)
 }

@@ -1,8 +1,7 @@
-use Rattle.std.proofs.Common.{ap, sym, ◌∙◌}
-use Rattle.sheet_store.specs.Grid.{formulas, formulas_among}
-use Rattle.grid_address.proofs.Maps.{entries_kept}
-use Rattle.grid_address.proofs.Places.{cells_total}
+use Rattle.std.proofs.Common.{ap, ◌∙◌}
+use Rattle.sheet_store.specs.Grid.{formulas_within}
+use Rattle.sheet_store.proofs.Grids.{formulas_whole}
 use Rattle.sheet_store.proofs.store.Store.formulas.Goals as goal
 
 pub returns : goal.returns
-returns c = c.in_ok-list.ensures.list ∙ ap formulas_among (sym (entries_kept cells_total c.self.inside.cells.entries c.in_ok-list.ensures.ordered)) ∙ ap formulas c.self.view_is
+returns c = c.in_ok-list.ensures ∙ ap (formulas_within c.args.self.now) c.whole.ensures ∙ formulas_whole c.args.self.now.cells c.are_held.ensures

@@ -1,8 +1,7 @@
 use Rattle.std.proofs.Common.{subst, sym}
-use Rattle.std.specs.FinMap.{from_entries}
 use Rattle.sheet_store.specs.Grid.{AreHeld}
 use Rattle.sheet_store.proofs.Held.{empty_held}
 use Rattle.sheet_store.proofs.store.Store.new.Goals as goal
 
 pub invariant_of-result-2 : goal.invariant_of-result-2
-invariant_of-result-2 c = subst (λ es. AreHeld (from_entries es)) (sym c.new.ensures.empty) empty_held
+invariant_of-result-2 c = subst AreHeld (sym c.new.ensures) empty_held
