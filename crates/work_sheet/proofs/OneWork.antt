@@ -1,18 +1,18 @@
 -- What happened leaves one set of dirty formulas, and one count.
 use Rattle.std.proofs.Common.{◌≡◌, ℕ, ◌+◌, ◌-◌, ◌*◌, Bool, true, false, List, [], ◌∷◌, ◌++◌, length, refl, sym, ap, ◌∙◌, subst, inl, inr}
-use Rattle.std.specs.List.{IsDistinct}
+use Rattle.std.specs.List.{filter, IsDistinct}
 use Rattle.std.proofs.lemmas.Map.Made.{length-from_same_keys}
 use Rattle.grid_address.proofs.Places.{same_place_laws}
-use Rattle.grid_address.specs.Place.{same_place, Place}
+use Rattle.grid_address.specs.Place.{same_place, Extent, Place}
 use Rattle.natural_order.specs.Walk.{has}
 use Rattle.natural_recalc.specs.Passes.{raised_by, IsDirtyAfter}
 use Rattle.sheet_edits.proofs.Listed.{both}
 use Rattle.sheet_edits.specs.Edits.{evaluations, AreDirtied, IsDirtied}
-use Rattle.sheet_store.specs.Grid.{Grid}
+use Rattle.sheet_store.specs.Grid.{formulas_within, Grid}
 use Rattle.sheet_store.specs.declared.order.Order.{Order}
 use Rattle.sheet_store.specs.declared.order.Order.TheVariants as orders
-use Rattle.work_sheet.specs.Doing.{evaluated_once, evaluation_if, passed, wrote, Happened}
-use Rattle.work_sheet.specs.Work.{HasMarked, HasPassed, HasWorked, IsSameWork, Work, Works}
+use Rattle.work_sheet.specs.Doing.{all_dirty, evaluated_once, evaluation_if, passed, swept, wrote, Happened}
+use Rattle.work_sheet.specs.Work.{dirty_within, HasAllDirty, HasMarked, HasPassed, HasWorked, IsSameWork, Work, Works}
 
 -- distinct lists of the same cells are as long
 as_long : (xs ys : List Place) → IsDistinct same_place xs → IsDistinct same_place ys → ((c : Place) → has same_place xs c ≡ has same_place ys c) → length xs ≡ length ys
@@ -51,15 +51,30 @@ one_pass o n g w v w' v' same p q =
           ∙ ap (λ (m : ℕ). raised_by (length v.dirty + (n - 1) * m) v.count) long ∙ sym q.count;
     }
 
-one_evaluation : (w v w' v' : Work) → IsSameWork w v → w' ≡ record w { count = raised_by 1 w.count } → v' ≡ record v { count = raised_by 1 v.count } → IsSameWork w' v'
-one_evaluation w v w' v' same p q =
-    let more : IsSameWork (record w { count = raised_by 1 w.count }) (record v { count = raised_by 1 v.count }) = record { dirty = same.dirty; long = same.long; count = ap (raised_by 1) same.count } in
-    subst (λ x. IsSameWork x v') (sym p) (subst (λ x. IsSameWork (record w { count = raised_by 1 w.count }) x) (sym q) more)
+-- evaluations that leave the same formulas dirty
+one_raise : (n m : ℕ) (w v w' v' : Work) → n ≡ m → IsSameWork w v → w' ≡ record w { count = raised_by n w.count } → v' ≡ record v { count = raised_by m v.count } → IsSameWork w' v'
+one_raise n m w v w' v' e same p q =
+    let more : IsSameWork (record w { count = raised_by n w.count }) (record v { count = raised_by m v.count }) = record {
+      dirty = same.dirty;
+      long = same.long;
+      count = ap (raised_by n) same.count ∙ ap (λ (k : ℕ). raised_by k v.count) e;
+    } in
+    subst (λ x. IsSameWork x v') (sym p) (subst (λ x. IsSameWork (record w { count = raised_by n w.count }) x) (sym q) more)
+
+one_within : (g : Grid) (span : Extent) (w v : Work) → IsSameWork w v → dirty_within g span w ≡ dirty_within g span v
+one_within g span w v same = λ i. length (filter (λ c. same.dirty c i) (formulas_within g span))
+
+one_all : (g : Grid) (w v w' v' : Work) → IsSameWork w v → HasAllDirty g w w' → HasAllDirty g v v' → IsSameWork w' v'
+one_all g w v w' v' same p q =
+    let dirty : (c : Place) → has same_place w'.dirty c ≡ has same_place v'.dirty c = λ c. p.dirty c ∙ sym (q.dirty c) in
+    record { dirty = dirty; long = as_long w'.dirty v'.dirty p.distinct q.distinct dirty; count = p.count ∙ same.count ∙ sym q.count }
 
 one_thing : (h : Happened) (w v w' v' : Work) → IsSameWork w v → Works h w w' → Works h v v' → IsSameWork w' v'
 one_thing (wrote cells g) w v w' v' same p q = one_mark cells g w v w' v' same p q
-one_thing evaluated_once w v w' v' same p q = one_evaluation w v w' v' same p q
+one_thing evaluated_once w v w' v' same p q = one_raise 1 1 w v w' v' refl same p q
 one_thing (passed o n g) w v w' v' same p q = one_pass o n g w v w' v' same p q
+one_thing (all_dirty g) w v w' v' same p q = one_all g w v w' v' same p q
+one_thing (swept span n g) w v w' v' same p q = one_raise (n * dirty_within g span w) (n * dirty_within g span v) w v w' v' (ap (λ (k : ℕ). n * k) (one_within g span w v same)) same p q
 
 pub one_work : (log : List Happened) (w v w' v' : Work) → IsSameWork w v → HasWorked log w w' → HasWorked log v v' → IsSameWork w' v'
 one_work [] w v w' v' same p q = subst (λ x. IsSameWork x v') (sym p) (subst (λ x. IsSameWork w x) (sym q) same)

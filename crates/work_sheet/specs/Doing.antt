@@ -3,7 +3,7 @@ use Rattle.std.specs.Prelude.{ℕ, Bool, true, false, List, [], ◌∷◌, ◌++
 use Rattle.formula_eval.specs.Mean.{mean}
 use Rattle.formula_eval.specs.declared.look.Scene.{Scene}
 use Rattle.formula_tree.specs.declared.value.Content.{Content}
-use Rattle.grid_address.specs.Place.{Place}
+use Rattle.grid_address.specs.Place.{Extent, Place}
 use Rattle.natural_order.specs.Walk.{Walked}
 use Rattle.natural_recalc.specs.Passes.{passes}
 use Rattle.natural_recalc.specs.Reading.{order_in}
@@ -14,11 +14,14 @@ use Rattle.sheet_store.specs.declared.order.Order.{Order}
 use Rattle.work_sheet.specs.Seen.{Sheet}
 
 -- Cells were written, which left this grid; or the formula that was written was evaluated once; or all formulas were
--- evaluated in an order, in so many passes, which left this grid.
+-- evaluated in an order, in so many passes, which left this grid; or all formulas of this grid became dirty; or the
+-- formulas of a span of this grid were evaluated, in so many passes.
 pub data Happened : Type 0 where
   wrote : (Place → Bool) → Grid → Happened
   evaluated_once : Happened
   passed : Order → ℕ → Grid → Happened
+  all_dirty : Grid → Happened
+  swept : Extent → ℕ → Grid → Happened
 
 -- what an act leaves of a sheet, and what happened in it, in order
 pub record Done : Type 0 where

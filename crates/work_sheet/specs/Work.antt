@@ -2,14 +2,15 @@
 -- sheet becomes, and what happened tells it.
 use Rattle.std.specs.Prelude.{◌≡◌, ℕ, ◌+◌, ◌-◌, ◌*◌, Bool, List, [], ◌∷◌, length, refl}
 use Rattle.std.specs.Coded.{Coded, code_by, coded×, coded_list, coded_ℕ}
-use Rattle.std.specs.List.{IsDistinct}
-use Rattle.grid_address.specs.Place.{coded_place, same_place, Place}
+use Rattle.std.specs.List.{filter, IsDistinct}
+use Rattle.grid_address.specs.Place.{coded_place, same_place, Extent, Place}
 use Rattle.natural_order.specs.Walk.{has}
 use Rattle.natural_recalc.specs.Passes.{raised_by, IsDirtyAfter}
+use Rattle.natural_recalc.specs.Reading.{is_formula_at}
 use Rattle.sheet_edits.specs.Edits.{AreDirtied}
-use Rattle.sheet_store.specs.Grid.{Grid}
+use Rattle.sheet_store.specs.Grid.{formulas_within, Grid}
 use Rattle.sheet_store.specs.declared.order.Order.{Order}
-use Rattle.work_sheet.specs.Doing.{evaluated_once, passed, wrote, Happened}
+use Rattle.work_sheet.specs.Doing.{all_dirty, evaluated_once, passed, swept, wrote, Happened}
 
 -- the dirty formulas, each once, and how many evaluations there were
 pub record Work : Type 0 where
@@ -36,11 +37,23 @@ pub record HasPassed (order : Order) (passes : ℕ) (g : Grid) (w v : Work) : Ty
   pub distinct : IsDistinct same_place v.dirty
   pub count : v.count ≡ raised_by (length w.dirty + (passes - 1) * length v.dirty) w.count
 
+-- All formulas become dirty.
+pub record HasAllDirty (g : Grid) (w v : Work) : Type 0 where
+  pub dirty : (c : Place) → has same_place v.dirty c ≡ is_formula_at g c
+  pub distinct : IsDistinct same_place v.dirty
+  pub count : v.count ≡ w.count
+
+-- how many formulas of a span are dirty
+abbrev pub dirty_within : Grid → Extent → Work → ℕ
+dirty_within g span w = length (filter (has same_place w.dirty) (formulas_within g span))
+
 -- the work of one thing that happened
 abbrev pub Works : Happened → Work → Work → Type 0
 Works (wrote cells g) w v = HasMarked cells g w v
 Works evaluated_once w v = v ≡ record w { count = raised_by 1 w.count }
 Works (passed order passes g) w v = HasPassed order passes g w v
+Works (all_dirty g) w v = HasAllDirty g w v
+Works (swept span passes g) w v = v ≡ record w { count = raised_by (passes * dirty_within g span w) w.count }
 
 -- the work of what happened, one after another
 abbrev pub HasWorked : List Happened → Work → Work → Type 0
