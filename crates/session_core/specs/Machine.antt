@@ -2,6 +2,7 @@
 use Rattle.std.specs.Prelude.{◌≡◌, ℕ, Bool, true, false, Option, None, Some, List, [], replicate, refl, if◌then◌else◌}
 use Rattle.std.specs.Coded.{Coded, code_by, coded×, coded_bool, coded_option, coded_ℕ}
 use Rattle.std.specs.FinMap as map
+use Rattle.formula_eval.specs.Mean.{mean}
 use Rattle.formula_eval.specs.declared.look.Scene.{Scene}
 use Rattle.formula_tree.specs.declared.value.Content.{Content}
 use Rattle.grid_address.specs.Place.{Place, coded_place}
@@ -95,7 +96,7 @@ entry_of (Value line) s c = value_content s.names c line
 -- the line is finished: what it means is entered, and a line that means nothing leaves the cell
 abbrev pub finished : Scene → Option Content → State → Outcome
 finished scene None s = quiet (record s { mode = Ready })
-finished scene (Some x) s = with_done (with_entry scene (pointer_of s) x s.sheet) (record s { mode = Ready })
+finished scene (Some x) s = with_done (with_entry mean scene (pointer_of s) x s.sheet) (record s { mode = Ready })
 
 -- the key that finishes a line moves the pointer, unless the line is a value that spells nothing
 abbrev pub moves : Mode → Option Content → Bool
@@ -114,7 +115,7 @@ finished_with way scene entry s =
 
 -- the key CALC recalculates where nothing is typed
 abbrev pub calculated : Mode → Scene → State → Outcome
-calculated Ready scene s = with_done (recalculated scene s.sheet) s
+calculated Ready scene s = with_done (recalculated mean scene s.sheet) s
 calculated (Label line) scene s = quiet s
 calculated (Value line) scene s = quiet s
 

@@ -1,5 +1,6 @@
 ghost use Rattle.std.specs.Prelude.{◌≡◌, IfOk, IsOk, OnOk, None, false, true};
 ghost use Rattle.std.specs.Option.{ForSome};
+ghost use Rattle.formula_eval.specs.Mean.{mean};
 ghost use Rattle.screen_show.specs.Grid.{IsGrid, IsPrinted};
 ghost use Rattle.serial_date.specs.declared.moment.Moment.{Moment};
 ghost use Rattle.session_core.specs.Machine.{acted, calculated, entry_of, finished, finished_with, framed, is_key, pointer_of, pointing_at, scene_at, started, step, wants_key, with_done, Follows, IsMoved, OnlyMoves, OnlyMovesBy};
@@ -191,18 +192,17 @@ impl Session {
     }
 
     fn calculate(&mut self, now: &Moment) -> Result<(), Memory>
-        ensures { OnOk result (Follows (with_done (recalculated (scene_at self.old.state now.now) self.old.state.sheet) self.old.state) self.old self.new) }
+        ensures { OnOk result (Follows (with_done (recalculated mean (scene_at self.old.state now.now) self.old.state.sheet) self.old.state) self.old self.new) }
     {
         let scene = self.scene(now);
         self.sheet.calc(&scene, &mut self.tally)?;
-        self.sheet.dirty_count();
         Ok(())
     }
 
     // Writes a content into the pointer's cell.
     fn write(&mut self, content: Content, now: &Moment) -> Result<(), Memory>
         requires { HasPrefix content }
-        ensures { OnOk result (Follows (with_done (put (scene_at self.old.state now.now) (pointer_of self.old.state) content self.old.state.sheet) self.old.state) self.old self.new) }
+        ensures { OnOk result (Follows (with_done (put mean (scene_at self.old.state now.now) (pointer_of self.old.state) content self.old.state.sheet) self.old.state) self.old self.new) }
     {
         let scene = self.scene(now);
         match self
@@ -213,14 +213,13 @@ impl Session {
             Err(SheetFault::Memory) => return Err(Memory),
             Err(_) => unreachable!(),
         }
-        self.sheet.dirty_count();
         Ok(())
     }
 
     // Enters a content into the pointer's cell. In Automatic mode a recalculation follows.
     fn enter(&mut self, content: Content, now: &Moment) -> Result<(), Memory>
         requires { HasPrefix content }
-        ensures { OnOk result (Follows (with_done (with_entry (scene_at self.old.state now.now) (pointer_of self.old.state) content self.old.state.sheet) self.old.state) self.old self.new) }
+        ensures { OnOk result (Follows (with_done (with_entry mean (scene_at self.old.state now.now) (pointer_of self.old.state) content self.old.state.sheet) self.old.state) self.old self.new) }
     {
         self.write(content, now)?;
         if self.sheet.settings().automatic {

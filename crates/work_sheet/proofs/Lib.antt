@@ -1,4 +1,6 @@
 pub mod Cut
+pub mod Done
+pub mod Filled
 pub mod Held
 pub mod OneWork
 pub mod Reformatted

@@ -1,11 +1,10 @@
 -- What an entry, a recalculation and a move of the pointer leave of a sheet, and what happens to its formulas.
 use Rattle.std.specs.Prelude.{ℕ, Bool, true, false, List, [], ◌∷◌, ◌++◌, if◌then◌else◌}
-use Rattle.formula_eval.specs.Mean.{mean}
 use Rattle.formula_eval.specs.declared.look.Scene.{Scene}
 use Rattle.formula_tree.specs.declared.value.Content.{Content}
 use Rattle.grid_address.specs.Place.{Extent, Place}
 use Rattle.natural_order.specs.Walk.{Walked}
-use Rattle.natural_recalc.specs.Passes.{passes}
+use Rattle.natural_recalc.specs.Passes.{passes, Meaning}
 use Rattle.natural_recalc.specs.Reading.{order_in}
 use Rattle.natural_recalc.specs.World.{context_of, Context}
 use Rattle.sheet_edits.specs.Edits.{entered, is_evaluated, just, written}
@@ -31,6 +30,18 @@ pub record Done : Type 0 where
 abbrev pub and_then : Done → (Sheet → Done) → Done
 and_then d act = record { sheet = (act d.sheet).sheet; log = d.log ++ (act d.sheet).log }
 
+-- nothing happened to the formulas
+abbrev pub quiet : Sheet → Done
+quiet s = record { sheet = s; log = [] }
+
+-- cells were written, which left this grid; a recalculation is wanted
+abbrev pub edited : (Place → Bool) → Grid → Sheet → Done
+edited cells g s = record { sheet = record s { grid = g; stale = true }; log = wrote cells g ∷ [] }
+
+-- a cell takes a content
+abbrev pub with_content : Place → Content → Sheet → Done
+with_content c x s = edited (just c) (written s.grid c x) s
+
 -- what formulas look at beside the cells
 abbrev pub context_in : Scene → Sheet → Context
 context_in scene s = context_of s.names s.settings scene
@@ -39,33 +50,34 @@ abbrev pub evaluation_if : Bool → List Happened
 evaluation_if true = evaluated_once ∷ []
 evaluation_if false = []
 
--- A cell takes a content that a line spells. In Manual mode a formula is then evaluated once.
-abbrev pub put : Scene → Place → Content → Sheet → Done
-put scene c x s = record {
-  sheet = record s { grid = entered mean (context_in scene s) (is_evaluated s.settings x) s.grid c x; stale = true };
-  log = wrote (just c) (written s.grid c x) ∷ evaluation_if (is_evaluated s.settings x);
-}
-
 -- all formulas, in the order in which they are evaluated, and whether a circle is told
 abbrev pub ordered : Sheet → Walked Place
 ordered s = order_in s.settings.order s.grid
 
--- the grid after every formula was evaluated, as many times as there are passes
-abbrev pub all_passed : Scene → Sheet → Grid
-all_passed scene s = passes mean (context_in scene s) s.settings.passes (ordered s).done s.grid
+module _ (mean : Meaning) where
+  -- A cell takes a content that a line spells. In Manual mode a formula is then evaluated once.
+  abbrev pub put : Scene → Place → Content → Sheet → Done
+  put scene c x s = record {
+    sheet = record s { grid = entered mean (context_in scene s) (is_evaluated s.settings x) s.grid c x; stale = true };
+    log = wrote (just c) (written s.grid c x) ∷ evaluation_if (is_evaluated s.settings x);
+  }
 
-abbrev pub recalculated : Scene → Sheet → Done
-recalculated scene s = record {
-  sheet = record s { grid = all_passed scene s; circular = (ordered s).circular; stale = false };
-  log = passed s.settings.order s.settings.passes (all_passed scene s) ∷ [];
-}
+  -- the grid after every formula was evaluated, as many times as there are passes
+  abbrev pub all_passed : Scene → Sheet → Grid
+  all_passed scene s = passes mean (context_in scene s) s.settings.passes (ordered s).done s.grid
 
--- in Automatic mode a recalculation follows an entry
-abbrev pub settled : Scene → Sheet → Done
-settled scene s = if s.settings.automatic then recalculated scene s else record { sheet = s; log = [] }
+  abbrev pub recalculated : Scene → Sheet → Done
+  recalculated scene s = record {
+    sheet = record s { grid = all_passed scene s; circular = (ordered s).circular; stale = false };
+    log = passed s.settings.order s.settings.passes (all_passed scene s) ∷ [];
+  }
 
-abbrev pub with_entry : Scene → Place → Content → Sheet → Done
-with_entry scene c x s = and_then (put scene c x s) (settled scene)
+  -- in Automatic mode a recalculation follows an entry
+  abbrev pub settled : Scene → Sheet → Done
+  settled scene s = if s.settings.automatic then recalculated scene s else quiet s
+
+  abbrev pub with_entry : Scene → Place → Content → Sheet → Done
+  with_entry scene c x s = and_then (put scene c x s) (settled scene)
 
 abbrev pub with_pointer : Place → Sheet → Sheet
 with_pointer p s = record s { settings = record s.settings { pointer = p } }

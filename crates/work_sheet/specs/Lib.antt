@@ -1,4 +1,7 @@
+pub mod Cells
+pub mod Did
 pub mod Doing
+pub mod Editing
 pub mod Lines
 pub mod Seen
 pub mod Sheets

@@ -1,22 +1,24 @@
 // A sheet, whose values are kept right by recalculation over its dirty formulas.
-ghost use Rattle.std.specs.Prelude.{◌≡◌, ◌+◌, ◌-◌, ◌*◌, ◌≤◌, ◌<◌, ◌⊎◌, [], length, IfErr, IfOk, OnErr, OnOk, Some, None, Err, option_copied, nat_le, replicate, take, true, false};
+ghost use Rattle.std.specs.Prelude.{◌≡◌, ◌≤◌, ◌<◌, ◌⊎◌, ℕ, [], length, IfErr, IfOk, OnErr, OnOk, Some, None, Err, option_copied, nat_le, replicate, take, true, false};
 ghost use Rattle.std.specs.FinMap as map;
 ghost use Rattle.std.specs.List.{IsDistinct};
 ghost use Rattle.std.specs.Option.{ForSome};
 ghost use Rattle.grid_address.specs.Place.{is_within, same_place, Place};
 ghost use Rattle.natural_order.specs.Walk.{has};
-ghost use Rattle.natural_recalc.specs.Passes as whole;
-ghost use Rattle.natural_recalc.specs.Passes.{raised_by, IsDirtyAfter, SameContents};
-ghost use Rattle.natural_recalc.specs.Reading.{is_formula_at, order_in};
-ghost use Rattle.natural_recalc.specs.World.{context_of, sight_of};
+ghost use Rattle.natural_recalc.specs.Passes.{SameContents};
+ghost use Rattle.natural_recalc.specs.World.{sight_of};
 ghost use Rattle.range_names.specs.Names.{fault_of, key_of};
 ghost use Rattle.range_names.specs.declared.fault.NameFault.TheVariants as cause;
 ghost use Rattle.sheet_store.specs.Choices.{fresh};
 ghost use Rattle.sheet_store.specs.declared.writes.SheetFault.TheVariants as faults;
 ghost use Rattle.sheet_store.specs.Grid.{is_formula, is_hidden, is_kept, last_used, set_hidden_of, set_width_of, width_of, IsSound};
-ghost use Rattle.sheet_edits.specs.Edits.{entered, evaluations, is_evaluated, is_protected, just, written, written_state, AreDirtied, HasPrefix};
-ghost use Rattle.work_sheet.specs.Sheets.{value_told, IsFaultOf, SameBeside};
-ghost use Rattle.sheet_edits.specs.Spans.{changed, copied_at, erased, in_span, reformatted, rule_of, target_of, with_code, with_mark, written_all, written_cells, AreSound, Becomes, HasCode, HavePrefixes, IsAnswered};
+ghost use Rattle.sheet_edits.specs.Edits.{is_protected, written_state, AreDirtied, HasPrefix};
+ghost use Rattle.work_sheet.specs.Did.{Did};
+ghost use Rattle.work_sheet.specs.Doing.{put, recalculated, with_content};
+ghost use Rattle.work_sheet.specs.Editing.{all_written, copied, erased, reformatted, reordered, restored};
+ghost use Rattle.work_sheet.specs.Seen.{of_worksheet};
+ghost use Rattle.work_sheet.specs.Sheets.{value_told, IsFaultOf, SameBeside, Worksheet};
+ghost use Rattle.sheet_edits.specs.Spans.{changed, rule_of, target_of, with_code, with_mark, written_cells, AreSound, Becomes, HasCode, HavePrefixes, IsAnswered};
 ghost use Rattle.work_sheet.specs.Typed.{typed};
 
 use crate::typed::text_of;
@@ -94,14 +96,12 @@ impl<E: Means> SheetOf<E> {
 
     /// The sheet that was saved. All its formulas are dirty; it has no circle told, and no change made.
     pub fn restore(saved: SavedSheet) -> Result<Self, Memory>
-        ensures grid { IfOk result (λ s. s.grid ≡ saved.store) }
-        ensures names { IfOk result (λ s. s.names ≡ saved.names) }
-        ensures settings { IfOk result (λ s. s.settings ≡ saved.settings) }
-        ensures dirty { IfOk result (λ s. (c : Place) → has same_place s.dirty c ≡ is_formula_at saved.store c) }
-        ensures marks { IfOk result (λ s. (s.circular ≡ false) × (s.stale ≡ false)) }
+        ensures { IfOk result (λ s. (before : Worksheet) (n : ℕ) → Did (restored saved.store saved.names saved.settings) before s n n) }
     {
         let graph = graph_of(&saved.store)?;
         let dirty = all_dirty(&saved.store)?;
+        // `len` is called for its clause that no cell is in the set twice, here and below.
+        let _ = dirty.len();
         Ok(SheetOf {
             store: saved.store,
             graph,
@@ -268,9 +268,7 @@ impl<E: Means> SheetOf<E> {
     /// Sets the order of recalculation. Where it differs from the present one, all formulas become dirty. The sheet is
     /// unchanged where there is no memory.
     pub fn set_order(&mut self, order: Order) -> Result<(), Memory>
-        ensures same { order ≡ self.old.settings.order → self.new ≡ self.old }
-        ensures ok { OnOk result (self.new ≡ record self.old { dirty = self.new.dirty; settings = record self.old.settings { order = order } }) }
-        ensures dirty { OnOk result ((order ≡ self.old.settings.order → ⊥) → (c : Place) → has same_place self.new.dirty c ≡ is_formula_at self.old.grid c) }
+        ensures did { OnOk result ((n : ℕ) → Did (reordered order (of_worksheet self.old)) self.old self.new n n) }
         ensures err { OnErr result (self.new ≡ self.old) }
     {
         let settings = self.settings;
@@ -278,6 +276,7 @@ impl<E: Means> SheetOf<E> {
             return Ok(());
         }
         let dirty = all_dirty(&self.store)?;
+        let _ = dirty.len();
         self.dirty = dirty;
         self.settings = Settings { order, ..settings };
         Ok(())
@@ -288,10 +287,7 @@ impl<E: Means> SheetOf<E> {
     /// sheet is unchanged where the edit is refused.
     pub fn enter(&mut self, cell: Cell, content: Content) -> Result<(), SheetFault>
         requires { HasPrefix content }
-        ensures grid { OnOk result (self.new.grid ≡ written self.old.grid cell content) }
-        ensures dirty { OnOk result (AreDirtied self.new.grid (has same_place self.old.dirty) (just cell) (has same_place self.new.dirty)) }
-        ensures stale { OnOk result (self.new.stale ≡ true) }
-        ensures beside { SameBeside self.old self.new }
+        ensures did { OnOk result ((n : ℕ) → Did (with_content cell content (of_worksheet self.old)) self.old self.new n n) }
         ensures err { OnErr result (self.new ≡ self.old) }
         ensures fault { IsFaultOf (is_protected self.old.settings self.old.grid cell) cell result }
     {
@@ -304,6 +300,7 @@ impl<E: Means> SheetOf<E> {
             state,
         ) {
             Ok(()) => {
+                let _ = self.dirty.len();
                 mark(&mut self.stale);
                 Ok(())
             }
@@ -321,13 +318,9 @@ impl<E: Means> SheetOf<E> {
         tally: &mut E,
     ) -> Result<(), SheetFault>
         requires { HasPrefix content }
-        ensures grid { OnOk result (self.new.grid ≡ entered E.meaning (context_of self.old.names self.old.settings scene.entry.now) (is_evaluated self.old.settings content) self.old.grid cell content) }
-        ensures dirty { OnOk result (AreDirtied (written self.old.grid cell content) (has same_place self.old.dirty) (just cell) (has same_place self.new.dirty)) }
-        ensures stale { OnOk result (self.new.stale ≡ true) }
-        ensures beside { SameBeside self.old self.new }
+        ensures did { OnOk result (Did (put E.meaning scene.entry.now cell content (of_worksheet self.old)) self.old self.new (E.count tally.old) (E.count tally.new)) }
         ensures err { OnErr result (self.new ≡ self.old) }
         ensures fault { IsFaultOf (is_protected self.old.settings self.old.grid cell) cell result }
-        ensures count { OnOk result (E.count tally.new ≡ raised_by (evaluations (is_evaluated self.old.settings content)) (E.count tally.old)) }
     {
         let settings = self.settings;
         if settings.automatic || !is_formula(&content) {
@@ -347,6 +340,7 @@ impl<E: Means> SheetOf<E> {
             tally,
         ) {
             Ok(()) => {
+                let _ = self.dirty.len();
                 mark(&mut self.stale);
                 Ok(())
             }
@@ -361,6 +355,7 @@ impl<E: Means> SheetOf<E> {
         ensures answer { IsAnswered self.old.settings self.old.grid (has same_place cells.now) result }
         ensures grid { OnOk result (Becomes self.old.grid (λ c. changed (map.get changes c) (map.get self.old.grid.cells c)) self.new.grid) }
         ensures dirty { OnOk result (AreDirtied self.new.grid (has same_place self.old.dirty) (has same_place cells.now) (has same_place self.new.dirty)) }
+        ensures distinct { OnOk result (IsDistinct same_place self.new.dirty) }
         ensures stale { OnOk result (self.new.stale ≡ true) }
         ensures beside { SameBeside self.old self.new }
         ensures err { OnErr result (self.new ≡ self.old) }
@@ -377,6 +372,7 @@ impl<E: Means> SheetOf<E> {
             changes,
         ) {
             Ok(()) => {
+                let _ = self.dirty.len();
                 mark(&mut self.stale);
                 Ok(())
             }
@@ -388,10 +384,7 @@ impl<E: Means> SheetOf<E> {
     /// protected; the sheet is unchanged where the edit is refused.
     pub fn erase(&mut self, span: Span) -> Result<(), SheetFault>
         ensures answer { IsAnswered self.old.settings self.old.grid (is_within span) result }
-        ensures grid { OnOk result (Becomes self.old.grid (in_span self.old.grid span erased) self.new.grid) }
-        ensures dirty { OnOk result (AreDirtied self.new.grid (has same_place self.old.dirty) (is_within span) (has same_place self.new.dirty)) }
-        ensures stale { OnOk result (self.new.stale ≡ true) }
-        ensures beside { SameBeside self.old self.new }
+        ensures did { OnOk result ((n : ℕ) → Did (erased span (of_worksheet self.old)) self.old self.new n n) }
         ensures err { OnErr result (self.new ≡ self.old) }
     {
         let Ok(cells) = cells_of(self.store.alloc(), span) else {
@@ -410,10 +403,7 @@ impl<E: Means> SheetOf<E> {
     pub fn copy_span(&mut self, from: Span, to: Span) -> Result<(), SheetFault>
         ensures outside { target_of from to ≡ None → result ≡ Err (faults.OutOfSheet from) }
         ensures answer { ForSome (target_of from to) (λ target. IsAnswered self.old.settings self.old.grid (is_within target) result) }
-        ensures grid { OnOk result (ForSome (target_of from to) (λ target. Becomes self.old.grid (copied_at self.old.grid from target) self.new.grid)) }
-        ensures dirty { OnOk result (ForSome (target_of from to) (λ target. AreDirtied self.new.grid (has same_place self.old.dirty) (is_within target) (has same_place self.new.dirty))) }
-        ensures stale { OnOk result (self.new.stale ≡ true) }
-        ensures beside { SameBeside self.old self.new }
+        ensures did { OnOk result (ForSome (target_of from to) (λ target. (n : ℕ) → Did (copied from target (of_worksheet self.old)) self.old self.new n n)) }
         ensures err { OnErr result (self.new ≡ self.old) }
     {
         let Some(target) = target_of(from, to) else {
@@ -425,10 +415,7 @@ impl<E: Means> SheetOf<E> {
     // Copies the contents and formats of a span onto the cells of another, again and again.
     fn copy_onto(&mut self, from: Span, target: Span) -> Result<(), SheetFault>
         ensures answer { IsAnswered self.old.settings self.old.grid (is_within target) result }
-        ensures grid { OnOk result (Becomes self.old.grid (copied_at self.old.grid from target) self.new.grid) }
-        ensures dirty { OnOk result (AreDirtied self.new.grid (has same_place self.old.dirty) (is_within target) (has same_place self.new.dirty)) }
-        ensures stale { OnOk result (self.new.stale ≡ true) }
-        ensures beside { SameBeside self.old self.new }
+        ensures did { OnOk result ((n : ℕ) → Did (copied from target (of_worksheet self.old)) self.old self.new n n) }
         ensures err { OnErr result (self.new ≡ self.old) }
     {
         let Ok(cells) = cells_of(self.store.alloc(), target) else {
@@ -446,10 +433,7 @@ impl<E: Means> SheetOf<E> {
     pub fn write(&mut self, writes: &Writes) -> Result<(), SheetFault>
         requires { HavePrefixes writes.now.items.items }
         ensures answer { IsAnswered self.old.settings self.old.grid (has same_place (written_cells writes.now.items.items)) result }
-        ensures grid { OnOk result (self.new.grid ≡ written_all self.old.grid writes.now.items.items) }
-        ensures dirty { OnOk result (AreDirtied self.new.grid (has same_place self.old.dirty) (has same_place (written_cells writes.now.items.items)) (has same_place self.new.dirty)) }
-        ensures stale { OnOk result (self.new.stale ≡ true) }
-        ensures beside { SameBeside self.old self.new }
+        ensures did { OnOk result ((n : ℕ) → Did (all_written writes.now.items.items (of_worksheet self.old)) self.old self.new n n) }
         ensures err { OnErr result (self.new ≡ self.old) }
     {
         let alloc = self.store.alloc();
@@ -465,8 +449,7 @@ impl<E: Means> SheetOf<E> {
     /// contents. The sheet is unchanged where there is no memory.
     pub fn set_format(&mut self, span: Span, code: u8) -> Result<(), Memory>
         requires { code < 128 }
-        ensures ok { OnOk result (Becomes self.old.grid (in_span self.old.grid span (reformatted (with_code code))) self.new.grid) }
-        ensures beside { self.new ≡ record self.old { grid = self.new.grid } }
+        ensures did { OnOk result ((n : ℕ) → Did (reformatted span (with_code code) (of_worksheet self.old)) self.old self.new n n) }
         ensures err { OnErr result (self.new ≡ self.old) }
     {
         self.reformat(span, FormatChange::Code(code))
@@ -475,8 +458,7 @@ impl<E: Means> SheetOf<E> {
     /// Sets the protection marks of the cells of a span, or takes them away. It is no change of contents. The sheet is
     /// unchanged where there is no memory.
     pub fn set_protected(&mut self, span: Span, protected: bool) -> Result<(), Memory>
-        ensures ok { OnOk result (Becomes self.old.grid (in_span self.old.grid span (reformatted (with_mark protected))) self.new.grid) }
-        ensures beside { self.new ≡ record self.old { grid = self.new.grid } }
+        ensures did { OnOk result ((n : ℕ) → Did (reformatted span (with_mark protected) (of_worksheet self.old)) self.old self.new n n) }
         ensures err { OnErr result (self.new ≡ self.old) }
     {
         self.reformat(span, FormatChange::Mark(protected))
@@ -484,8 +466,7 @@ impl<E: Means> SheetOf<E> {
 
     fn reformat(&mut self, span: Span, change: FormatChange) -> Result<(), Memory>
         requires { HasCode change }
-        ensures ok { OnOk result (Becomes self.old.grid (in_span self.old.grid span (reformatted (rule_of change))) self.new.grid) }
-        ensures beside { self.new ≡ record self.old { grid = self.new.grid } }
+        ensures did { OnOk result ((n : ℕ) → Did (reformatted span (rule_of change) (of_worksheet self.old)) self.old self.new n n) }
         ensures err { OnErr result (self.new ≡ self.old) }
     {
         let cells = cells_of(self.store.alloc(), span)?;
@@ -496,14 +477,9 @@ impl<E: Means> SheetOf<E> {
 
     /// Recalculates in the order of the settings, with as many passes.
     pub fn calc(&mut self, scene: &Scene, tally: &mut E) -> Result<(), Memory>
-        ensures values { OnOk result (self.new.grid ≡ whole.passes E.meaning (context_of self.old.names self.old.settings scene.entry.now) self.old.settings.passes (order_in self.old.settings.order self.old.grid).done self.old.grid) }
-        ensures circular { OnOk result (self.new.circular ≡ (order_in self.old.settings.order self.old.grid).circular) }
-        ensures dirty { OnOk result (IsDirtyAfter self.old.settings.order self.new.grid (has same_place self.old.dirty) (has same_place self.new.dirty)) }
-        ensures stale { OnOk result (self.new.stale ≡ false) }
+        ensures did { OnOk result (Did (recalculated E.meaning scene.entry.now (of_worksheet self.old)) self.old self.new (E.count tally.old) (E.count tally.new)) }
         ensures contents { SameContents self.old.grid self.new.grid }
-        ensures err { OnErr result ((self.new.dirty ≡ self.old.dirty) × (self.new.circular ≡ self.old.circular) × (self.new.stale ≡ self.old.stale)) }
-        ensures beside { (self.new.names ≡ self.old.names) × (self.new.settings ≡ self.old.settings) }
-        ensures count { OnOk result (E.count tally.new ≡ raised_by (length self.old.dirty + (self.old.settings.passes - 1) * length self.new.dirty) (E.count tally.old)) }
+        ensures err { OnErr result (self.new ≡ record self.old { grid = self.new.grid }) }
     {
         let settings = self.settings;
         let circ = recalc(
@@ -516,6 +492,7 @@ impl<E: Means> SheetOf<E> {
             scene,
             tally,
         )?;
+        let _ = self.dirty.len();
         self.circular = circ.0;
         self.stale = false;
         Ok(())

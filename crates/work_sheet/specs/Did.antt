@@ -1,0 +1,16 @@
+-- A worksheet to which something was done.
+use Rattle.std.specs.Prelude.{◌≡◌, ℕ}
+use Rattle.work_sheet.specs.Doing.{Done}
+use Rattle.work_sheet.specs.Seen.{of_worksheet}
+use Rattle.work_sheet.specs.Sheets.{Worksheet}
+use Rattle.work_sheet.specs.Work.{HasWorked, Work}
+
+-- the dirty formulas of a worksheet, beside a count of evaluations
+abbrev pub work_of : Worksheet → ℕ → Work
+work_of w n = record { dirty = w.dirty; count = n }
+
+-- A worksheet became another and a count of evaluations another: what is seen is what was done, and the work followed
+-- what happened.
+pub record Did (d : Done) (a b : Worksheet) (m n : ℕ) : Type 0 where
+  pub sheet : of_worksheet b ≡ d.sheet
+  pub work : HasWorked d.log (work_of a m) (work_of b n)
