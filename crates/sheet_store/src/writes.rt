@@ -7,6 +7,7 @@ use grid_address::{Cell, Format, Span};
 use lics_text::Memory;
 use range_names::Names;
 use std::alloc::Global;
+use std::marker::Model;
 
 /// A content for a cell, and a format where the cell's own isn't kept.
 #[derive(Drop)]
@@ -22,10 +23,23 @@ pub struct Writes {
     items: Vec<Write>,
 }
 
+impl Model for Writes {
+    ghost use Rattle.std.specs.Prelude.{List};
+    ghost use Rattle.std.specs.Coded.{coded_list};
+    ghost use Rattle.sheet_store.specs.declared.writes.Write.{Write};
+    ghost use Rattle.sheet_store.specs.contracts.writes.Write as write;
+
+    ghost Value = { List Write };
+
+    ghost coded = { coded_list write.the_row.coded };
+
+    ghost view = { λ w. w.items.items };
+}
+
 impl Writes {
     /// The empty list.
     pub fn new(alloc: Global) -> Writes
-        ensures { result.items.items ≡ [] }
+        ensures { result ≡ [] }
     {
         Writes {
             items: Vec::new(alloc),
@@ -34,8 +48,8 @@ impl Writes {
 
     /// Adds one at the end. The list is unchanged where there is no room.
     pub fn push(&mut self, write: Write) -> Result<(), Memory>
-        ensures ok { OnOk result (self.new.items.items ≡ self.old.items.items ++ write ∷ []) }
-        ensures err { OnErr result (self.new.items.items ≡ self.old.items.items) }
+        ensures ok { OnOk result (self.new ≡ self.old ++ write ∷ []) }
+        ensures err { OnErr result (self.new ≡ self.old) }
     {
         self.items.push(write)?;
         Ok(())
@@ -43,15 +57,15 @@ impl Writes {
 
     /// How many there are.
     pub fn len(&self) -> usize
-        ensures { result ≡ length self.now.items.items }
+        ensures { result ≡ length self.now }
     {
         self.items.len()
     }
 
     /// The one at a place, and none exactly past the end.
     pub fn get(&self, place: usize) -> Option<&Write>
-        ensures none { IfNone result (length self.now.items.items ≤ place) }
-        ensures some { IfSome result (λ w. (place < length self.now.items.items) × (slice_get self.now.items.items place ≡ Some w.now)) }
+        ensures none { IfNone result (length self.now ≤ place) }
+        ensures some { IfSome result (λ w. (place < length self.now) × (slice_get self.now place ≡ Some w.now)) }
     {
         self.items.get(place)
     }

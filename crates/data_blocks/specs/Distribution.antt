@@ -1,0 +1,67 @@
+-- A distribution: how many values lie in each bin.
+use Rattle.std.specs.Prelude.{ℕ, ◌+◌, ◌||◌, ◌&&◌, ◌==◌, not, ℤ, pos, Bool, true, Option, None, Some, List, [], ◌∷◌, map, Result, Ok, Err, if◌then◌else◌}
+use Rattle.std.specs.Int.RustNames.{int_lt}
+use Rattle.std.specs.List.{count_by, flat_map, zip}
+use Rattle.grid_address.specs.Place.{height_of, Extent, Place}
+use Rattle.formula_tree.specs.declared.value.Value.{Value}
+use Rattle.formula_tree.specs.declared.value.Value.TheVariants as value
+use Rattle.formula_eval.specs.World.{filled, Sight}
+use Rattle.value_functions.specs.Values.{counted}
+use Rattle.block_writes.specs.Writing.{as_content, down, numbers_from, rows_of, written}
+use Rattle.sheet_store.specs.declared.writes.SheetFault.TheVariants as sheet_fault
+use Rattle.sheet_store.specs.declared.writes.Write.{Write}
+use Rattle.data_blocks.specs.declared.fault.BlockFault.{BlockFault}
+use Rattle.data_blocks.specs.declared.fault.BlockFault.TheVariants as fault
+
+-- a value that is a number counts
+abbrev pub number_of : Value → List ℤ
+number_of (value.Num x) = x ∷ []
+number_of value.Blank = []
+number_of (value.Str t) = []
+number_of value.Err = []
+number_of value.Na = []
+
+abbrev pub numbers_in : (Place → Value) → List Place → List ℤ
+numbers_in values cells = flat_map (λ p. number_of (values p)) cells
+
+-- a bin that is no number counts as 0
+abbrev pub bin_of : Value → ℤ
+bin_of (value.Num x) = x
+bin_of value.Blank = pos 0
+bin_of (value.Str t) = pos 0
+bin_of value.Err = pos 0
+bin_of value.Na = pos 0
+
+-- above the bin before, if there is one
+abbrev pub is_above : Option ℤ → ℤ → Bool
+is_above None x = true
+is_above (Some before) x = int_lt before x
+
+abbrev pub is_in_bin : Option ℤ → ℤ → ℤ → Bool
+is_in_bin before bin x = is_above before x && not (int_lt bin x)
+
+-- how many are at most each bin and above the bin before, and how many are above the last
+abbrev pub shares : List ℤ → Option ℤ → List ℤ → List ℕ
+shares numbers before [] = count_by (is_above before) numbers ∷ []
+shares numbers before (bin ∷ bins) = count_by (is_in_bin before bin) numbers ∷ shares numbers (Some bin) bins
+
+-- the bins are the first column
+abbrev pub bins_of : (Place → Value) → Extent → List ℤ
+bins_of values bins = map (λ p. bin_of (values p)) (down bins.first.col (rows_of bins))
+
+-- beside each bin, and one row further
+abbrev pub beside : Extent → List Place
+beside bins = down (bins.first.col + 1) (numbers_from bins.first.row (height_of bins + 1))
+
+abbrev pub counts_written : List Place → List ℕ → List Write
+counts_written cells counts = map (λ p. written p.0 (as_content (counted p.1))) (zip cells counts)
+
+abbrev pub distributed : Sight → Extent → Extent → List Write
+distributed sight values bins = counts_written (beside bins) (shares (numbers_in sight.values (filled sight.values values)) None (bins_of sight.values bins))
+
+-- the last column and the last row leave no room for the counts
+abbrev pub has_no_room : Extent → Bool
+has_no_room bins = bins.first.col == 255 || bins.last.row == 8191
+
+abbrev pub distribution : Sight → Extent → Extent → Result (List Write) BlockFault
+distribution sight values bins = if has_no_room bins then Err (fault.Sheet (sheet_fault.OutOfSheet bins)) else Ok (distributed sight values bins)

@@ -1,0 +1,4 @@
+pub mod Distribution
+pub mod Filling
+pub mod Sorting
+pub mod Tables

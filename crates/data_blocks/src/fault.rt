@@ -1,0 +1,14 @@
+// Why a block is refused.
+use grid_address::Cell;
+use sheet_store::SheetFault;
+
+/// Why a block is refused: the step of a fill is 0, a table has one row or one column, an input cell lies in its
+/// table (the first given), or the sheet refuses.
+#[derive(Clone, Copy, Debug, PartialEq, Eq)]
+pub enum BlockFault {
+    ZeroStep,
+    NoTable,
+    InputInTable(Cell),
+    Sheet(SheetFault),
+    Memory,
+}
