@@ -1,0 +1,5 @@
+pub mod Criteria
+pub mod Extraction
+pub mod Fields
+pub mod Patterns
+pub mod Selection
