@@ -1,5 +1,5 @@
 -- What blocks of cells write: copies of cells, values, and nothing.
-use Rattle.std.specs.Prelude.{ℕ, zero, suc, ◌+◌, ◌-◌, Bool, List, [], ◌∷◌, map, Option, None, Some}
+use Rattle.std.specs.Prelude.{ℕ, zero, suc, ◌+◌, ◌-◌, List, [], ◌∷◌, map, Option, None, Some}
 use Rattle.std.specs.List.{flat_map, zip}
 use Rattle.grid_address.specs.Place.{height_of, width_of, Extent, Place}
 use Rattle.grid_address.specs.declared.format.Format.{Format}
