@@ -2,3 +2,4 @@ pub mod Distribution
 pub mod Filling
 pub mod Sorting
 pub mod Tables
+pub mod Steps

@@ -2,7 +2,11 @@
 #![tactic(auto)]
 
 mod fault;
+mod filling;
+mod order;
 mod sort;
 
 pub use fault::BlockFault;
+pub use filling::fill;
+pub use order::order_of_values;
 pub use sort::SortKey;
