@@ -1,6 +1,6 @@
 -- When a value fits a label that stands as a condition.
 use Rattle.std.specs.Char.{to_ascii_uppercase}
-use Rattle.std.specs.Prelude.{ℕ, ◌==◌, ◌||◌, ◌&&◌, not, Bool, true, false, List, [], ◌∷◌, if◌then◌else◌}
+use Rattle.std.specs.Prelude.{ℕ, ◌==◌, ◌||◌, ◌&&◌, drop, not, Bool, true, false, List, [], ◌∷◌, if◌then◌else◌}
 use Rattle.formula_tree.specs.declared.value.Value.{Value}
 use Rattle.formula_tree.specs.declared.value.Value.TheVariants as value
 
@@ -24,6 +24,9 @@ value_is_like pattern value.Err = false
 value_is_like pattern value.Na = false
 
 -- a leading ~ negates
+abbrev pub is_negated : List ℕ → Bool
+is_negated [] = false
+is_negated (p ∷ ps) = p == 126
+
 abbrev pub fits : List ℕ → Value → Bool
-fits [] v = value_is_like [] v
-fits (p ∷ ps) v = if p == 126 then not (value_is_like ps v) else value_is_like (p ∷ ps) v
+fits pattern v = if is_negated pattern then not (value_is_like (drop 1 pattern) v) else value_is_like pattern v
