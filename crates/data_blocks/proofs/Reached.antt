@@ -1,8 +1,7 @@
 -- The numbers of a fill, one at a time.
 use Rattle.std.proofs.Common.{◌≡◌, ℕ, ◌+◌, ◌<◌, List, [], ◌∷◌, ◌++◌, length, drop, get_or, sym, ap, ◌∙◌, refl, append_assoc}
 use Rattle.std.proofs.lemmas.List.{append-nil, drop_more}
-use Rattle.std.specs.Prelude.{zero, suc, ◌&&◌, cond, not, nat_le, nat_abs, ℤ, ◌+ℤ◌, Bool, true, false, Option, None, Some, map}
-use Rattle.std.specs.List.{take_while, zip}
+use Rattle.std.specs.Prelude.{◌&&◌, cond, not, nat_le, nat_abs, ℤ, ◌+ℤ◌, Bool, true, false, Option, None, Some}
 use Rattle.std.proofs.lemmas.List.Sums.{take_while-cons}
 use Rattle.fixed_value.specs.Numbers.{within}
 use Rattle.grid_address.specs.Place.{Place}

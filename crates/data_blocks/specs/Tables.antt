@@ -1,5 +1,5 @@
 -- The two tables: what formulas are after one input or two are tried.
-use Rattle.std.specs.Prelude.{ℕ, ◌+◌, ◌-◌, ◌||◌, Bool, Option, None, Some, List, [], ◌∷◌, map, nat_eq, Result, Ok, Err, if◌then◌else◌}
+use Rattle.std.specs.Prelude.{ℕ, ◌+◌, ◌-◌, ◌||◌, Bool, Option, None, Some, List, [], ◌∷◌, map, nat_eq, if◌then◌else◌}
 use Rattle.std.specs.List.{find, flat_map, zip}
 use Rattle.grid_address.specs.Place.{is_within, Extent, Place}
 use Rattle.formula_tree.specs.declared.value.Value.{Value}

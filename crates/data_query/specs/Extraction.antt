@@ -3,7 +3,7 @@ use Rattle.std.specs.Prelude.{ℕ, ◌+◌, ◌-◌, ◌&&◌, nat_eq, nat_lt, n
 use Rattle.std.specs.Cmp.Lexicographic.{slice_cmp}
 use Rattle.std.specs.List.{filter, filter_map, find, flat_map, list_all, zip}
 use Rattle.std.specs.Ordering.{int_eq, is_eq, nat_cmp}
-use Rattle.grid_address.specs.Place.{Extent, Place}
+use Rattle.grid_address.specs.Place.{Extent}
 use Rattle.formula_tree.specs.declared.value.Value.{Value}
 use Rattle.formula_tree.specs.declared.value.Value.TheVariants as value
 use Rattle.formula_eval.specs.World.{Sight, World}
@@ -80,4 +80,4 @@ rows_extracted sight output fields rows = unless_full output rows (output_writte
 abbrev pub extraction : World → Extent → Extent → Extent → Bool → Result (List Write) QueryFault
 extraction w input criterion output unique =
     answered (asked w.sight input criterion (unless_unknown output (unknown_label w.sight input output)
-        (rows_extracted w.sight output (wanted_fields w.sight input output) (extracted_rows w input criterion unique (wanted_fields w.sight input output)))))
+    (rows_extracted w.sight output (wanted_fields w.sight input output) (extracted_rows w input criterion unique (wanted_fields w.sight input output)))))

@@ -1,5 +1,5 @@
 -- The fields of a range of records, which its first row names.
-use Rattle.std.specs.Prelude.{ℕ, ◌&&◌, nat_lt, not, Bool, true, false, Option, None, Some, List, [], ◌∷◌}
+use Rattle.std.specs.Prelude.{ℕ, ◌&&◌, nat_lt, not, Bool, true, false, Option, None, Some, List}
 use Rattle.std.specs.List.{find, list_all}
 use Rattle.std.specs.Ordering.{is_eq}
 use Rattle.grid_address.specs.Place.{Extent, Place}

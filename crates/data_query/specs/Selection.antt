@@ -1,5 +1,5 @@
 -- The records that a criterion chooses, and what a deletion of them writes.
-use Rattle.std.specs.Prelude.{ℕ, ◌+◌, ◌-◌, not, Bool, Option, None, Some, List, [], ◌∷◌, ◌++◌, length, map, Result, Ok, Err, if◌then◌else◌}
+use Rattle.std.specs.Prelude.{ℕ, ◌+◌, ◌-◌, not, Option, None, Some, List, ◌++◌, length, map, Result, Ok, Err, if◌then◌else◌}
 use Rattle.std.specs.List.{filter, flat_map}
 use Rattle.grid_address.specs.Place.{Extent, Place}
 use Rattle.formula_eval.specs.World.{Sight, World}

@@ -1,4 +1,4 @@
-use Rattle.std.proofs.Common.{◌≡◌, ◌<◌, ◌≤◌, ◌++◌, ◌∷◌, [], ◌∙◌, ap, length, arith}
+use Rattle.std.proofs.Common.{◌++◌, ◌∷◌, [], ◌∙◌, ap, arith}
 use Rattle.std.proofs.lemmas.List.{drop_all}
 use Rattle.data_blocks.proofs.Reached.{filled_from, from_number, went_on, without_cell, without_number}
 use Rattle.data_blocks.proofs.filling.numbered.Goals as goal
@@ -12,7 +12,7 @@ loop-cell-init c =
 pub loop-cell-preserved : goal.loop-cell-preserved
 loop-cell-preserved c =
     went_on c.args.step c.args.stop c.loop-cell.writes c.push.new.self c.loop-cell.next c.reached-next.result c.add.result c.in-Some.number c.cell-item.result c.cell-item.result c.args.cells.now c.loop-cell.cell-index _
-        c.in-Some.is c.loop-cell-test.true c.cell-item.is c.add.ensures c.reached-next.ensures (c.in_ok-push.ensures.ok ∙ ap (λ w. c.loop-cell.writes ++ w ∷ []) c.written.ensures) c.loop-cell.invariant
+    c.in-Some.is c.loop-cell-test.true c.cell-item.is c.add.ensures c.reached-next.ensures (c.in_ok-push.ensures.ok ∙ ap (λ w. c.loop-cell.writes ++ w ∷ []) c.written.ensures) c.loop-cell.invariant
 
 pub returns : goal.returns
 returns c = elim c.loop-cell-test.branch [
