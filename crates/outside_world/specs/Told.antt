@@ -4,7 +4,9 @@ use Rattle.serial_date.specs.declared.moment.Moment.{Moment}
 use Rattle.outside_world.specs.declared.clock.ListClock.{ListClock}
 use Rattle.outside_world.specs.declared.keys.ListKeys.{ListKeys}
 use Rattle.outside_world.specs.declared.notes.ListNotes.{ListNotes}
-use Rattle.outside_world.specs.declared.shelf.MapShelf.{MapShelf}
+use Rattle.outside_world.specs.declared.map_shelf.MapShelf.{MapShelf}
+use Rattle.outside_world.specs.Journal.{told_by}
+use Rattle.outside_world.specs.Shelf.{OnShelf}
 
 -- the bytes that keys have left
 abbrev pub keys_left : ListKeys → List ℕ
@@ -23,6 +25,10 @@ notes_written n = n.bytes.items
 
 abbrev pub notes_faults : ListNotes → ℕ
 notes_faults n = n.faults
+
+-- the files of a shelf, and the answers of its calls
+abbrev pub shelf_told : MapShelf → OnShelf
+shelf_told s = told_by s.journal.items
 
 abbrev pub shelf_faults : MapShelf → ℕ
 shelf_faults s = s.faults

@@ -3,24 +3,30 @@
 //! and the form that the program uses.
 #![tactic(auto)]
 
+mod bytes;
 mod clock;
 mod faults;
+mod file_name;
 mod host_clock;
 mod host_keys;
 mod host_notes;
 mod keys;
+mod map_shelf;
 mod notes;
 mod shelf;
 
+pub use bytes::ByteList;
 pub use clock::{Clock, ListClock};
-pub use faults::Failed;
+pub use faults::{Failed, ShelfFault};
+pub use file_name::{Ext, FileName};
 pub use host_clock::HostClock;
 pub use host_keys::HostKeys;
 pub use host_notes::HostNotes;
 pub use keys::{Keys, ListKeys};
 pub use lics_text::Memory;
+pub use map_shelf::MapShelf;
 pub use notes::{ListNotes, Notes};
-pub use shelf::{MapShelf, Shelf};
+pub use shelf::Shelf;
 
 #[cfg(test)]
 mod tests;

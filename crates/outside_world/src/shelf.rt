@@ -1,28 +1,37 @@
-ghost use Rattle.std.specs.Prelude.{ℕ, ◌≡◌};
+ghost use Rattle.std.specs.Prelude.{◌≡◌, ◌≤◌, ◌+◌, ℕ, List, Option, Some, None, IfSome, IfNone, OnOk, OnErr};
+ghost use Rattle.std.specs.FinMap as map;
+ghost use Rattle.outside_world.specs.Shelf.{file_in, has_file, HasCause, HasPut, HasRead, HasRemoved};
 
-/// Where files lie, by the count of its faults. No command reaches a file yet, so it has no call.
+use crate::{ByteList, FileName, ShelfFault};
+
+/// Where files lie: by what it holds, where it tells it, and by the count of its faults, which never falls.
+/// What it tells is its files and the answers of its calls. A call that doesn't answer `Memory` adds its answer;
+/// `Failed` comes only where the count of faults rose in that call.
 pub trait Shelf {
+    ghost use Rattle.outside_world.specs.Shelf.{OnShelf};
+
+    ghost holds: { Self → Option OnShelf };
+
     ghost faults: { Self → ℕ };
-}
 
-/// A shelf in memory. The calls with the given numbers, counted from 1, are to fail.
-#[derive(Drop)]
-pub struct MapShelf {
-    failing: Vec<u64>,
-    faults: u64,
-}
+    /// Whether there is such a file. No file is changed.
+    fn has(&mut self, name: &FileName) -> Result<bool, ShelfFault>
+        ensures held { HasRead (has_file name.now) name.now (holds self.old) (holds self.new) result }
+        ensures cause { HasCause (faults self.old) (faults self.new) result };
 
-impl MapShelf {
-    ghost use Rattle.outside_world.specs.Told.{shelf_faults};
+    /// The bytes of a file, and none exactly where there is no such file. No file is changed.
+    fn get(&mut self, name: &FileName) -> Result<Option<ByteList>, ShelfFault>
+        ensures held { HasRead (file_in name.now) name.now (holds self.old) (holds self.new) result }
+        ensures cause { HasCause (faults self.old) (faults self.new) result };
 
-    /// A shelf with no file.
-    pub fn new(failing: Vec<u64>) -> MapShelf
-        ensures { shelf_faults result ≡ 0 }
-    {
-        MapShelf { failing, faults: 0 }
-    }
-}
+    /// Writes a file, in the place of one of that name. A put that fails leaves that name's file open, and all
+    /// others unchanged.
+    fn put(&mut self, name: &FileName, bytes: &ByteList) -> Result<(), ShelfFault>
+        ensures held { HasPut name.now bytes.now (holds self.old) (holds self.new) result }
+        ensures cause { HasCause (faults self.old) (faults self.new) result };
 
-impl Shelf for MapShelf {
-    ghost faults = { λ s. s.faults };
+    /// Takes a file away, and answers false exactly where there is no such file. One that fails changes no file.
+    fn remove(&mut self, name: &FileName) -> Result<bool, ShelfFault>
+        ensures held { HasRemoved name.now (holds self.old) (holds self.new) result }
+        ensures cause { HasCause (faults self.old) (faults self.new) result };
 }
