@@ -1,0 +1,37 @@
+-- Lines of a text file. A line ends at CR LF, at LF alone or at the end.
+use Rattle.std.specs.Prelude.{ℕ, ◌+◌, ◌==◌, ◌&&◌, nat_lt, Bool, false, List, [], ◌∷◌, length, min, map, take, drop, if◌then◌else◌}
+
+-- a byte below 32 becomes a blank
+abbrev pub shown_byte : ℕ → ℕ
+shown_byte b = if nat_lt b 32 then 32 else b
+
+abbrev pub starts_with_lf : List ℕ → Bool
+starts_with_lf [] = false
+starts_with_lf (b ∷ rest) = b == 10
+
+-- how many bytes of an ending stand in front
+abbrev pub ending_of : List ℕ → ℕ
+ending_of [] = 0
+ending_of (b ∷ rest) = if b == 10 then 1 else if (b == 13) && starts_with_lf rest then 2 else 0
+
+-- how many bytes stand before the first ending
+abbrev pub line_length : List ℕ → ℕ
+line_length [] = 0
+line_length (b ∷ rest) = if ending_of (b ∷ rest) == 0 then line_length rest + 1 else 0
+
+-- what is read of the bytes that are left: the bytes given, and how many are passed over
+pub record Piece : Type 0 where
+  pub text : List ℕ
+  pub passed : ℕ
+
+abbrev pub piece : List ℕ → ℕ → Piece
+piece bytes passed = record { text = map shown_byte bytes; passed = passed }
+
+-- the next bytes, fewer at the end
+abbrev pub next_bytes : ℕ → List ℕ → Piece
+next_bytes count left = piece (take count left) (min count (length left))
+
+-- the next line, and its ending; of a longer line the first 240 bytes
+abbrev pub next_line : List ℕ → Piece
+next_line left = if nat_lt 240 (line_length left) then piece (take 240 left) 240
+    else piece (take (line_length left) left) (line_length left + ending_of (drop (line_length left) left))

@@ -1,0 +1,18 @@
+use outside_world::{ByteList, FileName};
+
+/// What a channel may do with its file.
+#[derive(Clone, Copy, PartialEq, Eq, Debug)]
+pub enum Access {
+    Read,
+    Write,
+    Modify,
+}
+
+/// A file that is attached: its name, its bytes, and the place of the next byte.
+#[derive(Drop)]
+pub struct Attached {
+    pub name: FileName,
+    pub access: Access,
+    pub bytes: ByteList,
+    pub at: usize,
+}

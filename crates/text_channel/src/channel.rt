@@ -1,0 +1,203 @@
+ghost use Rattle.std.specs.Prelude.{◌≡◌, ◌≤◌, ℕ, None, IfOk, OnOk, OnErr};
+ghost use Rattle.outside_world.specs.Shelf.{HasCause};
+ghost use Rattle.text_channel.specs.Channels.{by_shelf, can_stand, can_write, position_of, size_of, stood, written, HasAttached, HasFinished, HasOpened, HasTaken};
+
+use crate::attached::{Access, Attached};
+use lics_text::Memory;
+use outside_world::{ByteList, FileName, Shelf, ShelfFault};
+use std::alloc::Global;
+use std::marker::Model;
+
+// The most bytes of a file.
+const LIMIT: usize = 67_108_864;
+
+/// Why a call of a channel gives no answer.
+#[derive(Clone, Copy, PartialEq, Eq, Debug)]
+pub enum ChannelFault {
+    /// The shelf failed, and its count of faults rose.
+    Failed,
+    Memory,
+}
+
+/// A text file of a macro, or none: its name, what may be done, its bytes and a position of at most their number.
+#[derive(Drop)]
+pub struct Channel {
+    attached: Option<Attached>,
+}
+
+impl Model for Channel {
+    ghost use Rattle.std.specs.Prelude.{Option};
+    ghost use Rattle.text_channel.specs.declared.attached.Attached.{Attached};
+    ghost use Rattle.text_channel.specs.Channels.{IsWithin};
+
+    ghost Value = { Option Attached };
+
+    ghost view = { λ c. c.attached };
+
+    ghost invariant = { λ c. IsWithin c.attached };
+}
+
+impl Channel {
+    /// A channel with nothing attached.
+    pub fn new() -> Channel
+        ensures { result ≡ None }
+    {
+        Channel { attached: None }
+    }
+
+    /// How many bytes the file has, and none exactly where nothing is attached.
+    pub fn size(&self) -> Option<u32>
+        ensures { result ≡ size_of self.now }
+    {
+        match &self.attached {
+            Some(file) => Some(file.bytes.len() as u32),
+            None => None,
+        }
+    }
+
+    /// The position, and none exactly where nothing is attached.
+    pub fn position(&self) -> Option<u32>
+        ensures { result ≡ position_of self.now }
+    {
+        match &self.attached {
+            Some(file) => Some(file.at as u32),
+            None => None,
+        }
+    }
+
+    /// Sets the position. It answers false, and changes nothing, exactly where nothing is attached and past the length.
+    pub fn set_position(&mut self, at: u32) -> bool
+        ensures answer { result ≡ can_stand at self.old }
+        ensures channel { self.new ≡ stood at self.old }
+    {
+        match &mut self.attached {
+            Some(file) => {
+                let place = at as usize;
+                if place <= file.bytes.len() {
+                    file.at = place;
+                    true
+                } else {
+                    false
+                }
+            }
+            None => false,
+        }
+    }
+
+    /// Puts bytes at the position, over and past the old ones, and moves it behind them. It answers false, and changes
+    /// nothing, exactly where nothing is attached, the access is Read, or the length would pass 67,108,864. After want
+    /// of memory the channel is as it was.
+    pub fn write(&mut self, bytes: &[u8]) -> Result<bool, Memory>
+        ensures answer { IfOk result (λ done. done ≡ can_write bytes.now self.old) }
+        ensures channel { OnOk result (self.new ≡ written bytes.now self.old) }
+        ensures kept { OnErr result (self.new ≡ self.old) }
+    {
+        match &mut self.attached {
+            Some(file) => {
+                if file.access == Access::Read || bytes.len() > LIMIT - file.at {
+                    return Ok(false);
+                }
+                file.bytes.put_at(file.at, bytes)?;
+                file.at += bytes.len();
+                Ok(true)
+            }
+            None => Ok(false),
+        }
+    }
+
+    /// Puts the file on the shelf, unless it was only read, and lets it go. It answers false exactly where nothing is
+    /// attached. Where the put failed or found no memory, the file stays attached.
+    pub fn finish<S: Shelf>(&mut self, shelf: &mut S) -> Result<bool, ChannelFault>
+        ensures empty { OnOk result (self.new ≡ None) }
+        ensures finished { HasFinished self.old (S.holds shelf.old) (S.holds shelf.new) self.new result }
+        ensures cause { HasCause (S.faults shelf.old) (S.faults shelf.new) (by_shelf result) }
+    {
+        let Some(file) = &self.attached else {
+            return Ok(false);
+        };
+        if file.access != Access::Read {
+            match shelf.put(&file.name, &file.bytes) {
+                Ok(()) => {}
+                Err(ShelfFault::Failed) => return Err(ChannelFault::Failed),
+                Err(ShelfFault::Memory) => return Err(ChannelFault::Memory),
+            }
+        }
+        self.attached = None;
+        Ok(true)
+    }
+
+    /// Finishes what is attached, and then attaches a file: for Write with no bytes, for Read and Modify with those on
+    /// the shelf, at position 0. It answers false, with nothing attached, exactly where there is no such file or it has
+    /// more than 67,108,864 bytes. Where the finishing failed, the earlier file stays attached.
+    pub fn attach<S: Shelf>(
+        &mut self,
+        alloc: Global,
+        name: FileName,
+        access: Access,
+        shelf: &mut S,
+    ) -> Result<bool, ChannelFault>
+        ensures attached { HasAttached name access self.old (S.holds shelf.old) (S.holds shelf.new) self.new result }
+        ensures cause { HasCause (S.faults shelf.old) (S.faults shelf.new) (by_shelf result) }
+    {
+        match self.finish(shelf) {
+            Ok(_) => self.take(alloc, name, access, shelf),
+            Err(fault) => Err(fault),
+        }
+    }
+
+    fn take<S: Shelf>(
+        &mut self,
+        alloc: Global,
+        name: FileName,
+        access: Access,
+        shelf: &mut S,
+    ) -> Result<bool, ChannelFault>
+        requires { self.old ≡ None }
+        ensures taken { HasTaken name access (S.holds shelf.old) (S.holds shelf.new) self.new result }
+        ensures cause { HasCause (S.faults shelf.old) (S.faults shelf.new) (by_shelf result) }
+    {
+        match access {
+            Access::Write => {
+                self.attached = Some(Attached {
+                    name,
+                    access,
+                    bytes: ByteList::new(alloc),
+                    at: 0,
+                });
+                Ok(true)
+            }
+            Access::Read | Access::Modify => self.open(name, access, shelf),
+        }
+    }
+
+    // Attaches the shelf's file.
+    fn open<S: Shelf>(
+        &mut self,
+        name: FileName,
+        access: Access,
+        shelf: &mut S,
+    ) -> Result<bool, ChannelFault>
+        requires { self.old ≡ None }
+        ensures opened { HasOpened name access (S.holds shelf.old) (S.holds shelf.new) self.new result }
+        ensures cause { HasCause (S.faults shelf.old) (S.faults shelf.new) (by_shelf result) }
+    {
+        let got = match shelf.get(&name) {
+            Ok(got) => got,
+            Err(ShelfFault::Failed) => return Err(ChannelFault::Failed),
+            Err(ShelfFault::Memory) => return Err(ChannelFault::Memory),
+        };
+        let Some(bytes) = got else {
+            return Ok(false);
+        };
+        if bytes.len() > LIMIT {
+            return Ok(false);
+        }
+        self.attached = Some(Attached {
+            name,
+            access,
+            bytes,
+            at: 0,
+        });
+        Ok(true)
+    }
+}
