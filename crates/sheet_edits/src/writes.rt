@@ -64,10 +64,10 @@ pub fn gathered(
     cells: &mut CellList,
     changes: &mut Changes,
 ) -> Result<(), Memory>
-    requires prefixes { HavePrefixes writes.now.items.items }
+    requires prefixes { HavePrefixes writes.now }
     requires cells { cells.old ≡ [] }
     requires changes { changes.old ≡ map.empty }
-    ensures { OnOk result (AreGathered store.now writes.now.items.items cells.new changes.new) }
+    ensures { OnOk result (AreGathered store.now writes.now cells.new changes.new) }
 {
     for place in 0..writes.len() {
         if let Some(write) = writes.get(place) {

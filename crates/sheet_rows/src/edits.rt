@@ -200,9 +200,9 @@ fn write_of(desk: &Desk, bytes: &[u8]) -> Result<Write, Stop>
 }
 
 fn add(writes: &mut Writes, write: Write) -> Result<(), Stop>
-    requires prefixes { HavePrefixes writes.old.items.items }
+    requires prefixes { HavePrefixes writes.old }
     requires prefix { HasPrefix write.content }
-    ensures { HavePrefixes writes.new.items.items }
+    ensures { HavePrefixes writes.new }
 {
     match writes.push(write) {
         Ok(()) => Ok(()),

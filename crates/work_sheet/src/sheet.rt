@@ -431,9 +431,9 @@ impl<E: Means> SheetOf<E> {
     /// Makes the writes in their order. One without a format leaves its cell's format. `Protected` names the first cell
     /// in row order that is protected; the sheet is unchanged where the edit is refused.
     pub fn write(&mut self, writes: &Writes) -> Result<(), SheetFault>
-        requires { HavePrefixes writes.now.items.items }
-        ensures answer { IsAnswered self.old.settings self.old.grid (has same_place (written_cells writes.now.items.items)) result }
-        ensures did { OnOk result ((n : ℕ) → Did (all_written writes.now.items.items (of_worksheet self.old)) self.old self.new n n) }
+        requires { HavePrefixes writes.now }
+        ensures answer { IsAnswered self.old.settings self.old.grid (has same_place (written_cells writes.now)) result }
+        ensures did { OnOk result ((n : ℕ) → Did (all_written writes.now (of_worksheet self.old)) self.old self.new n n) }
         ensures err { OnErr result (self.new ≡ self.old) }
     {
         let alloc = self.store.alloc();

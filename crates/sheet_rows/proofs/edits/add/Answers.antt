@@ -4,4 +4,4 @@ use Rattle.sheet_rows.proofs.Prefixes.{one_more}
 use Rattle.sheet_rows.proofs.edits.add.Goals as goal
 
 pub returns-in-Ok : goal.returns-in-Ok
-returns-in-Ok c = subst HavePrefixes (sym c.in-Ok.ensures.ok) (one_more c.args.writes.now.items.items c.args.write c.requires.prefixes c.requires.prefix)
+returns-in-Ok c = subst HavePrefixes (sym c.in-Ok.ensures.ok) (one_more c.args.writes.now c.args.write c.requires.prefixes c.requires.prefix)
