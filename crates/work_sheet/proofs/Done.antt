@@ -39,11 +39,15 @@ module _ (a b : Worksheet) where
       → IsDistinct same_place b.dirty → b.stale ≡ true → SameBeside a b → Did (edited marked g (of_worksheet a)) a b n n
   edited_did cells marked g n same e dirty distinct stale beside = record {
     sheet = λ i. record { grid = e i; circular = beside.circular i; stale = stale i; names = beside.names i; settings = beside.settings i };
-    work = (work_of b n, record {
-      dirty = subst (λ m. AreDirtied g (has same_place a.dirty) m (has same_place b.dirty)) (λ i c. same c i) (subst (λ x. AreDirtied x (has same_place a.dirty) cells (has same_place b.dirty)) e dirty);
-      distinct = distinct;
-      count = refl;
-    }, refl);
+    work = (
+      work_of b n,
+      record {
+        dirty = subst (λ m. AreDirtied g (has same_place a.dirty) m (has same_place b.dirty)) (λ i c. same c i) (subst (λ x. AreDirtied x (has same_place a.dirty) cells (has same_place b.dirty)) e dirty);
+        distinct = distinct;
+        count = refl;
+      },
+      refl,
+    );
   }
 
   -- the cells of a span were given what they hold

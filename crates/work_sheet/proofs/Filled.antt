@@ -79,7 +79,7 @@ pub held_is : (g h : Grid) (s : Extent) (told : Place → Option CellState) (lis
     → Becomes g (λ c. changed (get changes c) (get g.cells c)) h → h ≡ holding_in s (λ c. changed (told c) (get g.cells c)) g
 held_is g h s told listed changes among given b = same_grid h (holding_in s (λ c. changed (told c) (get g.cells c)) g)
     (λ c. b.cells c ∙ ap (λ o. changed o (get g.cells c)) (given c) ∙ by (has same_place listed c) (told c) (get g.cells c)
-        ∙ ap (λ t. cond t (changed (told c) (get g.cells c)) (get g.cells c)) (among c ∙ sym (has_cells s c)) ∙ sym (get_holding (λ x. changed (told x) (get g.cells x)) (cells_of s) g.cells c))
+    ∙ ap (λ t. cond t (changed (told c) (get g.cells c)) (get g.cells c)) (among c ∙ sym (has_cells s c)) ∙ sym (get_holding (λ x. changed (told x) (get g.cells x)) (cells_of s) g.cells c))
     b.widths b.hidden
   where
     by : (t : Bool) (x o : Option CellState) → changed (cond t x None) o ≡ cond t (changed x o) o

@@ -41,10 +41,17 @@ pub returns : goal.returns
 returns g c =
     let e = numbered c.self.inside.table c.self.inside.held.items c.self.invariant c.args.cell c.is_on_sheet.ensures c.args.self.now c.self.view_is c.requires c.number_at.result c.number_at.ensures in
     let now = c.index_mut.result.now in
-    let at : now.cell ≡ c.args.cell = ap (λ (h : Held g.row.T.Denot). h.cell) c.index_mut.ensures.value ∙ cell_at c.self.inside.table c.self.inside.held.items c.self.invariant c.args.cell c.is_on_sheet.ensures (c.number_at.result - 1) now e in
-    ((refl, λ w.
-    ap (λ (q : Place). from_entries {R = place_cmp} (filled (set c.self.inside.held.items (c.number_at.result - 1) (record { cell = q; item = Some w })))) at
-    ∙ put_in c.self.inside.table c.self.inside.held.items c.self.invariant c.args.cell c.is_on_sheet.ensures (c.number_at.result - 1) w e
-    ∙ ap (λ m. insert m c.args.cell w) c.self.view_is),
-    record { writes_back = tt; value = ap (λ m. get m c.args.cell) (sym c.self.view_is) ∙ got c.self.inside.table c.self.inside.held.items c.self.invariant c.args.cell c.is_on_sheet.ensures (c.number_at.result - 1) now e
-    ∙ ap (λ (h : Held g.row.T.Denot). h.item) (sym c.index_mut.ensures.value) ∙ c.item_mut.ensures.value })
+    let at : now.cell ≡ c.args.cell = ap (λ (h : Held g.row.T.Denot). h.cell) c.index_mut.ensures.value ∙ cell_at c.self.inside.table c.self.inside.held.items c.self.invariant c.args.cell c.is_on_sheet.ensures (c.number_at.result - 1) now e in (
+      (
+        refl,
+        λ w.
+            ap (λ (q : Place). from_entries {R = place_cmp} (filled (set c.self.inside.held.items (c.number_at.result - 1) (record { cell = q; item = Some w })))) at
+            ∙ put_in c.self.inside.table c.self.inside.held.items c.self.invariant c.args.cell c.is_on_sheet.ensures (c.number_at.result - 1) w e
+            ∙ ap (λ m. insert m c.args.cell w) c.self.view_is,
+      ),
+      record {
+        writes_back = tt;
+        value = ap (λ m. get m c.args.cell) (sym c.self.view_is) ∙ got c.self.inside.table c.self.inside.held.items c.self.invariant c.args.cell c.is_on_sheet.ensures (c.number_at.result - 1) now e
+            ∙ ap (λ (h : Held g.row.T.Denot). h.item) (sym c.index_mut.ensures.value) ∙ c.item_mut.ensures.value;
+      },
+    )
