@@ -1,5 +1,5 @@
 // A plain C program that evaluates 8,000 formulas five hundred times, as trees over a block of cells that hold what the
-// cells of crates/formula_values hold, and prints the sum of their values and the number of evaluations.
+// cells of crates/check_values hold, and prints the sum of their values and the number of evaluations.
 #include <stdint.h>
 #include <stdio.h>
 #include <stdlib.h>

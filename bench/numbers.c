@@ -1,5 +1,5 @@
 // A plain C program that does a million products or quotients of millionths by 128-bit integers, over the
-// numbers of crates/number_rows, and prints the sum of the results.
+// numbers of crates/check_numbers, and prints the sum of the results.
 #include <stdint.h>
 #include <stdio.h>
 

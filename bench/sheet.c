@@ -1,4 +1,4 @@
-// A plain C program that does the work of crates/sheet_timing with the same structures: trees of glibc for the cells, for
+// A plain C program that does the work of crates/time_sheet with the same structures: trees of glibc for the cells, for
 // the blocks at which spans are registered, and for what formulas read, and a table of places for a set of cells.
 #include <search.h>
 #include <stdint.h>

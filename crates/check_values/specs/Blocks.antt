@@ -1,0 +1,29 @@
+-- What is seen of a block of cells.
+use Rattle.std.specs.Prelude.{ℕ, ◌+◌, ◌*◌, nat_lt, Option, Some, None, List, slice_get, if◌then◌else◌}
+use Rattle.grid_address.specs.Place.{Place}
+use Rattle.formula_tree.specs.declared.value.Content.{Content}
+use Rattle.formula_tree.specs.declared.value.Value.{Value}
+use Rattle.check_values.specs.declared.held.Held.{Held}
+
+-- 8 columns, row by row
+abbrev pub index_of : Place → Option ℕ
+index_of p = if nat_lt p.col 8 then Some (p.row * 8 + p.col) else None
+
+abbrev pub held_by : List Held → Option ℕ → Option Held
+held_by held None = None
+held_by held (Some i) = slice_get held i
+
+abbrev pub held_at : List Held → Place → Option Held
+held_at held p = held_by held (index_of p)
+
+abbrev pub value_of : Value → Option Held → Value
+value_of otherwise None = otherwise
+value_of otherwise (Some h) = h.value
+
+abbrev pub content_of : Option Held → Option Content
+content_of None = None
+content_of (Some h) = Some h.content
+
+abbrev pub format_of : Option Held → ℕ
+format_of None = 255
+format_of (Some h) = h.format.0

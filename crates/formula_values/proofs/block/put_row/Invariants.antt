@@ -1,9 +1,0 @@
-use Rattle.std.proofs.Common.{◌≡◌, ◌++◌}
-use Rattle.std.specs.List.{filter}
-use Rattle.formula_tree.specs.Values.{is_filled}
-use Rattle.formula_eval.specs.World.{row_cells}
-use Rattle.formula_values.specs.Blocks.{held_at, value_of}
-use Rattle.formula_values.proofs.block.put_row.Given as goal
-
-abbrev pub invariant-loop-place : goal.invariant-loop-place
-invariant-loop-place l = l.cells ≡ l.fn.cells ++ filter (λ p. is_filled (value_of l.blank (held_at l.held p))) (row_cells l.row l.first l.place)
