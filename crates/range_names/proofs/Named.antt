@@ -14,6 +14,7 @@ use Rattle.std.proofs.lemmas.Bool.{cases_Bool}
 use Rattle.std.proofs.lemmas.Bool.Decides.{nat_tests}
 use Rattle.std.proofs.lemmas.List.{length-map}
 use Rattle.grid_address.specs.Place.{Extent}
+use Rattle.range_names.specs.declared.fault.NameFault.{NameFault}
 use Rattle.range_names.specs.declared.fault.NameFault.TheVariants.{Empty, TooLong}
 use Rattle.range_names.proofs.NameMaps.{names_exact, some_is_none}
 use Rattle.range_names.specs.Names.{bad_byte, bad_place, fault_of, key_of, is_plain, name_cmp, name_in, name_of_span, named, same_extent, AreKeys, IsKey, NameMap}
@@ -77,6 +78,44 @@ no_space : (c : Bool) (place : Option ℕ) → cond c (Some 0) place ≡ None �
 no_space true place h = cc
 no_space false place h = h
 
+same_space : (name : List ℕ) → (get_or (map to_ascii_uppercase name) 0 0 == 32) ≡ (get_or name 0 0 == 32)
+same_space [] = refl
+same_space (b ∷ bs) = folded_space b
+  where
+    folded_space : (b : ℕ) → (to_ascii_uppercase b == 32) ≡ (b == 32)
+    folded_space b = grind (arith, nat_tests)
+
+filled_more : (b : ℕ) (bs : List ℕ) → nat_lt b 32 ≡ false → Filled bs → Filled (b ∷ bs)
+filled_more b bs large h = (let k : ℕ = prefix_len (λ b. not (nat_lt b 32)) bs in ap (λ c. cond (nat_lt (cond (not c) (1 + k) 0) (suc (length bs))) (Some (cond (not c) (1 + k) 0)) None) large ∙ later k (length bs) h)
+  where
+    later : (k n : ℕ) → cond (nat_lt k n) (Some k) None ≡ None → cond (nat_lt (1 + k) (suc n)) (Some (1 + k)) None ≡ None
+    later k n h = (let past = not_some (nat_lt k n) k h in let test : nat_lt (1 + k) (suc n) ≡ false = grind (arith, nat_tests, past) in ap (λ c. cond c (Some (1 + k)) None) test)
+
+folded_large : (b : ℕ) → nat_lt b 32 ≡ false → nat_lt (to_ascii_uppercase b) 32 ≡ false
+folded_large b h = grind (arith, nat_tests)
+
+folded_filled : (name : List ℕ) → Filled name → Filled (map to_ascii_uppercase name)
+folded_filled [] h = refl
+folded_filled (b ∷ bs) h = (let f = first_filled b bs h in filled_more (to_ascii_uppercase b) (map to_ascii_uppercase bs) (folded_large b f.0) (folded_filled bs f.1))
+
+abbrev fault_by : Bool → Bool → Bool → Option ℕ → Option NameFault
+fault_by a b c place = cond a (Some Empty) (cond b (Some TooLong) (bad_byte (cond c (Some 0) place)))
+
+same_fault : (a b c : Bool) (p q : Option ℕ) → fault_by a b c p ≡ None → (p ≡ None → q ≡ None) → fault_by a b c q ≡ None
+same_fault true b c p q h f = h
+same_fault false true c p q h f = h
+same_fault false false true p q h f = h
+same_fault false false false None q h f = ap bad_byte (f refl)
+same_fault false false false (Some at) q h f = absurd cc
+
+-- a folded name is a name
+folded_name : (name : List ℕ) → fault_of name ≡ None → fault_of (map to_ascii_uppercase name) ≡ None
+folded_name name h =
+    let long : length (map to_ascii_uppercase name) ≡ length name = length-map name to_ascii_uppercase in
+    let p : Option ℕ = position (λ c. nat_lt c 32) name in
+    let q : Option ℕ = position (λ c. nat_lt c 32) (map to_ascii_uppercase name) in
+    (λ i. fault_by (long i == 0) (nat_lt 15 (long i)) (same_space name i) q) ∙ same_fault (length name == 0) (nat_lt 15 (length name)) (get_or name 0 0 == 32) p q h (folded_filled name)
+
 pub is_key : (name : List ℕ) → fault_of name ≡ None → IsKey (key_of name)
 is_key name h =
     let good = no_fault (length name == 0) (nat_lt 15 (length name)) (bad_place name) h in
@@ -85,6 +124,7 @@ is_key name h =
     let long : length (map to_ascii_uppercase name) ≡ length name = length-map name to_ascii_uppercase in (
       omega (arith, ap length back, long, short),
       ap key_of back ∙ ap (λ k. map to_ascii_uppercase (map to_ascii_uppercase name) ++ replicate (15 - k) 0) long ∙ ap (λ (l : List ℕ). l ++ replicate (15 - length name) 0) (all_twice name),
+      ap fault_of back ∙ folded_name name h,
     )
 
 less_apart : (o : Ordering) (b : Bool) → T (is_lt o && b) → (is_eq o ≡ false) × T b

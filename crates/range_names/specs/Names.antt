@@ -31,14 +31,6 @@ abbrev pub name_in : List ℕ → List ℕ
 name_in [] = []
 name_in (b ∷ bs) = if b == 0 then [] else b ∷ name_in bs
 
--- a key that a name has
-abbrev pub IsKey : List ℕ → Type 0
-IsKey key = (length (name_in key) ≤ 15) × (key_of (name_in key) ≡ key)
-
--- each key is that of its name
-abbrev pub AreKeys : NameMap → Type 0
-AreKeys names = (key : List ℕ) (span : Extent) → get names key ≡ Some span → IsKey key
-
 -- a space in front, or the first byte below 32
 abbrev pub bad_place : List ℕ → Option ℕ
 bad_place name = if get_or name 0 0 == 32 then Some 0 else position (λ c. nat_lt c 32) name
@@ -53,6 +45,14 @@ fault_of name =
     if length name == 0 then Some Empty
     else if nat_lt 15 (length name) then Some TooLong
     else bad_byte (bad_place name)
+
+-- a key that a name has
+abbrev pub IsKey : List ℕ → Type 0
+IsKey key = (length (name_in key) ≤ 15) × (key_of (name_in key) ≡ key) × (fault_of (name_in key) ≡ None)
+
+-- each key is that of its name
+abbrev pub AreKeys : NameMap → Type 0
+AreKeys names = (key : List ℕ) (span : Extent) → get names key ≡ Some span → IsKey key
 
 abbrev pub is_word_byte : ℕ → Bool
 is_word_byte c = is_ascii_alphabetic c || (is_ascii_digit c || (c == 95))

@@ -1,5 +1,5 @@
 // Names as keys: folded, with zeros up to 15 bytes.
-ghost use Rattle.std.specs.Prelude.{◌≡◌, ◌≤◌, ◌<◌, ◌==◌, get_or, length, Some, None, IfOk, IfErr, position, nat_lt};
+ghost use Rattle.std.specs.Prelude.{◌≡◌, ◌≤◌, ◌<◌, ◌==◌, get_or, length, Some, None, IfNone, IfOk, IfErr, OnOk, position, nat_lt};
 ghost use Rattle.range_names.specs.Names.{bad_place, fault_of, key_of, name_in};
 
 use crate::NameFault;
@@ -43,6 +43,7 @@ fn bad_place(name: &[u8]) -> Option<usize>
 // The key of a name, or why the bytes are none.
 pub fn checked_key(name: &[u8]) -> Result<[u8; 15], NameFault>
     ensures ok { IfOk result (λ key. (fault_of name.now ≡ None) × (key ≡ key_of name.now)) }
+    ensures short { OnOk result (length name.now ≤ 15) }
     ensures err { IfErr result (λ fault. fault_of name.now ≡ Some fault) }
 {
     if name.len() == 0 {
@@ -57,7 +58,18 @@ pub fn checked_key(name: &[u8]) -> Result<[u8; 15], NameFault>
     }
 }
 
-// The bytes before the zeros.
+/// Why bytes are no name, and none where they are one: `Empty`, `TooLong` and `BadByte` by their causes, in this order.
+pub fn fault_of(name: &[u8]) -> Option<NameFault>
+    ensures fault { result ≡ fault_of name.now }
+    ensures short { IfNone result (length name.now ≤ 15) }
+{
+    match checked_key(name) {
+        Ok(_) => None,
+        Err(fault) => Some(fault),
+    }
+}
+
+/// The bytes before the zeros: the name of a key.
 pub fn name_in(key: &[u8]) -> &[u8]
     ensures name { result.now ≡ name_in key.now }
     ensures size { length result.now ≤ length key.now }

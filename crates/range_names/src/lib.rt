@@ -9,4 +9,5 @@ mod tests;
 mod words;
 
 pub use fault::NameFault;
+pub use key::{fault_of, name_in};
 pub use names::Names;

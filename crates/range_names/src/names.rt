@@ -13,6 +13,7 @@ use grid_address::Span;
 use lics_text::Memory;
 use std::alloc::Global;
 use std::collections::BTreeMap;
+use std::collections::btree_map::Iter;
 use std::marker::Model;
 
 /// Names with their spans. A name is 1 to 15 bytes of 32 to 255, letters folded, and doesn't begin with a space.
@@ -115,6 +116,13 @@ impl Names {
     {
         let counted = name.len().min(15);
         first_after(&self.map, key_of(&name[..counted]))
+    }
+
+    /// The keys and spans of the names, in byte order.
+    pub fn entries(&self) -> Iter<'_, [u8; 15], Span>
+        ensures { result ≡ namemap.entries self.now }
+    {
+        self.map.iter()
     }
 
     /// Equal names.
