@@ -1,7 +1,7 @@
 ghost use Rattle.std.specs.Prelude.{◌≡◌, ◌≤◌, ◌+◌, ℕ, List, Option, Some, None, Err, IfOk, IfErr, OnOk, OnErr, [], ◌∷◌, option_copied};
 ghost use Rattle.std.specs.FinMap as map;
 ghost use Rattle.outside_world.specs.Causes.{Rose};
-ghost use Rattle.outside_world.specs.Shelf.{answered, failed, file_in, on_shelf, holding, HasPut};
+ghost use Rattle.outside_world.specs.Shelf.{answered, failed, file_in, on_shelf, holding, HasCause, HasPut};
 ghost use Rattle.outside_world.specs.declared.faults.ShelfFault.TheVariants as fault;
 ghost use Rattle.outside_world.specs.Journal.{files_of, told_by};
 
@@ -137,6 +137,8 @@ impl MapShelf {
 }
 
 impl Shelf for MapShelf {
+    ghost use Rattle.outside_world.specs.Told.{shelf_told, shelf_faults};
+
     ghost holds = { λ s. Some (told_by s.journal.items) };
 
     ghost faults = { λ s. s.faults };
@@ -161,8 +163,13 @@ impl Shelf for MapShelf {
         Ok(copy)
     }
 
+    // A put that fails leaves its file too.
     #[tactic(auto, using(crate::proofs::Found::unchanged_put))]
-    fn put(&mut self, name: &FileName, bytes: &ByteList) -> Result<(), ShelfFault> {
+    fn put(&mut self, name: &FileName, bytes: &ByteList) -> Result<(), ShelfFault>
+        ensures held { HasPut name.now bytes.now (Some (shelf_told self.old)) (Some (shelf_told self.new)) result }
+        ensures cause { HasCause (shelf_faults self.old) (shelf_faults self.new) result }
+        ensures kept { OnErr result ((shelf_told self.new).files ≡ (shelf_told self.old).files) }
+    {
         if self.begin() {
             return Err(self.fail(name));
         }
