@@ -1,16 +1,20 @@
 -- What a map of held cells has, and what it has after an item is put in or taken out.
-use Rattle.std.specs.Prelude.{ℕ, suc, zero, ◌≡◌, ◌<◌, ◌++◌, ◌-◌, IsSome, cond, refl, Bool, true, false, List, [], ◌∷◌, length, map, get_or, set, slice_get, Option, None, Some}
-use Rattle.std.specs.FinMap.{empty, find, from_entries, from_entries_push, get, get-from_entries, insert, remove}
+use Rattle.std.specs.Prelude.{ℕ, suc, zero, ◌≡◌, ◌+◌, ◌*◌, ◌<◌, ◌≤◌, ◌++◌, ◌-◌, IsSome, cond, refl, true, false, List, [], ◌∷◌, length, map, get_or, set, slice_get, nat_eq, Option, None, Some}
+use Rattle.std.specs.FinMap.{find, from_entries, from_entries_push, get, get-from_entries, insert, remove}
+use Rattle.std.specs.List.{list_any, Contains, IsDistinct}
 use Rattle.std.specs.Ordering.{eq_by_cmp}
 use Rattle.std.proofs.Common.{sym, ◌∙◌, ap, subst, arith, inl, inr, ◌⊎◌}
-use Rattle.std.proofs.lemmas.Bool.{cases_Bool}
-use Rattle.std.proofs.lemmas.List.{length-map}
+use Rattle.std.proofs.lemmas.Bool.{cases_Bool, eqb-true, ne_eqb}
+use Rattle.std.proofs.lemmas.List.{get_or-map, length-map}
+use Rattle.std.proofs.lemmas.Map.Keys.{IsDistinct-from_apart}
+use Rattle.std.proofs.lemmas.Map.Steps.{length-le_from_distinct_below}
+use Rattle.std.proofs.lemmas.Map.Views.{Contains-from_any}
 use Rattle.std.specs.Option.{option_map}
 use Rattle.std.proofs.lemmas.Option.{slice_get-get_or, slice_get-map, slice_get_within}
 use Rattle.grid_address.specs.Place.{place_cmp, same_place, InSheet, Place}
 use Rattle.grid_address.proofs.Places.{cells_exact, cells_total, get_inserted, get_removed, place_tied, same_place_is, same_place_itself, same_places}
 use Rattle.cell_numbers.specs.Numbers.{number_at}
-use Rattle.cell_numbers.specs.Filled.{cells_of, filled, with_item, Numbered}
+use Rattle.cell_numbers.specs.Filled.{cells_of, filled, with_item, AreNumbered}
 use Rattle.cell_numbers.specs.declared.held.Held.{Held}
 
 same_some : {X : Type 0} {x y : X} → Some x ≡ Some y → x ≡ y
@@ -80,7 +84,7 @@ module _ {T : Type 0} where
   same_cells (x ∷ hs) zero g e = ap (λ c. c ∷ cells_of hs) (sym (same_some e))
   same_cells (x ∷ hs) (suc i) g e = ap (λ l. x.cell ∷ l) (same_cells hs i g e)
 
-  module _ (bands : List (List ℕ)) (hs : List (Held T)) (ok : Numbered bands (cells_of hs)) (c : Place) (inside : InSheet c) where
+  module _ (bands : List (List ℕ)) (hs : List (Held T)) (ok : AreNumbered bands (cells_of hs)) (c : Place) (inside : InSheet c) where
     only : (i : ℕ) → number_at bands c ≡ suc i → (j : ℕ) → slice_get (cells_of hs) j ≡ Some c → j ≡ i
     only i e j k = same_suc (sym (ok.told j c k) ∙ e)
 
@@ -109,8 +113,8 @@ module _ {T : Type 0} where
         with zero e = absurd (no_item T (subst IsSome (got_none e) h))
         with (suc n) e = omega (arith, e)
 
-    pub same_numbered : (i : ℕ) (o : Option T) → number_at bands c ≡ suc i → Numbered bands (cells_of (set hs i (record { cell = c; item = o })))
-    same_numbered i o e = subst (Numbered bands) (sym (same_cells hs i (record { cell = c; item = o }) (ok.found c i inside e))) ok
+    pub same_numbered : (i : ℕ) (o : Option T) → number_at bands c ≡ suc i → AreNumbered bands (cells_of (set hs i (record { cell = c; item = o })))
+    same_numbered i o e = subst (AreNumbered bands) (sym (same_cells hs i (record { cell = c; item = o }) (ok.found c i inside e))) ok
 
     found_set : (i : ℕ) (o : Option T) → number_at bands c ≡ suc i → (q : Place) → find place_cmp q (filled (set hs i (record { cell = c; item = o }))) ≡ cond (same_place q c) o (find place_cmp q (filled hs))
     found_set i o e q =
@@ -169,8 +173,8 @@ last_is : (xs : List Place) (x : Place) → slice_get (xs ++ x ∷ []) (length x
 last_is [] x = refl
 last_is (y ∷ xs) x = last_is xs x
 
-number_last : (old new : List (List ℕ)) (cells : List Place) (c : Place) → Numbered old cells → InSheet c → number_at old c ≡ 0
-    → ((d : Place) → InSheet d → number_at new d ≡ cond (same_place c d) (suc (length cells)) (number_at old d)) → Numbered new (cells ++ c ∷ [])
+number_last : (old new : List (List ℕ)) (cells : List Place) (c : Place) → AreNumbered old cells → InSheet c → number_at old c ≡ 0
+    → ((d : Place) → InSheet d → number_at new d ≡ cond (same_place c d) (suc (length cells)) (number_at old d)) → AreNumbered new (cells ++ c ∷ [])
 number_last old new cells c ok inside z h = record {
   inside = λ i d k. elim (last_or cells c d i k) [ inl e ↦ ok.inside i d e | inr e ↦ subst InSheet e.1 inside ];
   told = λ i d k. told i d (last_or cells c d i k);
@@ -194,11 +198,60 @@ cells_pushed : {T : Type 0} (hs : List (Held T)) (h : Held T) → cells_of (hs +
 cells_pushed [] h = refl
 cells_pushed (x ∷ hs) h = ap (λ l. x.cell ∷ l) (cells_pushed hs h)
 
-pub added_numbered : {T : Type 0} (old new : List (List ℕ)) (hs : List (Held T)) (c : Place) (x : T) → Numbered old (cells_of hs) → InSheet c → number_at old c ≡ 0
-    → ((d : Place) → InSheet d → number_at new d ≡ cond (same_place c d) (suc (length hs)) (number_at old d)) → Numbered new (cells_of (hs ++ record { cell = c; item = Some x } ∷ []))
-added_numbered {T} old new hs c x ok inside z h = subst (Numbered new) (sym (cells_pushed hs (record { cell = c; item = Some x })))
+pub added_numbered : {T : Type 0} (old new : List (List ℕ)) (hs : List (Held T)) (c : Place) (x : T) → AreNumbered old (cells_of hs) → InSheet c → number_at old c ≡ 0
+    → ((d : Place) → InSheet d → number_at new d ≡ cond (same_place c d) (suc (length hs)) (number_at old d)) → AreNumbered new (cells_of (hs ++ record { cell = c; item = Some x } ∷ []))
+added_numbered {T} old new hs c x ok inside z h = subst (AreNumbered new) (sym (cells_pushed hs (record { cell = c; item = Some x })))
     (number_last old new (cells_of hs) c ok inside z (λ d k. h d k ∙ ap (λ n. cond (same_place c d) (suc n) (number_at old d)) (sym (length-map hs (λ (h : Held T). h.cell)))))
 
 -- the same numbers in another table
-pub same_table : (old new : List (List ℕ)) (cells : List Place) → ((d : Place) → number_at new d ≡ number_at old d) → Numbered old cells → Numbered new cells
+pub same_table : (old new : List (List ℕ)) (cells : List Place) → ((d : Place) → number_at new d ≡ number_at old d) → AreNumbered old cells → AreNumbered new cells
 same_table old new cells h ok = record { inside = ok.inside; told = λ i c k. h c ∙ ok.told i c k; found = λ c i k e. ok.found c i k (sym (h c) ∙ e) }
+
+-- a place as a number, row by row
+abbrev number_of : Place → ℕ
+number_of c = c.row * 256 + c.col
+
+same_number : (c d : Place) → InSheet c → InSheet d → number_of c ≡ number_of d → c ≡ d
+same_number c d hc hd e =
+    let r : c.row ≡ d.row = omega (arith, e, hc.1, hd.1) in
+    let s : c.col ≡ d.col = omega (arith, e, hc.1, hd.1) in
+    λ i. record { row = r i; col = s i }
+
+-- no more cells have numbers than the sheet has places
+pub few : {T : Type 0} (bands : List (List ℕ)) (hs : List (Held T)) → AreNumbered bands (cells_of hs) → length hs ≤ 2097152
+few {T} bands hs ok = subst (λ n. n ≤ 2097152) (length-map cells number_of ∙ length-map hs (λ (h : Held T). h.cell)) (length-le_from_distinct_below (map number_of cells) 2097152 distinct below)
+  where
+    cells : List Place
+    cells = cells_of hs
+
+    at : (i : ℕ) (d : Place) → i < length cells → slice_get cells i ≡ Some (get_or cells i d)
+    at i d h = slice_get-get_or cells i d h
+
+    inside : (i : ℕ) (d : Place) → i < length cells → InSheet (get_or cells i d)
+    inside i d h = ok.inside i (get_or cells i d) (at i d h)
+
+    first : Place
+    first = record { row = 0; col = 0 }
+
+    number : (i d : ℕ) → i < length cells → get_or (map number_of cells) i d ≡ number_of (get_or cells i first)
+    number i d h = get_or-map number_of cells i first d h
+
+    long : length (map number_of cells) ≡ length cells
+    long = length-map cells number_of
+
+    distinct : IsDistinct nat_eq (map number_of cells)
+    distinct = IsDistinct-from_apart nat_eq (map number_of cells) (λ i j d h k. (
+        let kj : j < length cells = subst (λ n. j < n) long k in
+        let ki : i < length cells = omega (arith, h, kj) in
+        ne_eqb (get_or (map number_of cells) i d) (get_or (map number_of cells) j d) (λ e. (
+        let same : get_or cells i first ≡ get_or cells j first = same_number (get_or cells i first) (get_or cells j first) (inside i first ki) (inside j first kj) (sym (number i d ki) ∙ e ∙ number j d kj) in
+        let twice : suc i ≡ suc j = sym (ok.told i (get_or cells i first) (at i first ki)) ∙ ap (number_at bands) same ∙ ok.told j (get_or cells j first) (at j first kj) in
+        omega (arith, twice, h)))))
+
+    below : (q : ℕ) → list_any (nat_eq q) (map number_of cells) ≡ true → q < 2097152
+    below q h =
+        let c : Contains (map number_of cells) q = Contains-from_any (λ x y e. eqb-true x y e) q (map number_of cells) h in
+        let k : c.0 < length cells = subst (λ n. c.0 < n) long c.1 in
+        let is : q ≡ number_of (get_or cells c.0 first) = sym c.2 ∙ number c.0 q k in
+        let there = inside c.0 first k in
+        omega (arith, is, there.0, there.1)

@@ -1,5 +1,5 @@
 -- A table's numbers after room is made and after one is set.
-use Rattle.std.specs.Prelude.{ℕ, suc, zero, ◌≡◌, ◌+◌, ◌*◌, ◌/◌, ◌%◌, ◌<◌, ◌≤◌, ◌++◌, cond, refl, Bool, true, false, nat_eq, List, [], ◌∷◌, length, map, take, replicate, get_or, set, ◌≢◌}
+use Rattle.std.specs.Prelude.{ℕ, suc, zero, ◌≡◌, ◌<◌, ◌++◌, cond, refl, true, false, nat_eq, List, [], ◌∷◌, length, replicate, get_or, set, ◌≢◌}
 use Rattle.std.specs.Global.{Vec}
 use Rattle.std.proofs.Common.{sym, ◌∙◌, ap, subst, arith, inl, inr, ◌⊎◌, get_or-set_same, get_or-set_other}
 use Rattle.std.proofs.lemmas.Bool.{cases_Bool, eq-eqb, eqb-true, false≢true}

@@ -4,15 +4,17 @@ use Rattle.grid_address.specs.Place.{InSheet, Place}
 use Rattle.cell_numbers.specs.Numbers.{number_at}
 use Rattle.cell_numbers.specs.declared.held.Held.{Held}
 
+-- the entries behind that of a cell, which has one if it has an item
 abbrev pub with_item : {T : Type 0} → Place → Option T → List (Place × T) → List (Place × T)
 with_item c None es = es
 with_item c (Some x) es = (c, x) ∷ es
 
--- those that have an item
+-- the entries of the held cells that have an item, in their order
 abbrev pub filled : {T : Type 0} → List (Held T) → List (Place × T)
 filled [] = []
 filled (h ∷ hs) = with_item h.cell h.item (filled hs)
 
+-- the cells that are held, in their order
 abbrev pub cells_of : {T : Type 0} → List (Held T) → List Place
 cells_of hs = map (λ h. h.cell) hs
 
@@ -21,7 +23,7 @@ abbrev pub AreOnce : List Place → Type 0
 AreOnce cells = (i j : ℕ) (c : Place) → slice_get cells i ≡ Some c → slice_get cells j ≡ Some c → i ≡ j
 
 -- the cells that have numbers are these, the first with 1
-pub record Numbered (bands : List (List ℕ)) (cells : List Place) : Type 0 where
+pub record AreNumbered (bands : List (List ℕ)) (cells : List Place) : Type 0 where
   pub inside : (i : ℕ) (c : Place) → slice_get cells i ≡ Some c → InSheet c
   pub told : (i : ℕ) (c : Place) → slice_get cells i ≡ Some c → number_at bands c ≡ suc i
   pub found : (c : Place) (i : ℕ) → InSheet c → number_at bands c ≡ suc i → slice_get cells i ≡ Some c

@@ -1,5 +1,5 @@
 // Maps from cells to items.
-ghost use Rattle.std.specs.Prelude.{◌≡◌, ◌++◌, ◌∷◌, [], ◌<◌, suc, ℕ, cond, length, false, Some, None, option_copied, IfSome, IfNone, IsSome, IsTrue, ◌↔◌, OnOk, OnErr};
+ghost use Rattle.std.specs.Prelude.{◌≡◌, ◌++◌, ◌∷◌, [], ◌<◌, ◌-◌, ◌^◌, suc, ℕ, cond, length, false, Some, None, option_copied, IfSome, IfNone, IsSome, IsTrue, ◌↔◌, OnOk, OnErr};
 ghost use Rattle.std.specs.Option.{option_copied_mut};
 ghost use Rattle.std.specs.Borrow.{sem};
 ghost use Rattle.std.specs.FinMap as map;
@@ -10,9 +10,6 @@ use crate::{Held, PlaceTable};
 use grid_address::Cell;
 use std::alloc::{AllocError, Global};
 use std::marker::Model;
-
-/// The most numbers that a table can tell apart.
-const MOST: usize = 0xFFFF_FFFF;
 
 /// A finite map from cells to items. Each cell that was ever put in keeps a number, and an item is found by its cell's
 /// number, so that only a cell that is put in for the first time takes memory.
@@ -31,11 +28,11 @@ impl<T> Model for CellMap<T> {
 
     ghost coded = { map.code coded_place T.code };
 
-    ghost use Rattle.cell_numbers.specs.Filled.{cells_of, filled, Numbered};
+    ghost use Rattle.cell_numbers.specs.Filled.{cells_of, filled, AreNumbered};
 
     ghost view = { λ m. map.from_entries (filled m.held.items) };
 
-    ghost invariant = { λ m. Numbered m.table (cells_of m.held.items) };
+    ghost invariant = { λ m. AreNumbered m.table (cells_of m.held.items) };
 }
 
 // Where a cell is held, if it has a number.
@@ -56,15 +53,13 @@ fn add<T: Drop>(
     cell: Cell,
     item: T,
 ) -> Result<(), AllocError>
+    requires { length held.old.items < 2 ^ 32 - 1 }
     ensures held { OnOk result (held.new.items ≡ held.old.items ++ record { cell = cell; item = Some item } ∷ []) }
     ensures numbers { OnOk result ((d : Place) → InSheet d → number_at table.new d ≡ cond (same_place cell d) (suc (length held.old.items)) (number_at table.old d)) }
     ensures err_held { OnErr result (held.new.items ≡ held.old.items) }
     ensures err_numbers { OnErr result ((d : Place) → number_at table.new d ≡ number_at table.old d) }
 {
     table.make_room(cell)?;
-    if held.len() >= MOST {
-        return Err(AllocError);
-    }
     let number = held.len() as u32 + 1;
     held.push(Held {
         cell,
@@ -118,6 +113,7 @@ impl<T> CellMap<T> {
         self.get(cell).is_some()
     }
 
+    // The item of a cell that has one, to be changed in place.
     fn item_mut(&mut self, cell: Cell) -> &mut T
         requires { IsSome (map.get self.old cell) }
         ensures* writes_back { sem 𝓛 (lends_at T.row self.entry cell result) }

@@ -1,4 +1,4 @@
-use Rattle.std.proofs.Common.{◌≡◌, ◌<◌, ◌-◌, ap, ◌∙◌, arith, get_or, length, vec_len, List, ℕ, ◌++◌, replicate}
+use Rattle.std.proofs.Common.{◌-◌, ap, ◌∙◌, arith, get_or, vec_len, ℕ, ◌++◌, replicate}
 use Rattle.cell_numbers.proofs.Tables.{fill_same}
 use Rattle.std.proofs.lemmas.List.{take_all}
 use Rattle.cell_numbers.proofs.table.fill_band.Goals as goal

@@ -1,4 +1,4 @@
-use Rattle.std.proofs.Common.{◌≡◌, ap, sym, ◌∙◌, subst, ℕ, ◌<◌}
+use Rattle.std.proofs.Common.{ap, sym, ◌∙◌, subst, ◌<◌}
 use Rattle.std.specs.FinMap.{get}
 use Rattle.cell_numbers.proofs.Filled.{got, got_none, within}
 use Rattle.cell_numbers.specs.declared.held.Held.{Held}

@@ -1,8 +1,8 @@
-use Rattle.std.proofs.Common.{◌≡◌, ap, sym, ◌∙◌, subst, refl, ℕ, ◌<◌, Some, set, List, Result, Ok, Err, OnErr}
-use Rattle.std.specs.FinMap.{from_entries, get, insert, FinMap}
-use Rattle.grid_address.specs.Place.{place_cmp, InSheet, Place}
-use Rattle.cell_numbers.specs.Filled.{cells_of, filled, Numbered}
-use Rattle.cell_numbers.proofs.Filled.{added, added_numbered, cell_at, got_none, put_in, same_numbered, same_table, within}
+use Rattle.std.proofs.Common.{◌≡◌, ap, sym, ◌∙◌, subst, ◌<◌, Some, set, List, Result, Ok, Err, OnErr, arith}
+use Rattle.std.specs.FinMap.{from_entries, get, insert}
+use Rattle.grid_address.specs.Place.{place_cmp, Place}
+use Rattle.cell_numbers.specs.Filled.{cells_of, filled, AreNumbered}
+use Rattle.cell_numbers.proofs.Filled.{added, added_numbered, cell_at, few, got_none, put_in, same_numbered, same_table, within}
 use Rattle.cell_numbers.specs.declared.held.Held.{Held}
 use Rattle.cell_numbers.proofs.map.CellMap.insert.Goals as goal
 
@@ -13,11 +13,14 @@ on_err_always (Err _) p = p
 pub index_mut-requires : goal.index_mut-requires
 index_mut-requires g c = subst (λ n. c.in-Some.at < n) (sym c.self.inside.held.ok.0) (within c.self.inside.table c.self.inside.held.items c.self.invariant c.args.cell c.is_on_sheet.ensures c.in-Some.at c.in-Some.ensures.some)
 
+pub add-requires : goal.add-requires
+add-requires g c = (let most = few c.self.inside.table c.self.inside.held.items c.self.invariant in omega (arith, most))
+
 pub invariant_of-self : goal.invariant_of-self
 invariant_of-self g c =
     let now = c.index_mut.result.now in
     let at : now.cell ≡ c.args.cell = ap (λ (h : Held g.row.T.Denot). h.cell) c.index_mut.ensures.value ∙ cell_at c.self.inside.table c.self.inside.held.items c.self.invariant c.args.cell c.is_on_sheet.ensures c.in-Some.at now c.in-Some.ensures.some in
-    subst (λ (q : Place). Numbered c.self.inside.table (cells_of (set c.self.inside.held.items c.in-Some.at (record { cell = q; item = Some c.args.item })))) (sym at)
+    subst (λ (q : Place). AreNumbered c.self.inside.table (cells_of (set c.self.inside.held.items c.in-Some.at (record { cell = q; item = Some c.args.item })))) (sym at)
     (same_numbered c.self.inside.table c.self.inside.held.items c.self.invariant c.args.cell c.is_on_sheet.ensures c.in-Some.at (Some c.args.item) c.in-Some.ensures.some)
 
 pub returns-in-Some-clause-ok : goal.returns-in-Some-clause-ok
@@ -30,7 +33,7 @@ returns-in-Some-clause-ok g c =
 
 pub invariant_of-self-in_err-add-in-None : goal.invariant_of-self-in_err-add-in-None
 invariant_of-self-in_err-add-in-None g c =
-    subst (λ (hs : List (Held g.row.T.Denot)). Numbered c.add.new.table (cells_of hs)) (sym c.in_err-add-in-None.ensures.err_held)
+    subst (λ (hs : List (Held g.row.T.Denot)). AreNumbered c.add.new.table (cells_of hs)) (sym c.in_err-add-in-None.ensures.err_held)
     (same_table c.self.inside.table c.add.new.table (cells_of c.self.inside.held.items) c.in_err-add-in-None.ensures.err_numbers c.self.invariant)
 
 pub returns-in_err-add-in-None-clause-absent : goal.returns-in_err-add-in-None-clause-absent
@@ -40,7 +43,7 @@ returns-in_err-add-in-None-clause-absent g c =
 
 pub invariant_of-self-in-None : goal.invariant_of-self-in-None
 invariant_of-self-in-None g c =
-    subst (λ (hs : List (Held g.row.T.Denot)). Numbered c.add.new.table (cells_of hs)) (sym c.in_ok-add-in-None.ensures.held)
+    subst (λ (hs : List (Held g.row.T.Denot)). AreNumbered c.add.new.table (cells_of hs)) (sym c.in_ok-add-in-None.ensures.held)
     (added_numbered c.self.inside.table c.add.new.table c.self.inside.held.items c.args.cell c.args.item c.self.invariant c.is_on_sheet.ensures c.in-None.ensures.none c.in_ok-add-in-None.ensures.numbers)
 
 pub returns-in_ok-add-in-None-clause-ok : goal.returns-in_ok-add-in-None-clause-ok

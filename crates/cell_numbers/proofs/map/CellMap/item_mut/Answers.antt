@@ -2,13 +2,13 @@ use Rattle.std.proofs.Common.{◌≡◌, ap, sym, ◌∙◌, subst, refl, ℕ, s
 use Rattle.std.specs.FinMap.{from_entries, get, insert, FinMap}
 use Rattle.grid_address.specs.Place.{place_cmp, InSheet, Place}
 use Rattle.cell_numbers.specs.Numbers.{number_at}
-use Rattle.cell_numbers.specs.Filled.{cells_of, filled, Numbered}
+use Rattle.cell_numbers.specs.Filled.{cells_of, filled, AreNumbered}
 use Rattle.cell_numbers.proofs.Filled.{cell_at, got, number_of_item, put_in, same_numbered, within}
 use Rattle.cell_numbers.specs.declared.held.Held.{Held}
 use Rattle.cell_numbers.proofs.map.CellMap.item_mut.Goals as goal
 
 -- the number of a cell that has an item, less one, is where it is held
-numbered : {T : Type 0} (bands : List (List ℕ)) (hs : List (Held T)) → Numbered bands (cells_of hs) → (c : Place) → InSheet c → (m : FinMap place_cmp T) → from_entries (filled hs) ≡ m → IsSome (get m c) → (n : ℕ) → n ≡ number_at bands c → number_at bands c ≡ suc (n - 1)
+numbered : {T : Type 0} (bands : List (List ℕ)) (hs : List (Held T)) → AreNumbered bands (cells_of hs) → (c : Place) → InSheet c → (m : FinMap place_cmp T) → from_entries (filled hs) ≡ m → IsSome (get m c) → (n : ℕ) → n ≡ number_at bands c → number_at bands c ≡ suc (n - 1)
 numbered bands hs ok c inside m is some n e = number_of_item bands hs ok c inside (subst (λ m. IsSome (get m c)) (sym is) some) ∙ ap (λ n. suc (n - 1)) (sym e)
 
 pub overflow_sub-at : goal.overflow_sub-at
@@ -34,7 +34,7 @@ invariant_of-self-lent g c = λ w.
     (let e = numbered c.self.inside.table c.self.inside.held.items c.self.invariant c.args.cell c.is_on_sheet.ensures c.args.self.now c.self.view_is c.requires c.number_at.result c.number_at.ensures in
     let now = c.index_mut.result.now in
     let at : now.cell ≡ c.args.cell = ap (λ (h : Held g.row.T.Denot). h.cell) c.index_mut.ensures.value ∙ cell_at c.self.inside.table c.self.inside.held.items c.self.invariant c.args.cell c.is_on_sheet.ensures (c.number_at.result - 1) now e in
-    subst (λ (q : Place). Numbered c.self.inside.table (cells_of (set c.self.inside.held.items (c.number_at.result - 1) (record { cell = q; item = Some w })))) (sym at)
+    subst (λ (q : Place). AreNumbered c.self.inside.table (cells_of (set c.self.inside.held.items (c.number_at.result - 1) (record { cell = q; item = Some w })))) (sym at)
     (same_numbered c.self.inside.table c.self.inside.held.items c.self.invariant c.args.cell c.is_on_sheet.ensures (c.number_at.result - 1) (Some w) e))
 
 pub returns : goal.returns

@@ -1,7 +1,7 @@
-use Rattle.std.proofs.Common.{◌≡◌, ap, sym, ◌∙◌, subst, refl, ℕ, ◌<◌, None, set, List}
-use Rattle.std.specs.FinMap.{from_entries, get, remove, FinMap}
-use Rattle.grid_address.specs.Place.{place_cmp, InSheet, Place}
-use Rattle.cell_numbers.specs.Filled.{cells_of, filled, Numbered}
+use Rattle.std.proofs.Common.{◌≡◌, ap, sym, ◌∙◌, subst, ◌<◌, None, set}
+use Rattle.std.specs.FinMap.{from_entries, remove}
+use Rattle.grid_address.specs.Place.{place_cmp, Place}
+use Rattle.cell_numbers.specs.Filled.{cells_of, filled, AreNumbered}
 use Rattle.cell_numbers.proofs.Filled.{cell_at, same_numbered, taken_none, taken_out, within}
 use Rattle.cell_numbers.specs.declared.held.Held.{Held}
 use Rattle.cell_numbers.proofs.map.CellMap.remove.Goals as goal
@@ -14,7 +14,7 @@ pub invariant_of-self : goal.invariant_of-self
 invariant_of-self g c =
     let now = c.index_mut.result.now in
     let at : now.cell ≡ c.args.cell = ap (λ (h : Held g.row.T.Denot). h.cell) c.index_mut.ensures.value ∙ cell_at c.self.inside.table c.self.inside.held.items c.self.invariant c.args.cell c.is_on_sheet.ensures c.in-Some.at now c.in-Some.ensures.some in
-    subst (λ (q : Place). Numbered c.self.inside.table (cells_of (set c.self.inside.held.items c.in-Some.at (record { cell = q; item = None })))) (sym at)
+    subst (λ (q : Place). AreNumbered c.self.inside.table (cells_of (set c.self.inside.held.items c.in-Some.at (record { cell = q; item = None })))) (sym at)
     (same_numbered c.self.inside.table c.self.inside.held.items c.self.invariant c.args.cell c.is_on_sheet.ensures c.in-Some.at None c.in-Some.ensures.some)
 
 pub returns-in-Some : goal.returns-in-Some

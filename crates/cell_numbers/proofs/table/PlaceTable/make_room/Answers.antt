@@ -1,7 +1,6 @@
-use Rattle.std.proofs.Common.{◌≡◌, ◌<◌, ap, sym, ◌∙◌, subst, get_or, set, List, ℕ, length, arith}
+use Rattle.std.proofs.Common.{◌≡◌, ◌<◌, ap, sym, ◌∙◌, subst, get_or, set, ℕ, length, arith}
 use Rattle.std.specs.Global.{Vec}
-use Rattle.grid_address.specs.Place.{Place}
-use Rattle.cell_numbers.specs.Numbers.{band_of, items_of, number_at, place_of, HasRoom}
+use Rattle.cell_numbers.specs.Numbers.{band_of, items_of, number_at, HasRoom}
 use Rattle.cell_numbers.proofs.Tables.{place_below, refill, refilled}
 use Rattle.cell_numbers.proofs.table.PlaceTable.make_room.Goals as goal
 

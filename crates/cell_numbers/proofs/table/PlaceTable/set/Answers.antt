@@ -1,7 +1,7 @@
-use Rattle.std.proofs.Common.{◌≡◌, ap, sym, ◌∙◌, subst, get_or, set, cond, List, ℕ}
+use Rattle.std.proofs.Common.{◌≡◌, ap, sym, ◌∙◌, subst, get_or, set, cond, ℕ}
 use Rattle.std.specs.Global.{Vec}
 use Rattle.std.specs.Vec.{with_item}
-use Rattle.grid_address.specs.Place.{same_place, Place}
+use Rattle.grid_address.specs.Place.{same_place}
 use Rattle.cell_numbers.specs.Numbers.{band_of, items_of, number_at, place_of, HasRoom}
 use Rattle.cell_numbers.proofs.Tables.{put_number}
 use Rattle.cell_numbers.proofs.table.PlaceTable.set.Goals as goal
