@@ -1,0 +1,266 @@
+"""The rules of the repository's text. `scripts/check_text` says which files break one.
+
+Some rules came after much of the text. scripts/text_left tells, for each of these and each crate, how many places are
+still to be mended: a crate must not gain one, and `scripts/check_text --write` notes what was mended since."""
+import collections
+import re
+import subprocess
+import sys
+
+TOP_FILES = {".gitignore", "1-2-3", "HANDLES", "README.md", "crates.txt"}
+TOP_FOLDERS = {".ci", "bench", "crates", "docs", "examples", "oracle", "release", "scripts"}
+CRATE_PARTS = {"src", "specs", "proofs", "must-fail", "wrong-bodies", "data", "stdin", "stdout", "args", "status"}
+PRODUCTS = re.compile(r"(^|/)(out|__pycache__)/|\.(o|a|so|rlib|oantt|stamp|pyc)$")
+SECTIONS = ["base", "formulas", "sheet", "session", "program", "checks"]
+MOST_LINES, MOST_BODY, MOST_COLUMNS, MOST_EDITS = 800, 41, 120, 3
+LEFT = "scripts/text_left"
+FUNCTION = re.compile(r"^( *)(pub(\([a-z]+\))? )?((const|unsafe|ghost) )*fn (\w+)")
+
+
+class Rules:
+    """What was found: faults, and places that break a rule that came late, by rule and crate."""
+
+    def __init__(self, files):
+        self.files = files
+        self.faults = []
+        self.late = collections.defaultdict(list)
+
+    def fault(self, text):
+        self.faults.append(text)
+
+    def late_fault(self, rule, name, number, text):
+        self.late[rule, name.split("/")[1]].append(f"{name}:{number}: {text}")
+
+    def all(self):
+        self.places()
+        for name in self.files:
+            try:
+                with open(name, encoding="utf-8") as it:
+                    lines = it.read().split("\n")
+            except (UnicodeDecodeError, FileNotFoundError, IsADirectoryError):
+                continue
+            self.one_machine(name, lines)
+            if name.endswith(".rt"):
+                self.lengths(name, lines)
+                self.function_meanings(name, lines)
+                self.numbers(name, lines)
+            if "/specs/" in name and name.endswith(".antt"):
+                self.definition_meanings(name, lines)
+            if name.endswith(".rt") or "/specs/" in name:
+                self.columns(name, lines)
+        self.edits()
+        self.map_of_crates()
+
+    def places(self):
+        """Only known names stand at the top and in a crate, and no build product is kept."""
+        for name in self.files:
+            if PRODUCTS.search(name):
+                self.fault(f"{name}: a build product")
+            top, _, rest = name.partition("/")
+            if top not in (TOP_FOLDERS if rest else TOP_FILES):
+                self.fault(f"{name}: an unknown name at the top")
+            if top == "crates" and (rest.count("/") < 1 or rest.split("/")[1] not in CRATE_PARTS):
+                self.fault(f"{name}: an unknown name in a crate")
+            if name.endswith((".rt", ".antt")) and top != "crates":
+                self.fault(f"{name}: no check reads it")
+
+    def one_machine(self, name, lines):
+        """No path of a machine; the scripts and the gate may name what they look for."""
+        if name.startswith("scripts/"):
+            return
+        for number, line in enumerate(lines, 1):
+            if re.search(r"/(work|farm|opt/rattle|root)/", line):
+                self.fault(f"{name}:{number}: a path of a machine")
+
+    def lengths(self, name, lines):
+        """Files and functions are short."""
+        if len(lines) > MOST_LINES:
+            self.fault(f"{name}: {len(lines)} lines")
+        start = body = None
+        for number, line in enumerate(lines, 1):
+            head = FUNCTION.match(line)
+            if head:
+                start = number, head.group(1), head.group(6)
+                body = number if line.endswith("{") else None
+            if start and body is None and re.match(start[1] + r"(\).*)?\{$", line):
+                body = number
+            if start and body and line == start[1] + "}":
+                if number - body > MOST_BODY:
+                    self.fault(f"{name}:{start[0]}: {start[2]} has {number - body - 1} lines")
+                start = None
+
+    def function_meanings(self, name, lines):
+        """Each function has its line of meaning, but `main`, tests, and what a trait's impl must have."""
+        of_trait = False
+        for at, line in enumerate(lines):
+            if re.match(r"(unsafe )?impl\b", line):
+                of_trait = bool(re.search(r"\bfor\b", line))
+            elif line == "}":
+                of_trait = False
+            head = FUNCTION.match(line)
+            if not head or of_trait or head.group(6) == "main":
+                continue
+            above = at - 1
+            attributes = []
+            while above >= 0 and not lines[above].lstrip().startswith("//") and re.search(r"\]$|^ *#\[|^ *\)", lines[above]):
+                attributes.append(lines[above].strip())
+                above -= 1
+            if "#[test]" in attributes or lines[max(above, 0)].lstrip().startswith("//"):
+                continue
+            self.late_fault("function without its meaning", name, at + 1, head.group(6))
+
+    def definition_meanings(self, name, lines):
+        """Each definition has its line of meaning above it."""
+        for at, line in enumerate(lines):
+            head = re.match(r"(abbrev|data|record|rules|ruleset) (pub )?(\S+)|pub (abbrev|data|record|rules|ruleset) (\S+)", line)
+            if head and not (at and lines[at - 1].startswith("--")):
+                self.late_fault("definition without its meaning", name, at + 1, head.group(3) or head.group(5))
+
+    def numbers(self, name, lines):
+        """The last row and the longest text have names."""
+        for at, line in enumerate(lines):
+            code = line.split("//")[0]
+            if re.search(r"(?<![\w.])(8191|8192|240)(u8|u16|u32|usize|i64)?(?![\w.])", code) and not re.match(r" *(pub(\(\w+\))? )?const ", code):
+                self.late_fault("number that has a name", name, at + 1, line.strip()[:90])
+
+    def columns(self, name, lines):
+        """Clauses and definitions fit the page; what is imported may run on."""
+        for at, line in enumerate(lines):
+            if len(line) > MOST_COLUMNS and not re.match(r"(pub )?(ghost )?use ", line):
+                self.late_fault(f"line past {MOST_COLUMNS} columns", name, at + 1, f"{len(line)} columns")
+
+    def edits(self):
+        """The gate tries a few wrong bodies of each crate, and the others stand beside them."""
+        count = collections.Counter(name.split("/")[1] for name in self.files if re.match(r"crates/\w+/must-fail/.*\.edit$", name))
+        for crate, many in sorted(count.items()):
+            if many > MOST_EDITS:
+                self.fault(f"crates/{crate}/must-fail: {many} edits; the gate tries {MOST_EDITS}, and wrong-bodies/ keeps the others")
+
+    def map_of_crates(self):
+        """crates.txt, the folders of crates/ and the table of docs/ARCHITECTURE.md tell the same."""
+        named = crates_named(self.fault)
+        folders = {name.split("/")[1] for name in self.files if name.startswith("crates/")}
+        for crate in sorted(folders ^ set(named)):
+            self.fault(f"{crate}: {'crates.txt does not name it' if crate in folders else 'crates.txt names it, and there is no such folder'}")
+        rows = rows_of_map(self.fault)
+        for crate in sorted(set(named) ^ set(rows)):
+            self.fault(f"{crate}: {'docs/ARCHITECTURE.md has no row for it' if crate in named else 'docs/ARCHITECTURE.md has a row for it, and crates.txt none'}")
+        for crate in sorted(set(named) & set(rows)):
+            section, cited = named[crate]
+            if rows[crate] != (section, cited):
+                self.fault(f"{crate}: docs/ARCHITECTURE.md says {rows[crate][0]}: {' '.join(sorted(rows[crate][1]))}; crates.txt says {section}: {' '.join(sorted(cited))}")
+            for kind in ("check", "test", "time"):
+                if re.search(rf"_{kind}s?$|_rows$|_timing$", crate):
+                    self.fault(f"{crate}: checking programs are check_*, test crates test_*, timing programs time_*")
+                    break
+        check_cited(named, self.files, self.fault)
+
+
+def crates_named(fault):
+    """Each crate of crates.txt: its section and what it names."""
+    named, section = {}, None
+    with open("crates.txt", encoding="utf-8") as it:
+        for number, line in enumerate(it, 1):
+            line = line.rstrip("\n")
+            head = re.match(r"# == (\w+)$", line)
+            if head:
+                section = head.group(1)
+                if section not in SECTIONS:
+                    fault(f"crates.txt:{number}: an unknown section {section}")
+            elif line and not line.startswith("#"):
+                crate, _, cited = line.partition(":")
+                if section is None:
+                    fault(f"crates.txt:{number}: {crate} stands in no section")
+                named[crate.split()[0]] = section, frozenset(cited.split())
+    return named
+
+
+def rows_of_map(fault):
+    """Each crate of the map: its section and what it stands on."""
+    rows, section = {}, None
+    with open("docs/ARCHITECTURE.md", encoding="utf-8") as it:
+        for number, line in enumerate(it, 1):
+            head = re.match(r"### (\w+)", line)
+            if head:
+                section = head.group(1).lower()
+            elif line.startswith("## "):
+                section = None
+            cells = [it.strip() for it in line.strip().strip("|").split("|")]
+            if section in SECTIONS and line.startswith("| ") and len(cells) == 3 and cells[0] not in ("Crate",):
+                cited = frozenset() if cells[2] == "std" else frozenset(cells[2].replace(",", " ").split())
+                for crate in cells[0].replace(",", " ").split():
+                    if crate in rows:
+                        fault(f"docs/ARCHITECTURE.md:{number}: {crate} has two rows")
+                    rows[crate] = section, cited
+    return rows
+
+
+def check_cited(named, files, fault):
+    """A crate names what its code, definitions and proofs cite, and nothing else."""
+    cited = collections.defaultdict(set)
+    for name in files:
+        if not name.endswith((".rt", ".antt")) or not name.startswith("crates/"):
+            continue
+        crate = name.split("/")[1]
+        try:
+            with open(name, encoding="utf-8") as it:
+                text = it.read()
+        except FileNotFoundError:
+            continue
+        cited[crate].update(re.findall(r"\bRattle\.(\w+)\.", text))
+        if name.endswith(".rt"):
+            code = re.sub(r"//[^\n]*", "", text)
+            cited[crate].update(re.findall(r"\b(\w+)::", code))
+    for crate, (_, listed) in sorted(named.items()):
+        for other in sorted(cited[crate] & set(named) - {crate} - listed):
+            fault(f"{crate}: cites {other}, which its line of crates.txt does not name")
+        for other in sorted(listed - cited[crate]):
+            fault(f"{crate}: its line of crates.txt names {other}, which it does not cite")
+
+
+def left_over():
+    """How many places of each late rule are still to be mended, by rule and crate."""
+    left = {}
+    try:
+        with open(LEFT, encoding="utf-8") as it:
+            for line in it:
+                if line.strip() and not line.startswith("#"):
+                    number, crate, rule = line.rstrip("\n").split(" ", 2)
+                    left[rule, crate] = int(number)
+    except FileNotFoundError:
+        pass
+    return left
+
+
+def write_left(late):
+    with open(LEFT, "w", encoding="utf-8") as it:
+        it.write("# Places that break a rule that came after them: how many, in which crate, which rule. No crate may gain one.\n")
+        for (rule, crate), found in sorted(late.items()):
+            it.write(f"{len(found)} {crate} {rule}\n")
+
+
+def main(words):
+    files = [it for it in subprocess.run(["git", "ls-files"], capture_output=True, text=True).stdout.split("\n") if it]
+    rules = Rules(files)
+    rules.all()
+    left = left_over()
+    if words == ["--left"]:
+        for (rule, crate), found in sorted(rules.late.items()):
+            print(f"{crate}: {rule}", *(f"  {it}" for it in found), sep="\n")
+        return 0
+    if words == ["--write"]:
+        write_left(rules.late)
+        left = left_over()
+    for key, found in sorted(rules.late.items()):
+        if len(found) > left.get(key, 0):
+            rules.fault(f"{key[1]}: {key[0]}: {len(found)} places, and {left.get(key, 0)} are left to be mended. They are:")
+            rules.faults += [f"  {it}" for it in found]
+    print("\n".join(rules.faults) if rules.faults else "text: fine")
+    many = sum(map(len, rules.late.values()))
+    if many and not rules.faults:
+        print(f"text: {many} places are still to be mended, as scripts/check_text --left tells")
+    return 1 if rules.faults else 0
+
+
+if __name__ == "__main__":
+    sys.exit(main(sys.argv[1:]))
