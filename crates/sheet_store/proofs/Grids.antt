@@ -1,15 +1,15 @@
 -- Every cell of the map lies in the sheet, and where the last used cell is.
-use Rattle.std.specs.Prelude.{ℕ, suc, zero, ◌≡◌, ◌≤◌, ◌+◌, ◌<◌, ◌&&◌, Bool, true, false, cond, max, refl, List, [], ◌∷◌, length, drop, get_or, Option, None, Some}
-use Rattle.std.specs.FinMap.{entries, find, from_entries, get, get-entries, get-from_entries, FinMap}
+use Rattle.std.specs.Prelude.{ℕ, ◌≡◌, ◌≤◌, ◌&&◌, true, cond, max, refl, List, [], ◌∷◌, None, Some}
+use Rattle.std.specs.FinMap.{entries, find, from_entries, get, get-entries, get-from_entries}
 use Rattle.std.specs.Ordering.{eq_by_cmp}
-use Rattle.std.proofs.Common.{sym, ◌∙◌, ap, subst, arith, inl, inr, ◌⊎◌, rules}
+use Rattle.std.proofs.Common.{sym, ◌∙◌, ap, arith, inl, inr, rules}
 use Rattle.std.proofs.lemmas.Bool.{cases_Bool}
 use Rattle.grid_address.proofs.Places.{cells_total, place_tied, same_place_itself}
 use Rattle.grid_address.specs.Place.{is_within, place_cmp, whole, InSheet, Place}
-use Rattle.cell_numbers.specs.Filled.{filled, with_item}
+use Rattle.cell_numbers.specs.Filled.{filled}
 use Rattle.cell_numbers.specs.declared.held.Held.{Held}
 use Rattle.sheet_store.proofs.Held.{tied}
-use Rattle.sheet_store.specs.Grid.{formulas_among, further, holds_formula, is_formula, last_among, picked, AreHeld, Cells}
+use Rattle.sheet_store.specs.Grid.{formulas_among, holds_formula, is_formula, last_among, picked, AreHeld, Cells}
 use Rattle.sheet_store.specs.declared.state.CellState.{CellState}
 
 first_found : (e : Place × CellState) (es : List (Place × CellState)) → find place_cmp e.0 (e ∷ es) ≡ Some e.1

@@ -1,4 +1,5 @@
 pub mod Copies
 pub mod Grids
 pub mod Held
+pub mod RowOrder
 pub mod Scans

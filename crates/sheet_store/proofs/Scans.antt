@@ -14,7 +14,7 @@ use Rattle.std.proofs.lemmas.Cmp.{tied_itself}
 use Rattle.grid_address.proofs.Places.{cells_total}
 use Rattle.grid_address.specs.Place.{is_within, place_cmp, Extent, InSheet, Place}
 use Rattle.sheet_store.specs.Grid.{picked}
-use Rattle.sheet_store.specs.Scan.{entries_from, left_from, number_of, picked_at, places_left}
+use Rattle.sheet_store.specs.Scan.{entries_from, left_from, number_of, passed_at, places_left}
 use Rattle.sheet_store.specs.declared.state.CellState.{CellState}
 use Rattle.sheet_store.proofs.Held.{same_some, tied}
 
@@ -48,13 +48,6 @@ module _ (test : CellState → Bool) (span : Extent) where
   picked_all : (es : List (Place × CellState)) → picked test span (filter (λ e. true) es) ≡ picked test span es
   picked_all [] = refl
   picked_all (e ∷ es) = ap (λ l. cond (is_within span e.0 && test e.1) (e.0 ∷ l) l) (picked_all es)
-
-  picked_first : (e : Place × CellState) (es : List (Place × CellState)) → picked test span (e ∷ es) ≡ picked test span (e ∷ []) ++ picked test span es
-  picked_first e es = with (is_within span e.0 && test e.1)
-    where
-      with : (b : Bool) → cond b (e.0 ∷ picked test span es) (picked test span es) ≡ cond b (e.0 ∷ []) [] ++ picked test span es
-      with true = refl
-      with false = refl
 
 behind : Place → List (Place × CellState) → List (Place × CellState)
 behind c es = filter (λ e. is_lt (place_cmp c e.0)) es
@@ -141,6 +134,9 @@ none_here c (x ∷ xs) h = elim (cases_Bool (eq_by_cmp place_cmp c x.0)) [
     some_none : (s : CellState) → Some s ≡ None → ⊥
     some_none s h = absurd cc
 
+pub first_within : (s : Extent) → s.first.col ≤ s.last.col → s.first.row ≤ s.last.row → is_within s s.first ≡ true
+first_within s h k = search rules
+
 pub within_from : (s : Extent) (p : Place) → is_within s p ≡ true → is_le (place_cmp s.first p) ≡ true
 within_from s p h = search rules
 
@@ -154,20 +150,28 @@ module _ (test : CellState → Bool) (span : Extent) (es : List (Place × CellSt
   left_behind e None some none = picked_filter test span (λ p. is_lt (place_cmp e p)) (λ p. false) none es ∙ picked_none test span es
   left_behind e (Some c) some none = picked_filter test span (λ p. is_lt (place_cmp e p)) (λ p. is_le (place_cmp c p)) some es
 
-  picked_here : (c : Place) → IsStrictlySortedBy place_cmp (keys_of es) → picked test span (entries_from c es) ≡ picked_at test span c (find place_cmp c es) ++ picked test span (behind c es)
-  picked_here c s = with (find place_cmp c es) refl
+  -- a place of the span with what it has
+  passed_first : (c : Place) (x : CellState) (rest : List (Place × CellState)) → is_within span c ≡ true → picked test span ((c, x) ∷ rest) ≡ passed_at test c (Some x) ++ picked test span rest
+  passed_first c x rest within = ap (λ b. cond (b && test x) (c ∷ picked test span rest) (picked test span rest)) within ∙ with (test x)
     where
-      with : (o : Option CellState) → find place_cmp c es ≡ o → picked test span (entries_from c es) ≡ picked_at test span c o ++ picked test span (behind c es)
-      with None e = ap (picked test span) (none_here c es e)
-      with (Some x) e = ap (picked test span) (next_here c x es s e) ∙ picked_first test span (c, x) (behind c es)
+      with : (b : Bool) → cond b (c ∷ picked test span rest) (picked test span rest) ≡ cond b (c ∷ []) [] ++ picked test span rest
+      with true = refl
+      with false = refl
 
-  pub scan_goes_on : (list new : List Place) (c : Place) (next : Option Place) → IsStrictlySortedBy place_cmp (keys_of es)
+  picked_here : (c : Place) → is_within span c ≡ true → IsStrictlySortedBy place_cmp (keys_of es) → picked test span (entries_from c es) ≡ passed_at test c (find place_cmp c es) ++ picked test span (behind c es)
+  picked_here c within s = with (find place_cmp c es) refl
+    where
+      with : (o : Option CellState) → find place_cmp c es ≡ o → picked test span (entries_from c es) ≡ passed_at test c o ++ picked test span (behind c es)
+      with None e = ap (picked test span) (none_here c es e)
+      with (Some x) e = ap (picked test span) (next_here c x es s e) ∙ passed_first c x (behind c es) within
+
+  pub scan_goes_on : (list new : List Place) (c : Place) (next : Option Place) → is_within span c ≡ true → IsStrictlySortedBy place_cmp (keys_of es)
       → IfSome next (λ d. (p : Place) → is_within span p ≡ true → is_lt (place_cmp c p) ≡ is_le (place_cmp d p)) → IfNone next ((p : Place) → is_within span p ≡ true → is_lt (place_cmp c p) ≡ false)
-      → new ≡ list ++ picked_at test span c (find place_cmp c es) → list ++ picked test span (entries_from c es) ≡ picked test span es → new ++ picked test span (left_from next es) ≡ picked test span es
-  scan_goes_on list new c next s some none is h =
-      ap (λ l. l ++ picked test span (left_from next es)) is ∙ append_assoc list (picked_at test span c (find place_cmp c es)) (picked test span (left_from next es))
-      ∙ ap (λ l. list ++ (picked_at test span c (find place_cmp c es) ++ l)) (sym (left_behind c next some none))
-      ∙ ap (λ l. list ++ l) (sym (picked_here c s)) ∙ h
+      → new ≡ list ++ passed_at test c (find place_cmp c es) → list ++ picked test span (entries_from c es) ≡ picked test span es → new ++ picked test span (left_from next es) ≡ picked test span es
+  scan_goes_on list new c next within s some none is h =
+      ap (λ l. l ++ picked test span (left_from next es)) is ∙ append_assoc list (passed_at test c (find place_cmp c es)) (picked test span (left_from next es))
+      ∙ ap (λ l. list ++ (passed_at test c (find place_cmp c es) ++ l)) (sym (left_behind c next some none))
+      ∙ ap (λ l. list ++ l) (sym (picked_here c within s)) ∙ h
 
 -- what is left gets less
 pub scan_shrinks : (c : Place) (next : Option Place) → InSheet c → IfSome next (λ n. number_of c < number_of n) → places_left next < places_left (Some c)

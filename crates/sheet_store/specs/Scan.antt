@@ -1,21 +1,23 @@
 -- The entries from a place on, and how a scan goes over them.
-use Rattle.std.specs.Prelude.{ℕ, ◌≡◌, ◌+◌, ◌*◌, ◌-◌, Bool, true, cond, List, [], ◌∷◌, Option, None, Some}
+use Rattle.std.specs.Prelude.{ℕ, ◌+◌, ◌*◌, ◌-◌, Bool, true, cond, List, [], ◌∷◌, Option, None, Some}
 use Rattle.std.specs.List.{filter}
 use Rattle.std.specs.Ordering.{is_le}
-use Rattle.grid_address.specs.Place.{place_cmp, Extent, Place}
-use Rattle.sheet_store.specs.Grid.{holds_formula, picked}
+use Rattle.grid_address.specs.Place.{place_cmp, Place}
+use Rattle.sheet_store.specs.Grid.{holds_formula}
 use Rattle.sheet_store.specs.declared.state.CellState.{CellState}
 
+-- whether a state is asked for: every one, or a formula's alone
 abbrev pub wanted : Bool → CellState → Bool
 wanted only_formulas s = cond only_formulas (holds_formula s) true
 
+-- the entries from a place on
 abbrev pub entries_from : Place → List (Place × CellState) → List (Place × CellState)
 entries_from c es = filter (λ e. is_le (place_cmp c e.0)) es
 
--- a place with what it has, if that is wanted and lies in the span
-abbrev pub picked_at : (CellState → Bool) → Extent → Place → Option CellState → List Place
-picked_at test p c None = []
-picked_at test p c (Some s) = picked test p ((c, s) ∷ [])
+-- a place, if what it has passes a test
+abbrev pub passed_at : (CellState → Bool) → Place → Option CellState → List Place
+passed_at test c None = []
+passed_at test c (Some s) = cond (test s) (c ∷ []) []
 
 -- the places in their order, as numbers
 abbrev pub number_of : Place → ℕ
@@ -26,6 +28,7 @@ abbrev pub left_from : Option Place → List (Place × CellState) → List (Plac
 left_from None es = []
 left_from (Some c) es = entries_from c es
 
+-- how many places of the sheet are left
 abbrev pub places_left : Option Place → ℕ
 places_left None = 0
-places_left (Some c) = 2097153 - number_of c
+places_left (Some c) = 2097152 - number_of c

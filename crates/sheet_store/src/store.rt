@@ -222,20 +222,24 @@ impl Store {
     }
 }
 
+// Gives a state a value.
 fn write_value(state: &mut CellState, value: Value)
     ensures { state.new ≡ record state.old { value = value } }
 {
     state.value = value;
 }
 
+// Drops a value.
 fn let_go(_value: Value) {}
 
+// Gives a state a format.
 fn write_format(state: &mut CellState, format: Format)
     ensures { state.new ≡ record state.old { format = format } }
 {
     state.format = format;
 }
 
+// The last row and the last column of two cells.
 fn further(last: Option<Cell>, cell: Cell) -> Option<Cell>
     ensures { result ≡ further last cell }
 {

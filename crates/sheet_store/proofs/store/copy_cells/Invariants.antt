@@ -1,5 +1,4 @@
 use Rattle.std.proofs.Common.{◌≡◌, drop}
-use Rattle.std.specs.FinMap.{from_entries}
 use Rattle.cell_numbers.specs.Filled.{filled}
 use Rattle.sheet_store.specs.Copies.{inserted_all}
 use Rattle.sheet_store.proofs.store.copy_cells.Given as goal
