@@ -12,11 +12,11 @@ use Rattle.sheet_store.proofs.Held.{tied}
 use Rattle.sheet_store.specs.Grid.{formulas_among, holds_formula, is_formula, last_among, picked, AreHeld, Cells}
 use Rattle.sheet_store.specs.declared.state.CellState.{CellState}
 
-first_found : (e : Place × CellState) (es : List (Place × CellState)) → find place_cmp e.0 (e ∷ es) ≡ Some e.1
+pub first_found : (e : Place × CellState) (es : List (Place × CellState)) → find place_cmp e.0 (e ∷ es) ≡ Some e.1
 first_found e es = ap (λ b. cond b (Some e.1) (find place_cmp e.0 es)) (place_tied e.0 e.0 ∙ same_place_itself e.0)
 
 -- what is found in the rest is found, perhaps with another state
-found_later : (e : Place × CellState) (es : List (Place × CellState)) (p : Place) (s : CellState) → find place_cmp p es ≡ Some s → (t : CellState) × (find place_cmp p (e ∷ es) ≡ Some t)
+pub found_later : (e : Place × CellState) (es : List (Place × CellState)) (p : Place) (s : CellState) → find place_cmp p es ≡ Some s → (t : CellState) × (find place_cmp p (e ∷ es) ≡ Some t)
 found_later e es p s h = elim (cases_Bool (eq_by_cmp place_cmp p e.0)) [
   | inl t ↦ (e.1, ap (λ b. cond b (Some e.1) (find place_cmp p es)) t)
   | inr f ↦ (s, ap (λ b. cond b (Some e.1) (find place_cmp p es)) f ∙ h)

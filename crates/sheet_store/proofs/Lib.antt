@@ -1,3 +1,4 @@
+pub mod Behind
 pub mod Copies
 pub mod Grids
 pub mod Held

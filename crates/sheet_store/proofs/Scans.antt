@@ -8,7 +8,7 @@ use Rattle.std.specs.FinMap.{find}
 use Rattle.std.specs.List.{filter, AllByRecursion}
 use Rattle.std.specs.List.Sorted.{IsStrictlySortedBy}
 use Rattle.std.specs.Map.{keys_of}
-use Rattle.std.proofs.Common.{sym, ◌∙◌, ap, subst, inl, inr, append_assoc, arith, rules, IsTrue, ◌≤◌}
+use Rattle.std.proofs.Common.{sym, ◌∙◌, ap, subst, inl, inr, append_assoc, arith, rules, IsTrue}
 use Rattle.std.proofs.lemmas.Bool.{cases_Bool}
 use Rattle.std.proofs.lemmas.Cmp.{tied_itself}
 use Rattle.grid_address.proofs.Places.{cells_total}
@@ -49,7 +49,7 @@ module _ (test : CellState → Bool) (span : Extent) where
   picked_all [] = refl
   picked_all (e ∷ es) = ap (λ l. cond (is_within span e.0 && test e.1) (e.0 ∷ l) l) (picked_all es)
 
-behind : Place → List (Place × CellState) → List (Place × CellState)
+unfoldable pub behind : Place → List (Place × CellState) → List (Place × CellState)
 behind c es = filter (λ e. is_lt (place_cmp c e.0)) es
 
 less_is_le : (c x y : Place) → is_le (place_cmp c x) ≡ true → place_cmp x y ≡ Less → is_le (place_cmp c y) ≡ true
@@ -94,7 +94,7 @@ find_has P c s (x ∷ es) h k = elim (cases_Bool (eq_by_cmp place_cmp c x.0)) [
 ]
 
 -- a place that has a state is the first from there on
-next_here : (c : Place) (s : CellState) (es : List (Place × CellState)) → IsStrictlySortedBy place_cmp (keys_of es) → find place_cmp c es ≡ Some s → entries_from c es ≡ (c, s) ∷ behind c es
+pub next_here : (c : Place) (s : CellState) (es : List (Place × CellState)) → IsStrictlySortedBy place_cmp (keys_of es) → find place_cmp c es ≡ Some s → entries_from c es ≡ (c, s) ∷ behind c es
 unfolding IsStrictlySortedBy behind
 next_here c s [] h k = absurd cc
 next_here c s (x ∷ xs) h k = elim (cases_Bool (eq_by_cmp place_cmp c x.0)) [
@@ -121,7 +121,7 @@ le_is_lt Equal h = absurd cc
 le_is_lt Greater h = refl
 
 -- one that has none isn't among them
-none_here : (c : Place) (es : List (Place × CellState)) → find place_cmp c es ≡ None → entries_from c es ≡ behind c es
+pub none_here : (c : Place) (es : List (Place × CellState)) → find place_cmp c es ≡ None → entries_from c es ≡ behind c es
 unfolding behind
 none_here c [] h = refl
 none_here c (x ∷ xs) h = elim (cases_Bool (eq_by_cmp place_cmp c x.0)) [

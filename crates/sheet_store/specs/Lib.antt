@@ -1,4 +1,5 @@
 pub mod Choices
 pub mod Copies
 pub mod Grid
+pub mod RowOrder
 pub mod Scan

@@ -1,6 +1,7 @@
 //! The sheet as one map: the states of its cells, the columns' own widths and marks, and the settings.
 #![tactic(auto)]
 
+mod entries;
 mod order;
 mod own_width;
 mod scan;
@@ -9,6 +10,7 @@ mod state;
 mod store;
 mod writes;
 
+pub use entries::Entries;
 pub use order::Order;
 pub use settings::Settings;
 pub use state::{CellState, is_formula, is_prefix};

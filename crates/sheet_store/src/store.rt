@@ -1,5 +1,5 @@
 // The cells of a sheet.
-ghost use Rattle.std.specs.Prelude.{◌≡◌, ◌≤◌, ◌++◌, ◌∷◌, [], OnOk, OnErr, IfOk, IfSome, IfNone, Some, None, option_copied, replicate, true, false};
+ghost use Rattle.std.specs.Prelude.{length, ◌≡◌, ◌≤◌, ◌++◌, ◌∷◌, [], OnOk, OnErr, IfOk, IfSome, IfNone, Some, None, option_copied, replicate, true, false};
 ghost use Rattle.std.specs.Option.{ForSome};
 ghost use Rattle.std.specs.FinMap as map;
 ghost use Rattle.cell_numbers.specs.Filled.{filled, with_item};
@@ -65,6 +65,15 @@ impl Store {
         ensures { AreHeld self.now.cells }
     {
         let _cells = &self.cells;
+    }
+
+    /// A store keeps a width and a mark for each of the 256 columns. It does nothing, and is called for its clauses.
+    pub fn are_columns(&self)
+        ensures widths { length self.now.widths ≡ 256 }
+        ensures hidden { length self.now.hidden ≡ 256 }
+    {
+        are_own(&self.widths);
+        are_marks(&self.hidden);
     }
 
     /// The state of a cell.
@@ -220,6 +229,20 @@ impl Store {
             None => let_go(value),
         }
     }
+}
+
+// There are 256 of them. Nothing is done here, and below.
+fn are_own(widths: &[OwnWidth; 256])
+    ensures { length widths.now ≡ 256 }
+{
+    let _first = widths[0];
+}
+
+// So are there of the marks.
+fn are_marks(hidden: &[bool; 256])
+    ensures { length hidden.now ≡ 256 }
+{
+    let _first = hidden[0];
 }
 
 // Gives a state a value.

@@ -1,0 +1,16 @@
+-- Cells with their states, in row order.
+use Rattle.std.specs.Coded.{Coded, coded×, coded_list}
+use Rattle.std.specs.Prelude.{List}
+use Rattle.std.specs.List.{filter}
+use Rattle.std.specs.Ordering.{is_lt}
+use Rattle.grid_address.specs.Place.{coded_place, place_cmp, Place}
+use Rattle.sheet_store.specs.declared.state.CellState.{CellState}
+use Rattle.sheet_store.specs.contracts.state.CellState as state
+
+-- how a list of them is told apart
+abbrev pub coded_entries : Coded (List (Place × CellState))
+coded_entries = coded_list (coded× coded_place (state.the_row).coded)
+
+-- the entries behind a place
+abbrev pub entries_behind : Place → List (Place × CellState) → List (Place × CellState)
+entries_behind c es = filter (λ e. is_lt (place_cmp c e.0)) es

@@ -1,0 +1,102 @@
+// The cells of a store, one after another.
+ghost use Rattle.std.specs.Prelude.{◌≡◌, ◌∷◌, ◌<◌, [], false, IfSome, IfNone};
+ghost use Rattle.std.specs.Ordering.{is_le, is_lt};
+ghost use Rattle.std.specs.FinMap as map;
+ghost use Rattle.grid_address.specs.Place.{place_cmp, InSheet, Place};
+ghost use Rattle.sheet_store.specs.RowOrder.{entries_behind};
+ghost use Rattle.sheet_store.specs.Scan.{left_from, number_of};
+
+use crate::{CellState, Store};
+use grid_address::Cell;
+use std::marker::Model;
+
+/// The cells of a store that are still to come, with their states, in row order.
+#[derive(Drop)]
+pub struct Entries<'a> {
+    store: &'a Store,
+    from: Option<Cell>,
+}
+
+impl<'a> Model for Entries<'a> {
+    ghost use Rattle.std.specs.Prelude.{List};
+    ghost use Rattle.std.specs.FinMap as map;
+    ghost use Rattle.grid_address.specs.Place.{Place};
+    ghost use Rattle.sheet_store.specs.Scan.{left_from};
+    ghost use Rattle.sheet_store.specs.declared.state.CellState.{CellState};
+    ghost use Rattle.sheet_store.specs.RowOrder.{coded_entries};
+
+    ghost Value = { List (Place × CellState) };
+
+    ghost coded = { coded_entries };
+
+    ghost view = { λ e. left_from e.from (map.entries e.store.now.cells) };
+}
+
+impl<'a> Entries<'a> {
+    /// The next cell and its state; none exactly where all have come. It takes no memory.
+    pub fn next(&mut self) -> Option<(Cell, &'a CellState)>
+        ensures some { IfSome result (λ entry. self.old ≡ (entry.0, entry.1.now) ∷ self.new) }
+        ensures none { IfNone result (self.old ≡ []) }
+    {
+        self.store.are_held();
+        match first_from(self.store, self.from) {
+            Some(entry) => {
+                self.from = place_after(entry.0);
+                Some(entry)
+            }
+            None => None,
+        }
+    }
+}
+
+impl Store {
+    /// The cells and their states, in row order.
+    pub fn entries(&self) -> Entries<'_>
+        ensures { result ≡ map.entries self.now.cells }
+    {
+        self.are_held();
+        Entries {
+            store: self,
+            from: Some(Cell { row: 0, col: 0 }),
+        }
+    }
+}
+
+// The place behind another, in row order.
+fn place_after(place: Cell) -> Option<Cell>
+    ensures some { IfSome result (λ c. (p : Place) → InSheet p → is_lt (place_cmp place p) ≡ is_le (place_cmp c p)) }
+    ensures behind { IfSome result (λ c. number_of place < number_of c) }
+    ensures none { IfNone result ((p : Place) → InSheet p → is_lt (place_cmp place p) ≡ false) }
+{
+    if place.col < 255 {
+        return Some(Cell {
+            row: place.row,
+            col: place.col + 1,
+        });
+    }
+    if place.row < 8191 {
+        return Some(Cell {
+            row: place.row + 1,
+            col: 0,
+        });
+    }
+    None
+}
+
+// The first cell with a state from a place on.
+fn first_from<'a>(store: &'a Store, from: Option<Cell>) -> Option<(Cell, &'a CellState)>
+    ensures some { IfSome result (λ entry. left_from from (map.entries store.now.cells) ≡ (entry.0, entry.1.now) ∷ entries_behind entry.0 (map.entries store.now.cells)) }
+    ensures none { IfNone result (left_from from (map.entries store.now.cells) ≡ []) }
+{
+    store.are_held();
+    let mut next = from;
+    while let Some(place) = next {
+        place.is_on_sheet();
+        match store.get(place) {
+            Some(state) => return Some((place, state)),
+            None => {}
+        }
+        next = place_after(place);
+    }
+    None
+}
