@@ -1,0 +1,463 @@
+"""What each checking program must print for its standard input. A name is that of the crate, behind `check_`."""
+import struct
+
+from . import adjust, cellformat, fixed, formula, screen
+from .address import cell_text, cells_of, read_cell, read_span, span_at, span_text, width_of, height_of
+from .cellformat import show_number
+from .dates import Moment
+from .evaluate import Scene, Tally, glance
+from .keys import COMMANDS, KeyReader, SLASH, fold, word_at
+from .names import Names
+from .sheet import Sheet, SheetFault, State
+from .values import BLANK, C_BLANK, first_value, num, string
+
+FAULTS = {1: b'Unexpected', 2: b'Ended', 3: b'UnknownFunction', 4: b'FunctionOutside', 5: b'ArgCount', 6: b'BadNumber',
+          7: b'UnknownName', 8: b'TooLong'}
+# the program refuses these as yet
+NOT_BUILT = {b'DSUM', b'DAVG', b'DCOUNT', b'DMIN', b'DMAX'}
+# the pointer in C2, and noon and after on 1 June 1987
+SCENE = Scene((2, 1), Moment(31929, 50700))
+
+
+def fault_text(fault):
+    at = b'' if fault.at is None else b'(%d)' % fault.at
+    return b'!' + FAULTS[fault.number] + at
+
+
+def lines_of(data):
+    """The lines as the programs part them: none behind the last line end."""
+    lines = data.split(b'\n')
+    return lines[:-1] if lines[-1] == b'' else lines
+
+
+# ---------------------------------------------------------------- numbers
+
+class Numbers:
+    """The generator of crates/check_numbers."""
+
+    def __init__(self):
+        self.state = 1
+        self.digits = 0
+
+    def step(self):
+        self.state = (self.state * 6364136223846793005 + 1442695040888963407) % 2 ** 64
+
+    def next(self):
+        self.step()
+        self.digits = self.digits % 15 + 1
+        size = (self.state >> 12) % 10 ** self.digits
+        return size if self.state % 4096 < 2048 else -size
+
+    def pick(self, count):
+        self.step()
+        return (self.state >> 33) % count
+
+
+def numbers(_data):
+    """The sums of the host's double bits of 100 blocks of 200 numbers, and 5,000 shown numbers."""
+    out = []
+    of = Numbers()
+    for _ in range(100):
+        bits = [struct.unpack('<Q', struct.pack('<d', of.next() / 1_000_000))[0] for _ in range(200)]
+        out.append(b'%d\n' % (sum(bits) % 2 ** 64))
+    of = Numbers()
+    for row in range(5000):
+        value = of.next()
+        if row % 2:
+            value = abs(value) % 100_000_000_000 * (-1 if value < 0 else 1)
+        kind, detail, width = of.pick(8), of.pick(16), of.pick(25)
+        byte = 0x72 + detail % 3 if kind == 5 else kind * 16 + detail
+        out.append(b'|' + show_number(value, byte, width) + b'|\n')
+    return b''.join(out)
+
+
+# ---------------------------------------------------------------- formula texts
+
+FORMULA_CELLS = [(5, 5), (0, 0), (255, 8191)]
+FORMULA_NAMES = [(b'TOTAL', 'A1'), (b'rates', 'B3..D10'), (b'PRICES', 'B3..D10'), (b'1', 'C3'), (b'TAX_RATE', 'C3'),
+                 (b'A1', 'D4'), (b'NET PAY', 'E5'), (b'IW1', 'F6..G7'), (b'Q', 'IV8192'), (b'EXACTLY15LETTER', 'A8..C8')]
+
+
+def names_of(pairs):
+    names = Names()
+    for name, span in pairs:
+        names.create(name, read_span(span.encode()))
+    return names
+
+
+def formulas(data):
+    """The printed form of each text, or its fault."""
+    names = names_of(FORMULA_NAMES)
+    out = []
+    for row, text in enumerate(lines_of(data)):
+        at = FORMULA_CELLS[row % 3]
+        try:
+            whole = formula.print_(formula.read(text, at, names), at, names)
+            out.append((b'=' if len(whole) <= 240 else b'<') + whole[:240])
+        except formula.ParseFault as fault:
+            out.append(fault_text(fault))
+    return b''.join(line + b'\n' for line in out)
+
+
+# ---------------------------------------------------------------- words
+
+KEY_NAMES = {'pgup': 'PgUp', 'pgdn': 'PgDn', 'bigleft': 'BigLeft', 'bigright': 'BigRight'}
+COMMAND_NAMES = dict(zip(COMMANDS, (b'Branch Dispatch Define Return Restart Quit If For ForBreak Let Put Blank Contents '
+    b'OnError Get GetLabel GetNumber Look MenuBranch MenuCall Wait Interact Beep Indicate PanelOn PanelOff WindowsOn '
+    b'WindowsOff BreakOn BreakOff Recalc RecalcCol Open Close Read ReadLn Write WriteLn FileSize GetPos SetPos').split()))
+
+
+def key_text(key):
+    if key[0] == 'byte':
+        return b'%d' % key[1]
+    if key[0] == 'alt':
+        return b'Alt%d' % key[1]
+    return KEY_NAMES.get(key[0], key[0].capitalize()).encode()
+
+
+def keys_line(data):
+    reader = KeyReader()
+    out = b''
+    for byte in data:
+        fed = reader.feed(byte)
+        if fed == 'more':
+            continue
+        if fed[0] == 'bad':
+            return out + b'!%d' % fed[1]
+        out += key_text(fed[1]) + (b'' if fed[2] == 1 else b'*%d' % fed[2]) + b' '
+    return out + (b'.' if reader.at_rest() else b'?')
+
+
+def cut(begin, end):
+    return b' %d..%d' % (begin, end)
+
+
+def word_text(text, at, word):
+    """A macro word as the program prints it, with the places of its parts in the text."""
+    if word.kind in ('end', 'bad'):
+        return word.kind.encode()
+    if word.kind == 'key':
+        return b'bad' if word.key[0] == 'byte' and word.key[1] < 32 else key_text(word.key)
+    if text[at:at + 1] == b'/':
+        name, tildes = SLASH[fold(text[at + 2:at + 3])[0]]
+        ends = [at + 2]
+        for _ in range(tildes):
+            ends.append(text.index(b'~', ends[-1] + 1))
+        cuts = b''.join(cut(a + 1, b) for a, b in zip(ends, ends[1:]))
+        if name == b'/XC':
+            return b'place' + cuts
+        return COMMAND_NAMES[name] + (b' ' + b'~' * tildes if tildes else b'') + cuts
+    close = word.next - 1
+    space = text.find(b' ', at + 1, close)
+    listed = b'' if space < 0 else cut(space + 1, close)
+    if word.kind == 'repeat':
+        return key_text(word.key) + b' *' + listed
+    if word.kind == 'command':
+        return COMMAND_NAMES[word.name] + listed
+    return b'call' + cut(at + 1, close if space < 0 else space) + listed
+
+
+def words_line(text, offset):
+    out = []
+    for _ in range(len(text)):
+        word = word_at(text, offset)
+        out.append(word_text(text, offset, word) + b'>%d' % word.next)
+        if word.kind == 'end':
+            return b' '.join(out)
+        offset = word.next
+    word = word_at(text, offset)
+    return b' '.join(out + [word_text(text, offset, word) + b'>%d' % word.next])
+
+
+def words(data):
+    """The keys of key notation, and the words of macro texts."""
+    out = []
+    for row in lines_of(data):
+        if row[:1] == b'k':
+            out.append(keys_line(bytes.fromhex(row[1:].decode())))
+        else:
+            text, _, offset = row[1:].partition(b' ')
+            out.append(words_line(bytes.fromhex(text.decode()), int(offset)))
+    return b''.join(line + b'\n' for line in out)
+
+
+# ---------------------------------------------------------------- values
+
+VALUE_NAMES = [(b'TOTAL', 'B1'), (b'RATES', 'A1..D6'), (b'LIST', 'B2..H2')]
+VALUE_CELL = (9, 19)
+
+
+class Block:
+    """The columns A to H, row by row, as many cells as there are."""
+
+    def __init__(self):
+        self.held = []
+        self.names = names_of(VALUE_NAMES)
+
+    def put(self, content, value):
+        byte = (0xFF, 0x82, 0x72, 0x00, 0x7F)[len(self.held) % 5]
+        self.held.append(State(content, value, byte))
+
+    def at(self, cell):
+        index = cell[1] * 8 + cell[0]
+        return self.held[index] if cell[0] < 8 and index < len(self.held) else None
+
+    def value(self, cell):
+        state = self.at(cell)
+        return BLANK if state is None else state.value
+
+    def content(self, cell):
+        state = self.at(cell)
+        return C_BLANK if state is None else state.content
+
+    def format(self, cell):
+        state = self.at(cell)
+        return 0xFF if state is None else state.format
+
+    def width(self, col):
+        return col % 4 + 5
+
+    def filled(self, span):
+        rows = len(self.held) // 8 + 1
+        first, last = span
+        if first[0] > 7 or first[1] >= rows:
+            return []
+        near = (first, (min(last[0], 7), min(last[1], rows - 1)))
+        return [c for c in cells_of(near) if self.value(c) != BLANK]
+
+
+def value_text(value):
+    return {'num': lambda: b'n%d' % value[1], 'str': lambda: b's' + value[1], 'err': lambda: b'ERR', 'na': lambda: b'NA',
+            'blank': lambda: b'BLANK'}[value[0]]()
+
+
+def values(data):
+    """The values of formulas over small blocks of cells."""
+    block, out = Block(), []
+    for line in lines_of(data):
+        if line == b':':
+            block = Block()
+        elif line == b':B':
+            block.put(C_BLANK, BLANK)
+        elif line[:2] == b':N':
+            number = fixed.read_decimal(line[2:])
+            block.put(*((('number', number), num(number)) if isinstance(number, int) else (C_BLANK, BLANK)))
+        elif line[:2] == b':L':
+            block.put(('label', line[2], line[3:]), string(line[3:]))
+        elif line[:2] == b':V':
+            try:
+                tree = formula.read(line[2:], VALUE_CELL, block.names)
+                block.put(('formula', tree), glance(tree, VALUE_CELL, block, SCENE))
+            except formula.ParseFault:
+                block.put(C_BLANK, BLANK)
+        else:
+            try:
+                tree = formula.read(line, VALUE_CELL, block.names)
+                out.append(value_text(glance(tree, VALUE_CELL, block, SCENE)))
+            except formula.ParseFault as fault:
+                out.append(fault_text(fault))
+    return b''.join(line + b'\n' for line in out)
+
+
+# ---------------------------------------------------------------- adjustments
+
+CHANGES = {b'r': 'InsertRows', b'c': 'InsertColumns', b'R': 'DeleteRows', b'C': 'DeleteColumns'}
+
+
+def adjusted(line):
+    letter, old_at, new_at, source, to, span, text = line.split(b' ', 6)
+    old_at, new_at, to = read_cell(old_at), read_cell(new_at), read_cell(to)
+    source, span = read_span(source), read_span(span)
+    names = Names()
+    try:
+        tree = formula.read(text, old_at, names)
+    except formula.ParseFault as fault:
+        return fault_text(fault)
+    if letter in CHANGES:
+        rows = CHANGES[letter].endswith('Rows')
+        change = CHANGES[letter], source[0][1 if rows else 0], height_of(source) if rows else width_of(source)
+        tree, span = adjust.shifted(tree, old_at, new_at, change), adjust.span_shifted(span, change)
+    elif span_at(to, width_of(source), height_of(source)):
+        tree, span = adjust.moved(tree, old_at, new_at, source, to), adjust.span_moved(span, source, to)
+    whole = formula.print_(tree, new_at, names)[:240]
+    return (b'-' if span is None else span_text(span)) + b' ' + whole
+
+
+def adjustments(data):
+    """Spans and formulas after moves, inserts and deletes."""
+    return b''.join(adjusted(line) + b'\n' for line in lines_of(data))
+
+
+# ---------------------------------------------------------------- sheets
+
+class Panel:
+    """What the screen tells beside the sheet, with the parts of a session that the screen reads."""
+
+    def __init__(self):
+        self.set_mode(b'0 0 ')
+
+    def set_mode(self, rest):
+        digit, cursor, flags = rest.split(b' ', 2)
+        self.mode = ['READY', 'LABEL', 'VALUE', 'EDIT', 'POINT', 'MENU', 'ERROR'][int(digit)]
+        self.cursor = int(cursor)
+        self.end_mark = b'E' in flags
+        self.running = b'C' in flags
+        self.texts = {field: b'' for field in b'123456'}
+
+
+class Desk:
+    """A sheet, the count of its evaluations, and its screen."""
+
+    def __init__(self):
+        self.sheet = Sheet()
+        self.tally = Tally()
+        self.panel = Panel()
+        self.corner = (0, 0)
+        self.moment = Moment(None, 0)
+
+    def content_of(self, cell, text):
+        if not text:
+            return C_BLANK
+        if text[:1] in (b"'", b'"', b'^', b'\\', b'|'):
+            return ('label', text[0], text[1:])
+        number = fixed.read_decimal(text)
+        return ('number', number) if isinstance(number, int) else ('formula', formula.read(text, cell, self.sheet.names))
+
+    def calc(self):
+        self.sheet.calc(SCENE, self.tally)
+
+    def edit(self, line):
+        """What an edit line does; a recalculation follows an edit of contents in Automatic mode."""
+        sheet, rest = self.sheet, line[1:]
+        if line[:1] == b'=':
+            cell, _, text = rest.partition(b' ')
+            cell = read_cell(cell)
+            sheet.enter_line(cell, self.content_of(cell, text), SCENE, self.tally)
+        elif line[:1] == b'e':
+            sheet.erase(read_span(rest))
+        elif line[:1] == b'c':
+            source, _, to = rest.partition(b' ')
+            sheet.copy_span(read_span(source), read_span(to))
+        else:
+            writes = []
+            for part in rest.split(b'\t'):
+                cell, code, text = part.split(b' ', 2)
+                cell = read_cell(cell)
+                writes.append((cell, self.content_of(cell, text), None if code == b'-' else int(code)))
+            sheet.write(writes)
+        if sheet.settings.automatic:
+            self.calc()
+
+    def set(self, letters):
+        settings = self.sheet.settings
+        for letter in letters.decode():
+            if letter in 'NCR':
+                self.sheet.set_order({'N': 'natural', 'C': 'columnwise', 'R': 'rowwise'}[letter])
+            elif letter in 'AM':
+                settings.automatic = letter == 'A'
+            elif letter in 'PQ':
+                settings.protection = letter == 'P'
+            else:
+                settings.passes = int(letter)
+
+    def shown(self):
+        out = b'%d' % self.tally.count
+        out += b' CIRC' if self.sheet.circ else b''
+        out += b' CALC' if self.sheet.stale else b''
+        for row in range(4):
+            for col in range(3):
+                value = self.sheet.value_of((col, row))
+                out += b' .' if value is None else {'num': lambda: b' %d' % value[1], 'str': lambda: b" '" + value[1],
+                    'err': lambda: b' ERR', 'na': lambda: b' NA', 'blank': lambda: b' _'}[value[0]]()
+        return out
+
+    def states(self):
+        out = b'?'
+        for row in range(4):
+            for col in range(3):
+                state = self.sheet.cells.get((col, row))
+                if state is not None:
+                    out += b' %d ' % state.format + cell_text((col, row)) + b'=' + self.sheet.text_of((col, row))[:240]
+        return out
+
+    def screen(self):
+        sheet, panel = self.sheet, self.panel
+        prompt, typed, menu, below, message, indicate = (panel.texts[field] for field in b'123456')
+        if panel.mode == 'MENU':
+            entry = menu
+        else:
+            entry = screen.typed_line(prompt, typed, panel.cursor)
+            below = b''
+        top = [screen.pointer_line(sheet, indicate[:5] or panel.mode.encode()), entry, below]
+        lines = screen.filled(top + screen.sheet_lines(sheet, self.corner))
+        message = message if panel.mode == 'ERROR' else None
+        return lines + [screen.foot_line(sheet, message, self.moment, panel.end_mark, panel.running)]
+
+    def screen_line(self, line):
+        """What a line does with the screen: the printed lines, or none."""
+        sheet, rest = self.sheet, line[1:]
+        if line == b'@':
+            return b''.join(row.rstrip(b' ') + b'\n' for row in self.screen())
+        if line[:1] == b'w':
+            cell, _, width = rest.partition(b' ')
+            sheet.set_width(read_cell(cell)[0], int(width) or None)
+        elif line[:1] in b'hv':
+            col = read_cell(rest)[0]
+            sheet.set_hidden(col, col, line[:1] == b'h')
+        elif line[:1] == b'g':
+            byte, _, width = rest.partition(b' ')
+            sheet.settings.format, sheet.settings.width = int(byte), int(width)
+        elif line[:1] == b'a':
+            sheet.settings.pointer = read_cell(rest)
+        elif line[:1] == b'm':
+            self.panel.set_mode(rest)
+        elif line[:1] == b't':
+            self.panel.texts[line[1]] = line[2:]
+        elif line[:1] == b'n':
+            day, _, second = rest.partition(b' ')
+            self.moment = Moment(int(day) or None, int(second))
+        elif line == b'k':
+            self.corner = screen.moved_corner(sheet, self.corner)
+        else:
+            self.corner = read_cell(rest)
+        return b''
+
+    def line(self, line):
+        before = b''
+        head = line[:1]
+        if head == b'?':
+            return self.states() + b'\n'
+        if head == b'!':
+            self.calc()
+        elif head and head in b'=ecx':
+            try:
+                self.edit(line)
+            except SheetFault as fault:
+                place = fault.payload if fault.kind != 'OutOfSheet' else fault.payload[0]
+                before = fault.kind.encode() + b' ' + cell_text(place) + b' '
+        elif head == b'f':
+            span, _, code = line[1:].partition(b' ')
+            self.sheet.set_format(read_span(span), int(code))
+        elif head in (b'p', b'u'):
+            self.sheet.set_protected(read_span(line[1:]), head == b'p')
+        elif head == b's':
+            self.set(line[1:])
+        else:
+            return self.screen_line(line)
+        return before + self.shown() + b'\n'
+
+
+def sheets(data):
+    """The values and evaluations after each edit of small sheets, and whole screens."""
+    desk, out = Desk(), []
+    for line in lines_of(data):
+        if line == b':':
+            desk = Desk()
+            out.append(b':\n')
+        else:
+            out.append(desk.line(line))
+    return b''.join(out)
+
+
+ANSWERS = {'numbers': numbers, 'formulas': formulas, 'words': words, 'values': values, 'adjustments': adjustments,
+           'sheets': sheets}

@@ -1,0 +1,379 @@
+"""The data of each checking program, made from a seed: worked lines first where there are any, and then random ones."""
+import os
+import random
+
+from . import fixed, formula
+from .address import cell_text, col_text, read_cell
+from .answers import FORMULA_NAMES, NOT_BUILT, VALUE_NAMES
+from .formula import COUNTED, FUNCTIONS, LEFT_OUT_NAMES
+from .keys import COMMANDS, NAMES as KEYS, SLASH
+from .names import Names
+
+SEED = 1987
+HERE = os.path.dirname(os.path.abspath(__file__))
+OPERATORS = [b'^', b'*', b'/', b'+', b'-', b'=', b'<>', b'<', b'>', b'<=', b'>=', b'#AND#', b'#OR#', b'&']
+TEXT_BYTES = bytes(range(32, 127)) + bytes([128, 163, 200, 225, 255])
+WORDS = [b'FIG', b'c2', b'type', b'address', b'12:30', b'a b  c', b'1-Jun-87', b' 7 ', b'', b'Tax', b'width', b'B4', b'?',
+         b'7.5']
+
+
+def worked(name):
+    with open(os.path.join(HERE, 'worked', name), 'rb') as it:
+        return it.read()
+
+
+def decimal(r):
+    """A decimal of any form: few digits or many, with zeros at either end, or too large."""
+    return r.choice([
+        lambda: b'%d' % r.randrange(100),
+        lambda: b'%.*f' % (r.randrange(1, 7), r.uniform(0, 10 ** r.randrange(1, 6))),
+        lambda: b'.%d' % r.randrange(1, 10 ** r.randrange(1, 9)),
+        lambda: b'%d.' % r.randrange(100000),
+        lambda: b'0' * r.randrange(1, 4) + b'%d.%d' % (r.randrange(1000), r.randrange(1000)),
+        lambda: r.choice([b'0', b'1', b'0.0000005', b'0.00000049', b'999999999.999999', b'1000000000', b'127', b'8191'])])()
+
+
+def quoted(r, words=WORDS):
+    text = r.choice(words) if r.randrange(2) else bytes(r.choice(TEXT_BYTES) for _ in range(r.randrange(12)))
+    return b'"' + text.replace(b'"', b"'") + b'"'
+
+
+class Texts:
+    """Formula texts over cells of a block, far cells and names."""
+
+    def __init__(self, r, cols, rows, far, names, words=WORDS, without=()):
+        self.r, self.cols, self.rows, self.far, self.names, self.words = r, cols, rows, far, names, words
+        self.functions = [code for code, (name, _, _) in FUNCTIONS.items() if name not in without]
+
+    def cell(self):
+        r = self.r
+        if self.far and r.randrange(8) == 0:
+            col, row = r.choice([0, 25, 26, 52, 254, 255]), r.choice([0, 1, 8190, 8191, r.randrange(8192)])
+        else:
+            col, row = r.randrange(self.cols), r.randrange(self.rows)
+        sign = lambda: b'$' if r.randrange(4) == 0 else b''
+        return sign() + col_text(col) + sign() + b'%d' % (row + 1)
+
+    def span(self):
+        return self.cell() + self.r.choice([b'..', b'..', b'..', b'.']) + self.cell()
+
+    def name(self):
+        return (b'$' if self.r.randrange(4) == 0 else b'') + self.r.choice(self.names)
+
+    def leaf(self):
+        r = self.r
+        word = lambda: quoted(r, self.words)
+        constant = lambda: r.choice([b'@NA', b'@ERR', b'@TRUE', b'@FALSE', b'@TRUE', b'@FALSE', b'@NOW'])
+        name = self.name if self.names else self.cell
+        return r.choice([lambda: decimal(r)] * 3 + [self.cell] * 5 + [word, name, constant])()
+
+    def call(self, depth):
+        r = self.r
+        code = r.choice(self.functions)
+        name, least, most = FUNCTIONS[code]
+        if most == 0:
+            return b'@' + name
+        count = r.randrange(least, min(most, 4) + 1) if code in COUNTED else least
+        args = [self.argument(name, i, depth - 1, code in COUNTED) for i in range(count)]
+        return b'@' + name + b'(' + r.choice([b',', b',', b';']).join(args) + b')'
+
+    def argument(self, name, place, depth, counted):
+        """An argument, which is mostly of the kind that the function takes."""
+        r = self.r
+        if r.randrange(4) == 0:
+            return self.tree(depth)
+        if name in RANGED and (counted or place in RANGED[name]):
+            return self.span()
+        if name in WORDED and place in WORDED[name]:
+            return r.choice([quoted(r, self.words), quoted(r, self.words), self.cell(), self.tree(depth)])
+        return r.choice([b'%d' % r.randrange(1, 13), b'%d' % r.randrange(-5, 100), decimal(r), self.cell(), self.cell(),
+                         self.tree(depth)])
+
+    def tree(self, depth):
+        r = self.r
+        pick = r.randrange(10) if depth > 0 else 0
+        if pick < 3:
+            return self.leaf()
+        if pick < 4:
+            return r.choice([b'-', b'+', b'#NOT#']) + self.tree(depth - 1)
+        if pick < 5:
+            return b'(' + self.tree(depth - 1) + b')'
+        if pick < 7:
+            return self.tree(depth - 1) + r.choice(OPERATORS) + self.tree(depth - 1)
+        return self.call(depth)
+
+
+# the places of arguments that are spans
+RANGED = {b'SUM': (0,), b'AVG': (0,), b'COUNT': (0,), b'MIN': (0,), b'MAX': (0,), b'VLOOKUP': (1,), b'HLOOKUP': (1,),
+          b'INDEX': (0,), b'COLS': (0,), b'ROWS': (0,), b'CELL': (1,), b'DSUM': (0, 2), b'DAVG': (0, 2), b'DCOUNT': (0, 2),
+          b'DMIN': (0, 2), b'DMAX': (0, 2)}
+
+
+# the places of arguments that are texts
+WORDED = {b'LENGTH': (0,), b'VALUE': (0,), b'MID': (0,), b'LEFT': (0,), b'RIGHT': (0,), b'CODE': (0,), b'FIND': (0, 1),
+          b'REPEAT': (0,), b'REPLACE': (0, 3), b'UPPER': (0,), b'LOWER': (0,), b'PROPER': (0,), b'TRIM': (0,), b'CLEAN': (0,),
+          b'EXACT': (0, 1), b'DATEVALUE': (0,), b'TIMEVALUE': (0,), b'@': (0,), b'CELL': (0,), b'CELLPOINTER': (0,)}
+
+
+def mixed(r, text):
+    """Letters in either case, and blanks between parts."""
+    out = bytearray()
+    for byte in text:
+        letter = bytes([byte])
+        if r.randrange(2):
+            letter = letter.lower()
+        if letter in b'(),;+-*/^&<>=' and r.randrange(4) == 0:
+            letter = r.choice([b' ' + letter, letter + b' ', b'  ' + letter])
+        out += letter
+    return bytes(out)
+
+
+def broken(r, text):
+    """A byte lost, doubled, changed or put in."""
+    for _ in range(r.choice([1, 1, 1, 2, 4])):
+        at = r.randrange(len(text) + 1)
+        put = r.choice([b'', b'(', b')', b',', b'"', b'#', b'@', b'$', b'.', b'A1', b'+', b'7', bytes([r.choice(TEXT_BYTES)])])
+        text = text[:at] + put + text[at + r.randrange(2):]
+    return text
+
+
+def is_read(text, at, names):
+    try:
+        formula.read(text, at, names)
+        return True
+    except formula.ParseFault:
+        return False
+
+
+# ---------------------------------------------------------------- formulas, words, values, adjustments
+
+def formulas(r):
+    """5,000 texts, whole or broken, some with functions that are left out or names that nobody made."""
+    names = [name for name, _ in FORMULA_NAMES if name.isalnum() or b'_' in name] + [b'NOBODY', b'IW1', b'A9000']
+    texts = Texts(r, 6, 8, True, names)
+    out = []
+    for _ in range(5000):
+        text = mixed(r, texts.tree(r.choice([1, 2, 3, 4, 6])))
+        if r.randrange(12) == 0:
+            text = text.replace(b'@', b'@' + r.choice([*sorted(LEFT_OUT_NAMES), b'XYZ', b'']), 1)
+        if r.randrange(3) == 0:
+            text = broken(r, text)
+        out.append(text[:260].replace(b'\n', b' '))
+    return b''.join(line + b'\n' for line in out)
+
+
+def any_case(r, word):
+    return bytes(b + 32 if 65 <= b <= 90 and r.randrange(2) else b for b in word)
+
+
+def key_word(r):
+    name = r.choice([n for _, ns in KEYS for n in ns])
+    return r.choice([
+        lambda: b'{' + any_case(r, name) + b'}', lambda: b'{' + any_case(r, name) + b'}',
+        lambda: b'{' + any_case(r, name) + b' %d}' % r.choice([1, 2, 9, 10, 99, 100, 9999, r.randrange(1, 10000)]),
+        lambda: b'{' + any_case(r, b'ALT ' + bytes([r.randrange(65, 91)])) + b'}',
+        lambda: r.choice([b'{BREAK}', b'{UNDO}', b'{break}', b'{~}', b'{{}', b'{}}', b'~', b'\r\n', b'\n']),
+        lambda: r.choice([b'{UNDO 2}', b'{DOWN 0}', b'{DOWN 10000}', b'{DOWN  2}', b'{DWN}', b'}', b'{}', b'{ALTA}', b'{ALT  A}',
+                          b'{ALT @}', b'{ALT [}', bytes([r.randrange(256)])]) if r.randrange(3) == 0 else b'~',
+        lambda: bytes([r.choice(TEXT_BYTES)]) if r.randrange(2) else bytes([r.randrange(48, 123)])])()
+
+
+def macro_word(r):
+    args = lambda: r.choice([b'', b' ', b' ' + r.choice([b',', b';']).join(
+        r.choice([b'A1', b'"a}b"', b'@SUM(A1,B2)', b'3', b'N', b'"', b'(', b'', b'A1..B2']) for _ in range(r.randrange(1, 4)))])
+    return r.choice([
+        lambda: b'{' + any_case(r, r.choice(COMMANDS)) + args() + b'}',
+        lambda: b'{' + any_case(r, r.choice([b'PAY', b'NET PAY', b'TO"TAL', b'\\A', b'Q'])) + args() + b'}',
+        lambda: b'{' + any_case(r, r.choice([n for _, ns in KEYS for n in ns])) + args() + b'}',
+        lambda: r.choice([b'/X', b'/x']) + bytes([r.choice([*SLASH, ord('Z'), ord('i')])]) + r.choice([b'A1~', b'a~b~', b'', b'~~']),
+        lambda: r.choice([b'~', b'{~}', b'{{}', b'{}}', b'}', b'{', b'/', b'/WC', b'"', bytes([r.randrange(256)])]),
+        lambda: bytes([r.randrange(32, 127)])])()
+
+
+def words(r):
+    """10,000 texts of key notation and 5,000 macro texts, which may be broken."""
+    out = []
+    for _ in range(10000):
+        data = b''.join(key_word(r) for _ in range(r.randrange(1, 6)))
+        out.append(b'k' + (broken(r, data) if r.randrange(6) == 0 else data[:-r.randrange(1, 4)] if r.randrange(20) == 0 else data)[:240].hex().encode())
+    for _ in range(5000):
+        data = b''.join(macro_word(r) for _ in range(r.randrange(1, 7)))
+        data = (broken(r, data) if r.randrange(4) == 0 else data)[:240]
+        out.append(b'm' + data.hex().encode() + b' %d' % r.choice([0, 0, 0, r.randrange(len(data) + 3)]))
+    return b''.join(line + b'\n' for line in out)
+
+
+def held(r, texts):
+    """A line that fills the next cell of a block."""
+    number = lambda: r.choice([b'%d' % r.randrange(-20, 20), b'%d' % r.randrange(-40000, 80000), b'%.6f' % r.uniform(-1, 1),
+                               b'%.2f' % r.uniform(-100, 100), b'31929.586806', b'999999999.999999', b'0'])
+    return r.choice([
+        lambda: b':N' + number(), lambda: b':N' + number(), lambda: b':N' + number(), lambda: b':B',
+        lambda: b':L' + bytes([r.choice(b"'\"^\\|")]) + r.choice(WORDS), lambda: b':V' + texts.tree(1)])()
+
+
+def values(r):
+    """The worked lines and 500 blocks of cells, with formulas up to 20,000 in all."""
+    texts = Texts(r, 9, 9, False, [name for name, _ in VALUE_NAMES], without=NOT_BUILT)
+    head = worked('values')
+    left = 20000 - sum(not line.startswith(b':') for line in head.splitlines())
+    out = []
+    for block in range(500, 0, -1):
+        out.append(b':')
+        out += [held(r, texts) for _ in range(r.randrange(8, 72))]
+        count = left // block
+        left -= count
+        out += [texts.tree(r.choice([1, 1, 2, 3])) for _ in range(count)]
+    return head + b''.join(line[:240] + b'\n' for line in out)
+
+
+def any_cell(r):
+    return col_text(r.choice([0, 1, 2, 3, 4, 5, 6, 7, 26, 254, 255])) + b'%d' % r.choice([1, 2, 3, 4, 5, 6, 7, 8, 101, 8191, 8192])
+
+
+def adjustments(r):
+    """300 edits with a span and a formula each; the formula's cell goes with the edit, or stays."""
+    texts, names, out = Texts(r, 8, 8, True, []), Names(), []
+    near = lambda: col_text(r.randrange(8)) + b'%d' % r.randrange(1, 9)
+    while len(out) < 300:
+        old_at = near() if r.randrange(4) else any_cell(r)
+        text = r.choice([texts.leaf, lambda: b'@SUM(' + texts.span() + b')', lambda: texts.tree(2)])()
+        if len(text) > 200 or not is_read(text, read_cell(old_at), names):
+            continue
+        new_at = old_at if r.randrange(2) else near()
+        source = near() + b'..' + (near() if r.randrange(3) else any_cell(r))
+        to = near() if r.randrange(3) else any_cell(r)
+        span = near() + b'..' + (near() if r.randrange(3) else any_cell(r))
+        out.append(b' '.join([bytes([r.choice(b'MMrcRC')]), old_at, new_at, source, to, span, text]))
+    return b''.join(line + b'\n' for line in out)
+
+
+# ---------------------------------------------------------------- sheets
+
+class Sheets:
+    """Lines of small sheets: edits of A1 to C4, and screens of wider ones."""
+
+    def __init__(self, r):
+        self.r = r
+        self.names = Names()
+
+    def cell(self):
+        return col_text(self.r.randrange(3)) + b'%d' % self.r.randrange(1, 5)
+
+    def span(self):
+        return self.cell() + b'..' + self.cell()
+
+    def text(self, cell, cols=3, rows=4):
+        """What is entered in a cell: it is read as a number, a label, a formula or nothing."""
+        r = self.r
+        texts = Texts(r, cols, rows, False, [])
+        while True:
+            text = r.choice([
+                lambda: b'%d' % r.randrange(100), lambda: b'%.2f' % r.uniform(-10, 10), lambda: b'',
+                lambda: bytes([r.choice(b"'\"^\\|")]) + r.choice(WORDS),
+                lambda: b'+' + texts.cell() + r.choice([b'+', b'-', b'*', b'/', b'&']) + r.choice([texts.cell(), b'0.5', b'2', b'3']),
+                lambda: b'+' + texts.cell() + r.choice([b'+1', b'', b'*2']),
+                lambda: b'@' + r.choice([b'SUM', b'COUNT', b'MAX', b'MIN', b'AVG']) + b'(' + texts.span() + b')',
+                lambda: b'@IF(' + texts.cell() + b'>' + texts.cell() + b',' + texts.cell() + b',4)',
+                lambda: r.choice([b'@INT(@NOW)', b'@@("B4")', b'@CELL("width",' + texts.cell() + b')', b'@NA', b'1/0']),
+                lambda: b'@CELL("contents",' + texts.span() + b')'])()
+            is_label = text[:1] in (b"'", b'"', b'^', b'\\', b'|')
+            if not text or is_label or isinstance(fixed.read_decimal(text), int) or is_read(text, read_cell(cell), self.names):
+                return text
+
+    def write(self):
+        cell = self.cell()
+        return cell + b' ' + self.r.choice([b'-', b'-', b'2', b'127', b'255', b'%d' % self.r.randrange(256)]) + b' ' + self.text(cell)
+
+    def edit(self):
+        r = self.r
+        def entry():
+            cell = self.cell()
+            return b'=' + cell + b' ' + self.text(cell)
+        far = lambda: self.cell() if r.randrange(12) else r.choice([b'IV1', b'IU1..IV2', b'A8192', b'IV8192'])
+        return r.choice([
+            entry, entry, entry, entry, entry, lambda: b'!', lambda: b'e' + self.span(),
+            lambda: b'c' + self.span() + b' ' + (self.span() if r.randrange(3) == 0 else far()),
+            lambda: b'c' + self.cell() + b' ' + self.span(),
+            lambda: b'f' + self.span() + b' %d' % r.choice([0, 2, 34, 66, 112, 113, 114, 117, 118, 127]),
+            lambda: r.choice([b'p', b'u']) + self.span(),
+            lambda: b's' + bytes(r.choice(b'AAMPQQNCR1123') for _ in range(r.choice([1, 1, 2]))),
+            lambda: b'x' + b'\t'.join(self.write() for _ in range(r.randrange(1, 5)))])()
+
+    def edits(self, count):
+        """So many edits: a fresh sheet for each dozen, whose texts and formats are shown at its end."""
+        out = []
+        while count:
+            many = min(count, self.r.randrange(5, 22))
+            out += [b':'] + [self.edit() for _ in range(many)] + [b'!', b'?']
+            count -= many
+        return out
+
+    def sheet(self):
+        """A sheet around a corner with cells, formats, widths and marks."""
+        r = self.r
+        self.left, self.top = r.choice([(0, 0), (0, 0), (22, 90), (248, 8176)])
+        place = self.place
+        out = [b':', b'g%d %d' % (r.choice([113, 113, 127, 2, 34, 66, 112, 118, 16]), r.choice([9, 9, 10, 1, 3, 72, 240]))]
+        out += [b'w' + place() + b' %d' % r.choice([0, 1, 2, 3, 10, 20, 75, 77, 240]) for _ in range(r.randrange(4))]
+        out += [b'h' + place() for _ in range(r.choice([0, 0, 1, 3]))]
+        long = lambda: bytes(r.choice(TEXT_BYTES) for _ in range(r.choice([3, 8, 12, 40, 120])))
+        def content(cell):
+            return r.choice([lambda: bytes([r.choice(b"'\"^\\|")]) + long(), lambda: bytes([r.choice(b"'\"^\\|")]) + long(),
+                             lambda: self.text(cell), lambda: b'%d' % r.randrange(-99, 100000), lambda: b'%.6f' % r.uniform(0, 1),
+                             lambda: b'+"xyz"', lambda: b'1/0', lambda: b'@DATE(87,6,1)', lambda: b'@NA'])()
+        writes = []
+        for _ in range(r.randrange(1, 14)):
+            cell = place()
+            writes.append(cell + b' - ' + content(cell)[:200])
+        out.append(b'x' + b'\t'.join(writes))
+        out += [b'f' + place() + b'..' + place() + b' %d' % r.choice([0, 2, 34, 50, 66, 113, 114, 115, 116, 117, 118])
+                for _ in range(r.randrange(3))]
+        out += [r.choice([b'p', b'u']) + place() for _ in range(r.randrange(3))]
+        out += [b'sP'] * r.randrange(2) + [b'sM'] * (r.randrange(4) == 0)
+        return out
+
+    def place(self):
+        r = self.r
+        return cell_text((min(self.left + r.randrange(10), 255), min(self.top + r.randrange(24), 8191)))
+
+    def screen(self):
+        """A pointer, a corner, a panel, a moment, and the screen."""
+        r = self.r
+        out = [b'a' + self.place()]
+        if r.randrange(2):
+            out.append(b'k' + self.place())
+        if r.randrange(4):
+            out.append(b'k')
+        mode = r.randrange(7)
+        out.append(b'm%d %d ' % (mode, r.choice([0, 0, 12, 40, 79, 80, 240])) + r.choice([b'', b'', b'E', b'C', b'EC']))
+        text = lambda: bytes(r.choice(TEXT_BYTES) for _ in range(r.choice([1, 5, 30, 100, 239])))
+        for field in {0: b'6', 1: b'2', 2: b'2', 3: b'12', 4: b'12', 5: b'34', 6: b'5'}[mode]:
+            if r.randrange(4):
+                out.append(b't' + bytes([field]) + text())
+        out.append(b'n%d %d' % (r.choice([0, 1, 31929, 36525, 36526, 73050]), r.choice([0, 59, 60, 3599, 3600, 86399, r.randrange(86400)])))
+        return out + [b'@']
+
+    def screens(self, count):
+        out = []
+        while count:
+            many = min(count, self.r.randrange(1, 9))
+            out += self.sheet()
+            for _ in range(many):
+                out += self.screen()
+            count -= many
+        return out
+
+
+def sheets(r):
+    """The worked lines, 10,000 random edits and 2,000 screens."""
+    of = Sheets(r)
+    return worked('sheets') + b''.join(line + b'\n' for line in of.edits(10000) + of.screens(2000))
+
+
+CASES = {'formulas': formulas, 'words': words, 'values': values, 'adjustments': adjustments, 'sheets': sheets}
+
+
+def case(name, seed=SEED):
+    """The standard input of crates/check_NAME; check_numbers makes its own numbers."""
+    return CASES[name](random.Random(f'{seed} {name}')) if name in CASES else b''

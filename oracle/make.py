@@ -1,0 +1,28 @@
+"""The data of a checking program, or with --answers what it must print for the data on standard input.
+
+python3 -B -m oracle.make NAME [SEED]"""
+import sys
+
+from . import formula
+from .answers import ANSWERS, NOT_BUILT
+from .cases import SEED, case
+
+
+def main(words):
+    formula.NOT_BUILT = NOT_BUILT
+    answers = '--answers' in words
+    words = [word for word in words if word != '--answers']
+    if not words or words[0] not in ANSWERS or len(words) > 2:
+        print('oracle.make takes one of', *ANSWERS, 'and a seed', file=sys.stderr)
+        return 2
+    if answers:
+        out = ANSWERS[words[0]](sys.stdin.buffer.read())
+    else:
+        out = case(words[0], words[1] if len(words) == 2 else SEED)
+    sys.stdout.buffer.write(out)
+    return 0
+
+
+if __name__ == '__main__':
+    sys.setrecursionlimit(100000)
+    sys.exit(main(sys.argv[1:]))

@@ -1,0 +1,142 @@
+"""The menus as the manual has them: items, prompts and what each asks."""
+
+# a path's items: (name, next); a next that is a key of MENUS is a path, any other is an action
+
+
+def formats(prefix, reset):
+    out = [('Fixed', prefix + 'fixed'), ('Currency', prefix + 'currency'), (',', prefix + 'comma'),
+           ('General', prefix + 'general'), ('Percent', prefix + 'percent'), ('Date', prefix + 'date'),
+           ('Text', prefix + 'text'), ('Hidden', prefix + 'hidden')]
+    if reset:
+        out.append(('Reset', prefix + 'reset'))
+    return out
+
+
+def dates(prefix):
+    return [('1', prefix + 'date1'), ('2', prefix + 'date2'), ('3', prefix + 'date3')]
+
+
+MENUS = {
+    # Worksheet Range Copy Move File Print Data Quit
+    'main': [('Worksheet', 'w'), ('Range', 'r'), ('Copy', 'copy'), ('Move', 'move'), ('File', 'f'), ('Print', 'p'),
+             ('Data', 'd'), ('Quit', 'q')],
+    'w': [('Global', 'wg'), ('Insert', 'wi'), ('Delete', 'wd'), ('Column', 'wc'), ('Erase', 'we')],
+    'wg': [('Format', 'wgf.'), ('Label-Prefix', 'wgl'), ('Column-Width', 'wgc'), ('Recalculation', 'wgr'),
+           ('Protection', 'wgp')],
+    'wgf.': formats('wgf.', False), 'wgf.date': dates('wgf.'),
+    'wgl': [('Left', 'wgl.left'), ('Right', 'wgl.right'), ('Center', 'wgl.center')],
+    # the orders and the number of passes
+    'wgr': [('Natural', 'wgr.natural'), ('Columnwise', 'wgr.columnwise'), ('Rowwise', 'wgr.rowwise'),
+            ('Automatic', 'wgr.automatic'), ('Manual', 'wgr.manual'), ('Iteration', 'wgr.iteration')],
+    'wgp': [('Enable', 'wgp.enable'), ('Disable', 'wgp.disable')],
+    'wi': [('Column', 'wi.column'), ('Row', 'wi.row')],
+    'wd': [('Column', 'wd.column'), ('Row', 'wd.row')],
+    # hidden columns
+    'wc': [('Set-Width', 'wc.set'), ('Reset-Width', 'wc.reset'), ('Hide', 'wc.hide'), ('Display', 'wc.display')],
+    'we': [('No', 'nothing'), ('Yes', 'we.yes')],
+    'r': [('Format', 'rf.'), ('Label', 'rl'), ('Erase', 'r.erase'), ('Name', 'rn'), ('Protect', 'r.protect'),
+          ('Unprotect', 'r.unprotect'), ('Value', 'r.value'), ('Transpose', 'r.transpose')],
+    'rf.': formats('rf.', True), 'rf.date': dates('rf.'),
+    'rl': [('Left', 'rl.left'), ('Right', 'rl.right'), ('Center', 'rl.center')],
+    'rn': [('Create', 'rn.create'), ('Delete', 'rn.delete'), ('Reset', 'rn.reset')],
+    'f': [('Retrieve', 'f.retrieve'), ('Save', 'f.save'), ('Combine', 'fc'), ('Xtract', 'fx'), ('Erase', 'f.erase')],
+    'fc': [('Copy', 'fc.copy'), ('Add', 'fc.add'), ('Subtract', 'fc.subtract')],
+    'fx': [('Formulas', 'fx.formulas'), ('Values', 'fx.values')],
+    'p': [('File', 'p.file')],
+    'print': [('Range', 'p.range'), ('Options', 'po'), ('Go', 'p.go'), ('Quit', 'nothing')],
+    'po': [('Header', 'po.header'), ('Footer', 'po.footer'), ('Margins', 'pm'), ('Pg-Length', 'po.length'),
+           ('Quit', 'po.quit')],
+    'pm': [('Left', 'pm.left'), ('Right', 'pm.right'), ('Top', 'pm.top'), ('Bottom', 'pm.bottom'),
+           ('Quit', 'pm.quit')],
+    'd': [('Fill', 'd.fill'), ('Table', 'dt'), ('Sort', 'ds'), ('Query', 'dq'), ('Distribution', 'd.distribution')],
+    'dt': [('1', 'dt.1'), ('2', 'dt.2'), ('Reset', 'dt.reset')],
+    'ds': [('Data-Range', 'ds.range'), ('Primary-Key', 'ds.primary'), ('Secondary-Key', 'ds.secondary'),
+           ('Reset', 'ds.reset'), ('Quit', 'nothing'), ('Go', 'ds.go')],
+    'dq': [('Input', 'dq.input'), ('Criterion', 'dq.criterion'), ('Output', 'dq.output'), ('Extract', 'dq.extract'),
+           ('Unique', 'dq.unique'), ('Delete', 'dqd'), ('Reset', 'dq.reset'), ('Quit', 'nothing')],
+    'dqd': [('Cancel', 'nothing'), ('Delete', 'dq.delete')],
+    'q': [('No', 'nothing'), ('Yes', 'q.yes')],
+}
+
+PARENT = {nxt: path for path, items in MENUS.items() for _, nxt in items if nxt in MENUS}
+PARENT['print'] = 'p'          # the menu that Print > File opens stands below Print
+
+# asks: 'R' range, 'C' cell, ('N', low, high), 'D', 'T' (kind), ('F', ext), 'replace', 'confirm'
+DECIMALS = ('N', 0, 15)
+PROMPTS = {}
+
+
+def _make():
+    p = PROMPTS
+    for name, act in MENUS['wgf.'] + MENUS['wgf.date']:
+        if act in ('wgf.fixed', 'wgf.currency', 'wgf.comma', 'wgf.percent'):
+            p[act] = [(name, DECIMALS)]
+    for name, act in MENUS['rf.'] + MENUS['rf.date']:
+        if act == 'rf.date':
+            continue
+        if act in ('rf.fixed', 'rf.currency', 'rf.comma', 'rf.percent'):
+            p[act] = [(name, DECIMALS), ('Range', 'R')]
+        else:
+            p[act] = [(name, 'R')]
+    p['wgc'] = [('Column-Width', ('N', 1, 240))]
+    p['wgr.iteration'] = [('Iteration', ('N', 1, 50))]
+    for a in ('wi', 'wd'):
+        p[a + '.column'] = [('Column', 'R')]
+        p[a + '.row'] = [('Row', 'R')]
+    p['wc.set'] = [('Set-Width', ('N', 1, 240))]
+    p['wc.hide'] = [('Hide', 'R')]
+    p['wc.display'] = [('Display', 'R')]
+    for name, act in MENUS['rl']:
+        p[act] = [(name, 'R')]
+    p['r.erase'] = [('Erase', 'R')]
+    p['rn.create'] = [('Create', 'T:name'), ('Range', 'R')]
+    p['rn.delete'] = [('Delete', 'T:old')]
+    p['r.protect'] = [('Protect', 'R')]
+    p['r.unprotect'] = [('Unprotect', 'R')]
+    p['r.value'] = [('Value', 'R'), ('To', 'C')]
+    p['r.transpose'] = [('Transpose', 'R'), ('To', 'C')]
+    p['copy'] = [('Copy', 'R'), ('To', 'R')]
+    p['move'] = [('Move', 'R'), ('To', 'C')]
+    p['f.retrieve'] = [('Retrieve', ('F', 'WK1'))]
+    p['f.save'] = [('Save', ('F', 'WK1')), ('', 'replace')]
+    for name, act in MENUS['fc']:
+        p[act] = [(name, ('F', 'WK1'))]
+    for name, act in MENUS['fx']:
+        p[act] = [(name, ('F', 'WK1')), ('Range', 'R'), ('', 'replace')]
+    p['f.erase'] = [('Erase', ('F', 'WK1')), ('', 'confirm')]
+    p['p.file'] = [('File', ('F', 'PRN')), ('', 'replace')]
+    p['p.range'] = [('Range', 'R')]
+    p['po.header'] = [('Header', 'T')]
+    p['po.footer'] = [('Footer', 'T')]
+    p['po.length'] = [('Pg-Length', ('N', 10, 100))]
+    p['pm.left'] = [('Left', ('N', 0, 240))]
+    p['pm.right'] = [('Right', ('N', 0, 240))]
+    p['pm.top'] = [('Top', ('N', 0, 10))]
+    p['pm.bottom'] = [('Bottom', ('N', 0, 10))]
+    p['d.fill'] = [('Fill', 'R'), ('Start', 'D'), ('Step', 'D'), ('Stop', 'D')]
+    p['dt.1'] = [('1', 'R'), ('Down', 'C')]      # the name of table 1's second prompt isn't given: this project's choice
+    p['dt.2'] = [('2', 'R'), ('Down', 'C'), ('Across', 'C')]
+    p['ds.range'] = [('Data-Range', 'R')]
+    p['ds.primary'] = [('Primary-Key', 'C'), ('Order', 'T:order')]
+    p['ds.secondary'] = [('Secondary-Key', 'C'), ('Order', 'T:order')]
+    p['dq.input'] = [('Input', 'R')]
+    p['dq.criterion'] = [('Criterion', 'R')]
+    p['dq.output'] = [('Output', 'R')]
+    p['d.distribution'] = [('Distribution', 'R'), ('Range', 'R')]  # the bins' prompt isn't named: this project's choice
+    p['goto'] = [('Goto', 'C')]                  # the prompt of GOTO isn't named: this project's choice
+
+
+_make()
+
+# where a finished command leads: the menu it goes back to; absent is READY
+BACK = {'ds.range': 'ds', 'ds.primary': 'ds', 'ds.secondary': 'ds',
+        'dq.input': 'dq', 'dq.criterion': 'dq', 'dq.output': 'dq',
+        'p.file': 'print', 'p.range': 'print', 'po.header': 'po', 'po.footer': 'po', 'po.length': 'po',
+        'pm.left': 'pm', 'pm.right': 'pm', 'pm.top': 'pm', 'pm.bottom': 'pm',
+        'po.quit': 'print', 'pm.quit': 'po'}
+
+CHOICES = {'replace': ['Cancel', 'Replace'], 'confirm': ['No', 'Yes']}
+
+
+def prompts(action):
+    return PROMPTS.get(action, [])

@@ -1,0 +1,154 @@
+"""The outside in memory: keys, shelf, clock, notes, displays that can fail."""
+import re
+from .keys import fold
+
+
+class Failed(Exception):
+    pass
+
+
+def file_name(data, ext='WK1'):
+    """FileName::with: 1 to 8 bytes of A to Z, 0 to 9, `_` and `-`, folded, with the extension; else None."""
+    up = fold(bytes(data))
+    m = re.fullmatch(rb'([A-Z0-9_-]{1,8})(\.' + ext.encode() + rb')?', up)
+    if not m:
+        return None
+    return m.group(1).decode() + '.' + ext
+
+
+class ListKeys:
+    def __init__(self, data, failing=()):
+        self.data = bytes(data)
+        self.at = 0
+        self.failing = set(failing)
+        self.calls = 0
+        self.faults = 0
+
+    def next(self):
+        self.calls += 1
+        if self.calls in self.failing:
+            self.faults += 1
+            raise Failed()
+        if self.at >= len(self.data):
+            return None
+        self.at += 1
+        return self.data[self.at - 1]
+
+
+class MapShelf:
+    def __init__(self, files=None, failing=()):
+        self.files = dict(files or {})
+        self.failing = set(failing)
+        self.calls = 0
+        self.faults = 0
+        self.log = []
+
+    def _call(self, what, name):
+        self.calls += 1
+        if self.calls in self.failing:
+            self.faults += 1
+            self.log.append((what, name, 'failed', self.files.get(name)))
+            raise Failed()
+        self.log.append((what, name, 'done'))
+
+    def has(self, name):
+        self._call('has', name)
+        return name in self.files
+
+    def get(self, name):
+        self._call('get', name)
+        return self.files.get(name)
+
+    def put(self, name, data):
+        self._call('put', name)
+        self.files[name] = bytes(data)
+
+    def remove(self, name):
+        self._call('remove', name)
+        return self.files.pop(name, None) is not None
+
+
+class ListClock:
+    """Repeats the last moment."""
+
+    def __init__(self, readings):
+        assert readings
+        self.readings = list(readings)
+        self.taken = 0
+
+    def read(self):
+        m = self.readings[min(self.taken, len(self.readings) - 1)]
+        self.taken += 1
+        return m
+
+
+class ListNotes:
+    def __init__(self, failing=()):
+        self.bytes = b''
+        self.failing = set(failing)
+        self.calls = 0
+        self.faults = 0
+
+    def write(self, data):
+        self.calls += 1
+        if self.calls in self.failing:
+            self.faults += 1
+            raise Failed()
+        self.bytes += data
+
+
+class Recorder:
+    def __init__(self, kind='pages', failing=()):
+        self.kind = kind
+        self.failing = set(failing)
+        self.calls = 0
+        self.faults = 0
+        self.grid = [bytearray(80) for _ in range(25)]
+        self.frames = []
+        self.puts = 0
+        self.bytes_put = 0
+        self.per_frame = []          # (puts, bytes) at each finished frame, cumulative
+        self.closed = False
+
+    def _call(self):
+        self.calls += 1
+        if self.calls in self.failing:
+            self.faults += 1
+            raise Failed()
+
+    def put(self, row, col, data):
+        self._call()
+        self.closed = False
+        self.grid[row][col:col + len(data)] = data
+        self.puts += 1
+        self.bytes_put += len(data)
+
+    def done(self):
+        self._call()
+        self.closed = False
+        self.frames.append([bytes(line) for line in self.grid])
+        self.per_frame.append((self.puts, self.bytes_put))
+
+    def close(self):
+        self._call()
+        self.closed = True
+
+
+def send(before, after, display):
+    """The changed runs of each line, and then done.  A run is a longest stretch of differing bytes."""
+    for row in range(25):
+        a, b = before[row], after[row]
+        col = 0
+        while col < 80:
+            if a[col] == b[col]:
+                col += 1
+                continue
+            end = col
+            while end < 80 and a[end] != b[end]:
+                end += 1
+            display.put(row, col, bytes(b[col:end]))
+            col = end
+    display.done()
+
+
+EMPTY_GRID = [bytes(80) for _ in range(25)]

@@ -1,0 +1,178 @@
+"""Random key lists through the built program and through the oracle: screens, notes, statuses and counts compared.
+
+python3 -B -m oracle.runs PROGRAM N [SEED]
+
+A key list is made of what the program has built; WITHOUT and the makers of Typist grow with it. The moment on a screen's
+last line is left out, and no formula asks for it."""
+import random
+import shlex
+import subprocess
+import sys
+
+from . import formula
+from .answers import NOT_BUILT
+from .cases import SEED, Texts, WORDS, is_read
+from .cli import run
+from .names import Names
+from .session import OPERATORS, VALUE_BEGINS
+
+BLANK_MOMENT = b' ' * 15
+WITHOUT = NOT_BUILT | {b'NOW'}
+NO_NAMES = Names()
+
+
+class Typist:
+    """Makes key lists."""
+
+    def __init__(self, r):
+        self.r = r
+        self.texts = Texts(r, 3, 5, False, [], without=WITHOUT)
+
+    def typed(self, text):
+        """The key notation of typed bytes."""
+        special = {126: b'{~}', 123: b'{{}', 125: b'{}}'}
+        return b''.join(special.get(byte) or bytes([byte]) for byte in text)
+
+    def arrow(self):
+        r = self.r
+        name = r.choice([b'UP', b'DOWN', b'LEFT', b'RIGHT', b'DOWN', b'RIGHT', b'u', b'd', b'l', b'r', b'Down'])
+        count = b'' if r.randrange(4) else b' %d' % r.choice([1, 2, 3, 7, 8, 19, 20, 21, 30, 100])
+        return b'{' + name + count + b'}'
+
+    def value(self):
+        """A line that spells a number or a formula."""
+        while True:
+            text = self.texts.tree(self.r.choice([0, 1, 1, 2, 3]))
+            if text[:1] not in (b'%c' % byte for byte in VALUE_BEGINS):
+                text = b'+' + text
+            if b'@NOW' not in text and len(text) <= 240 and is_read(text, (0, 0), NO_NAMES):
+                return text
+
+    def label(self):
+        r = self.r
+        while True:
+            size = r.choice([0, 1, 3, 8, 9, 10, 30, 75, 80, 200, 245])
+            text = r.choice([b'', b"'", b'"', b'^', b'\\', b'|']) + (
+                r.choice(WORDS) if r.randrange(2) else bytes(r.choice(range(32, 256)) for _ in range(size)))
+            if text and text[0] not in VALUE_BEGINS and text[:1] != b'/':
+                return text
+
+    def entry(self):
+        """A line and the key that finishes it; an arrow behind an operator would begin to point."""
+        text = self.value() if self.r.randrange(3) else self.label()
+        points = text[0] in VALUE_BEGINS and text[-1] in OPERATORS + b'(,'
+        return self.typed(text) + (b'~' if points or self.r.randrange(2) else self.arrow())
+
+    def part(self):
+        r = self.r
+        return r.choice([self.entry, self.entry, self.entry, self.arrow, lambda: r.choice([b'{CALC}', b'{calc}', b'~', b'\n'])])()
+
+    def keys(self):
+        r = self.r
+        out = b''.join(self.part() for _ in range(r.choice([0, 1, 3, 8, 15, 30])))
+        ending = r.randrange(12)
+        if ending == 0:
+            out += self.typed(self.value())
+        elif ending == 1:
+            out += r.choice([b'{DO', b'{', b'A{DWN}~', b'}', b'{DOWN 0}', b'{DOWN 10000}~', b'\x07', b'{ALT 1}', b'5{ALT '])
+        return out
+
+    def words(self):
+        """The program's words: mostly good ones, each at most once."""
+        r = self.r
+        if r.randrange(20) == 0:
+            return r.choice([['--show'], ['--show', 'page'], ['--steps', '0'], ['--steps=10000001'], ['--count=1'], ['keys'],
+                             ['--count', '--count'], ['--steps'], ['--show=last', '--show', 'last'], ['--steps=']])
+        out = []
+        if r.randrange(3) == 0:
+            out += r.choice([['--show', 'last'], ['--show=pages'], ['--show', 'ansi']])
+        if r.randrange(4) == 0:
+            out += r.choice([['--steps', '%d'], ['--steps=%d']])
+            out[-1] %= r.choice([1, 2, 10, 50, 10000000])
+        if r.randrange(2):
+            out.insert(r.randrange(len(out) + 1) if '--show' not in out and '--steps' not in out else 0, '--count')
+        return out
+
+
+def kind_of(words):
+    joined = ' '.join(words).replace('=', ' ')
+    return 'ansi' if '--show ansi' in joined else 'last' if '--show last' in joined else 'pages'
+
+
+def without_moments(pages):
+    """Pages with blanks in the place of the moments."""
+    lines = pages.split(b'\n')
+    for at in range(24, len(lines), 26):
+        lines[at] = BLANK_MOMENT + lines[at][15:]
+    return lines
+
+
+def last_screen(changes):
+    """The screen that changes for a terminal come to, or none where there were none."""
+    if not changes:
+        return [b'']
+    grid = [bytearray(80) for _ in range(25)]
+    for part in changes.split(b'\x1b[')[1:]:
+        place, _, text = part.partition(b'H')
+        line, col = place.split(b';')
+        grid[int(line) - 1][int(col) - 1:int(col) - 1 + len(text)] = text
+    return without_moments(b'\n'.join(bytes(line) for line in grid))
+
+
+def expected(words, keys):
+    """The status, the screens as they are compared, and the notes."""
+    of = run(words, keys, kinds=(kind_of(words),))
+    page = lambda frame: b''.join(line + b'\n' for line in frame) + b'----\n'
+    if kind_of(words) == 'pages':
+        screens = b''.join(page(frame) for frame in of.frames).split(b'\n')
+    else:
+        ended = of.frames and (kind_of(words) == 'ansi' or of.made[0].closed)
+        whole = b'\n'.join(of.frames[-1]) if kind_of(words) == 'ansi' and ended else page(of.frames[-1]) if ended else b''
+        screens = whole.split(b'\n')
+    return of.status, screens, of.notes, len(of.frames)
+
+
+def got(words, status, out, notes):
+    """The same of what the program wrote."""
+    return status, last_screen(out) if kind_of(words) == 'ansi' else without_moments(out), notes
+
+
+def difference(wanted, found):
+    if wanted[0] != found[0]:
+        return f'the status is {found[0]}, and {wanted[0]} is wanted'
+    if wanted[2] != found[2]:
+        return f'the notes are {found[2]!r}, and {wanted[2]!r} is wanted'
+    if wanted[1] != found[1]:
+        at = next((i for i, (a, b) in enumerate(zip(wanted[1], found[1])) if a != b), min(len(wanted[1]), len(found[1])))
+        line = lambda lines: lines[at] if at < len(lines) else b''
+        return f'screen {at // 26 + 1}, line {at % 26} is {line(found[1])!r}, and {line(wanted[1])!r} is wanted'
+    return None
+
+
+def runs(count, seed):
+    """So many runs, each its words and its keys."""
+    for number in range(count):
+        typist = Typist(random.Random(f'{seed} run {number}'))
+        yield typist.words(), typist.keys()
+
+
+def main(words):
+    formula.NOT_BUILT = NOT_BUILT
+    program, count, seed = words[0], int(words[1]), words[2] if len(words) > 2 else SEED
+    screens, bad = 0, 0
+    for options, keys in runs(count, seed):
+        ran = subprocess.run([program, *options], input=keys, capture_output=True, timeout=120)
+        wanted = expected(options, keys)
+        screens += wanted[3]
+        why = difference(wanted, got(options, ran.returncode, ran.stdout, ran.stderr))
+        if why:
+            bad += 1
+            if bad <= 5:
+                print(f'runs: {shlex.join(options)} < {keys!r}: {why}')
+    print(f'runs: {count} runs of seed {seed}, {screens} screens, {bad} differ')
+    return 1 if bad else 0
+
+
+if __name__ == '__main__':
+    sys.setrecursionlimit(100000)
+    sys.exit(main(sys.argv[1:]))
