@@ -94,6 +94,13 @@ impl<T> CellMap<T> {
         }
     }
 
+    /// Whether some cell of a cell's band of 64 rows may have an item; false tells that none has.
+    pub fn has_band(&self, cell: Cell) -> bool
+        ensures { result ≡ false → (c : Place) → InSheet c → band_of c ≡ band_of cell → map.get self.now c ≡ None }
+    {
+        self.table.has_band(cell)
+    }
+
     /// The item of a cell, to be changed in place.
     pub fn get_mut(&mut self, cell: Cell) -> Option<&mut T>
         ensures* writes_back { sem 𝓛 (lends_get T.row self.entry cell result) }

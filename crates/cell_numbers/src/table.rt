@@ -1,5 +1,5 @@
 // The numbers of places.
-ghost use Rattle.std.specs.Prelude.{◌≡◌, ℕ, ◌<◌, ◌≤◌, ◌+◌, ◌*◌, ◌/◌, ◌%◌, cond, length, map, [], ◌∷◌, get_or, OnOk, List};
+ghost use Rattle.std.specs.Prelude.{◌≡◌, false, ℕ, ◌<◌, ◌≤◌, ◌+◌, ◌*◌, ◌/◌, ◌%◌, cond, length, map, [], ◌∷◌, get_or, OnOk, List};
 ghost use Rattle.grid_address.specs.Place.{same_place, InSheet, Place};
 ghost use Rattle.cell_numbers.specs.Numbers.{band_of, number_at, place_of, HasRoom, items_of};
 
@@ -88,6 +88,16 @@ impl PlaceTable {
                 None => 0,
             },
             None => 0,
+        }
+    }
+
+    /// Whether some place of a cell's band may have a number.
+    pub fn has_band(&self, cell: Cell) -> bool
+        ensures { result ≡ false → get_or self.now (band_of cell) [] ≡ [] }
+    {
+        match self.bands.get(band_of(cell)) {
+            Some(band) => !band.is_empty(),
+            None => false,
         }
     }
 

@@ -7,7 +7,7 @@ use Rattle.std.proofs.Common.{sym, ◌∙◌, ap, rules}
 use Rattle.grid_address.proofs.Maps.{in_order}
 use Rattle.grid_address.proofs.Places.{cells_total}
 use Rattle.grid_address.specs.Place.{place_cmp, InSheet, Place}
-use Rattle.sheet_store.specs.RowOrder.{entries_behind}
+use Rattle.sheet_store.specs.RowOrder.{entries_behind, NextHeld, NoneHeldBehind}
 use Rattle.sheet_store.specs.Grid.{AreHeld, Cells}
 use Rattle.sheet_store.specs.Scan.{entries_from, left_from}
 use Rattle.sheet_store.specs.declared.state.CellState.{CellState}
@@ -32,6 +32,11 @@ all_left (e ∷ es) = ap (λ l. e ∷ l) (all_left es)
 module _ (m : Cells) (held : AreHeld m) where
   agrees_inside : (p q : Place → Bool) → ((c : Place) → InSheet c → p c ≡ q c) → filter (λ e. p e.0) (entries m) ≡ filter (λ e. q e.0) (entries m)
   agrees_inside p q h = filter_agrees p q (entries m) (λ c s k. h c (held c s (get-entries m c ∙ k)).inside)
+
+  -- the same of a next one behind which nothing is left out
+  pub left_past : (c : Place) (next : Option Place) → IfSome next (λ d. NextHeld m c d) → IfNone next (NoneHeldBehind m c) → entries_behind c (entries m) ≡ left_from next (entries m)
+  left_past c None some none = filter_agrees (λ p. is_lt (place_cmp c p)) (λ p. false) (entries m) (λ p s k. none p s (held p s (get-entries m p ∙ k)).inside (get-entries m p ∙ k)) ∙ none_left (entries m)
+  left_past c (Some d) some none = filter_agrees (λ p. is_lt (place_cmp c p)) (λ p. is_le (place_cmp d p)) (entries m) (λ p s k. some p s (held p s (get-entries m p ∙ k)).inside (get-entries m p ∙ k))
 
   -- what stands behind a place is what is left from the next one on
   pub left_next : (c : Place) (next : Option Place) → IfSome next (λ d. (p : Place) → InSheet p → is_lt (place_cmp c p) ≡ is_le (place_cmp d p)) → IfNone next ((p : Place) → InSheet p → is_lt (place_cmp c p) ≡ false)

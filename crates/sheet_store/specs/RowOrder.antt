@@ -1,9 +1,11 @@
 -- Cells with their states, in row order.
 use Rattle.std.specs.Coded.{Coded, coded×, coded_list}
-use Rattle.std.specs.Prelude.{List}
+use Rattle.std.specs.Prelude.{◌≡◌, false, List, Some}
+use Rattle.std.specs.FinMap.{get}
 use Rattle.std.specs.List.{filter}
-use Rattle.std.specs.Ordering.{is_lt}
-use Rattle.grid_address.specs.Place.{coded_place, place_cmp, Place}
+use Rattle.std.specs.Ordering.{is_le, is_lt}
+use Rattle.grid_address.specs.Place.{coded_place, place_cmp, InSheet, Place}
+use Rattle.sheet_store.specs.Grid.{Cells}
 use Rattle.sheet_store.specs.declared.state.CellState.{CellState}
 use Rattle.sheet_store.specs.contracts.state.CellState as state
 
@@ -14,3 +16,11 @@ coded_entries = coded_list (coded× coded_place (state.the_row).coded)
 -- the entries behind a place
 abbrev pub entries_behind : Place → List (Place × CellState) → List (Place × CellState)
 entries_behind c es = filter (λ e. is_lt (place_cmp c e.0)) es
+
+-- no cell with a state lies behind a place and before another
+abbrev pub NextHeld : Cells → Place → Place → Type 0
+NextHeld cells c d = (p : Place) (s : CellState) → InSheet p → get cells p ≡ Some s → is_lt (place_cmp c p) ≡ is_le (place_cmp d p)
+
+-- no cell with a state lies behind a place
+abbrev pub NoneHeldBehind : Cells → Place → Type 0
+NoneHeldBehind cells c = (p : Place) (s : CellState) → InSheet p → get cells p ≡ Some s → is_lt (place_cmp c p) ≡ false

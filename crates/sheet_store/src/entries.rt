@@ -1,9 +1,9 @@
 // The cells of a store, one after another.
-ghost use Rattle.std.specs.Prelude.{◌≡◌, ◌∷◌, ◌<◌, [], false, IfSome, IfNone};
+ghost use Rattle.std.specs.Prelude.{◌≡◌, ◌∷◌, ◌<◌, [], false, None, IfSome, IfNone};
 ghost use Rattle.std.specs.Ordering.{is_le, is_lt};
 ghost use Rattle.std.specs.FinMap as map;
 ghost use Rattle.grid_address.specs.Place.{place_cmp, InSheet, Place};
-ghost use Rattle.sheet_store.specs.RowOrder.{entries_behind};
+ghost use Rattle.sheet_store.specs.RowOrder.{entries_behind, NextHeld, NoneHeldBehind};
 ghost use Rattle.sheet_store.specs.Scan.{left_from, number_of};
 
 use crate::{CellState, Store};
@@ -83,9 +83,33 @@ fn place_after(place: Cell) -> Option<Cell>
     None
 }
 
+/// The rows of a band, of which a store tells whether it holds a cell there.
+const BAND: u16 = 64;
+
+// A place behind one without a state, and no cell with a state lies between them: the next place, or the first of the next
+// band where the store holds no cell in this one.
+fn place_past(store: &Store, place: Cell) -> Option<Cell>
+    requires { map.get store.now.cells place ≡ None }
+    ensures some { IfSome result (λ c. NextHeld store.now.cells place c) }
+    ensures behind { IfSome result (λ c. number_of place < number_of c) }
+    ensures none { IfNone result (NoneHeldBehind store.now.cells place) }
+{
+    if store.has_band(place) {
+        return place_after(place);
+    }
+    let row = place.row / BAND * BAND + BAND;
+    if row < 8192 {
+        Some(Cell { row, col: 0 })
+    } else {
+        None
+    }
+}
+
 // The first cell with a state from a place on.
 fn first_from<'a>(store: &'a Store, from: Option<Cell>) -> Option<(Cell, &'a CellState)>
-    ensures some { IfSome result (λ entry. left_from from (map.entries store.now.cells) ≡ (entry.0, entry.1.now) ∷ entries_behind entry.0 (map.entries store.now.cells)) }
+    ensures some { IfSome result (λ entry.
+        left_from from (map.entries store.now.cells) ≡
+        (entry.0, entry.1.now) ∷ entries_behind entry.0 (map.entries store.now.cells)) }
     ensures none { IfNone result (left_from from (map.entries store.now.cells) ≡ []) }
 {
     store.are_held();
@@ -96,7 +120,7 @@ fn first_from<'a>(store: &'a Store, from: Option<Cell>) -> Option<(Cell, &'a Cel
             Some(state) => return Some((place, state)),
             None => {}
         }
-        next = place_after(place);
+        next = place_past(store, place);
     }
     None
 }

@@ -3,7 +3,8 @@ ghost use Rattle.std.specs.Prelude.{length, ◌≡◌, ◌≤◌, ◌++◌, ◌�
 ghost use Rattle.std.specs.Option.{ForSome};
 ghost use Rattle.std.specs.FinMap as map;
 ghost use Rattle.cell_numbers.specs.Filled.{filled, with_item};
-ghost use Rattle.grid_address.specs.Place.{place_cmp};
+ghost use Rattle.grid_address.specs.Place.{place_cmp, InSheet, Place};
+ghost use Rattle.cell_numbers.specs.Numbers.{band_of};
 ghost use Rattle.sheet_store.specs.Copies.{inserted_all};
 ghost use Rattle.sheet_store.specs.Grid.{any_state, cells_within, clear_cell, formatted, formulas, formulas_within, further, holds_formula, is_hidden, last_among, last_used, picked, put_state, set_format_of, set_hidden_of, set_value_at, set_width_of, width_of, AreHeld, HasContent, HasFormula, IsBlankAt, IsSound};
 
@@ -74,6 +75,13 @@ impl Store {
     {
         are_own(&self.widths);
         are_marks(&self.hidden);
+    }
+
+    // Whether some cell of a cell's band of 64 rows may have a state; false tells that none has.
+    pub(crate) fn has_band(&self, cell: Cell) -> bool
+        ensures { result ≡ false → (c : Place) → InSheet c → band_of c ≡ band_of cell → map.get self.now.cells c ≡ None }
+    {
+        self.cells.has_band(cell)
     }
 
     /// The state of a cell.

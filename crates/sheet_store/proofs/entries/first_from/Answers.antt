@@ -1,6 +1,6 @@
 use Rattle.std.proofs.Common.{ap, sym, ◌∙◌}
 use Rattle.std.specs.FinMap.{entries}
-use Rattle.sheet_store.proofs.Behind.{left_here, left_next, left_over_none}
+use Rattle.sheet_store.proofs.Behind.{left_here, left_over_none, left_past}
 use Rattle.sheet_store.specs.Scan.{left_from}
 use Rattle.sheet_store.proofs.entries.first_from.Goals as goal
 
@@ -13,5 +13,5 @@ pub loop-next-preserved : goal.loop-next-preserved
 loop-next-preserved c =
     let m = c.args.store.now.cells in
     let place = c.in-Some.place in
-    sym (left_next m c.are_held.ensures place c.place_after-next.result c.place_after-next.ensures.some c.place_after-next.ensures.none)
+    sym (left_past m c.are_held.ensures place c.place_past-next.result c.place_past-next.ensures.some c.place_past-next.ensures.none)
     ∙ sym (left_over_none m c.are_held.ensures place (sym c.in-None.ensures)) ∙ sym (ap (λ o. left_from o (entries m)) c.in-Some.is) ∙ c.loop-next.invariant
