@@ -1,0 +1,19 @@
+-- Lines with the cursor at the end.
+use Rattle.std.specs.Prelude.{ℕ, ◌-◌, Bool, ◌&&◌, nat_le, List, ◌++◌, length, take, get_or}
+use Rattle.std.specs.List.{list_all}
+use Rattle.entry_line.specs.Line.{Entry}
+use Rattle.session_rooms.specs.Bytes.{max_line}
+
+abbrev pub line_of : List ℕ → Entry
+line_of text = record { text = text; cursor = length text }
+
+-- more bytes at the end; those that would stand past 240 are passed over
+abbrev pub extended : Entry → List ℕ → Entry
+extended e bytes = line_of (take max_line (e.text ++ bytes))
+
+abbrev pub last_byte : List ℕ → ℕ
+last_byte text = get_or text (length text - 1) 0
+
+-- at most 240 bytes, each at least 32
+abbrev pub fits_line : List ℕ → Bool
+fits_line text = nat_le (length text) max_line && list_all (nat_le 32) text
