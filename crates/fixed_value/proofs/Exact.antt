@@ -5,6 +5,7 @@ use Rattle.std.specs.Prelude.{◌==◌, ◌&&◌, not, nat_lt, ℤ, pos, nat_abs
 use Rattle.std.proofs.Math.Nat.{div-div-eq-div-mul, mul-le-mul_right}
 use Rattle.std.proofs.Math.Nat.{div-lt_iff_lt-mul, mul-div-le}
 use Rattle.std.proofs.lemmas.Bool.{cases_Bool, eqb-true}
+use Rattle.std.proofs.lemmas.List.{append-nil}
 use Rattle.std.proofs.lemmas.Bool.Decides.{nat_tests}
 use Rattle.std.proofs.lemmas.Nat.{pow-add}
 use Rattle.fixed_value.specs.Written.{decimals, fixed_digits, minus_sign, scaled, short, whole_len, without_last_zeros, without_zeros, written}
@@ -66,10 +67,6 @@ module _ (v : ℤ) (places left rest : ℕ) (size : left ≤ 6) (number : nat_ab
   none_is : (scaled v places == 0) ≡ (rest == 0)
   none_is = zero_raised rest (places - left) (scaled v places) scaled_is
 
-nothing_behind : (l : List ℕ) → l ++ [] ≡ l
-nothing_behind [] = refl
-nothing_behind (x ∷ l) = ap (λ (m : List ℕ). x ∷ m) (nothing_behind l)
-
 same_from : (v : ℤ) (places left rest : ℕ) → left ≤ 6 → nat_abs v ≡ rest * 10 ^ (6 - left) → left ≤ places → fixed_digits left rest ≡ without_last_zeros (fixed_digits 6 (nat_abs v)) → short v places ≡ written v left
 same_from v places left rest size number enough digits =
     let zeros : fixed_digits 6 (nat_abs v) ≡ fixed_digits left rest ++ replicate (6 - left) 48 =
@@ -78,7 +75,7 @@ same_from v places left rest size number enough digits =
     let no_more : left - left ≡ 0 = omega arith in
     let behind : without_last_zeros (drop 10 (fixed_digits (10 + places) (scaled v places))) ≡ fixed_digits left rest = ap without_last_zeros (behind_is v places left rest size number enough) ∙ zeros_dropped (fixed_digits left rest) (places - left) ∙ stays in
     let behind_left : drop 10 (fixed_digits (10 + left) (scaled v left)) ≡ fixed_digits left rest =
-    behind_is v left left rest size number (omega arith) ∙ ap (λ k. fixed_digits left rest ++ replicate k 48) no_more ∙ nothing_behind (fixed_digits left rest) in
+    behind_is v left left rest size number (omega arith) ∙ ap (λ k. fixed_digits left rest ++ replicate k 48) no_more ∙ append-nil (fixed_digits left rest) in
     same_text (int_lt v (pos 0)) (int_lt v (pos 0)) (scaled v places == 0) (scaled v left == 0) (take 10 (fixed_digits (10 + places) (scaled v places))) (take 10 (fixed_digits (10 + left) (scaled v left)))
     (without_last_zeros (drop 10 (fixed_digits (10 + places) (scaled v places)))) (drop 10 (fixed_digits (10 + left) (scaled v left)))
     refl (none_is v places left rest size number enough ∙ sym (none_is v left left rest size number (omega arith)))

@@ -3,6 +3,7 @@ use Rattle.std.specs.Int.RustNames.{int_lt}
 use Rattle.std.proofs.Common.{◌≡◌, ℕ, zero, suc, ◌+◌, ◌-◌, ◌*◌, ◌/◌, ◌^◌, ◌≤◌, ◌<◌, Bool, false, List, [], ◌∷◌, ◌++◌, length, take, drop, replicate, min, refl, sym, ap, ◌∙◌, arith, inl, inr, append_assoc, length-append}
 use Rattle.std.specs.Prelude.{◌==◌, ◌&&◌, not, nat_le, ℤ, pos, nat_abs}
 use Rattle.std.proofs.lemmas.Bool.{cases_Bool, eqb-true}
+use Rattle.std.proofs.lemmas.List.{append-nil}
 use Rattle.std.proofs.lemmas.Bool.Decides.{nat_tests}
 use Rattle.std.proofs.Math.Nat.{div-div-eq-div-mul, mul-le-mul_right}
 use Rattle.std.proofs.lemmas.Nat.{pow-add}
@@ -54,9 +55,6 @@ pub same_text : (minus minus2 none none2 : Bool) (whole whole2 places places2 : 
 same_text minus minus2 none none2 whole whole2 places places2 a b c d =
     ap (λ m. signed_text m none whole places) a ∙ ap (λ n. signed_text minus2 n whole places) b ∙ ap (λ (l : List ℕ). signed_text minus2 none2 l places) c ∙ ap (λ (l : List ℕ). signed_text minus2 none2 whole2 l) d
 
-whole_same : (a k n number : ℕ) → n ≡ number → fixed_digits a (n / 10 ^ k) ≡ fixed_digits a (number / 10 ^ k)
-whole_same a k n number is = ap (λ m. fixed_digits a (m / 10 ^ k)) is
-
 pub decimal_is : (v : ℤ) (places kept n : ℕ) (minus : Bool) → nat_abs v ≤ 999999999999999 → kept ≡ min places 6 → n ≡ scaled v kept → minus ≡ int_lt v (pos 0) →
     minus_sign (minus && not (n == 0)) ++ (without_zeros (fixed_digits 10 (n / 10 ^ kept)) ++ pointed (fixed_digits kept n ++ replicate (places - kept) 48)) ≡ written v places
 decimal_is v places kept n minus within is number sign =
@@ -66,11 +64,7 @@ decimal_is v places kept n minus within is number sign =
     sign (sym (zero_raised n (places - kept) (scaled v places) value)) (sym (front_kept 10 kept (places - kept) places n (scaled v places) parts value)) (sym (last_kept 10 kept (places - kept) places n (scaled v places) parts value))
 
 pub zeros_dropped : (xs : List ℕ) (z : ℕ) → without_last_zeros (xs ++ replicate z 48) ≡ without_last_zeros xs
-zeros_dropped xs zero = ap without_last_zeros (append_nothing xs)
-  where
-    append_nothing : (l : List ℕ) → l ++ [] ≡ l
-    append_nothing [] = refl
-    append_nothing (x ∷ l) = ap (λ (m : List ℕ). x ∷ m) (append_nothing l)
+zeros_dropped xs zero = ap without_last_zeros (append-nil xs)
 zeros_dropped xs (suc z) = ap without_last_zeros (sym (append_assoc xs (48 ∷ []) (replicate z 48))) ∙ zeros_dropped (xs ++ 48 ∷ []) z ∙ zero_dropped xs
 
 pub short_is : (v : ℤ) (places kept n left rest : ℕ) (minus : Bool) → nat_abs v ≤ 999999999999999 → kept ≡ min places 6 → n ≡ scaled v kept → minus ≡ int_lt v (pos 0) →
@@ -80,13 +74,9 @@ short_is v places kept n left rest minus within is number sign digits whole none
     let parts : places ≡ kept + (places - kept) = omega (arith, is) in
     let value : scaled v places ≡ n * 10 ^ (places - kept) = raised_kept v places kept within is ∙ ap (λ k. k * 10 ^ (places - kept)) (sym number) in
     let behind : without_last_zeros (drop 10 (fixed_digits (10 + places) (scaled v places))) ≡ fixed_digits left rest ++ [] =
-    ap without_last_zeros (last_kept 10 kept (places - kept) places n (scaled v places) parts value) ∙ zeros_dropped (fixed_digits kept n) (places - kept) ∙ sym digits ∙ nothing_behind (fixed_digits left rest) in
+    ap without_last_zeros (last_kept 10 kept (places - kept) places n (scaled v places) parts value) ∙ zeros_dropped (fixed_digits kept n) (places - kept) ∙ sym digits ∙ sym (append-nil (fixed_digits left rest)) in
     same_text minus (int_lt v (pos 0)) (rest == 0) (scaled v places == 0) (fixed_digits 10 (rest / 10 ^ left)) (take 10 (fixed_digits (10 + places) (scaled v places))) (fixed_digits left rest ++ []) (without_last_zeros (drop 10 (fixed_digits (10 + places) (scaled v places))))
     sign (none ∙ sym (zero_raised n (places - kept) (scaled v places) value)) (ap (fixed_digits 10) whole ∙ sym (front_kept 10 kept (places - kept) places n (scaled v places) parts value)) (sym behind)
-  where
-    nothing_behind : (l : List ℕ) → l ≡ l ++ []
-    nothing_behind [] = refl
-    nothing_behind (x ∷ l) = ap (λ (m : List ℕ). x ∷ m) (nothing_behind l)
 
 pub hundredfold_is : (v : ℤ) (places kept n : ℕ) (minus : Bool) → nat_abs v ≤ 999999999999999 → kept ≡ min places 4 → n ≡ scaled v (kept + 2) → minus ≡ int_lt v (pos 0) →
     minus_sign (minus && not (n == 0)) ++ (without_zeros (fixed_digits 12 (n / 10 ^ kept)) ++ pointed (fixed_digits kept n ++ replicate (places - kept) 48)) ≡ hundredfold v places
@@ -119,15 +109,11 @@ parts_len v places n number =
     let all : places ≡ places + 0 = omega arith in
     let value : scaled v places ≡ n * 10 ^ 0 = omega (arith, number) in
     let front = front_kept 10 places 0 places n (scaled v places) all value in
-    let last : drop 10 (fixed_digits (10 + places) (scaled v places)) ≡ fixed_digits places n = last_kept 10 places 0 places n (scaled v places) all value ∙ nothing_behind (fixed_digits places n) in
+    let last : drop 10 (fixed_digits (10 + places) (scaled v places)) ≡ fixed_digits places n = last_kept 10 places 0 places n (scaled v places) all value ∙ append-nil (fixed_digits places n) in
     let text = same_text (int_lt v (pos 0)) (int_lt v (pos 0)) (n == 0) (scaled v places == 0) (fixed_digits 10 (n / 10 ^ places)) (take 10 (fixed_digits (10 + places) (scaled v places))) (fixed_digits places n) (drop 10 (fixed_digits (10 + places) (scaled v places)))
     refl (ap (λ k. k == 0) number) (sym front) (sym last) in
     sym (ap length text) ∙ length-append (minus_sign (int_lt v (pos 0) && not (n == 0))) (without_zeros (fixed_digits 10 (n / 10 ^ places)) ++ pointed (fixed_digits places n))
     ∙ ap (λ k. length (minus_sign (int_lt v (pos 0) && not (n == 0))) + k) (length-append (without_zeros (fixed_digits 10 (n / 10 ^ places))) (pointed (fixed_digits places n)))
-  where
-    nothing_behind : (l : List ℕ) → l ++ [] ≡ l
-    nothing_behind [] = refl
-    nothing_behind (x ∷ l) = ap (λ (m : List ℕ). x ∷ m) (nothing_behind l)
 
 pub len_with_point : (v : ℤ) (places n sign whole : ℕ) → n ≡ scaled v places → 0 < places → sign ≡ length (minus_sign (int_lt v (pos 0) && not (n == 0))) → whole ≡ length (without_zeros (fixed_digits 10 (n / 10 ^ places))) →
     sign + whole + 1 + places ≡ length (written v places)

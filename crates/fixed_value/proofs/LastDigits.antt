@@ -6,7 +6,7 @@ use Rattle.std.proofs.Math.Nat.{div-div-eq-div-mul}
 use Rattle.std.proofs.lemmas.Bool.{cases_Bool, eqb-true}
 use Rattle.std.proofs.lemmas.Bool.Decides.{nat_tests}
 use Rattle.std.proofs.lemmas.Nat.{pow-add}
-use Rattle.std.proofs.lemmas.List.{take_at, drop_at, replicate-append-replicate}
+use Rattle.std.proofs.lemmas.List.{append-nil, take_at, drop_at, replicate-append-replicate}
 use Rattle.std.proofs.lemmas.List.Folds.{list_all-append}
 use Rattle.fixed_value.specs.Written.{fixed_digits, without_last_zeros, without_zeros}
 use Rattle.fixed_value.proofs.LastZeros.{digit_kept, is_zero, zero_dropped}
@@ -30,11 +30,7 @@ by_ten (suc k) n h =
 
 -- the digits before the last ones, and these
 split : (a p n : ℕ) → fixed_digits (a + p) n ≡ fixed_digits a (n / 10 ^ p) ++ fixed_digits p n
-split a zero n = (let same : a + 0 ≡ a = omega arith in let one : n / 10 ^ 0 ≡ n = omega arith in ap (λ k. fixed_digits k n) same ∙ ap (fixed_digits a) (sym one) ∙ append_nothing (fixed_digits a (n / 10 ^ 0)))
-  where
-    append_nothing : (l : List ℕ) → l ≡ l ++ []
-    append_nothing [] = refl
-    append_nothing (x ∷ l) = ap (λ (m : List ℕ). x ∷ m) (append_nothing l)
+split a zero n = (let same : a + 0 ≡ a = omega arith in let one : n / 10 ^ 0 ≡ n = omega arith in ap (λ k. fixed_digits k n) same ∙ ap (fixed_digits a) (sym one) ∙ sym (append-nil (fixed_digits a (n / 10 ^ 0))))
 split a (suc p) n =
     let more : a + suc p ≡ suc (a + p) = omega arith in
     let power : n / 10 / 10 ^ p ≡ n / 10 ^ suc p = div-div-eq-div-mul n 10 (10 ^ p) ∙ ap (λ m. n / m) (sym (ten_more p)) in

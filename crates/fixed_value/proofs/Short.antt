@@ -5,6 +5,7 @@ use Rattle.std.specs.Prelude.{◌==◌, ◌&&◌, nat_le, ℤ, nat_abs}
 use Rattle.std.specs.List.{list_all}
 use Rattle.std.proofs.lemmas.Bool.{cases_Bool, eqb-true}
 use Rattle.std.proofs.lemmas.Bool.Decides.{nat_tests}
+use Rattle.std.proofs.lemmas.List.{append-nil}
 use Rattle.std.proofs.lemmas.Nat.{pow-add}
 use Rattle.fixed_value.specs.declared.decimal.Decimal.TheVariants.{Num}
 use Rattle.fixed_value.specs.Decimals.{behind_digits, decimal_from, decimal_of, fraction_of, number_of, places_of, whole_digits}
@@ -37,14 +38,10 @@ pub pointed_places : (ds : List ℕ) → list_all is_ascii_digit ds ≡ true →
 pointed_places [] all = refl
 pointed_places (d ∷ ds) all = rw all refl
 
-append_nothing : (ds : List ℕ) → ds ++ [] ≡ ds
-append_nothing [] = refl
-append_nothing (d ∷ ds) = ap (λ (l : List ℕ). d ∷ l) (append_nothing ds)
-
 read_plain : (minus : Bool) (whole places : List ℕ) → list_all is_ascii_digit whole ≡ true → list_all is_ascii_digit places ≡ true →
     decimal_from minus (whole_digits (whole ++ pointed places)) (places_of (behind_digits (whole ++ pointed places))) ≡ decimal_from minus whole (Some places)
 read_plain minus whole places all later =
-    let stops : Stops (pointed places) = ap (λ (l : List ℕ). is_ascii_digit (get_or l 0 0)) (sym (append_nothing (pointed places))) ∙ point_stops places [] refl in
+    let stops : Stops (pointed places) = ap (λ (l : List ℕ). is_ascii_digit (get_or l 0 0)) (sym (append-nil (pointed places))) ∙ point_stops places [] refl in
     let front = front_digits whole (pointed places) all stops in
     rw (front.0, front.1, pointed_places places later) refl
 
@@ -75,7 +72,7 @@ cut (d ∷ ds) = elim (cases_Bool (list_all (λ e. e == 48) (d ∷ ds))) [
   | inl zeros ↦ (let none = only_zeros (d ∷ ds) zeros in record {
     count = length (d ∷ ds);
     long = rw zeros (let e : 0 + length (d ∷ ds) ≡ length (d ∷ ds) = omega arith in e);
-    value = λ front. rw zeros (ap (λ (l : List ℕ). number_of l * 10 ^ length (d ∷ ds)) (append_nothing front) ∙ omega (arith, number_of-append front (d ∷ ds), none.0));
+    value = λ front. rw zeros (ap (λ (l : List ℕ). number_of l * 10 ^ length (d ∷ ds)) (append-nil front) ∙ omega (arith, number_of-append front (d ∷ ds), none.0));
     digits = λ h. rw zeros refl;
   })
   | inr other ↦ (let more = cut ds in record {
