@@ -6,14 +6,10 @@ ghost use Rattle.fixed_value.specs.Written.{decimals, fixed_digits, hundredfold,
 ghost use Rattle.fixed_value.specs.declared.decimal.Decimal.TheVariants.{Num};
 
 use crate::Fixed;
-use crate::front::Front;
-use byte_list::ByteList;
-
-/// A written decimal: at most 32 bytes.
-pub type Digits = ByteList<32>;
+use crate::front::Digits;
 
 // Puts so many zeros in front.
-fn put_zeros(text: &mut Front, count: u8)
+fn put_zeros(text: &mut Digits, count: u8)
     requires { length text.old + count ≤ 32 }
     ensures digits { text.new ≡ replicate count 48 ++ text.old }
     ensures size { length text.new ≡ length text.old + count }
@@ -27,7 +23,7 @@ fn put_zeros(text: &mut Front, count: u8)
 
 // Puts so many digits of a number in front, and answers what stands before these.
 #[tactic(auto, using(crate::proofs::LastDigits::one_more, crate::proofs::LastDigits::by_ten))]
-fn put_places(text: &mut Front, count: u8, number: u64) -> u64
+fn put_places(text: &mut Digits, count: u8, number: u64) -> u64
     requires { length text.old + count ≤ 32 }
     ensures digits { text.new ≡ fixed_digits count number ++ text.old }
     ensures size { length text.new ≡ length text.old + count }
@@ -45,7 +41,7 @@ fn put_places(text: &mut Front, count: u8, number: u64) -> u64
 
 // Puts the digits of a number in front, of which there are at most so many.
 #[tactic(auto, using(crate::proofs::LastDigits::whole_more, crate::proofs::LastDigits::smaller, crate::proofs::LastDigits::one_digit))]
-fn put_whole(text: &mut Front, most: u8, number: u64)
+fn put_whole(text: &mut Digits, most: u8, number: u64)
     requires below { number < 10 ^ most }
     requires some { 1 ≤ most }
     requires room { length text.old + most ≤ 32 }
@@ -143,7 +139,7 @@ fn write(minus: bool, number: u64, places: u8, zeros: u8, most: u8) -> Digits
     requires room { most + places + zeros ≤ 30 }
     ensures { result ≡ minus_sign (minus && not (number == 0)) ++ (without_zeros (fixed_digits most (number / 10 ^ places)) ++ pointed (fixed_digits places number ++ replicate zeros 48)) }
 {
-    let mut text = Front::new();
+    let mut text = Digits::new();
     put_zeros(&mut text, zeros);
     let whole = put_places(&mut text, places, number);
     if places + zeros > 0 {
@@ -153,7 +149,7 @@ fn write(minus: bool, number: u64, places: u8, zeros: u8, most: u8) -> Digits
     if minus && number != 0 {
         text.put(b'-');
     }
-    text.digits()
+    text
 }
 
 // A number of units without the zeros at its end, of which so many may go.

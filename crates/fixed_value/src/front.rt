@@ -1,17 +1,16 @@
 // A text that grows at its front.
-ghost use Rattle.std.specs.Prelude.{◌≡◌, ◌<◌, ◌∷◌, [], length};
+ghost use Rattle.std.specs.Prelude.{◌≡◌, ◌≤◌, ◌<◌, ◌∷◌, [], length};
 
-use crate::digits::Digits;
 use std::marker::Model;
 
-/// At most 32 bytes.
+/// A written decimal: at most 32 bytes, written from the last one.
 #[derive(Drop)]
-pub struct Front {
+pub struct Digits {
     bytes: [u8; 32],
     at: usize,
 }
 
-impl Model for Front {
+impl Model for Digits {
     ghost use Rattle.std.specs.Prelude.{ℕ, List, drop, ◌≤◌};
 
     ghost Value = { List ℕ };
@@ -21,19 +20,19 @@ impl Model for Front {
     ghost invariant = { λ a. a.at ≤ 32 };
 }
 
-impl Front {
-    /// The empty text.
-    pub fn new() -> Front
+impl Digits {
+    // The empty text.
+    pub(crate) fn new() -> Digits
         ensures { result ≡ [] }
     {
-        Front {
+        Digits {
             bytes: [0; 32],
             at: 32,
         }
     }
 
-    /// Puts a byte in front.
-    pub fn put(&mut self, byte: u8)
+    // Puts a byte in front.
+    pub(crate) fn put(&mut self, byte: u8)
         requires { length self.old < 32 }
         ensures { self.new ≡ byte ∷ self.old }
     {
@@ -41,12 +40,11 @@ impl Front {
         self.bytes[self.at] = byte;
     }
 
-    /// The text as a list.
-    pub fn digits(&self) -> Digits
-        ensures { result ≡ self.now }
+    /// The bytes.
+    pub fn bytes(&self) -> &[u8]
+        ensures bytes { result.now ≡ self.now }
+        ensures length { length result.now ≤ 32 }
     {
-        let mut text = Digits::new();
-        text.put_all(&self.bytes[self.at..]);
-        text
+        &self.bytes[self.at..]
     }
 }
