@@ -160,6 +160,10 @@ fn without_zeros_at_end(number: u64, places: u8) -> (u64, u8)
     ensures zero { (result.0 == 0) ≡ (number == 0) }
     ensures size { result.1 ≤ places }
 {
+    // A whole number's places go at once.
+    if places == 6 && number % 1_000_000 == 0 {
+        return (number / 1_000_000, 0);
+    }
     let mut left = number;
     let mut more = places;
     while more > 0 && left % 10 == 0 {
