@@ -1,17 +1,17 @@
 -- As many decimals as fit.
-use Rattle.std.proofs.Common.{◌≡◌, ◌≤◌, ◌<◌, ◌+◌, ◌-◌, ℕ, zero, suc, ℤ, true, false, Some, None, length, refl, sym, ap, ◌∙◌, arith, inl, inr}
+use Rattle.std.proofs.Common.{◌≡◌, ◌≤◌, ◌<◌, ◌+◌, ◌-◌, ℕ, zero, suc, ℤ, true, false, List, Option, Some, None, length, refl, sym, ap, ◌∙◌, arith, inl, inr}
 use Rattle.std.proofs.lemmas.Bool.{cases_Bool}
-use Rattle.std.specs.Prelude.{nat_le}
+use Rattle.std.specs.Prelude.{nat_le, is_some, if◌then◌else◌}
 use Rattle.std.proofs.lemmas.Bool.Decides.{nat_tests}
 use Rattle.fixed_value.specs.Written.{short, written}
 use Rattle.cell_format.specs.Numbers.{fitting}
 
-pub fits : (places room : ℕ) (v : ℤ) → length (written v places) ≤ room → Some (short v places) ≡ fitting places v room
+fits : (places room : ℕ) (v : ℤ) → length (written v places) ≤ room → Some (short v places) ≡ fitting places v room
 unfolding fitting
 fits zero room v h = (let test : nat_le (length (written v 0)) room ≡ true = grind (arith, nat_tests, h) in rw test refl)
 fits (suc p) room v h = (let test : nat_le (length (written v (suc p))) room ≡ true = grind (arith, nat_tests, h) in rw test refl)
 
-pub one_less : (places room : ℕ) (v : ℤ) → room < length (written v places) → 0 < places → fitting (places - 1) v room ≡ fitting places v room
+one_less : (places room : ℕ) (v : ℤ) → room < length (written v places) → 0 < places → fitting (places - 1) v room ≡ fitting places v room
 unfolding fitting
 one_less zero room v h more = absurd (omega (arith, more))
 one_less (suc p) room v h more =
@@ -19,10 +19,25 @@ one_less (suc p) room v h more =
     let same : suc p - 1 ≡ p = omega arith in
     ap (λ k. fitting k v room) same ∙ rw test refl
 
-pub nothing_fits : (places room : ℕ) (v : ℤ) → room < length (written v places) → places ≡ 0 → None ≡ fitting places v room
+-- the text with so many places, if there is room for it with its zeros
+abbrev pub tried : ℕ → ℤ → ℕ → Option (List ℕ)
+tried places v room = if nat_le (length (written v places)) room then Some (short v places) else None
+
+pub tried_fits : (places room : ℕ) (v : ℤ) (text : Option (List ℕ)) → text ≡ tried places v room → is_some text ≡ true → text ≡ fitting places v room
+tried_fits places room v text is some = elim (cases_Bool (nat_le (length (written v places)) room)) [
+  | inl more ↦ is ∙ rw more (fits places room v (grind (arith, nat_tests, more)))
+  | inr none ↦ absurd (let no : is_some (tried places v room) ≡ false = rw none refl in let both : true ≡ false = sym some ∙ ap (λ (t : Option (List ℕ)). is_some t) is ∙ no in cc)
+]
+
+pub tried_more : (places room : ℕ) (v : ℤ) (text : Option (List ℕ)) → text ≡ tried places v room → is_some text ≡ false → 0 < places → fitting (places - 1) v room ≡ fitting places v room
+tried_more places room v text is none more = elim (cases_Bool (nat_le (length (written v places)) room)) [
+  | inl fit ↦ absurd (let yes : is_some (tried places v room) ≡ true = rw fit refl in let both : false ≡ true = sym none ∙ ap (λ (t : Option (List ℕ)). is_some t) is ∙ yes in cc)
+  | inr past ↦ one_less places room v (grind (arith, nat_tests, past)) more
+]
+
+pub tried_last : (room : ℕ) (v : ℤ) → tried 0 v room ≡ fitting 0 v room
 unfolding fitting
-nothing_fits zero room v h none = (let test : nat_le (length (written v 0)) room ≡ false = grind (arith, nat_tests, h) in rw test refl)
-nothing_fits (suc p) room v h none = absurd (omega (arith, none))
+tried_last room v = refl
 
 -- places for which there is no room
 pub skipped : (k places room : ℕ) (v : ℤ) → ((p : ℕ) → places < p → p ≤ 6 → room < length (written v p)) → places + k ≤ 6 → fitting places v room ≡ fitting (places + k) v room
@@ -31,10 +46,21 @@ skipped (suc k) places room v others few =
     skipped k places room v others (omega (arith, few)) ∙ ap (λ p. fitting p v room) (let e : places + k ≡ places + suc k - 1 = omega arith in e) ∙ one_less (places + suc k) room v (others (places + suc k) (omega arith) few) (omega arith)
 
 -- places that are enough, where these fit
-pub enough : (k exact room : ℕ) (v : ℤ) → ((p : ℕ) → exact ≤ p → short v p ≡ written v exact) → length (written v exact) ≤ room → Some (written v exact) ≡ fitting (exact + k) v room
+enough : (k exact room : ℕ) (v : ℤ) → ((p : ℕ) → exact ≤ p → short v p ≡ written v exact) → length (written v exact) ≤ room → Some (written v exact) ≡ fitting (exact + k) v room
 enough zero exact room v same fit = ap Some (sym (same exact (omega arith))) ∙ fits exact room v fit ∙ ap (λ p. fitting p v room) (let e : exact ≡ exact + 0 = omega arith in e)
 enough (suc k) exact room v same fit = elim (cases_Bool (nat_le (length (written v (exact + suc k))) room)) [
   | inl more ↦ ap Some (sym (same (exact + suc k) (omega arith))) ∙ fits (exact + suc k) room v (grind (arith, nat_tests, more))
   | inr none ↦ (let past : room < length (written v (exact + suc k)) = grind (arith, nat_tests, none) in
       enough k exact room v same fit ∙ ap (λ p. fitting p v room) (let e : exact + k ≡ exact + suc k - 1 = omega arith in e) ∙ one_less (exact + suc k) room v past (omega arith))
+]
+
+-- a text with all decimals, if there is room for it
+pub exact_fits : (exact room : ℕ) (v : ℤ) (text : Option (List ℕ)) → ((p : ℕ) → exact ≤ p → short v p ≡ written v exact) → exact ≤ 6 → text ≡ (if nat_le (length (written v exact)) room then Some (written v exact) else None) → is_some text ≡ true →
+    text ≡ fitting 6 v room
+exact_fits exact room v text same few is some = elim (cases_Bool (nat_le (length (written v exact)) room)) [
+  | inl fit ↦ (let all : exact + (6 - exact) ≡ 6 = omega (arith, few) in
+      is ∙ rw fit (enough (6 - exact) exact room v same (grind (arith, nat_tests, fit)) ∙ ap (λ p. fitting p v room) all))
+  | inr past ↦ absurd (
+      let no : is_some (if nat_le (length (written v exact)) room then Some (written v exact) else None) ≡ false = rw past refl in
+      let both : true ≡ false = sym some ∙ ap (λ (t : Option (List ℕ)). is_some t) is ∙ no in cc)
 ]

@@ -12,7 +12,7 @@ use crate::push::{fill, push, put_spaces};
 use crate::{DateForm, Shape, shape_of};
 use fixed_value::{
     Digits, Fixed, digits_len, rounds_to_zero, whole_len, write_decimal, write_exact,
-    write_hundredfold, write_short, written_len,
+    write_fitting, write_hundredfold,
 };
 use grid_address::Format;
 use lics_text::Line;
@@ -96,28 +96,26 @@ fn most_places(value: Fixed, room: usize) -> u8
 }
 
 // A number with as many decimals as fit, at most so many.
-#[tactic(auto, using(crate::proofs::Fitting::fits, crate::proofs::Fitting::one_less, crate::proofs::Fitting::nothing_fits))]
 fn rounded(value: Fixed, most: u8, room: usize) -> Option<Digits>
     requires { most ≤ 6 }
     ensures { result ≡ fitting most value room }
 {
-    let mut places = most;
-    while usize::from(written_len(value, places)) > room {
-        if places == 0 {
-            return None;
+    for less in 0..most {
+        let text = write_fitting(value, most - less, room);
+        if text.is_some() {
+            return text;
         }
-        places -= 1;
     }
-    Some(write_short(value, places))
+    write_fitting(value, 0, room)
 }
 
 // A number with as many decimals as fit, at most six.
 fn fitting(value: Fixed, room: usize) -> Option<Digits>
     ensures { result ≡ fitting 6 value room }
 {
-    let text = write_exact(value);
-    if text.bytes().len() <= room {
-        return Some(text);
+    let text = write_exact(value, room);
+    if text.is_some() {
+        return text;
     }
     rounded(value, most_places(value, room), room)
 }

@@ -1,6 +1,6 @@
 -- The decimals that a number has are enough: with more of them its short text is the same.
 use Rattle.std.specs.Int.RustNames.{int_lt}
-use Rattle.std.proofs.Common.{◌≡◌, ℕ, zero, suc, ◌+◌, ◌-◌, ◌*◌, ◌/◌, ◌%◌, ◌^◌, ◌≤◌, ◌<◌, true, List, [], ◌∷◌, ◌++◌, length, take, drop, replicate, refl, sym, ap, ◌∙◌, arith, inl, inr}
+use Rattle.std.proofs.Common.{◌≡◌, ℕ, zero, suc, ◌+◌, ◌-◌, ◌*◌, ◌/◌, ◌%◌, ◌^◌, ◌≤◌, ◌<◌, Bool, true, List, [], ◌∷◌, ◌++◌, length, take, drop, replicate, refl, sym, ap, ◌∙◌, arith, inl, inr}
 use Rattle.std.specs.Prelude.{◌==◌, ◌&&◌, not, nat_lt, ℤ, pos, nat_abs}
 use Rattle.std.proofs.Math.Nat.{div-div-eq-div-mul, mul-le-mul_right}
 use Rattle.std.proofs.Math.Nat.{div-lt_iff_lt-mul, mul-div-le}
@@ -8,9 +8,9 @@ use Rattle.std.proofs.lemmas.Bool.{cases_Bool, eqb-true}
 use Rattle.std.proofs.lemmas.List.{append-nil}
 use Rattle.std.proofs.lemmas.Bool.Decides.{nat_tests}
 use Rattle.std.proofs.lemmas.Nat.{pow-add}
-use Rattle.fixed_value.specs.Written.{decimals, fixed_digits, minus_sign, scaled, short, whole_len, without_last_zeros, without_zeros, written}
+use Rattle.fixed_value.specs.Written.{decimals, fixed_digits, minus_sign, pointed, scaled, short, whole_len, without_last_zeros, without_zeros, written}
 use Rattle.fixed_value.proofs.LastDigits.{count_more, digit_stays, one_digit, raised, zero_gone, zeros_behind}
-use Rattle.fixed_value.proofs.Kept.{front_kept, last_kept, len_with_point, same_text, zero_raised, zeros_dropped}
+use Rattle.fixed_value.proofs.Kept.{front_kept, last_kept, len_of_short, len_with_point, same_text, short_is, sixth, zero_raised, zeros_dropped}
 use Rattle.fixed_value.proofs.Places.{power_positive, ten_more}
 use Rattle.fixed_value.proofs.Written.{fixed_digits_length, nearest_exact, stripped_stays}
 
@@ -92,6 +92,20 @@ pub enough_places : (v : ℤ) (places : ℕ) → decimals v ≤ places → short
 enough_places v places enough =
     let s = stripped 6 (nat_abs v) in
     same_from v places s.left s.rest s.size s.number (omega (arith, enough, left_is v s)) s.digits ∙ ap (written v) (left_is v s)
+
+-- the text with the decimals that a number has, and its length
+pub exact_is : (v : ℤ) (n left rest : ℕ) (minus : Bool) → n ≡ nat_abs v → nat_abs v ≤ 999999999999999 → minus ≡ int_lt v (pos 0) → fixed_digits left rest ≡ without_last_zeros (fixed_digits 6 n) → rest / 10 ^ left ≡ n / 10 ^ 6 → (rest == 0) ≡ (n == 0) →
+    minus_sign (minus && not (rest == 0)) ++ (without_zeros (fixed_digits 10 (rest / 10 ^ left)) ++ pointed (fixed_digits left rest ++ replicate 0 48)) ≡ written v (decimals v)
+exact_is v n left rest minus size within sign digits whole none =
+    short_is v 6 6 n left rest minus within (omega arith) (size ∙ sym (sixth v within)) sign digits whole none ∙ enough_places v 6 (few_decimals v)
+
+pub exact_len : (v : ℤ) (n left rest : ℕ) → n ≡ nat_abs v → nat_abs v ≤ 999999999999999 → fixed_digits left rest ≡ without_last_zeros (fixed_digits 6 n) → rest / 10 ^ left ≡ n / 10 ^ 6 → (rest == 0) ≡ (n == 0) →
+    length (minus_sign (int_lt v (pos 0) && not (n == 0))) + length (without_zeros (fixed_digits 10 (n / 1000000))) + length (pointed (fixed_digits left rest)) ≡ length (written v (decimals v))
+exact_len v n left rest size within digits whole none =
+    let text = len_of_short v left rest (int_lt v (pos 0)) (written v (decimals v)) refl (sym (exact_is v n left rest (int_lt v (pos 0)) size within refl digits whole none)) in
+    let signs : length (minus_sign (int_lt v (pos 0) && not (rest == 0))) ≡ length (minus_sign (int_lt v (pos 0) && not (n == 0))) = ap (λ k. length (minus_sign (int_lt v (pos 0) && not k))) none in
+    let wholes : length (without_zeros (fixed_digits 10 (rest / 10 ^ left))) ≡ length (without_zeros (fixed_digits 10 (n / 1000000))) = ap (λ k. length (without_zeros (fixed_digits 10 k))) whole in
+    omega (arith, text, signs, wholes)
 
 -- a larger number has no fewer digits
 no_shorter : (k a b : ℕ) → a ≤ b → b < 10 ^ k → length (without_zeros (fixed_digits k a)) ≤ length (without_zeros (fixed_digits k b))

@@ -1,7 +1,7 @@
 -- Six places tell all of a number; past these there are zeros.
 use Rattle.std.specs.Int.RustNames.{int_lt}
-use Rattle.std.proofs.Common.{◌≡◌, ℕ, zero, suc, ◌+◌, ◌-◌, ◌*◌, ◌/◌, ◌^◌, ◌≤◌, ◌<◌, Bool, false, List, [], ◌∷◌, ◌++◌, length, take, drop, replicate, min, refl, sym, ap, ◌∙◌, arith, inl, inr, append_assoc, length-append}
-use Rattle.std.specs.Prelude.{◌==◌, ◌&&◌, not, nat_le, ℤ, pos, nat_abs}
+use Rattle.std.proofs.Common.{◌≡◌, ℕ, zero, suc, ◌+◌, ◌-◌, ◌*◌, ◌/◌, ◌^◌, ◌≤◌, ◌<◌, Bool, true, false, Some, None, List, [], ◌∷◌, ◌++◌, length, take, drop, replicate, min, refl, sym, ap, ◌∙◌, arith, inl, inr, append_assoc, length-append}
+use Rattle.std.specs.Prelude.{◌==◌, ◌&&◌, not, nat_le, ℤ, pos, nat_abs, if◌then◌else◌}
 use Rattle.std.proofs.lemmas.Bool.{cases_Bool, eqb-true}
 use Rattle.std.proofs.lemmas.List.{append-nil}
 use Rattle.std.proofs.lemmas.Bool.Decides.{nat_tests}
@@ -96,13 +96,13 @@ hundredfold_below n k most =
     omega (arith, twice, most)
 
 -- how long a written number is
-pointed_len : (ds : List ℕ) → 0 < length ds → length (pointed ds) ≡ 1 + length ds
+pub pointed_len : (ds : List ℕ) → 0 < length ds → length (pointed ds) ≡ 1 + length ds
 pointed_len [] some = absurd (omega (arith, some))
 pointed_len (d ∷ ds) some = omega arith
 
-no_point : (ds : List ℕ) → length ds ≡ 0 → length (pointed ds) ≡ 0
-no_point [] none = refl
-no_point (d ∷ ds) none = absurd (omega (arith, none))
+text_len : (minus none : Bool) (whole places : List ℕ) → length (signed_text minus none whole places) ≡ length (minus_sign (minus && not none)) + (length (without_zeros whole) + length (pointed places))
+text_len minus none whole places =
+    length-append (minus_sign (minus && not none)) (without_zeros whole ++ pointed places) ∙ ap (λ k. length (minus_sign (minus && not none)) + k) (length-append (without_zeros whole) (pointed places))
 
 parts_len : (v : ℤ) (places n : ℕ) → n ≡ scaled v places → length (written v places) ≡ length (minus_sign (int_lt v (pos 0) && not (n == 0))) + (length (without_zeros (fixed_digits 10 (n / 10 ^ places))) + length (pointed (fixed_digits places n)))
 parts_len v places n number =
@@ -112,8 +112,7 @@ parts_len v places n number =
     let last : drop 10 (fixed_digits (10 + places) (scaled v places)) ≡ fixed_digits places n = last_kept 10 places 0 places n (scaled v places) all value ∙ append-nil (fixed_digits places n) in
     let text = same_text (int_lt v (pos 0)) (int_lt v (pos 0)) (n == 0) (scaled v places == 0) (fixed_digits 10 (n / 10 ^ places)) (take 10 (fixed_digits (10 + places) (scaled v places))) (fixed_digits places n) (drop 10 (fixed_digits (10 + places) (scaled v places)))
     refl (ap (λ k. k == 0) number) (sym front) (sym last) in
-    sym (ap length text) ∙ length-append (minus_sign (int_lt v (pos 0) && not (n == 0))) (without_zeros (fixed_digits 10 (n / 10 ^ places)) ++ pointed (fixed_digits places n))
-    ∙ ap (λ k. length (minus_sign (int_lt v (pos 0) && not (n == 0))) + k) (length-append (without_zeros (fixed_digits 10 (n / 10 ^ places))) (pointed (fixed_digits places n)))
+    sym (ap length text) ∙ text_len (int_lt v (pos 0)) (n == 0) (fixed_digits 10 (n / 10 ^ places)) (fixed_digits places n)
 
 pub len_with_point : (v : ℤ) (places n sign whole : ℕ) → n ≡ scaled v places → 0 < places → sign ≡ length (minus_sign (int_lt v (pos 0) && not (n == 0))) → whole ≡ length (without_zeros (fixed_digits 10 (n / 10 ^ places))) →
     sign + whole + 1 + places ≡ length (written v places)
@@ -121,8 +120,25 @@ len_with_point v places n sign whole number some a b =
     let point : length (pointed (fixed_digits places n)) ≡ 1 + places = pointed_len (fixed_digits places n) (omega (arith, some, fixed_digits_length places n)) ∙ ap (λ k. 1 + k) (fixed_digits_length places n) in
     omega (arith, parts_len v places n number, point, a, b)
 
-pub len_of_whole : (v : ℤ) (places n sign whole : ℕ) → n ≡ scaled v places → places ≡ 0 → sign ≡ length (minus_sign (int_lt v (pos 0) && not (n == 0))) → whole ≡ length (without_zeros (fixed_digits 10 (n / 10 ^ places))) →
-    sign + whole ≡ length (written v places)
-len_of_whole v places n sign whole number none a b =
-    let point : length (pointed (fixed_digits places n)) ≡ 0 = no_point (fixed_digits places n) (omega (arith, none, fixed_digits_length places n)) in
-    omega (arith, parts_len v places n number, point, a, b)
+-- how long a text is whose last zeros were left out, and how long it would be with them
+pub len_of_short : (v : ℤ) (left rest : ℕ) (minus : Bool) (text : List ℕ) → minus ≡ int_lt v (pos 0) → text ≡ minus_sign (minus && not (rest == 0)) ++ (without_zeros (fixed_digits 10 (rest / 10 ^ left)) ++ pointed (fixed_digits left rest ++ replicate 0 48)) →
+    length text ≡ length (minus_sign (int_lt v (pos 0) && not (rest == 0))) + (length (without_zeros (fixed_digits 10 (rest / 10 ^ left))) + length (pointed (fixed_digits left rest)))
+len_of_short v left rest minus text sign is =
+    ap length is ∙ text_len minus (rest == 0) (fixed_digits 10 (rest / 10 ^ left)) (fixed_digits left rest ++ replicate 0 48)
+    ∙ ap (λ m. length (minus_sign (m && not (rest == 0))) + (length (without_zeros (fixed_digits 10 (rest / 10 ^ left))) + length (pointed (fixed_digits left rest ++ replicate 0 48)))) sign
+    ∙ ap (λ (l : List ℕ). length (minus_sign (int_lt v (pos 0) && not (rest == 0))) + (length (without_zeros (fixed_digits 10 (rest / 10 ^ left))) + length (pointed l))) (append-nil (fixed_digits left rest))
+
+pub len_with_zeros : (v : ℤ) (places n left rest : ℕ) (minus : Bool) (text : List ℕ) → n ≡ scaled v places → minus ≡ int_lt v (pos 0) → rest / 10 ^ left ≡ n / 10 ^ places → (rest == 0) ≡ (n == 0) →
+    text ≡ minus_sign (minus && not (rest == 0)) ++ (without_zeros (fixed_digits 10 (rest / 10 ^ left)) ++ pointed (fixed_digits left rest ++ replicate 0 48)) →
+    length (written v places) + length (pointed (fixed_digits left rest)) ≡ length text + length (pointed (fixed_digits places n))
+len_with_zeros v places n left rest minus text number sign whole none is =
+    let signs : length (minus_sign (int_lt v (pos 0) && not (rest == 0))) ≡ length (minus_sign (int_lt v (pos 0) && not (n == 0))) = ap (λ k. length (minus_sign (int_lt v (pos 0) && not k))) none in
+    let wholes : length (without_zeros (fixed_digits 10 (rest / 10 ^ left))) ≡ length (without_zeros (fixed_digits 10 (n / 10 ^ places))) = ap (λ k. length (without_zeros (fixed_digits 10 k))) whole in
+    omega (arith, len_of_short v left rest minus text sign is, parts_len v places n number, signs, wholes)
+
+-- a text where there is room for it, and none where there isn't
+pub room_for : (len room : ℕ) (text wanted : List ℕ) → len ≤ room → text ≡ wanted → Some text ≡ (if nat_le len room then Some wanted else None)
+room_for len room text wanted fits is = (let test : nat_le len room ≡ true = grind (arith, nat_tests, fits) in ap (λ (l : List ℕ). Some l) is ∙ rw test refl)
+
+pub no_room_for : (len room : ℕ) (wanted : List ℕ) → room < len → None ≡ (if nat_le len room then Some wanted else None)
+no_room_for len room wanted past = (let test : nat_le len room ≡ false = grind (arith, nat_tests, past) in rw test refl)

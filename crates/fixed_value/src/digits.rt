@@ -1,6 +1,6 @@
 // Decimals as they are written.
 ghost use Rattle.std.specs.Int.RustNames.{int_lt};
-ghost use Rattle.std.specs.Prelude.{◌≡◌, ◌≤◌, ◌<◌, ◌+◌, ◌/◌, ◌^◌, ◌++◌, ◌&&◌, ◌==◌, not, length, replicate, ℕ, ℤ, pos, nat_abs};
+ghost use Rattle.std.specs.Prelude.{◌≡◌, ◌≤◌, ◌<◌, ◌+◌, ◌/◌, ◌^◌, ◌++◌, ◌&&◌, ◌==◌, if◌then◌else◌, not, length, nat_le, replicate, ℕ, ℤ, pos, nat_abs, Some, None};
 ghost use Rattle.fixed_value.specs.Decimals.{decimal_of};
 ghost use Rattle.fixed_value.specs.Written.{decimals, fixed_digits, hundredfold, minus_sign, pointed, scaled, short, without_last_zeros, whole_len, without_zeros, written};
 ghost use Rattle.fixed_value.specs.declared.decimal.Decimal.TheVariants.{Num};
@@ -101,22 +101,6 @@ fn size_of(value: Fixed) -> u64
     value.millionths().unsigned_abs()
 }
 
-// What stands before so many digits.
-fn before(number: u64, places: u8) -> u64
-    requires { places ≤ 6 }
-    ensures { result ≡ number / 10 ^ places }
-{
-    match places {
-        0 => number,
-        1 => number / 10,
-        2 => number / 100,
-        3 => number / 1_000,
-        4 => number / 10_000,
-        5 => number / 100_000,
-        _ => number / 1_000_000,
-    }
-}
-
 // Whether it is below zero.
 fn is_minus(value: Fixed) -> bool
     ensures { result ≡ int_lt value (pos 0) }
@@ -125,11 +109,19 @@ fn is_minus(value: Fixed) -> bool
 }
 
 // How long the sign of a number is, of which none stands where all digits are zero.
-fn sign_len(value: Fixed, number: u64) -> u8
+fn sign_len(value: Fixed, number: u64) -> usize
     ensures len { result ≡ length (minus_sign (int_lt value (pos 0) && not (number == 0))) }
     ensures most { result ≤ 1 }
 {
     if is_minus(value) && number != 0 { 1 } else { 0 }
+}
+
+// How long so many places are with the point, which stands only where there are places.
+fn behind_len(places: u8) -> usize
+    ensures len { (number : ℕ) → result ≡ length (pointed (fixed_digits places number)) }
+    ensures most { result ≤ 1 + places }
+{
+    if places > 0 { 1 + usize::from(places) } else { 0 }
 }
 
 // Writes a number of units of the last place, and so many zeros behind its places.
@@ -219,14 +211,34 @@ pub fn write_hundredfold(value: Fixed, places: u8) -> Digits
     write(is_minus(value), number, kept, places - kept, 12)
 }
 
-/// Writes a number with the decimals that it has, without zeros at their end: with more places its short text is
-/// the same.
-pub fn write_exact(value: Fixed) -> Digits
-    ensures text { result ≡ written value (decimals value) }
+/// Writes a number with the decimals that it has, without zeros at their end, where that takes at most so many
+/// bytes, and else answers none: with more places its short text is the same.
+pub fn write_exact(value: Fixed, room: usize) -> Option<Digits>
+    ensures text { result ≡ (if nat_le (length (written value (decimals value))) room then Some (written value (decimals value)) else None) }
     ensures few { decimals value ≤ 6 }
     ensures enough { (places : ℕ) → decimals value ≤ places → short value places ≡ written value (decimals value) }
 {
-    write_short(value, 6)
+    let size = size_of(value);
+    let (number, places) = without_zeros_at_end(size, 6);
+    let whole = usize::from(count_digits(size / 1_000_000));
+    if sign_len(value, size) + whole + behind_len(places) > room {
+        return None;
+    }
+    Some(write(is_minus(value), number, places, 0, 10))
+}
+
+/// Writes a number with at most so many places, at most 6, without the zeros at their end, where it would take at
+/// most so many bytes with these zeros, and else answers none.
+pub fn write_fitting(value: Fixed, places: u8, room: usize) -> Option<Digits>
+    requires { places ≤ 6 }
+    ensures { result ≡ (if nat_le (length (written value places)) room then Some (short value places) else None) }
+{
+    let (number, left) = without_zeros_at_end(scaled(value, places), places);
+    let text = write(is_minus(value), number, left, 0, 10);
+    if text.bytes().len() - behind_len(left) + behind_len(places) > room {
+        return None;
+    }
+    Some(text)
 }
 
 /// How many whole digits a number has, at least one: with places it is at least so long, a point and the places.
@@ -236,21 +248,6 @@ pub fn whole_len(value: Fixed) -> u8
     ensures least { (places : ℕ) → 0 < places → result + 1 + places ≤ length (written value places) }
 {
     count_digits(size_of(value) / 1_000_000)
-}
-
-/// How long a number is when it is written with so many places, at most 6.
-pub fn written_len(value: Fixed, places: u8) -> u8
-    requires { places ≤ 6 }
-    ensures { result ≡ length (written value places) }
-{
-    let number = scaled(value, places);
-    let whole = count_digits(before(number, places));
-    let sign = sign_len(value, number);
-    if places > 0 {
-        sign + whole + 1 + places
-    } else {
-        sign + whole
-    }
 }
 
 /// A number that is written with six places or more is read back as itself.
