@@ -29,10 +29,11 @@ tried_fits places room v text is some = elim (cases_Bool (nat_le (length (writte
   | inr none ↦ absurd (let no : is_some (tried places v room) ≡ false = rw none refl in let both : true ≡ false = sym some ∙ ap (λ (t : Option (List ℕ)). is_some t) is ∙ no in cc)
 ]
 
-pub tried_more : (places room : ℕ) (v : ℤ) (text : Option (List ℕ)) → text ≡ tried places v room → is_some text ≡ false → 0 < places → fitting (places - 1) v room ≡ fitting places v room
-tried_more places room v text is none more = elim (cases_Bool (nat_le (length (written v places)) room)) [
-  | inl fit ↦ absurd (let yes : is_some (tried places v room) ≡ true = rw fit refl in let both : false ≡ true = sym none ∙ ap (λ (t : Option (List ℕ)). is_some t) is ∙ yes in cc)
-  | inr past ↦ one_less places room v (grind (arith, nat_tests, past)) more
+pub tried_more : (places room : ℕ) (v : ℤ) (text : Option (List ℕ)) → text ≡ tried places v room → is_some text ≡ false → fitting (places - 1) v room ≡ fitting places v room
+tried_more zero room v text is none = refl
+tried_more (suc p) room v text is none = elim (cases_Bool (nat_le (length (written v (suc p))) room)) [
+  | inl fit ↦ absurd (let yes : is_some (tried (suc p) v room) ≡ true = rw fit refl in let both : false ≡ true = sym none ∙ ap (λ (t : Option (List ℕ)). is_some t) is ∙ yes in cc)
+  | inr past ↦ one_less (suc p) room v (grind (arith, nat_tests, past)) (omega arith)
 ]
 
 pub tried_last : (room : ℕ) (v : ℤ) → tried 0 v room ≡ fitting 0 v room

@@ -87,12 +87,12 @@ fn percent_text(value: Fixed, places: u8) -> Line
 }
 
 // The most places, up to six, for which there may be room beside the whole digits and the point.
-fn most_places(value: Fixed, room: usize) -> u8
+fn most_places(value: Fixed, whole: u8, room: usize) -> u8
+    requires { (places : ℕ) → 0 < places → whole + 1 + places ≤ length (written value places) }
     ensures few { result ≤ 6 }
     ensures most { (places : ℕ) → result < places → places ≤ 6 → room < length (written value places) }
 {
-    let whole = usize::from(whole_len(value));
-    room.saturating_sub(whole + 1).min(6) as u8
+    room.saturating_sub(usize::from(whole) + 1).min(6) as u8
 }
 
 // A number with as many decimals as fit, at most so many.
@@ -107,17 +107,6 @@ fn rounded(value: Fixed, most: u8, room: usize) -> Option<Digits>
         }
     }
     write_fitting(value, 0, room)
-}
-
-// A number with as many decimals as fit, at most six.
-fn fitting(value: Fixed, room: usize) -> Option<Digits>
-    ensures { result ≡ fitting 6 value room }
-{
-    let text = write_exact(value, room);
-    if text.is_some() {
-        return text;
-    }
-    rounded(value, most_places(value, room), room)
 }
 
 /// Adds a number in a cell of that width, by the format byte. A number that is too long is shown as stars;
@@ -196,7 +185,33 @@ fn put_general(value: Fixed, width: usize, into: &mut Line)
     requires { length into.old + width ≤ 240 }
     ensures { into.new ≡ into.old ++ placed (fitting 6 value (width - 1)) width }
 {
-    match fitting(value, width.saturating_sub(1)) {
+    let room = width.saturating_sub(1);
+    let whole = whole_len(value);
+    match write_exact(value, whole, room) {
+        Some(text) => put_right(text.bytes(), width, into),
+        None => put_rounded(value, most_places(value, whole, room), width, into),
+    }
+}
+
+// Adds a number with as many decimals as fit, at most so many, or stars.
+fn put_rounded(value: Fixed, most: u8, width: usize, into: &mut Line)
+    requires most { most ≤ 6 }
+    requires room { length into.old + width ≤ 240 }
+    ensures { into.new ≡ into.old ++ placed (fitting most value (width - 1)) width }
+{
+    match write_fitting(value, most, width.saturating_sub(1)) {
+        Some(text) => put_right(text.bytes(), width, into),
+        None => put_fewer(value, most.saturating_sub(1), width, into),
+    }
+}
+
+// Adds a number with as many decimals as fit, at most so many, or stars, where one decimal more was too many.
+fn put_fewer(value: Fixed, most: u8, width: usize, into: &mut Line)
+    requires most { most ≤ 6 }
+    requires room { length into.old + width ≤ 240 }
+    ensures { into.new ≡ into.old ++ placed (fitting most value (width - 1)) width }
+{
+    match rounded(value, most, width.saturating_sub(1)) {
         Some(text) => put_right(text.bytes(), width, into),
         None => fill(into, b'*', width),
     }

@@ -81,7 +81,7 @@ fn scaled(value: Fixed, places: u8) -> u64
     ensures whole { result / 10 ^ places ≤ 1000000000 }
     ensures size { nat_abs value ≤ 999999999999999 }
 {
-    let size = value.millionths().unsigned_abs();
+    let size = size_of(value);
     match places {
         0 => (size + 500_000) / 1_000_000,
         1 => (size + 50_000) / 100_000,
@@ -211,17 +211,17 @@ pub fn write_hundredfold(value: Fixed, places: u8) -> Digits
     write(is_minus(value), number, kept, places - kept, 12)
 }
 
-/// Writes a number with the decimals that it has, without zeros at their end, where that takes at most so many
-/// bytes, and else answers none: with more places its short text is the same.
-pub fn write_exact(value: Fixed, room: usize) -> Option<Digits>
+/// Writes a number of so many whole digits with the decimals that it has, without zeros at their end, where that
+/// takes at most so many bytes, and else answers none: with more places its short text is the same.
+pub fn write_exact(value: Fixed, whole: u8, room: usize) -> Option<Digits>
+    requires { whole ≡ whole_len value }
     ensures text { result ≡ (if nat_le (length (written value (decimals value))) room then Some (written value (decimals value)) else None) }
     ensures few { decimals value ≤ 6 }
     ensures enough { (places : ℕ) → decimals value ≤ places → short value places ≡ written value (decimals value) }
 {
     let size = size_of(value);
     let (number, places) = without_zeros_at_end(size, 6);
-    let whole = usize::from(count_digits(size / 1_000_000));
-    if sign_len(value, size) + whole + behind_len(places) > room {
+    if sign_len(value, size) + usize::from(whole) + behind_len(places) > room {
         return None;
     }
     Some(write(is_minus(value), number, places, 0, 10))

@@ -2,4 +2,4 @@ use Rattle.std.proofs.Common.{arith}
 use Rattle.cell_format.proofs.numbers.most_places.Goals as goal
 
 pub returns-clause-most : goal.returns-clause-most
-returns-clause-most c places more few = omega (arith, more, few, c.whole_len.ensures.least places (omega (arith, more)))
+returns-clause-most c places more few = omega (arith, more, few, c.requires places (omega (arith, more)))

@@ -12,7 +12,7 @@ loop-less-preserved c =
     let fewer : c.args.most - (c.loop-less.less + 1) ≡ c.args.most - c.loop-less.less - 1 = omega arith in (
       omega arith,
       ap (λ p. fitting p c.args.value c.args.room) fewer
-          ∙ tried_more (c.args.most - c.loop-less.less) c.args.room c.args.value c.write_fitting-text.result c.write_fitting-text.ensures (sym c.is_some.ensures ∙ c.if-is_some.false) (omega arith)
+          ∙ tried_more (c.args.most - c.loop-less.less) c.args.room c.args.value c.write_fitting-text.result c.write_fitting-text.ensures (sym c.is_some.ensures ∙ c.if-is_some.false)
           ∙ c.loop-less.invariant.1,
     )
 
