@@ -121,7 +121,11 @@ fn behind_len(places: u8) -> usize
     ensures len { (number : ℕ) → result ≡ length (pointed (fixed_digits places number)) }
     ensures most { result ≤ 1 + places }
 {
-    if places > 0 { 1 + usize::from(places) } else { 0 }
+    if places > 0 {
+        1 + usize::from(places)
+    } else {
+        0
+    }
 }
 
 // Writes a number of units of the last place, and so many zeros behind its places.
