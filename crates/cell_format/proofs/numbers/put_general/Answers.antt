@@ -20,4 +20,4 @@ returns-in-None c =
     c.put_rounded.ensures
     ∙ ap (λ (t : Option (List ℕ)). c.args.into.now ++ placed t c.args.width)
     (ap (λ r. fitting most c.args.value r) (sym c.saturating_sub-room.ensures) ∙ skipped (6 - most) most room c.args.value c.most_places.ensures.most (omega (arith, all)) ∙ ap (λ p. fitting p c.args.value room) all
-        ∙ ap (λ r. fitting 6 c.args.value r) c.saturating_sub-room.ensures)
+    ∙ ap (λ r. fitting 6 c.args.value r) c.saturating_sub-room.ensures)

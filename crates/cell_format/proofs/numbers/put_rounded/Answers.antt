@@ -16,4 +16,4 @@ returns-in-None c =
     c.put_fewer.ensures
     ∙ ap (λ (t : Option (List ℕ)). c.args.into.now ++ placed t c.args.width)
     (ap (λ most. fitting most c.args.value (c.args.width - 1)) c.saturating_sub-in-None.ensures ∙ ap (λ room. fitting (c.args.most - 1) c.args.value room) (sym c.saturating_sub.ensures) ∙ fewer
-        ∙ ap (λ room. fitting c.args.most c.args.value room) c.saturating_sub.ensures)
+    ∙ ap (λ room. fitting c.args.most c.args.value room) c.saturating_sub.ensures)
