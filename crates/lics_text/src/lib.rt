@@ -8,6 +8,7 @@ mod faults;
 mod line;
 mod names;
 mod places;
+mod prefix;
 #[cfg(test)]
 mod tests;
 mod text;
@@ -18,6 +19,7 @@ pub use bytes::TextByte;
 pub use faults::{Memory, TextFault};
 pub use line::Line;
 pub use names::{is_name, name_in};
+pub use prefix::LabelPrefix;
 pub use text::Text;
 pub use text_line::TextLine;
 
