@@ -1,5 +1,6 @@
 pub mod Address
 pub mod Axes
+pub mod Formats
 pub mod Leads
 pub mod Place
 pub mod Progress
