@@ -3,10 +3,11 @@ use Rattle.std.proofs.Common.{◌≡◌, ◌+◌, ◌≤◌, ℕ, Bool, true, fa
 use Rattle.std.specs.List.{list_all}
 use Rattle.std.proofs.lemmas.Bool.Decides.{nat_tests}
 use Rattle.grid_address.specs.Axes.{Reference}
-use Rattle.formula_tree.specs.declared.ast.Function.{Function}
+use Rattle.formula_tree.specs.declared.function.Function.{Function}
 use Rattle.formula_tree.specs.declared.ast.ExprList.{ExprList}
 use Rattle.formula_tree.specs.declared.ast.Expr.{Expr}
 use Rattle.formula_tree.specs.declared.ast.Expr.TheVariants.{Call}
+use Rattle.formula_tree.specs.declared.function.Function.TheVariants as function
 use Rattle.formula_tree.specs.Tree.{Tree, num, str, cell, span, group, neg, not, binary, call, Trees, no_trees, trees}
 use Rattle.formula_tree.specs.Ranges.{is_ranged}
 use Rattle.formula_tree.specs.Redirected.{all_redirected, cell_or_error, error_call, redirected, span_or_error}
@@ -16,8 +17,8 @@ use Rattle.formula_tree.specs.View.{tree_of, trees_in, listed}
 use Rattle.formula_tree.proofs.Rows.{tree_of-Call}
 
 -- a call without arguments
-pub no_arguments : (f : Function) (args : ExprList) → trees_in args ≡ [] → tree_of (Call f args) ≡ call f.0 no_trees
-no_arguments f args none = tree_of-Call f args ∙ ap (λ ts. call f.0 (listed ts)) none
+pub no_arguments : (f : Function) (args : ExprList) → trees_in args ≡ [] → tree_of (Call f args) ≡ call f no_trees
+no_arguments f args none = tree_of-Call f args ∙ ap (λ ts. call f (listed ts)) none
 
 abbrev New : Type 0
 New = Reference → Option Reference
@@ -92,8 +93,7 @@ count_kept new no_trees = refl
 count_kept new (trees a ts) = ap (λ k. 1 + k) (count_kept new ts)
 
 -- @ERR takes no arguments
-error_counted : takes (counts_of 32) 0 ≡ true
-unfolding counts_of
+error_counted : takes (counts_of function.Err) 0 ≡ true
 error_counted = refl
 
 error_fine : every is_fine error_call ≡ true
@@ -170,7 +170,7 @@ all_listed new (e ∷ es) = ap (trees (redirected new (tree_of e))) (all_listed 
 -- a call whose arguments were redirected
 pub call_redirected : (new : New) (f : Function) (args list : ExprList) → trees_in list ≡ map (λ e. redirected new (tree_of e)) args.items.items → tree_of (Call f list) ≡ redirected new (tree_of (Call f args))
 call_redirected new f args list is =
-    tree_of-Call f list ∙ ap (λ ts. call f.0 (listed ts)) is ∙ ap (call f.0) (all_listed new args.items.items) ∙ ap (redirected new) (sym (tree_of-Call f args))
+    tree_of-Call f list ∙ ap (λ ts. call f (listed ts)) is ∙ ap (call f) (all_listed new args.items.items) ∙ ap (redirected new) (sym (tree_of-Call f args))
 
 every_listed : (es : List Expr) → list_all (λ e. every is_ranged (tree_of e)) es ≡ every_one is_ranged (listed (map tree_of es))
 every_listed [] = refl

@@ -6,7 +6,7 @@ use Rattle.grid_address.specs.Place.{Place}
 use Rattle.formula_tree.specs.Spans.{any_volatile, is_volatile, spans_of, spans_of_all}
 use Rattle.std.proofs.lemmas.Bool.Decides.{nat_tests}
 use mathlib.Core.Former.{Count}
-use Rattle.formula_tree.specs.declared.ast.Function.{Function}
+use Rattle.formula_tree.specs.declared.function.Function.{Function}
 use Rattle.formula_tree.specs.declared.ast.ExprList.{ExprList}
 use Rattle.formula_tree.specs.declared.ast.Expr.{Expr, Row_of-Expr, end_of-Expr, more_of-Expr, items-the_row-Expr, items_hidden-the_row-Expr-0}
 use Rattle.formula_tree.specs.declared.ast.Expr.TheVariants.{Call', Call}
@@ -24,10 +24,10 @@ row_is n end_of-Expr = refl
 row_is n (more_of-Expr e rest) = ap (trees (tree_of e)) (row_is _ rest)
 
 -- the tree of a call
-pub tree_of-Call : (f : Function) (args : ExprList) → tree_of (Call f args) ≡ call f.0 (listed (map tree_of args.items.items))
+pub tree_of-Call : (f : Function) (args : ExprList) → tree_of (Call f args) ≡ call f (listed (map tree_of args.items.items))
 tree_of-Call f args =
     let row = row_of (Call f args) in
-    ap (call f.0) (row_is row.0 row.1 ∙ ap (λ es. listed (map tree_of es)) (items_hidden-the_row-Expr-0 args.items))
+    ap (call f) (row_is row.0 row.1 ∙ ap (λ es. listed (map tree_of es)) (items_hidden-the_row-Expr-0 args.items))
 
 pub count_listed : (es : List Expr) → length es ≡ count (listed (map tree_of es))
 count_listed [] = refl

@@ -1,5 +1,5 @@
 -- A tree is told from another by its code. Nothing else reads it.
-use Rattle.std.specs.Prelude.{◌≡◌, ℕ, zero, suc, ℤ, pos, negsuc, List, [], ◌∷◌, refl}
+use Rattle.std.specs.Prelude.{◌≡◌, ℕ, zero, suc, ℤ, pos, negsuc, List, [], ◌∷◌, get_or, refl}
 use Rattle.std.specs.Coded.{Coded}
 use mathlib.Core.Path.{sym, ◌∙◌, ap}
 use base.Stored.{Gv, gnil, gnum, gcons}
@@ -8,6 +8,9 @@ use Rattle.grid_address.specs.declared.reference.Axis.TheVariants.{Fixed, Offset
 use Rattle.grid_address.specs.Axes.{Reference}
 use Rattle.formula_tree.specs.declared.ast.Op.{Op}
 use Rattle.formula_tree.specs.declared.ast.Op.TheVariants.{Pow, Mul, Div, Add, Sub, Eq, Ne, Lt, Gt, Le, Ge, And, Or, Join}
+use Rattle.formula_tree.specs.declared.function.Function.{Function}
+use Rattle.formula_tree.specs.declared.function.Function.TheVariants as function
+use Rattle.formula_tree.specs.Table.{functions}
 use Rattle.formula_tree.specs.Tree.{Tree, num, str, cell, span, group, neg, not, binary, call, Trees, no_trees, trees}
 
 abbrev z_code : ℤ → Gv
@@ -106,6 +109,124 @@ op_back And = refl
 op_back Or = refl
 op_back Join = refl
 
+-- a function by its place among all
+abbrev function_code : Function → ℕ
+function_code function.Na = 0
+function_code function.Err = 1
+function_code function.Abs = 2
+function_code function.Int = 3
+function_code function.Mod = 4
+function_code function.Choose = 5
+function_code function.IsNa = 6
+function_code function.IsErr = 7
+function_code function.False = 8
+function_code function.True = 9
+function_code function.Date = 10
+function_code function.Now = 11
+function_code function.If = 12
+function_code function.Day = 13
+function_code function.Month = 14
+function_code function.Year = 15
+function_code function.Round = 16
+function_code function.Time = 17
+function_code function.Hour = 18
+function_code function.Minute = 19
+function_code function.Second = 20
+function_code function.IsNumber = 21
+function_code function.IsString = 22
+function_code function.Length = 23
+function_code function.Value = 24
+function_code function.String = 25
+function_code function.Mid = 26
+function_code function.Char = 27
+function_code function.Code = 28
+function_code function.Find = 29
+function_code function.DateValue = 30
+function_code function.TimeValue = 31
+function_code function.CellPointer = 32
+function_code function.Sum = 33
+function_code function.Avg = 34
+function_code function.Count = 35
+function_code function.Min = 36
+function_code function.Max = 37
+function_code function.VLookup = 38
+function_code function.HLookup = 39
+function_code function.Index = 40
+function_code function.Cols = 41
+function_code function.Rows = 42
+function_code function.Repeat = 43
+function_code function.Upper = 44
+function_code function.Lower = 45
+function_code function.Left = 46
+function_code function.Right = 47
+function_code function.Replace = 48
+function_code function.Proper = 49
+function_code function.Cell = 50
+function_code function.Trim = 51
+function_code function.Clean = 52
+function_code function.Exact = 53
+function_code function.Pointed = 54
+
+abbrev function_from : ℕ → Function
+function_from n = get_or functions n function.Na
+
+function_back : (f : Function) → function_from (function_code f) ≡ f
+function_back function.Na = refl
+function_back function.Err = refl
+function_back function.Abs = refl
+function_back function.Int = refl
+function_back function.Mod = refl
+function_back function.Choose = refl
+function_back function.IsNa = refl
+function_back function.IsErr = refl
+function_back function.False = refl
+function_back function.True = refl
+function_back function.Date = refl
+function_back function.Now = refl
+function_back function.If = refl
+function_back function.Day = refl
+function_back function.Month = refl
+function_back function.Year = refl
+function_back function.Round = refl
+function_back function.Time = refl
+function_back function.Hour = refl
+function_back function.Minute = refl
+function_back function.Second = refl
+function_back function.IsNumber = refl
+function_back function.IsString = refl
+function_back function.Length = refl
+function_back function.Value = refl
+function_back function.String = refl
+function_back function.Mid = refl
+function_back function.Char = refl
+function_back function.Code = refl
+function_back function.Find = refl
+function_back function.DateValue = refl
+function_back function.TimeValue = refl
+function_back function.CellPointer = refl
+function_back function.Sum = refl
+function_back function.Avg = refl
+function_back function.Count = refl
+function_back function.Min = refl
+function_back function.Max = refl
+function_back function.VLookup = refl
+function_back function.HLookup = refl
+function_back function.Index = refl
+function_back function.Cols = refl
+function_back function.Rows = refl
+function_back function.Repeat = refl
+function_back function.Upper = refl
+function_back function.Lower = refl
+function_back function.Left = refl
+function_back function.Right = refl
+function_back function.Replace = refl
+function_back function.Proper = refl
+function_back function.Cell = refl
+function_back function.Trim = refl
+function_back function.Clean = refl
+function_back function.Exact = refl
+function_back function.Pointed = refl
+
 abbrev mutual
   pub tree_code : Tree → Gv
   tree_code (num z) = gcons (gnum 0) (z_code z)
@@ -116,7 +237,7 @@ abbrev mutual
   tree_code (neg a) = gcons (gnum 5) (tree_code a)
   tree_code (not a) = gcons (gnum 6) (tree_code a)
   tree_code (binary o a b) = gcons (gcons gnil (gnum (op_code o))) (gcons (tree_code a) (tree_code b))
-  tree_code (call f ts) = gcons (gcons (gnum f) gnil) (trees_code ts)
+  tree_code (call f ts) = gcons (gcons (gnum (function_code f)) gnil) (trees_code ts)
 
   pub trees_code : Trees → Gv
   trees_code no_trees = gnil
@@ -132,7 +253,7 @@ abbrev mutual
   tree_from (gcons (gnum (suc (suc (suc (suc (suc zero)))))) g) = neg (tree_from g)
   tree_from (gcons (gnum (suc (suc (suc (suc (suc (suc n))))))) g) = not (tree_from g)
   tree_from (gcons (gcons gnil o) (gcons a b)) = binary (op_of o) (tree_from a) (tree_from b)
-  tree_from (gcons (gcons (gnum f) g) ts) = call f (trees_from ts)
+  tree_from (gcons (gcons (gnum f) g) ts) = call (function_from f) (trees_from ts)
   tree_from _ = num (pos 0)
 
   pub trees_from : Gv → Trees
@@ -149,7 +270,7 @@ mutual
   tree_back (neg a) = ap neg (tree_back a)
   tree_back (not a) = ap not (tree_back a)
   tree_back (binary o a b) = λ i. binary (op_back o i) (tree_back a i) (tree_back b i)
-  tree_back (call f ts) = ap (call f) (trees_back ts)
+  tree_back (call f ts) = λ i. call (function_back f i) (trees_back ts i)
 
   pub trees_back : (ts : Trees) → trees_from (trees_code ts) ≡ ts
   trees_back no_trees = refl

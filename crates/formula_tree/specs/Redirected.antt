@@ -1,11 +1,12 @@
 -- A tree whose references lead elsewhere.
 use Rattle.std.specs.Prelude.{Option, Some, None}
 use Rattle.grid_address.specs.Axes.{Reference}
+use Rattle.formula_tree.specs.declared.function.Function.TheVariants as function
 use Rattle.formula_tree.specs.Tree.{Tree, num, str, cell, span, group, neg, not, binary, call, Trees, no_trees, trees}
 
--- the call of @ERR, whose code is 32
+-- the call of @ERR
 abbrev pub error_call : Tree
-error_call = call 32 no_trees
+error_call = call function.Err no_trees
 
 -- a reference to a cell, or @ERR where the cell is lost
 abbrev pub cell_or_error : Option Reference → Tree

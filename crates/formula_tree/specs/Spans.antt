@@ -3,7 +3,7 @@ use Rattle.std.specs.Prelude.{Bool, false, ◌||◌, List, [], ◌∷◌, ◌++�
 use Rattle.grid_address.specs.Place.{Place, Extent}
 use Rattle.grid_address.specs.Place.{spanned}
 use Rattle.grid_address.specs.Leads.{resolve}
-use Rattle.formula_tree.specs.Table.{is_one_of, volatile_codes}
+use Rattle.formula_tree.specs.Table.{is_volatile_function}
 use Rattle.formula_tree.specs.Tree.{Tree, num, str, cell, span, group, neg, not, binary, call, Trees, no_trees, trees}
 
 -- the spans of the references, from left to right
@@ -34,7 +34,7 @@ abbrev mutual
   is_volatile (neg a) = is_volatile a
   is_volatile (not a) = is_volatile a
   is_volatile (binary op a b) = is_volatile a || is_volatile b
-  is_volatile (call f ts) = is_one_of volatile_codes f || any_volatile ts
+  is_volatile (call f ts) = is_volatile_function f || any_volatile ts
 
   pub any_volatile : Trees → Bool
   any_volatile no_trees = false

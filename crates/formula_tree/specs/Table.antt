@@ -1,55 +1,99 @@
--- The functions that a formula may call, by their codes (worksheet file format).
-use Rattle.std.specs.Prelude.{ℕ, Bool, false, ◌==◌, ◌&&◌, nat_le, Option, Some, None, List, [], ◌∷◌, if◌then◌else◌}
-use Rattle.std.specs.List.{list_any}
+-- How functions are called (Release 2 manual).
+use Rattle.std.specs.Prelude.{ℕ, Bool, true, false, ◌==◌, ◌&&◌, nat_le, List, [], ◌∷◌}
+use Rattle.formula_tree.specs.declared.function.Function.{Function}
+use Rattle.formula_tree.specs.declared.function.Function.TheVariants as function
 use Rattle.formula_tree.specs.declared.table.Counts.{Counts}
+use Rattle.formula_tree.specs.declared.table.Counts.TheVariants.{Exactly, AtLeast}
 
-abbrev pub is_one_of : List ℕ → ℕ → Bool
-is_one_of codes code = list_any (λ c. c == code) codes
+-- all of them
+abbrev pub functions : List Function
+functions =
+    function.Na ∷ function.Err ∷ function.Abs ∷ function.Int ∷ function.Mod ∷ function.Choose
+    ∷ function.IsNa ∷ function.IsErr ∷ function.False ∷ function.True ∷ function.Date ∷ function.Now
+    ∷ function.If ∷ function.Day ∷ function.Month ∷ function.Year ∷ function.Round ∷ function.Time
+    ∷ function.Hour ∷ function.Minute ∷ function.Second ∷ function.IsNumber ∷ function.IsString ∷ function.Length
+    ∷ function.Value ∷ function.String ∷ function.Mid ∷ function.Char ∷ function.Code ∷ function.Find
+    ∷ function.DateValue ∷ function.TimeValue ∷ function.CellPointer ∷ function.Sum ∷ function.Avg ∷ function.Count
+    ∷ function.Min ∷ function.Max ∷ function.VLookup ∷ function.HLookup ∷ function.Index ∷ function.Cols
+    ∷ function.Rows ∷ function.Repeat ∷ function.Upper ∷ function.Lower ∷ function.Left ∷ function.Right
+    ∷ function.Replace ∷ function.Proper ∷ function.Cell ∷ function.Trim ∷ function.Clean ∷ function.Exact
+    ∷ function.Pointed ∷ []
 
--- NA, ERR, FALSE, TRUE and NOW
-abbrev pub none_taken : List ℕ
-none_taken = 31 ∷ 32 ∷ 51 ∷ 52 ∷ 55 ∷ []
+-- how many arguments a function takes
+abbrev pub counts_of : Function → Counts
+counts_of function.Na = Exactly 0
+counts_of function.Err = Exactly 0
+counts_of function.Abs = Exactly 1
+counts_of function.Int = Exactly 1
+counts_of function.Mod = Exactly 2
+counts_of function.Choose = AtLeast 2
+counts_of function.IsNa = Exactly 1
+counts_of function.IsErr = Exactly 1
+counts_of function.False = Exactly 0
+counts_of function.True = Exactly 0
+counts_of function.Date = Exactly 3
+counts_of function.Now = Exactly 0
+counts_of function.If = Exactly 3
+counts_of function.Day = Exactly 1
+counts_of function.Month = Exactly 1
+counts_of function.Year = Exactly 1
+counts_of function.Round = Exactly 2
+counts_of function.Time = Exactly 3
+counts_of function.Hour = Exactly 1
+counts_of function.Minute = Exactly 1
+counts_of function.Second = Exactly 1
+counts_of function.IsNumber = Exactly 1
+counts_of function.IsString = Exactly 1
+counts_of function.Length = Exactly 1
+counts_of function.Value = Exactly 1
+counts_of function.String = Exactly 2
+counts_of function.Mid = Exactly 3
+counts_of function.Char = Exactly 1
+counts_of function.Code = Exactly 1
+counts_of function.Find = Exactly 3
+counts_of function.DateValue = Exactly 1
+counts_of function.TimeValue = Exactly 1
+counts_of function.CellPointer = Exactly 1
+counts_of function.Sum = AtLeast 1
+counts_of function.Avg = AtLeast 1
+counts_of function.Count = AtLeast 1
+counts_of function.Min = AtLeast 1
+counts_of function.Max = AtLeast 1
+counts_of function.VLookup = Exactly 3
+counts_of function.HLookup = Exactly 3
+counts_of function.Index = Exactly 3
+counts_of function.Cols = Exactly 1
+counts_of function.Rows = Exactly 1
+counts_of function.Repeat = Exactly 2
+counts_of function.Upper = Exactly 1
+counts_of function.Lower = Exactly 1
+counts_of function.Left = Exactly 2
+counts_of function.Right = Exactly 2
+counts_of function.Replace = Exactly 4
+counts_of function.Proper = Exactly 1
+counts_of function.Cell = Exactly 2
+counts_of function.Trim = Exactly 1
+counts_of function.Clean = Exactly 1
+counts_of function.Exact = Exactly 2
+counts_of function.Pointed = Exactly 1
 
--- ABS, INT, ISNA, ISERR, DAY, MONTH, YEAR, HOUR, MINUTE, SECOND, ISNUMBER, ISSTRING, LENGTH, VALUE, CHAR, CODE, DATEVALUE, TIMEVALUE, CELLPOINTER, COLS, ROWS, UPPER, LOWER, PROPER, TRIM, CLEAN and @@
-abbrev pub one_taken : List ℕ
-one_taken = 33 ∷ 34 ∷ 49 ∷ 50 ∷ 60 ∷ 61 ∷ 62 ∷ 65 ∷ 66 ∷ 67 ∷ 68 ∷ 69 ∷ 70 ∷ 71 ∷ 74 ∷ 75 ∷ 77 ∷ 78 ∷ 79 ∷ 99 ∷ 100 ∷ 102 ∷ 103 ∷ 107 ∷ 109 ∷ 110 ∷ 115 ∷ []
+-- exactly so many, or at least so many and at most 255
+abbrev pub takes : Counts → ℕ → Bool
+takes (Exactly wanted) count = wanted == count
+takes (AtLeast least) count = nat_le least count && nat_le count 255
 
--- MOD, ROUND, STRING, REPEAT, LEFT, RIGHT, CELL and EXACT
-abbrev pub two_taken : List ℕ
-two_taken = 47 ∷ 63 ∷ 72 ∷ 101 ∷ 104 ∷ 105 ∷ 108 ∷ 113 ∷ []
+-- whether a function's value changes by itself
+abbrev pub is_volatile_function : Function → Bool
+is_volatile_function function.Now = true
+is_volatile_function function.Cell = true
+is_volatile_function function.CellPointer = true
+is_volatile_function function.Pointed = true
+is_volatile_function f = false
 
--- DATE, IF, TIME, MID, FIND, VLOOKUP, HLOOKUP and INDEX
-abbrev pub three_taken : List ℕ
-three_taken = 54 ∷ 59 ∷ 64 ∷ 73 ∷ 76 ∷ 85 ∷ 90 ∷ 98 ∷ []
-
--- SUM, AVG, COUNT, MIN and MAX
-abbrev pub lists_taken : List ℕ
-lists_taken = 80 ∷ 81 ∷ 82 ∷ 83 ∷ 84 ∷ []
-
--- at least and at most so many arguments; none for a code that no formula may call. 106 is REPLACE and 48 is CHOOSE.
-unfoldable pub counts_of : ℕ → Option Counts
-counts_of code =
-    if is_one_of none_taken code then Some (record { least = 0; most = 0 })
-    else if is_one_of one_taken code then Some (record { least = 1; most = 1 })
-    else if is_one_of two_taken code then Some (record { least = 2; most = 2 })
-    else if is_one_of three_taken code then Some (record { least = 3; most = 3 })
-    else if code == 106 then Some (record { least = 4; most = 4 })
-    else if code == 48 then Some (record { least = 2; most = 255 })
-    else if is_one_of lists_taken code then Some (record { least = 1; most = 255 })
-    else None
-
-abbrev pub takes : Option Counts → ℕ → Bool
-takes None count = false
-takes (Some counts) count = nat_le counts.least count && nat_le count counts.most
-
--- DSUM, DAVG, DCOUNT, DMIN and DMAX
-abbrev pub data_codes : List ℕ
-data_codes = 91 ∷ 92 ∷ 93 ∷ 94 ∷ 95 ∷ []
-
--- NOW, CELLPOINTER, CELL, @@ and the five above
-abbrev pub volatile_codes : List ℕ
-volatile_codes = 55 ∷ 79 ∷ 108 ∷ 115 ∷ data_codes
+abbrev pub counts_size : Counts → ℕ
+counts_size (Exactly wanted) = 1
+counts_size (AtLeast least) = 2
 
 -- what a call takes of the code of a formula: the count of its arguments is written where it is free
-abbrev pub call_size : ℕ → ℕ
-call_size code = if is_one_of (48 ∷ lists_taken) code then 2 else 1
+abbrev pub call_size : Function → ℕ
+call_size f = counts_size (counts_of f)

@@ -15,7 +15,7 @@ abbrev mutual
   tree_of (Neg' p a) = neg (tree_of a)
   tree_of (Not' p a) = not (tree_of a)
   tree_of (Binary' op p a q b) = binary op (tree_of a) (tree_of b)
-  tree_of (Call' f shape args) = call f.0 (row_trees args)
+  tree_of (Call' f shape args) = call f (row_trees args)
 
   pub row_trees : {m : _} → Row_of-Expr m → Trees
   row_trees end_of-Expr = no_trees

@@ -2,6 +2,7 @@
 ghost use Rattle.std.specs.Prelude.{◌≡◌, ◌≤◌, ◌<◌, ◌++◌, ◌∷◌, [], length, OnOk, OnErr};
 ghost use Rattle.formula_tree.specs.View.{tree_of, trees_in};
 
+use crate::Function;
 use fixed_value::Fixed;
 use grid_address::Ref;
 use lics_text::{Memory, Text};
@@ -25,10 +26,6 @@ pub enum Op {
     Or,
     Join,
 }
-
-/// A function, by its code (worksheet file format).
-#[derive(Clone, Copy, Debug, PartialEq, Eq)]
-pub struct Function(pub u8);
 
 /// A tree. A group is what stands in brackets.
 #[derive(Drop)]

@@ -117,7 +117,7 @@ impl Formula {
         Ok(spans)
     }
 
-    /// Whether a function whose value changes by itself is called: NOW, CELL, CELLPOINTER, @@ or a data function.
+    /// Whether a function whose value changes by itself is called: NOW, CELL, CELLPOINTER or @@.
     pub fn is_volatile(&self) -> bool
         ensures { result ≡ is_volatile self.now }
     {

@@ -5,7 +5,7 @@ ghost use Rattle.formula_tree.specs.Spans.{is_volatile, spans_of};
 ghost use Rattle.formula_tree.specs.View.{tree_of};
 
 use crate::Expr;
-use crate::table::is_volatile_code;
+use crate::table::is_volatile_function;
 use grid_address::{Cell, Span, SpanList};
 use lics_text::Memory;
 
@@ -53,7 +53,7 @@ pub fn is_volatile(expr: &Expr) -> bool
         Expr::Num(_) | Expr::Str(_) | Expr::Cell(_) | Expr::Span(_, _) => false,
         Expr::Group(inner) | Expr::Neg(inner) | Expr::Not(inner) => is_volatile(inner),
         Expr::Binary(_, left, right) => is_volatile(left) || is_volatile(right),
-        Expr::Call(function, args) => is_volatile_code(*function) || any_volatile(&args.items),
+        Expr::Call(function, args) => is_volatile_function(*function) || any_volatile(&args.items),
     }
 }
 

@@ -24,15 +24,12 @@ pub trait Redirect {
         ensures { result ≡ new_reference self.now reference };
 }
 
-// The function @ERR.
-const ERR: Function = Function(0x20);
-
 // The call of @ERR. It takes no memory.
 fn error_call(alloc: Global) -> Expr
     ensures tree { tree_of result ≡ error_call }
     ensures ranged { every is_ranged (tree_of result) ≡ true }
 {
-    Expr::Call(ERR, ExprList::new(alloc))
+    Expr::Call(Function::Err, ExprList::new(alloc))
 }
 
 // A reference to a cell redirected.

@@ -1,8 +1,8 @@
 // Worked rows of trees.
-use crate::{Content, Expr, ExprList, Formula, Function, Op, TreeFault, Value, counts_of};
+use crate::{Content, Expr, ExprList, Formula, Function, Op, TreeFault, Value};
 use fixed_value::Fixed;
 use grid_address::{Cell, Ref, Span};
-use lics_text::Text;
+use lics_text::{LabelPrefix, Text};
 use std::alloc::Global;
 use std::process::Abort;
 use std::test::Fail;
@@ -25,12 +25,12 @@ fn binary<R: Abort>(rt: &R, alloc: Global, op: Op, left: Expr, right: Expr) -> E
     Expr::Binary(op, boxed(rt, alloc, left), boxed(rt, alloc, right))
 }
 
-fn call<R: Abort>(rt: &R, alloc: Global, code: u8, count: u32) -> Expr {
+fn call<R: Abort>(rt: &R, alloc: Global, function: Function, count: u32) -> Expr {
     let mut args = ExprList::new(alloc);
     for _ in 0..count {
         args.push(number(rt, 1_000_000)).expect(rt, "memory");
     }
-    Expr::Call(Function(code), args)
+    Expr::Call(function, args)
 }
 
 fn fault(answer: Result<Formula, TreeFault>) -> Option<TreeFault> {
@@ -43,28 +43,25 @@ fn fault(answer: Result<Formula, TreeFault>) -> Option<TreeFault> {
 #[test]
 fn functions_take_their_arguments(rt: HostRuntime) -> Result<(), Fail> {
     let alloc = rt.alloc();
-    for (code, count, shaped) in [
-        (0x1Fu8, 0u32, true),
-        (0x1F, 1, false),
-        (0x21, 1, true),
-        (0x21, 0, false),
-        (0x21, 2, false),
-        (0x30, 1, false),
-        (0x30, 2, true),
-        (0x30, 255, true),
-        (0x30, 256, false),
-        (0x50, 0, false),
-        (0x50, 1, true),
-        (0x50, 255, true),
-        (0x50, 256, false),
-        (0x6A, 4, true),
-        (0x62, 3, true),
-        (0x73, 1, true),
-        (0x23, 1, false),
-        (0x5B, 3, false),
-        (0xFF, 0, false),
+    for (function, count, shaped) in [
+        (Function::Na, 0u32, true),
+        (Function::Na, 1, false),
+        (Function::Abs, 1, true),
+        (Function::Abs, 0, false),
+        (Function::Abs, 2, false),
+        (Function::Choose, 1, false),
+        (Function::Choose, 2, true),
+        (Function::Choose, 255, true),
+        (Function::Choose, 256, false),
+        (Function::Sum, 0, false),
+        (Function::Sum, 1, true),
+        (Function::Sum, 255, true),
+        (Function::Sum, 256, false),
+        (Function::Replace, 4, true),
+        (Function::Index, 3, true),
+        (Function::Pointed, 1, true),
     ] {
-        let made = fault(Formula::of(alloc, call(&rt, alloc, code, count)));
+        let made = fault(Formula::of(alloc, call(&rt, alloc, function, count)));
         assert_eq!(rt;
             made,
             if shaped {
@@ -74,18 +71,6 @@ fn functions_take_their_arguments(rt: HostRuntime) -> Result<(), Fail> {
             }
         );
     }
-    Ok(())
-}
-
-#[test]
-fn fifty_five_functions_are_kept(rt: HostRuntime) -> Result<(), Fail> {
-    let mut kept = 0u32;
-    for code in 0..=255u8 {
-        if counts_of(Function(code)).is_some() {
-            kept = kept.wrapping_add(1);
-        }
-    }
-    assert_eq!(rt; kept, 55);
     Ok(())
 }
 
@@ -182,7 +167,7 @@ fn texts<R: Abort>(rt: &R, alloc: Global, count: u32) -> Expr {
         args.push(text(rt, alloc, &[b'x'; 240]))
             .expect(rt, "memory");
     }
-    Expr::Call(Function(0x50), args)
+    Expr::Call(Function::Sum, args)
 }
 
 // 1 for the whole, 2 for each of three calls, 242 for each text and 9 for each number: 65,520 where there are
@@ -197,7 +182,7 @@ fn code_has_at_most_65520_bytes(rt: HostRuntime) -> Result<(), Fail> {
         for _ in 0..numbers {
             args.push(number(&rt, 1)).expect(&rt, "memory");
         }
-        let made = fault(Formula::of(alloc, Expr::Call(Function(0x50), args)));
+        let made = fault(Formula::of(alloc, Expr::Call(Function::Sum, args)));
         assert_eq!(rt;
             made,
             if shaped {
@@ -222,7 +207,7 @@ fn formulas_read_from_left_to_right(rt: HostRuntime) -> Result<(), Fail> {
     let last = Ref::of(b2, at, false, false);
     args.push(Expr::Span(first, last)).expect(&rt, "memory");
     args.push(a1).expect(&rt, "memory");
-    let tree = Expr::Call(Function(0x50), args);
+    let tree = Expr::Call(Function::Sum, args);
     let formula = Formula::of(alloc, tree).expect(&rt, "a formula");
     let reads = formula.reads(at).expect(&rt, "memory");
     assert_eq!(rt; reads.len(), 2);
@@ -238,20 +223,20 @@ fn formulas_read_from_left_to_right(rt: HostRuntime) -> Result<(), Fail> {
 #[test]
 fn some_functions_are_volatile(rt: HostRuntime) -> Result<(), Fail> {
     let alloc = rt.alloc();
-    for (code, count, volatile) in [
-        (0x37u8, 0u32, true),
-        (0x4F, 1, true),
-        (0x6C, 2, true),
-        (0x73, 1, true),
-        (0x1F, 0, false),
-        (0x62, 3, false),
+    for (function, count, volatile) in [
+        (Function::Now, 0u32, true),
+        (Function::CellPointer, 1, true),
+        (Function::Cell, 2, true),
+        (Function::Pointed, 1, true),
+        (Function::Na, 0, false),
+        (Function::Index, 3, false),
     ] {
         let tree = binary(
             &rt,
             alloc,
             Op::Add,
             number(&rt, 1),
-            call(&rt, alloc, code, count),
+            call(&rt, alloc, function, count),
         );
         let formula = Formula::of(alloc, groups(&rt, alloc, 3, tree)).expect(&rt, "a formula");
         assert_eq!(rt; formula.is_volatile(), volatile);
@@ -263,9 +248,12 @@ fn some_functions_are_volatile(rt: HostRuntime) -> Result<(), Fail> {
 fn contents_and_values_are_copied(rt: HostRuntime) -> Result<(), Fail> {
     let alloc = rt.alloc();
     let label = Text::from_bytes(alloc, b"Rent").expect(&rt, "a text");
-    let copy = Content::Label(b'^', label).copy().expect(&rt, "memory");
+    let copy = Content::Label(LabelPrefix::Center, label)
+        .copy()
+        .expect(&rt, "memory");
     let found = match &copy {
-        Content::Label(prefix, text) => *prefix == b'^' && text.bytes() == b"Rent".as_slice(),
+        Content::Label(prefix, text) => *prefix == LabelPrefix::Center
+            && text.bytes() == b"Rent".as_slice(),
         _ => false,
     };
     assert!(rt; found);

@@ -4,7 +4,7 @@ ghost use Rattle.formula_tree.specs.Values.{is_filled};
 
 use crate::Formula;
 use fixed_value::Fixed;
-use lics_text::{Memory, Text};
+use lics_text::{LabelPrefix, Memory, Text};
 
 /// A cell's value. A formula's value is never blank.
 #[derive(Drop)]
@@ -41,12 +41,12 @@ impl Value {
     }
 }
 
-/// What a cell holds: nothing, a number, a label with its prefix byte and the text behind it, or a formula.
+/// What a cell holds: nothing, a number, a label with its prefix and the text behind it, or a formula.
 #[derive(Drop)]
 pub enum Content {
     Blank,
     Number(Fixed),
-    Label(u8, Text),
+    Label(LabelPrefix, Text),
     Formula(Formula),
 }
 

@@ -2,7 +2,7 @@ use Rattle.std.proofs.Common.{◌≡◌, map, ap, sym, ◌∙◌}
 use Rattle.formula_tree.specs.declared.ast.ExprList.{ExprList}
 use Rattle.formula_tree.specs.declared.ast.Expr.{Expr}
 use Rattle.formula_tree.specs.declared.ast.Expr.TheVariants.{Call}
-use Rattle.formula_tree.specs.declared.ast.Function.{Function}
+use Rattle.formula_tree.specs.declared.function.Function.{Function}
 use Rattle.formula_tree.specs.Ranges.{is_ranged}
 use Rattle.formula_tree.specs.Redirected.{redirected}
 use Rattle.formula_tree.specs.Shape.{every}
