@@ -6,7 +6,7 @@ use Rattle.std.proofs.lemmas.Bool.Decides.{nat_tests}
 use Rattle.fixed_value.specs.Written.{short}
 use Rattle.grid_address.specs.Place.{InSheet, Place}
 use Rattle.range_names.specs.Names.{AreKeys, NameMap}
-use Rattle.formula_tree.specs.declared.ast.Function.{Function as Coded}
+use Rattle.formula_tree.specs.declared.function.Function.{Function as AtFunction}
 use Rattle.formula_tree.specs.Ranges.{is_ranged, is_reference}
 use Rattle.formula_tree.specs.Shape.{count, every, every_one, is_bracketed, is_counted, is_fine, is_plain}
 use Rattle.formula_tree.specs.Table.{counts_of, takes}
@@ -98,14 +98,14 @@ module _ (names : NameMap) (at_cell : Place) (keyed : AreKeys names) (inside : I
   leaf bytes rest kind at bs part stops = ap (λ ls. operand_first ls bs) (part_cut names at_cell bytes rest kind at part stops)
 
   -- a function without arguments is a constant, and no function takes none or more
-  no_args : (f : ℕ) → takes (counts_of f) 0 ≡ true → kind_of f ≡ Constant (record { 0 = f })
+  no_args : (f : AtFunction) → takes (counts_of f) 0 ≡ true → kind_of f ≡ Constant f
   no_args f h = rw h refl
 
-  some_args : (f n : ℕ) → takes (counts_of f) (1 + n) ≡ true → kind_of f ≡ Function (record { 0 = f })
+  some_args : (f : AtFunction) (n : ℕ) → takes (counts_of f) (1 + n) ≡ true → kind_of f ≡ Function f
   some_args f n h = (let none = some_taken f n h in rw none refl)
 
-  bracket_open : (f : ℕ) (rest : List ℕ) (at : ℕ) (bs : Brackets) → bracket_first (parts at (40 ∷ rest)) (record { 0 = f }) bs ≡ operand_first (parts (at + 1) rest) (Call (record { 0 = f }) 0 ∷ bs)
-  bracket_open f rest at bs = ap (λ ls. bracket_first ls (record { 0 = f }) bs) (open_cut names at_cell rest at)
+  bracket_open : (f : AtFunction) (rest : List ℕ) (at : ℕ) (bs : Brackets) → bracket_first (parts at (40 ∷ rest)) f bs ≡ operand_first (parts (at + 1) rest) (Call f 0 ∷ bs)
+  bracket_open f rest at bs = ap (λ ls. bracket_first ls f bs) (open_cut names at_cell rest at)
 
   comma_stops : (rest : List ℕ) → Stops (44 ∷ rest)
   comma_stops rest = record { word = refl; point = refl }
@@ -165,47 +165,45 @@ module _ (names : NameMap) (at_cell : Place) (keyed : AreKeys names) (inside : I
         ∙ ap (λ k. behind (tokens a ++ (infix_op op ∷ tokens b)) k rest bs) end
     read_again (call f no_trees) rest at bs g r stops =
         let none = counted (call f no_trees) (left (is_fine (call f no_trees)) true g) in
-        leaf (codes "@" ++ name_of f) rest (kind_of f) at bs (function_part names at_cell f 0 none) stops
+        leaf (codes "@" ++ name_of f) rest (kind_of f) at bs (function_part names at_cell f) stops
         ∙ ap (λ k. operand_first (record { at = at; kind = k } ∷ parts (at + length (codes "@" ++ name_of f)) rest) bs) (no_args f none)
     read_again (call f (trees a ts)) rest at bs g r stops =
         let name : List ℕ = codes "@" ++ name_of f in
         let one : List ℕ = text_of names at_cell a in
         let more : List ℕ = more_text names at_cell ts in
-        let f_coded : Coded = record { 0 = f } in
         let gs = right (is_fine (call f (trees a ts))) (every is_fine a && every_one is_fine ts) g in
         let taken : takes (counts_of f) (1 + count ts) ≡ true = counted (call f (trees a ts)) (left (is_fine (call f (trees a ts))) (every is_fine a && every_one is_fine ts) g) in
         let begin : ℕ = at + length name + 1 in
         let last : ℕ = begin + length one + length more in
         let end : last ≡ at + length (name ++ (40 ∷ (one ++ more))) = omega (arith, length-append name (40 ∷ (one ++ more)), length-append one more) in
         ap (λ (l : List ℕ). operand_first (parts at l) bs) (append_assoc name (40 ∷ (one ++ more)) rest)
-        ∙ leaf name (40 ∷ ((one ++ more) ++ rest)) (kind_of f) at bs (function_part names at_cell f (1 + count ts) taken) (record { word = refl; point = refl })
+        ∙ leaf name (40 ∷ ((one ++ more) ++ rest)) (kind_of f) at bs (function_part names at_cell f) (record { word = refl; point = refl })
         ∙ ap (λ k. operand_first (record { at = at; kind = k } ∷ parts (at + length name) (40 ∷ ((one ++ more) ++ rest))) bs) (some_args f (count ts) taken)
         ∙ ap (after (called f ∷ [])) (
         bracket_open f ((one ++ more) ++ rest) (at + length name) bs
-        ∙ ap (λ (l : List ℕ). operand_first (parts begin l) (Call f_coded 0 ∷ bs)) (append_assoc one more rest)
-        ∙ read_again a (more ++ rest) begin (Call f_coded 0 ∷ bs) (left (every is_fine a) (every_one is_fine ts) gs) (left (every is_ranged a) (every_one is_ranged ts) r) (more_stops ts rest)
+        ∙ ap (λ (l : List ℕ). operand_first (parts begin l) (Call f 0 ∷ bs)) (append_assoc one more rest)
+        ∙ read_again a (more ++ rest) begin (Call f 0 ∷ bs) (left (every is_fine a) (every_one is_fine ts) gs) (left (every is_ranged a) (every_one is_ranged ts) r) (more_stops ts rest)
         ∙ ap (after (tokens a)) (more_again ts rest (begin + length one) f 0 bs (right (every is_fine a) (every_one is_fine ts) gs) (right (every is_ranged a) (every_one is_ranged ts) r) taken)
         ∙ after-after (tokens a) (more_tokens ts) (operator_first (parts last rest) bs))
         ∙ after-after (called f ∷ []) (tokens a ++ more_tokens ts) (operator_first (parts last rest) bs)
         ∙ ap (λ k. behind (called f ∷ (tokens a ++ more_tokens ts)) k rest bs) end
 
-    more_again : (ts : Trees) (rest : List ℕ) (at f n : ℕ) (bs : Brackets) → every_one is_fine ts ≡ true → every_one is_ranged ts ≡ true → takes (counts_of f) (n + 1 + count ts) ≡ true →
-        operator_first (parts at (more_text names at_cell ts ++ rest)) (Call (record { 0 = f }) n ∷ bs) ≡ behind (more_tokens ts) (at + length (more_text names at_cell ts)) rest bs
+    more_again : (ts : Trees) (rest : List ℕ) (at : ℕ) (f : AtFunction) (n : ℕ) (bs : Brackets) → every_one is_fine ts ≡ true → every_one is_ranged ts ≡ true → takes (counts_of f) (n + 1 + count ts) ≡ true →
+        operator_first (parts at (more_text names at_cell ts ++ rest)) (Call f n ∷ bs) ≡ behind (more_tokens ts) (at + length (more_text names at_cell ts)) rest bs
     more_again no_trees rest at f n bs g r h =
         let taken : takes (counts_of f) (n + 1) ≡ true = ap (takes (counts_of f)) (let e : n + 1 ≡ n + 1 + 0 = omega arith in e) ∙ h in
-        ap (λ ls. operator_first ls (Call (record { 0 = f }) n ∷ bs)) (close_cut names at_cell rest at)
+        ap (λ ls. operator_first ls (Call f n ∷ bs)) (close_cut names at_cell rest at)
         ∙ ap (λ c. cond c (after (closing ∷ []) (operator_first (parts (at + 1) rest) bs)) (Err (ArgCount at))) taken
     more_again (trees a ts) rest at f n bs g r h =
         let one : List ℕ = text_of names at_cell a in
         let more : List ℕ = more_text names at_cell ts in
-        let f_coded : Coded = record { 0 = f } in
         let last : ℕ = at + 1 + length one + length more in
         let taken : takes (counts_of f) (n + 1 + 1 + count ts) ≡ true = ap (takes (counts_of f)) (let e : n + 1 + 1 + count ts ≡ n + 1 + (1 + count ts) = omega arith in e) ∙ h in
         let end : last ≡ at + length (44 ∷ (one ++ more)) = omega (arith, length-append one more) in
-        ap (λ ls. operator_first ls (Call f_coded n ∷ bs)) (comma_cut names at_cell ((one ++ more) ++ rest) at)
-        ∙ ap (λ (l : List ℕ). after (comma ∷ []) (operand_first (parts (at + 1) l) (Call f_coded (n + 1) ∷ bs))) (append_assoc one more rest)
+        ap (λ ls. operator_first ls (Call f n ∷ bs)) (comma_cut names at_cell ((one ++ more) ++ rest) at)
+        ∙ ap (λ (l : List ℕ). after (comma ∷ []) (operand_first (parts (at + 1) l) (Call f (n + 1) ∷ bs))) (append_assoc one more rest)
         ∙ ap (after (comma ∷ [])) (
-        read_again a (more ++ rest) (at + 1) (Call f_coded (n + 1) ∷ bs) (left (every is_fine a) (every_one is_fine ts) g) (left (every is_ranged a) (every_one is_ranged ts) r) (more_stops ts rest)
+        read_again a (more ++ rest) (at + 1) (Call f (n + 1) ∷ bs) (left (every is_fine a) (every_one is_fine ts) g) (left (every is_ranged a) (every_one is_ranged ts) r) (more_stops ts rest)
         ∙ ap (after (tokens a)) (more_again ts rest (at + 1 + length one) f (n + 1) bs (right (every is_fine a) (every_one is_fine ts) g) (right (every is_ranged a) (every_one is_ranged ts) r) taken)
         ∙ after-after (tokens a) (more_tokens ts) (operator_first (parts last rest) bs))
         ∙ after-after (comma ∷ []) (tokens a ++ more_tokens ts) (operator_first (parts last rest) bs)

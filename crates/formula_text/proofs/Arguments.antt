@@ -2,7 +2,7 @@
 use Rattle.std.proofs.Common.{◌≡◌, ℕ, ◌+◌, ◌≤◌, Bool, true, ◌&&◌, List, [], ◌∷◌, ◌++◌, length, Option, Some, None, refl, sym, ap, ◌∙◌, arith, append_assoc, length-append}
 use Rattle.formula_tree.specs.declared.ast.Op.{Op}
 use Rattle.formula_tree.specs.declared.ast.Op.TheVariants.{Pow, Mul, Div, Add, Sub, Eq, Ne, Lt, Gt, Le, Ge, And, Or, Join}
-use Rattle.formula_tree.specs.declared.ast.Function.{Function as Coded}
+use Rattle.formula_tree.specs.declared.function.Function.{Function as AtFunction}
 use Rattle.formula_tree.specs.Tree.{Tree, call, no_trees}
 use Rattle.formula_tree.specs.Table.{counts_of, takes}
 use Rattle.formula_tree.specs.Shape.{count, every, every_one, level}
@@ -54,7 +54,7 @@ more_listed : (ts : List Tree) → more_tokens (listed ts) ≡ commaed ts ++ clo
 more_listed [] = refl
 more_listed (t ∷ ts) = ap (λ x. comma ∷ (tokens t ++ x)) (more_listed ts) ∙ ap (λ x. comma ∷ x) (sym (append_assoc (tokens t) (commaed ts) (closing ∷ [])))
 
-call_tokens : (f : ℕ) (t : Tree) (ts : List Tree) → tokens (call f (listed (t ∷ ts))) ≡ called f ∷ (joined (t ∷ ts) ++ closing ∷ [])
+call_tokens : (f : AtFunction) (t : Tree) (ts : List Tree) → tokens (call f (listed (t ∷ ts))) ≡ called f ∷ (joined (t ∷ ts) ++ closing ∷ [])
 call_tokens f t ts = ap (λ x. called f ∷ (tokens t ++ x)) (more_listed ts) ∙ ap (λ x. called f ∷ x) (sym (append_assoc (tokens t) (commaed ts) (closing ∷ [])))
 
 pair : (a b : Bool) → a ≡ true → b ≡ true → (a && b) ≡ true
@@ -75,7 +75,7 @@ counted_list [] = refl
 counted_list (t ∷ ts) = ap (λ n. 1 + n) (counted_list ts) ∙ (let e : 1 + length ts ≡ length (t ∷ ts) = omega arith in e)
 
 -- the first argument
-pub one_listed : (ls : List Lexeme) (f : Coded) (behind : List Lexeme) (t : Tree) (rest : List Lexeme) → Opens ls f behind → Reads behind 1 t rest → Listed ls f 0 (t ∷ []) rest
+pub one_listed : (ls : List Lexeme) (f : AtFunction) (behind : List Lexeme) (t : Tree) (rest : List Lexeme) → Opens ls f behind → Reads behind 1 t rest → Listed ls f 0 (t ∷ []) rest
 one_listed ls f behind t rest o r =
     record {
       spelled = λ bs. o.spelled bs ∙ r.spelled (Call f 0 ∷ bs) ∙ ap (λ x. after x (operator_first rest (Call f 0 ∷ bs))) (sym (no_more (tokens t)));
@@ -87,7 +87,7 @@ one_listed ls f behind t rest o r =
     }
 
 -- one more argument
-pub more_are_listed : (ls : List Lexeme) (f : Coded) (n : ℕ) (ts : List Tree) (rest next : List Lexeme) (u : Tree) (behind : List Lexeme) → Listed ls f n ts rest → Continues rest next → Reads next 1 u behind →
+pub more_are_listed : (ls : List Lexeme) (f : AtFunction) (n : ℕ) (ts : List Tree) (rest next : List Lexeme) (u : Tree) (behind : List Lexeme) → Listed ls f n ts rest → Continues rest next → Reads next 1 u behind →
     Listed ls f (n + 1) (ts ++ u ∷ []) behind
 more_are_listed ls f n ts rest next u behind l c r =
     record {
@@ -103,26 +103,26 @@ more_are_listed ls f n ts rest next u behind l c r =
     }
 
 -- all arguments, and the closing bracket
-pub call_is_read : (ls : List Lexeme) (f : Coded) (n : ℕ) (ts : List Tree) (rest behind : List Lexeme) → Listed ls f n ts rest → Completes rest f n behind → ReadsCall ls f (call f.0 (listed ts)) behind
+pub call_is_read : (ls : List Lexeme) (f : AtFunction) (n : ℕ) (ts : List Tree) (rest behind : List Lexeme) → Listed ls f n ts rest → Completes rest f n behind → ReadsCall ls f (call f (listed ts)) behind
 call_is_read ls f n [] rest behind l c = absurd (omega (arith, l.many))
 call_is_read ls f n (t ∷ ts) rest behind l c =
     record {
       spelled = λ bs.
-          ap (after (called f.0 ∷ [])) (l.spelled bs ∙ ap (after (joined (t ∷ ts))) (c.spelled bs) ∙ after-after (joined (t ∷ ts)) (closing ∷ []) (operator_first behind bs))
-          ∙ after-after (called f.0 ∷ []) (joined (t ∷ ts) ++ closing ∷ []) (operator_first behind bs)
-          ∙ ap (λ x. after x (operator_first behind bs)) (sym (call_tokens f.0 t ts));
+          ap (after (called f ∷ [])) (l.spelled bs ∙ ap (after (joined (t ∷ ts))) (c.spelled bs) ∙ after-after (joined (t ∷ ts)) (closing ∷ []) (operator_first behind bs))
+          ∙ after-after (called f ∷ []) (joined (t ∷ ts) ++ closing ∷ []) (operator_first behind bs)
+          ∙ ap (λ x. after x (operator_first behind bs)) (sym (call_tokens f t ts));
       well = l.well;
-      counted = pair _ _ (ap (takes (counts_of f.0)) (counted_list (t ∷ ts) ∙ l.many) ∙ c.taken) l.counted;
+      counted = pair _ _ (ap (takes (counts_of f)) (counted_list (t ∷ ts) ∙ l.many) ∙ c.taken) l.counted;
       tight = refl;
       edge = small (operator_of behind);
       shorter = omega (arith, l.shorter, c.shorter);
     }
 
-constant_operand : (k : Kind) (f : Coded) (at : ℕ) (rest : List Lexeme) → k ≡ Constant f → (bs : Brackets) → operand_first (record { at = at; kind = k } ∷ rest) bs ≡ after (tokens (call f.0 no_trees)) (operator_first rest bs)
+constant_operand : (k : Kind) (f : AtFunction) (at : ℕ) (rest : List Lexeme) → k ≡ Constant f → (bs : Brackets) → operand_first (record { at = at; kind = k } ∷ rest) bs ≡ after (tokens (call f no_trees)) (operator_first rest bs)
 constant_operand k f at rest h bs = ap (λ x. operand_first (record { at = at; kind = x } ∷ rest) bs) h
 
 -- a function without arguments
-pub constant_is_read : (ls : List Lexeme) (l : Lexeme) (f : Coded) (rest : List Lexeme) → ls ≡ l ∷ rest → l.kind ≡ Constant f → ReadsOperand ls (call f.0 no_trees) rest
+pub constant_is_read : (ls : List Lexeme) (l : Lexeme) (f : AtFunction) (rest : List Lexeme) → ls ≡ l ∷ rest → l.kind ≡ Constant f → ReadsOperand ls (call f no_trees) rest
 constant_is_read ls l f rest h k =
     record {
       spelled = λ bs. ap (λ x. operand_first x bs) h ∙ constant_operand l.kind f l.at rest k bs;

@@ -2,6 +2,7 @@
 use Rattle.std.proofs.Common.{◌≡◌, ℕ, zero, suc, ◌≤◌, length, take, List, [], ◌∷◌, ◌++◌, codes, arith, refl, sym, ap, ◌∙◌, append_assoc, append-nil}
 use Rattle.grid_address.specs.Place.{Place}
 use Rattle.range_names.specs.Names.{NameMap}
+use Rattle.formula_tree.specs.declared.function.Function.{Function as AtFunction}
 use Rattle.formula_tree.specs.Tree.{Tree, call}
 use Rattle.formula_tree.specs.declared.ast.Expr.{Expr}
 use Rattle.formula_tree.specs.View.{listed}
@@ -21,15 +22,15 @@ opened_more names at (t ∷ ts) u =
     ∙ ap (λ x. codes "(" ++ x) (sym (append_assoc (text_of names at t) (commaed names at ts) (codes "," ++ text_of names at u)))
 
 -- what stands of a function before one more argument
-pub begun_more : (names : NameMap) (at : Place) (f : ℕ) (ts : List Tree) (u : Tree) →
+pub begun_more : (names : NameMap) (at : Place) (f : AtFunction) (ts : List Tree) (u : Tree) →
     (codes "@" ++ (name_of f ++ opened names at ts)) ++ (mark_before ts ++ text_of names at u) ≡ codes "@" ++ (name_of f ++ opened names at (ts ++ u ∷ []))
 begun_more names at f ts u =
     ap (λ x. codes "@" ++ x) (append_assoc (name_of f) (opened names at ts) (mark_before ts ++ text_of names at u) ∙ ap (λ x. name_of f ++ x) (sym (opened_more names at ts u)))
 
-pub begun : (f : ℕ) → codes "@" ++ name_of f ≡ codes "@" ++ (name_of f ++ [])
+pub begun : (f : AtFunction) → codes "@" ++ name_of f ≡ codes "@" ++ (name_of f ++ [])
 begun f = ap (λ x. codes "@" ++ x) (sym (append-nil (name_of f)))
 
-pub ended : (names : NameMap) (at : Place) (f : ℕ) (ts : List Tree) → (codes "@" ++ (name_of f ++ opened names at ts)) ++ end_of ts ≡ call_text names at f ts
+pub ended : (names : NameMap) (at : Place) (f : AtFunction) (ts : List Tree) → (codes "@" ++ (name_of f ++ opened names at ts)) ++ end_of ts ≡ call_text names at f ts
 ended names at f ts = ap (λ x. codes "@" ++ x) (append_assoc (name_of f) (opened names at ts) (end_of ts))
 
 pub all_taken : (es : List Expr) (n : ℕ) → length es ≤ n → take n es ≡ es
@@ -48,7 +49,7 @@ more_listed names at (t ∷ ts) =
     ap (λ x. codes "," ++ (text_of names at t ++ x)) (more_listed names at ts)
     ∙ ap (λ x. codes "," ++ x) (sym (append_assoc (text_of names at t) (commaed names at ts) (codes ")")))
 
-pub call_is : (names : NameMap) (at : Place) (f : ℕ) (ts : List Tree) → call_text names at f ts ≡ text_of names at (call f (listed ts))
+pub call_is : (names : NameMap) (at : Place) (f : AtFunction) (ts : List Tree) → call_text names at f ts ≡ text_of names at (call f (listed ts))
 call_is names at f [] = ap (λ x. codes "@" ++ x) (append-nil (name_of f))
 call_is names at f (t ∷ ts) =
     ap (λ x. codes "@" ++ (name_of f ++ (codes "(" ++ x)))

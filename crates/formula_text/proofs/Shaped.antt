@@ -2,11 +2,13 @@
 use Rattle.std.proofs.Common.{◌≡◌, ℕ, suc, ◌+◌, ◌*◌, ◌≤◌, Bool, true, false, cond, ◌&&◌, nat_le, List, [], ◌∷◌, ◌++◌, length, Ok, Err, refl, subst, arith, length-append}
 use Rattle.std.proofs.lemmas.Bool.Decides.{nat_tests}
 use Rattle.std.specs.List.{list_all}
-use Rattle.formula_tree.specs.declared.ast.Function.{Function as Coded}
+use Rattle.formula_tree.specs.declared.function.Function.{Function as AtFunction}
 use Rattle.formula_tree.specs.declared.ast.Op.{Op}
 use Rattle.formula_tree.specs.declared.ast.Op.TheVariants.{Pow, Mul, Div, Add, Sub, Eq, Ne, Lt, Gt, Le, Ge, And, Or, Join}
 use Rattle.formula_tree.specs.Tree.{Tree, num, str, cell, span, group, neg, not, binary, call, Trees, no_trees, trees}
-use Rattle.formula_tree.specs.Table.{call_size, counts_of, is_one_of, lists_taken, takes}
+use Rattle.formula_tree.specs.Table.{call_size, counts_of, counts_size, takes}
+use Rattle.formula_tree.specs.declared.table.Counts.{Counts}
+use Rattle.formula_tree.specs.declared.table.Counts.TheVariants.{Exactly, AtLeast}
 use Rattle.formula_tree.specs.Shape.{all_sizes, depth, every, every_one, greatest_depth, is_bracketed, is_fine, is_short, nodes_size, not_negative, IsFormula}
 use Rattle.formula_text.specs.declared.fault.ParseFault.{ParseFault}
 use Rattle.formula_text.specs.declared.lexeme.Kind.{Kind}
@@ -57,15 +59,15 @@ front_fine And at bs n operand h = tt
 front_fine Or at bs n operand h = tt
 front_fine Join at bs n operand h = tt
 
-operand_fine : (k : Kind) (at : ℕ) (bs : Brackets) (n : ℕ) (operand operator : Brackets → Verdict) (bracket : Coded → Brackets → Verdict) →
-    is_fine_kind k ≡ true → ((b : Brackets) → Fine n (operand b)) → ((b : Brackets) → Fine n (operator b)) → ((f : Coded) (b : Brackets) → Fine n (bracket f b)) →
+operand_fine : (k : Kind) (at : ℕ) (bs : Brackets) (n : ℕ) (operand operator : Brackets → Verdict) (bracket : AtFunction → Brackets → Verdict) →
+    is_fine_kind k ≡ true → ((b : Brackets) → Fine n (operand b)) → ((b : Brackets) → Fine n (operator b)) → ((f : AtFunction) (b : Brackets) → Fine n (bracket f b)) →
     Fine (suc n) (operand_row k at bs operand operator bracket)
 operand_fine (Num v) at bs n operand operator bracket p h g q = one_more (number v) n (operator bs) p (g bs)
 operand_fine (Str t) at bs n operand operator bracket p h g q = one_more (text t) n (operator bs) p (g bs)
 operand_fine (Cell r) at bs n operand operator bracket p h g q = one_more (place r) n (operator bs) refl (g bs)
 operand_fine (Span a b) at bs n operand operator bracket p h g q = one_more (places a b) n (operator bs) refl (g bs)
-operand_fine (Constant f) at bs n operand operator bracket p h g q = one_more (constant f.0) n (operator bs) p (g bs)
-operand_fine (Function f) at bs n operand operator bracket p h g q = one_more (called f.0) n (bracket f bs) refl (q f bs)
+operand_fine (Constant f) at bs n operand operator bracket p h g q = one_more (constant f) n (operator bs) p (g bs)
+operand_fine (Function f) at bs n operand operator bracket p h g q = one_more (called f) n (bracket f bs) refl (q f bs)
 operand_fine (Infix op) at bs n operand operator bracket p h g q = front_fine op at bs n operand h
 operand_fine Not at bs n operand operator bracket p h g q = one_more front_not n (operand bs) refl (h bs)
 operand_fine Open at bs n operand operator bracket p h g q = one_more opening n (operand (Plain ∷ bs)) refl (h (Plain ∷ bs))
@@ -86,7 +88,7 @@ closed_if false n v f h = tt
 close_fine : (at : ℕ) (bs : Brackets) (n : ℕ) (operator : Brackets → Verdict) → ((b : Brackets) → Fine n (operator b)) → Fine (suc n) (close_row at bs operator)
 close_fine at [] n operator h = tt
 close_fine at (Plain ∷ bs) n operator h = one_more closing n (operator bs) refl (h bs)
-close_fine at (Call f m ∷ bs) n operator h = closed_if (takes (counts_of f.0) (m + 1)) (suc n) (after (closing ∷ []) (operator bs)) _ (one_more closing n (operator bs) refl (h bs))
+close_fine at (Call f m ∷ bs) n operator h = closed_if (takes (counts_of f) (m + 1)) (suc n) (after (closing ∷ []) (operator bs)) _ (one_more closing n (operator bs) refl (h bs))
 
 operator_fine : (k : Kind) (at : ℕ) (bs : Brackets) (n : ℕ) (operand operator : Brackets → Verdict) →
     ((b : Brackets) → Fine n (operand b)) → ((b : Brackets) → Fine n (operator b)) → Fine (suc n) (operator_row k at bs operand operator)
@@ -134,7 +136,7 @@ mutual
   operators_fine (l ∷ ls) p bs =
       operator_fine l.kind l.at bs (length ls) (operand_first ls) (operator_first ls) (operands_fine ls (right (is_fine_kind l.kind) (are_fine ls) p)) (operators_fine ls (right (is_fine_kind l.kind) (are_fine ls) p))
 
-  brackets_fine : (ls : List Lexeme) → are_fine ls ≡ true → (f : Coded) (bs : Brackets) → Fine (length ls) (bracket_first ls f bs)
+  brackets_fine : (ls : List Lexeme) → are_fine ls ≡ true → (f : AtFunction) (bs : Brackets) → Fine (length ls) (bracket_first ls f bs)
   brackets_fine [] p f bs = tt
   brackets_fine (l ∷ ls) p f bs = bracket_fine l.kind l.at (length ls) (operand_first ls (Call f 0 ∷ bs)) (operands_fine ls (right (is_fine_kind l.kind) (are_fine ls) p) (Call f 0 ∷ bs))
 
@@ -163,12 +165,12 @@ three_or_nine : (b : Bool) → cond b 3 9 ≤ 9
 three_or_nine true = omega arith
 three_or_nine false = omega arith
 
-two_or_one : (b : Bool) → cond b 2 1 ≤ 2
-two_or_one true = omega arith
-two_or_one false = omega arith
+size_small : (c : Counts) → counts_size c ≤ 2
+size_small (Exactly wanted) = omega arith
+size_small (AtLeast least) = omega arith
 
-call_small : (f : ℕ) → call_size f ≤ 2
-call_small f = two_or_one (is_one_of (48 ∷ lists_taken) f)
+call_small : (f : AtFunction) → call_size f ≤ 2
+call_small f = size_small (counts_of f)
 
 length_part : (n : ℕ) → nat_le n 240 ≡ true → n + 2 ≤ 242
 length_part n p = grind (arith, nat_tests)

@@ -1,7 +1,7 @@
 -- A text that has no fault spells the tree of its tokens.
 use Rattle.std.proofs.Common.{◌≡◌, ℕ, ◌+◌, ◌≤◌, ◌<◌, min, Bool, true, false, cond, ◌&&◌, nat_le, nat_lt, List, [], ◌∷◌, ◌++◌, length, Result, Ok, Err, IfOk, refl, sym, ap, ◌∙◌, subst, arith, append_assoc, append-nil}
 use Rattle.std.proofs.lemmas.Bool.Decides.{nat_tests}
-use Rattle.formula_tree.specs.declared.ast.Function.{Function as Coded}
+use Rattle.formula_tree.specs.declared.function.Function.{Function as AtFunction}
 use Rattle.formula_tree.specs.declared.ast.Op.{Op}
 use Rattle.formula_tree.specs.declared.ast.Op.TheVariants.{Pow, Mul, Div, Add, Sub, Eq, Ne, Lt, Gt, Le, Ge, And, Or, Join}
 use Rattle.formula_tree.specs.Tree.{Tree, num, str, cell, span, group, neg, not, binary, call, no_trees}
@@ -193,7 +193,7 @@ last_more : (us : List Tree) (t : Tree) → more_tokens (listed (us ++ t ∷ [])
 last_more [] t = refl
 last_more (u ∷ us) t = ap (λ x. comma ∷ (tokens u ++ x)) (last_more us t) ∙ ap (λ x. comma ∷ x) (sym (append_assoc (tokens u) (comma ∷ with_commas us) (tokens t ++ closing ∷ [])))
 
-call_tokens : (g : ℕ) (us : List Tree) (t : Tree) → tokens (call g (listed (us ++ t ∷ []))) ≡ called g ∷ (with_commas us ++ (tokens t ++ closing ∷ []))
+call_tokens : (g : AtFunction) (us : List Tree) (t : Tree) → tokens (call g (listed (us ++ t ∷ []))) ≡ called g ∷ (with_commas us ++ (tokens t ++ closing ∷ []))
 call_tokens g [] t = refl
 call_tokens g (u ∷ us) t = ap (λ x. called g ∷ (tokens u ++ x)) (last_more us t) ∙ ap (λ x. called g ∷ x) (sym (append_assoc (tokens u) (comma ∷ with_commas us) (tokens t ++ closing ∷ [])))
 
@@ -208,7 +208,7 @@ record IsPlain (f : Tree → Tree) (before earlier : List Token) : Type 0 where
   is : IsFront f front
   are : before ≡ (earlier ++ front) ++ opening ∷ []
 
-record IsCall (f : Tree → Tree) (g : ℕ) (us : List Tree) (before earlier : List Token) : Type 0 where
+record IsCall (f : Tree → Tree) (g : AtFunction) (us : List Tree) (before earlier : List Token) : Type 0 where
   front : List Token
   is : IsFront f front
   well : every_one is_bracketed (listed us) ≡ true
@@ -243,9 +243,9 @@ Operands v = (f : Tree → Tree) (front : List Token) → IsFront f front → (o
 abbrev Operators : (Brackets → Verdict) → Type 0
 Operators v = (t : Tree) → every is_bracketed t ≡ true → (os : List Open) (bs : Brackets) (before : List Token) → AreOpen os bs before → Told (before ++ tokens t) (having t os) (v bs)
 
-abbrev Calls : (Coded → Brackets → Verdict) → Type 0
-Calls v = (g : Coded) (f : Tree → Tree) (front : List Token) → IsFront f front → (os : List Open) (bs : Brackets) (before : List Token) → AreOpen os bs before →
-    Told ((before ++ front) ++ called g.0 ∷ []) (wanting (λ x. x) (function f g.0 [] ∷ os)) (v g bs)
+abbrev Calls : (AtFunction → Brackets → Verdict) → Type 0
+Calls v = (g : AtFunction) (f : Tree → Tree) (front : List Token) → IsFront f front → (os : List Open) (bs : Brackets) (before : List Token) → AreOpen os bs before →
+    Told ((before ++ front) ++ called g ∷ []) (wanting (λ x. x) (function f g [] ∷ os)) (v g bs)
 
 -- an operand of one token
 leaf : (x : Token) (t : Tree) (operator : Brackets → Verdict) → Operators operator → tokens t ≡ x ∷ [] → every is_bracketed t ≡ true → top t ≡ 8 →
@@ -275,14 +275,14 @@ front_told And at operand h f front i os bs before o = tt
 front_told Or at operand h f front i os bs before o = tt
 front_told Join at operand h f front i os bs before o = tt
 
-operand_told : (k : Kind) (at : ℕ) (operand operator : Brackets → Verdict) (bracket : Coded → Brackets → Verdict) → Operands operand → Operators operator → Calls bracket →
+operand_told : (k : Kind) (at : ℕ) (operand operator : Brackets → Verdict) (bracket : AtFunction → Brackets → Verdict) → Operands operand → Operators operator → Calls bracket →
     Operands (λ bs. operand_row k at bs operand operator bracket)
 operand_told (Num v) at operand operator bracket h g q f front i os bs before o = told_more (number v) (before ++ front) (wanting f os) (operator bs) (leaf (number v) (num v) operator g refl refl refl f front i os bs before o)
 operand_told (Str t) at operand operator bracket h g q f front i os bs before o = told_more (text t) (before ++ front) (wanting f os) (operator bs) (leaf (text t) (str t) operator g refl refl refl f front i os bs before o)
 operand_told (Cell r) at operand operator bracket h g q f front i os bs before o = told_more (place r) (before ++ front) (wanting f os) (operator bs) (leaf (place r) (cell r) operator g refl refl refl f front i os bs before o)
 operand_told (Span a b) at operand operator bracket h g q f front i os bs before o = told_more (places a b) (before ++ front) (wanting f os) (operator bs) (leaf (places a b) (span a b) operator g refl refl refl f front i os bs before o)
-operand_told (Constant c) at operand operator bracket h g q f front i os bs before o = told_more (constant c.0) (before ++ front) (wanting f os) (operator bs) (leaf (constant c.0) (call c.0 no_trees) operator g refl refl refl f front i os bs before o)
-operand_told (Function c) at operand operator bracket h g q f front i os bs before o = told_more (called c.0) (before ++ front) (wanting f os) (bracket c bs) (q c f front i os bs before o)
+operand_told (Constant c) at operand operator bracket h g q f front i os bs before o = told_more (constant c) (before ++ front) (wanting f os) (operator bs) (leaf (constant c) (call c no_trees) operator g refl refl refl f front i os bs before o)
+operand_told (Function c) at operand operator bracket h g q f front i os bs before o = told_more (called c) (before ++ front) (wanting f os) (bracket c bs) (q c f front i os bs before o)
 operand_told (Infix op) at operand operator bracket h g q f front i os bs before o = front_told op at operand h f front i os bs before o
 operand_told Not at operand operator bracket h g q f front i os bs before o = told_more front_not (before ++ front) (wanting f os) (operand bs) (behind front_not f (λ x. f (not x)) front operand h (behind_not f front i) os bs before o)
 operand_told OpenKind at operand operator bracket h g q f front i os bs before o =
@@ -338,7 +338,7 @@ close_told at operator h t w (function f g us ∷ os) (Call c n ∷ bs) before o
     let same : o.0 ++ tokens (f made) ≡ (before ++ tokens t) ++ closing ∷ [] =
     ap (λ x. o.0 ++ x) (i.is.same made ∙ ap (λ x. i.front ++ x) (call_tokens g us t)) ∙ sym (append_assoc o.0 i.front (called g ∷ (with_commas us ++ (tokens t ++ closing ∷ []))))
     ∙ sym (append_assoc first (called g ∷ with_commas us) (tokens t ++ closing ∷ [])) ∙ ap (λ x. x ++ (tokens t ++ closing ∷ [])) (sym i.are) ∙ sym (append_assoc before (tokens t) (closing ∷ [])) in
-    told_if (takes (counts_of c.0) (n + 1)) (before ++ tokens t) (having t (function f g us ∷ os)) (after (closing ∷ []) (operator bs)) _
+    told_if (takes (counts_of c) (n + 1)) (before ++ tokens t) (having t (function f g us ∷ os)) (after (closing ∷ []) (operator bs)) _
     (told_more closing (before ++ tokens t) (having t (function f g us ∷ os)) (operator bs)
     (subst (λ ts. Told ts (having (f made) os) (operator bs)) same (h (f made) (i.is.well made (all_well us t i.well w) refl) os bs o.0 o.2)))
 
@@ -360,9 +360,9 @@ operator_told (Bad e) at operand operator h g t w os bs before o = tt
 
 bracket_told : (k : Kind) (at : ℕ) (operand : Brackets → Verdict) → Operands operand → Calls (λ c bs. bracket_row k at (operand (Call c 0 ∷ bs)))
 bracket_told OpenKind at operand h c f front i os bs before o =
-    let now : List Token = (before ++ front) ++ called c.0 ∷ [] in
-    subst (λ ts. Told ts (wanting (λ x. x) (function f c.0 [] ∷ os)) (operand (Call c 0 ∷ bs))) (append-nil now)
-    (h (λ x. x) [] no_front (function f c.0 [] ∷ os) (Call c 0 ∷ bs) now (before, record { front = front; is = i; well = refl; are = refl }, o))
+    let now : List Token = (before ++ front) ++ called c ∷ [] in
+    subst (λ ts. Told ts (wanting (λ x. x) (function f c [] ∷ os)) (operand (Call c 0 ∷ bs))) (append-nil now)
+    (h (λ x. x) [] no_front (function f c [] ∷ os) (Call c 0 ∷ bs) now (before, record { front = front; is = i; well = refl; are = refl }, o))
 bracket_told (Num v) at operand h c f front i os bs before o = tt
 bracket_told (Str v) at operand h c f front i os bs before o = tt
 bracket_told (Cell r) at operand h c f front i os bs before o = tt

@@ -3,6 +3,7 @@ use Rattle.std.proofs.Common.{◌≡◌, ℕ, ◌≤◌, ◌<◌, min, Bool, tru
 use Rattle.std.proofs.lemmas.Bool.Decides.{nat_tests}
 use Rattle.formula_tree.specs.declared.ast.Op.{Op}
 use Rattle.formula_tree.specs.declared.ast.Op.TheVariants.{Pow, Mul, Div, Add, Sub, Eq, Ne, Lt, Gt, Le, Ge, And, Or, Join}
+use Rattle.formula_tree.specs.declared.function.Function.{Function as AtFunction}
 use Rattle.formula_tree.specs.Tree.{Tree, num, str, cell, span, group, neg, not, binary, call, Trees, no_trees, trees}
 use Rattle.formula_tree.specs.Shape.{every, every_one, is_bracketed, level, lowest, top}
 use Rattle.formula_tree.specs.View.{listed}
@@ -216,7 +217,7 @@ mutual
       ∙ more_found ts a f g [] outer rest q.1
       ∙ ap (λ x. having (f (call g x)) outer rest) (all_further (a ∷ []) ts)
 
-  more_found : (ts : Trees) (a : Tree) (f : Tree → Tree) (g : ℕ) (us : List Tree) (outer : List Open) (rest : List Token) → every_one is_bracketed ts ≡ true →
+  more_found : (ts : Trees) (a : Tree) (f : Tree → Tree) (g : AtFunction) (us : List Tree) (outer : List Open) (rest : List Token) → every_one is_bracketed ts ≡ true →
       having a (function f g us ∷ outer) (more_tokens ts ++ rest) ≡ having (f (call g (listed (further (us ++ a ∷ []) ts)))) outer rest
   more_found no_trees a f g us outer rest w = refl
   more_found (trees b ts) a f g us outer rest w =

@@ -1,6 +1,6 @@
 -- Which lists of parts are formulas, and else the first fault.
 use Rattle.std.specs.Prelude.{ℕ, ◌+◌, List, [], ◌∷◌, ◌++◌, Result, Ok, Err, Option, Some, None, if◌then◌else◌}
-use Rattle.formula_tree.specs.declared.ast.Function.{Function as Coded}
+use Rattle.formula_tree.specs.declared.function.Function.{Function as AtFunction}
 use Rattle.formula_tree.specs.declared.ast.Op.{Op}
 use Rattle.formula_tree.specs.declared.ast.Op.TheVariants.{Pow, Mul, Div, Add, Sub, Eq, Ne, Lt, Gt, Le, Ge, And, Or, Join}
 use Rattle.formula_tree.specs.Shape.{level}
@@ -38,7 +38,7 @@ at_end (b ∷ bs) = Err Ended
 -- a closing bracket where an operand is wanted: complete arguments are counted
 abbrev pub missing : ℕ → Bracket → ParseFault
 missing at Plain = Unexpected at
-missing at (Call f n) = if takes (counts_of f.0) n then Unexpected at else ArgCount at
+missing at (Call f n) = if takes (counts_of f) n then Unexpected at else ArgCount at
 
 -- an operator where an operand is wanted
 abbrev pub front_row : Op → ℕ → Brackets → (Brackets → Verdict) → Verdict
@@ -58,13 +58,13 @@ front_row Or at bs operand = Err (Unexpected at)
 front_row Join at bs operand = Err (Unexpected at)
 
 -- one row of the table where an operand is wanted
-abbrev pub operand_row : Kind → ℕ → Brackets → (Brackets → Verdict) → (Brackets → Verdict) → (Coded → Brackets → Verdict) → Verdict
+abbrev pub operand_row : Kind → ℕ → Brackets → (Brackets → Verdict) → (Brackets → Verdict) → (AtFunction → Brackets → Verdict) → Verdict
 operand_row (Num v) at bs operand operator bracket = after (number v ∷ []) (operator bs)
 operand_row (Str t) at bs operand operator bracket = after (text t ∷ []) (operator bs)
 operand_row (Cell r) at bs operand operator bracket = after (place r ∷ []) (operator bs)
 operand_row (Span a b) at bs operand operator bracket = after (places a b ∷ []) (operator bs)
-operand_row (Constant f) at bs operand operator bracket = after (constant f.0 ∷ []) (operator bs)
-operand_row (Function f) at bs operand operator bracket = after (called f.0 ∷ []) (bracket f bs)
+operand_row (Constant f) at bs operand operator bracket = after (constant f ∷ []) (operator bs)
+operand_row (Function f) at bs operand operator bracket = after (called f ∷ []) (bracket f bs)
 operand_row (Infix op) at bs operand operator bracket = front_row op at bs operand
 operand_row Not at bs operand operator bracket = after (front_not ∷ []) (operand bs)
 operand_row Open at bs operand operator bracket = after (opening ∷ []) (operand (Plain ∷ bs))
@@ -83,7 +83,7 @@ comma_row at (Call f n ∷ bs) operand = after (comma ∷ []) (operand (Call f (
 abbrev pub close_row : ℕ → Brackets → (Brackets → Verdict) → Verdict
 close_row at [] operator = Err (Unexpected at)
 close_row at (Plain ∷ bs) operator = after (closing ∷ []) (operator bs)
-close_row at (Call f n ∷ bs) operator = if takes (counts_of f.0) (n + 1) then after (closing ∷ []) (operator bs) else Err (ArgCount at)
+close_row at (Call f n ∷ bs) operator = if takes (counts_of f) (n + 1) then after (closing ∷ []) (operator bs) else Err (ArgCount at)
 
 -- where an operator is wanted
 abbrev pub operator_row : Kind → ℕ → Brackets → (Brackets → Verdict) → (Brackets → Verdict) → Verdict
@@ -127,7 +127,7 @@ abbrev mutual
   operator_first [] bs = at_end bs
   operator_first (l ∷ ls) bs = operator_row l.kind l.at bs (operand_first ls) (operator_first ls)
 
-  pub bracket_first : List Lexeme → Coded → Brackets → Verdict
+  pub bracket_first : List Lexeme → AtFunction → Brackets → Verdict
   bracket_first [] f bs = Err Ended
   bracket_first (l ∷ ls) f bs = bracket_row l.kind l.at (operand_first ls (Call f 0 ∷ bs))
 

@@ -12,7 +12,7 @@ use Rattle.formula_text.specs.Tokens.{Token, number, text, place, places, consta
 abbrev pub is_fine_kind : Kind → Bool
 is_fine_kind (Num v) = not_negative v
 is_fine_kind (Str t) = has_no_quote t && nat_le (length t) 240
-is_fine_kind (Constant f) = takes (counts_of f.0) 0
+is_fine_kind (Constant f) = takes (counts_of f) 0
 is_fine_kind (Cell r) = true
 is_fine_kind (Span a b) = true
 is_fine_kind (Function f) = true

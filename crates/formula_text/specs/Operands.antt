@@ -8,7 +8,8 @@ use Rattle.fixed_value.specs.declared.decimal.Decimal.{Decimal}
 use Rattle.fixed_value.specs.declared.decimal.Decimal.TheVariants.{Num as decimal, TooLarge, NotNumber}
 use Rattle.fixed_value.specs.Decimals.{behind_digits, decimal_of, whole_digits}
 use Rattle.formula_tree.specs.Table.{counts_of, takes}
-use Rattle.formula_tree.specs.declared.ast.Function.{Function as Coded}
+use Rattle.formula_tree.specs.declared.function.Function.{Function as AtFunction}
+use Rattle.formula_tree.specs.declared.function.Function.TheVariants as function
 use Rattle.formula_text.specs.Functions.{function_named, is_among, left_out}
 use Rattle.formula_text.specs.declared.fault.ParseFault.TheVariants.{BadNumber, FunctionOutside, Unexpected, UnknownFunction}
 use Rattle.formula_text.specs.declared.lexeme.Found.{Found}
@@ -55,9 +56,9 @@ is_name_byte b = is_ascii_alphabetic b || is_ascii_digit b
 abbrev pub outside_kind : ℕ → Bool → Kind
 outside_kind at left = if left then Bad (FunctionOutside at) else Bad (UnknownFunction at)
 
-abbrev pub function_kind : ℕ → List ℕ → Option Coded → Kind
+abbrev pub function_kind : ℕ → List ℕ → Option AtFunction → Kind
 function_kind at name None = outside_kind at (is_among left_out name)
-function_kind at name (Some f) = if takes (counts_of f.0) 0 then Constant f else Function f
+function_kind at name (Some f) = if takes (counts_of f) 0 then Constant f else Function f
 
 -- a function has a name of at least one byte
 abbrev pub called_kind : ℕ → List ℕ → Kind
@@ -70,5 +71,5 @@ name_len bytes = prefix_len is_name_byte bytes
 -- @@, or @ and a name
 abbrev pub function_found : ℕ → List ℕ → Found
 function_found at bytes =
-    if get_or bytes 1 0 == 64 then record { kind = Function (record { 0 = 115 }); len = 2 }
+    if get_or bytes 1 0 == 64 then record { kind = Function function.Pointed; len = 2 }
     else record { kind = called_kind at (take (name_len (drop 1 bytes)) (drop 1 bytes)); len = 1 + name_len (drop 1 bytes) }

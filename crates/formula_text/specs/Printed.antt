@@ -9,6 +9,7 @@ use Rattle.grid_address.specs.Place.{same_place, spanned, Place}
 use Rattle.range_names.specs.Names.{name_of_span, NameMap}
 use Rattle.formula_tree.specs.declared.ast.Op.{Op}
 use Rattle.formula_tree.specs.declared.ast.Op.TheVariants.{Pow, Mul, Div, Add, Sub, Eq, Ne, Lt, Gt, Le, Ge, And, Or, Join}
+use Rattle.formula_tree.specs.declared.function.Function.{Function as AtFunction}
 use Rattle.formula_tree.specs.Tree.{Tree, num, str, cell, span, group, neg, not as negation, binary, call, Trees, no_trees, trees}
 use Rattle.formula_text.specs.Functions.{name_of}
 use Rattle.formula_text.specs.declared.output.Output.{Output}
@@ -102,7 +103,7 @@ abbrev pub end_of : List Tree → List ℕ
 end_of [] = []
 end_of (t ∷ ts) = codes ")"
 
-abbrev pub call_text : NameMap → Place → ℕ → List Tree → List ℕ
+abbrev pub call_text : NameMap → Place → AtFunction → List Tree → List ℕ
 call_text names at f ts = codes "@" ++ (name_of f ++ (opened names at ts ++ end_of ts))
 
 -- a text that would begin a label takes a + in front

@@ -1,6 +1,7 @@
 -- The formula that a text spells, or its first fault.
 use Rattle.std.specs.Prelude.{ℕ, pos, nat_le, nat_lt, List, [], ◌∷◌, ◌++◌, length, Result, Ok, Err, if◌then◌else◌}
 use Rattle.formula_tree.specs.declared.ast.Op.{Op}
+use Rattle.formula_tree.specs.declared.function.Function.{Function as AtFunction}
 use Rattle.formula_tree.specs.Shape.{level, lowest}
 use Rattle.formula_tree.specs.Tree.{Tree, num, str, cell, span, group, neg, not, binary, call, no_trees}
 use Rattle.formula_tree.specs.View.{listed}
@@ -28,7 +29,7 @@ beside op (binary o a b) x = if nat_le (level op) (lowest (binary o a b)) then b
 -- An open bracket, or that of a function with its complete arguments: what stands before it makes a tree of its operand.
 pub data Open : Type 0 where
   plain : (Tree → Tree) → Open
-  function : (Tree → Tree) → ℕ → List Tree → Open
+  function : (Tree → Tree) → AtFunction → List Tree → Open
 
 -- The tree of tokens, where an operand is wanted, of which what stands before makes a tree, or where a tree is there; it
 -- is of no account where they are no formula's.

@@ -1,6 +1,6 @@
 -- What the parser finds.
 use Rattle.std.specs.Prelude.{◌≡◌, ℕ, ◌+◌, [], ◌∷◌, ◌++◌, ◌<◌, ◌≤◌, true, Bool, false, List, length, Ok, Err, ◌⊎◌}
-use Rattle.formula_tree.specs.declared.ast.Function.{Function as Coded}
+use Rattle.formula_tree.specs.declared.function.Function.{Function as AtFunction}
 use Rattle.formula_tree.specs.declared.ast.Op.{Op}
 use Rattle.formula_tree.specs.View.{listed}
 use Rattle.formula_tree.specs.Table.{counts_of, takes}
@@ -17,7 +17,7 @@ use Rattle.formula_text.specs.Tokens.{Token, tokens, called, closing, comma}
 use Rattle.formula_text.specs.Accepts.{after, bracket_first, front_row, innermost, next_level, operand_first, operator_first, Brackets}
 
 -- whether a call with arguments has as many as its function takes
-abbrev pub takes_these : ℕ → Trees → Bool
+abbrev pub takes_these : AtFunction → Trees → Bool
 takes_these f no_trees = true
 takes_these f (trees t ts) = takes (counts_of f) (count (trees t ts))
 
@@ -61,8 +61,8 @@ pub record Grown (ls : List Lexeme) (least : ℕ) (t : Tree) (rest : List Lexeme
   pub shorter : length rest < length ls
 
 -- a function's arguments are read, from its opening bracket on
-pub record ReadsCall (ls : List Lexeme) (f : Coded) (t : Tree) (rest : List Lexeme) : Type 0 where
-  pub spelled : (bs : Brackets) → after (called f.0 ∷ []) (bracket_first ls f bs) ≡ after (tokens t) (operator_first rest bs)
+pub record ReadsCall (ls : List Lexeme) (f : AtFunction) (t : Tree) (rest : List Lexeme) : Type 0 where
+  pub spelled : (bs : Brackets) → after (called f ∷ []) (bracket_first ls f bs) ≡ after (tokens t) (operator_first rest bs)
   pub well : every is_bracketed t ≡ true
   pub counted : every is_called t ≡ true
   pub tight : top t ≡ 8
@@ -89,7 +89,7 @@ joined [] = []
 joined (t ∷ ts) = tokens t ++ commaed ts
 
 -- these arguments are read so far, of which the last may be followed by another
-pub record Listed (ls : List Lexeme) (f : Coded) (count : ℕ) (ts : List Tree) (rest : List Lexeme) : Type 0 where
+pub record Listed (ls : List Lexeme) (f : AtFunction) (count : ℕ) (ts : List Tree) (rest : List Lexeme) : Type 0 where
   pub spelled : (bs : Brackets) → bracket_first ls f bs ≡ after (joined ts) (operator_first rest (Call f count ∷ bs))
   pub well : every_one is_bracketed (listed ts) ≡ true
   pub counted : every_one is_called (listed ts) ≡ true
@@ -102,7 +102,7 @@ abbrev pub IsFault : List Lexeme → Bracket → ParseFault → Type 0
 IsFault ls inside f = (f ≡ Memory) ⊎ ((bs : Brackets) → innermost bs ≡ inside → operand_first ls bs ≡ Err f)
 
 -- the same from a function's opening bracket on
-abbrev pub IsCallFault : List Lexeme → Coded → ParseFault → Type 0
+abbrev pub IsCallFault : List Lexeme → AtFunction → ParseFault → Type 0
 IsCallFault ls function f = (f ≡ Memory) ⊎ ((bs : Brackets) → bracket_first ls function bs ≡ Err f)
 
 -- the same from an operator in front on
@@ -110,7 +110,7 @@ abbrev pub IsSignedFault : Op → ℕ → List Lexeme → Bracket → ParseFault
 IsSignedFault op at ls inside f = (f ≡ Memory) ⊎ ((bs : Brackets) → innermost bs ≡ inside → front_row op at bs (operand_first ls) ≡ Err f)
 
 -- a function's bracket opens, and the rest follows it
-pub record Opens (ls : List Lexeme) (f : Coded) (rest : List Lexeme) : Type 0 where
+pub record Opens (ls : List Lexeme) (f : AtFunction) (rest : List Lexeme) : Type 0 where
   pub spelled : (bs : Brackets) → bracket_first ls f bs ≡ operand_first rest (Call f 0 ∷ bs)
   pub shorter : length rest < length ls
 
@@ -125,13 +125,13 @@ NoOperator ls f = (bs : Brackets) → operator_first ls (Plain ∷ bs) ≡ Err f
 
 -- another argument follows
 pub record Continues (ls rest : List Lexeme) : Type 0 where
-  pub spelled : (f : Coded) (n : ℕ) (bs : Brackets) → operator_first ls (Call f n ∷ bs) ≡ after (comma ∷ []) (operand_first rest (Call f (n + 1) ∷ bs))
+  pub spelled : (f : AtFunction) (n : ℕ) (bs : Brackets) → operator_first ls (Call f n ∷ bs) ≡ after (comma ∷ []) (operand_first rest (Call f (n + 1) ∷ bs))
   pub shorter : length rest < length ls
 
 -- the last argument, behind so many, is followed by the closing bracket
-pub record Completes (ls : List Lexeme) (f : Coded) (n : ℕ) (rest : List Lexeme) : Type 0 where
+pub record Completes (ls : List Lexeme) (f : AtFunction) (n : ℕ) (rest : List Lexeme) : Type 0 where
   pub spelled : (bs : Brackets) → operator_first ls (Call f n ∷ bs) ≡ after (closing ∷ []) (operator_first rest bs)
-  pub taken : takes (counts_of f.0) (n + 1) ≡ true
+  pub taken : takes (counts_of f) (n + 1) ≡ true
   pub shorter : length rest < length ls
 
 abbrev pub is_comma : Kind → Bool

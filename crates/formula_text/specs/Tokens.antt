@@ -2,6 +2,7 @@
 use Rattle.std.specs.Prelude.{ℕ, ℤ, List, [], ◌∷◌, ◌++◌}
 use Rattle.grid_address.specs.Axes.{Reference}
 use Rattle.formula_tree.specs.declared.ast.Op.{Op}
+use Rattle.formula_tree.specs.declared.function.Function.{Function as AtFunction}
 use Rattle.formula_tree.specs.Tree.{Tree, num, str, cell, span, group, neg, not, binary, call, Trees, no_trees, trees}
 
 -- a function that takes arguments is a token with its opening bracket
@@ -10,8 +11,8 @@ pub data Token : Type 0 where
   text : List ℕ → Token
   place : Reference → Token
   places : Reference → Reference → Token
-  constant : ℕ → Token
-  called : ℕ → Token
+  constant : AtFunction → Token
+  called : AtFunction → Token
   opening : Token
   closing : Token
   comma : Token

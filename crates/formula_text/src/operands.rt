@@ -15,9 +15,6 @@ use formula_tree::{Function, takes};
 use lics_text::{Text, TextFault};
 use std::alloc::Global;
 
-// The function @@.
-const POINTED: Function = Function(0x73);
-
 // How many bytes a point and the digits behind it take.
 fn point_len(bytes: &[u8]) -> usize
     ensures count { result ≡ point_len bytes.now }
@@ -174,7 +171,7 @@ pub fn function_found(bytes: &[u8], at: usize) -> Found
 {
     if 1 < bytes.len() && bytes[1] == b'@' {
         return Found {
-            kind: Kind::Function(POINTED),
+            kind: Kind::Function(Function::Pointed),
             len: 2,
         };
     }

@@ -155,7 +155,7 @@ fn end_of(arguments: &[Expr]) -> &'static [u8]
 // A function, and its arguments where it has any.
 #[cycle(print)]
 fn put_call(function: Function, arguments: &[Expr], at: Cell, names: &Names, out: &mut Output)
-    ensures { out.new ≡ written out.old (call_text names.now at function.0 (map tree_of arguments.now)) }
+    ensures { out.new ≡ written out.old (call_text names.now at function (map tree_of arguments.now)) }
 {
     put(out, b"@");
     put(out, name_of(function));

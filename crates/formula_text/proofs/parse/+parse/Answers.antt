@@ -32,5 +32,5 @@ pub operand-returns-in-Constant-clause-ok : goal.operand-returns-in-Constant-cla
 operand-returns-in-Constant-clause-ok t c =
     let f = c.in-Constant.function in
     let first : c.args.lexemes.now ≡ c.in-Some.first.now ∷ c.in-Some.rest.now = search rules in
-    subst (λ e. ReadsOperand c.args.lexemes.now e c.in-Some.rest.now) (sym (tree_of-Call f c.new.result ∙ ap (λ ts. call f.0 (listed ts)) c.new.ensures))
+    subst (λ e. ReadsOperand c.args.lexemes.now e c.in-Some.rest.now) (sym (tree_of-Call f c.new.result ∙ ap (λ ts. call f (listed ts)) c.new.ensures))
     (constant_is_read c.args.lexemes.now c.in-Some.first.now f c.in-Some.rest.now first c.in-Constant.is)

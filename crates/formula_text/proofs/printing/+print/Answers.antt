@@ -57,8 +57,8 @@ put_tree-returns-in-Call t c =
     let names = c.args.names.now in
     let at = c.args.at in
     let f = c.in-Call.function in
-    c.put_call.ensures ∙ ap (λ es. written out (call_text names at f.0 (map tree_of es))) c.items.ensures
-    ∙ ap (written out) (call_is names at f.0 (trees_in c.in-Call.arguments))
+    c.put_call.ensures ∙ ap (λ es. written out (call_text names at f (map tree_of es))) c.items.ensures
+    ∙ ap (written out) (call_is names at f (trees_in c.in-Call.arguments))
     ∙ ap (λ x. written out (text_of names at x)) (sym (tree_of-Call f c.in-Call.arguments))
     ∙ ap (λ e. written out (text_of names at (tree_of e))) (sym c.in-Call.is)
 
@@ -73,7 +73,7 @@ put_tree-put_call-requires t c =
 pub put_call-loop-argument-init : goal.put_call-loop-argument-init
 put_call-loop-argument-init t c =
     let out = c.args.out.now in
-    let f = c.args.function.0 in (
+    let f = c.args.function in (
       two out c.put.new.out c.put-2.new.out (codes "@") (name_of f) c.put.ensures (c.put-2.ensures ∙ ap (written c.put.new.out) c.name_of.ensures) ∙ ap (written out) (begun f),
       refl,
     )
@@ -90,7 +90,7 @@ put_call-loop-argument-preserved t c =
     let out = c.args.out.now in
     let names = c.args.names.now in
     let at = c.args.at in
-    let f = c.args.function.0 in
+    let f = c.args.function in
     let es = c.args.arguments.now in
     let i = c.loop-argument.argument-index in
     let item = c.argument-item.result in
@@ -110,7 +110,7 @@ put_call-returns t c =
     let out = c.args.out.now in
     let names = c.args.names.now in
     let at = c.args.at in
-    let f = c.args.function.0 in
+    let f = c.args.function in
     let es = c.args.arguments.now in
     let ts = map tree_of es in
     let all : take c.loop-argument.argument-index es ≡ es = all_taken es c.loop-argument.argument-index (omega (arith, c.loop-argument-test.false)) in

@@ -13,4 +13,4 @@ decreases-put_call l = 2 * all_nodes (listed (map tree_of l.arguments.now)) + 1
 
 abbrev pub invariant-put_call-loop-argument : goal.invariant-put_call-loop-argument
 invariant-put_call-loop-argument l =
-    (l.out ≡ written l.fn.out (codes "@" ++ (name_of l.fn.function.0 ++ opened l.names l.at (map tree_of (take l.argument-index l.arguments))))) × (l.mark ≡ mark_before (map tree_of (take l.argument-index l.arguments)))
+    (l.out ≡ written l.fn.out (codes "@" ++ (name_of l.fn.function ++ opened l.names l.at (map tree_of (take l.argument-index l.arguments))))) × (l.mark ≡ mark_before (map tree_of (take l.argument-index l.arguments)))
