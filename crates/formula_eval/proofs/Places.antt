@@ -4,6 +4,7 @@ use Rattle.grid_address.specs.Place.{Place}
 use Rattle.formula_tree.specs.Tree.{Tree}
 use Rattle.formula_tree.specs.View.{listed, tree_of}
 use Rattle.formula_tree.specs.declared.ast.Expr.{Expr}
+use Rattle.formula_tree.specs.declared.function.Function.{Function}
 use Rattle.formula_tree.specs.declared.value.Value.{Value}
 use Rattle.formula_tree.specs.declared.value.Value.TheVariants as value
 use Rattle.formula_tree.proofs.Rows.{one_taken}
@@ -39,13 +40,13 @@ arguments_long at w [] = refl
 arguments_long at w (e ∷ es) = ap suc (arguments_long at w es)
 
 -- the first argument decides which one is taken
-pub by_first : (f : ℕ) (at : Place) (w : World) (es : List Expr) (d : Expr) → 0 < length es →
+pub by_first : (f : Function) (at : Place) (w : World) (es : List Expr) (d : Expr) → 0 < length es →
     chosen f (arguments_at (listed (map tree_of es)) at w) ≡ chosen_one (choice f (length es) (value_at (tree_of (get_or es 0 d)) at w)) (arguments_at (listed (map tree_of es)) at w)
 by_first f at w [] d h = absurd (omega arith)
 by_first f at w (e ∷ es) d h = ap (λ n. chosen_one (choice f (suc n) (value_at (tree_of e) at w)) (arguments_at (listed (map tree_of (e ∷ es))) at w)) (arguments_long at w es)
 
-pub taken : (f : ℕ) (at : Place) (w : World) (es : List Expr) (d : Expr) (place : ℕ) → 0 < length es → choice f (length es) (value_at (tree_of (get_or es 0 d)) at w) ≡ Ok place → chosen f (arguments_at (listed (map tree_of es)) at w) ≡ nth_value (arguments_at (listed (map tree_of es)) at w) place
+pub taken : (f : Function) (at : Place) (w : World) (es : List Expr) (d : Expr) (place : ℕ) → 0 < length es → choice f (length es) (value_at (tree_of (get_or es 0 d)) at w) ≡ Ok place → chosen f (arguments_at (listed (map tree_of es)) at w) ≡ nth_value (arguments_at (listed (map tree_of es)) at w) place
 taken f at w es d place some is = by_first f at w es d some ∙ ap (λ r. chosen_one r (arguments_at (listed (map tree_of es)) at w)) is
 
-pub stopped : (f : ℕ) (at : Place) (w : World) (es : List Expr) (d : Expr) (v : Value) → 0 < length es → choice f (length es) (value_at (tree_of (get_or es 0 d)) at w) ≡ Err v → chosen f (arguments_at (listed (map tree_of es)) at w) ≡ v
+pub stopped : (f : Function) (at : Place) (w : World) (es : List Expr) (d : Expr) (v : Value) → 0 < length es → choice f (length es) (value_at (tree_of (get_or es 0 d)) at w) ≡ Err v → chosen f (arguments_at (listed (map tree_of es)) at w) ≡ v
 stopped f at w es d v some is = by_first f at w es d some ∙ ap (λ r. chosen_one r (arguments_at (listed (map tree_of es)) at w)) is

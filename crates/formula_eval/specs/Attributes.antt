@@ -1,9 +1,11 @@
 -- What CELL and CELLPOINTER tell of a cell.
-use Rattle.std.specs.Prelude.{ℕ, ◌+◌, ◌-◌, nat_le, Option, Some, None, List, [], ◌∷◌, ◌++◌, length, take, codes, if◌then◌else◌}
+use Rattle.std.specs.Prelude.{ℕ, ◌+◌, ◌-◌, Option, Some, None, List, [], ◌∷◌, ◌++◌, length, take, codes, if◌then◌else◌}
 use Rattle.std.specs.Str.{str_eq_ignore_ascii_case}
 use Rattle.cell_format.specs.Indicator.{indicator_of}
 use Rattle.grid_address.specs.Address.{column_name, decimal}
+use Rattle.grid_address.specs.Formats.{has_protection}
 use Rattle.grid_address.specs.Place.{Place}
+use Rattle.lics_text.specs.Prefixes.{prefix_byte}
 use Rattle.formula_tree.specs.declared.value.Content.{Content}
 use Rattle.formula_tree.specs.declared.value.Content.TheVariants as content
 use Rattle.formula_tree.specs.declared.value.Value.{Value}
@@ -37,7 +39,7 @@ without_brackets (b ∷ bs) = take (length bs - 1) bs
 abbrev pub prefix_in : Content → List ℕ
 prefix_in content.Blank = []
 prefix_in (content.Number x) = []
-prefix_in (content.Label prefix t) = prefix ∷ []
+prefix_in (content.Label prefix t) = prefix_byte prefix ∷ []
 prefix_in (content.Formula f) = []
 
 abbrev pub prefix_of : Option Content → List ℕ
@@ -62,7 +64,7 @@ attribute_value sight p Row = counted (p.row + 1)
 attribute_value sight p Contents = sight.values p
 attribute_value sight p Format = texted (without_brackets (indicator_of (sight.formats p)))
 attribute_value sight p Prefix = texted (prefix_of (sight.contents p))
-attribute_value sight p Protect = truth (nat_le 128 (sight.formats p))
+attribute_value sight p Protect = truth (has_protection (sight.formats p))
 attribute_value sight p CellType = texted (type_of (sight.contents p))
 attribute_value sight p Width = counted (sight.widths p.col)
 

@@ -1,5 +1,5 @@
 -- A meaning is never Blank, and a formula that isn't volatile means what the cells that it reads make of it.
-use Rattle.std.specs.Prelude.{◌≡◌, ℕ, ◌==◌, ◌||◌, refl, Bool, true, false, cond, List, [], ◌∷◌, ◌++◌}
+use Rattle.std.specs.Prelude.{◌≡◌, ◌||◌, refl, Bool, true, false, List, [], ◌∷◌, ◌++◌}
 use Rattle.std.specs.List.{list_any}
 use Rattle.std.proofs.Common.{ap, sym, ◌∙◌, arith, inl, inr}
 use Rattle.std.proofs.lemmas.Bool.{cases_Bool}
@@ -7,15 +7,18 @@ use Rattle.std.proofs.lemmas.Bool.Decides.{nat_tests}
 use Rattle.grid_address.specs.Leads.{resolve}
 use Rattle.grid_address.specs.Place.{is_within, Extent, Place}
 use Rattle.formula_tree.specs.Spans.{any_volatile, is_volatile, spans_of, spans_of_all}
-use Rattle.formula_tree.specs.Table.{is_one_of, lists_taken, volatile_codes}
+use Rattle.formula_tree.specs.Table.{is_volatile_function}
+use Rattle.formula_tree.specs.declared.function.Function.{Function}
+use Rattle.formula_tree.specs.declared.function.Function.TheVariants as function
 use Rattle.formula_tree.specs.Tree.{Tree, num, str, cell, span, group, neg, not, binary, call, Trees, no_trees, trees}
 use Rattle.formula_tree.specs.declared.value.Value.{Value}
 use Rattle.formula_tree.specs.declared.value.Value.TheVariants as value
 use Rattle.formula_eval.specs.declared.argument.Argument.{Argument}
 use Rattle.formula_eval.specs.Agreement.{in_arguments, in_operand, same_of, within_itself}
-use Rattle.formula_eval.specs.Lists.{list_value}
+use Rattle.formula_eval.specs.Lists.{items_of, list_value}
 use Rattle.formula_eval.specs.Lookalike.{same_index, same_lookup}
-use Rattle.formula_eval.specs.Mean.{arguments_at, call_value, called, chosen, filled_in, is_choice, mean, one_value, operand_of, three_value, two_value, value_at, Reads}
+use Rattle.formula_eval.specs.Lookups.{lookup_value}
+use Rattle.formula_eval.specs.Mean.{arguments_at, call_value, called, filled_in, mean, one_value, operand_of, three_value, two_value, value_at, Reads}
 use Rattle.value_functions.specs.Operators.{binary_value, denied, negated}
 use Rattle.value_functions.specs.Scalars.{constant_value}
 use Rattle.formula_eval.specs.World.{World}
@@ -31,43 +34,28 @@ pub never_blank : (t : Tree) (at : Place) (w : World) → mean t at w ≡ value.
 unfolding mean
 never_blank t at w h = not_blank (value_at t at w) h
 
--- a function that isn't volatile is none of NOW, CELLPOINTER, CELL and @@
-record IsSteady (f : ℕ) : Type 0 where
-  now : (f == 55) ≡ false
-  pointer : (f == 79) ≡ false
-  told : (f == 108) ≡ false
-  pointed : (f == 115) ≡ false
-
-turned : (a b : ℕ) → (a == b) ≡ false → (b == a) ≡ false
-turned a b h = grind (arith, nat_tests, h)
-
 either_false : (a b : Bool) → (a || b) ≡ false → (a ≡ false) × (b ≡ false)
 either_false true b h = absurd cc
 either_false false b h = (refl, h)
-
-steady : (f : ℕ) → is_one_of volatile_codes f ≡ false → IsSteady f
-steady f h =
-    let one = either_false (55 == f) _ h in
-    let two = either_false (79 == f) _ one.1 in
-    let three = either_false (108 == f) _ two.1 in
-    let four = either_false (115 == f) _ three.1 in
-    record { now = turned 55 f one.0; pointer = turned 79 f two.0; told = turned 108 f three.0; pointed = turned 115 f four.0 }
 
 -- values agree where a function's arguments are
 abbrev AgreeOn : List Argument → World → World → Type 0
 AgreeOn args w u = (p : Place) → in_arguments args p ≡ true → w.sight.values p ≡ u.sight.values p
 
-same_constant : (f : ℕ) (w u : World) → IsSteady f → constant_value f w.day w.second ≡ constant_value f u.day u.second
-unfolding constant_value
-same_constant f w u s = rw (s.now) refl
+same_constant : (f : Function) (w u : World) → is_volatile_function f ≡ false →
+    constant_value f w.day w.second ≡ constant_value f u.day u.second
+same_constant function.Now w u s = absurd cc
+same_constant f w u s = refl
 
-same_one : (f : ℕ) (w u : World) (a : Argument) → IsSteady f → one_value f w a ≡ one_value f u a
-unfolding one_value
-same_one f w u a s = rw (s.pointer, s.pointed) refl
+same_one : (f : Function) (w u : World) (a : Argument) → is_volatile_function f ≡ false → one_value f w a ≡ one_value f u a
+same_one function.CellPointer w u a s = absurd cc
+same_one function.Pointed w u a s = absurd cc
+same_one f w u a s = refl
 
-same_two : (f : ℕ) (w u : World) (a b : Argument) → IsSteady f → two_value f w a b ≡ two_value f u a b
-unfolding two_value
-same_two f w u a b s = rw (s.told) refl
+same_two : (f : Function) (w u : World) (a b : Argument) → is_volatile_function f ≡ false →
+    two_value f w a b ≡ two_value f u a b
+same_two function.Cell w u a b s = absurd cc
+same_two f w u a b s = refl
 
 among : (args : List Argument) (a : Argument) (p : Place) (w u : World) → AgreeOn (a ∷ args) w u → in_operand a.operand p ≡ true → w.sight.values p ≡ u.sight.values p
 among args a p w u agree h = agree p (first (in_operand a.operand p) (in_arguments args p) h)
@@ -81,17 +69,22 @@ behind args a w u agree = λ p h. agree p (second (in_operand a.operand p) (in_a
     second : (a b : Bool) → b ≡ true → (a || b) ≡ true
     second a b h = grind arith
 
-same_three : (f : ℕ) (w u : World) (a b c : Argument) → AgreeOn (a ∷ b ∷ c ∷ []) w u → three_value f w a b c ≡ three_value f u a b c
-unfolding three_value
-same_three f w u a b c agree =
-    let v = w.sight.values in
-    let x = u.sight.values in
-    let down = same_lookup v x false a.value b.operand c.value (λ p h. among (c ∷ []) b p w u (behind (b ∷ c ∷ []) a w u agree) h) in
-    let across = same_lookup v x true a.value b.operand c.value (λ p h. among (c ∷ []) b p w u (behind (b ∷ c ∷ []) a w u agree) h) in
-    let at = same_index v x a.operand b.value c.value (λ p h. among (b ∷ c ∷ []) a p w u agree h) in
-    rw (down, across, at) refl
+same_table : (w u : World) (across : Bool) (a b c : Argument) → AgreeOn (a ∷ b ∷ c ∷ []) w u →
+    lookup_value w.sight.values across a.value b.operand c.value ≡ lookup_value u.sight.values across a.value b.operand c.value
+same_table w u across a b c agree =
+    let within = behind (b ∷ c ∷ []) a w u agree in
+    same_lookup w.sight.values u.sight.values across a.value b.operand c.value (λ p h. among (c ∷ []) b p w u within h)
 
-same_called : (f : ℕ) (w u : World) (args : List Argument) → IsSteady f → AgreeOn args w u → called f w args ≡ called f u args
+same_three : (f : Function) (w u : World) (a b c : Argument) → AgreeOn (a ∷ b ∷ c ∷ []) w u →
+    three_value f w a b c ≡ three_value f u a b c
+same_three function.VLookup w u a b c agree = same_table w u false a b c agree
+same_three function.HLookup w u a b c agree = same_table w u true a b c agree
+same_three function.Index w u a b c agree =
+    same_index w.sight.values u.sight.values a.operand b.value c.value (λ p h. among (b ∷ c ∷ []) a p w u agree h)
+same_three f w u a b c agree = refl
+
+same_called : (f : Function) (w u : World) (args : List Argument) → is_volatile_function f ≡ false → AgreeOn args w u →
+    called f w args ≡ called f u args
 same_called f w u [] s agree = same_constant f w u s
 same_called f w u (a ∷ []) s agree = same_one f w u a s
 same_called f w u (a ∷ b ∷ []) s agree = same_two f w u a b s
@@ -99,12 +92,20 @@ same_called f w u (a ∷ b ∷ c ∷ []) s agree = same_three f w u a b c agree
 same_called f w u (a ∷ b ∷ c ∷ d ∷ []) s agree = refl
 same_called f w u (a ∷ b ∷ c ∷ d ∷ e ∷ more) s agree = refl
 
-same_call : (f : ℕ) (w u : World) (args : List Argument) → IsSteady f → AgreeOn args w u → call_value f w args ≡ call_value f u args
-unfolding call_value
-same_call f w u args s agree =
-    let items = same_of w.sight.values u.sight.values args agree in
-    let rest = same_called f w u args s agree in
-    λ i. cond (is_choice f) (chosen f args) (cond (is_one_of lists_taken f) (list_value f (items i)) (rest i))
+same_list : (f : Function) (w u : World) (args : List Argument) → AgreeOn args w u →
+    list_value f (items_of w.sight.values args) ≡ list_value f (items_of u.sight.values args)
+same_list f w u args agree = ap (list_value f) (same_of w.sight.values u.sight.values args agree)
+
+same_call : (f : Function) (w u : World) (args : List Argument) → is_volatile_function f ≡ false → AgreeOn args w u →
+    call_value f w args ≡ call_value f u args
+same_call function.Choose w u args s agree = refl
+same_call function.If w u args s agree = refl
+same_call function.Sum w u args s agree = same_list function.Sum w u args agree
+same_call function.Avg w u args s agree = same_list function.Avg w u args agree
+same_call function.Count w u args s agree = same_list function.Count w u args agree
+same_call function.Min w u args s agree = same_list function.Min w u args agree
+same_call function.Max w u args s agree = same_list function.Max w u args agree
+same_call f w u args s agree = same_called f w u args s agree
 
 -- the ranges of arguments are among the spans that they read
 any_here : (p : Place) (xs ys : List Extent) → list_any (λ s. is_within s p) xs ≡ true → list_any (λ s. is_within s p) (xs ++ ys) ≡ true
@@ -164,8 +165,8 @@ mutual
       let two = value_reads b at w u steady_parts.1 (for_right (spans_of a at) (spans_of b at) w u h) in
       λ i. binary_value op (one i) (two i)
   value_reads (call f ts) at w u s h =
-      let parts = either_false (is_one_of volatile_codes f) (any_volatile ts) s in
-      same_call f w u (arguments_at ts at w) (steady f parts.0) (λ p r. h p (read_arguments ts at w p r)) ∙ ap (call_value f u) (arguments_read ts at w u parts.1 h)
+      let parts = either_false (is_volatile_function f) (any_volatile ts) s in
+      same_call f w u (arguments_at ts at w) parts.0 (λ p r. h p (read_arguments ts at w p r)) ∙ ap (call_value f u) (arguments_read ts at w u parts.1 h)
 
   arguments_read : (ts : Trees) (at : Place) (w u : World) → any_volatile ts ≡ false → AgreeFor (spans_of_all ts at) w u → arguments_at ts at w ≡ arguments_at ts at u
   arguments_read no_trees at w u s h = refl

@@ -1,10 +1,12 @@
 -- Functions of lists.
-use Rattle.std.specs.Prelude.{ℕ, ◌==◌, ◌+ℤ◌, ℤ, pos, Bool, true, false, Option, Some, None, List, [], ◌∷◌, ◌++◌, fold, length, if◌then◌else◌}
+use Rattle.std.specs.Prelude.{◌+ℤ◌, ℤ, pos, Bool, true, false, Option, Some, None, List, [], ◌∷◌, ◌++◌, fold, length, if◌then◌else◌}
 use Rattle.std.specs.List.{list_any}
 use Rattle.std.specs.Int.RustNames.{int_lt}
 use Rattle.fixed_value.specs.Numbers.{within}
 use Rattle.grid_address.specs.Place.{Place}
 use Rattle.formula_tree.specs.declared.ast.Op.TheVariants.{Div}
+use Rattle.formula_tree.specs.declared.function.Function.{Function}
+use Rattle.formula_tree.specs.declared.function.Function.TheVariants as function
 use Rattle.formula_tree.specs.declared.value.Value.{Value}
 use Rattle.formula_tree.specs.declared.value.Value.TheVariants as value
 use Rattle.formula_eval.specs.declared.argument.Operand.{Operand}
@@ -83,13 +85,12 @@ larger None i = Some (size_of i)
 larger (Some x) i = if int_lt x (size_of i) then Some (size_of i) else Some x
 
 -- SUM, AVG, COUNT, MIN and MAX; AVG is SUM divided by COUNT
-unfoldable pub list_row : ℕ → List Item → Value
-list_row f items =
-    if f == 80 then answer (within (sum items))
-    else if f == 81 then binary_value Div (answer (within (sum items))) (counted (length items))
-    else if f == 82 then counted (length items)
-    else if f == 83 then answer (fold smaller None items)
-    else answer (fold larger None items)
+abbrev pub list_row : Function → List Item → Value
+list_row function.Sum items = answer (within (sum items))
+list_row function.Avg items = binary_value Div (answer (within (sum items))) (counted (length items))
+list_row function.Count items = counted (length items)
+list_row function.Min items = answer (fold smaller None items)
+list_row f items = answer (fold larger None items)
 
-abbrev pub list_value : ℕ → List Item → Value
+abbrev pub list_value : Function → List Item → Value
 list_value f items = unless_stopped (stop (list_any is_err items) (list_any is_na items)) (list_row f items)

@@ -8,6 +8,8 @@ use Rattle.grid_address.specs.Place.{height_of, spanned, width_of, Extent, Place
 use Rattle.grid_address.specs.Progress.{address_in}
 use Rattle.range_names.specs.Names.{key_of, NameMap}
 use Rattle.at_functions.specs.Numbers.{count_of}
+use Rattle.formula_tree.specs.declared.function.Function.{Function}
+use Rattle.formula_tree.specs.declared.function.Function.TheVariants as function
 use Rattle.formula_tree.specs.declared.value.Value.{Value}
 use Rattle.formula_tree.specs.declared.value.Value.TheVariants as value
 use Rattle.formula_eval.specs.declared.argument.Operand.{Operand}
@@ -26,8 +28,9 @@ on_range (Some s) f = f s
 on_range None f = value.Err
 
 -- COLS and ROWS
-abbrev pub extent_value : ℕ → Extent → Value
-extent_value f s = if f == 99 then counted (width_of s) else counted (height_of s)
+abbrev pub extent_value : Function → Extent → Value
+extent_value function.Cols s = counted (width_of s)
+extent_value f s = counted (height_of s)
 
 -- a range is looked through by lines, which are its rows, or its columns across; each has so many cells
 abbrev pub lines_of : Bool → Extent → ℕ

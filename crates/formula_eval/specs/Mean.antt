@@ -1,12 +1,13 @@
 -- What a formula means.
-use Rattle.std.specs.Prelude.{◌≡◌, ℕ, zero, suc, ◌+◌, ◌==◌, ◌||◌, nat_lt, ℤ, pos, Bool, true, false, Option, Some, None, Result, Ok, Err, List, [], ◌∷◌, length, if◌then◌else◌}
+use Rattle.std.specs.Prelude.{◌≡◌, ℕ, zero, suc, ◌+◌, nat_lt, ℤ, pos, Bool, true, false, Option, Some, None, Result, Ok, Err, List, [], ◌∷◌, length, if◌then◌else◌}
 use Rattle.std.specs.List.{list_any}
 use Rattle.grid_address.specs.Leads.{resolve}
 use Rattle.grid_address.specs.Place.{is_within, spanned, Place}
 use Rattle.at_functions.specs.Numbers.{count_of}
 use Rattle.formula_tree.specs.Spans.{spans_of}
-use Rattle.formula_tree.specs.Table.{is_one_of, lists_taken}
 use Rattle.formula_tree.specs.Tree.{Tree, num, str, cell, span, group, neg, not, binary, call, Trees, no_trees, trees}
+use Rattle.formula_tree.specs.declared.function.Function.{Function}
+use Rattle.formula_tree.specs.declared.function.Function.TheVariants as function
 use Rattle.formula_tree.specs.declared.value.Value.{Value}
 use Rattle.formula_tree.specs.declared.value.Value.TheVariants as value
 use Rattle.formula_eval.specs.declared.argument.Argument.{Argument}
@@ -20,52 +21,54 @@ use Rattle.value_functions.specs.Scalars.{changed, char_value, constant_value, c
 use Rattle.value_functions.specs.Values.{number_in, stop_one}
 use Rattle.formula_eval.specs.World.{World}
 
--- DAY and its like take a number, LENGTH and its like a text
-abbrev pub takes_number : ℕ → Bool
-takes_number f = is_one_of (33 ∷ 34 ∷ 60 ∷ 61 ∷ 62 ∷ 65 ∷ 66 ∷ 67 ∷ []) f
-
-abbrev pub takes_text : ℕ → Bool
-takes_text f = is_one_of (70 ∷ 71 ∷ 75 ∷ 77 ∷ 78 ∷ []) f
-
-abbrev pub changes_text : ℕ → Bool
-changes_text f = is_one_of (102 ∷ 103 ∷ 107 ∷ 109 ∷ 110 ∷ []) f
-
-abbrev pub cuts_text : ℕ → Bool
-cuts_text f = is_one_of (101 ∷ 104 ∷ 105 ∷ []) f
-
 -- functions of one argument
-unfoldable pub one_value : ℕ → World → Argument → Value
-one_value f w a =
-    if takes_number f then of_number f a.value
-    else if takes_text f then of_text f a.value
-    else if changes_text f then changed f a.value
-    else if f == 74 then char_value a.value
-    else if f == 79 then told_value w.sight w.cursor a.value
-    else if f == 115 then pointed_value w.sight.values w.sight.names a.value
-    else if f == 99 || f == 100 then on_range (range_of a.operand) (extent_value f)
-    else test_value f a.value
+abbrev pub one_value : Function → World → Argument → Value
+one_value function.Abs w a = of_number function.Abs a.value
+one_value function.Int w a = of_number function.Int a.value
+one_value function.Day w a = of_number function.Day a.value
+one_value function.Month w a = of_number function.Month a.value
+one_value function.Year w a = of_number function.Year a.value
+one_value function.Hour w a = of_number function.Hour a.value
+one_value function.Minute w a = of_number function.Minute a.value
+one_value function.Second w a = of_number function.Second a.value
+one_value function.Length w a = of_text function.Length a.value
+one_value function.Value w a = of_text function.Value a.value
+one_value function.Code w a = of_text function.Code a.value
+one_value function.DateValue w a = of_text function.DateValue a.value
+one_value function.TimeValue w a = of_text function.TimeValue a.value
+one_value function.Upper w a = changed function.Upper a.value
+one_value function.Lower w a = changed function.Lower a.value
+one_value function.Proper w a = changed function.Proper a.value
+one_value function.Trim w a = changed function.Trim a.value
+one_value function.Clean w a = changed function.Clean a.value
+one_value function.Char w a = char_value a.value
+one_value function.CellPointer w a = told_value w.sight w.cursor a.value
+one_value function.Pointed w a = pointed_value w.sight.values w.sight.names a.value
+one_value function.Cols w a = on_range (range_of a.operand) (extent_value function.Cols)
+one_value function.Rows w a = on_range (range_of a.operand) (extent_value function.Rows)
+one_value f w a = test_value f a.value
 
 -- functions of two arguments
-unfoldable pub two_value : ℕ → World → Argument → Argument → Value
-two_value f w a b =
-    if cuts_text f then cut_value f a.value b.value
-    else if f == 72 then string_value a.value b.value
-    else if f == 113 then exact_value a.value b.value
-    else if f == 108 then cell_value w.sight a.value b.operand
-    else of_numbers f a.value b.value
+abbrev pub two_value : Function → World → Argument → Argument → Value
+two_value function.Repeat w a b = cut_value function.Repeat a.value b.value
+two_value function.Left w a b = cut_value function.Left a.value b.value
+two_value function.Right w a b = cut_value function.Right a.value b.value
+two_value function.String w a b = string_value a.value b.value
+two_value function.Exact w a b = exact_value a.value b.value
+two_value function.Cell w a b = cell_value w.sight a.value b.operand
+two_value f w a b = of_numbers f a.value b.value
 
 -- functions of three arguments
-unfoldable pub three_value : ℕ → World → Argument → Argument → Argument → Value
-three_value f w a b c =
-    if f == 73 then mid_value a.value b.value c.value
-    else if f == 76 then find_value a.value b.value c.value
-    else if f == 85 then lookup_value w.sight.values false a.value b.operand c.value
-    else if f == 90 then lookup_value w.sight.values true a.value b.operand c.value
-    else if f == 98 then index_value w.sight.values a.operand b.value c.value
-    else of_parts f a.value b.value c.value
+abbrev pub three_value : Function → World → Argument → Argument → Argument → Value
+three_value function.Mid w a b c = mid_value a.value b.value c.value
+three_value function.Find w a b c = find_value a.value b.value c.value
+three_value function.VLookup w a b c = lookup_value w.sight.values false a.value b.operand c.value
+three_value function.HLookup w a b c = lookup_value w.sight.values true a.value b.operand c.value
+three_value function.Index w a b c = index_value w.sight.values a.operand b.value c.value
+three_value f w a b c = of_parts f a.value b.value c.value
 
 -- functions by the number of their arguments
-abbrev pub called : ℕ → World → List Argument → Value
+abbrev pub called : Function → World → List Argument → Value
 called f w [] = constant_value f w.day w.second
 called f w (a ∷ []) = one_value f w a
 called f w (a ∷ b ∷ []) = two_value f w a b
@@ -78,20 +81,21 @@ abbrev pub behind_first : ℕ → Option ℕ → Option ℕ
 behind_first count None = None
 behind_first count (Some n) = if nat_lt (n + 1) count then Some (n + 1) else None
 
-abbrev pub place_for : ℕ → ℕ → ℤ → Option ℕ
-place_for f count x = if f == 59 then (if is_zero x then Some 2 else Some 1) else behind_first count (count_of x)
+abbrev pub place_for : Function → ℕ → ℤ → Option ℕ
+place_for function.If count x = if is_zero x then Some 2 else Some 1
+place_for f count x = behind_first count (count_of x)
 
 abbrev pub place_or_err : Option ℕ → Result ℕ Value
 place_or_err (Some k) = Ok k
 place_or_err None = Err value.Err
 
-abbrev pub choice_by : Option Value → Option ℤ → ℕ → ℕ → Result ℕ Value
+abbrev pub choice_by : Option Value → Option ℤ → Function → ℕ → Result ℕ Value
 choice_by (Some stopped) x f count = Err stopped
 choice_by None None f count = Err value.Err
 choice_by None (Some x) f count = place_or_err (place_for f count x)
 
 -- by the first argument, where there are so many: the place of the argument that decides, or the value
-abbrev pub choice : ℕ → ℕ → Value → Result ℕ Value
+abbrev pub choice : Function → ℕ → Value → Result ℕ Value
 choice f count v = choice_by (stop_one v) (number_in v) f count
 
 abbrev pub nth_value : List Argument → ℕ → Value
@@ -103,19 +107,20 @@ abbrev pub chosen_one : Result ℕ Value → List Argument → Value
 chosen_one (Ok k) args = nth_value args k
 chosen_one (Err v) args = v
 
-abbrev pub chosen : ℕ → List Argument → Value
+abbrev pub chosen : Function → List Argument → Value
 chosen f [] = value.Err
 chosen f (a ∷ more) = chosen_one (choice f (suc (length more)) a.value) (a ∷ more)
 
--- 48 is CHOOSE and 59 is IF
-abbrev pub is_choice : ℕ → Bool
-is_choice f = f == 48 || f == 59
-
-unfoldable pub call_value : ℕ → World → List Argument → Value
-call_value f w args =
-    if is_choice f then chosen f args
-    else if is_one_of lists_taken f then list_value f (items_of w.sight.values args)
-    else called f w args
+-- one of the arguments alone is wanted beside the first, a list of all cells, or the arguments
+abbrev pub call_value : Function → World → List Argument → Value
+call_value function.Choose w args = chosen function.Choose args
+call_value function.If w args = chosen function.If args
+call_value function.Sum w args = list_value function.Sum (items_of w.sight.values args)
+call_value function.Avg w args = list_value function.Avg (items_of w.sight.values args)
+call_value function.Count w args = list_value function.Count (items_of w.sight.values args)
+call_value function.Min w args = list_value function.Min (items_of w.sight.values args)
+call_value function.Max w args = list_value function.Max (items_of w.sight.values args)
+call_value f w args = called f w args
 
 -- what an argument is as a range
 abbrev pub operand_of : Tree → Place → Operand

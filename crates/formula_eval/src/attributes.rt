@@ -90,7 +90,7 @@ fn prefix_value(alloc: Global, content: &Content) -> Result<Value, Memory>
     ensures { IfOk result (λ v. v ≡ texted (prefix_in content.now)) }
 {
     match content {
-        Content::Label(prefix, _) => texted(alloc, &[*prefix]),
+        Content::Label(prefix, _) => texted(alloc, &[prefix.byte()]),
         Content::Blank | Content::Number(_) | Content::Formula(_) => texted(alloc, b""),
     }
 }
@@ -141,7 +141,7 @@ fn attribute_value<K: Look>(
             without_brackets(indicator(look.format(cell)).bytes()),
         ),
         Attribute::Prefix => prefix_there(alloc, cell, look),
-        Attribute::Protect => Ok(truth(look.format(cell).0 >= 128)),
+        Attribute::Protect => Ok(truth(look.format(cell).is_protected())),
         Attribute::CellType => type_there(alloc, cell, look),
         Attribute::Width => Ok(counted(usize::from(look.width(cell.col)))),
     }

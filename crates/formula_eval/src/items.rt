@@ -9,7 +9,7 @@ ghost use Rattle.formula_eval.specs.World.{filled, Sight};
 use crate::argument::{Argument, Operand};
 use crate::look::Look;
 use fixed_value::{Fixed, MAX_SIZE};
-use formula_tree::Value;
+use formula_tree::{Function, Value};
 use grid_address::Span;
 use lics_text::Memory;
 use std::alloc::Global;
@@ -226,15 +226,14 @@ fn greatest(items: &[Item]) -> Option<Fixed>
 }
 
 // SUM, AVG, COUNT, MIN and MAX; AVG is SUM divided by COUNT.
-#[tactic(auto, unfolding(crate::specs::Lists::list_row))]
-fn list_row(function: u8, items: &[Item]) -> Value
+fn list_row(function: Function, items: &[Item]) -> Value
     ensures { result ≡ list_row function items.now }
 {
     match function {
-        0x50 => answer(number_of(sum(items))),
-        0x51 => divided(&answer(number_of(sum(items))), &counted(items.len())),
-        0x52 => counted(items.len()),
-        0x53 => answer(least(items)),
+        Function::Sum => answer(number_of(sum(items))),
+        Function::Avg => divided(&answer(number_of(sum(items))), &counted(items.len())),
+        Function::Count => counted(items.len()),
+        Function::Min => answer(least(items)),
         _ => answer(greatest(items)),
     }
 }
@@ -252,7 +251,7 @@ fn any_na(items: &[Item]) -> bool
 }
 
 /// A list function over its items.
-pub fn list_value(function: u8, items: &[Item]) -> Value
+pub fn list_value(function: Function, items: &[Item]) -> Value
     ensures { result ≡ list_value function items.now }
 {
     match stop(any_err(items), any_na(items)) {

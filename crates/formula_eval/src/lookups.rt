@@ -11,7 +11,7 @@ use crate::argument::Operand;
 use crate::look::Look;
 use at_functions::whole;
 use fixed_value::Fixed;
-use formula_tree::Value;
+use formula_tree::{Function, Value};
 use grid_address::{Cell, Span, read_cell};
 use lics_text::{Memory, Text};
 use range_names::Names;
@@ -30,13 +30,12 @@ pub fn range_of(operand: Operand) -> Option<Span>
 }
 
 /// COLS and ROWS.
-pub fn extent_value(function: u8, span: Span) -> Value
+pub fn extent_value(function: Function, span: Span) -> Value
     ensures { result ≡ extent_value function span }
 {
-    if function == 0x63 {
-        counted(usize::from(span.width()))
-    } else {
-        counted(usize::from(span.height()))
+    match function {
+        Function::Cols => counted(usize::from(span.width())),
+        _ => counted(usize::from(span.height())),
     }
 }
 

@@ -9,11 +9,11 @@ ghost use Rattle.formula_eval.specs.World.{Sight};
 ghost use Rattle.formula_tree.specs.declared.value.Value.TheVariants as value;
 
 use crate::argument::{Argument, Operand};
-use crate::calls::{called, choice, is_choice, is_list};
+use crate::calls::{called, choice};
 use crate::items::{items_of, list_value};
 use crate::look::{Look, Scene};
 use fixed_value::Fixed;
-use formula_tree::{Expr, Formula, Op, Value};
+use formula_tree::{Expr, Formula, Function, Op, Value};
 use grid_address::{Cell, Span};
 use lics_text::{Memory, Text};
 use std::alloc::Global;
@@ -77,7 +77,7 @@ fn arguments_of<K: Look>(
 #[cycle(value)]
 fn chosen<K: Look>(
     alloc: Global,
-    function: u8,
+    function: Function,
     exprs: &[Expr],
     at: Cell,
     look: &K,
@@ -101,11 +101,28 @@ fn chosen<K: Look>(
     }
 }
 
+// The value of a function of a list.
 #[cycle(value)]
-#[tactic(auto, unfolding(crate::specs::Mean::call_value))]
+fn listed_value<K: Look>(
+    alloc: Global,
+    function: Function,
+    exprs: &[Expr],
+    at: Cell,
+    look: &K,
+    scene: &Scene,
+) -> Result<Value, Memory>
+    ensures { IfOk result (λ v. v ≡ list_value function (items_of (K.sight look.now).values (arguments_at (listed (map tree_of exprs.now)) at (world_of (K.sight look.now) scene.entry.now)))) }
+{
+    let arguments = arguments_of(alloc, exprs, at, look, scene)?;
+    let items = items_of(alloc, arguments.as_slice(), look)?;
+    Ok(list_value(function, items.as_slice()))
+}
+
+// The value of a function of arguments.
+#[cycle(value)]
 fn call_value<K: Look>(
     alloc: Global,
-    function: u8,
+    function: Function,
     exprs: &[Expr],
     at: Cell,
     look: &K,
@@ -113,15 +130,15 @@ fn call_value<K: Look>(
 ) -> Result<Value, Memory>
     ensures { IfOk result (λ v. v ≡ call_value function (world_of (K.sight look.now) scene.entry.now) (arguments_at (listed (map tree_of exprs.now)) at (world_of (K.sight look.now) scene.entry.now))) }
 {
-    if is_choice(function) {
-        return chosen(alloc, function, exprs, at, look, scene);
-    }
-    let arguments = arguments_of(alloc, exprs, at, look, scene)?;
-    if is_list(function) {
-        let items = items_of(alloc, arguments.as_slice(), look)?;
-        Ok(list_value(function, items.as_slice()))
-    } else {
-        called(alloc, function, arguments.as_slice(), look, scene)
+    match function {
+        Function::Choose | Function::If => chosen(alloc, function, exprs, at, look, scene),
+        Function::Sum | Function::Avg | Function::Count | Function::Min | Function::Max => {
+            listed_value(alloc, function, exprs, at, look, scene)
+        }
+        _ => {
+            let arguments = arguments_of(alloc, exprs, at, look, scene)?;
+            called(alloc, function, arguments.as_slice(), look, scene)
+        }
     }
 }
 
@@ -214,14 +231,7 @@ fn value_of<K: Look>(
         Expr::Neg(inner) => negated_value(alloc, inner, at, look, scene),
         Expr::Not(inner) => denied_value(alloc, inner, at, look, scene),
         Expr::Binary(op, left, right) => binary_value(alloc, *op, left, right, at, look, scene),
-        Expr::Call(function, exprs) => call_value(
-            alloc,
-            function.0,
-            exprs.items(),
-            at,
-            look,
-            scene,
-        ),
+        Expr::Call(function, exprs) => call_value(alloc, *function, exprs.items(), at, look, scene),
     }
 }
 

@@ -1,6 +1,6 @@
--- Functions of single values, one row each, by their codes (worksheet file format).
+-- Functions of single values, one row each.
 use Rattle.std.specs.Char.{to_ascii_lowercase, to_ascii_uppercase}
-use Rattle.std.specs.Prelude.{ℕ, ◌+◌, ◌*◌, ◌==◌, not, ℤ, pos, nat_abs, Option, Some, None, Result, Ok, Err, List, length, map, if◌then◌else◌}
+use Rattle.std.specs.Prelude.{ℕ, ◌+◌, ◌*◌, not, ℤ, pos, nat_abs, Option, Some, None, Result, Ok, Err, List, length, map}
 use Rattle.std.specs.Str.{bytes_eq}
 use Rattle.fixed_value.specs.Numbers.{remainder, whole_part}
 use Rattle.serial_date.specs.Fractions.{millionths_of_day}
@@ -10,6 +10,8 @@ use Rattle.at_functions.specs.Dates.{date, day, hour, minute, month, second, tim
 use Rattle.at_functions.specs.Numbers.{round, units}
 use Rattle.at_functions.specs.Readings.{datevalue, timevalue, value as value_of_text}
 use Rattle.at_functions.specs.Texts.{char_of, code, find_in, left, mid, repeat, replace, right, string}
+use Rattle.formula_tree.specs.declared.function.Function.{Function}
+use Rattle.formula_tree.specs.declared.function.Function.TheVariants as function
 use Rattle.formula_tree.specs.declared.value.Value.{Value}
 use Rattle.formula_tree.specs.declared.value.Value.TheVariants as value
 use Rattle.value_functions.specs.Values.{answer, is_err, is_na, is_text, number_in, on_number, on_text, stop_four, stop_one, stop_three, stop_two, text_in, truth, unless_stopped, worded}
@@ -24,94 +26,87 @@ in_words (Ok t) = Ok (worded t)
 in_words (Err e) = Err e
 
 -- NA, ERR, FALSE, TRUE and NOW
-unfoldable pub constant_value : ℕ → Option ℕ → ℕ → Value
-constant_value f day second =
-    if f == 31 then value.Na
-    else if f == 51 then value.Num (pos 0)
-    else if f == 52 then value.Num (pos 1000000)
-    else if f == 55 then now_value day second
-    else value.Err
+abbrev pub constant_value : Function → Option ℕ → ℕ → Value
+constant_value function.Na day second = value.Na
+constant_value function.False day second = value.Num (pos 0)
+constant_value function.True day second = value.Num (pos 1000000)
+constant_value function.Now day second = now_value day second
+constant_value f day second = value.Err
 
 -- ABS, INT, DAY, MONTH, YEAR, HOUR, MINUTE and SECOND
-unfoldable pub number_row : ℕ → ℤ → Option ℤ
-number_row f x =
-    if f == 33 then Some (pos (nat_abs x))
-    else if f == 34 then Some (whole_part x)
-    else if f == 60 then day x
-    else if f == 61 then month x
-    else if f == 62 then year x
-    else if f == 65 then hour x
-    else if f == 66 then minute x
-    else if f == 67 then second x
-    else None
+abbrev pub number_row : Function → ℤ → Option ℤ
+number_row function.Abs x = Some (pos (nat_abs x))
+number_row function.Int x = Some (whole_part x)
+number_row function.Day x = day x
+number_row function.Month x = month x
+number_row function.Year x = year x
+number_row function.Hour x = hour x
+number_row function.Minute x = minute x
+number_row function.Second x = second x
+number_row f x = None
 
 -- LENGTH, VALUE, CODE, DATEVALUE and TIMEVALUE
-unfoldable pub text_row : ℕ → List ℕ → Option ℤ
-text_row f t =
-    if f == 70 then Some (units (length t))
-    else if f == 71 then value_of_text t
-    else if f == 75 then code t
-    else if f == 77 then datevalue t
-    else if f == 78 then timevalue t
-    else None
+abbrev pub text_row : Function → List ℕ → Option ℤ
+text_row function.Length t = Some (units (length t))
+text_row function.Value t = value_of_text t
+text_row function.Code t = code t
+text_row function.DateValue t = datevalue t
+text_row function.TimeValue t = timevalue t
+text_row f t = None
 
 -- UPPER, LOWER, PROPER, TRIM and CLEAN
-unfoldable pub changed_row : ℕ → List ℕ → Option (List ℕ)
-changed_row f t =
-    if f == 102 then Some (map to_ascii_uppercase t)
-    else if f == 103 then Some (map to_ascii_lowercase t)
-    else if f == 107 then Some (proper_of t)
-    else if f == 109 then Some (trimmed t)
-    else if f == 110 then Some t
-    else None
+abbrev pub changed_row : Function → List ℕ → Option (List ℕ)
+changed_row function.Upper t = Some (map to_ascii_uppercase t)
+changed_row function.Lower t = Some (map to_ascii_lowercase t)
+changed_row function.Proper t = Some (proper_of t)
+changed_row function.Trim t = Some (trimmed t)
+changed_row function.Clean t = Some t
+changed_row f t = None
 
 -- MOD and ROUND
-unfoldable pub numbers_row : ℕ → ℤ → ℤ → Option ℤ
-numbers_row f x y =
-    if f == 47 then remainder x y
-    else if f == 63 then round x y
-    else None
+abbrev pub numbers_row : Function → ℤ → ℤ → Option ℤ
+numbers_row function.Mod x y = remainder x y
+numbers_row function.Round x y = round x y
+numbers_row f x y = None
 
 -- DATE and TIME
-unfoldable pub parts_row : ℕ → ℤ → ℤ → ℤ → Option ℤ
-parts_row f x y z =
-    if f == 54 then date x y z
-    else if f == 64 then time x y z
-    else None
+abbrev pub parts_row : Function → ℤ → ℤ → ℤ → Option ℤ
+parts_row function.Date x y z = date x y z
+parts_row function.Time x y z = time x y z
+parts_row f x y z = None
 
 -- REPEAT, LEFT and RIGHT
-unfoldable pub cut_row : ℕ → List ℕ → ℤ → Option (List ℕ)
-cut_row f t n =
-    if f == 101 then repeat t n
-    else if f == 104 then left t n
-    else if f == 105 then right t n
-    else None
+abbrev pub cut_row : Function → List ℕ → ℤ → Option (List ℕ)
+cut_row function.Repeat t n = repeat t n
+cut_row function.Left t n = left t n
+cut_row function.Right t n = right t n
+cut_row f t n = None
 
-abbrev pub of_number : ℕ → Value → Value
+abbrev pub of_number : Function → Value → Value
 of_number f a = unless_stopped (stop_one a) (on_number (number_in a) (λ x. answer (number_row f x)))
 
-abbrev pub of_text : ℕ → Value → Value
+abbrev pub of_text : Function → Value → Value
 of_text f a = unless_stopped (stop_one a) (on_text (text_in a) (λ t. answer (text_row f t)))
 
-abbrev pub changed : ℕ → Value → Value
+abbrev pub changed : Function → Value → Value
 changed f a = unless_stopped (stop_one a) (on_text (text_in a) (λ t. worded (changed_row f t)))
 
 abbrev pub char_value : Value → Value
 char_value a = unless_stopped (stop_one a) (on_number (number_in a) (λ x. worded (char_of x)))
 
-abbrev pub of_numbers : ℕ → Value → Value → Value
+abbrev pub of_numbers : Function → Value → Value → Value
 of_numbers f a b = unless_stopped (stop_two a b) (on_number (number_in a) (λ x. on_number (number_in b) (λ y. answer (numbers_row f x y))))
 
 abbrev pub string_value : Value → Value → Value
 string_value a b = unless_stopped (stop_two a b) (on_number (number_in a) (λ x. on_number (number_in b) (λ y. worded (string x y))))
 
-abbrev pub cut_value : ℕ → Value → Value → Value
+abbrev pub cut_value : Function → Value → Value → Value
 cut_value f a b = unless_stopped (stop_two a b) (on_text (text_in a) (λ t. on_number (number_in b) (λ n. worded (cut_row f t n))))
 
 abbrev pub exact_value : Value → Value → Value
 exact_value a b = unless_stopped (stop_two a b) (on_text (text_in a) (λ s. on_text (text_in b) (λ t. truth (bytes_eq s t))))
 
-abbrev pub of_parts : ℕ → Value → Value → Value → Value
+abbrev pub of_parts : Function → Value → Value → Value → Value
 of_parts f a b c = unless_stopped (stop_three a b c) (on_number (number_in a) (λ x. on_number (number_in b) (λ y. on_number (number_in c) (λ z. answer (parts_row f x y z)))))
 
 abbrev pub mid_value : Value → Value → Value → Value
@@ -125,9 +120,8 @@ replace_value a b c d =
     unless_stopped (stop_four a b c d) (on_text (text_in a) (λ t. on_number (number_in b) (λ s. on_number (number_in c) (λ n. on_text (text_in d) (λ new. worded (replace t s n new))))))
 
 -- ISNA, ISERR, ISNUMBER and ISSTRING; any value passes the test
-unfoldable pub test_value : ℕ → Value → Value
-test_value f a =
-    if f == 49 then truth (is_na a)
-    else if f == 50 then truth (is_err a)
-    else if f == 69 then truth (is_text a)
-    else truth (not (is_text a))
+abbrev pub test_value : Function → Value → Value
+test_value function.IsNa a = truth (is_na a)
+test_value function.IsErr a = truth (is_err a)
+test_value function.IsString a = truth (is_text a)
+test_value f a = truth (not (is_text a))

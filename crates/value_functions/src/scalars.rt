@@ -9,7 +9,7 @@ use crate::values::{
 };
 use at_functions::{char_of, find_in, mid, replace, string};
 use fixed_value::Fixed;
-use formula_tree::Value;
+use formula_tree::{Function, Value};
 use lics_text::{Memory, Text};
 use std::alloc::Global;
 
@@ -23,7 +23,7 @@ fn in_words(text: Result<Option<Text>, Memory>) -> Result<Value, Memory>
 }
 
 /// DAY and its like, of a number.
-pub fn of_number(function: u8, a: &Value) -> Value
+pub fn of_number(function: Function, a: &Value) -> Value
     ensures { result ≡ of_number function a.now }
 {
     if let Some(stopped) = stop_one(a) {
@@ -36,7 +36,7 @@ pub fn of_number(function: u8, a: &Value) -> Value
 }
 
 /// LENGTH and its like, of a text.
-pub fn of_text(function: u8, a: &Value) -> Value
+pub fn of_text(function: Function, a: &Value) -> Value
     ensures { result ≡ of_text function a.now }
 {
     if let Some(stopped) = stop_one(a) {
@@ -49,7 +49,7 @@ pub fn of_text(function: u8, a: &Value) -> Value
 }
 
 /// UPPER and its like, of a text.
-pub fn changed(function: u8, a: &Value) -> Result<Value, Memory>
+pub fn changed(function: Function, a: &Value) -> Result<Value, Memory>
     ensures { IfOk result (λ v. v ≡ changed function a.now) }
 {
     if let Some(stopped) = stop_one(a) {
@@ -75,7 +75,7 @@ pub fn char_value(alloc: Global, a: &Value) -> Result<Value, Memory>
 }
 
 /// MOD and ROUND.
-pub fn of_numbers(function: u8, a: &Value, b: &Value) -> Value
+pub fn of_numbers(function: Function, a: &Value, b: &Value) -> Value
     ensures { result ≡ of_numbers function a.now b.now }
 {
     if let Some(stopped) = stop_two(a, b) {
@@ -107,7 +107,7 @@ pub fn string_value(alloc: Global, a: &Value, b: &Value) -> Result<Value, Memory
 }
 
 /// REPEAT, LEFT and RIGHT.
-pub fn cut_value(function: u8, a: &Value, b: &Value) -> Result<Value, Memory>
+pub fn cut_value(function: Function, a: &Value, b: &Value) -> Result<Value, Memory>
     ensures { IfOk result (λ v. v ≡ cut_value function a.now b.now) }
 {
     if let Some(stopped) = stop_two(a, b) {
@@ -139,7 +139,7 @@ pub fn exact_value(a: &Value, b: &Value) -> Value
 }
 
 /// DATE and TIME.
-pub fn of_parts(function: u8, a: &Value, b: &Value, c: &Value) -> Value
+pub fn of_parts(function: Function, a: &Value, b: &Value, c: &Value) -> Value
     ensures { result ≡ of_parts function a.now b.now c.now }
 {
     if let Some(stopped) = stop_three(a, b, c) {
@@ -218,14 +218,13 @@ pub fn replace_value(a: &Value, b: &Value, c: &Value, d: &Value) -> Result<Value
 }
 
 /// ISNA, ISERR, ISNUMBER and ISSTRING.
-#[tactic(auto, unfolding(crate::specs::Scalars::test_value))]
-pub fn test_value(function: u8, a: &Value) -> Value
+pub fn test_value(function: Function, a: &Value) -> Value
     ensures { result ≡ test_value function a.now }
 {
     match function {
-        0x31 => truth(is_na(a)),
-        0x32 => truth(is_err(a)),
-        0x45 => truth(is_text(a)),
+        Function::IsNa => truth(is_na(a)),
+        Function::IsErr => truth(is_err(a)),
+        Function::IsString => truth(is_text(a)),
         _ => truth(!is_text(a)),
     }
 }

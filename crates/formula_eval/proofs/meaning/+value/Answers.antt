@@ -91,5 +91,5 @@ value_of-returns-in-Call g t c =
     let f = c.in-Call.function in
     let args = c.in-Call.exprs in
     let is =
-    ap (λ es. call_value f.0 w (arguments_at (listed (map tree_of es)) at w)) c.items.ensures ∙ ap (λ x. value_at x at w) (sym (tree_of-Call f args)) ∙ ap (λ e. value_at (tree_of e) at w) (sym c.in-Call.is) in
+    ap (λ es. call_value f w (arguments_at (listed (map tree_of es)) at w)) c.items.ensures ∙ ap (λ x. value_at x at w) (sym (tree_of-Call f args)) ∙ ap (λ e. value_at (tree_of e) at w) (sym c.in-Call.is) in
     subst (λ x. IfOk c.call_value.result (λ v. v ≡ x)) is c.call_value.ensures

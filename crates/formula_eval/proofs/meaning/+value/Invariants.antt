@@ -9,7 +9,10 @@ abbrev pub decreases-value_of : goal.decreases-value_of
 decreases-value_of g l = 4 * nodes (tree_of l.expr.now)
 
 abbrev pub decreases-call_value : goal.decreases-call_value
-decreases-call_value g l = 4 * all_nodes (listed (map tree_of l.exprs.now)) + 2
+decreases-call_value g l = 4 * all_nodes (listed (map tree_of l.exprs.now)) + 3
+
+abbrev pub decreases-listed_value : goal.decreases-listed_value
+decreases-listed_value g l = 4 * all_nodes (listed (map tree_of l.exprs.now)) + 2
 
 abbrev pub decreases-arguments_of : goal.decreases-arguments_of
 decreases-arguments_of g l = 4 * all_nodes (listed (map tree_of l.exprs.now)) + 1
