@@ -1,0 +1,35 @@
+// Rows of the table of the worksheet file format.
+use crate::{code_of, function_of};
+use formula_tree::Function;
+use std::test::Fail;
+
+#[test]
+fn codes_have_their_functions(rt: HostRuntime) -> Result<(), Fail> {
+    for (code, function) in [
+        (0x1Fu8, Some(Function::Na)),
+        (0x20, Some(Function::Err)),
+        (0x23, None),
+        (0x30, Some(Function::Choose)),
+        (0x50, Some(Function::Sum)),
+        (0x5A, Some(Function::HLookup)),
+        (0x62, Some(Function::Index)),
+        (0x73, Some(Function::Pointed)),
+        (0xFF, None),
+    ] {
+        assert_eq!(rt; function_of(code), function);
+    }
+    assert_eq!(rt; code_of(Function::Replace), 0x6A);
+    Ok(())
+}
+
+#[test]
+fn fifty_five_codes_have_a_function(rt: HostRuntime) -> Result<(), Fail> {
+    let mut kept = 0u32;
+    for code in 0..=255u8 {
+        if function_of(code).is_some() {
+            kept = kept.wrapping_add(1);
+        }
+    }
+    assert_eq!(rt; kept, 55);
+    Ok(())
+}
