@@ -3,7 +3,9 @@ use Rattle.std.specs.Prelude.{ℕ, zero, suc, ◌+◌, ◌-◌, List, [], ◌∷
 use Rattle.std.specs.List.{flat_map, zip}
 use Rattle.grid_address.specs.Place.{height_of, width_of, Extent, Place}
 use Rattle.grid_address.specs.declared.format.Format.{Format}
+use Rattle.lics_text.specs.declared.prefix.LabelPrefix.TheVariants.{Left}
 use Rattle.formula_tree.specs.Tree.{call, no_trees}
+use Rattle.formula_tree.specs.declared.function.Function.TheVariants as function
 use Rattle.formula_tree.specs.declared.value.Content.{Content}
 use Rattle.formula_tree.specs.declared.value.Content.TheVariants as content
 use Rattle.formula_tree.specs.declared.value.Value.{Value}
@@ -53,9 +55,9 @@ erased p = written p content.Blank
 abbrev pub as_content : Value → Content
 as_content value.Blank = content.Blank
 as_content (value.Num x) = content.Number x
-as_content (value.Str t) = content.Label 39 t
-as_content value.Err = content.Formula (call 32 no_trees)
-as_content value.Na = content.Formula (call 31 no_trees)
+as_content (value.Str t) = content.Label Left t
+as_content value.Err = content.Formula (call function.Err no_trees)
+as_content value.Na = content.Formula (call function.Na no_trees)
 
 -- a cell of which nothing is kept is blank
 abbrev pub content_or_blank : Option Content → Content

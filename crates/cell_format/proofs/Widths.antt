@@ -1,9 +1,11 @@
 -- What is shown fills its width.
 use Rattle.std.proofs.Common.{◌≡◌, ◌≤◌, ◌<◌, ◌-◌, ◌+◌, ◌/◌, ◌%◌, ℕ, zero, suc, ℤ, List, [], ◌∷◌, ◌++◌, length, map, take, get_or, refl, ap, arith, length-append, inl, inr, Option, Some, None}
-use Rattle.std.specs.Prelude.{◌==◌, nat_le, nat_lt}
+use Rattle.std.specs.Prelude.{nat_le, nat_lt}
 use Rattle.std.proofs.lemmas.Bool.{cases_Bool}
 use Rattle.std.proofs.lemmas.Bool.Decides.{nat_tests}
 use Rattle.std.proofs.lemmas.List.{length-replicate, length-take}
+use Rattle.lics_text.specs.declared.prefix.LabelPrefix.{LabelPrefix}
+use Rattle.lics_text.specs.declared.prefix.LabelPrefix.TheVariants.{Left, Right, Center, Repeat, Unprinted}
 use Rattle.cell_format.specs.Format.{shape_of}
 use Rattle.cell_format.specs.Labels.{aligned, at_left, centred, masked, repeated, shown_label}
 use Rattle.cell_format.specs.Numbers.{at_right, number_text, placed, shown_number, spaces}
@@ -36,30 +38,25 @@ unfolding repeated
 repeated_width text zero = refl
 repeated_width text (suc width) = omega (arith, length-append (repeated text width) (get_or text (width % length text) 32 ∷ []), repeated_width text width)
 
-aligned_width : (prefix : ℕ) (text : List ℕ) (width : ℕ) → length (aligned prefix text width) ≡ width
-aligned_width prefix text width = elim (cases_Bool (prefix == 92)) [
-  | inl repeats ↦ rw repeats (repeated_width text width)
-  | inr other ↦ elim (cases_Bool (prefix == 34)) [
-    | inl right ↦ elim (cases_Bool (nat_lt (length text) width)) [
-      | inl fits ↦ rw (other, right, fits) (right_width text width (grind (arith, nat_tests, fits)))
-      | inr too_long ↦ rw (other, right, too_long) (left_width text width)
-    ]
-    | inr no_right ↦ elim (cases_Bool (prefix == 94)) [
-      | inl middle ↦ elim (cases_Bool (nat_le (length text) width)) [
-        | inl fits ↦ rw (other, no_right, middle, fits) (centred_width text width (grind (arith, nat_tests, fits)))
-        | inr too_long ↦ rw (other, no_right, middle, too_long) (left_width text width)
-      ]
-      | inr left ↦ rw (other, no_right, left) (left_width text width)
-    ]
-  ]
+aligned_width : (prefix : LabelPrefix) (text : List ℕ) (width : ℕ) → length (aligned prefix text width) ≡ width
+aligned_width Repeat text width = repeated_width text width
+aligned_width Right text width = elim (cases_Bool (nat_lt (length text) width)) [
+  | inl fits ↦ rw fits (right_width text width (grind (arith, nat_tests, fits)))
+  | inr too_long ↦ rw too_long (left_width text width)
 ]
+aligned_width Center text width = elim (cases_Bool (nat_le (length text) width)) [
+  | inl fits ↦ rw fits (centred_width text width (grind (arith, nat_tests, fits)))
+  | inr too_long ↦ rw too_long (left_width text width)
+]
+aligned_width Left text width = left_width text width
+aligned_width Unprinted text width = left_width text width
 
-label_in_width : (prefix : ℕ) (bytes : List ℕ) (width : ℕ) → length (shown_label prefix bytes width) ≡ width
+label_in_width : (prefix : LabelPrefix) (bytes : List ℕ) (width : ℕ) → length (shown_label prefix bytes width) ≡ width
 unfolding shown_label
 label_in_width prefix bytes width = aligned_width prefix (map masked bytes) width
 
 pub number_width : (line new : List ℕ) (v : ℤ) (format width : ℕ) → new ≡ line ++ shown_number v format width → length new ≡ length line + width
 number_width line new v format width is = omega (arith, ap length is, length-append line (shown_number v format width), number_in_width v format width)
 
-pub label_width : (line new : List ℕ) (prefix : ℕ) (bytes : List ℕ) (width : ℕ) → new ≡ line ++ shown_label prefix bytes width → length new ≡ length line + width
+pub label_width : (line new : List ℕ) (prefix : LabelPrefix) (bytes : List ℕ) (width : ℕ) → new ≡ line ++ shown_label prefix bytes width → length new ≡ length line + width
 label_width line new prefix bytes width is = omega (arith, ap length is, length-append line (shown_label prefix bytes width), label_in_width prefix bytes width)

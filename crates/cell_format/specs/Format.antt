@@ -1,16 +1,9 @@
 -- What a format byte asks for.
-use Rattle.std.specs.Prelude.{ℕ, ◌/◌, ◌%◌, ◌==◌, ◌<◌, ⊤, if◌then◌else◌}
+use Rattle.std.specs.Prelude.{ℕ, ◌==◌, ◌<◌, ⊤, if◌then◌else◌}
+use Rattle.grid_address.specs.Formats.{kind_of, places_of}
 use Rattle.cell_format.specs.declared.shape.DateForm.TheVariants.{DayMonthYear, DayMonth, MonthYear}
 use Rattle.cell_format.specs.declared.shape.Shape.{Shape}
 use Rattle.cell_format.specs.declared.shape.Shape.TheVariants.{Fixed, Scientific, Currency, Percent, Comma, Bar, General, Date, Text, Hidden, Default, Unnamed}
-
--- bits 6 to 4
-abbrev pub kind_of : ℕ → ℕ
-kind_of format = format / 16 % 8
-
--- bits 3 to 0
-abbrev pub detail_of : ℕ → ℕ
-detail_of format = format % 16
 
 -- the details of kind 7
 abbrev pub special : ℕ → Shape
@@ -36,7 +29,7 @@ shape_by kind detail =
     else Unnamed
 
 unfoldable pub shape_of : ℕ → Shape
-shape_of format = shape_by (kind_of format) (detail_of format)
+shape_of format = shape_by (kind_of format) (places_of format)
 
 -- at most 15 decimals
 abbrev pub HasFewPlaces : Shape → Type 0

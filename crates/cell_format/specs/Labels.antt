@@ -1,5 +1,7 @@
 -- Labels as they are shown.
-use Rattle.std.specs.Prelude.{ℕ, zero, suc, ◌-◌, ◌/◌, ◌%◌, ◌==◌, nat_le, nat_lt, List, [], ◌∷◌, ◌++◌, length, get_or, map, take, if◌then◌else◌}
+use Rattle.std.specs.Prelude.{ℕ, zero, suc, ◌-◌, ◌/◌, ◌%◌, nat_le, nat_lt, List, [], ◌∷◌, ◌++◌, length, get_or, map, take, if◌then◌else◌}
+use Rattle.lics_text.specs.declared.prefix.LabelPrefix.{LabelPrefix}
+use Rattle.lics_text.specs.declared.prefix.LabelPrefix.TheVariants.{Left, Right, Center, Repeat, Unprinted}
 use Rattle.cell_format.specs.Numbers.{at_right, spaces}
 
 -- bytes from 127 on are shown as a question mark
@@ -20,13 +22,13 @@ repeated text zero = []
 repeated text (suc width) = repeated text width ++ get_or text (width % length text) 32 ∷ []
 
 -- by the prefix: \ repeats, " stands at the right and ^ in the middle where the text isn't too long
-abbrev pub aligned : ℕ → List ℕ → ℕ → List ℕ
-aligned prefix text width =
-    if prefix == 92 then repeated text width
-    else if (prefix == 34) then (if nat_lt (length text) width then at_right text width else at_left text width)
-    else if (prefix == 94) then (if nat_le (length text) width then centred text width else at_left text width)
-    else at_left text width
+abbrev pub aligned : LabelPrefix → List ℕ → ℕ → List ℕ
+aligned Repeat text width = repeated text width
+aligned Right text width = if nat_lt (length text) width then at_right text width else at_left text width
+aligned Center text width = if nat_le (length text) width then centred text width else at_left text width
+aligned Left text width = at_left text width
+aligned Unprinted text width = at_left text width
 
 -- a label in a cell of that width
-unfoldable pub shown_label : ℕ → List ℕ → ℕ → List ℕ
+unfoldable pub shown_label : LabelPrefix → List ℕ → ℕ → List ℕ
 shown_label prefix bytes width = aligned prefix (map masked bytes) width

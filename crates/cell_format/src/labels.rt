@@ -4,7 +4,7 @@ ghost use Rattle.cell_format.specs.Labels.{at_left, centred, masked, repeated, s
 ghost use Rattle.cell_format.specs.Numbers.{at_right};
 
 use crate::push::{fill, push};
-use lics_text::Line;
+use lics_text::{LabelPrefix, Line};
 
 // Bytes from 127 on are shown as a question mark.
 fn mask(byte: u8) -> u8
@@ -80,7 +80,7 @@ fn put_repeated(bytes: &[u8], width: usize, into: &mut Line)
 
 /// Adds a label in a cell of that width, by its prefix: `\` repeats it, `"` puts it at the right and `^` in the
 /// middle, and any other, or a label that is too long for these, puts it at the left, cut at the width.
-pub fn show_label(prefix: u8, bytes: &[u8], width: u8, into: &mut Line)
+pub fn show_label(prefix: LabelPrefix, bytes: &[u8], width: u8, into: &mut Line)
     requires { length into.old + width ≤ 240 }
     ensures text { into.new ≡ into.old ++ shown_label prefix bytes.now width }
     ensures size { length into.new ≡ length into.old + width }
@@ -90,17 +90,26 @@ pub fn show_label(prefix: u8, bytes: &[u8], width: u8, into: &mut Line)
 
 // Adds a label by its prefix.
 #[tactic(auto, unfolding(crate::specs::Labels::shown_label))]
-fn put_label(prefix: u8, bytes: &[u8], width: usize, into: &mut Line)
+fn put_label(prefix: LabelPrefix, bytes: &[u8], width: usize, into: &mut Line)
     requires { length into.old + width ≤ 240 }
     ensures { into.new ≡ into.old ++ shown_label prefix bytes.now width }
 {
-    if prefix == b'\\' {
-        put_repeated(bytes, width, into);
-    } else if prefix == b'"' && bytes.len() < width {
-        put_right(bytes, width, into);
-    } else if prefix == b'^' && bytes.len() <= width {
-        put_centred(bytes, width, into);
-    } else {
-        put_left(bytes, width, into);
+    match prefix {
+        LabelPrefix::Repeat => put_repeated(bytes, width, into),
+        LabelPrefix::Right => {
+            if bytes.len() < width {
+                put_right(bytes, width, into);
+            } else {
+                put_left(bytes, width, into);
+            }
+        }
+        LabelPrefix::Center => {
+            if bytes.len() <= width {
+                put_centred(bytes, width, into);
+            } else {
+                put_left(bytes, width, into);
+            }
+        }
+        LabelPrefix::Left | LabelPrefix::Unprinted => put_left(bytes, width, into),
     }
 }

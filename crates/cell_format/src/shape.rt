@@ -68,5 +68,5 @@ pub fn shape_of(format: Format) -> Shape
     ensures shape { result ≡ shape_of format.0 }
     ensures places { HasFewPlaces result }
 {
-    shape_by(format.0 / 16 % 8, format.0 % 16)
+    shape_by(format.kind(), format.places())
 }

@@ -2,7 +2,7 @@
 use crate::{indicator, show_label, show_number};
 use fixed_value::Fixed;
 use grid_address::Format;
-use lics_text::Line;
+use lics_text::{LabelPrefix, Line};
 use std::process::Abort;
 use std::test::Fail;
 
@@ -61,20 +61,25 @@ fn numbers_are_shown(rt: HostRuntime) -> Result<(), Fail> {
 #[test]
 fn labels_are_shown(rt: HostRuntime) -> Result<(), Fail> {
     for (prefix, label, width, text) in [
-        (b'^', b"AB".as_slice(), 7u8, b"  AB   ".as_slice()),
-        (b'^', b"ABC", 3, b"ABC"),
-        (b'^', b"ABCD", 3, b"ABC"),
-        (b'"', b"AB", 5, b"  AB "),
-        (b'"', b"AB", 3, b"AB "),
-        (b'"', b"AB", 2, b"AB"),
-        (b'\'', b"AB", 5, b"AB   "),
-        (b'\'', b"ABCDEF", 4, b"ABCD"),
-        (b'|', b"AB", 3, b"AB "),
-        (b'\\', b"-=", 5, b"-=-=-"),
-        (b'\\', b"ABC", 2, b"AB"),
-        (b'\\', b"", 3, b"   "),
-        (b'\'', &[65, 126, 127, 255], 5, b"A~?? "),
-        (b'^', b"", 0, b""),
+        (
+            LabelPrefix::Center,
+            b"AB".as_slice(),
+            7u8,
+            b"  AB   ".as_slice(),
+        ),
+        (LabelPrefix::Center, b"ABC", 3, b"ABC"),
+        (LabelPrefix::Center, b"ABCD", 3, b"ABC"),
+        (LabelPrefix::Right, b"AB", 5, b"  AB "),
+        (LabelPrefix::Right, b"AB", 3, b"AB "),
+        (LabelPrefix::Right, b"AB", 2, b"AB"),
+        (LabelPrefix::Left, b"AB", 5, b"AB   "),
+        (LabelPrefix::Left, b"ABCDEF", 4, b"ABCD"),
+        (LabelPrefix::Unprinted, b"AB", 3, b"AB "),
+        (LabelPrefix::Repeat, b"-=", 5, b"-=-=-"),
+        (LabelPrefix::Repeat, b"ABC", 2, b"AB"),
+        (LabelPrefix::Repeat, b"", 3, b"   "),
+        (LabelPrefix::Left, &[65, 126, 127, 255], 5, b"A~?? "),
+        (LabelPrefix::Center, b"", 0, b""),
     ] {
         assert!(rt; width <= 240);
         let mut line = Line::new();
@@ -87,7 +92,7 @@ fn labels_are_shown(rt: HostRuntime) -> Result<(), Fail> {
 #[test]
 fn what_is_shown_is_added(rt: HostRuntime) -> Result<(), Fail> {
     let mut line = Line::new();
-    show_label(b'\'', b"Rent", 6, &mut line);
+    show_label(LabelPrefix::Left, b"Rent", 6, &mut line);
     show_number(number(&rt, 850_000_000), Format(0x20), 6, &mut line);
     assert_eq!(rt; line.bytes(), b"Rent   $850 ".as_slice());
     Ok(())

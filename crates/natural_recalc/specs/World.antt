@@ -1,6 +1,7 @@
 -- What a sheet tells its formulas.
 use Rattle.std.specs.Prelude.{ℕ, ◌≡◌, Option, None, Some}
 use Rattle.std.specs.FinMap as map
+use Rattle.grid_address.specs.Formats.{default_format}
 use Rattle.grid_address.specs.Place.{Place}
 use Rattle.range_names.specs.Names.{NameMap}
 use Rattle.formula_tree.specs.Tree.{Tree}
@@ -37,7 +38,7 @@ content_of (Some s) = Some s.content
 
 -- a cell that isn't there has the default format
 abbrev pub format_of : Option CellState → ℕ
-format_of None = 255
+format_of None = default_format
 format_of (Some s) = s.format.0
 
 abbrev pub formula_in : Content → Option Tree

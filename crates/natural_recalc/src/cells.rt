@@ -36,7 +36,7 @@ pub fn format_of(store: &Store, cell: Cell) -> Format
 {
     match store.get(cell) {
         Some(state) => state.format,
-        None => Format(0xFF),
+        None => Format::DEFAULT,
     }
 }
 

@@ -1,7 +1,8 @@
 -- The control panel: what stands in the pointer's cell, the line that is typed, and the menu.
-use Rattle.std.specs.Prelude.{ℕ, ◌+◌, ◌-◌, Bool, true, false, nat_lt, List, [], ◌∷◌, ◌++◌, length, take, drop, Option, Some, None, codes, if◌then◌else◌}
+use Rattle.std.specs.Prelude.{ℕ, ◌+◌, ◌-◌, Bool, true, false, not, List, [], ◌∷◌, ◌++◌, length, take, drop, Option, Some, None, codes, if◌then◌else◌}
 use Rattle.std.specs.FinMap as map
 use Rattle.cell_format.specs.Indicator.{indicator_of}
+use Rattle.grid_address.specs.Formats.{has_protection}
 use Rattle.grid_address.specs.Address.{address_of, decimal}
 use Rattle.natural_recalc.specs.World.{format_of}
 use Rattle.sheet_store.specs.Grid.{width_of}
@@ -37,7 +38,7 @@ with_space (b ∷ bs) = (b ∷ bs) ++ 32 ∷ []
 
 -- a cell without a protection mark is told, and one with it while protection is on
 abbrev pub protection_part : Bool → ℕ → List ℕ
-protection_part protection format = if nat_lt format 128 then codes "U " else if protection then codes "PR " else []
+protection_part protection format = if not (has_protection format) then codes "U " else if protection then codes "PR " else []
 
 abbrev pub width_part : Option ℕ → List ℕ
 width_part None = []

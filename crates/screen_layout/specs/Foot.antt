@@ -1,6 +1,7 @@
 -- The last line: the moment or a message, and the indicators.
 use Rattle.std.specs.Prelude.{ℕ, ◌*◌, ◌/◌, ◌%◌, pos, Bool, true, false, not, ◌&&◌, List, [], ◌∷◌, ◌++◌, take, Option, Some, None, codes}
 use Rattle.cell_format.specs.Numbers.{shown_number, two_digits}
+use Rattle.grid_address.specs.Formats.{date_format}
 use Rattle.screen_layout.specs.Lines.{filled}
 use Rattle.work_sheet.specs.Seen.{Sheet}
 use Rattle.screen_layout.specs.declared.panel.Mode.{Mode}
@@ -10,7 +11,7 @@ use Rattle.screen_layout.specs.declared.panel.Panel.{Panel}
 -- the day, the hour and the minute, as 01-Jun-87 14:05; nothing where the clock has no day
 abbrev pub moment_text : Option ℕ → ℕ → List ℕ
 moment_text None second = []
-moment_text (Some day) second = shown_number (pos (day * 1000000)) 114 10 ++ two_digits (second / 3600) ++ 58 ∷ two_digits (second / 60 % 60)
+moment_text (Some day) second = shown_number (pos (day * 1000000)) date_format 10 ++ two_digits (second / 3600) ++ 58 ∷ two_digits (second / 60 % 60)
 
 -- in ERROR the message
 abbrev pub first_part : Mode → List ℕ → Option ℕ → ℕ → List ℕ

@@ -2,7 +2,7 @@
 ghost use Rattle.std.specs.Prelude.{◌≡◌, ◌≤◌, ◌++◌, ◌+◌, [], length, take, drop, replicate, Some, unwrap_or};
 ghost use Rattle.cell_format.specs.Labels.{shown_label};
 ghost use Rattle.cell_format.specs.Numbers.{placed, shown_number};
-ghost use Rattle.screen_layout.specs.Cells.{cell_text, content_text, format_in, formula_text, label_text, value_text, visible_text};
+ghost use Rattle.screen_layout.specs.Cells.{cell_text, content_text, format_in, formula_text, is_repeated, label_text, value_text, visible_text};
 ghost use Rattle.screen_layout.specs.Lines.{padded};
 ghost use Rattle.work_sheet.specs.Seen.{of_worksheet};
 ghost use Rattle.formula_text.specs.Printed.{printed};
@@ -16,7 +16,7 @@ use formula_eval::Look;
 use formula_text::print;
 use formula_tree::{Content, Formula, Value};
 use grid_address::{Cell, Format};
-use lics_text::Line;
+use lics_text::{LabelPrefix, Line};
 use work_sheet::Sheet;
 
 const BLANKS: [u8; 240] = [b' '; 240];
@@ -100,7 +100,7 @@ fn add_word(line: &mut PaintedLine, word: &[u8], width: u8)
     add_whole(line, &text, width);
 }
 
-fn add_shown_label(line: &mut PaintedLine, prefix: u8, text: &[u8], width: u8)
+fn add_shown_label(line: &mut PaintedLine, prefix: LabelPrefix, text: &[u8], width: u8)
     requires { width ≤ 240 }
     ensures line { line.new ≡ take 80 (line.old ++ padded width (shown_label prefix text.now width)) }
     ensures rest { drop width (shown_label prefix text.now width) ≡ [] }
@@ -110,12 +110,23 @@ fn add_shown_label(line: &mut PaintedLine, prefix: u8, text: &[u8], width: u8)
     add_whole(line, &shown, width);
 }
 
-fn add_label<'a>(line: &mut PaintedLine, prefix: u8, text: &'a [u8], width: u8) -> &'a [u8]
+// Whether a label goes on through its cell.
+fn is_repeated(prefix: LabelPrefix) -> bool
+    ensures { result ≡ is_repeated prefix }
+{
+    match prefix {
+        LabelPrefix::Repeat => true,
+        LabelPrefix::Left | LabelPrefix::Right | LabelPrefix::Center => false,
+        LabelPrefix::Unprinted => false,
+    }
+}
+
+fn add_label<'a>(line: &mut PaintedLine, prefix: LabelPrefix, text: &'a [u8], width: u8) -> &'a [u8]
     requires { width ≤ 240 }
     ensures line { line.new ≡ take 80 (line.old ++ padded width (label_text prefix text.now width)) }
     ensures rest { result.now ≡ drop width (label_text prefix text.now width) }
 {
-    if prefix != b'\\' && text.len() > usize::from(width) {
+    if !is_repeated(prefix) && text.len() > usize::from(width) {
         return add_text(line, text, width);
     }
     add_shown_label(line, prefix, text, width);
@@ -129,7 +140,7 @@ fn add_value<'a>(line: &mut PaintedLine, value: &'a Value, format: Format, width
 {
     match value {
         Value::Blank => add_text(line, b"", width),
-        Value::Str(text) => add_label(line, b'\'', text.bytes(), width),
+        Value::Str(text) => add_label(line, LabelPrefix::Left, text.bytes(), width),
         Value::Num(number) => {
             add_number(line, *number, format, width);
             b""
@@ -169,7 +180,7 @@ fn add_formula<'a>(
     ensures line { line.new ≡ take 80 (line.old ++ padded width (formula_text (printed sheet.now.names cell formula.now) (value_at sheet.now.grid cell) format.0 width)) }
     ensures rest { result.now ≡ drop width (formula_text (printed sheet.now.names cell formula.now) (value_at sheet.now.grid cell) format.0 width) }
 {
-    if format.0 % 128 == 0x75 {
+    if format.is_shown_as(Format::TEXT) {
         add_printed(line, sheet, cell, formula, width);
         return b"";
     }
@@ -188,7 +199,7 @@ fn add_content<'a>(
     ensures line { line.new ≡ take 80 (line.old ++ padded width (visible_text sheet.now.names cell content.now (value_at sheet.now.grid cell) format.0 width)) }
     ensures rest { result.now ≡ drop width (visible_text sheet.now.names cell content.now (value_at sheet.now.grid cell) format.0 width) }
 {
-    if format.0 % 128 == 0x76 {
+    if format.is_shown_as(Format::HIDDEN) {
         return add_text(line, b"", width);
     }
     match content {
@@ -204,7 +215,7 @@ fn format_in(sheet: &Sheet, cell: Cell) -> Format
     ensures { result.0 ≡ format_in sheet.now.settings.format (format_of (map.get sheet.now.grid.cells cell)) }
 {
     let own = sheet.format(cell);
-    if own.0 % 128 == 0x7f {
+    if own.is_shown_as(Format::DEFAULT) {
         return sheet.settings().format;
     }
     own

@@ -63,7 +63,7 @@ fn put_protection(protection: bool, format: Format, into: &mut Line)
     ensures text { into.new ≡ into.old ++ protection_part protection format.0 }
     ensures size { length into.new ≤ length into.old + 3 }
 {
-    if format.0 < 128 {
+    if !format.is_protected() {
         into.put_all(b"U ");
     } else if protection {
         into.put_all(b"PR ");

@@ -31,7 +31,7 @@ fn put_day(day: u32, into: &mut Line)
     let Some(value) = Fixed::of(i64::from(day) * 1_000_000) else {
         unreachable!();
     };
-    show_number(value, Format(0x72), 10, into);
+    show_number(value, Format::DATE, 10, into);
 }
 
 // The day, the hour and the minute.

@@ -1,22 +1,18 @@
 // What a finished line means.
-ghost use Rattle.std.specs.Prelude.{◌≡◌, IfOk, IsOk, true};
-ghost use Rattle.std.specs.Option.{ForSome};
+ghost use Rattle.std.specs.Prelude.{◌≡◌, IfOk, IsOk};
 ghost use Rattle.formula_text.specs.Reading.{reading};
 ghost use Rattle.session_core.specs.Machine.{entry_of, moves};
 ghost use Rattle.work_sheet.specs.Lines.{formula_content, label_content, value_content};
 ghost use Rattle.lics_text.specs.Bytes.{IsText};
 ghost use Rattle.work_sheet.specs.Seen.{of_worksheet};
-ghost use Rattle.sheet_store.specs.Grid.{is_prefix};
-ghost use Rattle.sheet_edits.specs.Edits.{HasPrefix};
 
 use crate::Mode;
 use fixed_value::{Decimal, read_decimal};
 use formula_text::{ParseFault, read};
 use formula_tree::Content;
 use grid_address::Cell;
-use lics_text::{Memory, Text, TextLine};
+use lics_text::{LabelPrefix, Memory, Text, TextLine};
 use range_names::Names;
-use sheet_store::is_prefix;
 use std::alloc::Global;
 use work_sheet::Sheet;
 
@@ -53,32 +49,27 @@ fn value_of(
 }
 
 // A label in the memory of the sheet.
-fn label(prefix: u8, bytes: &[u8], alloc: Global) -> Result<Content, Memory>
-    requires text { IsText bytes.now }
-    requires prefix { is_prefix prefix ≡ true }
-    ensures label { IfOk result (λ x. x ≡ Content.Label prefix bytes.now) }
-    ensures prefix { IfOk result HasPrefix }
+fn label(prefix: LabelPrefix, bytes: &[u8], alloc: Global) -> Result<Content, Memory>
+    requires { IsText bytes.now }
+    ensures { IfOk result (λ x. x ≡ Content.Label prefix bytes.now) }
 {
     let text = Text::copy_of(alloc, bytes)?;
     Ok(Content::Label(prefix, text))
 }
 
 // A label begins with its prefix, or takes the sheet's.
-#[tactic(auto, using(crate::proofs::Prefixed::global_is_prefix, crate::proofs::Prefixed::behind_prefix))]
+#[tactic(auto, using(crate::proofs::Prefixed::behind_prefix))]
 fn label_of(line: &TextLine, sheet: &Sheet) -> Result<Content, Memory>
-    ensures label { IfOk result (λ x. x ≡ label_content sheet.now.settings.prefix line.now) }
-    ensures prefix { IfOk result HasPrefix }
+    ensures { IfOk result (λ x. x ≡ label_content sheet.now.settings.prefix line.now) }
 {
     let settings = sheet.settings();
-    settings.are_within();
     let bytes = line.bytes();
     if bytes.is_empty() {
         return label(settings.prefix, bytes, sheet.alloc());
     }
-    if is_prefix(bytes[0]) {
-        label(bytes[0], &bytes[1..], sheet.alloc())
-    } else {
-        label(settings.prefix, bytes, sheet.alloc())
+    match LabelPrefix::of(bytes[0]) {
+        Some(prefix) => label(prefix, &bytes[1..], sheet.alloc()),
+        None => label(settings.prefix, bytes, sheet.alloc()),
     }
 }
 
@@ -86,7 +77,6 @@ fn label_of(line: &TextLine, sheet: &Sheet) -> Result<Content, Memory>
 /// or a formula. None where nothing is typed, and where a value spells nothing.
 pub(crate) fn entry_of(mode: &Mode, sheet: &Sheet, cell: Cell) -> Result<Option<Content>, Memory>
     ensures entry { IfOk result (λ entry. entry ≡ entry_of mode.now (of_worksheet sheet.now) cell) }
-    ensures prefix { IfOk result (λ entry. ForSome entry HasPrefix) }
     ensures ready { mode.now ≡ Mode.Ready → IsOk result }
 {
     match mode {

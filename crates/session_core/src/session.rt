@@ -6,7 +6,6 @@ ghost use Rattle.serial_date.specs.declared.moment.Moment.{Moment};
 ghost use Rattle.session_core.specs.Machine.{acted, calculated, entry_of, finished, finished_with, framed, is_key, pointer_of, pointing_at, scene_at, started, step, wants_key, with_done, Follows, IsMoved, OnlyMoves, OnlyMovesBy};
 ghost use Rattle.session_core.specs.Screen.{screen};
 ghost use Rattle.work_sheet.specs.Doing.{put, recalculated, with_entry};
-ghost use Rattle.sheet_edits.specs.Edits.{HasPrefix};
 
 use crate::act::{Act, act_of};
 use crate::entry::{entry_of, moves};
@@ -201,7 +200,6 @@ impl Session {
 
     // Writes a content into the pointer's cell.
     fn write(&mut self, content: Content, now: &Moment) -> Result<(), Memory>
-        requires { HasPrefix content }
         ensures { OnOk result (Follows (with_done (put mean (scene_at self.old.state now.now) (pointer_of self.old.state) content self.old.state.sheet) self.old.state) self.old self.new) }
     {
         let scene = self.scene(now);
@@ -218,7 +216,6 @@ impl Session {
 
     // Enters a content into the pointer's cell. In Automatic mode a recalculation follows.
     fn enter(&mut self, content: Content, now: &Moment) -> Result<(), Memory>
-        requires { HasPrefix content }
         ensures { OnOk result (Follows (with_done (with_entry mean (scene_at self.old.state now.now) (pointer_of self.old.state) content self.old.state.sheet) self.old.state) self.old self.new) }
     {
         self.write(content, now)?;
@@ -230,7 +227,6 @@ impl Session {
 
     // Finishes the line that is typed, which means this entry.
     fn finish(&mut self, entry: Option<Content>, now: &Moment) -> Result<(), Memory>
-        requires { ForSome entry HasPrefix }
         ensures ok { OnOk result (Follows (finished (scene_at self.old.state now.now) entry self.old.state) self.old self.new) }
         ensures none { entry ≡ None → IsOk result }
     {

@@ -19,8 +19,7 @@ use Rattle.sheet_store.specs.declared.writes.Write.{Write}
 use Rattle.sheet_edits.proofs.Listed.{pushed}
 use Rattle.sheet_edits.proofs.Overlaid.{get_put, none_not_some, same_grid}
 use Rattle.sheet_edits.proofs.Sound.{first_sound, the_same}
-use Rattle.sheet_edits.specs.Edits.{HasPrefix}
-use Rattle.sheet_edits.specs.Spans.{changed, kept_of, write_state, written_all, written_by, written_cells, AreGathered, Becomes, HavePrefixes}
+use Rattle.sheet_edits.specs.Spans.{changed, kept_of, write_state, written_all, written_by, written_cells, AreGathered, Becomes}
 
 same_number : (n : ℕ) → nat_eq n 255 ≡ true → n ≡ 255
 same_number n h = grind (arith, nat_tests, h)
@@ -60,12 +59,7 @@ nothing_gathered g listed changes e k = record {
   sound = λ c s h. absurd (none_not_some s (sym (ap (λ m. get m c) k ∙ get-empty place_cmp c) ∙ h));
 }
 
-prefix_at : (ws : List Write) (i : ℕ) (d : Write) → HavePrefixes ws → i < length ws → HasPrefix (get_or ws i d).content
-prefix_at [] i d p lt = absurd (omega (arith, lt))
-prefix_at (w ∷ ws) zero d p lt = p.0
-prefix_at (w ∷ ws) (suc i) d p lt = prefix_at ws i d p.1 (omega (arith, lt))
-
-module _ (g : Grid) (all : List Write) (i : ℕ) (w : Write) (is : w ≡ get_or all i w) (lt : i < length all) (prefixes : HavePrefixes all) (listed now : List Place) (changes next : Cells)
+module _ (g : Grid) (all : List Write) (i : ℕ) (w : Write) (is : w ≡ get_or all i w) (lt : i < length all) (listed now : List Place) (changes next : Cells)
     (k : AreGathered g (take i all) listed changes) (one : now ≡ listed ++ w.cell ∷ []) (put : next ≡ insert changes w.cell (write_state w (changed (get changes w.cell) (get g.cells w.cell)))) where
   state : CellState
   state = write_state w (changed (get changes w.cell) (get g.cells w.cell))
@@ -104,7 +98,7 @@ module _ (g : Grid) (all : List Write) (i : ℕ) (w : Write) (is : w ≡ get_or 
 
       here : (c : Place) (s : CellState) → same_place c w.cell ≡ true → get next c ≡ Some s → IsSound s
       here c s t e = subst IsSound (the_same state s (sym (ap (λ m. get m c) put ∙ get_inserted changes w.cell state c ∙ ap (λ b. cond b (Some state) (get changes c)) t) ∙ e))
-          (first_sound w.content (subst (λ (x : Write). HasPrefix x.content) (sym is) (prefix_at all i w prefixes lt)))
+          (first_sound w.content)
 
 -- the grid after all writes
 pub written_is : (g h : Grid) (ws : List Write) (listed : List Place) (changes : Cells) → AreGathered g ws listed changes → Becomes g (λ c. changed (get changes c) (get g.cells c)) h → h ≡ written_all g ws

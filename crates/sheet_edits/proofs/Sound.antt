@@ -3,6 +3,7 @@ use Rattle.std.specs.Prelude.{ℕ, ℤ, pos, ◌≡◌, Bool, true, false, cond,
 use Rattle.std.specs.FinMap.{get}
 use Rattle.std.proofs.Common.{sym, ◌∙◌, ap, subst}
 use Rattle.std.proofs.lemmas.Bool.{true≢false}
+use Rattle.grid_address.specs.Formats.{default_format}
 use Rattle.grid_address.specs.Place.{Place}
 use Rattle.grid_address.specs.declared.format.Format.{Format}
 use Rattle.formula_tree.specs.declared.value.Content.{Content}
@@ -13,7 +14,7 @@ use Rattle.natural_recalc.specs.World.{formula_of, value_of}
 use Rattle.sheet_store.specs.Grid.{blank_state, AreHeld, Cells, Fits, IsSound}
 use Rattle.sheet_store.specs.declared.state.CellState.{CellState}
 use Rattle.sheet_edits.proofs.Overlaid.{formula_kept, none_not_some}
-use Rattle.sheet_edits.specs.Edits.{first_value, HasPrefix}
+use Rattle.sheet_edits.specs.Edits.{first_value}
 use Rattle.sheet_edits.specs.Spans.{blanked, copied_state, kept_of, reformatted, reformatted_state, AreGiven, AreSound}
 
 pub the_same : {A : Type 0} (a b : A) → Some a ≡ Some b → a ≡ b
@@ -45,17 +46,11 @@ num_not_blank x e = true≢false (ap is_num e)
     is_num value.Na = false
 
 -- a content with its first value
-pub first_sound : (x : Content) → HasPrefix x → Fits x (first_value x)
-first_sound content.Blank p = refl
-first_sound (content.Number n) p = refl
-first_sound (content.Label b t) p = (p, refl)
-first_sound (content.Formula f) p = num_not_blank (pos 0)
-
-held_prefix : (x : Content) (v : Value) → Fits x v → HasPrefix x
-held_prefix content.Blank v h = tt
-held_prefix (content.Number n) v h = tt
-held_prefix (content.Label b t) v h = h.0
-held_prefix (content.Formula f) v h = tt
+pub first_sound : (x : Content) → Fits x (first_value x)
+first_sound content.Blank = refl
+first_sound (content.Number n) = refl
+first_sound (content.Label b t) = refl
+first_sound (content.Formula f) = num_not_blank (pos 0)
 
 module _ (m : Cells) (held : AreHeld m) where
   pub copied_sound : (c : Place) → IsSound (copied_state (get m c))
@@ -63,7 +58,7 @@ module _ (m : Cells) (held : AreHeld m) where
     where
       by : (o : Option CellState) → get m c ≡ o → IsSound (copied_state o)
       by None e = refl
-      by (Some s) e = first_sound s.content (held_prefix s.content s.value (held c s e).sound)
+      by (Some s) e = first_sound s.content
 
   pub reformatted_sound : (rule : ℕ → ℕ) (c : Place) → IsSound (reformatted_state rule (get m c))
   reformatted_sound rule c = by (get m c) refl
@@ -77,7 +72,7 @@ module _ (m : Cells) (held : AreHeld m) where
   same_formula rule c = by (get m c)
     where
       by : (o : Option CellState) → formula_of (reformatted rule o) ≡ formula_of o
-      by None = formula_kept content.Blank value.Blank (record { 0 = rule 255 })
+      by None = formula_kept content.Blank value.Blank (record { 0 = rule default_format })
       by (Some s) = formula_kept s.content s.value (record { 0 = rule s.format.0 })
 
   value_kept : (x : Content) (v : Value) (f : Format) → Fits x v → value_of (kept_of (record { content = x; value = v; format = f })) ≡ v
@@ -90,5 +85,5 @@ module _ (m : Cells) (held : AreHeld m) where
   same_value rule c = by (get m c) refl
     where
       by : (o : Option CellState) → get m c ≡ o → value_of (reformatted rule o) ≡ value_of o
-      by None e = value_kept content.Blank value.Blank (record { 0 = rule 255 }) refl
+      by None e = value_kept content.Blank value.Blank (record { 0 = rule default_format }) refl
       by (Some s) e = value_kept s.content s.value (record { 0 = rule s.format.0 }) (held c s e).sound

@@ -1,6 +1,7 @@
 -- Edits of a cell, and which formulas they make dirty.
-use Rattle.std.specs.Prelude.{ℕ, false, cond, not, ◌≡◌, ◌⊎◌, ◌↔◌, Bool, true, ◌&&◌, nat_le, pos, Option, None, Some, List}
+use Rattle.std.specs.Prelude.{ℕ, false, cond, not, ◌≡◌, ◌⊎◌, ◌↔◌, Bool, true, ◌&&◌, pos, Option, None, Some, List}
 use Rattle.std.specs.FinMap as map
+use Rattle.grid_address.specs.Formats.{has_protection}
 use Rattle.grid_address.specs.Place.{same_place, Place}
 use Rattle.formula_tree.specs.declared.value.Content.{Content}
 use Rattle.formula_tree.specs.declared.value.Content.TheVariants as content
@@ -9,18 +10,11 @@ use Rattle.formula_tree.specs.declared.value.Value.TheVariants as value
 use Rattle.depend_graph.specs.Network.{accepted, dropped, IsSpread, Network}
 use Rattle.natural_order.specs.Walk.{has}
 use Rattle.sheet_store.specs.Choices.{Choices}
-use Rattle.sheet_store.specs.Grid.{clear_cell, is_formula, is_kept, is_prefix, put_state, Grid, IsSound}
+use Rattle.sheet_store.specs.Grid.{clear_cell, is_formula, is_kept, put_state, Grid, IsSound}
 use Rattle.sheet_store.specs.declared.state.CellState.{CellState}
 use Rattle.natural_recalc.specs.Passes.{evaluated, Meaning, ReachesCell}
 use Rattle.natural_recalc.specs.Reading.{is_formula_at}
 use Rattle.natural_recalc.specs.World.{format_of, Context}
-
--- a label has one of the five prefixes
-abbrev pub HasPrefix : Content → Type 0
-HasPrefix content.Blank = Unit {0}
-HasPrefix (content.Number x) = Unit {0}
-HasPrefix (content.Label p t) = is_prefix p ≡ true
-HasPrefix (content.Formula f) = Unit {0}
 
 -- a newly written formula has the value 0
 abbrev pub first_value : Content → Value
@@ -38,7 +32,7 @@ written g c x = put_state g c (written_state g c x)
 
 -- protection is on, and the mark is set in the cell's format
 abbrev pub is_protected : Choices → Grid → Place → Bool
-is_protected s g c = s.protection && nat_le 128 (format_of (map.get g.cells c))
+is_protected s g c = s.protection && has_protection (format_of (map.get g.cells c))
 
 -- the cell alone
 abbrev pub just : Place → Place → Bool

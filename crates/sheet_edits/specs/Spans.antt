@@ -4,6 +4,7 @@ use Rattle.std.specs.Coded.{Coded}
 use Rattle.std.specs.FinMap as cells
 use Rattle.std.specs.declared.cmp.Ordering.{Ordering}
 use Rattle.std.specs.declared.cmp.Ordering.TheVariants.{Equal, Greater, Less}
+use Rattle.grid_address.specs.Formats.{default_format, has_protection, protected, unprotected}
 use Rattle.grid_address.specs.Place.{coded_place, height_of, is_within, place_cmp, same_place, width_of, Extent, Place}
 use Rattle.grid_address.specs.declared.format.Format.{Format}
 use Rattle.depend_graph.specs.Network.{Network}
@@ -20,7 +21,7 @@ use Rattle.sheet_store.specs.declared.writes.SheetFault.TheVariants as faults
 use Rattle.sheet_store.specs.declared.writes.Write.{Write}
 use Rattle.sheet_edits.specs.declared.spans.FormatChange.{FormatChange}
 use Rattle.sheet_edits.specs.declared.spans.FormatChange.TheVariants as formats
-use Rattle.sheet_edits.specs.Edits.{first_value, is_protected, HasPrefix}
+use Rattle.sheet_edits.specs.Edits.{first_value, is_protected}
 
 abbrev pub coded_cells : Coded Cells
 coded_cells = cells.code coded_place (state.the_row).coded
@@ -63,8 +64,8 @@ with_code code byte = byte / 128 * 128 + code
 
 -- the protection mark alone is set or taken away
 abbrev pub with_mark : Bool → ℕ → ℕ
-with_mark true byte = byte % 128 + 128
-with_mark false byte = byte % 128
+with_mark true byte = protected byte
+with_mark false byte = unprotected byte
 
 abbrev pub reformatted_state : (ℕ → ℕ) → Option CellState → CellState
 reformatted_state rule o = formatted o (record { 0 = rule (format_of o) })
@@ -74,7 +75,7 @@ reformatted rule o = kept_of (reformatted_state rule o)
 
 -- a copy has the content and the format; a formula begins with the value 0
 abbrev pub copied_state : Option CellState → CellState
-copied_state None = blank_state (record { 0 = 255 })
+copied_state None = blank_state (record { 0 = default_format })
 copied_state (Some s) = record s { value = first_value s.content }
 
 abbrev pub copied : Option CellState → Option CellState
@@ -119,10 +120,6 @@ written_all g (w ∷ ws) = written_all (written_by g w) ws
 
 abbrev pub written_cells : List Write → List Place
 written_cells ws = map (λ (w : Write). w.cell) ws
-
-abbrev pub HavePrefixes : List Write → Type 0
-HavePrefixes [] = Unit {0}
-HavePrefixes (w ∷ ws) = HasPrefix w.content × HavePrefixes ws
 
 -- c is one of the cells, is protected, and none of the cells before it is
 pub record IsFirstProtected (s : Choices) (g : Grid) (written : Place → Bool) (c : Place) : Type 0 where
@@ -198,7 +195,7 @@ in_rows first count c = nat_le first c.row && nat_lt c.row (first + count)
 
 -- the first of the marked cells, in row order
 abbrev pub is_marked : Grid → Place → Bool
-is_marked g c = nat_le 128 (format_of (cells.get g.cells c))
+is_marked g c = has_protection (format_of (cells.get g.cells c))
 
 abbrev pub before : Ordering → Option Place → Option Place → Option Place
 before Greater a b = b

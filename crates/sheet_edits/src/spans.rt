@@ -6,7 +6,6 @@ ghost use Rattle.natural_order.specs.Walk.{has};
 ghost use Rattle.natural_recalc.specs.World.{format_of};
 ghost use Rattle.sheet_store.specs.Grid.{AreHeld};
 ghost use Rattle.sheet_store.specs.Choices.{Choices};
-ghost use Rattle.sheet_edits.specs.Edits.{HasPrefix};
 ghost use Rattle.sheet_edits.specs.Spans.{blanked, block_at, copied_state, given_at, in_columns, in_rows, reformatted_state, repeated, rule_of, sooner, source_of, target_of, AreGiven, AreSound, HasCode, IsFirstMarked, IsFirstProtected, NoneMarked, NoneProtected};
 
 use crate::changes::Changes;
@@ -140,7 +139,7 @@ fn copied_state(store: &Store, cell: Cell) -> Result<CellState, Memory>
                 format,
             })
         }
-        None => Ok(CellState::blank(Format(0xFF))),
+        None => Ok(CellState::blank(Format::DEFAULT)),
     }
 }
 
@@ -228,8 +227,8 @@ fn reformat(change: FormatChange, format: Format) -> Format
 {
     match change {
         FormatChange::Code(code) => Format(format.0 / 128 * 128 + code),
-        FormatChange::Mark(true) => Format(format.0 % 128 + 128),
-        FormatChange::Mark(false) => Format(format.0 % 128),
+        FormatChange::Mark(true) => format.protected(),
+        FormatChange::Mark(false) => format.unprotected(),
     }
 }
 

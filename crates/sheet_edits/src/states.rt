@@ -1,8 +1,9 @@
 // The state that a written cell takes.
-ghost use Rattle.std.specs.Prelude.{◌≡◌, nat_le, IfOk, true};
+ghost use Rattle.std.specs.Prelude.{◌≡◌, IfOk, true};
+ghost use Rattle.grid_address.specs.Formats.{has_protection};
 ghost use Rattle.sheet_store.specs.Grid.{is_formula, is_kept, IsSound};
 ghost use Rattle.natural_recalc.specs.World.{format_of};
-ghost use Rattle.sheet_edits.specs.Edits.{first_value, written_state, HasPrefix};
+ghost use Rattle.sheet_edits.specs.Edits.{first_value, written_state};
 ghost use Rattle.std.specs.FinMap as map;
 
 use fixed_value::Fixed;
@@ -26,7 +27,6 @@ pub fn first_value(content: &Content) -> Result<Value, Memory>
 
 /// The content with its first value, in the cell's format.
 pub fn state_of(store: &Store, cell: Cell, content: Content) -> Result<CellState, Memory>
-    requires { HasPrefix content }
     ensures state { IfOk result (λ s. s ≡ written_state store.now cell content) }
     ensures sound { IfOk result (λ s. IsSound s) }
     ensures kept { IfOk result (λ s. is_formula s.content ≡ true → is_kept s ≡ true) }
@@ -42,7 +42,7 @@ pub fn state_of(store: &Store, cell: Cell, content: Content) -> Result<CellState
 
 /// Whether the protection mark of a cell is set, as it is in the default format.
 pub fn is_marked(store: &Store, cell: Cell) -> bool
-    ensures { result ≡ nat_le 128 (format_of (map.get store.now.cells cell)) }
+    ensures { result ≡ has_protection (format_of (map.get store.now.cells cell)) }
 {
-    format_of(store, cell).0 >= 128
+    format_of(store, cell).is_protected()
 }

@@ -4,8 +4,7 @@ ghost use Rattle.std.specs.FinMap as map;
 ghost use Rattle.grid_address.specs.Place.{same_place, Place};
 ghost use Rattle.natural_order.specs.Walk.{has};
 ghost use Rattle.natural_recalc.specs.World.{format_of};
-ghost use Rattle.sheet_edits.specs.Edits.{HasPrefix};
-ghost use Rattle.sheet_edits.specs.Spans.{changed, write_state, written_all, written_cells, AreGathered, HavePrefixes};
+ghost use Rattle.sheet_edits.specs.Spans.{changed, write_state, written_all, written_cells, AreGathered};
 
 use crate::changes::Changes;
 use crate::states::first_value;
@@ -64,7 +63,6 @@ pub fn gathered(
     cells: &mut CellList,
     changes: &mut Changes,
 ) -> Result<(), Memory>
-    requires prefixes { HavePrefixes writes.now }
     requires cells { cells.old ≡ [] }
     requires changes { changes.old ≡ map.empty }
     ensures { OnOk result (AreGathered store.now writes.now cells.new changes.new) }

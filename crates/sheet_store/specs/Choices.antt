@@ -1,5 +1,8 @@
 -- The settings of a sheet.
-use Rattle.std.specs.Prelude.{ℕ, ◌≡◌, ◌≤◌, Bool, true, false, ◌||◌, nat_eq}
+use Rattle.std.specs.Prelude.{ℕ, ◌≡◌, ◌≤◌, Bool, true, false}
+use Rattle.lics_text.specs.declared.prefix.LabelPrefix.{LabelPrefix}
+use Rattle.lics_text.specs.declared.prefix.LabelPrefix.TheVariants.{Left, Right, Center, Repeat, Unprinted}
+use Rattle.grid_address.specs.Formats.{general_format}
 use Rattle.grid_address.specs.Place.{Place}
 use Rattle.sheet_store.specs.declared.order.Order.{Order}
 use Rattle.sheet_store.specs.declared.order.Order.TheVariants.{Natural}
@@ -7,7 +10,7 @@ use Rattle.sheet_store.specs.declared.order.Order.TheVariants.{Natural}
 pub record Choices : Type 0 where
   pub automatic : Bool
   pub passes : ℕ
-  pub prefix : ℕ
+  pub prefix : LabelPrefix
   pub format : ℕ
   pub width : ℕ
   pub protection : Bool
@@ -15,8 +18,12 @@ pub record Choices : Type 0 where
   pub order : Order
 
 -- ' " and ^
-abbrev pub is_global_prefix : ℕ → Bool
-is_global_prefix b = nat_eq b 39 || (nat_eq b 34 || nat_eq b 94)
+abbrev pub is_global_prefix : LabelPrefix → Bool
+is_global_prefix Left = true
+is_global_prefix Right = true
+is_global_prefix Center = true
+is_global_prefix Repeat = false
+is_global_prefix Unprinted = false
 
 -- what settings keep
 pub record AreWithin (s : Choices) : Type 0 where
@@ -28,4 +35,4 @@ pub record AreWithin (s : Choices) : Type 0 where
 
 -- a fresh sheet's
 abbrev pub fresh : Choices
-fresh = record { automatic = true; passes = 1; prefix = 39; format = 113; width = 9; protection = false; pointer = record { row = 0; col = 0 }; order = Natural }
+fresh = record { automatic = true; passes = 1; prefix = Left; format = general_format; width = 9; protection = false; pointer = record { row = 0; col = 0 }; order = Natural }

@@ -1,8 +1,9 @@
 -- What a store holds: a finite map from cells to states, and each column's own width and whether it is hidden.
-use Rattle.std.specs.Prelude.{ℕ, ◌≡◌, refl, Bool, true, false, cond, not, ◌&&◌, ◌||◌, nat_eq, max, set, get_or, List, [], ◌∷◌, Option, None, Some}
+use Rattle.std.specs.Prelude.{ℕ, ◌≡◌, refl, Bool, true, false, cond, not, ◌&&◌, nat_eq, max, set, get_or, List, [], ◌∷◌, Option, None, Some}
 use Rattle.std.specs.Coded.{Coded, code_by, coded×, coded_ℕ, coded_bool, coded_list}
 use Rattle.std.specs.FinMap as map
 use Rattle.std.specs.FinMap.{FinMap}
+use Rattle.grid_address.specs.Formats.{default_format}
 use Rattle.grid_address.specs.Place.{coded_place, is_within, place_cmp, Extent, InSheet, Place}
 use Rattle.grid_address.specs.declared.format.Format.{Format}
 use Rattle.formula_tree.specs.declared.value.Content.{Content}
@@ -36,15 +37,11 @@ is_formula (content.Number x) = false
 is_formula (content.Label p t) = false
 is_formula (content.Formula f) = true
 
--- ' " ^ \ and |
-abbrev pub is_prefix : ℕ → Bool
-is_prefix b = nat_eq b 39 || (nat_eq b 34 || (nat_eq b 94 || (nat_eq b 92 || nat_eq b 124)))
-
 -- a value that a content may have
 abbrev pub Fits : Content → Value → Type 0
 Fits content.Blank v = v ≡ value.Blank
 Fits (content.Number x) v = v ≡ value.Num x
-Fits (content.Label p t) v = (is_prefix p ≡ true) × (v ≡ value.Str t)
+Fits (content.Label p t) v = v ≡ value.Str t
 Fits (content.Formula f) v = v ≡ value.Blank → ⊥
 
 abbrev pub IsSound : CellState → Type 0
@@ -52,7 +49,7 @@ IsSound s = Fits s.content s.value
 
 -- a blank cell in the default format isn't kept
 abbrev pub is_kept : CellState → Bool
-is_kept s = cond (is_blank s.content) (not (nat_eq s.format.0 255)) true
+is_kept s = cond (is_blank s.content) (not (nat_eq s.format.0 default_format)) true
 
 -- what every cell of a store keeps
 pub record IsHeld (p : Place) (s : CellState) : Type 0 where

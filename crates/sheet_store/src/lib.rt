@@ -13,6 +13,6 @@ mod writes;
 pub use entries::Entries;
 pub use order::Order;
 pub use settings::Settings;
-pub use state::{CellState, is_formula, is_prefix};
+pub use state::{CellState, is_formula};
 pub use store::Store;
 pub use writes::{SavedSheet, SheetFault, Write, Writes};

@@ -4,6 +4,7 @@ ghost use Rattle.sheet_store.specs.Choices.{fresh, AreWithin};
 
 use crate::Order;
 use grid_address::{Cell, Format};
+use lics_text::LabelPrefix;
 use std::marker::Model;
 
 /// The settings of a sheet: 1 to 50 passes of a recalculation, a label prefix of `'`, `"` or `^`, and a column width of
@@ -12,7 +13,7 @@ use std::marker::Model;
 pub struct Settings {
     pub automatic: bool,
     pub passes: u8,
-    pub prefix: u8,
+    pub prefix: LabelPrefix,
     pub format: Format,
     pub width: u8,
     pub protection: bool,
@@ -40,8 +41,8 @@ impl Settings {
         Settings {
             automatic: true,
             passes: 1,
-            prefix: b'\'',
-            format: Format(0x71),
+            prefix: LabelPrefix::Left,
+            format: Format::GENERAL,
             width: 9,
             protection: false,
             pointer: Cell { row: 0, col: 0 },

@@ -1,6 +1,6 @@
 // What a cell holds.
 ghost use Rattle.std.specs.Prelude.{◌≡◌, IfOk};
-ghost use Rattle.sheet_store.specs.Grid.{blank_state, is_blank, is_formula, is_kept, is_prefix};
+ghost use Rattle.sheet_store.specs.Grid.{blank_state, is_blank, is_formula, is_kept};
 
 use formula_tree::{Content, Value};
 use grid_address::Format;
@@ -12,13 +12,6 @@ pub struct CellState {
     pub content: Content,
     pub value: Value,
     pub format: Format,
-}
-
-/// Whether a byte is a label's prefix: `'`, `"`, `^`, `\` or `|` (Release 2 manual).
-pub fn is_prefix(byte: u8) -> bool
-    ensures { result ≡ is_prefix byte }
-{
-    byte == b'\'' || byte == b'"' || byte == b'^' || byte == b'\\' || byte == b'|'
 }
 
 // Whether a content is blank.
@@ -57,7 +50,7 @@ impl CellState {
     pub fn is_kept(&self) -> bool
         ensures { result ≡ is_kept self.now }
     {
-        !is_blank(&self.content) || self.format.0 != 0xFF
+        !is_blank(&self.content) || self.format.0 != Format::DEFAULT.0
     }
 
     /// An equal state.

@@ -1,5 +1,5 @@
 -- What a line means that is entered into a cell.
-use Rattle.std.specs.Prelude.{ℕ, List, [], ◌∷◌, Option, None, Some, Result, Ok, Err, if◌then◌else◌}
+use Rattle.std.specs.Prelude.{ℕ, List, [], ◌∷◌, Option, None, Some, Result, Ok, Err}
 use Rattle.fixed_value.specs.Decimals.{decimal_of}
 use Rattle.fixed_value.specs.declared.decimal.Decimal.{Decimal}
 use Rattle.fixed_value.specs.declared.decimal.Decimal.TheVariants as decimal
@@ -9,13 +9,19 @@ use Rattle.formula_tree.specs.Tree.{Tree}
 use Rattle.formula_tree.specs.declared.value.Content.{Content}
 use Rattle.formula_tree.specs.declared.value.Content.TheVariants as content
 use Rattle.grid_address.specs.Place.{Place}
+use Rattle.lics_text.specs.Prefixes.{prefix_of}
+use Rattle.lics_text.specs.declared.prefix.LabelPrefix.{LabelPrefix}
 use Rattle.range_names.specs.Names.{NameMap}
-use Rattle.sheet_store.specs.Grid.{is_prefix}
+
+-- by the prefix that the first byte is
+abbrev pub label_with : Option LabelPrefix → LabelPrefix → ℕ → List ℕ → Content
+label_with (Some own) prefix b bs = content.Label own bs
+label_with None prefix b bs = content.Label prefix (b ∷ bs)
 
 -- a label begins with its prefix, or takes the sheet's
-abbrev pub label_content : ℕ → List ℕ → Content
+abbrev pub label_content : LabelPrefix → List ℕ → Content
 label_content prefix [] = content.Label prefix []
-label_content prefix (b ∷ bs) = if is_prefix b then content.Label b bs else content.Label prefix (b ∷ bs)
+label_content prefix (b ∷ bs) = label_with (prefix_of b) prefix b bs
 
 -- a formula, or nothing where the text has a fault
 abbrev pub formula_content : Result Tree ParseFault → Option Content

@@ -6,6 +6,7 @@ use Rattle.fixed_value.specs.Written.{short}
 use Rattle.formula_text.specs.Printed.{printed}
 use Rattle.formula_tree.specs.declared.value.Content.{Content}
 use Rattle.formula_tree.specs.declared.value.Content.TheVariants as content
+use Rattle.lics_text.specs.Prefixes.{prefix_byte}
 use Rattle.range_names.specs.Names.{NameMap}
 use Rattle.sheet_store.specs.Grid.{Grid}
 use Rattle.sheet_store.specs.declared.state.CellState.{CellState}
@@ -14,7 +15,7 @@ use Rattle.sheet_store.specs.declared.state.CellState.{CellState}
 abbrev pub typed_content : NameMap → Place → Content → List ℕ
 typed_content names c content.Blank = []
 typed_content names c (content.Number x) = short x 6
-typed_content names c (content.Label p t) = p ∷ t
+typed_content names c (content.Label p t) = prefix_byte p ∷ t
 typed_content names c (content.Formula f) = printed names c f
 
 abbrev pub typed_state : NameMap → Place → Option CellState → List ℕ

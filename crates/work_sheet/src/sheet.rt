@@ -12,13 +12,13 @@ ghost use Rattle.range_names.specs.declared.fault.NameFault.TheVariants as cause
 ghost use Rattle.sheet_store.specs.Choices.{fresh};
 ghost use Rattle.sheet_store.specs.declared.writes.SheetFault.TheVariants as faults;
 ghost use Rattle.sheet_store.specs.Grid.{is_formula, is_hidden, is_kept, last_used, set_hidden_of, set_width_of, width_of, IsSound};
-ghost use Rattle.sheet_edits.specs.Edits.{is_protected, written_state, AreDirtied, HasPrefix};
+ghost use Rattle.sheet_edits.specs.Edits.{is_protected, written_state, AreDirtied};
 ghost use Rattle.work_sheet.specs.Did.{Did};
 ghost use Rattle.work_sheet.specs.Doing.{put, recalculated, with_content};
 ghost use Rattle.work_sheet.specs.Editing.{all_written, copied, erased, reformatted, reordered, restored};
 ghost use Rattle.work_sheet.specs.Seen.{of_worksheet};
 ghost use Rattle.work_sheet.specs.Sheets.{value_told, IsFaultOf, SameBeside, Worksheet};
-ghost use Rattle.sheet_edits.specs.Spans.{changed, rule_of, target_of, with_code, with_mark, written_cells, AreSound, Becomes, HasCode, HavePrefixes, IsAnswered};
+ghost use Rattle.sheet_edits.specs.Spans.{changed, rule_of, target_of, with_code, with_mark, written_cells, AreSound, Becomes, HasCode, IsAnswered};
 ghost use Rattle.work_sheet.specs.Typed.{typed};
 
 use crate::typed::text_of;
@@ -286,7 +286,6 @@ impl<E: Means> SheetOf<E> {
     /// reaches the cell become dirty. `Protected` comes exactly where protection is on and the cell is marked; the
     /// sheet is unchanged where the edit is refused.
     pub fn enter(&mut self, cell: Cell, content: Content) -> Result<(), SheetFault>
-        requires { HasPrefix content }
         ensures did { OnOk result ((n : ℕ) → Did (with_content cell content (of_worksheet self.old)) self.old self.new n n) }
         ensures err { OnErr result (self.new ≡ self.old) }
         ensures fault { IsFaultOf (is_protected self.old.settings self.old.grid cell) cell result }
@@ -317,7 +316,6 @@ impl<E: Means> SheetOf<E> {
         scene: &Scene,
         tally: &mut E,
     ) -> Result<(), SheetFault>
-        requires { HasPrefix content }
         ensures did { OnOk result (Did (put E.meaning scene.entry.now cell content (of_worksheet self.old)) self.old self.new (E.count tally.old) (E.count tally.new)) }
         ensures err { OnErr result (self.new ≡ self.old) }
         ensures fault { IsFaultOf (is_protected self.old.settings self.old.grid cell) cell result }
@@ -431,7 +429,6 @@ impl<E: Means> SheetOf<E> {
     /// Makes the writes in their order. One without a format leaves its cell's format. `Protected` names the first cell
     /// in row order that is protected; the sheet is unchanged where the edit is refused.
     pub fn write(&mut self, writes: &Writes) -> Result<(), SheetFault>
-        requires { HavePrefixes writes.now }
         ensures answer { IsAnswered self.old.settings self.old.grid (has same_place (written_cells writes.now)) result }
         ensures did { OnOk result ((n : ℕ) → Did (all_written writes.now (of_worksheet self.old)) self.old self.new n n) }
         ensures err { OnErr result (self.new ≡ self.old) }
@@ -506,7 +503,6 @@ fn entry_state(
     cell: Cell,
     content: Content,
 ) -> Result<CellState, SheetFault>
-    requires { HasPrefix content }
     ensures state { IfOk result (λ s. s ≡ written_state store.now cell content) }
     ensures sound { IfOk result (λ s. IsSound s) }
     ensures kept { IfOk result (λ s. is_formula s.content ≡ true → is_kept s ≡ true) }

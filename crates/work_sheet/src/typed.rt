@@ -1,5 +1,6 @@
 // What a cell holds, as it would be typed.
 ghost use Rattle.std.specs.Prelude.{◌≡◌, ◌≤◌, ◌∷◌, [], length, nat_le, take};
+ghost use Rattle.lics_text.specs.Prefixes.{prefix_byte};
 ghost use Rattle.fixed_value.specs.Written.{short};
 ghost use Rattle.work_sheet.specs.Typed.{typed, typed_content};
 
@@ -7,7 +8,7 @@ use fixed_value::{Fixed, write_short};
 use formula_text::print;
 use formula_tree::Content;
 use grid_address::Cell;
-use lics_text::{Line, Text};
+use lics_text::{LabelPrefix, Line, Text};
 use range_names::Names;
 use sheet_store::Store;
 
@@ -22,14 +23,14 @@ fn put_number(number: Fixed, into: &mut Line) -> bool
 }
 
 // A label's prefix and its text; of a text of 240 bytes the last one has no room.
-fn put_label(prefix: u8, text: &Text, into: &mut Line) -> bool
+fn put_label(prefix: LabelPrefix, text: &Text, into: &mut Line) -> bool
     requires { into.old ≡ [] }
-    ensures line { into.new ≡ take 240 (prefix ∷ text.now) }
-    ensures whole { result ≡ nat_le (length (prefix ∷ text.now)) 240 }
+    ensures line { into.new ≡ take 240 (prefix_byte prefix ∷ text.now) }
+    ensures whole { result ≡ nat_le (length (prefix_byte prefix ∷ text.now)) 240 }
 {
     let bytes = text.bytes();
     let room = bytes.len().min(239);
-    let _ = into.put(prefix);
+    let _ = into.put(prefix.byte());
     into.put_all(&bytes[..room]);
     bytes.len() <= 239
 }
