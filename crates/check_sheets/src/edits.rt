@@ -1,17 +1,15 @@
 // A sheet, and the edits that a line describes.
 ghost use Rattle.std.specs.Prelude.{◌<◌, IfOk};
-ghost use Rattle.sheet_edits.specs.Edits.{HasPrefix};
-ghost use Rattle.sheet_edits.specs.Spans.{HavePrefixes};
 
 use fixed_value::{Decimal, read_decimal};
 use formula_eval::{Scene, Tally};
 use formula_text::read;
 use formula_tree::Content;
 use grid_address::{Cell, Format, Span, read_cell, read_span};
-use lics_text::Text;
+use lics_text::{LabelPrefix, Text};
 use screen_layout::{Mode, Panel};
 use serial_date::Moment;
-use sheet_store::{Order, Settings, SheetFault, Write, Writes, is_prefix};
+use sheet_store::{Order, Settings, SheetFault, Write, Writes};
 use std::alloc::Global;
 use work_sheet::Sheet;
 
@@ -97,12 +95,8 @@ pub fn byte_of(bytes: &[u8]) -> Result<u8, Stop> {
     }
 }
 
-fn label(alloc: Global, prefix: u8, bytes: &[u8]) -> Result<Content, Stop>
-    ensures { IfOk result HasPrefix }
+fn label(alloc: Global, prefix: LabelPrefix, bytes: &[u8]) -> Result<Content, Stop>
 {
-    if !is_prefix(prefix) {
-        return Err(Stop::Line);
-    }
     match Text::from_bytes(alloc, bytes) {
         Ok(text) => Ok(Content::Label(prefix, text)),
         Err(_) => Err(Stop::Memory),
@@ -110,7 +104,6 @@ fn label(alloc: Global, prefix: u8, bytes: &[u8]) -> Result<Content, Stop>
 }
 
 fn formula(desk: &Desk, cell: Cell, bytes: &[u8]) -> Result<Content, Stop>
-    ensures { IfOk result HasPrefix }
 {
     match read(desk.alloc, bytes, cell, desk.sheet.names()) {
         Ok(formula) => Ok(Content::Formula(formula)),
@@ -120,13 +113,12 @@ fn formula(desk: &Desk, cell: Cell, bytes: &[u8]) -> Result<Content, Stop>
 
 // What a text spells: a label where it begins with a prefix, nothing where it is empty, a decimal, or a formula.
 fn content_of(desk: &Desk, cell: Cell, bytes: &[u8]) -> Result<Content, Stop>
-    ensures { IfOk result HasPrefix }
 {
     let Some((first, rest)) = bytes.split_first() else {
         return Ok(Content::Blank);
     };
-    if is_prefix(*first) {
-        return label(desk.alloc, *first, rest);
+    if let Some(prefix) = LabelPrefix::of(*first) {
+        return label(desk.alloc, prefix, rest);
     }
     match read_decimal(bytes) {
         Decimal::Num(number) => Ok(Content::Number(number)),
@@ -181,7 +173,6 @@ pub fn protect(desk: &mut Desk, bytes: &[u8], protected: bool) -> Result<(), Sto
 
 // A cell, a format code or `-`, and a text.
 fn write_of(desk: &Desk, bytes: &[u8]) -> Result<Write, Stop>
-    ensures { IfOk result (λ w. HasPrefix w.content) }
 {
     let (cell, rest) = parts(bytes)?;
     let (code, text) = parts(rest)?;
@@ -200,9 +191,6 @@ fn write_of(desk: &Desk, bytes: &[u8]) -> Result<Write, Stop>
 }
 
 fn add(writes: &mut Writes, write: Write) -> Result<(), Stop>
-    requires prefixes { HavePrefixes writes.old }
-    requires prefix { HasPrefix write.content }
-    ensures { HavePrefixes writes.new }
 {
     match writes.push(write) {
         Ok(()) => Ok(()),
@@ -211,7 +199,6 @@ fn add(writes: &mut Writes, write: Write) -> Result<(), Stop>
 }
 
 fn writes_of(desk: &Desk, bytes: &[u8]) -> Result<Writes, Stop>
-    ensures { IfOk result (λ ws. HavePrefixes ws.items.items) }
 {
     let mut writes = Writes::new(desk.alloc);
     for part in bytes.split(|byte| *byte == b'\t') {

@@ -1,5 +1,6 @@
 -- What is seen of a block of cells.
 use Rattle.std.specs.Prelude.{ℕ, ◌+◌, ◌*◌, nat_lt, Option, Some, None, List, slice_get, if◌then◌else◌}
+use Rattle.grid_address.specs.Formats.{default_format}
 use Rattle.grid_address.specs.Place.{Place}
 use Rattle.formula_tree.specs.declared.value.Content.{Content}
 use Rattle.formula_tree.specs.declared.value.Value.{Value}
@@ -25,5 +26,5 @@ content_of None = None
 content_of (Some h) = Some h.content
 
 abbrev pub format_of : Option Held → ℕ
-format_of None = 255
+format_of None = default_format
 format_of (Some h) = h.format.0

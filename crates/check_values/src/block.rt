@@ -116,7 +116,7 @@ impl Look for Block {
     fn format(&self, cell: Cell) -> Format {
         match held_at(self.held.as_slice(), cell) {
             Some(held) => held.format,
-            None => Format(255),
+            None => Format::DEFAULT,
         }
     }
 

@@ -7,7 +7,7 @@ use formula_eval::{Scene, glance};
 use formula_text::read;
 use formula_tree::{Content, Formula, Value};
 use grid_address::{Cell, Format, Span};
-use lics_text::{Memory, Text};
+use lics_text::{LabelPrefix, Memory, Text};
 use range_names::{NameFault, Names};
 use serial_date::Moment;
 use std::alloc::Global;
@@ -42,7 +42,7 @@ pub fn names_in(alloc: Global) -> Result<Names, NameFault> {
 // The formats of the cells in turn: the default, fixed places, a date, and each with its protection off.
 fn format_of(count: usize) -> Format {
     match count % 5 {
-        0 => Format(0xFF),
+        0 => Format::DEFAULT,
         1 => Format(0x82),
         2 => Format(0x72),
         3 => Format(0x00),
@@ -78,6 +78,7 @@ fn put_number(block: &mut Block, bytes: &[u8]) -> Result<(), Stop> {
 }
 
 fn put_label(alloc: Global, block: &mut Block, prefix: u8, bytes: &[u8]) -> Result<(), Stop> {
+    let prefix = LabelPrefix::of(prefix).unwrap_or(LabelPrefix::Left);
     let Ok(text) = Text::from_bytes(alloc, bytes) else {
         return Err(Stop::Memory);
     };

@@ -24,7 +24,7 @@ fn block<R: Abort>(rt: &R, alloc: Global) -> Block {
             8 => put(
                 &mut block,
                 Content::Label(
-                    b'\'',
+                    LabelPrefix::Left,
                     Text::from_bytes(alloc, b"label").expect(rt, "a text"),
                 ),
                 Value::Str(Text::from_bytes(alloc, b"label").expect(rt, "a text")),

@@ -37,7 +37,7 @@ fn sums_span<R: Abort>(rt: &R, alloc: Global, at: Cell, first: Cell, last: Cell)
     let first = Ref::of(first, at, false, false);
     let last = Ref::of(last, at, true, true);
     args.push(Expr::Span(first, last)).expect(rt, "memory");
-    Formula::of(alloc, Expr::Call(Function(0x50), args)).expect(rt, "a formula")
+    Formula::of(alloc, Expr::Call(Function::Sum, args)).expect(rt, "a formula")
 }
 
 // The cell that a formula of one reference names.
@@ -50,7 +50,7 @@ fn named(formula: &Formula, at: Cell) -> Option<Cell> {
 
 fn is_error(expr: &Expr) -> bool {
     match expr {
-        Expr::Call(function, args) => function.0 == 0x20 && args.items().len() == 0,
+        Expr::Call(function, args) => *function == Function::Err && args.items().len() == 0,
         _ => false,
     }
 }

@@ -38,7 +38,7 @@ impl Look for TwoValues {
     }
 
     fn format(&self, _cell: Cell) -> Format {
-        Format(255)
+        Format::DEFAULT
     }
 
     fn width(&self, _col: u8) -> u8 {
@@ -82,12 +82,12 @@ fn binary<R: Abort>(rt: &R, alloc: Global, op: Op, left: Expr, right: Expr) -> E
     )
 }
 
-fn call<R: Abort>(rt: &R, alloc: Global, code: u8, arguments: [Expr; 3]) -> Expr {
+fn call<R: Abort>(rt: &R, alloc: Global, function: Function, arguments: [Expr; 3]) -> Expr {
     let mut list = ExprList::new(alloc);
     for argument in arguments {
         list.push(argument).expect(rt, "memory");
     }
-    Expr::Call(Function(code), list)
+    Expr::Call(function, list)
 }
 
 // What a tree means: a number of millionths, a text's first byte, or whether it is ERR or NA.
@@ -162,15 +162,15 @@ fn operators_round_once_and_count(rt: HostRuntime) -> Result<(), Fail> {
 fn one_argument_decides(rt: HostRuntime) -> Result<(), Fail> {
     let alloc = rt.alloc();
     let mut tally = Tally::new();
-    for (code, first, wanted) in [
-        (0x3Bu8, 0i64, Seen::Na),
-        (0x3B, 1_000_000, Seen::Millionths(1_000_000)),
-        (0x30, 0, Seen::Millionths(1_000_000)),
-        (0x30, 1_900_000, Seen::Na),
-        (0x30, 2_000_000, Seen::Err),
+    for (function, first, wanted) in [
+        (Function::If, 0i64, Seen::Na),
+        (Function::If, 1_000_000, Seen::Millionths(1_000_000)),
+        (Function::Choose, 0, Seen::Millionths(1_000_000)),
+        (Function::Choose, 1_900_000, Seen::Na),
+        (Function::Choose, 2_000_000, Seen::Err),
     ] {
         let arguments = [number(&rt, first), Expr::Cell(FIRST_ROW), Expr::Cell(BELOW)];
-        let tree = call(&rt, alloc, code, arguments);
+        let tree = call(&rt, alloc, function, arguments);
         assert_eq!(&rt; meaning(&rt, alloc, tree, &mut tally), wanted);
     }
     Ok(())

@@ -40,7 +40,7 @@ fn number(whole: i64) -> CellState
     CellState {
         content: Content::Number(number),
         value: Value::Num(number),
-        format: Format(0xFF),
+        format: Format::DEFAULT,
     }
 }
 
@@ -60,7 +60,7 @@ fn sum<R: Abort>(rt: &R, alloc: Global, cell: Cell, whole: i64) -> CellState
     CellState {
         content: Content::Formula(Formula::of(alloc, tree).expect(rt, "a formula")),
         value: Value::Num(Fixed::ZERO),
-        format: Format(0xFF),
+        format: Format::DEFAULT,
     }
 }
 

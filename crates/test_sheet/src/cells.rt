@@ -1,7 +1,6 @@
 // What the lines of check_sheets don't reach: a sheet that was saved, another evaluator, and a long sheet.
 ghost use Rattle.std.specs.Prelude.{◌≡◌, ◌<◌, ◌+◌, ◌-◌, ◌^◌, ℕ, min, pos};
 ghost use Rattle.formula_tree.specs.declared.value.Value.TheVariants.{Num};
-ghost use Rattle.sheet_edits.specs.Edits.{HasPrefix};
 
 use fixed_value::Fixed;
 use formula_eval::{Look, Means, Scene, Tally};
@@ -33,7 +32,6 @@ fn at(row: u16, col: u8) -> Cell
 }
 
 fn write<R: Abort, E: Means>(rt: &R, sheet: &mut SheetOf<E>, cell: Cell, content: Content)
-    requires { HasPrefix content }
 {
     sheet.enter(cell, content).expect(rt, "an edit");
 }

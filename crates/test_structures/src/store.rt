@@ -5,13 +5,11 @@ use crate::draws::{below, cell_below};
 use fixed_value::Fixed;
 use formula_tree::{Content, Expr, ExprList, Formula, Function, Value};
 use grid_address::{Cell, Format, Span};
-use lics_text::Text;
-use sheet_store::{CellState, Order, Settings, Store, is_prefix};
+use lics_text::{LabelPrefix, Text};
+use sheet_store::{CellState, Order, Settings, Store};
 use std::alloc::Global;
 use std::process::Abort;
 use std::test::Fail;
-
-const DEFAULT: Format = Format(0xFF);
 
 const A1: Cell = Cell { row: 0, col: 0 };
 
@@ -26,7 +24,7 @@ fn number(millionths: i64) -> CellState
     CellState {
         content: Content::Number(number),
         value: Value::Num(number),
-        format: DEFAULT,
+        format: Format::DEFAULT,
     }
 }
 
@@ -36,9 +34,9 @@ fn label<R: Abort>(rt: &R, alloc: Global, bytes: &[u8]) -> CellState
     let text = Text::from_bytes(alloc, bytes).expect(rt, "a text");
     let copy = text.copy().expect(rt, "memory");
     CellState {
-        content: Content::Label(b'\'', text),
+        content: Content::Label(LabelPrefix::Left, text),
         value: Value::Str(copy),
-        format: DEFAULT,
+        format: Format::DEFAULT,
     }
 }
 
@@ -46,11 +44,11 @@ fn label<R: Abort>(rt: &R, alloc: Global, bytes: &[u8]) -> CellState
 fn formula<R: Abort>(rt: &R, alloc: Global) -> CellState
     ensures { IsSound result }
 {
-    let now = Expr::Call(Function(0x37), ExprList::new(alloc));
+    let now = Expr::Call(Function::Now, ExprList::new(alloc));
     CellState {
         content: Content::Formula(Formula::of(alloc, now).expect(rt, "a formula")),
         value: Value::Num(Fixed::ZERO),
-        format: DEFAULT,
+        format: Format::DEFAULT,
     }
 }
 
@@ -98,12 +96,12 @@ fn a_blank_cell_in_the_default_format_is_not_kept(rt: HostRuntime) -> Result<(),
     let alloc = rt.alloc();
     let mut store = filled(&rt, alloc);
     store
-        .put(A1, CellState::blank(DEFAULT))
+        .put(A1, CellState::blank(Format::DEFAULT))
         .expect(&rt, "memory");
     assert!(&rt; store.get(A1).is_none());
     store.set_format(A1, Format(0x82)).expect(&rt, "memory");
     assert!(&rt; store.get(A1).is_some());
-    store.set_format(A1, DEFAULT).expect(&rt, "memory");
+    store.set_format(A1, Format::DEFAULT).expect(&rt, "memory");
     assert!(&rt; store.get(A1).is_none());
     store.set_format(C1, Format(0x02)).expect(&rt, "memory");
     store.clear(C1);
@@ -137,8 +135,7 @@ fn a_fresh_sheet_has_these_settings(rt: HostRuntime) -> Result<(), Fail> {
     assert_eq!(&rt; fresh.passes, 1);
     assert_eq!(&rt; fresh.width, 9);
     assert_eq!(&rt; fresh.order, Order::Natural);
-    assert!(&rt; is_prefix(b'|'));
-    assert!(&rt; !is_prefix(b'+'));
+    assert_eq!(&rt; fresh.prefix, LabelPrefix::Left);
     Ok(())
 }
 

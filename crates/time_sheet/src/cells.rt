@@ -32,7 +32,7 @@ fn put(store: &mut Store, alloc: Global, cell: Cell) -> Result<(), Memory> {
     let state = CellState {
         content: Content::Formula(formula),
         value: Value::Num(Fixed::ZERO),
-        format: Format(0xFF),
+        format: Format::DEFAULT,
     };
     store.put(cell, state)
 }

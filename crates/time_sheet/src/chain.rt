@@ -54,7 +54,7 @@ fn put(store: &mut Store, cell: Cell, formula: Formula) -> Result<(), Memory> {
     let state = CellState {
         content: Content::Formula(formula),
         value: Value::Num(Fixed::ZERO),
-        format: Format(0xFF),
+        format: Format::DEFAULT,
     };
     store.put(cell, state)
 }
@@ -69,7 +69,7 @@ fn write(store: &mut Store, graph: &mut Graph, cell: Cell, formula: Formula) -> 
     let state = CellState {
         content: Content::Formula(formula),
         value: Value::Num(Fixed::ZERO),
-        format: Format(0xFF),
+        format: Format::DEFAULT,
     };
     store.put(cell, state)?;
     Ok(())

@@ -1,6 +1,5 @@
 // Edits of a cell that nothing reads, in sheets of different lengths.
 ghost use Rattle.std.specs.Prelude.{◌≡◌};
-ghost use Rattle.sheet_edits.specs.Edits.{HasPrefix};
 
 use crate::chain::{SCENE, link};
 use crate::graphs::at;
@@ -15,13 +14,11 @@ use work_sheet::Sheet;
 const APART: Cell = Cell { row: 4, col: 7 };
 
 fn number(number: u32) -> Content
-    ensures { HasPrefix result }
 {
     Content::Number(Fixed::of(i64::from(number)).unwrap_or(Fixed::ZERO))
 }
 
 fn enter(sheet: &mut Sheet, cell: Cell, content: Content) -> Result<(), Memory>
-    requires { HasPrefix content }
 {
     match sheet.enter(cell, content) {
         Ok(()) => Ok(()),
