@@ -5,19 +5,21 @@ ghost use Rattle.std.specs.List.{IsDistinct};
 ghost use Rattle.std.specs.Option.{ForSome};
 ghost use Rattle.grid_address.specs.Place.{is_within, same_place, Place};
 ghost use Rattle.natural_order.specs.Walk.{has};
-ghost use Rattle.natural_recalc.specs.Passes.{SameContents};
-ghost use Rattle.natural_recalc.specs.World.{sight_of};
+ghost use Rattle.natural_recalc.specs.Passes as recalculation;
+ghost use Rattle.natural_recalc.specs.Passes.{IsPlain, IsRight, SameContents};
+ghost use Rattle.natural_recalc.specs.World.{sight_of, Context};
 ghost use Rattle.range_names.specs.Names.{fault_of, key_of};
 ghost use Rattle.range_names.specs.declared.fault.NameFault.TheVariants as cause;
 ghost use Rattle.sheet_store.specs.Choices.{fresh};
+ghost use Rattle.sheet_store.specs.declared.order.Order.TheVariants as orders;
 ghost use Rattle.sheet_store.specs.declared.writes.SheetFault.TheVariants as faults;
 ghost use Rattle.sheet_store.specs.Grid.{is_formula, is_hidden, is_kept, last_used, set_hidden_of, set_width_of, width_of, IsSound};
 ghost use Rattle.sheet_edits.specs.Edits.{is_protected, written_state, AreDirtied};
 ghost use Rattle.work_sheet.specs.Did.{Did};
-ghost use Rattle.work_sheet.specs.Doing.{put, recalculated, with_content};
+ghost use Rattle.work_sheet.specs.Doing.{context_in, put, recalculated, with_content};
 ghost use Rattle.work_sheet.specs.Editing.{all_written, copied, erased, reformatted, reordered, restored};
 ghost use Rattle.work_sheet.specs.Seen.{of_worksheet};
-ghost use Rattle.work_sheet.specs.Sheets.{value_told, IsFaultOf, SameBeside, Worksheet};
+ghost use Rattle.work_sheet.specs.Sheets.{value_told, AllDirtyIn, IsFaultOf, SameBeside, Worksheet};
 ghost use Rattle.sheet_edits.specs.Spans.{changed, rule_of, target_of, with_code, with_mark, written_cells, AreSound, Becomes, HasCode, IsAnswered};
 ghost use Rattle.work_sheet.specs.Typed.{typed};
 
@@ -155,6 +157,17 @@ impl<E: Means> SheetOf<E> {
         ensures once { IsDistinct same_place self.now.dirty }
     {
         self.dirty.len()
+    }
+
+    /// Tells what the sheet keeps, and does nothing else: only formulas are dirty; a formula that reads a dirty one is
+    /// dirty; a formula that isn't dirty isn't volatile and doesn't reach itself, and its value is its meaning, whatever
+    /// the moment, the pointer, the names and the settings are. In another order than the natural one all formulas are
+    /// dirty.
+    pub fn is_kept(&self)
+        ensures sound { (x : Context) → recalculation.IsSound E.meaning x self.now.grid (has same_place self.now.dirty) }
+        ensures all { AllDirtyIn self.now.settings.order self.now.grid self.now.dirty }
+    {
+        let _ = &self.dirty;
     }
 
     /// The names of spans.
@@ -472,9 +485,11 @@ impl<E: Means> SheetOf<E> {
         Ok(())
     }
 
-    /// Recalculates in the order of the settings, with as many passes.
+    /// Recalculates in the order of the settings, with as many passes. In the natural order, where no formula is volatile
+    /// and none reaches itself, the value of each is then its meaning.
     pub fn calc(&mut self, scene: &Scene, tally: &mut E) -> Result<(), Memory>
         ensures did { OnOk result (Did (recalculated E.meaning scene.entry.now (of_worksheet self.old)) self.old self.new (E.count tally.old) (E.count tally.new)) }
+        ensures right { OnOk result (self.old.settings.order ≡ orders.Natural → IsPlain self.old.grid → IsRight E.meaning (context_in scene.entry.now (of_worksheet self.old)) self.new.grid) }
         ensures contents { SameContents self.old.grid self.new.grid }
         ensures err { OnErr result (self.new ≡ record self.old { grid = self.new.grid }) }
     {
