@@ -71,7 +71,7 @@ has_rows (suc n) cols p d =
     ∙ ap (λ b. b && (nat_le p.col d.col && nat_lt d.col (p.col + cols))) (one_first p.row n d.row)
 
 -- the cells of a span are those that lie in it
-has_cells : (s : Extent) (d : Place) → has same_place (cells_of s) d ≡ is_within s d
+pub has_cells : (s : Extent) (d : Place) → has same_place (cells_of s) d ≡ is_within s d
 has_cells s d = has_rows (height_of s) (width_of s) s.first d ∙ (λ i. up_to s.first.row s.last.row d.row i && up_to s.first.col s.last.col d.col i)
 
 -- cells of a span that were given what they hold

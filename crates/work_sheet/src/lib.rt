@@ -6,4 +6,6 @@ mod typed;
 mod work;
 
 pub use sheet::{Sheet, SheetOf};
-pub use work::what_happened_tells_the_work;
+pub use work::{
+    what_happened_has_its_work, what_happened_tells_the_work, what_was_done_is_composed,
+};
