@@ -1,17 +1,15 @@
 -- The session as a machine over one map of cells, in which every formula is evaluated at each recalculation.
-use Rattle.std.specs.Prelude.{◌≡◌, ℕ, Bool, true, false, Option, None, Some, List, [], replicate, refl, if◌then◌else◌}
+use Rattle.std.specs.Prelude.{◌≡◌, ℕ, Bool, true, false, Option, None, Some, List, [], refl, if◌then◌else◌}
 use Rattle.std.specs.Coded.{Coded, code_by, coded×, coded_bool, coded_option, coded_ℕ}
-use Rattle.std.specs.FinMap as map
 use Rattle.formula_eval.specs.Mean.{mean}
 use Rattle.formula_eval.specs.declared.look.Scene.{Scene}
 use Rattle.formula_tree.specs.declared.value.Content.{Content}
 use Rattle.grid_address.specs.Place.{Place, coded_place}
 use Rattle.serial_date.specs.declared.moment.Moment.{Moment}
-use Rattle.sheet_store.specs.Choices.{fresh}
 use Rattle.screen_layout.specs.Corner.{corner_for}
 use Rattle.work_sheet.specs.Doing.{recalculated, with_entry, with_pointer, Done, Happened}
 use Rattle.work_sheet.specs.Lines.{label_content, value_content}
-use Rattle.work_sheet.specs.Seen.{coded_sheet, Sheet}
+use Rattle.work_sheet.specs.Seen.{coded_sheet, fresh_sheet, Sheet}
 use Rattle.work_sheet.specs.Work.{coded_work, no_work, HasWorked, Work}
 use Rattle.session_core.specs.Pointer.{moved}
 use Rattle.session_core.specs.Typing.{typed}
@@ -49,13 +47,11 @@ coded_state =
 abbrev pub coded_running : Coded Running
 coded_running = code_by (State × (Work × Bool)) (coded× coded_state (coded× coded_work coded_bool)) (λ r. (r.state, (r.work, r.spent))) (λ p. record { state = p.0; work = p.1.0; spent = p.1.1 }) (λ _. refl)
 
+-- the cell A1
 abbrev pub home : Place
 home = record { row = 0; col = 0 }
 
--- no cell, no column of a width of its own or hidden, no name, and the settings of a fresh sheet
-abbrev pub fresh_sheet : Sheet
-fresh_sheet = record { grid = record { cells = map.empty; widths = replicate 256 0; hidden = replicate 256 false }; circular = false; stale = false; names = map.empty; settings = fresh }
-
+-- the state of a fresh session
 abbrev pub start : State
 start = record { sheet = fresh_sheet; corner = home; mode = Ready; day = None; second = 0 }
 
@@ -67,6 +63,7 @@ started = record { state = start; work = no_work; spent = false }
 abbrev pub wants_key : State → Bool
 wants_key s = true
 
+-- the pointer's cell
 abbrev pub pointer_of : State → Place
 pointer_of s = s.sheet.settings.pointer
 
@@ -74,7 +71,7 @@ pointer_of s = s.sheet.settings.pointer
 abbrev pub scene_at : State → Moment → Scene
 scene_at s now = record { cursor = pointer_of s; now = now }
 
--- what an act comes to: the next state, and what happened in the sheet
+-- what a key comes to: the next state, and what happened in the sheet
 pub record Outcome : Type 0 where
   pub state : State
   pub log : List Happened
@@ -105,6 +102,7 @@ moves (Label line) entry = true
 moves (Value line) None = false
 moves (Value line) (Some x) = true
 
+-- the pointer stands in a cell
 abbrev pub pointing_at : Place → State → State
 pointing_at p s = record s { sheet = with_pointer p s.sheet }
 
@@ -130,7 +128,7 @@ acted Pass scene s = quiet s
 abbrev pub framed : Moment → State → State
 framed now s = record s { corner = corner_for s.sheet s.corner; day = now.day; second = now.second }
 
--- what is done, and then the screen follows it
+-- the screen follows what was done
 abbrev pub shown_at : Moment → Outcome → Outcome
 shown_at now o = record o { state = framed now o.state }
 
@@ -140,12 +138,13 @@ abbrev pub step : Event → Moment → State → Outcome
 step (KeyEvent key) now s = shown_at now (acted (act_of key) (scene_at s now) s)
 step UnitEvent now s = quiet s
 
--- a session goes on to what an act comes to, with the work of what happened
+-- a session goes on to what a key comes to, with the work of what happened
 pub record Follows (o : Outcome) (a b : Running) : Type 0 where
   pub state : b.state ≡ o.state
   pub work : HasWorked o.log a.work b.work
   pub spent : b.spent ≡ a.spent
 
+-- whether a key is pressed
 abbrev pub is_key : Event → Bool
 is_key (KeyEvent key) = true
 is_key UnitEvent = false
@@ -163,6 +162,7 @@ OnlyMoves (Value line) (Finish way) = ⊥
 OnlyMoves mode Calculate = ⊥
 OnlyMoves mode Pass = Unit {0}
 
+-- an event that only moves the pointer, or is passed over
 abbrev pub OnlyMovesBy : Mode → Event → Type 0
 OnlyMovesBy mode (KeyEvent key) = OnlyMoves mode (act_of key)
 OnlyMovesBy mode UnitEvent = ⊥

@@ -7,7 +7,7 @@ use Rattle.formula_eval.specs.declared.look.Scene.{Scene}
 use Rattle.formula_tree.specs.declared.value.Content.{Content}
 use Rattle.grid_address.specs.Place.{is_within, same_place, Extent, Place}
 use Rattle.natural_order.specs.Walk.{has}
-use Rattle.natural_recalc.specs.Passes.{passes, raised_by, IsDirtyAfter, Meaning}
+use Rattle.natural_recalc.specs.Passes.{raised_by, IsDirtyAfter, Meaning}
 use Rattle.natural_recalc.specs.Reading.{is_formula_at, order_in}
 use Rattle.natural_recalc.specs.World.{context_of}
 use Rattle.sheet_edits.specs.Edits.{entered, evaluations, is_evaluated, just, written, AreDirtied}
@@ -18,13 +18,13 @@ use Rattle.sheet_store.specs.declared.order.Order.TheVariants as orders
 use Rattle.sheet_store.specs.declared.state.CellState.{CellState}
 use Rattle.work_sheet.proofs.Filled.{held_is}
 use Rattle.work_sheet.proofs.OneWork.{put_worked, worked_both}
-use Rattle.work_sheet.specs.Cells.{holding_in}
+use Rattle.work_sheet.specs.Cells.{with_cells_in}
 use Rattle.work_sheet.specs.Did.{work_of, Did}
 use Rattle.work_sheet.specs.Doing.{all_dirty, all_passed, and_then, edited, evaluation_if, put, quiet, recalculated, with_content, wrote, Done}
 use Rattle.work_sheet.specs.Editing.{reformatted, reordered, same_order}
 use Rattle.work_sheet.specs.Seen.{of_worksheet, Sheet}
 use Rattle.work_sheet.specs.Sheets.{SameBeside, Worksheet}
-use Rattle.work_sheet.specs.Work.{HasWorked, Work}
+use Rattle.work_sheet.specs.Work.{HasWorked}
 
 -- one act, and then another
 pub did_both : (d : Done) (act : Sheet → Done) (a b c : Worksheet) (m n o : ℕ) → Did d a b m n → Did (act (of_worksheet b)) b c n o → Did (and_then d act) a c m o
@@ -53,9 +53,9 @@ module _ (a b : Worksheet) where
   -- the cells of a span were given what they hold
   pub spanned_did : (s : Extent) (told : Place → Option CellState) (listed : List Place) (changes : Cells) (n : ℕ) → ((c : Place) → has same_place listed c ≡ is_within s c) → AreGiven changes (has same_place listed) told
       → Becomes a.grid (λ c. changed (get changes c) (get a.grid.cells c)) b.grid → AreDirtied b.grid (has same_place a.dirty) (has same_place listed) (has same_place b.dirty)
-      → IsDistinct same_place b.dirty → b.stale ≡ true → SameBeside a b → Did (edited (is_within s) (holding_in s (λ c. changed (told c) (get a.grid.cells c)) a.grid) (of_worksheet a)) a b n n
+      → IsDistinct same_place b.dirty → b.stale ≡ true → SameBeside a b → Did (edited (is_within s) (with_cells_in s (λ c. changed (told c) (get a.grid.cells c)) a.grid) (of_worksheet a)) a b n n
   spanned_did s told listed changes n among given becomes dirty distinct stale beside =
-      edited_did (has same_place listed) (is_within s) (holding_in s (λ c. changed (told c) (get a.grid.cells c)) a.grid) n among (held_is a.grid b.grid s told listed changes among given becomes) dirty distinct stale beside
+      edited_did (has same_place listed) (is_within s) (with_cells_in s (λ c. changed (told c) (get a.grid.cells c)) a.grid) n among (held_is a.grid b.grid s told listed changes among given becomes) dirty distinct stale beside
 
   module _ (mean : Meaning) (scene : Scene) where
     -- a line was entered, and in Manual mode evaluated

@@ -1,4 +1,4 @@
--- The cells of a span, and cells that hold what is told of them.
+-- The cells of a span, and cells that are told what they hold.
 use Rattle.std.specs.Prelude.{ℕ, zero, suc, ◌+◌, List, [], ◌∷◌, ◌++◌, Option, None, Some}
 use Rattle.std.specs.FinMap as map
 use Rattle.grid_address.specs.Place.{height_of, width_of, Extent, Place}
@@ -19,16 +19,16 @@ rows_of (suc n) cols p = row_of cols p ++ rows_of n cols (record p { row = p.row
 abbrev pub cells_of : Extent → List Place
 cells_of s = rows_of (height_of s) (width_of s) s.first
 
--- a cell holds what is told of it
-abbrev pub hold : Cells → Place → Option CellState → Cells
-hold m c None = map.remove m c
-hold m c (Some s) = map.insert m c s
+-- the cells where one holds what is told of it
+abbrev pub with_cell : Cells → Place → Option CellState → Cells
+with_cell m c None = map.remove m c
+with_cell m c (Some s) = map.insert m c s
 
--- each of the cells holds what is told of it
-unfoldable pub holding : (Place → Option CellState) → List Place → Cells → Cells
-holding told [] m = m
-holding told (c ∷ cs) m = holding told cs (hold m c (told c))
+-- the cells where each of these holds what is told of it
+unfoldable pub with_cells : (Place → Option CellState) → List Place → Cells → Cells
+with_cells told [] m = m
+with_cells told (c ∷ cs) m = with_cells told cs (with_cell m c (told c))
 
--- each cell of a span holds what is told of it, and each other one what it did
-abbrev pub holding_in : Extent → (Place → Option CellState) → Grid → Grid
-holding_in span told g = record g { cells = holding told (cells_of span) g.cells }
+-- the grid where each cell of a span holds what is told of it, and each other one what it did
+abbrev pub with_cells_in : Extent → (Place → Option CellState) → Grid → Grid
+with_cells_in span told g = record g { cells = with_cells told (cells_of span) g.cells }

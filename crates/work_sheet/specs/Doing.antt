@@ -12,14 +12,17 @@ use Rattle.sheet_store.specs.Grid.{Grid}
 use Rattle.sheet_store.specs.declared.order.Order.{Order}
 use Rattle.work_sheet.specs.Seen.{Sheet}
 
--- Cells were written, which left this grid; or the formula that was written was evaluated once; or all formulas were
--- evaluated in an order, in so many passes, which left this grid; or all formulas of this grid became dirty; or the
--- formulas of a span of this grid were evaluated, in so many passes.
+-- what happens to the formulas of a sheet
 pub data Happened : Type 0 where
+  -- cells were written, which left this grid
   wrote : (Place → Bool) → Grid → Happened
+  -- the formula that was written was evaluated once
   evaluated_once : Happened
+  -- all formulas were evaluated in an order, in so many passes, which left this grid
   passed : Order → ℕ → Grid → Happened
+  -- all formulas of this grid became dirty
   all_dirty : Grid → Happened
+  -- the formulas of a span of this grid were evaluated, in so many passes
   swept : Extent → ℕ → Grid → Happened
 
 -- what an act leaves of a sheet, and what happened in it, in order
@@ -27,14 +30,15 @@ pub record Done : Type 0 where
   pub sheet : Sheet
   pub log : List Happened
 
+-- what is done, and then an act on the sheet that it leaves
 abbrev pub and_then : Done → (Sheet → Done) → Done
 and_then d act = record { sheet = (act d.sheet).sheet; log = d.log ++ (act d.sheet).log }
 
--- nothing happened to the formulas
+-- the sheet becomes this one, and nothing happens to its formulas
 abbrev pub quiet : Sheet → Done
 quiet s = record { sheet = s; log = [] }
 
--- cells were written, which left this grid; a recalculation is wanted
+-- cells are written, which leaves this grid; a recalculation is wanted
 abbrev pub edited : (Place → Bool) → Grid → Sheet → Done
 edited cells g s = record { sheet = record s { grid = g; stale = true }; log = wrote cells g ∷ [] }
 
@@ -46,6 +50,7 @@ with_content c x s = edited (just c) (written s.grid c x) s
 abbrev pub context_in : Scene → Sheet → Context
 context_in scene s = context_of s.names s.settings scene
 
+-- one evaluation, or none
 abbrev pub evaluation_if : Bool → List Happened
 evaluation_if true = evaluated_once ∷ []
 evaluation_if false = []
@@ -66,18 +71,21 @@ module _ (mean : Meaning) where
   abbrev pub all_passed : Scene → Sheet → Grid
   all_passed scene s = passes mean (context_in scene s) s.settings.passes (ordered s).done s.grid
 
+  -- every formula is evaluated, as many times as there are passes; no recalculation is wanted
   abbrev pub recalculated : Scene → Sheet → Done
   recalculated scene s = record {
     sheet = record s { grid = all_passed scene s; circular = (ordered s).circular; stale = false };
     log = passed s.settings.order s.settings.passes (all_passed scene s) ∷ [];
   }
 
-  -- in Automatic mode a recalculation follows an entry
+  -- in Automatic mode all is recalculated
   abbrev pub settled : Scene → Sheet → Done
   settled scene s = if s.settings.automatic then recalculated scene s else quiet s
 
+  -- a content that a line spells is entered into a cell; in Automatic mode a recalculation follows
   abbrev pub with_entry : Scene → Place → Content → Sheet → Done
   with_entry scene c x s = and_then (put scene c x s) (settled scene)
 
+-- the pointer stands in a cell
 abbrev pub with_pointer : Place → Sheet → Sheet
 with_pointer p s = record s { settings = record s.settings { pointer = p } }

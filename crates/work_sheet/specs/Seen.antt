@@ -1,8 +1,9 @@
 -- What is seen of a sheet.
-use Rattle.std.specs.Prelude.{Bool, refl}
+use Rattle.std.specs.Prelude.{Bool, false, refl, replicate}
+use Rattle.std.specs.FinMap as map
 use Rattle.std.specs.Coded.{Coded, code_by, coded×, coded_bool}
 use Rattle.range_names.specs.Names.{coded_names, NameMap}
-use Rattle.sheet_store.specs.Choices.{Choices}
+use Rattle.sheet_store.specs.Choices.{fresh, Choices}
 use Rattle.sheet_store.specs.Grid.{coded_grid, Grid}
 use Rattle.sheet_store.specs.contracts.settings.Settings as settings
 use Rattle.work_sheet.specs.Sheets.{Worksheet}
@@ -21,6 +22,10 @@ coded_sheet = code_by (Grid × (Bool × (Bool × (NameMap × Choices))))
     (coded× coded_grid (coded× coded_bool (coded× coded_bool (coded× coded_names (settings.the_row).coded))))
     (λ s. (s.grid, (s.circular, (s.stale, (s.names, s.settings)))))
     (λ p. record { grid = p.0; circular = p.1.0; stale = p.1.1.0; names = p.1.1.1.0; settings = p.1.1.1.1 }) (λ _. refl)
+
+-- no cell, no column of a width of its own or hidden, no name, and the settings of a fresh sheet
+abbrev pub fresh_sheet : Sheet
+fresh_sheet = record { grid = record { cells = map.empty; widths = replicate 256 0; hidden = replicate 256 false }; circular = false; stale = false; names = map.empty; settings = fresh }
 
 -- a worksheet without its dirty formulas
 abbrev pub of_worksheet : Worksheet → Sheet

@@ -49,11 +49,12 @@ pub record IsKept (mean : Meaning) (n : Network) (g : Grid) (dirty : List Place)
   pub sound : (x : Context) → IsSound mean x g (has same_place dirty)
   pub whole : AllDirtyIn order g dirty
 
--- the value of a cell that the sheet holds something of
+-- the value of what is held of a cell
 abbrev pub value_in : Option CellState → Option Value
 value_in None = None
 value_in (Some s) = Some s.value
 
+-- the value of a cell, where the sheet holds something of it
 abbrev pub value_told : Grid → Place → Option Value
 value_told g c = value_in (map.get g.cells c)
 

@@ -18,9 +18,11 @@ typed_content names c (content.Number x) = short x 6
 typed_content names c (content.Label p t) = prefix_byte p ∷ t
 typed_content names c (content.Formula f) = printed names c f
 
+-- what is held of a cell, as it would be typed
 abbrev pub typed_state : NameMap → Place → Option CellState → List ℕ
 typed_state names c None = []
 typed_state names c (Some s) = typed_content names c s.content
 
+-- what a cell holds, as it would be typed
 abbrev pub typed : NameMap → Grid → Place → List ℕ
 typed names g c = typed_state names c (map.get g.cells c)

@@ -1,5 +1,5 @@
 // A sheet, whose values are kept right by recalculation over its dirty formulas.
-ghost use Rattle.std.specs.Prelude.{◌≡◌, ◌≤◌, ◌<◌, ◌⊎◌, ℕ, [], length, IfErr, IfOk, OnErr, OnOk, Some, None, Err, option_copied, nat_le, replicate, take, true, false};
+ghost use Rattle.std.specs.Prelude.{◌≡◌, ◌≤◌, ◌<◌, ◌⊎◌, [], length, IfErr, IfOk, OnErr, OnOk, Some, None, Err, option_copied, nat_le, take, true, false};
 ghost use Rattle.std.specs.FinMap as map;
 ghost use Rattle.std.specs.List.{IsDistinct};
 ghost use Rattle.std.specs.Option.{ForSome};
@@ -10,15 +10,14 @@ ghost use Rattle.natural_recalc.specs.Passes.{IsPlain, IsRight, SameContents};
 ghost use Rattle.natural_recalc.specs.World.{sight_of, Context};
 ghost use Rattle.range_names.specs.Names.{fault_of, key_of};
 ghost use Rattle.range_names.specs.declared.fault.NameFault.TheVariants as cause;
-ghost use Rattle.sheet_store.specs.Choices.{fresh};
 ghost use Rattle.sheet_store.specs.declared.order.Order.TheVariants as orders;
 ghost use Rattle.sheet_store.specs.declared.writes.SheetFault.TheVariants as faults;
-ghost use Rattle.sheet_store.specs.Grid.{is_formula, is_hidden, is_kept, last_used, set_hidden_of, set_width_of, width_of, IsSound};
+ghost use Rattle.sheet_store.specs.Grid.{is_formula, is_hidden, is_kept, last_used, width_of, IsSound};
 ghost use Rattle.sheet_edits.specs.Edits.{is_protected, written_state, AreDirtied};
-ghost use Rattle.work_sheet.specs.Did.{Did};
+ghost use Rattle.work_sheet.specs.Did.{Did, DidEdit};
 ghost use Rattle.work_sheet.specs.Doing.{context_in, put, recalculated, with_content};
-ghost use Rattle.work_sheet.specs.Editing.{all_written, copied, erased, reformatted, reordered, restored};
-ghost use Rattle.work_sheet.specs.Seen.{of_worksheet};
+ghost use Rattle.work_sheet.specs.Editing.{all_written, copied, erased, reformatted, reordered, restored, with_hidden, with_names, with_settings, with_width};
+ghost use Rattle.work_sheet.specs.Seen.{fresh_sheet, of_worksheet};
 ghost use Rattle.work_sheet.specs.Sheets.{value_told, AllDirtyIn, IsFaultOf, SameBeside, Worksheet};
 ghost use Rattle.sheet_edits.specs.Spans.{changed, rule_of, target_of, with_code, with_mark, written_cells, AreSound, Becomes, HasCode, IsAnswered};
 ghost use Rattle.work_sheet.specs.Typed.{typed};
@@ -75,13 +74,8 @@ impl<E: Means> Model for SheetOf<E> {
 impl<E: Means> SheetOf<E> {
     /// A fresh sheet: no cell, no name, and the settings of a fresh sheet.
     pub fn new(alloc: Global) -> Self
-        ensures cells { result.grid.cells ≡ map.empty }
-        ensures widths { result.grid.widths ≡ replicate 256 0 }
-        ensures hidden { result.grid.hidden ≡ replicate 256 false }
+        ensures sheet { of_worksheet result ≡ fresh_sheet }
         ensures dirty { result.dirty ≡ [] }
-        ensures marks { (result.circular ≡ false) × (result.stale ≡ false) }
-        ensures names { result.names ≡ map.empty }
-        ensures settings { result.settings ≡ fresh }
     {
         SheetOf {
             store: Store::new(alloc),
@@ -98,7 +92,7 @@ impl<E: Means> SheetOf<E> {
 
     /// The sheet that was saved. All its formulas are dirty; it has no circle told, and no change made.
     pub fn restore(saved: SavedSheet) -> Result<Self, Memory>
-        ensures { IfOk result (λ s. (before : Worksheet) (n : ℕ) → Did (restored saved.store saved.names saved.settings) before s n n) }
+        ensures { IfOk result (λ s. (before : Worksheet) → DidEdit (restored saved.store saved.names saved.settings) before s) }
     {
         let graph = graph_of(&saved.store)?;
         let dirty = all_dirty(&saved.store)?;
@@ -230,14 +224,14 @@ impl<E: Means> SheetOf<E> {
     /// Gives a column a width of its own, 1 to 240, or takes it away.
     pub fn set_width(&mut self, col: u8, width: Option<u8>)
         requires { ForSome width (λ n. (1 ≤ n) × (n ≤ 240)) }
-        ensures { self.new ≡ record self.old { grid = set_width_of self.old.grid col width } }
+        ensures { DidEdit (with_width col width) self.old self.new }
     {
         self.store.set_width(col, width);
     }
 
     /// Hides a column, or shows it.
     pub fn set_hidden(&mut self, col: u8, hidden: bool)
-        ensures { self.new ≡ record self.old { grid = set_hidden_of self.old.grid col hidden } }
+        ensures { DidEdit (with_hidden col hidden) self.old self.new }
     {
         self.store.set_hidden(col, hidden);
     }
@@ -245,7 +239,8 @@ impl<E: Means> SheetOf<E> {
     /// Gives a span a name; a name that is there gets the new span. The sheet is unchanged where it is refused, as
     /// `Names::create` says.
     pub fn create_name(&mut self, name: &[u8], span: Span) -> Result<(), NameFault>
-        ensures ok { OnOk result ((fault_of name.now ≡ None) × (self.new ≡ record self.old { names = map.insert self.old.names (key_of name.now) span })) }
+        ensures valid { OnOk result (fault_of name.now ≡ None) }
+        ensures did { OnOk result (DidEdit (with_names (map.insert self.old.names (key_of name.now) span)) self.old self.new) }
         ensures kept { OnErr result (self.new ≡ self.old) }
         ensures err { IfErr result (λ fault. (fault ≡ cause.Memory) ⊎ (fault_of name.now ≡ Some fault)) }
     {
@@ -255,7 +250,8 @@ impl<E: Means> SheetOf<E> {
 
     /// Takes a name away. The sheet is unchanged where it is refused, as `Names::delete` says.
     pub fn delete_name(&mut self, name: &[u8]) -> Result<(), NameFault>
-        ensures ok { OnOk result ((fault_of name.now ≡ None) × (self.new ≡ record self.old { names = map.remove self.old.names (key_of name.now) })) }
+        ensures valid { OnOk result (fault_of name.now ≡ None) }
+        ensures did { OnOk result (DidEdit (with_names (map.remove self.old.names (key_of name.now))) self.old self.new) }
         ensures kept { OnErr result (self.new ≡ self.old) }
         ensures err { IfErr result (λ fault. (fault_of name.now ≡ Some fault) ⊎ ((fault_of name.now ≡ None) × (fault ≡ cause.Absent) × (map.get self.old.names (key_of name.now) ≡ None))) }
     {
@@ -265,7 +261,7 @@ impl<E: Means> SheetOf<E> {
 
     /// Takes all names away.
     pub fn reset_names(&mut self)
-        ensures { self.new ≡ record self.old { names = map.empty } }
+        ensures { DidEdit (with_names map.empty) self.old self.new }
     {
         self.names.reset();
     }
@@ -273,7 +269,7 @@ impl<E: Means> SheetOf<E> {
     /// Changes the settings, of which the order stays as it is.
     pub fn set_settings(&mut self, settings: Settings)
         requires { settings.order ≡ self.old.settings.order }
-        ensures { self.new ≡ record self.old { settings = settings } }
+        ensures { DidEdit (with_settings settings) self.old self.new }
     {
         self.settings = settings;
     }
@@ -281,7 +277,7 @@ impl<E: Means> SheetOf<E> {
     /// Sets the order of recalculation. Where it differs from the present one, all formulas become dirty. The sheet is
     /// unchanged where there is no memory.
     pub fn set_order(&mut self, order: Order) -> Result<(), Memory>
-        ensures did { OnOk result ((n : ℕ) → Did (reordered order (of_worksheet self.old)) self.old self.new n n) }
+        ensures did { OnOk result (DidEdit (reordered order) self.old self.new) }
         ensures err { OnErr result (self.new ≡ self.old) }
     {
         let settings = self.settings;
@@ -299,7 +295,7 @@ impl<E: Means> SheetOf<E> {
     /// reaches the cell become dirty. `Protected` comes exactly where protection is on and the cell is marked; the
     /// sheet is unchanged where the edit is refused.
     pub fn enter(&mut self, cell: Cell, content: Content) -> Result<(), SheetFault>
-        ensures did { OnOk result ((n : ℕ) → Did (with_content cell content (of_worksheet self.old)) self.old self.new n n) }
+        ensures did { OnOk result (DidEdit (with_content cell content) self.old self.new) }
         ensures err { OnErr result (self.new ≡ self.old) }
         ensures fault { IsFaultOf (is_protected self.old.settings self.old.grid cell) cell result }
     {
@@ -395,7 +391,7 @@ impl<E: Means> SheetOf<E> {
     /// protected; the sheet is unchanged where the edit is refused.
     pub fn erase(&mut self, span: Span) -> Result<(), SheetFault>
         ensures answer { IsAnswered self.old.settings self.old.grid (is_within span) result }
-        ensures did { OnOk result ((n : ℕ) → Did (erased span (of_worksheet self.old)) self.old self.new n n) }
+        ensures did { OnOk result (DidEdit (erased span) self.old self.new) }
         ensures err { OnErr result (self.new ≡ self.old) }
     {
         let Ok(cells) = cells_of(self.store.alloc(), span) else {
@@ -414,7 +410,7 @@ impl<E: Means> SheetOf<E> {
     pub fn copy_span(&mut self, from: Span, to: Span) -> Result<(), SheetFault>
         ensures outside { target_of from to ≡ None → result ≡ Err (faults.OutOfSheet from) }
         ensures answer { ForSome (target_of from to) (λ target. IsAnswered self.old.settings self.old.grid (is_within target) result) }
-        ensures did { OnOk result (ForSome (target_of from to) (λ target. (n : ℕ) → Did (copied from target (of_worksheet self.old)) self.old self.new n n)) }
+        ensures did { OnOk result (ForSome (target_of from to) (λ target. DidEdit (copied from target) self.old self.new)) }
         ensures err { OnErr result (self.new ≡ self.old) }
     {
         let Some(target) = target_of(from, to) else {
@@ -426,7 +422,7 @@ impl<E: Means> SheetOf<E> {
     // Copies the contents and formats of a span onto the cells of another, again and again.
     fn copy_onto(&mut self, from: Span, target: Span) -> Result<(), SheetFault>
         ensures answer { IsAnswered self.old.settings self.old.grid (is_within target) result }
-        ensures did { OnOk result ((n : ℕ) → Did (copied from target (of_worksheet self.old)) self.old self.new n n) }
+        ensures did { OnOk result (DidEdit (copied from target) self.old self.new) }
         ensures err { OnErr result (self.new ≡ self.old) }
     {
         let Ok(cells) = cells_of(self.store.alloc(), target) else {
@@ -443,7 +439,7 @@ impl<E: Means> SheetOf<E> {
     /// in row order that is protected; the sheet is unchanged where the edit is refused.
     pub fn write(&mut self, writes: &Writes) -> Result<(), SheetFault>
         ensures answer { IsAnswered self.old.settings self.old.grid (has same_place (written_cells writes.now)) result }
-        ensures did { OnOk result ((n : ℕ) → Did (all_written writes.now (of_worksheet self.old)) self.old self.new n n) }
+        ensures did { OnOk result (DidEdit (all_written writes.now) self.old self.new) }
         ensures err { OnErr result (self.new ≡ self.old) }
     {
         let alloc = self.store.alloc();
@@ -459,7 +455,7 @@ impl<E: Means> SheetOf<E> {
     /// contents. The sheet is unchanged where there is no memory.
     pub fn set_format(&mut self, span: Span, code: u8) -> Result<(), Memory>
         requires { code < 128 }
-        ensures did { OnOk result ((n : ℕ) → Did (reformatted span (with_code code) (of_worksheet self.old)) self.old self.new n n) }
+        ensures did { OnOk result (DidEdit (reformatted span (with_code code)) self.old self.new) }
         ensures err { OnErr result (self.new ≡ self.old) }
     {
         self.reformat(span, FormatChange::Code(code))
@@ -468,15 +464,16 @@ impl<E: Means> SheetOf<E> {
     /// Sets the protection marks of the cells of a span, or takes them away. It is no change of contents. The sheet is
     /// unchanged where there is no memory.
     pub fn set_protected(&mut self, span: Span, protected: bool) -> Result<(), Memory>
-        ensures did { OnOk result ((n : ℕ) → Did (reformatted span (with_mark protected) (of_worksheet self.old)) self.old self.new n n) }
+        ensures did { OnOk result (DidEdit (reformatted span (with_mark protected)) self.old self.new) }
         ensures err { OnErr result (self.new ≡ self.old) }
     {
         self.reformat(span, FormatChange::Mark(protected))
     }
 
+    // Changes the formats of the cells of a span.
     fn reformat(&mut self, span: Span, change: FormatChange) -> Result<(), Memory>
         requires { HasCode change }
-        ensures did { OnOk result ((n : ℕ) → Did (reformatted span (rule_of change) (of_worksheet self.old)) self.old self.new n n) }
+        ensures did { OnOk result (DidEdit (reformatted span (rule_of change)) self.old self.new) }
         ensures err { OnErr result (self.new ≡ self.old) }
     {
         let cells = cells_of(self.store.alloc(), span)?;

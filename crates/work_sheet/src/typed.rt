@@ -12,6 +12,7 @@ use lics_text::{LabelPrefix, Line, Text};
 use range_names::Names;
 use sheet_store::Store;
 
+// A number with the places that it needs, which is never longer than a line.
 fn put_number(number: Fixed, into: &mut Line) -> bool
     requires { into.old ≡ [] }
     ensures line { into.new ≡ take 240 (short number 6) }
@@ -35,6 +36,7 @@ fn put_label(prefix: LabelPrefix, text: &Text, into: &mut Line) -> bool
     bytes.len() <= 239
 }
 
+// A content as it would be typed.
 fn put_content(content: &Content, cell: Cell, names: &Names, into: &mut Line) -> bool
     requires { into.old ≡ [] }
     ensures line { into.new ≡ take 240 (typed_content names.now cell content.now) }
