@@ -5,7 +5,7 @@ use Rattle.std.specs.FinMap as cells
 use Rattle.std.specs.declared.cmp.Ordering.{Ordering}
 use Rattle.std.specs.declared.cmp.Ordering.TheVariants.{Equal, Greater, Less}
 use Rattle.grid_address.specs.Formats.{default_format, has_protection, protected, unprotected}
-use Rattle.grid_address.specs.Place.{coded_place, height_of, is_within, place_cmp, same_place, width_of, Extent, Place}
+use Rattle.grid_address.specs.Place.{coded_place, height_of, place_cmp, same_place, width_of, Extent, Place}
 use Rattle.grid_address.specs.declared.format.Format.{Format}
 use Rattle.depend_graph.specs.Network.{Network}
 use Rattle.depend_graph.specs.declared.node.Node.{Node}
@@ -45,10 +45,6 @@ pub record Becomes (old : Grid) (held : Place → Option CellState) (new : Grid)
   pub cells : (c : Place) → cells.get new.cells c ≡ held c
   pub widths : new.widths ≡ old.widths
   pub hidden : new.hidden ≡ old.hidden
-
--- the cells of a span are changed by a rule, and each other one holds what it did
-abbrev pub in_span : Grid → Extent → (Option CellState → Option CellState) → Place → Option CellState
-in_span g span rule c = cond (is_within span c) (rule (cells.get g.cells c)) (cells.get g.cells c)
 
 -- an erased cell keeps its format
 abbrev pub blanked : Option CellState → Option CellState
@@ -97,10 +93,6 @@ target_of from to = block_at to.first (repeated (height_of from) (height_of to))
 -- the cell that a cell of the written span copies
 abbrev pub source_of : Extent → Place → Place → Place
 source_of from first c = record { row = from.first.row + (c.row - first.row) % height_of from; col = from.first.col + (c.col - first.col) % width_of from }
-
--- all sources are read before a cell is written
-abbrev pub copied_at : Grid → Extent → Extent → Place → Option CellState
-copied_at g from target c = cond (is_within target c) (copied (cells.get g.cells (source_of from target.first c))) (cells.get g.cells c)
 
 -- a write's format, or the cell's own
 abbrev pub given_format : Option Format → Option CellState → Format
@@ -193,30 +185,36 @@ in_columns first count c = nat_le first c.col && nat_lt c.col (first + count)
 abbrev pub in_rows : ℕ → ℕ → Place → Bool
 in_rows first count c = nat_le first c.row && nat_lt c.row (first + count)
 
--- the first of the marked cells, in row order
+-- the mark is set in the cell's format
 abbrev pub is_marked : Grid → Place → Bool
 is_marked g c = has_protection (format_of (cells.get g.cells c))
 
+-- the earlier of two cells that are so ordered
 abbrev pub before : Ordering → Option Place → Option Place → Option Place
 before Greater a b = b
 before Less a b = a
 before Equal a b = a
 
+-- the first marked cell so far, and one more that is marked
 abbrev pub sooner_of : Option Place → Place → Option Place
 sooner_of None c = Some c
 sooner_of (Some d) c = before (place_cmp d c) (Some d) (Some c)
 
+-- the first marked cell so far, and one more cell
 abbrev pub sooner : Grid → Option Place → Place → Option Place
 sooner g first c = cond (is_marked g c) (sooner_of first c) first
 
+-- c is one of the cells, is marked, and none of the cells before it is
 pub record IsFirstMarked (g : Grid) (among : Place → Bool) (c : Place) : Type 0 where
   pub here : among c ≡ true
   pub marked : is_marked g c ≡ true
   pub first : (d : Place) → among d ≡ true → is_marked g d ≡ true → place_cmp d c ≡ Less → ⊥
 
+-- none of the cells is marked
 abbrev pub NoneMarked : Grid → (Place → Bool) → Type 0
 NoneMarked g among = (c : Place) → among c ≡ true → is_marked g c ≡ false
 
+-- the first marked one of the cells, or none where none is
 abbrev pub IsFirstOf : Grid → (Place → Bool) → Option Place → Type 0
 IsFirstOf g among None = NoneMarked g among
 IsFirstOf g among (Some c) = IsFirstMarked g among c
