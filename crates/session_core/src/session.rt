@@ -106,7 +106,7 @@ impl Session {
         ensures memory { result ≡ Stepped.Memory → self.new.spent ≡ true }
         ensures moves { OnlyMovesBy self.old.state.mode event → result ≡ Stepped.More }
         ensures sheet { OnlyMovesBy self.old.state.mode event → IsMoved self.old.state.sheet self.new.state.sheet }
-        ensures shelf { S.faults _shelf.new ≡ S.faults _shelf.old }
+        ensures shelf { _shelf.new ≡ _shelf.old }
     {
         let Event::Key(key) = event else {
             unreachable!();
@@ -133,6 +133,7 @@ impl Session {
         self.moment = *now;
     }
 
+    // The pointer's cell.
     fn pointer(&self) -> Cell
         ensures { result ≡ pointer_of self.now.state }
     {
@@ -190,6 +191,7 @@ impl Session {
         }
     }
 
+    // Recalculates.
     fn calculate(&mut self, now: &Moment) -> Result<(), Memory>
         ensures { OnOk result (Follows (with_done (recalculated mean (scene_at self.old.state now.now) self.old.state.sheet) self.old.state) self.old self.new) }
     {

@@ -13,7 +13,7 @@ use Rattle.sheet_run.specs.Driving.{HasDriven, HasEnded, IsAfter, LeavesState}
 use Rattle.sheet_run.specs.Notes.{LeavesSession, Tells, Tried, count_note, count_of, ending_note, ending_status, memory_note, ToldRefused}
 use Rattle.sheet_run.specs.Options.{limit_of, shown_kind, words_read}
 use Rattle.sheet_run.specs.Passing.{HasClosedOne, Passed}
-use Rattle.sheet_run.specs.Run.{Outside, RanOutOfMemory, Step, outside, screens}
+use Rattle.sheet_run.specs.Run.{outside, screens, Outside, RanOutOfMemory, ShelfView, Step}
 use Rattle.sheet_run.specs.Status.{RunsWith, World, asked, finished, is_any, no_memory, no_note, refused, IsRun}
 use Rattle.sheet_run.specs.OptionAnswers.{refused_text}
 use Rattle.sheet_run.specs.declared.options.Refused.{Refused}
@@ -25,11 +25,11 @@ use Rattle.sheet_run.proofs.Shown.{Lifted, all_closed, each_left}
 pub nine : (o : Options) (before now : World) (status : ℕ) → status ≡ 9 → RunsWith o before now 9 → RunsWith o before now status
 nine o before now status is runs = subst (λ (n : ℕ). RunsWith o before now n) (sym is) runs
 
-pub same_failed : (bytes : Option (List ℕ)) (keys : ℕ) (readings : Option (List Moment)) (shelf : ℕ) (displays failed failed' : List View) → failed' ≡ failed →
+pub same_failed : (bytes : Option (List ℕ)) (keys : ℕ) (readings : Option (List Moment)) (shelf : ShelfView) (displays failed failed' : List View) → failed' ≡ failed →
     outside bytes keys readings shelf displays failed' ≡ outside bytes keys readings shelf displays failed
 same_failed bytes keys readings shelf displays failed failed' same = ap (λ (fs : List View). outside bytes keys readings shelf displays fs) same
 
-pub asked_is : (o : Options) (kind : Kind) (bytes : Option (List ℕ)) (keys : ℕ) (readings : Option (List Moment)) (shelf : ℕ) (displays displays' failed failed' : List View) →
+pub asked_is : (o : Options) (kind : Kind) (bytes : Option (List ℕ)) (keys : ℕ) (readings : Option (List Moment)) (shelf : ShelfView) (displays displays' failed failed' : List View) →
     kind ≡ shown_kind o → displays' ≡ filter (λ v. same_kind v.kind kind) displays → failed' ≡ failed →
     outside bytes keys readings shelf displays' failed' ≡ asked o (outside bytes keys readings shelf displays failed)
 asked_is o kind bytes keys readings shelf displays displays' failed failed' is kept same =

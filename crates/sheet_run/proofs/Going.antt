@@ -16,7 +16,7 @@ use Rattle.sheet_run.specs.Displays.{Screen, Sent, Watched, last_screen, no_scre
 use Rattle.sheet_run.specs.Driving.{ended_as, EndsAsTold, HasEnded, HasMadeStep, HasNotMadeStep, IsAfter, LeavesState}
 use Rattle.sheet_run.specs.Notation.{SpellsInto}
 use Rattle.sheet_run.specs.Reader.{HasJustPressed, HasPressed, HasPressedAll, IsFull, Reads, RestsAsTold}
-use Rattle.sheet_run.specs.Run.{Step, after, happened, outcome, screens, screens_from, keys_of, moments_of, Outside, outside, HasRun, Ended, RanToBadByte, RanToKeyFault, RanToLimit, RanOutOfMemory}
+use Rattle.sheet_run.specs.Run.{after, happened, keys_of, moments_of, outcome, outside, screens, screens_from, Ended, HasRun, Outside, RanOutOfMemory, RanToBadByte, RanToKeyFault, RanToLimit, ShelfView, Step}
 use Rattle.sheet_run.specs.Taking.{TakesBytes, TakesReadings}
 use Rattle.sheet_run.specs.declared.reader.KeyFeed.{KeyFeed}
 use Rattle.sheet_run.specs.declared.drive.Ending.{Ending}
@@ -63,7 +63,7 @@ pub record Going (limit count : ℕ) (s : Running) (f : KeyFeed) (shown : Screen
   pub made : length steps ≡ count
   pub shows : shown ≡ last_screen empty_grid (screens steps)
 
-pub going_starts : (limit : ℕ) (bytes : Option (List ℕ)) (faults : ℕ) (told now : Option (List Moment)) (shelf : ℕ) (displays failed : List View) (s : Running) (first : Moment) (f : KeyFeed) (shown : Screen) →
+pub going_starts : (limit : ℕ) (bytes : Option (List ℕ)) (faults : ℕ) (told now : Option (List Moment)) (shelf : ShelfView) (displays failed : List View) (s : Running) (first : Moment) (f : KeyFeed) (shown : Screen) →
     s ≡ started → TakesReading told now first → HasPressedAll [] [] f → shown ≡ empty_grid → Going limit 0 s f shown (outside bytes faults told shelf displays failed) (outside bytes faults now shelf displays failed)
 going_starts limit bytes faults told now shelf displays failed s first f shown is took none empty = record {
   taken = [];
@@ -89,7 +89,7 @@ going_starts limit bytes faults told now shelf displays failed s first f shown i
   shows = empty;
 }
 
-module _ (limit count : ℕ) (s : Running) (f : KeyFeed) (shown : Screen) (before : Outside) (bytes : Option (List ℕ)) (faults : ℕ) (told : Option (List Moment)) (shelf : ℕ) (displays failed : List View)
+module _ (limit count : ℕ) (s : Running) (f : KeyFeed) (shown : Screen) (before : Outside) (bytes : Option (List ℕ)) (faults : ℕ) (told : Option (List Moment)) (shelf : ShelfView) (displays failed : List View)
     (going : Going limit count s f shown before (outside bytes faults told shelf displays failed)) where
   -- what was done, when more bytes are taken
   did_take : (more : List ℕ) (bytes' : Option (List ℕ)) (faults' : ℕ) → TakesBytes bytes more bytes' → length (going.taken ++ more) ≤ 2 ^ 64 - 1 →
@@ -231,7 +231,7 @@ module _ (limit count : ℕ) (s : Running) (f : KeyFeed) (shown : Screen) (befor
       no_fault = same ∙ going.no_fault;
     }
 
-    pub ran_out : (told' : Option (List Moment)) (shelf' : ℕ) (displays' failed' : List View) → shelf' ≡ shelf → count < limit → HasNotMadeStep told told' displays displays' failed failed' →
+    pub ran_out : (told' : Option (List Moment)) (shelf' : ShelfView) (displays' failed' : List View) → shelf' ≡ shelf → count < limit → HasNotMadeStep told told' displays displays' failed failed' →
         RanOutOfMemory limit going.steps going.left going.out before (outside bytes' faults' told' shelf' displays' failed')
     ran_out told' shelf' displays' failed' still below not_made = record {
       taken = going.taken ++ read.0;
@@ -253,7 +253,7 @@ module _ (limit count : ℕ) (s : Running) (f : KeyFeed) (shown : Screen) (befor
       no_fault = same ∙ going.no_fault;
     }
 
-    pub step_made : (told' : Option (List Moment)) (shelf' : ℕ) (t : Running) (shown' : Screen) (displays' failed' : List View) → shelf' ≡ shelf → count < limit → HasMadeStep key s t told told' shown shown' displays displays' failed failed' →
+    pub step_made : (told' : Option (List Moment)) (shelf' : ShelfView) (t : Running) (shown' : Screen) (displays' failed' : List View) → shelf' ≡ shelf → count < limit → HasMadeStep key s t told told' shown shown' displays displays' failed failed' →
         Going limit (count + 1) t g shown' before (outside bytes' faults' told' shelf' displays' failed')
     step_made told' shelf' t shown' displays' failed' still below made =
         let x : Step = record { key = key; moment = made.moment } in

@@ -1,6 +1,7 @@
 -- A whole run, from the first reading of the clock to the last step.
 use Rattle.std.specs.Prelude.{◌≡◌, ℕ, ◌<◌, ◌≤◌, ◌-◌, ◌^◌, ◌⊎◌, List, [], ◌∷◌, ◌++◌, length, map, Option}
 use Rattle.outside_world.specs.Causes.{Rose}
+use Rattle.outside_world.specs.Shelf.{OnShelf}
 use Rattle.serial_date.specs.declared.moment.Moment.{Moment}
 use Rattle.key_words.specs.Notation.{Begins, IsNoText}
 use Rattle.key_words.specs.declared.key.Key.{Key}
@@ -38,12 +39,15 @@ abbrev pub screens_from : State → List Step → List Screen
 screens_from s [] = []
 screens_from s (x ∷ xs) = screen (outcome s x).state ∷ screens_from (outcome s x).state xs
 
+-- the screens of the steps from the start on
 abbrev pub screens : List Step → List Screen
 screens steps = screens_from start steps
 
+-- the keys of the steps
 abbrev pub keys_of : List Step → List Key
 keys_of steps = map (λ x. x.key) steps
 
+-- the readings of the steps
 abbrev pub moments_of : List Step → List Moment
 moments_of steps = map (λ x. x.moment) steps
 
@@ -51,24 +55,34 @@ moments_of steps = map (λ x. x.moment) steps
 abbrev pub IsWorkOf : List Step → Work → Type 0
 IsWorkOf steps w = HasWorked (happened start steps) no_work w
 
+-- a shelf: what it tells of its files, and the count of its faults
+pub record ShelfView : Type 0 where
+  pub told : Option OnShelf
+  pub faults : ℕ
+
+-- a shelf of these parts
+abbrev pub shelf_view : Option OnShelf → ℕ → ShelfView
+shelf_view told faults = record { told = told; faults = faults }
+
 -- the outside as it is told, and the counts of its faults
 pub record Outside : Type 0 where
   pub bytes : Option (List ℕ)
   pub key_faults : ℕ
   pub readings : Option (List Moment)
-  pub shelf_faults : ℕ
+  pub shelf : ShelfView
   pub displays : List View
   pub failed : List View
 
-abbrev pub outside : Option (List ℕ) → ℕ → Option (List Moment) → ℕ → List View → List View → Outside
-outside bytes key_faults readings shelf_faults displays failed =
-    record { bytes = bytes; key_faults = key_faults; readings = readings; shelf_faults = shelf_faults; displays = displays; failed = failed }
+-- the outside of these parts
+abbrev pub outside : Option (List ℕ) → ℕ → Option (List Moment) → ShelfView → List View → List View → Outside
+outside bytes key_faults readings shelf displays failed =
+    record { bytes = bytes; key_faults = key_faults; readings = readings; shelf = shelf; displays = displays; failed = failed }
 
 -- These bytes and readings were taken, and the screens of the machine's steps from its start on were sent; they are at most as many as the limit, and no more bytes are taken than can be counted. The displays that never failed are left; those that failed stand at the end of the failed ones.
 pub record HasRun (limit : ℕ) (taken : List ℕ) (moments : List Moment) (steps : List Step) (left out : List Watched) (before now : Outside) : Type 0 where
   pub bytes : TakesBytes before.bytes taken now.bytes
   pub readings : TakesReadings before.readings moments now.readings
-  pub shelf : now.shelf_faults ≡ before.shelf_faults
+  pub shelf : now.shelf ≡ before.shelf
   pub sent : Sent before.displays (screens steps) left out
   pub displays : now.displays ≡ views_of left
   pub failed : now.failed ≡ before.failed ++ views_of out

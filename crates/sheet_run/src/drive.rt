@@ -3,7 +3,7 @@ ghost use Rattle.std.specs.Prelude.{◌≡◌, ◌≤◌, ◌+◌, false, map, v
 ghost use Rattle.screen_show.specs.Grid.{empty_grid};
 ghost use Rattle.session_core.specs.Machine.{started};
 ghost use Rattle.sheet_run.specs.Driving.{EndsAsTold, HasStepped, HasDriven};
-ghost use Rattle.sheet_run.specs.Run.{outside};
+ghost use Rattle.sheet_run.specs.Run.{outside, shelf_view};
 
 use crate::displays::{Work, work_on_all};
 use crate::reader::{KeyFeed, Read};
@@ -45,7 +45,7 @@ fn make_step<S: Shelf, C: Clock>(
     requires fresh { session.old.spent ≡ false }
     requires room { vec_len failed.old + vec_len displays.old ≤ vec_capacity failed.old }
     ensures stepped { HasStepped key session.old session.new (C.readings clock.old) (C.readings clock.new) shown.old shown.new (map seen displays.old.items) (map seen displays.new.items) (map seen failed.old.items) (map seen failed.new.items) result }
-    ensures shelf { S.faults shelf.new ≡ S.faults shelf.old }
+    ensures shelf { shelf_view (S.holds shelf.new) (S.faults shelf.new) ≡ shelf_view (S.holds shelf.old) (S.faults shelf.old) }
     ensures room { vec_len failed.new + vec_len displays.new ≤ vec_capacity failed.new }
 {
     let now = clock.read();
@@ -89,8 +89,8 @@ pub fn drive<K: Keys, S: Shelf, C: Clock>(
     requires fresh { session.old ≡ started }
     requires room { vec_len failed.old + vec_len displays.old ≤ vec_capacity failed.old }
     ensures driven { HasDriven limit session.new
-        (outside (K.left keys.old) (K.faults keys.old) (C.readings clock.old) (S.faults shelf.old) (map seen displays.old.items) (map seen failed.old.items))
-        (outside (K.left keys.new) (K.faults keys.new) (C.readings clock.new) (S.faults shelf.new) (map seen displays.new.items) (map seen failed.new.items))
+        (outside (K.left keys.old) (K.faults keys.old) (C.readings clock.old) (shelf_view (S.holds shelf.old) (S.faults shelf.old)) (map seen displays.old.items) (map seen failed.old.items))
+        (outside (K.left keys.new) (K.faults keys.new) (C.readings clock.new) (shelf_view (S.holds shelf.new) (S.faults shelf.new)) (map seen displays.new.items) (map seen failed.new.items))
         result }
     ensures room { vec_len failed.new + vec_len displays.new ≤ vec_capacity failed.new }
 {

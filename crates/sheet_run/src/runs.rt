@@ -3,7 +3,7 @@ ghost use Rattle.std.specs.Prelude.{◌≡◌, ℕ, map, List};
 ghost use Rattle.sheet_run.specs.Completeness.{HasEndedWell, MustEndWell};
 ghost use Rattle.sheet_run.specs.Notes.{count_of};
 ghost use Rattle.sheet_run.specs.OptionAnswers.{refused_text, IsPart};
-ghost use Rattle.sheet_run.specs.Run.{outside};
+ghost use Rattle.sheet_run.specs.Run.{outside, shelf_view};
 ghost use Rattle.sheet_run.specs.Status.{world, IsRun, RunsWith, World};
 
 use crate::Words;
@@ -35,7 +35,8 @@ fn refused_text(words: &Words, refused: Refused) -> &[u8]
 /// status.
 ///
 /// The order of work: the words are read; room for every display is reserved in `failed`; displays of a
-/// kind that wasn't asked for are dropped; the clock is read once for the start; then the steps follow.
+/// kind that wasn't asked for are dropped, of which no clause tells that nothing is asked of them before;
+/// the clock is read once for the start; then the steps follow.
 /// Before each step bytes are read until a key is there or the keys end, then the limit is tested, then
 /// the clock is read, the step is made and its screen is sent to each display in order. A display whose
 /// call failed moves to the end of `failed`, and the others go on. At the end each display that is left
@@ -50,7 +51,7 @@ fn refused_text(words: &Words, refused: Refused) -> &[u8]
 /// | 5 | only where the count of the keys' faults rose | `keys failed` |
 /// | 7 | exactly where status 0 would come and `failed` grew | `display failed` |
 /// | 8 | only where the count of the notes' faults rose; it takes the place of the others | none |
-/// | 9 | memory ran out | `memory full`, of which one write is tried |
+/// | 9 | memory ran out | `memory full`, unless that can't be written |
 ///
 /// Every note begins with `1-2-3: ` and ends with a line feed. With `--count`, `evaluations N` comes
 /// first wherever a session was made and memory didn't run out. (This project's choice.)
@@ -65,9 +66,13 @@ pub fn run<K: Keys, S: Shelf, C: Clock, N: Notes>(
     notes: &mut N,
 ) -> u8
     ensures ran { IsRun words.now
-        (world (outside (K.left keys.old) (K.faults keys.old) (C.readings clock.old) (S.faults shelf.old) (map seen displays.old.items) (map seen failed.old.items)) (N.written notes.old) (N.faults notes.old))
-        (world (outside (K.left keys.new) (K.faults keys.new) (C.readings clock.new) (S.faults shelf.new) (map seen displays.new.items) (map seen failed.new.items)) (N.written notes.new) (N.faults notes.new))
+        (world (outside (K.left keys.old) (K.faults keys.old) (C.readings clock.old) (shelf_view (S.holds shelf.old) (S.faults shelf.old)) (map seen displays.old.items) (map seen failed.old.items)) (N.written notes.old) (N.faults notes.old))
+        (world (outside (K.left keys.new) (K.faults keys.new) (C.readings clock.new) (shelf_view (S.holds shelf.new) (S.faults shelf.new)) (map seen displays.new.items) (map seen failed.new.items)) (N.written notes.new) (N.faults notes.new))
         result }
+    ensures complete { MustEndWell words.now
+        (world (outside (K.left keys.old) (K.faults keys.old) (C.readings clock.old) (shelf_view (S.holds shelf.old) (S.faults shelf.old)) (map seen displays.old.items) (map seen failed.old.items)) (N.written notes.old) (N.faults notes.old))
+        (world (outside (K.left keys.new) (K.faults keys.new) (C.readings clock.new) (shelf_view (S.holds shelf.new) (S.faults shelf.new)) (map seen displays.new.items) (map seen failed.new.items)) (N.written notes.new) (N.faults notes.new))
+        → HasEndedWell (world (outside (K.left keys.new) (K.faults keys.new) (C.readings clock.new) (shelf_view (S.holds shelf.new) (S.faults shelf.new)) (map seen displays.new.items) (map seen failed.new.items)) (N.written notes.new) (N.faults notes.new)) result }
 {
     match read_words(words) {
         Ok(options) => run_with(alloc, options, keys, shelf, clock, displays, failed, notes),
@@ -87,8 +92,8 @@ fn run_with<K: Keys, S: Shelf, C: Clock, N: Notes>(
     notes: &mut N,
 ) -> u8
     ensures { RunsWith options
-        (world (outside (K.left keys.old) (K.faults keys.old) (C.readings clock.old) (S.faults shelf.old) (map seen displays.old.items) (map seen failed.old.items)) (N.written notes.old) (N.faults notes.old))
-        (world (outside (K.left keys.new) (K.faults keys.new) (C.readings clock.new) (S.faults shelf.new) (map seen displays.new.items) (map seen failed.new.items)) (N.written notes.new) (N.faults notes.new))
+        (world (outside (K.left keys.old) (K.faults keys.old) (C.readings clock.old) (shelf_view (S.holds shelf.old) (S.faults shelf.old)) (map seen displays.old.items) (map seen failed.old.items)) (N.written notes.old) (N.faults notes.old))
+        (world (outside (K.left keys.new) (K.faults keys.new) (C.readings clock.new) (shelf_view (S.holds shelf.new) (S.faults shelf.new)) (map seen displays.new.items) (map seen failed.new.items)) (N.written notes.new) (N.faults notes.new))
         result }
 {
     let failed_before = failed.len();
