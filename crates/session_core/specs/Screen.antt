@@ -14,5 +14,6 @@ panel_of Ready = plain_panel told.Ready
 panel_of (Label line) = record (plain_panel told.Label) { typed = line; cursor = length line }
 panel_of (Value line) = record (plain_panel told.Value) { typed = line; cursor = length line }
 
+-- the screen that a state shows
 abbrev pub screen : State → List (List ℕ)
 screen s = painted s.sheet (panel_of s.mode) s.corner s.day s.second

@@ -34,6 +34,7 @@ pub record HasNotMadeStep (readings readings' : Option (List Moment)) (displays 
   pub displays_stay : displays' ≡ displays
   pub failed_stay : failed' ≡ failed
 
+-- a step was made, or memory ran out in it
 abbrev pub HasStepped : Key → Running → Running → Option (List Moment) → Option (List Moment) → Screen → Screen → List View → List View → List View → List View → StepEnd → Type 0
 HasStepped key s t readings readings' shown shown' displays displays' failed failed' Done = HasMadeStep key s t readings readings' shown shown' displays displays' failed failed'
 HasStepped key s t readings readings' shown shown' displays displays' failed failed' StepNoMemory = HasNotMadeStep readings readings' displays displays' failed failed'
@@ -47,6 +48,7 @@ ended_as false at = BadWord at
 abbrev pub EndsAsTold : KeyFeed → Ending → Type 0
 EndsAsTold f ending = (rests : Bool) × RestsAsTold f rests × (ending ≡ ended_as rests f.words.taken)
 
+-- the steps of a run were made up to this ending
 abbrev pub HasEnded : ℕ → List Step → List Watched → List Watched → Outside → Outside → Ending → Type 0
 HasEnded limit steps left out before now KeysEnded = RanToEnd limit steps left out before now
 HasEnded limit steps left out before now (BadWord at) = RanIntoWord limit at steps left out before now ⊎ RanToBadByte limit at steps left out before now
@@ -59,7 +61,7 @@ pub record IsAfter (s : Running) (steps : List Step) : Type 0 where
   pub state : s.state ≡ after start steps
   pub work : IsWorkOf steps s.work
 
--- the session after an ending that leaves it
+-- the session after the steps, where the ending leaves it
 abbrev pub LeavesState : Running → List Step → Ending → Type 0
 LeavesState s steps KeysEnded = IsAfter s steps
 LeavesState s steps (BadWord at) = IsAfter s steps
@@ -67,7 +69,7 @@ LeavesState s steps KeysFailed = IsAfter s steps
 LeavesState s steps Stopped = IsAfter s steps
 LeavesState s steps NoMemory = Unit {0}
 
--- the steps of a run were made up to an ending
+-- the steps of a run were made up to an ending, and the session is what they leave
 pub record HasDriven (limit : ℕ) (s : Running) (before now : Outside) (ending : Ending) : Type 0 where
   pub steps : List Step
   pub left : List Watched

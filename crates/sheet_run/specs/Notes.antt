@@ -12,9 +12,11 @@ use Rattle.sheet_run.specs.declared.options.Options.{Options}
 abbrev pub note : List ℕ → List ℕ
 note text = codes "1-2-3: " ++ text ++ 10 ∷ []
 
+-- the note on a refused word
 abbrev pub refused_note : List ℕ → List ℕ
 refused_note word = note (codes "bad word: " ++ word)
 
+-- the note where memory ran out
 abbrev pub memory_note : List ℕ
 memory_note = note (codes "memory full")
 
@@ -22,6 +24,7 @@ memory_note = note (codes "memory full")
 abbrev pub count_of : Options → Work → Option ℕ
 count_of o w = if o.count then Some w.count else None
 
+-- the note on the count, where it is asked for
 abbrev pub count_note : Option ℕ → List ℕ
 count_note None = []
 count_note (Some n) = note (codes "evaluations " ++ decimal n)
@@ -42,6 +45,7 @@ ending_status moved KeysFailed = 5
 ending_status moved Stopped = 3
 ending_status moved NoMemory = 9
 
+-- an ending that leaves a session that goes on
 abbrev pub LeavesSession : Ending → Type 0
 LeavesSession KeysEnded = Unit {0}
 LeavesSession (BadWord at) = Unit {0}
@@ -67,7 +71,7 @@ Tried text before now faults faults' = (AddsText text before now × (faults' ≡
 abbrev pub Tells : List ℕ → ℕ → Option (List ℕ) → Option (List ℕ) → ℕ → ℕ → ℕ → Type 0
 Tells text found before now faults faults' status = ((status ≡ found) × AddsText text before now × (faults' ≡ faults)) ⊎ ((status ≡ 8) × AddsPart text before now × Rose faults faults')
 
--- one write: all of it was added, or it failed
+-- the text was written, or its write failed
 abbrev pub HasWritten : List ℕ → Option (List ℕ) → Option (List ℕ) → ℕ → ℕ → Result Unit Failed → Type 0
 HasWritten text before now faults faults' (Ok _) = AddsText text before now × (faults' ≡ faults)
 HasWritten text before now faults faults' (Err f) = AddsPart text before now × Rose faults faults'

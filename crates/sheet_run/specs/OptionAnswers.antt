@@ -26,6 +26,7 @@ abbrev pub IsPart : List (List ℕ) → Refused → Type 0
 IsPart words (Part place from) = (place < length words) × (from ≤ length (slice_index_or words place []))
 IsPart words (NoValue wanted) = Unit {0}
 
+-- what the words ask for, or what is refused of them
 abbrev pub HasReadWords : List (List ℕ) → Result Options Refused → Type 0
 HasReadWords words (Ok o) = words_read words ≡ Ok o
 HasReadWords words (Err refused) = IsPart words refused × (words_read words ≡ Err (refused_text words refused))

@@ -10,6 +10,7 @@ use Rattle.sheet_run.specs.declared.options.Options.{Options}
 use Rattle.sheet_run.specs.declared.options.Wanted.{Wanted}
 use Rattle.sheet_run.specs.declared.options.Wanted.TheVariants.{Steps, Show}
 
+-- nothing is asked for
 abbrev pub no_options : Options
 no_options = record { steps = None; show = None; count = false }
 
@@ -29,9 +30,11 @@ is_number digits = nat_lt 48 (slice_index digits 0) && list_all is_ascii_digit d
 unfoldable pub steps_of : List ℕ → Option ℕ
 steps_of v = if is_number v && nat_le (number_of v) 10000000 then Some (number_of v) else None
 
+-- the kind of display that a word names
 abbrev pub kind_of : List ℕ → Option Kind
 kind_of v = if bytes_eq v (codes "pages") then Some Pages else if bytes_eq v (codes "ansi") then Some Ansi else if bytes_eq v (codes "last") then Some Last else None
 
+-- a word begins with these bytes
 abbrev pub has_front : List ℕ → List ℕ → Bool
 has_front word front = bytes_eq (take (length front) word) front
 
@@ -40,10 +43,12 @@ abbrev pub option_text : Wanted → List ℕ
 option_text Steps = codes "--steps"
 option_text Show = codes "--show"
 
+-- a limit takes its place, and a value that is none is refused
 abbrev pub steps_taken : Options → Option ℕ → List ℕ → Result Options (List ℕ)
 steps_taken o None value = Err value
 steps_taken o (Some n) value = Ok (record o { steps = Some n })
 
+-- a kind takes its place, and a value that names none is refused
 abbrev pub show_taken : Options → Option Kind → List ℕ → Result Options (List ℕ)
 show_taken o None value = Err value
 show_taken o (Some kind) value = Ok (record o { show = Some kind })
@@ -58,6 +63,7 @@ abbrev pub is_given : Options → Wanted → Bool
 is_given o Steps = is_some o.steps
 is_given o Show = is_some o.show
 
+-- no value is wanted behind the word
 abbrev pub complete : Result Options (List ℕ) → Result (Options × Option Wanted) (List ℕ)
 complete (Ok o) = Ok (o, None)
 complete (Err text) = Err text
@@ -82,10 +88,12 @@ abbrev pub taken : Options → Option Wanted → List ℕ → Result (Options ×
 taken o None word = on_word o word
 taken o (Some wanted) value = complete (on_value o wanted value)
 
+-- what comes behind a word, unless it is refused
 abbrev pub go_on : Result (Options × Option Wanted) (List ℕ) → (Options → Option Wanted → Result Options (List ℕ)) → Result Options (List ℕ)
 go_on (Ok t) rest = rest t.0 t.1
 go_on (Err text) rest = Err text
 
+-- the options at the end of the words, where the value of one may be missing
 abbrev pub at_end : Options → Option Wanted → Result Options (List ℕ)
 at_end o None = Ok o
 at_end o (Some wanted) = Err (option_text wanted)
@@ -95,5 +103,6 @@ abbrev pub read_on : Options → Option Wanted → List (List ℕ) → Result Op
 read_on o wanted [] = at_end o wanted
 read_on o wanted (w ∷ ws) = go_on (taken o wanted w) (λ p next. read_on p next ws)
 
+-- what the words ask for, or the bytes that are refused
 abbrev pub words_read : List (List ℕ) → Result Options (List ℕ)
 words_read words = read_on no_options None words

@@ -16,6 +16,7 @@ pub record World : Type 0 where
   pub notes : Option (List ℕ)
   pub note_faults : ℕ
 
+-- the world of these parts
 abbrev pub world : Outside → Option (List ℕ) → ℕ → World
 world outside notes note_faults = record { outside = outside; notes = notes; note_faults = note_faults }
 
@@ -23,6 +24,7 @@ world outside notes note_faults = record { outside = outside; notes = notes; not
 abbrev pub asked : Options → Outside → Outside
 asked o before = record before { displays = filter (λ v. same_kind v.kind (shown_kind o)) before.displays }
 
+-- whether there is one
 abbrev pub is_any : List Watched → Bool
 is_any [] = false
 is_any (d ∷ ds) = true

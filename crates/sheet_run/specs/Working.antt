@@ -6,6 +6,7 @@ use Rattle.sheet_run.specs.Passing.{HasClosedOne, HasSentOne}
 use Rattle.sheet_run.specs.declared.displays.Work.{Work}
 use Rattle.sheet_run.specs.declared.displays.Work.TheVariants.{Send, Close}
 
+-- what the work did to one display
 abbrev pub HasWorkedOne : Work → View → View → Result Unit Failed → Type 0
 HasWorkedOne (Send before after) = HasSentOne before.now after.now
 HasWorkedOne Close = HasClosedOne

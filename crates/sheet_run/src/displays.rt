@@ -8,6 +8,7 @@ ghost use Rattle.sheet_run.specs.Passing.{HasClosedOne, HasSentOne, Passed};
 use outside_world::Failed;
 use screen_show::{Display, Grid, Kind, send};
 
+// Whether two kinds are one.
 fn same_kind(a: Kind, b: Kind) -> bool
     ensures { result ≡ same_kind a b }
 {
@@ -17,13 +18,14 @@ fn same_kind(a: Kind, b: Kind) -> bool
     }
 }
 
+// Whether a display is of a kind.
 fn has_kind(display: &Box<dyn Display>, kind: Kind) -> bool
     ensures { result ≡ same_kind (seen display.now).kind kind }
 {
     same_kind(display.kind(), kind)
 }
 
-/// Drops the displays of other kinds, which gain nothing.
+/// Drops the displays of other kinds. No clause tells that nothing is asked of them before.
 pub fn keep_kind(kind: Kind, displays: &mut Vec<Box<dyn Display>>)
     ensures kept { map seen displays.new.items ≡ filter (λ v. same_kind v.kind kind) (map seen displays.old.items) }
     ensures fewer { vec_len displays.new ≤ vec_len displays.old }
@@ -47,18 +49,21 @@ pub enum Work<'a> {
     Close,
 }
 
+// Sends the screen `after` to a display that shows `before`.
 fn send_to_one(before: &Grid, after: &Grid, display: &mut Box<dyn Display>) -> Result<(), Failed>
     ensures { HasSentOne before.now after.now (seen display.old) (seen display.new) result }
 {
     send(before, after, &mut **display)
 }
 
+// Closes a display.
 fn close_one(display: &mut Box<dyn Display>) -> Result<(), Failed>
     ensures { HasClosedOne (seen display.old) (seen display.new) result }
 {
     display.close()
 }
 
+// Works on one display.
 fn work_on_one(work: &Work, display: &mut Box<dyn Display>) -> Result<(), Failed>
     ensures { HasWorkedOne work.now (seen display.old) (seen display.new) result }
 {

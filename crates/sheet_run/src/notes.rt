@@ -32,14 +32,14 @@ fn number_line(front: &[u8], number: u64, back: &[u8]) -> Line
     line
 }
 
-// Writes a text as one write.
+// Writes a text.
 fn write<N: Notes>(notes: &mut N, bytes: &[u8]) -> Result<(), Failed>
     ensures { HasWritten bytes.now (N.written notes.old) (N.written notes.new) (N.faults notes.old) (N.faults notes.new) result }
 {
     notes.write(bytes)
 }
 
-/// Tells that memory ran out: one write is tried, and its failure changes nothing.
+/// Tells that memory ran out. Where that can't be written, the status is the same.
 pub fn tell_memory<N: Notes>(notes: &mut N) -> u8
     ensures tried { Tried memory_note (N.written notes.old) (N.written notes.new) (N.faults notes.old) (N.faults notes.new) }
     ensures status { result ≡ 9 }
@@ -106,8 +106,8 @@ fn tell_ending<N: Notes>(notes: &mut N, limit: u32, moved: bool, ending: Ending)
     }
 }
 
-/// Tells the count, where it is asked for, and of the ending, and answers the status: each line is one
-/// write, and after a failed one no more is written.
+/// Tells the count, where it is asked for, and of the ending, and answers the status. After a failed write
+/// nothing more is written.
 pub fn tell<N: Notes>(
     notes: &mut N,
     count: Option<u64>,

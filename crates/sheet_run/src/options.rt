@@ -63,6 +63,7 @@ impl Options {
     }
 }
 
+// Whether two lists of bytes are one.
 fn is_same(bytes: &[u8], other: &[u8]) -> bool
     ensures { result ≡ bytes_eq bytes.now other.now }
 {
@@ -99,6 +100,7 @@ fn steps_of(value: &[u8]) -> Option<u32>
     }
 }
 
+// The kind of display that a word names.
 fn kind_of(value: &[u8]) -> Option<Kind>
     ensures { result ≡ kind_of value.now }
 {
@@ -145,6 +147,7 @@ fn with_value(
     }
 }
 
+// The bytes of a word from one on.
 fn rest(word: &[u8], from: usize) -> &[u8]
     requires { from ≤ length word.now }
     ensures { result.now ≡ drop from word.now }
