@@ -12,7 +12,7 @@ TOP_FOLDERS = {".ci", "bench", "crates", "docs", "examples", "oracle", "release"
 CRATE_PARTS = {"src", "specs", "proofs", "must-fail", "wrong-bodies", "data", "stdin", "stdout", "args", "status"}
 PRODUCTS = re.compile(r"(^|/)(out|__pycache__)/|\.(o|a|so|rlib|oantt|stamp|pyc)$")
 SECTIONS = ["base", "formulas", "sheet", "session", "program", "checks"]
-MOST_LINES, MOST_BODY, MOST_COLUMNS, MOST_EDITS = 800, 41, 120, 3
+MOST_LINES, MOST_BODY, MOST_COLUMNS, MOST_EDITS, MOST_THEOREMS = 800, 41, 120, 3, 200
 LEFT = "scripts/text_left"
 FUNCTION = re.compile(r"^( *)(pub(\([a-z]+\))? )?((const|unsafe|ghost) )*fn (\w+)")
 
@@ -50,6 +50,7 @@ class Rules:
                 self.columns(name, lines)
         self.edits()
         self.map_of_crates()
+        self.theorems()
 
     def places(self):
         """Only known names stand at the top and in a crate, and no build product is kept."""
@@ -154,6 +155,38 @@ class Rules:
                     self.fault(f"{crate}: checking programs are check_*, test crates test_*, timing programs time_*")
                     break
         check_cited(named, self.files, self.fault)
+
+
+    def theorems(self):
+        """docs/THEOREMS.md is short, and names calls and files of definitions that are there."""
+        try:
+            with open("docs/THEOREMS.md", encoding="utf-8") as it:
+                lines = it.read().split("\n")
+        except FileNotFoundError:
+            return
+        if len(lines) > MOST_THEOREMS:
+            self.fault(f"docs/THEOREMS.md: {len(lines)} lines")
+        code = collections.defaultdict(str)
+        for name in self.files:
+            if re.match(r"crates/\w+/src/.*\.rt$", name):
+                with open(name, encoding="utf-8") as it:
+                    code[name.split("/")[1]] += it.read()
+        for number, line in enumerate(lines, 1):
+            cells = [it.strip() for it in line.strip().strip("|").split("|")]
+            if not line.startswith("| ") or len(cells) != 3 or cells[0] == "Theorem":
+                continue
+            crates = [word for word in re.findall(r"\w+", re.sub(r"`[^`]*`", "", cells[1])) if word in code]
+            for call in re.findall(r"`([\w:]+)`", cells[1]):
+                last = call.split("::")[-1]
+                if not any(re.search(rf"\b(fn|struct|trait|enum|type) {last}\b", code[crate]) for crate in crates):
+                    self.fault(f"docs/THEOREMS.md:{number}: no crate that it names has {call}")
+            for part in cells[2].split(";"):
+                crate, *files = re.findall(r"\w+", part)
+                for word in files:
+                    if word in code:
+                        crate = word
+                    elif f"crates/{crate}/specs/{word}.antt" not in self.files:
+                        self.fault(f"docs/THEOREMS.md:{number}: there is no file {word} of {crate}'s definitions")
 
 
 def crates_named(fault):
