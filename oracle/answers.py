@@ -75,7 +75,8 @@ def numbers(_data):
 
 FORMULA_CELLS = [(5, 5), (0, 0), (255, 8191)]
 FORMULA_NAMES = [(b'TOTAL', 'A1'), (b'rates', 'B3..D10'), (b'PRICES', 'B3..D10'), (b'1', 'C3'), (b'TAX_RATE', 'C3'),
-                 (b'A1', 'D4'), (b'NET PAY', 'E5'), (b'IW1', 'F6..G7'), (b'Q', 'IV8192'), (b'EXACTLY15LETTER', 'A8..C8')]
+                 (b'A1', 'D4'), (b'NET PAY', 'E5'), (b'IW1', 'F6..G7'), (b'Q', 'IV8192'),
+                 (b'EXACTLY15LETTER', 'A8..C8')]
 
 
 def names_of(pairs):
@@ -102,9 +103,10 @@ def formulas(data):
 # ---------------------------------------------------------------- words
 
 KEY_NAMES = {'pgup': 'PgUp', 'pgdn': 'PgDn', 'bigleft': 'BigLeft', 'bigright': 'BigRight'}
-COMMAND_NAMES = dict(zip(COMMANDS, (b'Branch Dispatch Define Return Restart Quit If For ForBreak Let Put Blank Contents '
-    b'OnError Get GetLabel GetNumber Look MenuBranch MenuCall Wait Interact Beep Indicate PanelOn PanelOff WindowsOn '
-    b'WindowsOff BreakOn BreakOff Recalc RecalcCol Open Close Read ReadLn Write WriteLn FileSize GetPos SetPos').split()))
+COMMAND_NAMES = dict(zip(COMMANDS, (
+    b'Branch Dispatch Define Return Restart Quit If For ForBreak Let Put Blank Contents OnError Get GetLabel GetNumber Look '
+    b'MenuBranch MenuCall Wait Interact Beep Indicate PanelOn PanelOff WindowsOn WindowsOff BreakOn BreakOff Recalc '
+    b'RecalcCol Open Close Read ReadLn Write WriteLn FileSize GetPos SetPos').split()))
 
 
 def key_text(key):
@@ -227,8 +229,11 @@ class Block:
 
 
 def value_text(value):
-    return {'num': lambda: b'n%d' % value[1], 'str': lambda: b's' + value[1], 'err': lambda: b'ERR', 'na': lambda: b'NA',
-            'blank': lambda: b'BLANK'}[value[0]]()
+    if value[0] == 'num':
+        return b'n%d' % value[1]
+    if value[0] == 'str':
+        return b's' + value[1]
+    return value[0].upper().encode()
 
 
 def values(data):
@@ -290,6 +295,17 @@ def adjustments(data):
 
 # ---------------------------------------------------------------- sheets
 
+def shown_value(value):
+    """A cell's value as check_sheets prints it; no cell is a point."""
+    if value is None:
+        return b'.'
+    if value[0] == 'num':
+        return b'%d' % value[1]
+    if value[0] == 'str':
+        return b"'" + value[1]
+    return {'err': b'ERR', 'na': b'NA', 'blank': b'_'}[value[0]]
+
+
 class Panel:
     """What the screen tells beside the sheet, with the parts of a session that the screen reads."""
 
@@ -321,7 +337,9 @@ class Desk:
         if text[:1] in (b"'", b'"', b'^', b'\\', b'|'):
             return ('label', text[0], text[1:])
         number = fixed.read_decimal(text)
-        return ('number', number) if isinstance(number, int) else ('formula', formula.read(text, cell, self.sheet.names))
+        if isinstance(number, int):
+            return ('number', number)
+        return ('formula', formula.read(text, cell, self.sheet.names))
 
     def calc(self):
         self.sheet.calc(SCENE, self.tally)
@@ -367,8 +385,7 @@ class Desk:
         for row in range(4):
             for col in range(3):
                 value = self.sheet.value_of((col, row))
-                out += b' .' if value is None else {'num': lambda: b' %d' % value[1], 'str': lambda: b" '" + value[1],
-                    'err': lambda: b' ERR', 'na': lambda: b' NA', 'blank': lambda: b' _'}[value[0]]()
+                out += b' ' + shown_value(value)
         return out
 
     def states(self):

@@ -30,7 +30,8 @@ def decimal(r):
         lambda: b'.%d' % r.randrange(1, 10 ** r.randrange(1, 9)),
         lambda: b'%d.' % r.randrange(100000),
         lambda: b'0' * r.randrange(1, 4) + b'%d.%d' % (r.randrange(1000), r.randrange(1000)),
-        lambda: r.choice([b'0', b'1', b'0.0000005', b'0.00000049', b'999999999.999999', b'1000000000', b'127', b'8191'])])()
+        lambda: r.choice([b'0', b'1', b'0.0000005', b'0.00000049', b'999999999.999999', b'1000000000', b'127', b'8191']),
+    ])()
 
 
 def quoted(r, words=WORDS):
@@ -132,7 +133,8 @@ def broken(r, text):
     """A byte lost, doubled, changed or put in."""
     for _ in range(r.choice([1, 1, 1, 2, 4])):
         at = r.randrange(len(text) + 1)
-        put = r.choice([b'', b'(', b')', b',', b'"', b'#', b'@', b'$', b'.', b'A1', b'+', b'7', bytes([r.choice(TEXT_BYTES)])])
+        byte = bytes([r.choice(TEXT_BYTES)])
+        put = r.choice([b'', b'(', b')', b',', b'"', b'#', b'@', b'$', b'.', b'A1', b'+', b'7', byte])
         text = text[:at] + put + text[at + r.randrange(2):]
     return text
 
@@ -162,6 +164,11 @@ def formulas(r):
     return b''.join(line + b'\n' for line in out)
 
 
+BAD_WORDS = [b'{UNDO 2}', b'{DOWN 0}', b'{DOWN 10000}', b'{DOWN  2}', b'{DWN}', b'}', b'{}', b'{ALTA}', b'{ALT  A}', b'{ALT @}',
+             b'{ALT [}']
+ARGUMENTS = [b'A1', b'"a}b"', b'@SUM(A1,B2)', b'3', b'N', b'"', b'(', b'', b'A1..B2']
+
+
 def any_case(r, word):
     return bytes(b + 32 if 65 <= b <= 90 and r.randrange(2) else b for b in word)
 
@@ -173,19 +180,19 @@ def key_word(r):
         lambda: b'{' + any_case(r, name) + b' %d}' % r.choice([1, 2, 9, 10, 99, 100, 9999, r.randrange(1, 10000)]),
         lambda: b'{' + any_case(r, b'ALT ' + bytes([r.randrange(65, 91)])) + b'}',
         lambda: r.choice([b'{BREAK}', b'{UNDO}', b'{break}', b'{~}', b'{{}', b'{}}', b'~', b'\r\n', b'\n']),
-        lambda: r.choice([b'{UNDO 2}', b'{DOWN 0}', b'{DOWN 10000}', b'{DOWN  2}', b'{DWN}', b'}', b'{}', b'{ALTA}', b'{ALT  A}',
-                          b'{ALT @}', b'{ALT [}', bytes([r.randrange(256)])]) if r.randrange(3) == 0 else b'~',
+        lambda: r.choice([*BAD_WORDS, bytes([r.randrange(256)])]) if r.randrange(3) == 0 else b'~',
         lambda: bytes([r.choice(TEXT_BYTES)]) if r.randrange(2) else bytes([r.randrange(48, 123)])])()
 
 
 def macro_word(r):
-    args = lambda: r.choice([b'', b' ', b' ' + r.choice([b',', b';']).join(
-        r.choice([b'A1', b'"a}b"', b'@SUM(A1,B2)', b'3', b'N', b'"', b'(', b'', b'A1..B2']) for _ in range(r.randrange(1, 4)))])
+    listed = lambda: b' ' + r.choice([b',', b';']).join(r.choice(ARGUMENTS) for _ in range(r.randrange(1, 4)))
+    args = lambda: r.choice([b'', b' ', listed()])
     return r.choice([
         lambda: b'{' + any_case(r, r.choice(COMMANDS)) + args() + b'}',
         lambda: b'{' + any_case(r, r.choice([b'PAY', b'NET PAY', b'TO"TAL', b'\\A', b'Q'])) + args() + b'}',
         lambda: b'{' + any_case(r, r.choice([n for _, ns in KEYS for n in ns])) + args() + b'}',
-        lambda: r.choice([b'/X', b'/x']) + bytes([r.choice([*SLASH, ord('Z'), ord('i')])]) + r.choice([b'A1~', b'a~b~', b'', b'~~']),
+        lambda: (r.choice([b'/X', b'/x']) + bytes([r.choice([*SLASH, ord('Z'), ord('i')])])
+                 + r.choice([b'A1~', b'a~b~', b'', b'~~'])),
         lambda: r.choice([b'~', b'{~}', b'{{}', b'{}}', b'}', b'{', b'/', b'/WC', b'"', bytes([r.randrange(256)])]),
         lambda: bytes([r.randrange(32, 127)])])()
 
@@ -195,7 +202,11 @@ def words(r):
     out = []
     for _ in range(10000):
         data = b''.join(key_word(r) for _ in range(r.randrange(1, 6)))
-        out.append(b'k' + (broken(r, data) if r.randrange(6) == 0 else data[:-r.randrange(1, 4)] if r.randrange(20) == 0 else data)[:240].hex().encode())
+        if r.randrange(6) == 0:
+            data = broken(r, data)
+        elif r.randrange(20) == 0:
+            data = data[:-r.randrange(1, 4)]
+        out.append(b'k' + data[:240].hex().encode())
     for _ in range(5000):
         data = b''.join(macro_word(r) for _ in range(r.randrange(1, 7)))
         data = (broken(r, data) if r.randrange(4) == 0 else data)[:240]
@@ -205,8 +216,9 @@ def words(r):
 
 def held(r, texts):
     """A line that fills the next cell of a block."""
-    number = lambda: r.choice([b'%d' % r.randrange(-20, 20), b'%d' % r.randrange(-40000, 80000), b'%.6f' % r.uniform(-1, 1),
-                               b'%.2f' % r.uniform(-100, 100), b'31929.586806', b'999999999.999999', b'0'])
+    number = lambda: r.choice([
+        b'%d' % r.randrange(-20, 20), b'%d' % r.randrange(-40000, 80000), b'%.6f' % r.uniform(-1, 1),
+        b'%.2f' % r.uniform(-100, 100), b'31929.586806', b'999999999.999999', b'0'])
     return r.choice([
         lambda: b':N' + number(), lambda: b':N' + number(), lambda: b':N' + number(), lambda: b':B',
         lambda: b':L' + bytes([r.choice(b"'\"^\\|")]) + r.choice(WORDS), lambda: b':V' + texts.tree(1)])()
@@ -228,7 +240,7 @@ def values(r):
 
 
 def any_cell(r):
-    return col_text(r.choice([0, 1, 2, 3, 4, 5, 6, 7, 26, 254, 255])) + b'%d' % r.choice([1, 2, 3, 4, 5, 6, 7, 8, 101, 8191, 8192])
+    return col_text(r.choice([*range(8), 26, 254, 255])) + b'%d' % r.choice([*range(1, 9), 101, 8191, 8192])
 
 
 def adjustments(r):
@@ -271,19 +283,21 @@ class Sheets:
             text = r.choice([
                 lambda: b'%d' % r.randrange(100), lambda: b'%.2f' % r.uniform(-10, 10), lambda: b'',
                 lambda: bytes([r.choice(b"'\"^\\|")]) + r.choice(WORDS),
-                lambda: b'+' + texts.cell() + r.choice([b'+', b'-', b'*', b'/', b'&']) + r.choice([texts.cell(), b'0.5', b'2', b'3']),
+                lambda: (b'+' + texts.cell() + r.choice([b'+', b'-', b'*', b'/', b'&'])
+                         + r.choice([texts.cell(), b'0.5', b'2', b'3'])),
                 lambda: b'+' + texts.cell() + r.choice([b'+1', b'', b'*2']),
                 lambda: b'@' + r.choice([b'SUM', b'COUNT', b'MAX', b'MIN', b'AVG']) + b'(' + texts.span() + b')',
                 lambda: b'@IF(' + texts.cell() + b'>' + texts.cell() + b',' + texts.cell() + b',4)',
                 lambda: r.choice([b'@INT(@NOW)', b'@@("B4")', b'@CELL("width",' + texts.cell() + b')', b'@NA', b'1/0']),
                 lambda: b'@CELL("contents",' + texts.span() + b')'])()
-            is_label = text[:1] in (b"'", b'"', b'^', b'\\', b'|')
-            if not text or is_label or isinstance(fixed.read_decimal(text), int) or is_read(text, read_cell(cell), self.names):
+            is_plain = text[:1] in (b'', b"'", b'"', b'^', b'\\', b'|') or isinstance(fixed.read_decimal(text), int)
+            if is_plain or is_read(text, read_cell(cell), self.names):
                 return text
 
     def write(self):
         cell = self.cell()
-        return cell + b' ' + self.r.choice([b'-', b'-', b'2', b'127', b'255', b'%d' % self.r.randrange(256)]) + b' ' + self.text(cell)
+        code = self.r.choice([b'-', b'-', b'2', b'127', b'255', b'%d' % self.r.randrange(256)])
+        return cell + b' ' + code + b' ' + self.text(cell)
 
     def edit(self):
         r = self.r
@@ -314,14 +328,17 @@ class Sheets:
         r = self.r
         self.left, self.top = r.choice([(0, 0), (0, 0), (22, 90), (248, 8176)])
         place = self.place
-        out = [b':', b'g%d %d' % (r.choice([113, 113, 127, 2, 34, 66, 112, 118, 16]), r.choice([9, 9, 10, 1, 3, 72, 240]))]
+        byte, width = r.choice([113, 113, 127, 2, 34, 66, 112, 118, 16]), r.choice([9, 9, 10, 1, 3, 72, 240])
+        out = [b':', b'g%d %d' % (byte, width)]
         out += [b'w' + place() + b' %d' % r.choice([0, 1, 2, 3, 10, 20, 75, 77, 240]) for _ in range(r.randrange(4))]
         out += [b'h' + place() for _ in range(r.choice([0, 0, 1, 3]))]
         long = lambda: bytes(r.choice(TEXT_BYTES) for _ in range(r.choice([3, 8, 12, 40, 120])))
         def content(cell):
-            return r.choice([lambda: bytes([r.choice(b"'\"^\\|")]) + long(), lambda: bytes([r.choice(b"'\"^\\|")]) + long(),
-                             lambda: self.text(cell), lambda: b'%d' % r.randrange(-99, 100000), lambda: b'%.6f' % r.uniform(0, 1),
-                             lambda: b'+"xyz"', lambda: b'1/0', lambda: b'@DATE(87,6,1)', lambda: b'@NA'])()
+            label = lambda: bytes([r.choice(b"'\"^\\|")]) + long()
+            number = lambda: b'%d' % r.randrange(-99, 100000)
+            six_decimals = lambda: b'%.6f' % r.uniform(0, 1)
+            constants = [lambda text=text: text for text in (b'+"xyz"', b'1/0', b'@DATE(87,6,1)', b'@NA')]
+            return r.choice([label, label, lambda: self.text(cell), number, six_decimals, *constants])()
         writes = []
         for _ in range(r.randrange(1, 14)):
             cell = place()
@@ -351,8 +368,9 @@ class Sheets:
         for field in {0: b'6', 1: b'2', 2: b'2', 3: b'12', 4: b'12', 5: b'34', 6: b'5'}[mode]:
             if r.randrange(4):
                 out.append(b't' + bytes([field]) + text())
-        out.append(b'n%d %d' % (r.choice([0, 1, 31929, 36525, 36526, 73050]), r.choice([0, 59, 60, 3599, 3600, 86399, r.randrange(86400)])))
-        return out + [b'@']
+        day = r.choice([0, 1, 31929, 36525, 36526, 73050])
+        second = r.choice([0, 59, 60, 3599, 3600, 86399, r.randrange(86400)])
+        return out + [b'n%d %d' % (day, second), b'@']
 
     def screens(self, count):
         out = []

@@ -65,7 +65,8 @@ class Typist:
 
     def part(self):
         r = self.r
-        return r.choice([self.entry, self.entry, self.entry, self.arrow, lambda: r.choice([b'{CALC}', b'{calc}', b'~', b'\n'])])()
+        other = lambda: r.choice([b'{CALC}', b'{calc}', b'~', b'\n'])
+        return r.choice([self.entry, self.entry, self.entry, self.arrow, other])()
 
     def keys(self):
         r = self.r
@@ -127,8 +128,9 @@ def expected(words, keys):
         screens = b''.join(page(frame) for frame in of.frames).split(b'\n')
     else:
         ended = of.frames and (kind_of(words) == 'ansi' or of.made[0].closed)
-        whole = b'\n'.join(of.frames[-1]) if kind_of(words) == 'ansi' and ended else page(of.frames[-1]) if ended else b''
-        screens = whole.split(b'\n')
+        screens = [b'']
+        if ended:
+            screens = of.frames[-1] if kind_of(words) == 'ansi' else page(of.frames[-1]).split(b'\n')
     return of.status, screens, of.notes, len(of.frames)
 
 
