@@ -178,6 +178,13 @@ impl<E: Means> SheetOf<E> {
         &self.settings
     }
 
+    /// The cells and the columns, to be looked at.
+    pub fn cells(&self) -> &Store
+        ensures { result.now ≡ self.now.grid }
+    {
+        &self.store
+    }
+
     /// The value of a cell; none where the sheet holds nothing of it.
     pub fn value_of(&self, cell: Cell) -> Option<&Value>
         ensures { option_copied result ≡ value_told self.now.grid cell }
