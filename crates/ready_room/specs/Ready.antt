@@ -1,0 +1,65 @@
+-- READY.
+use Rattle.std.specs.Prelude.{ℕ, Bool, true, false, nat_eq, List, [], ◌∷◌, Option, None, Some, if◌then◌else◌}
+use Rattle.cell_pointer.specs.Keys.{move_after_end, move_of}
+use Rattle.cell_pointer.specs.declared.way.Way.{Way}
+use Rattle.control_panel.specs.Panels.{plain_panel}
+use Rattle.control_panel.specs.declared.panel.Panel.{Panel}
+use Rattle.control_panel.specs.declared.panel.Mode.TheVariants as mode
+use Rattle.desk_errors.specs.declared.error.CommandError.TheVariants as error
+use Rattle.key_words.specs.declared.key.Key.{Key}
+use Rattle.key_words.specs.declared.key.Key.TheVariants as key
+use Rattle.menu_tree.specs.declared.menu.Action.TheVariants as action
+use Rattle.menu_tree.specs.declared.menu.CommonAction.TheVariants as common
+use Rattle.session_rooms.specs.Bytes.{begins_value, slash}
+use Rattle.session_rooms.specs.Lines.{fits_line, line_of}
+use Rattle.session_rooms.specs.declared.rooms.Room.{Room}
+use Rattle.session_rooms.specs.declared.rooms.Room.TheVariants as room
+use Rattle.session_rooms.specs.declared.rooms.TypingMode.{TypingMode}
+use Rattle.session_rooms.specs.declared.rooms.TypingMode.TheVariants as typing
+use Rattle.session_rooms.specs.declared.turn.Turn.{Turn}
+use Rattle.session_rooms.specs.declared.turn.Turn.TheVariants as turn
+use Rattle.work_sheet.specs.Seen.{Sheet}
+use Rattle.work_sheet.specs.Typed as cell
+
+-- a digit or one of + - . ( @ # $ begins a value, and any other byte a label
+abbrev pub begun_mode : ℕ → TypingMode
+begun_mode b = if begins_value b then typing.Value else typing.Label
+
+-- a byte begins a line; a slash, which begins a menu, is passed over
+abbrev pub begun : ℕ → Room
+begun b = if nat_eq b slash then room.Ready else room.Typing (record { mode = begun_mode b; line = line_of (b ∷ []) })
+
+-- what the pointer's cell holds, as it would be typed
+abbrev pub pointed_text : Sheet → List ℕ
+pointed_text s = cell.typed s.names s.grid s.settings.pointer
+
+-- a cell's text is edited, with the cursor at its end
+abbrev pub editing : List ℕ → Turn
+editing text = if fits_line text then turn.Become (room.Typing (record { mode = typing.Edit; line = line_of text })) else turn.Fail error.LineTooLong
+
+-- a key that doesn't move the pointer is passed over
+abbrev pub moving : Option Way → Turn
+moving None = turn.Become room.Ready
+moving (Some w) = turn.Move w
+
+-- END waits for a key, and a second END takes that back
+abbrev pub marking : Bool → Turn
+marking true = turn.Become room.Ready
+marking false = turn.Mark
+
+-- where a key moves the pointer, behind END or not
+abbrev pub way_of : Bool → Key → Option Way
+way_of true k = move_after_end k
+way_of false k = move_of k
+
+-- what a key comes to, where END was pressed before it or not
+abbrev pub press : Key → Bool → Sheet → Turn
+press (key.Byte b) end s = turn.Become (begun b)
+press key.End end s = marking end
+press key.Edit end s = editing (pointed_text s)
+press key.Goto end s = turn.Ask (record { action = action.Common common.Goto; answers = [] })
+press key.Calc end s = turn.Recalculate
+press k end s = moving (way_of end k)
+
+abbrev pub panel : Panel
+panel = plain_panel mode.Ready

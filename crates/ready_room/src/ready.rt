@@ -1,0 +1,137 @@
+// What a key comes to while nothing is typed.
+ghost use Rattle.std.specs.Prelude.{◌≡◌};
+ghost use Rattle.ready_room.specs.Ready.{begun, begun_mode, editing, marking, moving, panel, pointed_text, press, way_of};
+ghost use Rattle.work_sheet.specs.Seen.{of_worksheet};
+
+use cell_pointer::{Way, move_after_end, move_of};
+use control_panel::{Mode, Panel};
+use desk_errors::CommandError;
+use entry_line::EntryLine;
+use grid_address::Cell;
+use key_words::Key;
+use lics_text::{Line, TextByte};
+use menu_tree::{Action, CommonAction};
+use session_rooms::{
+    AnsweredCommand, Answers, Room, Turn, TypingMode, TypingRoom, begins_value, fits_line,
+    line_of_byte,
+};
+use work_sheet::Sheet;
+
+// The mode that a byte begins.
+fn begun_mode(byte: u8) -> TypingMode
+    ensures { result ≡ begun_mode byte }
+{
+    if begins_value(byte) {
+        TypingMode::Value
+    } else {
+        TypingMode::Label
+    }
+}
+
+// What a byte begins.
+fn begun(byte: TextByte) -> Room
+    ensures { result ≡ begun byte }
+{
+    let code = byte.get();
+    if code == b'/' {
+        Room::Ready
+    } else {
+        Room::Typing(TypingRoom {
+            mode: begun_mode(code),
+            line: line_of_byte(byte),
+        })
+    }
+}
+
+// A text is edited, where it is a line's.
+fn edit_text(text: &[u8]) -> Turn
+    ensures { result ≡ editing text.now }
+{
+    if fits_line(text) {
+        Turn::Become(Room::Typing(TypingRoom {
+            mode: TypingMode::Edit,
+            line: EntryLine::new(text),
+        }))
+    } else {
+        Turn::Fail(CommandError::LineTooLong)
+    }
+}
+
+// Where the pointer stands.
+fn pointer_of(sheet: &Sheet) -> Cell
+    ensures { result ≡ sheet.now.settings.pointer }
+{
+    sheet.settings().pointer
+}
+
+// The pointer's cell is edited.
+fn edit(sheet: &Sheet) -> Turn
+    ensures { result ≡ editing (pointed_text (of_worksheet sheet.now)) }
+{
+    let pointer = pointer_of(sheet);
+    let mut text = Line::new();
+    if sheet.text_of(pointer, &mut text) {
+        edit_text(text.bytes())
+    } else {
+        Turn::Fail(CommandError::LineTooLong)
+    }
+}
+
+// A key that moves the pointer, or is passed over.
+fn moving(way: Option<Way>) -> Turn
+    ensures { result ≡ moving way }
+{
+    match way {
+        Some(way) => Turn::Move(way),
+        None => Turn::Become(Room::Ready),
+    }
+}
+
+// The key END.
+fn marking(end: bool) -> Turn
+    ensures { result ≡ marking end }
+{
+    if end {
+        Turn::Become(Room::Ready)
+    } else {
+        Turn::Mark
+    }
+}
+
+// Where a key moves the pointer, behind END or not.
+fn way_of(end: bool, key: &Key) -> Option<Way>
+    ensures { result ≡ way_of end key.now }
+{
+    if end {
+        move_after_end(key)
+    } else {
+        move_of(key)
+    }
+}
+
+/// What a key comes to in READY, where END was pressed before it or not: a byte begins a line, the moving keys move the
+/// pointer, END waits for one of them, EDIT edits the pointer's cell, GOTO asks for a cell, and CALC recalculates. Any
+/// other key is passed over, and so is a slash (Release 2 manual). `LineTooLong` comes exactly where the cell's text is no
+/// line's. It takes no memory.
+pub fn press(key: Key, end: bool, sheet: &Sheet) -> Turn
+    ensures { result ≡ press key end (of_worksheet sheet.now) }
+{
+    match key {
+        Key::Byte(byte) => Turn::Become(begun(byte)),
+        Key::End => marking(end),
+        Key::Edit => edit(sheet),
+        Key::Goto => Turn::Ask(AnsweredCommand {
+            action: Action::Common(CommonAction::Goto),
+            answers: Answers::new(sheet.alloc()),
+        }),
+        Key::Calc => Turn::Recalculate,
+        _ => moving(way_of(end, &key)),
+    }
+}
+
+/// What is shown in READY.
+pub fn panel() -> Panel
+    ensures { result ≡ panel }
+{
+    Panel::of(Mode::Ready)
+}
