@@ -1,0 +1,33 @@
+-- What a prompt shows.
+use Rattle.std.specs.Prelude.{ℕ, List, length, take, Option}
+use Rattle.control_panel.specs.Panels.{line_panel, plain_panel}
+use Rattle.control_panel.specs.declared.panel.Panel.{Panel}
+use Rattle.control_panel.specs.declared.panel.Mode.TheVariants as mode
+use Rattle.menu_tree.specs.Tree.{prompt_name}
+use Rattle.menu_tree.specs.declared.menu.Ask.{Ask}
+use Rattle.menu_room.specs.Ring.{items_line}
+use Rattle.point_room.specs.Pointing.{reference_text}
+use Rattle.prompt_room.specs.Opening.{next_ask}
+use Rattle.prompt_room.specs.Room.{choice_names}
+use Rattle.session_rooms.specs.Bytes.{max_line}
+use Rattle.session_rooms.specs.declared.answers.AnsweredCommand.{AnsweredCommand}
+use Rattle.session_rooms.specs.declared.rooms.Answering.{Answering}
+use Rattle.session_rooms.specs.declared.rooms.Answering.TheVariants as answering
+use Rattle.session_rooms.specs.declared.rooms.PromptRoom.{PromptRoom}
+
+-- the name of the present prompt
+abbrev pub name_of : AnsweredCommand → List ℕ
+name_of c = take max_line (prompt_name c.action (length c.answers))
+
+-- the items of a choice
+abbrev pub choice_line : Option Ask → ℕ → List ℕ
+choice_line k h = items_line h (choice_names k)
+
+abbrev pub panel_by : Answering → AnsweredCommand → Panel
+panel_by (answering.Pointing p) c = line_panel mode.Point (name_of c) (reference_text p) (length (reference_text p))
+panel_by (answering.Typing e) c = line_panel mode.Edit (name_of c) e.text e.cursor
+panel_by (answering.Kept e) c = line_panel mode.Edit (name_of c) e.text e.cursor
+panel_by (answering.Choosing h) c = record (plain_panel mode.Menu) { menu = choice_line (next_ask c) h }
+
+abbrev pub panel : PromptRoom → Panel
+panel r = panel_by r.answering r.command
