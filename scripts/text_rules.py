@@ -113,9 +113,9 @@ class Rules:
     def definition_meanings(self, name, lines):
         """Each definition has its line of meaning above it."""
         for at, line in enumerate(lines):
-            head = re.match(r"(abbrev|data|record|rules|ruleset) (pub )?(\S+)|pub (abbrev|data|record|rules|ruleset) (\S+)", line)
-            if head and not (at and lines[at - 1].startswith("--")):
-                self.late_fault("definition without its meaning", name, at + 1, head.group(3) or head.group(5))
+            head = re.match(r"(?:pub )?(?:abbrev|unfoldable|data|record) (?:pub )?(\w+)", line)
+            if head and not (at and lines[at - 1].lstrip().startswith("--")):
+                self.late_fault("definition without its meaning", name, at + 1, head.group(1))
 
     def numbers(self, name, lines):
         """The last row and the longest text have names."""
@@ -265,11 +265,14 @@ def left_over():
     return left
 
 
-def write_left(late):
+def write_left(late, left):
+    """Notes what was mended; where nothing was noted yet, all that is there."""
+    late = {key: found[: left.get(key, 0)] for key, found in late.items()} if left else late
     with open(LEFT, "w", encoding="utf-8") as it:
         it.write("# Places that break a rule that came after them: how many, in which crate, which rule. No crate may gain one.\n")
         for (rule, crate), found in sorted(late.items()):
-            it.write(f"{len(found)} {crate} {rule}\n")
+            if found:
+                it.write(f"{len(found)} {crate} {rule}\n")
 
 
 def main(words):
@@ -282,7 +285,7 @@ def main(words):
             print(f"{crate}: {rule}", *(f"  {it}" for it in found), sep="\n")
         return 0
     if words == ["--write"]:
-        write_left(rules.late)
+        write_left(rules.late, left)
         left = left_over()
     for key, found in sorted(rules.late.items()):
         if len(found) > left.get(key, 0):
