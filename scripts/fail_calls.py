@@ -1,0 +1,95 @@
+"""Runs the program on the examples' keys with one call of its own failing, each in turn, by scripts/failing.c."""
+import concurrent.futures
+import glob
+import os
+import subprocess
+import sys
+import tempfile
+
+# what a run may end with where such a call failed: the status and the note, behind `1-2-3: `
+ENDINGS = {
+    "memory": {(9, b"memory full"), (9, b"")},
+    "read": {(5, b"keys failed")},
+    "write": {(7, b"display failed")},
+    "notes": {(8, b"")},
+    "clock": set(),
+    "short-read": set(),
+    "short-write": set(),
+}
+# a run that the failure did not touch ends as if there were none
+MAY_END_AS_BEFORE = {"memory", "clock", "short-read", "short-write"}
+
+
+def page_lines(out):
+    """The lines of pages, without the moments."""
+    lines = out.split(b"\n")
+    for at in range(24, len(lines), 26):
+        lines[at] = b" " * 15 + lines[at][15:]
+    return lines
+
+
+class Calls:
+    """The program over one example's keys."""
+
+    def __init__(self, program, shim, keys, words):
+        self.program, self.shim, self.words = program, shim, words
+        with open(keys, "rb") as it:
+            self.keys = it.read()
+        self.before = self.run("", 0)
+
+    def run(self, kind, number, tell=None):
+        env = {"LD_PRELOAD": self.shim, "FAILING": kind, "FAIL_AT": str(number)}
+        if tell:
+            env["FAIL_TELL"] = tell
+        ran = subprocess.run([self.program, *self.words], input=self.keys, capture_output=True, env=env, timeout=120)
+        return ran.returncode, page_lines(ran.stdout), ran.stderr
+
+    def count(self, kind):
+        """How many such calls an undisturbed run makes."""
+        with tempfile.NamedTemporaryFile() as tell:
+            self.run(kind, 0, tell.name)
+            return int(tell.read() or 0)
+
+    def fault(self, kind, number):
+        """Why a run with this call failing did not end as it should, or whether it ended as before."""
+        status, lines, notes = self.run(kind, number)
+        if (status, lines, notes) == self.before:
+            return "as before" if kind in MAY_END_AS_BEFORE else "it ended as if no call had failed"
+        last = notes.rstrip(b"\n").split(b"\n")[-1]
+        if (status, last.removeprefix(b"1-2-3: ")) not in ENDINGS[kind]:
+            return f"status {status}, notes {notes!r}"
+        shown = lines[:-1]
+        # a write that failed may have been of a part of a page
+        if shown != self.before[1][: len(shown)]:
+            return "it showed what no front of the run without failures shows"
+        return None
+
+
+def tried(calls, kind, name, pool):
+    count = calls.count(kind)
+    faults = list(pool.map(lambda number: calls.fault(kind, number), range(1, count + 1)))
+    bad = [(number, why) for number, why in enumerate(faults, 1) if why and why != "as before"]
+    same = faults.count("as before")
+    print(f"{name}: {kind}: {count} calls failed in turn: {count - same - len(bad)} runs told it, {same} ended as before, {len(bad)} are wrong")
+    for number, why in bad[:3]:
+        print(f"  call {number}: {why}")
+    return not bad
+
+
+def main(words):
+    program, kinds = words[0], words[1:]
+    is_well = True
+    with tempfile.TemporaryDirectory() as room, concurrent.futures.ThreadPoolExecutor(os.cpu_count()) as pool:
+        shim = f"{room}/failing.so"
+        subprocess.run(["cc", "-O1", "-shared", "-fPIC", "-o", shim, "scripts/failing.c"], check=True)
+        for keys in sorted(glob.glob("examples/*.keys")):
+            shows = "pages" if os.path.exists(keys.removesuffix(".keys") + ".screens") else "last"
+            calls = Calls(program, shim, keys, ["--show", shows, "--count"])
+            for kind in kinds:
+                is_well = tried(calls, kind, keys, pool) and is_well
+    print("all ended as they should" if is_well else "some did not end as they should")
+    return 0 if is_well else 1
+
+
+if __name__ == "__main__":
+    sys.exit(main(sys.argv[1:]))
