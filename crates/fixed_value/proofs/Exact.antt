@@ -1,6 +1,6 @@
 -- The decimals that a number has are enough: with more of them its short text is the same.
 use Rattle.std.specs.Int.RustNames.{int_lt}
-use Rattle.std.proofs.Common.{◌≡◌, ℕ, zero, suc, ◌+◌, ◌-◌, ◌*◌, ◌/◌, ◌%◌, ◌^◌, ◌≤◌, ◌<◌, Bool, true, ◌++◌, length, take, drop, replicate, refl, sym, ap, ◌∙◌, arith, inl, inr}
+use Rattle.std.proofs.Common.{◌≡◌, ℕ, zero, suc, ◌+◌, ◌-◌, ◌*◌, ◌/◌, ◌%◌, ◌^◌, ◌≤◌, ◌<◌, Bool, true, false, ◌++◌, length, take, drop, replicate, refl, sym, ap, ◌∙◌, arith, inl, inr}
 use Rattle.std.specs.Prelude.{◌==◌, ◌&&◌, not, nat_lt, ℤ, pos, nat_abs}
 use Rattle.std.proofs.Math.Nat.{div-div-eq-div-mul, mul-le-mul_right}
 use Rattle.std.proofs.Math.Nat.{div-lt_iff_lt-mul, mul-div-le}
@@ -154,4 +154,15 @@ whole_fits v places within some =
     let number : ℕ = scaled v places in
     let longer : whole_len v ≤ length (without_zeros (fixed_digits 10 (scaled v places / 10 ^ places))) = no_shorter 10 (nat_abs v / 1000000) (scaled v places / 10 ^ places) (no_smaller (nat_abs v) places) (within_ten v places within) in
     let text = len_with_point v places (scaled v places) (length (minus_sign (int_lt v (pos 0) && not (scaled v places == 0)))) (length (without_zeros (fixed_digits 10 (scaled v places / 10 ^ places)))) refl some refl refl in
+    omega (arith, longer, text)
+
+-- with a sign there is room for one place less
+pub signed_fits : (v : ℤ) (places : ℕ) → nat_abs v ≤ 999999999999999 → 0 < places → int_lt v (pos 0) ≡ true → 1000000 ≤ nat_abs v → whole_len v + 2 + places ≤ length (written v places)
+signed_fits v places within some minus large =
+    let longer : whole_len v ≤ length (without_zeros (fixed_digits 10 (scaled v places / 10 ^ places))) = no_shorter 10 (nat_abs v / 1000000) (scaled v places / 10 ^ places) (no_smaller (nat_abs v) places) (within_ten v places within) in
+    let least : 1000000 * 10 ^ places ≤ nat_abs v * 10 ^ places = mul-le-mul_right (10 ^ places) large in
+    let one : 1 ≤ scaled v places = omega (arith, least, power_positive places) in
+    let shown : (scaled v places == 0) ≡ false = grind (arith, nat_tests, one) in
+    let sign : 1 ≡ length (minus_sign (int_lt v (pos 0) && not (scaled v places == 0))) = rw (minus, shown) refl in
+    let text = len_with_point v places (scaled v places) 1 (length (without_zeros (fixed_digits 10 (scaled v places / 10 ^ places)))) refl some sign refl in
     omega (arith, longer, text)

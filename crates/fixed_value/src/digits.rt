@@ -254,6 +254,21 @@ pub fn whole_len(value: Fixed) -> u8
     count_digits(size_of(value) / 1_000_000)
 }
 
+/// At least how many bytes a number of so many whole digits takes in front of its point: these digits, and the
+/// sign where its size is 1 or more, for a smaller one can be rounded to zero.
+pub fn front_len(value: Fixed, whole: u8) -> u8
+    requires { whole ≡ whole_len value }
+    ensures least { (places : ℕ) → 0 < places → result + 1 + places ≤ length (written value places) }
+    ensures most { result ≤ whole + 1 }
+{
+    let size = size_of(value);
+    if is_minus(value) && size >= 1_000_000 {
+        whole + 1
+    } else {
+        whole
+    }
+}
+
 /// A number that is written with six places or more is read back as itself.
 pub fn written_is_read()
     ensures { (v : ℤ) (places : ℕ) → nat_abs v ≤ 999999999999999 → 6 ≤ places → decimal_of (written v places) ≡ Num v }

@@ -14,7 +14,7 @@ mod round;
 
 pub use decimal::{Decimal, all_digits, capped_number, digits_len, read_decimal};
 pub use digits::{
-    rounds_to_zero, short_is_read, whole_len, write_decimal, write_exact, write_fitting,
+    front_len, rounds_to_zero, short_is_read, whole_len, write_decimal, write_exact, write_fitting,
     write_hundredfold, write_short, written_is_read,
 };
 pub use doubles::{DoubleRead, from_double_bits, to_double_bits};
