@@ -11,7 +11,7 @@ use crate::dates::day_text;
 use crate::push::{fill, push, put_spaces};
 use crate::{DateForm, Shape, shape_of};
 use fixed_value::{
-    Digits, Fixed, digits_len, rounds_to_zero, whole_len, write_decimal, write_exact,
+    Digits, Fixed, digits_len, front_len, rounds_to_zero, whole_len, write_decimal, write_exact,
     write_fitting, write_hundredfold,
 };
 use grid_address::Format;
@@ -86,13 +86,13 @@ fn percent_text(value: Fixed, places: u8) -> Line
     text
 }
 
-// The most places, up to six, for which there may be room beside the whole digits and the point.
-fn most_places(value: Fixed, whole: u8, room: usize) -> u8
-    requires { (places : ℕ) → 0 < places → whole + 1 + places ≤ length (written value places) }
+// The most places, up to six, for which there may be room beside the point and what stands in front of it.
+fn most_places(value: Fixed, front: u8, room: usize) -> u8
+    requires { (places : ℕ) → 0 < places → front + 1 + places ≤ length (written value places) }
     ensures few { result ≤ 6 }
     ensures most { (places : ℕ) → result < places → places ≤ 6 → room < length (written value places) }
 {
-    room.saturating_sub(usize::from(whole) + 1).min(6) as u8
+    room.saturating_sub(usize::from(front) + 1).min(6) as u8
 }
 
 // A number with as many decimals as fit, at most so many.
@@ -189,7 +189,12 @@ fn put_general(value: Fixed, width: usize, into: &mut Line)
     let whole = whole_len(value);
     match write_exact(value, whole, room) {
         Some(text) => put_right(text.bytes(), width, into),
-        None => put_rounded(value, most_places(value, whole, room), width, into),
+        None => put_rounded(
+            value,
+            most_places(value, front_len(value, whole), room),
+            width,
+            into,
+        ),
     }
 }
 
