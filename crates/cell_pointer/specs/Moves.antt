@@ -11,6 +11,7 @@ use Rattle.cell_pointer.specs.declared.way.Way.{Way}
 use Rattle.cell_pointer.specs.declared.way.Way.TheVariants.{Stay, Step, Run, PageUp, PageDown, WindowLeft, WindowRight, Home, LastUsed}
 use Rattle.cell_pointer.specs.Steps.{last_column, last_row, stepped}
 
+-- A1, where HOME leads
 abbrev pub home : Place
 home = record { row = 0; col = 0 }
 
@@ -18,10 +19,12 @@ home = record { row = 0; col = 0 }
 abbrev pub page : ℕ
 page = 20
 
+-- a cell with a content, which a run passes over
 abbrev pub has_content : Option CellState → Bool
 has_content None = false
 has_content (Some s) = not (is_blank s.content)
 
+-- the cell here has a content
 abbrev pub is_filled : Grid → Place → Bool
 is_filled g p = has_content (finite.get g.cells p)
 
@@ -30,9 +33,11 @@ unfoldable pub down_from : ℕ → List ℕ
 down_from zero = []
 down_from (suc n) = n ∷ down_from n
 
+-- the cells of a row in these columns
 abbrev pub in_row : ℕ → List ℕ → List Place
 in_row row cols = map (λ c. record { row = row; col = c }) cols
 
+-- the cells of a column in these rows
 abbrev pub in_column : ℕ → List ℕ → List Place
 in_column col rows = map (λ r. record { row = r; col = col }) rows
 
@@ -63,6 +68,7 @@ unfoldable pub stepped_times : ℕ → Arrow → Grid → Place → Place
 stepped_times zero arrow g p = p
 stepped_times (suc n) arrow g p = stepped_times n arrow g (stepped arrow g p)
 
+-- a cell, or A1 where there is none
 abbrev pub or_home : Option Place → Place
 or_home None = home
 or_home (Some p) = p

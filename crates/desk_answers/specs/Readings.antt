@@ -26,6 +26,7 @@ abbrev pub named_span : Option NameFault → NameMap → List ℕ → ℕ → Re
 named_span (Some fault) names line place = Err (error.InvalidAddress place)
 named_span None names line place = found_span (map.get names (key_of line)) place
 
+-- an address or a span, or else the name of one
 abbrev pub span_or_name : Option Extent → NameMap → List ℕ → ℕ → Result Extent CommandError
 span_or_name (Some s) names line place = Ok s
 span_or_name None names line place = named_span (fault_of line) names line place
@@ -34,16 +35,20 @@ span_or_name None names line place = named_span (fault_of line) names line place
 abbrev pub span_answer : NameMap → List ℕ → ℕ → Result Extent CommandError
 span_answer names line place = span_or_name (span_in line) names line place
 
+-- in how many parts a decimal is counted
 abbrev pub millionths : ℕ
 millionths = 1000000
 
+-- so many millionths are a whole number within bounds
 abbrev pub is_whole_within : ℕ → ℕ → ℕ → Bool
 is_whole_within low high n = nat_eq (n % millionths) 0 && (nat_le low (n / millionths) && nat_le (n / millionths) high)
 
+-- the whole number that so many millionths are; one below 0 lies outside the bounds
 abbrev pub whole_of : ℕ → ℕ → ℤ → ℕ → Result ℕ CommandError
 whole_of low high (pos n) place = if is_whole_within low high n then Ok (n / millionths) else Err (error.InvalidNumber place)
 whole_of low high (negsuc n) place = Err (error.InvalidNumber place)
 
+-- the whole number that a decimal is
 abbrev pub whole_in : ℕ → ℕ → Decimal → ℕ → Result ℕ CommandError
 whole_in low high (decimal.Num v) place = whole_of low high v place
 whole_in low high decimal.TooLarge place = Err (error.InvalidNumber place)
@@ -53,6 +58,7 @@ whole_in low high decimal.NotNumber place = Err (error.InvalidNumber place)
 abbrev pub whole_answer : ℕ → ℕ → List ℕ → ℕ → Result ℕ CommandError
 whole_answer low high line place = whole_in low high (decimal_of line) place
 
+-- a decimal that is a number and not too large
 abbrev pub number_in : Decimal → ℕ → Result ℤ CommandError
 number_in (decimal.Num v) place = Ok v
 number_in decimal.TooLarge place = Err (error.InvalidNumber place)
@@ -71,27 +77,33 @@ order_of b place =
     else if nat_eq b 100 then Ok true
     else Err (error.InvalidNumber place)
 
+-- one letter, and no more
 abbrev pub order_answer : List ℕ → ℕ → Result Bool CommandError
 order_answer [] place = Err (error.InvalidNumber place)
 order_answer (b ∷ []) place = order_of b place
 order_answer (b ∷ c ∷ rest) place = Err (error.InvalidNumber place)
 
+-- why a reading is refused
 abbrev pub fault_in : {A : Type 0} → Result A CommandError → Option CommandError
 fault_in (Ok a) = None
 fault_in (Err e) = Some e
 
+-- a name to be given is refused where it can't be one
 abbrev pub new_name_by : Option NameFault → Option CommandError
 new_name_by None = None
 new_name_by (Some fault) = Some (error.InvalidName fault)
 
+-- a name without a span isn't found
 abbrev pub unless_there : Option Extent → ℕ → Option CommandError
 unless_there None place = Some (error.NameNotFound place)
 unless_there (Some s) place = None
 
+-- a name that must be there is refused where it can't be one or isn't found
 abbrev pub old_name_by : Option NameFault → NameMap → List ℕ → ℕ → Option CommandError
 old_name_by (Some fault) names line place = Some (error.InvalidName fault)
 old_name_by None names line place = unless_there (map.get names (key_of line)) place
 
+-- a text that is no file's name is refused
 abbrev pub unless_named : Option (List ℕ) → ℕ → Option CommandError
 unless_named None place = Some (error.InvalidFileName place)
 unless_named (Some name) place = None

@@ -4,6 +4,7 @@ use Rattle.grid_address.specs.Place.{spanned, Extent, Place}
 use Rattle.grid_address.specs.Progress.{address_in, count_dots}
 use Rattle.session_rooms.specs.Bytes.{dot}
 
+-- the span between two corners, where both are addresses
 abbrev pub both_corners : Option Place → Option Place → Option Extent
 both_corners None b = None
 both_corners (Some a) None = None

@@ -52,6 +52,7 @@ pub(crate) fn name_fault(name: &[u8]) -> Option<NameFault>
     }
 }
 
+// A name to be given: any text that can be one.
 fn new_name(line: &[u8]) -> Result<(), CommandError>
     ensures { fault_in result ≡ new_name_by (fault_of line.now) }
 {
@@ -61,6 +62,7 @@ fn new_name(line: &[u8]) -> Result<(), CommandError>
     }
 }
 
+// A name that must be there.
 fn old_name(names: &Names, line: &[u8], place: usize) -> Result<(), CommandError>
     ensures { fault_in result ≡ old_name_by (fault_of line.now) names.now line.now place }
 {
@@ -73,6 +75,7 @@ fn old_name(names: &Names, line: &[u8], place: usize) -> Result<(), CommandError
     }
 }
 
+// A file's name.
 fn file(line: &[u8], ext: Ext, place: usize) -> Result<(), CommandError>
     ensures { fault_in result ≡ unless_named (file_name ext line.now) place }
 {

@@ -21,6 +21,7 @@ fn cell_in(bytes: &[u8]) -> Option<Cell>
     }
 }
 
+// The span between two corners, where both are addresses.
 fn both_corners(a: Option<Cell>, b: Option<Cell>) -> Option<Span>
     ensures { result ≡ both_corners a b }
 {

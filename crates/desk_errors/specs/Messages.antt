@@ -37,5 +37,6 @@ abbrev pub number_of : CommandError → List ℕ
 number_of (error.FileRefused number) = decimal number
 number_of e = []
 
+-- the message of an error, with the number of a file's fault behind its words
 abbrev pub message_of : CommandError → List ℕ
 message_of e = words_of e ++ number_of e

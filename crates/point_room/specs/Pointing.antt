@@ -17,6 +17,7 @@ use Rattle.session_rooms.specs.declared.pointed.Signs.TheVariants as signs
 abbrev pub pointed_at : Place → Pointed
 pointed_at p = record { corner = p; anchor = None; signs = signs.None }
 
+-- a span of one cell, anchored there
 abbrev pub anchored_at : Place → Pointed
 anchored_at p = record { corner = p; anchor = Some p; signs = signs.None }
 
@@ -25,6 +26,7 @@ abbrev pub anchor_or : Option Place → Place → Option Place
 anchor_or None corner = Some corner
 anchor_or (Some a) corner = Some a
 
+-- the corner that stands still is set, as the dot does
 abbrev pub anchored : Pointed → Pointed
 anchored p = record p { anchor = anchor_or p.anchor p.corner }
 
@@ -39,9 +41,11 @@ next_signs signs.Both = signs.Row
 next_signs signs.Row = signs.Column
 next_signs signs.Column = signs.None
 
+-- ABS goes on to the next signs
 abbrev pub signed : Pointed → Pointed
 signed p = record p { signs = next_signs p.signs }
 
+-- an arrow moves the corner one cell
 abbrev pub moved_corner : Option Arrow → Grid → Pointed → Pointed
 moved_corner None g p = p
 moved_corner (Some a) g p = record p { corner = stepped a g p.corner }
@@ -54,18 +58,21 @@ steered key.Bs g pointer p = loosened pointer p
 steered key.Abs g pointer p = signed p
 steered k g pointer p = moved_corner (arrow_of k) g p
 
+-- a $ stands before the column
 abbrev pub fixes_column : Signs → Bool
 fixes_column signs.None = false
 fixes_column signs.Both = true
 fixes_column signs.Row = false
 fixes_column signs.Column = true
 
+-- a $ stands before the row
 abbrev pub fixes_row : Signs → Bool
 fixes_row signs.None = false
 fixes_row signs.Both = true
 fixes_row signs.Row = true
 fixes_row signs.Column = false
 
+-- the sign of what is fixed
 abbrev pub sign_if : Bool → List ℕ
 sign_if true = codes "$"
 sign_if false = []

@@ -22,6 +22,7 @@ use Rattle.point_room.specs.Pointing.{reference_text, steered}
 abbrev pub put_in : PointRoom → Entry
 put_in r = extended r.line (reference_text r.pointed)
 
+-- a key steers the pointed reference, and the line stays as it was
 abbrev pub steered_room : Key → Grid → Place → PointRoom → Turn
 steered_room k g pointer r = turn.Become (room.Pointing (record r { pointed = steered k g pointer r.pointed }))
 

@@ -10,6 +10,7 @@ use session_rooms::{Pointed, Signs};
 /// A reference as it is put into a line: at most two addresses of 8 bytes, with two dots between them.
 pub type ReferenceText = ByteList<18>;
 
+// A $ stands before the column.
 fn fixes_column(signs: Signs) -> bool
     ensures { result ≡ fixes_column signs }
 {
@@ -19,6 +20,7 @@ fn fixes_column(signs: Signs) -> bool
     }
 }
 
+// A $ stands before the row.
 fn fixes_row(signs: Signs) -> bool
     ensures { result ≡ fixes_row signs }
 {

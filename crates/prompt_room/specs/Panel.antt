@@ -23,11 +23,13 @@ name_of c = take max_line (prompt_name c.action (length c.answers))
 abbrev pub choice_line : Option Ask → ℕ → List ℕ
 choice_line k h = items_line h (choice_names k)
 
+-- what is shown while an answer is pointed at, typed or chosen
 abbrev pub panel_by : Answering → AnsweredCommand → Panel
 panel_by (answering.Pointing p) c = line_panel mode.Point (name_of c) (reference_text p) (length (reference_text p))
 panel_by (answering.Typing e) c = line_panel mode.Edit (name_of c) e.text e.cursor
 panel_by (answering.Kept e) c = line_panel mode.Edit (name_of c) e.text e.cursor
 panel_by (answering.Choosing h) c = record (plain_panel mode.Menu) { menu = choice_line (next_ask c) h }
 
+-- what a prompt shows
 abbrev pub panel : PromptRoom → Panel
 panel r = panel_by r.answering r.command

@@ -30,6 +30,7 @@ use Rattle.work_sheet.specs.Seen.{Sheet}
 abbrev pub asking : AnsweredCommand → Answering → Turn
 asking c how = turn.Become (room.Asking (record { command = c; answering = how }))
 
+-- why the answer to a prompt is refused; none where nothing was asked for
 abbrev pub refusal_by : Option Ask → NameMap → List ℕ → ℕ → Option CommandError
 refusal_by None names text place = None
 refusal_by (Some k) names text place = refusal_of k names text place
@@ -39,6 +40,7 @@ abbrev pub answered_by : Option CommandError → AnsweredCommand → List ℕ �
 answered_by (Some e) c text = turn.Fail e
 answered_by None c text = turn.Ask (record c { answers = c.answers ++ text ∷ [] })
 
+-- the present prompt has got its answer
 abbrev pub answered : Sheet → AnsweredCommand → List ℕ → Turn
 answered s c text = answered_by (refusal_by (next_ask c) s.names text (length c.answers)) c text
 
@@ -55,6 +57,7 @@ abbrev pub or_first : Option (List ℕ) → NameMap → Option (List ℕ)
 or_first None names = next_name names []
 or_first (Some name) names = Some name
 
+-- the range name that comes after a text, in a circle
 abbrev pub name_behind : NameMap → List ℕ → Option (List ℕ)
 name_behind names text = or_first (next_name names text) names
 
@@ -76,6 +79,7 @@ shown (Some e) c how = asking c (answering.Typing e)
 abbrev pub named : Sheet → AnsweredCommand → List ℕ → Answering → Turn
 named s c text how = shown (name_line (next_ask c) s.names text) c how
 
+-- a key steers the span that is pointed at
 abbrev pub steered_prompt : Key → Sheet → AnsweredCommand → Pointed → Turn
 steered_prompt k s c p = asking c (answering.Pointing (steered k s.grid s.settings.pointer p))
 
@@ -132,12 +136,14 @@ abbrev pub decided_or : Option ℕ → AnsweredCommand → ℕ → Turn
 decided_or None c h = asking c (answering.Choosing h)
 decided_or (Some n) c h = decided n c
 
+-- Enter takes the highlighted item, a letter its own, ESC gives the command up, and arrows highlight
 abbrev pub press_choosing : Key → AnsweredCommand → ℕ → Turn
 press_choosing key.Enter c h = decided h c
 press_choosing (key.Byte b) c h = decided_or (position (λ n. begins n b) (choice_names (next_ask c))) c h
 press_choosing key.Esc c h = turn.Become room.Ready
 press_choosing k c h = asking c (answering.Choosing (highlighted k 2 h))
 
+-- what a key comes to, by how the answer is given
 abbrev pub press_by : Answering → Key → Sheet → AnsweredCommand → Turn
 press_by (answering.Pointing p) k s c = press_pointing k s c p
 press_by (answering.Typing e) k s c = press_line k s c false e

@@ -48,6 +48,7 @@ fn anchored_at(cell: Cell) -> Pointed
     }
 }
 
+// How the answer to a prompt begins to be given; without a prompt the command acts.
 fn opened_by(ask: Option<Ask>, pointer: Cell) -> WhatFollows
     ensures { result ≡ opened_by ask pointer }
 {

@@ -21,6 +21,7 @@ fn name_of(command: &AnsweredCommand) -> &'static [u8]
     &name[..name.len().min(MAX_LEN)]
 }
 
+// The prompt with the pointed reference.
 fn pointing_panel(command: &AnsweredCommand, pointed: &Pointed) -> Panel
     ensures { result ≡ panel_by (Answering.Pointing pointed.now) command.now }
 {
@@ -29,6 +30,7 @@ fn pointing_panel(command: &AnsweredCommand, pointed: &Pointed) -> Panel
     Panel::of_line(Mode::Point, name_of(command), bytes, bytes.len() as u8)
 }
 
+// The prompt with the line that is typed or kept.
 fn line_panel(command: &AnsweredCommand, line: &EntryLine) -> Panel
     ensures { result ≡ panel_by (Answering.Typing line.now) command.now }
 {
@@ -56,6 +58,7 @@ fn choice_line(ask: Option<Ask>, highlight: usize) -> &'static [u8]
     }
 }
 
+// The two items of a choice, one of them highlighted.
 fn choosing_panel(command: &AnsweredCommand, highlight: usize) -> Panel
     ensures { result ≡ panel_by (Answering.Choosing highlight) command.now }
 {

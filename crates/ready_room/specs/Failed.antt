@@ -15,5 +15,6 @@ press_failed key.Enter message = turn.Become room.Ready
 press_failed key.Esc message = turn.Become room.Ready
 press_failed k message = turn.Become (room.Failed message)
 
+-- ERROR is shown with its message
 abbrev pub failed_panel : List ℕ → Panel
 failed_panel message = record (plain_panel mode.Error) { message = message }

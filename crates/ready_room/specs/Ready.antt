@@ -61,5 +61,6 @@ press key.Goto end s = turn.Ask (record { action = action.Common common.Goto; an
 press key.Calc end s = turn.Recalculate
 press k end s = moving (way_of end k)
 
+-- READY is shown alone
 abbrev pub panel : Panel
 panel = plain_panel mode.Ready

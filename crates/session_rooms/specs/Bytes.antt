@@ -2,9 +2,11 @@
 use Rattle.std.specs.Prelude.{ℕ, Bool, nat_eq, List, codes}
 use Rattle.std.specs.List.{list_any}
 
+-- the byte that begins a menu
 abbrev pub slash : ℕ
 slash = 47
 
+-- the byte that anchors
 abbrev pub dot : ℕ
 dot = 46
 

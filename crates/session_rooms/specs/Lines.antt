@@ -4,6 +4,7 @@ use Rattle.std.specs.List.{list_all}
 use Rattle.entry_line.specs.Line.{Entry}
 use Rattle.session_rooms.specs.Bytes.{max_line}
 
+-- a text with the cursor behind it
 abbrev pub line_of : List ℕ → Entry
 line_of text = record { text = text; cursor = length text }
 
@@ -11,6 +12,7 @@ line_of text = record { text = text; cursor = length text }
 abbrev pub extended : Entry → List ℕ → Entry
 extended e bytes = line_of (take max_line (e.text ++ bytes))
 
+-- the byte at a text's end, and 0 where it is empty
 abbrev pub last_byte : List ℕ → ℕ
 last_byte text = get_or text (length text - 1) 0
 

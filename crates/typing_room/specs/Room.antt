@@ -60,6 +60,7 @@ abbrev pub finished_line : List ℕ → Way → Entry → Turn
 finished_line [] w e = turn.Move w
 finished_line (b ∷ bs) w e = turn.Finish w e
 
+-- a key that finishes the line in EDIT moves the pointer too
 abbrev pub finished_by : Option Way → Entry → Turn
 finished_by None e = turn.Become room.Ready
 finished_by (Some w) e = finished_line e.text w e
@@ -71,6 +72,7 @@ edited line.LineFull way r = turn.Become (room.Typing r)
 edited line.GivenUp way r = turn.Become room.Ready
 edited line.Finished way r = finished_by way r.line
 
+-- what a key comes to, by the mode
 abbrev pub press_by : TypingMode → Key → Grid → Place → TypingRoom → Turn
 press_by Label k g pointer r = press_line k r
 press_by Value k g pointer r = press_value (arrow_of k) k g pointer r
@@ -80,10 +82,12 @@ press_by Edit k g pointer r = edited (event k r.line) (finish_of k) (keyed k r)
 abbrev pub press : Key → Grid → Place → TypingRoom → Turn
 press k g pointer r = press_by r.mode k g pointer r
 
+-- the mode as it is shown
 abbrev pub told_mode : TypingMode → Mode
 told_mode Label = mode.Label
 told_mode Value = mode.Value
 told_mode Edit = mode.Edit
 
+-- what is shown of an entry: its line and the cursor, under its mode
 abbrev pub panel : TypingRoom → Panel
 panel r = line_panel (told_mode r.mode) [] r.line.text r.line.cursor
