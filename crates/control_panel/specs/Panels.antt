@@ -5,7 +5,18 @@ use Rattle.control_panel.specs.declared.panel.Panel.{Panel}
 
 -- it tells a mode and nothing else
 abbrev pub plain_panel : Mode → Panel
-plain_panel mode = record { mode = mode; prompt = []; typed = []; cursor = 0; menu = []; below = []; message = []; end = false; running = false; indicate = [] }
+plain_panel mode = record {
+  mode = mode;
+  prompt = [];
+  typed = [];
+  cursor = 0;
+  menu = [];
+  below = [];
+  message = [];
+  end = false;
+  running = false;
+  indicate = [];
+}
 
 -- a line behind its prompt, with its cursor
 abbrev pub line_panel : Mode → List ℕ → List ℕ → ℕ → Panel

@@ -50,4 +50,5 @@ decimal_from minus [] (Some (p ∷ ps)) = fraction_of minus [] (p ∷ ps)
 decimal_from minus (w ∷ ws) (Some places) = fraction_of minus (w ∷ ws) places
 
 abbrev pub decimal_of : List ℕ → Decimal
-decimal_of bytes = decimal_from (is_minus bytes) (whole_digits (without_sign bytes)) (places_of (behind_digits (without_sign bytes)))
+decimal_of bytes =
+    decimal_from (is_minus bytes) (whole_digits (without_sign bytes)) (places_of (behind_digits (without_sign bytes)))

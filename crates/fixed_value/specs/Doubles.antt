@@ -18,7 +18,8 @@ has_minus bits = nat_le 9223372036854775808 bits
 abbrev pub mantissa_of : ℕ → ℕ → ℕ
 mantissa_of exponent fraction = if exponent == 0 then fraction else 4503599627370496 + fraction
 
--- the exact size is the mantissa times 2 to the exponent less 1075, where the exponents 0 and 1 are alike; in millionths, rounded once
+-- the exact size is the mantissa times 2 to the exponent less 1075, where the exponents 0 and 1 are alike; in
+-- millionths, rounded once
 abbrev pub size_by : ℕ → ℕ → ℕ
 size_by mantissa exponent = nearest (mantissa * 1000000 * 2 ^ (exponent - 1075)) (2 ^ (1075 - exponent))
 
@@ -42,7 +43,8 @@ nearest_even n d = if nat_lt d (2 * (n % d) + n / d % 2) then n / d + 1 else n /
 abbrev pub sign_bit : ℤ → ℕ
 sign_bit v = if int_lt v (pos 0) then 9223372036854775808 else 0
 
--- The bits of the double that is nearest to a number that isn't 0. At the scale of its exponent the size has 53 bits; a size that is rounded up to the next power of two raises the exponent by itself.
+-- The bits of the double that is nearest to a number that isn't 0. At the scale of its exponent the size has 53 bits; a
+-- size that is rounded up to the next power of two raises the exponent by itself.
 pub record IsWritten (v : ℤ) (bits : ℕ) : Type 0 where
   pub scale : ℕ
   pub scale_in : scale ≤ 72

@@ -28,7 +28,10 @@ steered_room k g pointer r = turn.Become (room.Pointing (record r { pointed = st
 
 -- an operator, a bracket that closes or a comma puts the reference in and goes on
 abbrev pub typed_byte : ℕ → Grid → Place → PointRoom → Turn
-typed_byte b g pointer r = if ends_reference b then turn.Become (room.Typing (record { mode = typing.Value; line = extended (put_in r) (b ∷ []) })) else steered_room (key.Byte b) g pointer r
+typed_byte b g pointer r =
+    if ends_reference b
+    then turn.Become (room.Typing (record { mode = typing.Value; line = extended (put_in r) (b ∷ []) }))
+    else steered_room (key.Byte b) g pointer r
 
 -- what a key comes to over these columns and this pointer: Enter puts the reference in and finishes the entry
 abbrev pub press : Key → Grid → Place → PointRoom → Turn

@@ -48,8 +48,8 @@ fn type_byte(byte: TextByte, columns: &Store, pointer: Cell, room: PointRoom) ->
 
 /// What a key comes to in POINT of a value that is typed, over a sheet's columns and its pointer: Enter puts the
 /// reference in and finishes the entry; an operator, `)` or `,` puts it in and goes on; other keys steer the pointed
-/// span or are passed over (Release 2 manual; bytes of the reference past 240 on the line are passed over, which is this
-/// project's choice). It takes no memory.
+/// span or are passed over (Release 2 manual; bytes of the reference past 240 on the line are passed over, which is
+/// this project's choice). It takes no memory.
 pub fn press(key: Key, columns: &Store, pointer: Cell, room: PointRoom) -> Turn
     ensures { result ≡ press key columns.now pointer room }
 {

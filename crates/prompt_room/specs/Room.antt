@@ -85,7 +85,8 @@ steered_prompt k s c p = asking c (answering.Pointing (steered k s.grid s.settin
 
 -- a dot anchors, and any other byte begins a typed answer
 abbrev pub typed_byte : ℕ → Sheet → AnsweredCommand → Pointed → Turn
-typed_byte b s c p = if nat_eq b dot then steered_prompt (key.Byte b) s c p else asking c (answering.Typing (line_of (b ∷ [])))
+typed_byte b s c p =
+    if nat_eq b dot then steered_prompt (key.Byte b) s c p else asking c (answering.Typing (line_of (b ∷ [])))
 
 -- Enter takes the span
 abbrev pub press_pointing : Key → Sheet → AnsweredCommand → Pointed → Turn

@@ -62,8 +62,8 @@ fn opened_by(ask: Option<Ask>, pointer: Cell) -> WhatFollows
     }
 }
 
-/// What follows where a command has some answers: its next prompt, of which a range begins anchored at the pointer and a
-/// cell there without an anchor; the question whether the file is there; or the command itself (Release 2 manual).
+/// What follows where a command has some answers: its next prompt, of which a range begins anchored at the pointer and
+/// a cell there without an anchor; the question whether the file is there; or the command itself (Release 2 manual).
 pub fn opening(command: &AnsweredCommand, pointer: Cell) -> WhatFollows
     ensures { result ≡ opening command.now pointer }
 {

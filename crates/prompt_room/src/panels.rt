@@ -69,8 +69,8 @@ fn choosing_panel(command: &AnsweredCommand, highlight: usize) -> Panel
     panel
 }
 
-/// What is shown in a prompt: its name and the answer, in POINT the pointed reference, in EDIT the line that is typed or
-/// kept; in MENU the two items of a choice.
+/// What is shown in a prompt: its name and the answer, in POINT the pointed reference, in EDIT the line that is typed
+/// or kept; in MENU the two items of a choice.
 pub fn panel(room: &PromptRoom) -> Panel
     ensures { result ≡ panel room.now }
 {

@@ -273,11 +273,12 @@ fn press_choosing(key: Key, command: AnsweredCommand, highlight: usize) -> Turn
     }
 }
 
-/// What a key comes to in a prompt, over a sheet. Where a span is pointed at, Enter takes it, a byte that isn't a dot begins
-/// a typed answer, and other keys steer it. A typed answer is edited as in EDIT, and Enter gives it; UP, DOWN, PGUP and
-/// PGDN are passed over. NAME puts the next name into a range, a cell or a name. The first byte replaces a file name that
-/// is shown. Of two items the first does nothing, and the other goes on with the command (Release 2 manual). An answer is
-/// tested where it is given, as `test_answer` says, and a refused one ends the command. An answer that is given takes memory.
+/// What a key comes to in a prompt, over a sheet. Where a span is pointed at, Enter takes it, a byte that isn't a dot
+/// begins a typed answer, and other keys steer it. A typed answer is edited as in EDIT, and Enter gives it; UP, DOWN,
+/// PGUP and PGDN are passed over. NAME puts the next name into a range, a cell or a name. The first byte replaces a
+/// file name that is shown. Of two items the first does nothing, and the other goes on with the command (Release 2
+/// manual). An answer is tested where it is given, as `test_answer` says, and a refused one ends the command. An answer
+/// that is given takes memory.
 pub fn press(key: Key, sheet: &Sheet, room: PromptRoom) -> Result<Turn, Memory>
     ensures { IfOk result (λ t. t ≡ press key (of_worksheet sheet.now) room) }
 {

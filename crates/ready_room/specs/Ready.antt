@@ -35,7 +35,10 @@ pointed_text s = cell.typed s.names s.grid s.settings.pointer
 
 -- a cell's text is edited, with the cursor at its end
 abbrev pub editing : List ℕ → Turn
-editing text = if fits_line text then turn.Become (room.Typing (record { mode = typing.Edit; line = line_of text })) else turn.Fail error.LineTooLong
+editing text =
+    if fits_line text
+    then turn.Become (room.Typing (record { mode = typing.Edit; line = line_of text }))
+    else turn.Fail error.LineTooLong
 
 -- a key that doesn't move the pointer is passed over
 abbrev pub moving : Option Way → Turn

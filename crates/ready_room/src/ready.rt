@@ -111,8 +111,8 @@ fn way_of(end: bool, key: &Key) -> Option<Way>
 
 /// What a key comes to in READY, where END was pressed before it or not: a byte begins a line, the moving keys move the
 /// pointer, END waits for one of them, EDIT edits the pointer's cell, GOTO asks for a cell, and CALC recalculates. Any
-/// other key is passed over, and so is a slash (Release 2 manual). `LineTooLong` comes exactly where the cell's text is no
-/// line's. It takes no memory.
+/// other key is passed over, and so is a slash (Release 2 manual). `LineTooLong` comes exactly where the cell's text is
+/// no line's. It takes no memory.
 pub fn press(key: Key, end: bool, sheet: &Sheet) -> Turn
     ensures { result ≡ press key end (of_worksheet sheet.now) }
 {

@@ -98,7 +98,8 @@ abbrev pub at_end : Options → Option Wanted → Result Options (List ℕ)
 at_end o None = Ok o
 at_end o (Some wanted) = Err (option_text wanted)
 
--- The words from the left: what they ask for, or the first word or value that can't go on, or the option whose value is missing.
+-- The words from the left: what they ask for, or the first word or value that can't go on, or the option whose value is
+-- missing.
 abbrev pub read_on : Options → Option Wanted → List (List ℕ) → Result Options (List ℕ)
 read_on o wanted [] = at_end o wanted
 read_on o wanted (w ∷ ws) = go_on (taken o wanted w) (λ p next. read_on p next ws)

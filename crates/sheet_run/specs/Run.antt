@@ -78,7 +78,9 @@ abbrev pub outside : Option (List ℕ) → ℕ → Option (List Moment) → Shel
 outside bytes key_faults readings shelf displays failed =
     record { bytes = bytes; key_faults = key_faults; readings = readings; shelf = shelf; displays = displays; failed = failed }
 
--- These bytes and readings were taken, and the screens of the machine's steps from its start on were sent; they are at most as many as the limit, and no more bytes are taken than can be counted. The displays that never failed are left; those that failed stand at the end of the failed ones.
+-- These bytes and readings were taken, and the screens of the machine's steps from its start on were sent; they are at
+-- most as many as the limit, and no more bytes are taken than can be counted. The displays that never failed are left;
+-- those that failed stand at the end of the failed ones.
 pub record HasRun (limit : ℕ) (taken : List ℕ) (moments : List Moment) (steps : List Step) (left out : List Watched) (before now : Outside) : Type 0 where
   pub bytes : TakesBytes before.bytes taken now.bytes
   pub readings : TakesReadings before.readings moments now.readings

@@ -33,7 +33,8 @@ is_any (d ∷ ds) = true
 abbrev pub closed_outside : Outside → List Watched → List Watched → Outside
 closed_outside middle left out = record middle { displays = views_of left; failed = middle.failed ++ views_of out }
 
--- The steps were made up to an ending that leaves the session, and each display that was left was closed. The status is found, and the text is that of the notes.
+-- The steps were made up to an ending that leaves the session, and each display that was left was closed. The status is
+-- found, and the text is that of the notes.
 pub record HasFinished (options : Options) (before now : Outside) (found : ℕ) (text : List ℕ) : Type 0 where
   pub ending : Ending
   pub leaves : LeavesSession ending

@@ -35,4 +35,13 @@ pub record AreWithin (s : Choices) : Type 0 where
 
 -- a fresh sheet's
 abbrev pub fresh : Choices
-fresh = record { automatic = true; passes = 1; prefix = Left; format = general_format; width = 9; protection = false; pointer = record { row = 0; col = 0 }; order = Natural }
+fresh = record {
+  automatic = true;
+  passes = 1;
+  prefix = Left;
+  format = general_format;
+  width = 9;
+  protection = false;
+  pointer = record { row = 0; col = 0 };
+  order = Natural;
+}

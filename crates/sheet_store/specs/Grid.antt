@@ -22,7 +22,8 @@ pub record Grid : Type 0 where
   pub hidden : List Bool
 
 abbrev pub coded_grid : Coded Grid
-coded_grid = code_by (FinMap place_cmp CellState × (List ℕ × List Bool)) (coded× (map.code coded_place (state.the_row).coded) (coded× (coded_list coded_ℕ) (coded_list coded_bool)))
+coded_grid = code_by (FinMap place_cmp CellState × (List ℕ × List Bool))
+    (coded× (map.code coded_place (state.the_row).coded) (coded× (coded_list coded_ℕ) (coded_list coded_bool)))
     (λ g. (g.cells, (g.widths, g.hidden))) (λ p. record { cells = p.0; widths = p.1.0; hidden = p.1.1 }) (λ _. refl)
 
 abbrev pub is_blank : Content → Bool

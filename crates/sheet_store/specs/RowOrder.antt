@@ -19,7 +19,8 @@ entries_behind c es = filter (λ e. is_lt (place_cmp c e.0)) es
 
 -- no cell with a state lies behind a place and before another
 abbrev pub NextHeld : Cells → Place → Place → Type 0
-NextHeld cells c d = (p : Place) (s : CellState) → InSheet p → get cells p ≡ Some s → is_lt (place_cmp c p) ≡ is_le (place_cmp d p)
+NextHeld cells c d =
+    (p : Place) (s : CellState) → InSheet p → get cells p ≡ Some s → is_lt (place_cmp c p) ≡ is_le (place_cmp d p)
 
 -- no cell with a state lies behind a place
 abbrev pub NoneHeldBehind : Cells → Place → Type 0

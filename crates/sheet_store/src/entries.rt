@@ -86,8 +86,8 @@ fn place_after(place: Cell) -> Option<Cell>
 /// The rows of a band, of which a store tells whether it holds a cell there.
 const BAND: u16 = 64;
 
-// A place behind one without a state, and no cell with a state lies between them: the next place, or the first of the next
-// band where the store holds no cell in this one.
+// A place behind one without a state, and no cell with a state lies between them: the next place, or the first of the
+// next band where the store holds no cell in this one.
 fn place_past(store: &Store, place: Cell) -> Option<Cell>
     requires { map.get store.now.cells place ≡ None }
     ensures some { IfSome result (λ c. NextHeld store.now.cells place c) }

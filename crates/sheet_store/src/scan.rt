@@ -25,7 +25,8 @@ fn is_wanted(state: &CellState, only_formulas: bool) -> bool
 fn next_place(span: Span, place: Cell) -> Option<Cell>
     requires { is_within span place ≡ true }
     ensures within { IfSome result (λ c. is_within span c ≡ true) }
-    ensures some { IfSome result (λ c. (p : Place) → is_within span p ≡ true → is_lt (place_cmp place p) ≡ is_le (place_cmp c p)) }
+    ensures some { IfSome result (λ c.
+        (p : Place) → is_within span p ≡ true → is_lt (place_cmp place p) ≡ is_le (place_cmp c p)) }
     ensures behind { IfSome result (λ c. number_of place < number_of c) }
     ensures none { IfNone result ((p : Place) → is_within span p ≡ true → is_lt (place_cmp place p) ≡ false) }
 {
@@ -87,7 +88,8 @@ fn pick_held(
     only_formulas: bool,
     held: &Held<CellState>,
 ) -> Result<(), Memory>
-    ensures { OnOk result (list.new.items ≡ list.old.items ++ picked (wanted only_formulas) span (with_item held.now.cell held.now.item [])) }
+    ensures { OnOk result (list.new.items ≡
+        list.old.items ++ picked (wanted only_formulas) span (with_item held.now.cell held.now.item [])) }
 {
     if let Some(state) = &held.item {
         if span.contains(held.cell) && is_wanted(state, only_formulas) {

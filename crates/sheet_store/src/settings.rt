@@ -26,11 +26,38 @@ impl Model for Settings {
 
     ghost Value = { Choices };
 
-    ghost view = { λ s. record { automatic = s.automatic; passes = s.passes; prefix = s.prefix; format = s.format.0; width = s.width; protection = s.protection; pointer = s.pointer; order = s.order } };
+    ghost view = { λ s. record {
+      automatic = s.automatic;
+      passes = s.passes;
+      prefix = s.prefix;
+      format = s.format.0;
+      width = s.width;
+      protection = s.protection;
+      pointer = s.pointer;
+      order = s.order;
+    } };
 
-    ghost invariant = { λ s. AreWithin (record { automatic = s.automatic; passes = s.passes; prefix = s.prefix; format = s.format.0; width = s.width; protection = s.protection; pointer = s.pointer; order = s.order }) };
+    ghost invariant = { λ s. AreWithin (record {
+      automatic = s.automatic;
+      passes = s.passes;
+      prefix = s.prefix;
+      format = s.format.0;
+      width = s.width;
+      protection = s.protection;
+      pointer = s.pointer;
+      order = s.order;
+    }) };
 
-    ghost inverse = { λ c. record { automatic = c.automatic; passes = c.passes; prefix = c.prefix; format = record { 0 = c.format }; width = c.width; protection = c.protection; pointer = c.pointer; order = c.order } };
+    ghost inverse = { λ c. record {
+      automatic = c.automatic;
+      passes = c.passes;
+      prefix = c.prefix;
+      format = record { 0 = c.format };
+      width = c.width;
+      protection = c.protection;
+      pointer = c.pointer;
+      order = c.order;
+    } };
 }
 
 impl Settings {

@@ -79,7 +79,8 @@ impl Store {
 
     // Whether some cell of a cell's band of 64 rows may have a state; false tells that none has.
     pub(crate) fn has_band(&self, cell: Cell) -> bool
-        ensures { result ≡ false → (c : Place) → InSheet c → band_of c ≡ band_of cell → map.get self.now.cells c ≡ None }
+        ensures { result ≡ false →
+            (c : Place) → InSheet c → band_of c ≡ band_of cell → map.get self.now.cells c ≡ None }
     {
         self.cells.has_band(cell)
     }
@@ -98,9 +99,9 @@ impl Store {
         self.cells.remove(cell);
     }
 
-    /// Puts a state whose value its content may have. One that is blank in the default format takes the cell out. Only a
-    /// cell that isn't in the map can find no memory, so that an edit can put its new cells first, and takes them out by
-    /// `clear` where a later one finds none.
+    /// Puts a state whose value its content may have. One that is blank in the default format takes the cell out. Only
+    /// a cell that isn't in the map can find no memory, so that an edit can put its new cells first, and takes them out
+    /// by `clear` where a later one finds none.
     pub fn put(&mut self, cell: Cell, state: CellState) -> Result<(), Memory>
         requires { IsSound state }
         ensures ok { OnOk result (self.new ≡ put_state self.old cell state) }

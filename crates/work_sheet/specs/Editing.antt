@@ -21,7 +21,8 @@ erased span s = edited (is_within span) (with_cells_in span (λ c. cell.erased (
 
 -- each cell of the target takes what its source held
 abbrev pub copied : Extent → Extent → Sheet → Done
-copied from target s = edited (is_within target) (with_cells_in target (λ c. cell.copied (map.get s.grid.cells (source_of from target.first c))) s.grid) s
+copied from target s = edited (is_within target)
+    (with_cells_in target (λ c. cell.copied (map.get s.grid.cells (source_of from target.first c))) s.grid) s
 
 -- the writes are made, in their order
 abbrev pub all_written : List Write → Sheet → Done
@@ -29,7 +30,8 @@ all_written ws s = edited (has same_place (written_cells ws)) (written_all s.gri
 
 -- the cells of a span take other formats
 abbrev pub reformatted : Extent → (ℕ → ℕ) → Sheet → Done
-reformatted span rule s = quiet (record s { grid = with_cells_in span (λ c. cell.reformatted rule (map.get s.grid.cells c)) s.grid })
+reformatted span rule s =
+    quiet (record s { grid = with_cells_in span (λ c. cell.reformatted rule (map.get s.grid.cells c)) s.grid })
 
 -- a column has a width of its own, or none
 abbrev pub with_width : ℕ → Option ℕ → Sheet → Done
@@ -56,8 +58,13 @@ same_order a b = false
 
 -- the order of recalculation is this one; where it was another, all formulas become dirty
 abbrev pub reordered : Order → Sheet → Done
-reordered order s = if same_order order s.settings.order then quiet s else record { sheet = record s { settings = record s.settings { order = order } }; log = all_dirty s.grid ∷ [] }
+reordered order s =
+    if same_order order s.settings.order then quiet s
+    else record { sheet = record s { settings = record s.settings { order = order } }; log = all_dirty s.grid ∷ [] }
 
 -- a sheet that was saved takes the place of another: all its formulas are dirty
 abbrev pub restored : Grid → NameMap → Choices → Sheet → Done
-restored g names settings s = record { sheet = record { grid = g; circular = false; stale = false; names = names; settings = settings }; log = all_dirty g ∷ [] }
+restored g names settings s = record {
+  sheet = record { grid = g; circular = false; stale = false; names = names; settings = settings };
+  log = all_dirty g ∷ [];
+}

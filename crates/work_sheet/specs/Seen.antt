@@ -25,8 +25,15 @@ coded_sheet = code_by (Grid × (Bool × (Bool × (NameMap × Choices))))
 
 -- no cell, no column of a width of its own or hidden, no name, and the settings of a fresh sheet
 abbrev pub fresh_sheet : Sheet
-fresh_sheet = record { grid = record { cells = map.empty; widths = replicate 256 0; hidden = replicate 256 false }; circular = false; stale = false; names = map.empty; settings = fresh }
+fresh_sheet = record {
+  grid = record { cells = map.empty; widths = replicate 256 0; hidden = replicate 256 false };
+  circular = false;
+  stale = false;
+  names = map.empty;
+  settings = fresh;
+}
 
 -- a worksheet without its dirty formulas
 abbrev pub of_worksheet : Worksheet → Sheet
-of_worksheet w = record { grid = w.grid; circular = w.circular; stale = w.stale; names = w.names; settings = w.settings }
+of_worksheet w =
+    record { grid = w.grid; circular = w.circular; stale = w.stale; names = w.names; settings = w.settings }

@@ -31,9 +31,18 @@ pub record Worksheet : Type 0 where
 
 abbrev pub coded_worksheet : Coded Worksheet
 coded_worksheet = code_by (Grid × (List Place × (Bool × (Bool × (NameMap × Choices)))))
-    (coded× coded_grid (coded× (coded_list coded_place) (coded× coded_bool (coded× coded_bool (coded× coded_names (settings.the_row).coded)))))
+    (coded× coded_grid (coded× (coded_list coded_place)
+    (coded× coded_bool (coded× coded_bool (coded× coded_names (settings.the_row).coded)))))
     (λ s. (s.grid, (s.dirty, (s.circular, (s.stale, (s.names, s.settings))))))
-    (λ p. record { grid = p.0; dirty = p.1.0; circular = p.1.1.0; stale = p.1.1.1.0; names = p.1.1.1.1.0; settings = p.1.1.1.1.1 }) (λ _. refl)
+    (λ p. record {
+      grid = p.0;
+      dirty = p.1.0;
+      circular = p.1.1.0;
+      stale = p.1.1.1.0;
+      names = p.1.1.1.1.0;
+      settings = p.1.1.1.1.1;
+    })
+    (λ _. refl)
 
 -- in another order than the natural one all formulas are dirty
 abbrev pub AllDirtyIn : Order → Grid → List Place → Type 0
@@ -41,8 +50,8 @@ AllDirtyIn orders.Natural g dirty = Unit {0}
 AllDirtyIn orders.Columnwise g dirty = (c : Place) → is_formula_at g c ≡ true → has same_place dirty c ≡ true
 AllDirtyIn orders.Rowwise g dirty = (c : Place) → is_formula_at g c ≡ true → has same_place dirty c ≡ true
 
--- what a sheet keeps: the graph holds its formulas, what holds of the dirty ones holds whatever the moment, the names and
--- the settings are, and in another order than the natural one all are dirty
+-- what a sheet keeps: the graph holds its formulas, what holds of the dirty ones holds whatever the moment, the names
+-- and the settings are, and in another order than the natural one all are dirty
 pub record IsKept (mean : Meaning) (n : Network) (g : Grid) (dirty : List Place) (order : Order) : Type 0 where
   pub matches : Matches n g
   pub only : (c : Place) → has same_place dirty c ≡ true → is_formula_at g c ≡ true

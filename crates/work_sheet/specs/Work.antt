@@ -18,14 +18,15 @@ pub record Work : Type 0 where
   pub count : ℕ
 
 abbrev pub coded_work : Coded Work
-coded_work = code_by (List Place × ℕ) (coded× (coded_list coded_place) coded_ℕ) (λ w. (w.dirty, w.count)) (λ p. record { dirty = p.0; count = p.1 }) (λ _. refl)
+coded_work = code_by (List Place × ℕ) (coded× (coded_list coded_place) coded_ℕ)
+    (λ w. (w.dirty, w.count)) (λ p. record { dirty = p.0; count = p.1 }) (λ _. refl)
 
 -- none
 abbrev pub no_work : Work
 no_work = record { dirty = []; count = 0 }
 
--- Written cells make dirty the formulas that they hold and each that reaches one of them; a cell that holds no formula is
--- dirty no more.
+-- Written cells make dirty the formulas that they hold and each that reaches one of them; a cell that holds no formula
+-- is dirty no more.
 pub record HasMarked (cells : Place → Bool) (g : Grid) (w v : Work) : Type 0 where
   pub dirty : AreDirtied g (has same_place w.dirty) cells (has same_place v.dirty)
   pub distinct : IsDistinct same_place v.dirty

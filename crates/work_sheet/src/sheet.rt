@@ -154,9 +154,9 @@ impl<E: Means> SheetOf<E> {
     }
 
     /// Tells what the sheet keeps, and does nothing else: only formulas are dirty; a formula that reads a dirty one is
-    /// dirty; a formula that isn't dirty isn't volatile and doesn't reach itself, and its value is its meaning, whatever
-    /// the moment, the pointer, the names and the settings are. In another order than the natural one all formulas are
-    /// dirty.
+    /// dirty; a formula that isn't dirty isn't volatile and doesn't reach itself, and its value is its meaning,
+    /// whatever the moment, the pointer, the names and the settings are. In another order than the natural one all
+    /// formulas are dirty.
     pub fn is_kept(&self)
         ensures sound { (x : Context) → recalculation.IsSound E.meaning x self.now.grid (has same_place self.now.dirty) }
         ensures all { AllDirtyIn self.now.settings.order self.now.grid self.now.dirty }
@@ -411,9 +411,9 @@ impl<E: Means> SheetOf<E> {
     }
 
     /// Copies the contents and formats of a span. A source of one column is repeated across the columns of the target,
-    /// and one of one row down its rows; otherwise one copy stands at the target's first cell. All is read before a cell
-    /// is written. `OutOfSheet` carries the source where the copy would leave the sheet; then `Protected` names the first
-    /// written cell that is protected. The sheet is unchanged where the edit is refused.
+    /// and one of one row down its rows; otherwise one copy stands at the target's first cell. All is read before a
+    /// cell is written. `OutOfSheet` carries the source where the copy would leave the sheet; then `Protected` names
+    /// the first written cell that is protected. The sheet is unchanged where the edit is refused.
     pub fn copy_span(&mut self, from: Span, to: Span) -> Result<(), SheetFault>
         ensures outside { target_of from to ≡ None → result ≡ Err (faults.OutOfSheet from) }
         ensures answer { ForSome (target_of from to) (λ target. IsAnswered self.old.settings self.old.grid (is_within target) result) }
@@ -489,8 +489,8 @@ impl<E: Means> SheetOf<E> {
         Ok(())
     }
 
-    /// Recalculates in the order of the settings, with as many passes. In the natural order, where no formula is volatile
-    /// and none reaches itself, the value of each is then its meaning.
+    /// Recalculates in the order of the settings, with as many passes. In the natural order, where no formula is
+    /// volatile and none reaches itself, the value of each is then its meaning.
     pub fn calc(&mut self, scene: &Scene, tally: &mut E) -> Result<(), Memory>
         ensures did { OnOk result (Did (recalculated E.meaning scene.entry.now (of_worksheet self.old)) self.old self.new (E.count tally.old) (E.count tally.new)) }
         ensures right { OnOk result (self.old.settings.order ≡ orders.Natural → IsPlain self.old.grid → IsRight E.meaning (context_in scene.entry.now (of_worksheet self.old)) self.new.grid) }
