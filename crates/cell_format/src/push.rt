@@ -1,7 +1,7 @@
 // Adding to a line that has room.
 ghost use Rattle.std.specs.Prelude.{◌≡◌, ◌≤◌, ◌<◌, ◌+◌, ◌++◌, ◌∷◌, [], length, replicate};
 
-use lics_text::Line;
+use lics_text::{Line, MAX_LEN};
 
 // Adds a byte.
 pub fn push(into: &mut Line, byte: u8)
@@ -11,7 +11,7 @@ pub fn push(into: &mut Line, byte: u8)
     into.put(byte);
 }
 
-static SPACES: [u8; 240] = [b' '; 240];
+static SPACES: [u8; MAX_LEN] = [b' '; MAX_LEN];
 
 // Adds so many spaces.
 pub fn put_spaces(into: &mut Line, count: usize)

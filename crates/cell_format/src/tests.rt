@@ -2,7 +2,7 @@
 use crate::{indicator, show_label, show_number};
 use fixed_value::Fixed;
 use grid_address::Format;
-use lics_text::{LabelPrefix, Line};
+use lics_text::{LabelPrefix, Line, MAX_LEN};
 use std::process::Abort;
 use std::test::Fail;
 
@@ -11,6 +11,14 @@ fn number(rt: &impl Abort, millionths: i64) -> Fixed {
         Some(value) => value,
         None => panic!(rt; "past the size"),
     }
+}
+
+// A number as it is shown.
+fn shown(rt: &impl Abort, millionths: i64, format: u8, width: u8) -> Line {
+    assert!(rt; usize::from(width) <= MAX_LEN);
+    let mut line = Line::new();
+    show_number(number(rt, millionths), Format(format), width, &mut line);
+    line
 }
 
 #[test]
@@ -50,10 +58,7 @@ fn numbers_are_shown(rt: HostRuntime) -> Result<(), Fail> {
         (1_500_000, 0x71, 1, b"*"),
         (1_500_000, 0x71, 0, b""),
     ] {
-        assert!(rt; width <= 240);
-        let mut line = Line::new();
-        show_number(number(&rt, millionths), Format(format), width, &mut line);
-        assert_eq!(rt; line.bytes(), text);
+        assert_eq!(rt; shown(&rt, millionths, format, width).bytes(), text);
     }
     Ok(())
 }
@@ -81,7 +86,7 @@ fn labels_are_shown(rt: HostRuntime) -> Result<(), Fail> {
         (LabelPrefix::Left, &[65, 126, 127, 255], 5, b"A~?? "),
         (LabelPrefix::Center, b"", 0, b""),
     ] {
-        assert!(rt; width <= 240);
+        assert!(rt; usize::from(width) <= MAX_LEN);
         let mut line = Line::new();
         show_label(prefix, label, width, &mut line);
         assert_eq!(rt; line.bytes(), text);
