@@ -1,1 +1,2 @@
 mod Lining
+mod Shown

@@ -1,10 +1,10 @@
 -- The length of a line, byte by byte.
-use Rattle.std.proofs.Common.{◌≡◌, ◌≤◌, ◌<◌, ◌+◌, ◌-◌, ℕ, suc, take, false, List, [], ◌∷◌, drop, length, get_or, refl, sym, ap, ◌∙◌, arith}
-use Rattle.std.specs.Prelude.{◌==◌, if◌then◌else◌}
+use Rattle.std.proofs.Common.{◌≡◌, ◌≤◌, ◌<◌, ◌+◌, ◌-◌, ℕ, suc, min, take, true, false, List, [], ◌∷◌, drop, length, get_or, refl, sym, ap, ◌∙◌, arith}
+use Rattle.std.specs.Prelude.{◌==◌, nat_lt, if◌then◌else◌}
 use Rattle.std.proofs.lemmas.Bool.Decides.{nat_tests}
 use Rattle.std.proofs.lemmas.List.{drop_all, take_all, length-drop}
 use Rattle.std.proofs.Math.Seq.{drop-cons}
-use Rattle.text_channel.specs.Lines.{ending_of, line_length}
+use Rattle.text_channel.specs.Lines.{ending_of, line_length, next_line, piece}
 
 split_at : (bytes : List ℕ) (at : ℕ) → at < length bytes → drop at bytes ≡ get_or bytes at 0 ∷ drop (at + 1) bytes
 split_at bytes at inside = drop-cons bytes at 0 inside ∙ ap (λ k. get_or bytes at 0 ∷ drop k bytes) (let e : suc at ≡ at + 1 = omega arith in e)
@@ -26,3 +26,15 @@ at_end bytes at past = ap line_length (drop_all at bytes past)
 
 pub whole_rest : (bytes : List ℕ) (at : ℕ) → take (length bytes - at) (drop at bytes) ≡ drop at bytes
 whole_rest bytes at = take_all (length bytes - at) (drop at bytes) (omega (arith, length-drop at bytes))
+
+pub long_line : (left : List ℕ) → 240 < min (line_length left) 241 → next_line left ≡ piece (take 240 left) 240
+long_line left long = ap (λ t. if t then piece (take 240 left) 240 else piece (take (line_length left) left) (line_length left + ending_of (drop (line_length left) left)))
+    (let e : nat_lt 240 (line_length left) ≡ true = grind (arith, nat_tests, long) in e)
+
+short_as : (left : List ℕ) (n : ℕ) → n ≡ line_length left → n ≤ 240 → next_line left ≡ piece (take n left) (n + ending_of (drop n left))
+short_as left n is short = ap (λ t. if t then piece (take 240 left) 240 else piece (take (line_length left) left) (line_length left + ending_of (drop (line_length left) left)))
+    (let e : nat_lt 240 (line_length left) ≡ false = grind (arith, nat_tests, is, short) in e)
+    ∙ ap (λ k. piece (take k left) (k + ending_of (drop k left))) (sym is)
+
+pub short_line : (left : List ℕ) (n : ℕ) → n ≡ min (line_length left) 241 → n ≤ 240 → next_line left ≡ piece (take n left) (n + ending_of (drop n left))
+short_line left n is short = short_as left n (omega (arith, is, short)) short

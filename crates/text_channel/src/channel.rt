@@ -1,9 +1,11 @@
 ghost use Rattle.std.specs.Prelude.{◌≡◌, ◌≤◌, ℕ, None, IfOk, OnOk, OnErr};
 ghost use Rattle.outside_world.specs.Shelf.{HasCause};
-ghost use Rattle.text_channel.specs.Channels.{by_shelf, can_stand, can_write, position_of, size_of, stood, written, HasAttached, HasFinished, HasOpened, HasTaken};
+ghost use Rattle.text_channel.specs.Channels.{by_shelf, can_stand, can_write, position_of, size_of, stood, written, HasAttached, HasFinished, given, left_after, HasOpened, HasTaken};
+ghost use Rattle.text_channel.specs.Lines.{next_bytes, next_line};
 
 use crate::attached::{Access, Attached};
-use lics_text::Memory;
+use crate::lines::{next_bytes, next_line, shown_text};
+use lics_text::{Memory, Text};
 use outside_world::{ByteList, FileName, Shelf, ShelfFault};
 use std::alloc::Global;
 use std::marker::Model;
@@ -84,6 +86,54 @@ impl Channel {
         }
     }
 
+    /// The next bytes as a text, fewer at the end; bytes below 32 become blanks. The position moves behind them. None
+    /// comes, and nothing moves, exactly where nothing is attached, the access is Write, or the position is the length.
+    /// After want of memory the channel is as it was.
+    pub fn read(&mut self, alloc: Global, count: u8) -> Result<Option<Text>, Memory>
+        requires { count ≤ 240 }
+        ensures text { IfOk result (λ text. text ≡ given (next_bytes count) self.old) }
+        ensures channel { OnOk result (self.new ≡ left_after (next_bytes count) self.old) }
+        ensures kept { OnErr result (self.new ≡ self.old) }
+    {
+        match &mut self.attached {
+            Some(file) => {
+                if file.access == Access::Write || file.at >= file.bytes.len() {
+                    return Ok(None);
+                }
+                let left = file.bytes.bytes().split_at(file.at).1;
+                let next = next_bytes(usize::from(count), left);
+                let text = shown_text(alloc, left.split_at(next.text).0)?;
+                file.at += next.passed;
+                Ok(Some(text))
+            }
+            None => Ok(None),
+        }
+    }
+
+    /// The bytes up to CR LF, LF alone or the end as a text; bytes below 32 become blanks. The position moves behind
+    /// that ending; where more than 240 bytes stand before it, the text is the first 240 and the position moves behind
+    /// them. None comes, and nothing moves, exactly where nothing is attached, the access is Write, or the position is
+    /// the length. After want of memory the channel is as it was.
+    pub fn read_line(&mut self, alloc: Global) -> Result<Option<Text>, Memory>
+        ensures text { IfOk result (λ text. text ≡ given next_line self.old) }
+        ensures channel { OnOk result (self.new ≡ left_after next_line self.old) }
+        ensures kept { OnErr result (self.new ≡ self.old) }
+    {
+        match &mut self.attached {
+            Some(file) => {
+                if file.access == Access::Write || file.at >= file.bytes.len() {
+                    return Ok(None);
+                }
+                let left = file.bytes.bytes().split_at(file.at).1;
+                let next = next_line(left);
+                let text = shown_text(alloc, left.split_at(next.text).0)?;
+                file.at += next.passed;
+                Ok(Some(text))
+            }
+            None => Ok(None),
+        }
+    }
+
     /// Puts bytes at the position, over and past the old ones, and moves it behind them. It answers false, and changes
     /// nothing, exactly where nothing is attached, the access is Read, or the length would pass 67,108,864. After want
     /// of memory the channel is as it was.
@@ -145,6 +195,7 @@ impl Channel {
         }
     }
 
+    // Attaches a file where nothing is attached: no bytes for Write, and else the shelf's.
     fn take<S: Shelf>(
         &mut self,
         alloc: Global,
