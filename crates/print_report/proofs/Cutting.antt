@@ -1,0 +1,47 @@
+-- Texts that are cut and filled.
+use Rattle.std.proofs.Common.{◌≡◌, ℕ, ◌-◌, ◌≤◌, List, [], ◌∷◌, ◌++◌, length, take, drop, replicate, refl, ap, sym, ◌∙◌, arith, inl, inr, append_assoc}
+use Rattle.std.specs.Prelude.{min}
+use Rattle.std.proofs.lemmas.Bool.{cases_lt}
+use Rattle.std.proofs.lemmas.List.{drop_all, length-drop, take-replicate, take_all}
+use Rattle.print_report.specs.Cells.{padded}
+
+-- a front that is cut at the text's end
+pub take_least : (n : ℕ) (xs : List ℕ) → take (min (length xs) n) xs ≡ take n xs
+take_least n xs = elim (cases_lt n (length xs)) [
+  | inl less ↦ (let k : min (length xs) n ≡ n = omega arith in rw k refl)
+  | inr more ↦
+      let k : min (length xs) n ≡ length xs = omega arith in
+      rw k (take_all (length xs) xs (omega arith) ∙ sym (take_all n xs more))
+]
+
+pub drop_least : (n : ℕ) (xs : List ℕ) → drop (min (length xs) n) xs ≡ drop n xs
+drop_least n xs = elim (cases_lt n (length xs)) [
+  | inl less ↦ (let k : min (length xs) n ≡ n = omega arith in rw k refl)
+  | inr more ↦
+      let k : min (length xs) n ≡ length xs = omega arith in
+      rw k (drop_all (length xs) xs (omega arith) ∙ sym (drop_all n xs more))
+]
+
+-- a text is added, and filled with blanks
+pub text_added : (row text : List ℕ) (width shown : ℕ) → shown ≡ min (length text) width → width ≤ 240 → (row ++ take shown text) ++ take {A = ℕ} (width - shown) (replicate 240 32) ≡ row ++ padded width text
+text_added row text width shown is narrow =
+    let blanks : width - shown ≡ width - length text = omega arith in
+    append_assoc row (take shown text) (take (width - shown) (replicate 240 32))
+    ∙ ap (λ (l : List ℕ). row ++ (l ++ take (width - shown) (replicate 240 32))) (ap (λ (k : ℕ). take k text) is ∙ take_least width text)
+    ∙ ap (λ (l : List ℕ). row ++ (take width text ++ l)) (take-replicate (width - shown) 240 32 (omega arith) ∙ ap (λ (k : ℕ). replicate k 32) blanks)
+
+-- a text that fills a width leaves nothing
+pub none_left : (width : ℕ) (text : List ℕ) → length text ≤ width → drop width text ≡ []
+none_left width text h = drop_all width text h
+
+pub blanks_front : (n : ℕ) → n ≤ 240 → take {A = ℕ} n (replicate 240 32) ≡ replicate n 32
+blanks_front n h = take-replicate n 240 32 h
+
+pub stars_front : (n : ℕ) → n ≤ 240 → take {A = ℕ} n (replicate 240 42) ≡ replicate n 42
+stars_front n h = take-replicate n 240 42 h
+
+pub right_word : (n : ℕ) (word : List ℕ) → ([] ++ replicate n 32 ++ word) ++ 32 ∷ [] ≡ replicate n 32 ++ (word ++ 32 ∷ [])
+right_word n word = append_assoc (replicate n 32) word (32 ∷ [])
+
+pub whole_rest : (bytes : List ℕ) (at : ℕ) → take (length bytes - at) (drop at bytes) ≡ drop at bytes
+whole_rest bytes at = take_all (length bytes - at) (drop at bytes) (omega (arith, length-drop at bytes))

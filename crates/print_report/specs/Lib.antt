@@ -1,0 +1,6 @@
+pub mod Adding
+pub mod Bands
+pub mod Cells
+pub mod Lines
+pub mod Pages
+pub mod Running

@@ -1,0 +1,59 @@
+// The columns of a report.
+ghost use Rattle.std.specs.Prelude.{◌≡◌, ◌≤◌, ◌∷◌, length, take, drop};
+ghost use Rattle.print_report.specs.Bands.{bands, columns_of, wide, width_in};
+
+use byte_list::ByteList as Short;
+use grid_address::Span;
+use sheet_store::SavedSheet;
+
+/// Columns, from left to right.
+pub type Columns = Short<256>;
+
+/// A column's width: its own or the sheet's.
+pub fn width_in(saved: &SavedSheet, col: u8) -> u8
+    ensures width { result ≡ width_in saved.now col }
+    ensures most { result ≤ 240 }
+{
+    let settings = saved.settings;
+    settings.are_within();
+    match saved.store.width(col) {
+        Some(width) => width,
+        None => settings.width,
+    }
+}
+
+/// The columns of the range, without the hidden ones.
+pub fn columns_of(saved: &SavedSheet, range: Span) -> Columns
+    ensures { result ≡ columns_of saved.now range }
+{
+    let mut columns = Columns::new();
+    for col in u16::from(range.first.col)..u16::from(range.last.col) + 1 {
+        let col = col as u8;
+        if saved.store.is_hidden(col) {
+            continue;
+        }
+        columns.put_all(&[col]);
+    }
+    columns
+}
+
+/// How many of the columns the first band has, at least one.
+pub fn band_len(saved: &SavedSheet, width: u8, columns: &[u8]) -> usize
+    requires { 1 ≤ length columns.now }
+    ensures bands { bands saved.now width columns.now ≡ take result columns.now ∷ bands saved.now width (drop result columns.now) }
+    ensures some { 1 ≤ result }
+    ensures within { result ≤ length columns.now }
+    ensures wide { wide saved.now (take result columns.now) ≤ 255 }
+{
+    let mut room = width.saturating_sub(width_in(saved, columns[0]));
+    let mut at = 1;
+    while at < columns.len() {
+        let column = width_in(saved, columns[at]);
+        if column > room {
+            return at;
+        }
+        room -= column;
+        at += 1;
+    }
+    at
+}
