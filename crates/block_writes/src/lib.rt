@@ -3,6 +3,8 @@
 
 mod cells;
 mod copies;
+mod values;
 
 pub use cells::{by_columns, push_down};
 pub use copies::{copied, written};
+pub use values::{content_of, value_copied};
