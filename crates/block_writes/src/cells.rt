@@ -22,8 +22,8 @@ pub fn push_down(cells: &mut CellList, col: u8, first: u16, count: u16) -> Resul
     Ok(())
 }
 
-// A column of a span, counted from its first.
-fn column_at(span: Span, col: u16) -> u8
+/// A column of a span, counted from its first.
+pub fn column_at(span: Span, col: u16) -> u8
     requires { col < width_of span }
     ensures { result ≡ span.first.col + col }
 {

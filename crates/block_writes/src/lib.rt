@@ -5,6 +5,6 @@ mod cells;
 mod copies;
 mod values;
 
-pub use cells::{by_columns, push_down};
-pub use copies::{copied, written};
+pub use cells::{by_columns, column_at, push_down};
+pub use copies::{copied, rows_copied, written};
 pub use values::{content_of, value_copied};
