@@ -1,0 +1,179 @@
+// How many values lie in each bin.
+ghost use Rattle.std.specs.Prelude.{◌≡◌, ◌⊎◌, ◌+◌, ◌<◌, ◌≤◌, ◌++◌, ◌∷◌, [], ℤ, Option, Ok, Err, IfOk, IfErr, OnOk, false};
+ghost use Rattle.std.specs.Int.RustNames.{int_lt};
+ghost use Rattle.std.specs.List.{count_by};
+ghost use Rattle.grid_address.specs.Place.{height_of};
+ghost use Rattle.value_functions.specs.Values.{counted};
+ghost use Rattle.formula_eval.specs.World.{filled, Sight};
+ghost use Rattle.block_writes.specs.Writing.{as_content, at, written};
+ghost use Rattle.data_blocks.specs.Distribution.{bin_of, distributed, distribution, has_no_room, is_above, is_in_bin, number_of, numbers_in};
+
+use crate::BlockFault;
+use block_writes::{content_of, written};
+use fixed_value::Fixed;
+use formula_eval::Look;
+use formula_tree::Value;
+use grid_address::{Cell, Span};
+use lics_text::Memory;
+use sheet_store::{SheetFault, Write, Writes};
+use std::alloc::Global;
+use value_functions::counted;
+
+// A value that is a number counts.
+fn put_number(numbers: &mut Vec<Fixed>, value: &Value) -> Result<(), Memory>
+    ensures { OnOk result (numbers.new.items ≡ numbers.old.items ++ number_of value.now) }
+{
+    match value {
+        Value::Num(number) => numbers.push(*number)?,
+        Value::Blank | Value::Str(_) | Value::Err | Value::Na => {}
+    }
+    Ok(())
+}
+
+// The numbers among the values of a span.
+fn numbers_in<K: Look>(alloc: Global, span: Span, look: &K) -> Result<Vec<Fixed>, Memory>
+    ensures { IfOk result (λ v. v.items ≡ numbers_in (K.sight look.now).values (filled (K.sight look.now).values span)) }
+{
+    let cells = look.filled(span)?;
+    let mut numbers = Vec::new(alloc);
+    for place in 0..cells.len() {
+        if let Some(cell) = cells.get(place) {
+            put_number(&mut numbers, look.value(*cell))?;
+        }
+    }
+    Ok(numbers)
+}
+
+// A bin that is no number counts as 0.
+fn bin_of(value: &Value) -> Fixed
+    ensures { result ≡ bin_of value.now }
+{
+    match value {
+        Value::Num(number) => *number,
+        Value::Blank | Value::Str(_) | Value::Err | Value::Na => Fixed::ZERO,
+    }
+}
+
+fn is_less(a: Fixed, b: Fixed) -> bool
+    ensures { result ≡ int_lt a b }
+{
+    a.millionths() < b.millionths()
+}
+
+// Whether a number is above the bin before, if there is one.
+fn is_above(before: Option<Fixed>, number: Fixed) -> bool
+    ensures { result ≡ is_above before number }
+{
+    match before {
+        Some(before) => is_less(before, number),
+        None => true,
+    }
+}
+
+// Whether a number is at most a bin and above the bin before.
+fn is_in_bin(before: Option<Fixed>, bin: Fixed, number: Fixed) -> bool
+    ensures { result ≡ is_in_bin before bin number }
+{
+    is_above(before, number) && !is_less(bin, number)
+}
+
+// How many numbers lie in a bin.
+fn share(numbers: &[Fixed], before: Option<Fixed>, bin: Fixed) -> usize
+    ensures { result ≡ count_by (is_in_bin before bin) numbers.now }
+{
+    numbers
+        .iter()
+        .filter(|number| is_in_bin(before, bin, **number))
+        .count()
+}
+
+// How many numbers are above the last bin.
+fn share_above(numbers: &[Fixed], before: Option<Fixed>) -> usize
+    ensures { result ≡ count_by (is_above before) numbers.now }
+{
+    numbers
+        .iter()
+        .filter(|number| is_above(before, **number))
+        .count()
+}
+
+// A count for a cell that keeps its format.
+fn count_written(alloc: Global, cell: Cell, count: usize) -> Result<Write, Memory>
+    ensures { IfOk result (λ w. w ≡ written cell (as_content (counted count))) }
+{
+    let content = content_of(alloc, &counted(count))?;
+    Ok(written(cell, content))
+}
+
+// The cell of a bin, its row counted from the first.
+fn bin_cell(bins: Span, row: u16) -> Cell
+    requires { row < height_of bins }
+    ensures { result ≡ at (bins.first.row + row) bins.first.col }
+{
+    Cell {
+        row: bins.first.row + row,
+        col: bins.first.col,
+    }
+}
+
+// Whether the last column or the last row leaves no room for the counts.
+fn has_no_room(bins: Span) -> bool
+    ensures { result ≡ has_no_room bins }
+{
+    bins.first.col == 255 || bins.last.row == 8191
+}
+
+// The cell beside a bin or one row further, its row counted from the first.
+fn count_cell(bins: Span, row: u16) -> Cell
+    requires row { row ≤ height_of bins }
+    requires room { has_no_room bins ≡ false }
+    ensures { result ≡ at (bins.first.row + row) (bins.first.col + 1) }
+{
+    Cell {
+        row: bins.first.row + row,
+        col: bins.first.col + 1,
+    }
+}
+
+// The counts beside bins, where there is room for them.
+fn distributed<K: Look>(alloc: Global, values: Span, bins: Span, look: &K) -> Result<Writes, Memory>
+    requires { has_no_room bins ≡ false }
+    ensures { IfOk result (λ w. w ≡ distributed (K.sight look.now) values bins) }
+{
+    let numbers = numbers_in(alloc, values, look)?;
+    let numbers = numbers.as_slice();
+    let mut writes = Writes::new(alloc);
+    let mut before = None;
+    let height = bins.height();
+    for row in 0..height {
+        let bin = bin_of(look.value(bin_cell(bins, row)));
+        let count = share(numbers, before, bin);
+        writes.push(count_written(alloc, count_cell(bins, row), count)?)?;
+        before = Some(bin);
+    }
+    let count = share_above(numbers, before);
+    writes.push(count_written(alloc, count_cell(bins, height), count)?)?;
+    Ok(writes)
+}
+
+/// How many of the values are at most each bin and above the bin before, one column to the right of the bins, and one
+/// row further how many are above the last. The bins are the first column of `bins`, and one that is no number counts
+/// as 0. `Sheet(OutOfSheet(bins))` comes exactly where a count would leave the sheet. (Release 2 manual; that bins
+/// which don't ascend are taken literally is this project's own choice.)
+pub fn distribution<K: Look>(
+    alloc: Global,
+    values: Span,
+    bins: Span,
+    look: &K,
+) -> Result<Writes, BlockFault>
+    ensures found { IfOk result (λ w. distribution (K.sight look.now) values bins ≡ Ok w) }
+    ensures fault { IfErr result (λ f. (f ≡ BlockFault.Memory) ⊎ (distribution (K.sight look.now) values bins ≡ Err f)) }
+{
+    if has_no_room(bins) {
+        return Err(BlockFault::Sheet(SheetFault::OutOfSheet(bins)));
+    }
+    match distributed(alloc, values, bins, look) {
+        Ok(writes) => Ok(writes),
+        Err(Memory) => Err(BlockFault::Memory),
+    }
+}
