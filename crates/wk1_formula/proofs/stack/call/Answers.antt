@@ -1,0 +1,18 @@
+use Rattle.std.proofs.Common.{List, length, reverse, subst, ◌<◌, arith}
+use Rattle.std.proofs.lemmas.List.{length-reverse}
+use Rattle.wk1_formula.specs.declared.item.Item.{Item}
+use Rattle.wk1_formula.specs.Items.{AreItems}
+use Rattle.wk1_formula.proofs.Steppings.{lacks_call, turned, went_call}
+use Rattle.wk1_formula.proofs.stack.call.Goals as goal
+
+pub returns-then-len-from : goal.returns-then-len-from
+returns-then-len-from c ts h =
+    let few : length (reverse c.args.stack.now.items) < c.args.count = omega (arith, length-reverse c.args.stack.now.items, c.if-len-from.true, c.len.ensures, c.from.ensures) in
+    lacks_call c.args.function c.args.count (reverse c.args.stack.now.items) few ts h
+
+pub returns : goal.returns
+returns c ts h =
+    let args = c.in_ok-args.args.items in
+    let rest = reverse c.take_last.new.stack.items in
+    went_call c.args.function c.args.count args rest _ c.in_ok-gathered.gathered c.called.result c.in_ok-args.ensures.count c.in_ok-push.ensures c.requires c.in_ok-gathered.ensures c.called.ensures ts
+    (subst (λ (l : List Item). AreItems l ts) (turned c.args.stack.now.items c.take_last.new.stack.items args c.in_ok-args.ensures.both) h)

@@ -1,0 +1,166 @@
+// Codes written from trees.
+ghost use Rattle.std.specs.Int.{to_le_bytes, w16};
+ghost use Rattle.std.specs.Prelude.{◌≡◌, ◌≤◌, ◌<◌, ◌/◌, ◌++◌, ◌∷◌, [], OnOk, nat_abs, pos, true, false, flat_map};
+ghost use Rattle.grid_address.specs.Axes.{number_of};
+ghost use Rattle.std.specs.List.{list_all};
+ghost use Rattle.formula_tree.specs.Shape.{every, is_counted, is_short};
+ghost use Rattle.formula_tree.specs.View.{tree_of};
+ghost use Rattle.wk1_formula.specs.Codes.{brackets, function, minus, negation, number, operator, postfix, range, reference, text};
+ghost use Rattle.wk1_formula.specs.Doubles.{bits_of};
+ghost use Rattle.wk1_formula.specs.Written.{bytes_of, code_of, coordinate, function_bytes, number_bytes, reference_bytes, spelled};
+
+use crate::bytes::{put, put_short};
+use crate::front::{COLUMNS, ROWS};
+use crate::kind::op_code;
+use fixed_value::{Fixed, to_double_bits};
+use formula_tree::{Expr, Formula, Function, call_size};
+use grid_address::{Axis, Cell, Ref};
+use lics_text::{Memory, Text};
+
+/// The bits of the nearest double, ties to even.
+pub fn double_bits(value: Fixed) -> u64
+    ensures { result ≡ bits_of value }
+{
+    let _size = value.millionths();
+    to_double_bits(value)
+}
+
+// A whole number of at most 32767.
+fn is_short(number: Fixed) -> bool
+    ensures { result ≡ is_short number }
+{
+    let size = number.millionths().unsigned_abs();
+    size % 1_000_000 == 0 && size <= 32_767_000_000
+}
+
+// Adds a byte.
+fn put_byte(byte: u8, into: &mut Vec<u8>) -> Result<(), Memory>
+    ensures { OnOk result (into.new.items ≡ into.old.items ++ byte ∷ []) }
+{
+    into.push(byte)?;
+    Ok(())
+}
+
+// The whole part of a short number.
+fn short_size(number: Fixed) -> u16
+    requires { is_short number ≡ true }
+    ensures { result ≡ nat_abs number / 1000000 }
+{
+    (number.millionths().unsigned_abs() / 1_000_000) as u16
+}
+
+// Adds a number, in two bytes where they hold it.
+fn put_number(number: Fixed, into: &mut Vec<u8>) -> Result<(), Memory>
+    ensures { OnOk result (into.new.items ≡ into.old.items ++ number_bytes number) }
+{
+    if is_short(number) {
+        put_byte(0x05, into)?;
+        put_short(short_size(number), into)
+    } else {
+        put_byte(0x00, into)?;
+        put(&double_bits(number).to_le_bytes(), into)
+    }
+}
+
+// Adds a text and its 00.
+fn put_text(text: &Text, into: &mut Vec<u8>) -> Result<(), Memory>
+    ensures { OnOk result (into.new.items ≡ into.old.items ++ 6 ∷ (text.now ++ 0 ∷ [])) }
+{
+    put_byte(0x06, into)?;
+    put(text.bytes(), into)?;
+    put_byte(0x00, into)
+}
+
+// A coordinate as two bytes hold it.
+fn coordinate(axis: Axis, own: u16, count: u16) -> u16
+    requires own_in { own < count }
+    requires count_in { count ≤ 8192 }
+    requires axis_in { number_of axis < count }
+    ensures { result ≡ coordinate axis own count }
+{
+    match axis {
+        Axis::Fixed(number) => number,
+        Axis::Offset(offset) => 32768 + ((own + offset) % count + 16384 - own) % 16384,
+    }
+}
+
+// Adds a reference, the column first.
+fn put_reference(reference: Ref, at: Cell, into: &mut Vec<u8>) -> Result<(), Memory>
+    ensures { OnOk result (into.new.items ≡ into.old.items ++ reference_bytes reference at) }
+{
+    put_short(coordinate(reference.col, u16::from(at.col), COLUMNS), into)?;
+    put_short(coordinate(reference.row, at.row, ROWS), into)
+}
+
+// A function's code, and the count of its arguments where it is free.
+fn put_function(function: Function, count: u8, into: &mut Vec<u8>) -> Result<(), Memory>
+    ensures { OnOk result (into.new.items ≡ into.old.items ++ function_bytes function count) }
+{
+    put_byte(function_codes::code_of(function), into)?;
+    if call_size(function) == 2 {
+        put_byte(count, into)?;
+    }
+    Ok(())
+}
+
+/// Adds the codes of a tree that stands in a cell.
+#[cycle(put_tree)]
+fn put_tree(expr: &Expr, at: Cell, into: &mut Vec<u8>) -> Result<(), Memory>
+    requires { every is_counted (tree_of expr.now) ≡ true }
+    ensures { OnOk result (into.new.items ≡ into.old.items ++ spelled at (postfix (tree_of expr.now))) }
+{
+    match expr {
+        Expr::Num(value) => put_number(*value, into),
+        Expr::Str(text) => put_text(text, into),
+        Expr::Cell(place) => {
+            put_byte(0x01, into)?;
+            put_reference(*place, at, into)
+        }
+        Expr::Span(first, last) => {
+            put_byte(0x02, into)?;
+            put_reference(*first, at, into)?;
+            put_reference(*last, at, into)
+        }
+        Expr::Group(inner) => {
+            put_tree(inner, at, into)?;
+            put_byte(0x04, into)
+        }
+        Expr::Neg(inner) => {
+            put_tree(inner, at, into)?;
+            put_byte(0x08, into)
+        }
+        Expr::Not(inner) => {
+            put_tree(inner, at, into)?;
+            put_byte(0x16, into)
+        }
+        Expr::Binary(op, left, right) => {
+            put_tree(left, at, into)?;
+            put_tree(right, at, into)?;
+            put_byte(op_code(*op), into)
+        }
+        Expr::Call(function, args) => {
+            put_trees(args.items(), at, into)?;
+            put_function(*function, args.items().len() as u8, into)
+        }
+    }
+}
+
+// Adds the codes of arguments.
+#[cycle(put_tree)]
+fn put_trees(args: &[Expr], at: Cell, into: &mut Vec<u8>) -> Result<(), Memory>
+    requires { list_all (λ e. every is_counted (tree_of e)) args.now ≡ true }
+    ensures { OnOk result (into.new.items ≡ into.old.items ++ flat_map (λ e. spelled at (postfix (tree_of e))) args.now) }
+{
+    for arg in args {
+        put_tree(arg, at, into)?;
+    }
+    Ok(())
+}
+
+/// Adds the code of a formula that stands in a cell. After `Memory` a part of it may have been added.
+pub fn write_code(formula: &Formula, at: Cell, into: &mut Vec<u8>) -> Result<(), Memory>
+    ensures { OnOk result (into.new.items ≡ into.old.items ++ code_of formula.now at) }
+{
+    put_tree(formula.expr(), at, into)?;
+    put_byte(0x03, into)
+}
