@@ -1,0 +1,3 @@
+pub mod BitsRead
+pub mod Fronts
+pub mod Marks

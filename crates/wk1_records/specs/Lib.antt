@@ -1,0 +1,5 @@
+pub mod Answers
+pub mod Bodies
+pub mod Kinds
+pub mod Meanings
+pub mod Records

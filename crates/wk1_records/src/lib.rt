@@ -1,0 +1,18 @@
+//! The records of worksheet files: how they stand in bytes, and what each says of a sheet (worksheet file format).
+#![tactic(auto)]
+
+mod entry;
+mod fault;
+mod kind;
+mod meaning;
+mod name_said;
+mod pieces;
+mod said;
+mod split;
+
+pub use entry::Entry;
+pub use fault::Wk1Fault;
+pub use kind::{Kind, kind_of};
+pub use meaning::entry_of;
+pub use pieces::{number_of, put_head, put_piece, put_place};
+pub use split::front_piece;

@@ -1,0 +1,122 @@
+// What a record says, or why it is faulty.
+ghost use Rattle.std.specs.Prelude.{◌≡◌, ◌≤◌, ◌<◌, ◌+◌, not, nat_lt, true, false, length};
+ghost use Rattle.wk1_formula.specs.Reading.{short_at};
+ghost use Rattle.wk1_records.specs.Answers.{Gives};
+ghost use Rattle.wk1_records.specs.Kinds.{has_head, least_length};
+ghost use Rattle.wk1_records.specs.Meanings.{cell_of, is_inside, meaning_by, said};
+
+use crate::name_said::{bits_in, name_in};
+use crate::said::{
+    blank_in, cell_at, column_width, formula_in, integer_in, label_in, number_in, order_of,
+    prefix_of, text_in, window,
+};
+use crate::{Entry, Kind, Wk1Fault};
+use grid_address::Cell;
+use std::alloc::Global;
+use wk1_formula::short_at;
+
+// Whether a body begins with a format byte and a cell.
+fn has_head(kind: Kind) -> bool
+    ensures { result ≡ has_head kind }
+{
+    match kind {
+        Kind::Blank | Kind::Integer | Kind::Number | Kind::Label | Kind::Formula | Kind::Str => {
+            true
+        }
+        _ => false,
+    }
+}
+
+// Whether the body of a formula is long enough for the code that it states.
+fn has_code(body: &[u8]) -> bool
+    ensures { result ≡ not (nat_lt (length body.now) (15 + short_at 13 body.now)) }
+{
+    body.len() >= 15 && body.len() - 15 >= usize::from(short_at(body, 13))
+}
+
+// Whether a body has the least length of its type.
+fn is_long(kind: Kind, body: &[u8]) -> bool
+    ensures { result ≡ not (nat_lt (length body.now) (least_length kind body.now)) }
+{
+    match kind {
+        Kind::Bof => body.len() >= 2,
+        Kind::Eof => true,
+        Kind::CalcMode => body.len() >= 1,
+        Kind::CalcOrder => body.len() >= 1,
+        Kind::Range => body.len() >= 8,
+        Kind::Window => body.len() >= 8,
+        Kind::ColumnWidth => body.len() >= 3,
+        Kind::Name => body.len() >= 24,
+        Kind::Blank => body.len() >= 5,
+        Kind::Integer => body.len() >= 7,
+        Kind::Number => body.len() >= 13,
+        Kind::Label => body.len() >= 5,
+        Kind::Formula => has_code(body),
+        Kind::Protection => body.len() >= 1,
+        Kind::LabelFormat => body.len() >= 1,
+        Kind::CalcCount => body.len() >= 1,
+        Kind::Str => body.len() >= 5,
+        Kind::HiddenColumns => body.len() >= 32,
+        Kind::Other => true,
+    }
+}
+
+// What a record without a head says.
+fn plain(number: u32, kind: Kind, body: &[u8]) -> Result<Entry, Wk1Fault>
+    requires long { nat_lt (length body.now) (least_length kind body.now) ≡ false }
+    requires plain { has_head kind ≡ false }
+    ensures { Gives result (said number body.now kind) }
+{
+    match kind {
+        Kind::CalcMode => Ok(Entry::Automatic(body[0] != 0)),
+        Kind::CalcOrder => Ok(Entry::Order(order_of(body[0]))),
+        Kind::Window => Ok(window(body)),
+        Kind::ColumnWidth => Ok(column_width(body)),
+        Kind::Name => name_in(body, number),
+        Kind::Protection => Ok(Entry::Protection(body[0] != 0)),
+        Kind::LabelFormat => Ok(Entry::Prefix(prefix_of(body[0]))),
+        Kind::CalcCount => Ok(Entry::Passes(body[0].max(1).min(50))),
+        Kind::HiddenColumns => Ok(Entry::Hidden(bits_in(body))),
+        _ => Ok(Entry::Nothing),
+    }
+}
+
+// What a record with a head says.
+fn headed(
+    alloc: Global,
+    number: u32,
+    kind: Kind,
+    body: &[u8],
+    cell: Cell,
+) -> Result<Entry, Wk1Fault>
+    requires long { nat_lt (length body.now) (least_length kind body.now) ≡ false }
+    requires headed { has_head kind ≡ true }
+    requires cell { cell ≡ cell_of body.now }
+    ensures { Gives result (said number body.now kind) }
+{
+    match kind {
+        Kind::Blank => Ok(blank_in(body, cell)),
+        Kind::Integer => Ok(integer_in(body, cell)),
+        Kind::Number => number_in(alloc, body, number, cell),
+        Kind::Label => label_in(alloc, body, number, cell),
+        Kind::Formula => formula_in(alloc, body, number, cell),
+        Kind::Str => text_in(alloc, body, number, cell),
+        _ => Ok(Entry::Nothing),
+    }
+}
+
+/// What a record says, or why it is faulty: a body that is too short comes first, then a cell outside the sheet.
+pub fn entry_of(alloc: Global, number: u32, kind: Kind, body: &[u8]) -> Result<Entry, Wk1Fault>
+    ensures { Gives result (meaning_by number body.now kind) }
+{
+    if !is_long(kind, body) {
+        return Err(Wk1Fault::BadLength(number));
+    }
+    if !has_head(kind) {
+        return plain(number, kind, body);
+    }
+    match cell_at(body, 1) {
+        Some(cell) => headed(alloc, number, kind, body, cell),
+        None => Err(Wk1Fault::CellOutside(number)),
+    }
+}

@@ -1,0 +1,93 @@
+// What the record of a name says, and that of hidden columns.
+ghost use Rattle.std.specs.Prelude.{◌≡◌, ◌≤◌, ◌<◌, ◌^◌, None, length, take};
+ghost use Rattle.range_names.specs.Names.{fault_of};
+ghost use Rattle.wk1_formula.specs.Reading.{before_zero};
+ghost use Rattle.wk1_records.specs.Answers.{Gives};
+ghost use Rattle.wk1_records.specs.Meanings.{bit_at, bits_in, if_name, name_entry};
+
+use crate::said::span_at;
+use crate::{Entry, Wk1Fault};
+use byte_list::ByteList;
+use range_names::fault_of;
+use wk1_formula::before_zero;
+
+// The bytes of the name.
+fn first_bytes(body: &[u8]) -> &[u8]
+    requires { 24 ≤ length body.now }
+    ensures { result.now ≡ take 16 body.now }
+{
+    &body[..16]
+}
+
+// The bytes of a name as a list.
+fn listed(name: &[u8]) -> ByteList<15>
+    requires { length name.now ≤ 15 }
+    ensures { result ≡ name.now }
+{
+    let mut list = ByteList::new();
+    list.put_all(name);
+    list
+}
+
+// The name and the span, of bytes before a zero.
+fn named(body: &[u8], number: u32, name: &[u8]) -> Result<Entry, Wk1Fault>
+    requires { 24 ≤ length body.now }
+    ensures { Gives result (if_name number body.now name.now (fault_of name.now)) }
+{
+    match fault_of(name) {
+        Some(_) => Err(Wk1Fault::BadName(number)),
+        None => match span_at(body) {
+            Some(span) => Ok(Entry::Name(listed(name), span)),
+            None => Err(Wk1Fault::BadSpan(number)),
+        },
+    }
+}
+
+/// What the record of a name says: its name ends before the first 00 of 16 bytes.
+pub fn name_in(body: &[u8], number: u32) -> Result<Entry, Wk1Fault>
+    requires { 24 ≤ length body.now }
+    ensures { Gives result (name_entry number body.now (before_zero (take 16 body.now))) }
+{
+    match before_zero(first_bytes(body)) {
+        Some(name) => named(body, number, name),
+        None => Err(Wk1Fault::BadName(number)),
+    }
+}
+
+// A power of two.
+fn two_to(exponent: u32) -> u8
+    requires { exponent ≤ 7 }
+    ensures power { result ≡ 2 ^ exponent }
+    ensures least { 1 ≤ result }
+{
+    2u8.pow(exponent)
+}
+
+// The bit of a column.
+fn bit_at(body: &[u8], col: usize) -> bool
+    requires length { 32 ≤ length body.now }
+    requires col { col < 256 }
+    ensures { result ≡ bit_at body.now col }
+{
+    body[col / 8] / two_to((col % 8) as u32) % 2 == 1
+}
+
+// Sets the mark of each column.
+fn put_bits(body: &[u8], bits: &mut [bool; 256])
+    requires { 32 ≤ length body.now }
+    ensures { bits.new ≡ bits_in body.now }
+{
+    for col in 0..256usize {
+        bits[col] = bit_at(body, col);
+    }
+}
+
+/// Which columns are hidden: each bit of 32 bytes is a column, the lowest first.
+pub fn bits_in(body: &[u8]) -> [bool; 256]
+    requires { 32 ≤ length body.now }
+    ensures { result ≡ bits_in body.now }
+{
+    let mut bits = [false; 256];
+    put_bits(body, &mut bits);
+    bits
+}

@@ -1,0 +1,68 @@
+// Records written.
+ghost use Rattle.std.specs.Int.{to_le_bytes, w16, w64};
+ghost use Rattle.std.specs.Prelude.{◌≡◌, ◌≤◌, ◌<◌, ◌+◌, ◌++◌, ◌∷◌, [], OnOk, IfOk, length, take, replicate};
+ghost use Rattle.lics_text.specs.Bytes.{IsText};
+ghost use Rattle.formula_tree.specs.declared.value.Value.{Value};
+ghost use Rattle.wk1_formula.specs.Written.{code_of};
+ghost use Rattle.wk1_records.specs.Kinds.{number_of};
+ghost use Rattle.wk1_records.specs.Records.{piece_bytes};
+ghost use Rattle.wk1_records.specs.Bodies.{head, made, place_bytes};
+
+use crate::Kind;
+use grid_address::Cell;
+use lics_text::Memory;
+use sheet_store::CellState;
+use wk1_formula::{put, put_short};
+
+/// The number of a type.
+pub fn number_of(kind: Kind) -> u16
+    ensures { result ≡ number_of kind }
+{
+    match kind {
+        Kind::Bof => 0x00,
+        Kind::Eof => 0x01,
+        Kind::CalcMode => 0x02,
+        Kind::CalcOrder => 0x03,
+        Kind::Range => 0x06,
+        Kind::Window => 0x07,
+        Kind::ColumnWidth => 0x08,
+        Kind::Name => 0x0B,
+        Kind::Blank => 0x0C,
+        Kind::Integer => 0x0D,
+        Kind::Number => 0x0E,
+        Kind::Label => 0x0F,
+        Kind::Formula => 0x10,
+        Kind::Protection => 0x24,
+        Kind::LabelFormat => 0x29,
+        Kind::CalcCount => 0x2F,
+        Kind::Str => 0x33,
+        Kind::HiddenColumns => 0x64,
+        Kind::Other => 0xFFFF,
+    }
+}
+
+/// Adds a record.
+pub fn put_piece(kind: Kind, body: &[u8], into: &mut Vec<u8>) -> Result<(), Memory>
+    requires { length body.now < 65536 }
+    ensures { OnOk result (into.new.items ≡ into.old.items ++ piece_bytes (made kind body.now)) }
+{
+    put_short(number_of(kind), into)?;
+    put_short(body.len() as u16, into)?;
+    put(body, into)
+}
+
+/// Adds a place, the column first.
+pub fn put_place(place: Cell, into: &mut Vec<u8>) -> Result<(), Memory>
+    ensures { OnOk result (into.new.items ≡ into.old.items ++ place_bytes place) }
+{
+    put_short(u16::from(place.col), into)?;
+    put_short(place.row, into)
+}
+
+/// Adds a head: the format byte and the place.
+pub fn put_head(cell: Cell, state: &CellState, into: &mut Vec<u8>) -> Result<(), Memory>
+    ensures { OnOk result (into.new.items ≡ into.old.items ++ head cell state.now) }
+{
+    into.push(state.format.0)?;
+    put_place(cell, into)
+}

@@ -1,0 +1,353 @@
+// What a record says.
+ghost use Rattle.std.specs.Int.{from_le_bytes, w64};
+ghost use Rattle.std.specs.Prelude.{◌≡◌, ◌≤◌, ◌<◌, ◌+◌, ◌==◌, not, IfSome, IfNone, IfOk, Ok, Err, true, false, length, drop, take};
+ghost use Rattle.fixed_value.specs.Doubles.{double_of};
+ghost use Rattle.formula_tree.specs.declared.value.Content.TheVariants as content;
+ghost use Rattle.formula_tree.specs.declared.value.Value.TheVariants as value;
+ghost use Rattle.formula_tree.specs.Ranges.{is_text};
+ghost use Rattle.formula_tree.specs.Tree.{call, no_trees};
+ghost use Rattle.wk1_formula.specs.Stack.{tree_in};
+ghost use Rattle.wk1_formula.specs.Reading.{before_zero, short_at, short_value};
+ghost use Rattle.lics_text.specs.Prefixes.{prefix_of};
+ghost use Rattle.sheet_store.specs.Choices.{is_global_prefix};
+ghost use Rattle.wk1_records.specs.Answers.{Gives};
+ghost use Rattle.wk1_records.specs.Meanings.{byte_at, cell_of, code_in, double_at, formula_state, constant, global_prefix, is_inside, is_span, number_state, stored_value, is_width, label_of, label_state, numbered, order_of, place_at, pointer_of, state_of, text_entry, width_entry, window_entry};
+ghost use Rattle.wk1_records.specs.declared.entry.Entry.TheVariants as entry;
+
+use crate::{Entry, Wk1Fault};
+use fixed_value::{DoubleRead, Fixed, from_double_bits};
+use formula_tree::{Content, Expr, ExprList, Formula, Function, Value};
+use grid_address::{Cell, Format, Span};
+use lics_text::{LabelPrefix, Memory, Text};
+use sheet_store::{CellState, Order};
+use std::alloc::Global;
+use wk1_formula::{
+    CodeFault, before_zero, bytes_from, first_long, is_text, read_code, short_at, short_value,
+};
+
+/// How many columns and rows the sheet has.
+const COLUMNS: u16 = 256;
+
+const ROWS: u16 = 8192;
+
+/// The widest that a column may be.
+const MOST_WIDTH: u16 = 240;
+
+// The place at an offset, where it is in the sheet.
+pub fn cell_at(body: &[u8], at: usize) -> Option<Cell>
+    requires { at + 4 ≤ length body.now }
+    ensures some { IfSome result (λ c. (is_inside (place_at at body.now) ≡ true) × (c ≡ place_at at body.now)) }
+    ensures none { IfNone result (is_inside (place_at at body.now) ≡ false) }
+{
+    let col = short_at(body, at);
+    let row = short_at(body, at + 2);
+    if row < ROWS && col < COLUMNS {
+        Some(Cell {
+            row,
+            col: col as u8,
+        })
+    } else {
+        None
+    }
+}
+
+// The order of a byte.
+pub fn order_of(byte: u8) -> Order
+    ensures { result ≡ order_of byte }
+{
+    if byte == 1 {
+        Order::Columnwise
+    } else if byte == 255 {
+        Order::Rowwise
+    } else {
+        Order::Natural
+    }
+}
+
+// Whether a label prefix may be a sheet's.
+fn is_global(prefix: LabelPrefix) -> bool
+    ensures { result ≡ is_global_prefix prefix }
+{
+    match prefix {
+        LabelPrefix::Left | LabelPrefix::Right | LabelPrefix::Center => true,
+        LabelPrefix::Repeat | LabelPrefix::Unprinted => false,
+    }
+}
+
+// The global label prefix of a byte, which is ' where the byte is none.
+pub fn prefix_of(byte: u8) -> LabelPrefix
+    ensures { result ≡ global_prefix (prefix_of byte) }
+{
+    match LabelPrefix::of(byte) {
+        Some(prefix) => {
+            if is_global(prefix) {
+                prefix
+            } else {
+                LabelPrefix::Left
+            }
+        }
+        None => LabelPrefix::Left,
+    }
+}
+
+// Whether a number is a width of 1 to 240.
+fn is_width(number: u16) -> bool
+    ensures { result ≡ is_width number }
+{
+    1 <= number && number <= MOST_WIDTH
+}
+
+// The pointer, which is A1 where it is outside the sheet.
+fn pointer_at(body: &[u8]) -> Cell
+    requires { 4 ≤ length body.now }
+    ensures { result ≡ pointer_of (place_at 0 body.now) }
+{
+    match cell_at(body, 0) {
+        Some(cell) => cell,
+        None => Cell { row: 0, col: 0 },
+    }
+}
+
+// What the record of the pointer, the global format and the global width says.
+pub fn window(body: &[u8]) -> Entry
+    requires { 8 ≤ length body.now }
+    ensures { result ≡ window_entry body.now }
+{
+    let pointer = pointer_at(body);
+    let width = short_at(body, 6);
+    if is_width(width) {
+        Entry::Window(pointer, Format(body[4]), width as u8)
+    } else {
+        Entry::Window(pointer, Format(body[4]), 9)
+    }
+}
+
+// What the record of a column's own width says.
+pub fn column_width(body: &[u8]) -> Entry
+    requires { 3 ≤ length body.now }
+    ensures { result ≡ width_entry body.now }
+{
+    let col = short_at(body, 0);
+    if col < 256 && is_width(u16::from(body[2])) {
+        Entry::Width(col as u8, body[2])
+    } else {
+        Entry::Nothing
+    }
+}
+
+// A cell's content and value, with the format byte of its head.
+pub fn state(body: &[u8], content: Content, value: Value) -> CellState
+    requires { 1 ≤ length body.now }
+    ensures { result ≡ state_of body.now content value }
+{
+    CellState {
+        content,
+        value,
+        format: Format(body[0]),
+    }
+}
+
+/// What the record of a blank cell says.
+pub fn blank_in(body: &[u8], cell: Cell) -> Entry
+    requires length { 5 ≤ length body.now }
+    requires cell { cell ≡ cell_of body.now }
+    ensures { result ≡ entry.State (cell_of body.now) (state_of body.now content.Blank value.Blank) }
+{
+    Entry::State(cell, state(body, Content::Blank, Value::Blank))
+}
+
+/// What the record of a whole number says.
+pub fn integer_in(body: &[u8], cell: Cell) -> Entry
+    requires length { 7 ≤ length body.now }
+    requires cell { cell ≡ cell_of body.now }
+    ensures { result ≡ entry.State (cell_of body.now) (numbered body.now (short_value (short_at 5 body.now))) }
+{
+    let number = short_value(short_at(body, 5));
+    Entry::State(
+        cell,
+        state(body, Content::Number(number), Value::Num(number)),
+    )
+}
+
+// What the record of a text says that is a formula's value.
+pub fn text_in(alloc: Global, body: &[u8], number: u32, cell: Cell) -> Result<Entry, Wk1Fault>
+    requires length { 5 ≤ length body.now }
+    requires cell { cell ≡ cell_of body.now }
+    ensures { Gives result (text_entry number body.now (before_zero (drop 5 body.now))) }
+{
+    let Some(bytes) = before_zero(bytes_from(body, 5)) else {
+        return Err(Wk1Fault::BadText(number));
+    };
+    if !is_text(bytes) {
+        return Err(Wk1Fault::BadText(number));
+    }
+    match Text::copy_of(alloc, bytes) {
+        Ok(text) => Ok(Entry::Text(cell, text)),
+        Err(Memory) => Err(Wk1Fault::Memory),
+    }
+}
+
+// A label's prefix, and how many bytes it takes.
+fn label_prefix(bytes: &[u8]) -> (LabelPrefix, usize)
+    ensures prefix { result.0 ≡ (label_of bytes.now).0 }
+    ensures within { result.1 ≤ length bytes.now }
+    ensures rest { drop result.1 bytes.now ≡ (label_of bytes.now).1 }
+{
+    if bytes.len() == 0 {
+        return (LabelPrefix::Left, 0);
+    }
+    match LabelPrefix::of(bytes[0]) {
+        Some(prefix) => (prefix, 1),
+        None => (LabelPrefix::Left, 0),
+    }
+}
+
+// The state of a label, of bytes that are a text's.
+fn label_of(
+    alloc: Global,
+    body: &[u8],
+    prefix: LabelPrefix,
+    bytes: &[u8],
+) -> Result<CellState, Memory>
+    requires length { 1 ≤ length body.now }
+    requires text { is_text bytes.now ≡ true }
+    ensures { IfOk result (λ s. s ≡ state_of body.now (content.Label prefix bytes.now) (value.Str bytes.now)) }
+{
+    let text = Text::copy_of(alloc, bytes)?;
+    let value = text.copy()?;
+    Ok(state(body, Content::Label(prefix, text), Value::Str(value)))
+}
+
+// What the record of a label says.
+pub fn label_in(alloc: Global, body: &[u8], number: u32, cell: Cell) -> Result<Entry, Wk1Fault>
+    requires length { 5 ≤ length body.now }
+    requires cell { cell ≡ cell_of body.now }
+    ensures { Gives result (label_state number body.now (before_zero (drop 5 body.now))) }
+{
+    let Some(bytes) = before_zero(bytes_from(body, 5)) else {
+        return Err(Wk1Fault::BadText(number));
+    };
+    let (prefix, count) = label_prefix(bytes);
+    let text = bytes_from(bytes, count);
+    if !is_text(text) {
+        return Err(Wk1Fault::BadText(number));
+    }
+    match label_of(alloc, body, prefix, text) {
+        Ok(state) => Ok(Entry::State(cell, state)),
+        Err(Memory) => Err(Wk1Fault::Memory),
+    }
+}
+
+// The eight bytes behind a head, as a double.
+fn double_in(body: &[u8]) -> DoubleRead
+    requires { 13 ≤ length body.now }
+    ensures { result ≡ double_at 5 body.now }
+{
+    from_double_bits(first_long(bytes_from(body, 5)))
+}
+
+// The value that stands with a formula.
+fn stored_value(read: DoubleRead) -> Value
+    ensures { result ≡ stored_value read }
+{
+    match read {
+        DoubleRead::Num(number) => Value::Num(number),
+        DoubleRead::Err => Value::Err,
+        DoubleRead::Na => Value::Na,
+        DoubleRead::TooLarge => Value::Err,
+    }
+}
+
+// The bytes of a formula's code.
+fn code_in(body: &[u8]) -> &[u8]
+    requires { 15 + short_at 13 body.now ≤ length body.now }
+    ensures code { result.now ≡ code_in body.now }
+    ensures size { length result.now ≤ 65535 }
+{
+    let size = usize::from(short_at(body, 13));
+    &bytes_from(body, 15)[..size]
+}
+
+// What the record of a formula says.
+pub fn formula_in(alloc: Global, body: &[u8], number: u32, cell: Cell) -> Result<Entry, Wk1Fault>
+    requires length { 15 + short_at 13 body.now ≤ length body.now }
+    requires cell { cell ≡ cell_of body.now }
+    ensures { Gives result (formula_state number body.now (tree_in (code_in body.now))) }
+{
+    match read_code(alloc, code_in(body)) {
+        Ok(formula) => {
+            let value = stored_value(double_in(body));
+            Ok(Entry::Formula(cell, state(body, Content::Formula(formula), value)))
+        }
+        Err(CodeFault::Bad(at)) => Err(Wk1Fault::BadCode(number, at)),
+        Err(CodeFault::Outside(function)) => Err(Wk1Fault::FunctionOutside(number, function)),
+        Err(CodeFault::TooLarge) => Err(Wk1Fault::NumberTooLarge(number)),
+        Err(CodeFault::TooDeep) => Err(Wk1Fault::TooDeep(number)),
+        Err(CodeFault::Memory) => Err(Wk1Fault::Memory),
+    }
+}
+
+// The span at two places, where both are in the sheet and in order.
+pub fn span_at(body: &[u8]) -> Option<Span>
+    requires { 24 ≤ length body.now }
+    ensures some { IfSome result (λ s. (is_span (place_at 16 body.now) (place_at 20 body.now) ≡ true) × (s ≡ record { first = place_at 16 body.now; last = place_at 20 body.now })) }
+    ensures none { IfNone result (is_span (place_at 16 body.now) (place_at 20 body.now) ≡ false) }
+{
+    let Some(first) = cell_at(body, 16) else {
+        return None;
+    };
+    let Some(last) = cell_at(body, 20) else {
+        return None;
+    };
+    if first.row <= last.row && first.col <= last.col {
+        Some(Span { first, last })
+    } else {
+        None
+    }
+}
+
+// The formula of a call without arguments.
+fn constant(alloc: Global, function: Function) -> Result<Formula, Memory>
+    ensures { IfOk result (λ f. f ≡ call function no_trees) }
+{
+    let expr = Expr::Call(function, ExprList::new(alloc));
+    match Formula::of(alloc, expr) {
+        Ok(formula) => Ok(formula),
+        Err(_) => Err(Memory),
+    }
+}
+
+// The cell of a number that is ERR or NA.
+fn constant_in(
+    alloc: Global,
+    body: &[u8],
+    cell: Cell,
+    function: Function,
+    value: Value,
+) -> Result<Entry, Wk1Fault>
+    requires length { 13 ≤ length body.now }
+    requires cell { cell ≡ cell_of body.now }
+    ensures { Gives result (Ok (entry.State (cell_of body.now) (state_of body.now (constant function) value))) }
+{
+    match constant(alloc, function) {
+        Ok(formula) => Ok(Entry::State(cell, state(body, Content::Formula(formula), value))),
+        Err(Memory) => Err(Wk1Fault::Memory),
+    }
+}
+
+// What the record of a number says.
+pub fn number_in(alloc: Global, body: &[u8], number: u32, cell: Cell) -> Result<Entry, Wk1Fault>
+    requires length { 13 ≤ length body.now }
+    requires cell { cell ≡ cell_of body.now }
+    ensures { Gives result (number_state number body.now (double_at 5 body.now)) }
+{
+    match double_in(body) {
+        DoubleRead::Num(read) => Ok(Entry::State(
+            cell,
+            state(body, Content::Number(read), Value::Num(read)),
+        )),
+        DoubleRead::Err => constant_in(alloc, body, cell, Function::Err, Value::Err),
+        DoubleRead::Na => constant_in(alloc, body, cell, Function::Na, Value::Na),
+        DoubleRead::TooLarge => Err(Wk1Fault::NumberTooLarge(number)),
+    }
+}
