@@ -1,0 +1,161 @@
+-- The records that are saved of a sheet, in their order.
+use Rattle.std.specs.Int.{to_le_bytes, w16, w64}
+use Rattle.std.specs.Int.RustNames.{int_lt}
+use Rattle.std.specs.List.{list_any, range_with_len}
+use Rattle.std.specs.Prelude.{ℕ, ◌+◌, ◌-◌, ◌*◌, ◌/◌, ◌%◌, ◌^◌, ℤ, pos, nat_abs, Bool, true, false, ◌&&◌, ◌||◌, ◌==◌, nat_le, map, flat_map, sum, replicate, get_or, Option, Some, None, List, [], ◌∷◌, ◌++◌, length, if◌then◌else◌}
+use Rattle.std.specs.FinMap as finite
+use Rattle.grid_address.specs.Place.{Extent, Place}
+use Rattle.formula_tree.specs.declared.value.Content.{Content}
+use Rattle.formula_tree.specs.declared.value.Content.TheVariants as content
+use Rattle.formula_tree.specs.declared.value.Value.{Value}
+use Rattle.formula_tree.specs.declared.value.Value.TheVariants as value
+use Rattle.range_names.specs.Names.{name_in, NameMap}
+use Rattle.sheet_store.specs.Choices.{Choices}
+use Rattle.sheet_store.specs.Grid.{last_used, width_of, Grid}
+use Rattle.sheet_store.specs.declared.order.Order.{Order}
+use Rattle.sheet_store.specs.declared.order.Order.TheVariants.{Natural, Columnwise, Rowwise}
+use Rattle.sheet_store.specs.declared.state.CellState.{CellState}
+use Rattle.sheet_store.specs.declared.writes.SavedSheet.{SavedSheet}
+use Rattle.wk1_formula.specs.Doubles.{bits_of}
+use Rattle.wk1_formula.specs.Written.{code_of}
+use Rattle.wk1_records.specs.Bodies.{head, made, place_bytes}
+use Rattle.wk1_records.specs.Records.{pieces_bytes, Piece}
+use Rattle.wk1_records.specs.declared.kind.Kind.{Kind}
+use Rattle.wk1_records.specs.declared.kind.Kind.TheVariants as kind
+use Rattle.lics_text.specs.Prefixes.{prefix_byte}
+
+-- a whole number of -32768 to 32767, in millionths
+abbrev pub is_integer : ℤ → Bool
+is_integer v =
+    (nat_abs v % 1000000 == 0) && (nat_le (nat_abs v) 32767000000 || (int_lt v (pos 0) && (nat_abs v == 32768000000)))
+
+-- the two bytes of a whole number, in two's complement
+abbrev pub integer_bytes : ℤ → List ℕ
+integer_bytes v = to_le_bytes w16 (if int_lt v (pos 0) then 65536 - nat_abs v / 1000000 else nat_abs v / 1000000)
+
+-- a number takes two bytes where they hold it, and else the eight of a double
+abbrev pub number_piece : Place → CellState → ℤ → Piece
+number_piece p s v =
+    if is_integer v then made kind.Integer (head p s ++ integer_bytes v)
+    else made kind.Number (head p s ++ to_le_bytes w64 (bits_of v))
+
+-- the eight bytes of a formula's value; a text stands in a record of its own
+abbrev pub value_bits : Value → ℕ
+value_bits value.Blank = 0
+value_bits (value.Num v) = bits_of v
+value_bits (value.Str t) = 0
+value_bits value.Err = 9218868437227405312
+value_bits value.Na = 18442240474082181120
+
+-- a formula's value, the length of its code, and its code
+abbrev pub formula_piece : Place → CellState → List ℕ → Piece
+formula_piece p s code =
+    made kind.Formula (head p s ++ (to_le_bytes w64 (value_bits s.value) ++ (to_le_bytes w16 (length code) ++ code)))
+
+-- 0 is natural, 1 is by columns and 255 is by rows
+abbrev pub order_byte : Order → ℕ
+order_byte Natural = 0
+order_byte Columnwise = 1
+order_byte Rowwise = 255
+
+-- a byte for what is on, and 0 for what is off
+abbrev pub on_byte : Bool → ℕ → ℕ
+on_byte true n = n
+on_byte false n = 0
+
+-- a byte of eight columns, the lowest bit first
+abbrev pub bits_byte : List Bool → ℕ → ℕ
+bits_byte bits k = sum (map (λ j. on_byte (get_or bits (8 * k + j) false) (2 ^ j)) (range_with_len 0 8))
+
+-- eight columns to a byte
+unfoldable pub bits_bytes : List Bool → List ℕ
+bits_bytes bits = map (bits_byte bits) (range_with_len 0 32)
+
+-- BOF says that the file is of Release 2
+abbrev pub bof : Piece
+bof = made kind.Bof (6 ∷ 4 ∷ [])
+
+-- EOF has no body
+abbrev pub eof : Piece
+eof = made kind.Eof []
+
+-- A1, and the last used column and row; A1 where there is none
+abbrev pub range_piece : Option Place → Piece
+range_piece None =
+    made kind.Range (place_bytes (record { row = 0; col = 0 }) ++ place_bytes (record { row = 0; col = 0 }))
+range_piece (Some p) = made kind.Range (place_bytes (record { row = 0; col = 0 }) ++ place_bytes p)
+
+-- the pointer, the global format and width, and 23 bytes that mean nothing here
+abbrev pub window_piece : Choices → Piece
+window_piece c = made kind.Window (place_bytes c.pointer ++ c.format ∷ 0 ∷ (to_le_bytes w16 c.width ++ replicate 23 0))
+
+-- the settings, one record each
+abbrev pub settings_pieces : Choices → List Piece
+settings_pieces c =
+    made kind.CalcCount (c.passes ∷ [])
+    ∷ made kind.CalcMode (on_byte c.automatic 255 ∷ [])
+    ∷ made kind.CalcOrder (order_byte c.order ∷ [])
+    ∷ made kind.Protection (on_byte c.protection 1 ∷ [])
+    ∷ made kind.LabelFormat (prefix_byte c.prefix ∷ [])
+    ∷ window_piece c
+    ∷ []
+
+-- a column and its own width, where it has one
+abbrev pub width_piece : ℕ → Option ℕ → List Piece
+width_piece col None = []
+width_piece col (Some w) = made kind.ColumnWidth (to_le_bytes w16 col ++ w ∷ []) ∷ []
+
+-- the columns of a sheet
+unfoldable pub columns : List ℕ
+columns = range_with_len 0 256
+
+-- the own widths, by column
+abbrev pub width_pieces : Grid → List Piece
+width_pieces g = flat_map (λ col. width_piece col (width_of g col)) columns
+
+-- the hidden columns, where there is one
+abbrev pub hidden_pieces : List Bool → List Piece
+hidden_pieces bits = if list_any (λ b. b) bits then made kind.HiddenColumns (bits_bytes bits) ∷ [] else []
+
+-- 16 bytes of a name with zeros behind it, and the corners of its span
+abbrev pub name_piece : List ℕ → Extent → Piece
+name_piece name span =
+    made kind.Name (name ++ (replicate (16 - length name) 0 ++ (place_bytes span.first ++ place_bytes span.last)))
+
+-- the names, in byte order
+abbrev pub names_pieces : NameMap → List Piece
+names_pieces names = map (λ e. name_piece (name_in e.0) e.1) (finite.entries names)
+
+-- the text of a formula's value stands behind the formula
+abbrev pub text_pieces : Place → CellState → Value → List Piece
+text_pieces p s value.Blank = []
+text_pieces p s (value.Num v) = []
+text_pieces p s (value.Str t) = made kind.Str (head p s ++ (t ++ 0 ∷ [])) ∷ []
+text_pieces p s value.Err = []
+text_pieces p s value.Na = []
+
+-- one record for a cell, and a second for a formula whose value is a text
+abbrev pub content_pieces : Place → CellState → Content → List Piece
+content_pieces p s content.Blank = made kind.Blank (head p s) ∷ []
+content_pieces p s (content.Number v) = number_piece p s v ∷ []
+content_pieces p s (content.Label prefix t) = made kind.Label (head p s ++ prefix_byte prefix ∷ (t ++ 0 ∷ [])) ∷ []
+content_pieces p s (content.Formula f) = formula_piece p s (code_of f p) ∷ text_pieces p s s.value
+
+-- the records of a cell
+abbrev pub cell_pieces : Place × CellState → List Piece
+cell_pieces e = content_pieces e.0 e.1 e.1.content
+
+-- the records of a sheet before the EOF, in the one order
+abbrev pub records_before : SavedSheet → List Piece
+records_before s =
+    (bof ∷ range_piece (last_used s.store) ∷ settings_pieces s.settings)
+    ++ (width_pieces s.store
+    ++ (hidden_pieces s.store.hidden ++ (names_pieces s.names ++ flat_map cell_pieces (finite.entries s.store.cells))))
+
+-- the records of a sheet
+abbrev pub saved : SavedSheet → List Piece
+saved s = records_before s ++ eof ∷ []
+
+-- the bytes of the file
+abbrev pub file_bytes : SavedSheet → List ℕ
+file_bytes s = pieces_bytes (saved s)

@@ -1,0 +1,102 @@
+// Worksheet files read.
+ghost use Rattle.std.specs.Prelude.{◌≡◌, ◌≤◌, ◌<◌, ◌+◌, ◌++◌, ◌⊎◌, Ok, Err, OnOk, IfErr, length, drop};
+ghost use Rattle.wk1_file.specs.Files.{has_bof, IsFile};
+ghost use Rattle.wk1_records.specs.Meanings.{meaning_by};
+ghost use Rattle.wk1_file.specs.Sheets.{start, taken};
+ghost use Rattle.wk1_file.specs.Takes.{as_progress, IsMinded, Makes};
+ghost use Rattle.wk1_records.specs.declared.entry.Entry.{Entry};
+ghost use Rattle.wk1_records.specs.declared.fault.Wk1Fault.TheVariants as fault;
+
+use crate::take::{Loading, take};
+use lics_text::Memory;
+use range_names::Names;
+use sheet_store::{SavedSheet, Settings, Store};
+use std::alloc::Global;
+use wk1_formula::{bytes_from, short_at};
+use wk1_records::{Kind, Wk1Fault, entry_of, front_piece, kind_of};
+
+/// The most bytes of a file (this project's choice).
+const MOST_BYTES: usize = 67_108_864;
+
+/// The type and the length of a BOF, and the three releases whose files are read (worksheet file format).
+fn has_bof(bytes: &[u8]) -> bool
+    ensures { result ≡ has_bof bytes.now }
+{
+    bytes.len() >= 6
+        && short_at(bytes, 0) == 0
+        && short_at(bytes, 2) >= 2
+        && short_at(bytes, 4) >= 0x0404
+        && short_at(bytes, 4) <= 0x0406
+}
+
+// A fresh sheet.
+fn fresh(alloc: Global) -> Loading
+    ensures { as_progress result ≡ start }
+{
+    Loading {
+        sheet: SavedSheet {
+            store: Store::new(alloc),
+            names: Names::new(alloc),
+            settings: Settings::fresh(),
+        },
+        formula: None,
+    }
+}
+
+// Takes what one more record says.
+fn take_record(
+    alloc: Global,
+    loading: &mut Loading,
+    number: u32,
+    kind: Kind,
+    body: &[u8],
+) -> Result<(), Wk1Fault>
+    requires { IsMinded (as_progress loading.old) }
+    ensures taken { OnOk result ((e : Entry) × (meaning_by number body.now kind ≡ Ok e) × (as_progress loading.new ≡ taken (as_progress loading.old) e)) }
+    ensures minded { OnOk result (IsMinded (as_progress loading.new)) }
+    ensures fault { IfErr result (λ f. (f ≡ fault.Memory) ⊎ (meaning_by number body.now kind ≡ Err f)) }
+{
+    match entry_of(alloc, number, kind, body) {
+        Ok(entry) => match take(loading, entry) {
+            Ok(()) => Ok(()),
+            Err(Memory) => Err(Wk1Fault::Memory),
+        },
+        Err(fault) => Err(fault),
+    }
+}
+
+// The sheet of the records, or their first fault.
+fn read_records(alloc: Global, bytes: &[u8]) -> Result<SavedSheet, Wk1Fault>
+    requires { length bytes.now ≤ 67108864 }
+    ensures { (result ≡ Err fault.Memory) ⊎ Makes bytes.now result }
+{
+    let mut loading = fresh(alloc);
+    let mut at = 0;
+    let mut number: u32 = 0;
+    while let Some((kind, body)) = front_piece(bytes_from(bytes, at)) {
+        if kind == 1 {
+            return Ok(loading.sheet);
+        }
+        match take_record(alloc, &mut loading, number, kind_of(kind), body) {
+            Ok(()) => {}
+            Err(fault) => return Err(fault),
+        }
+        at += 4 + body.len();
+        number += 1;
+    }
+    Err(Wk1Fault::Truncated(at as u32))
+}
+
+/// The sheet that the bytes of a worksheet file mean, or the first fault in file order; a file that is too large comes
+/// before all others, and then one that begins with no BOF. It passes over the bytes once.
+pub fn read(alloc: Global, bytes: &[u8]) -> Result<SavedSheet, Wk1Fault>
+    ensures { (result ≡ Err fault.Memory) ⊎ IsFile bytes.now result }
+{
+    if bytes.len() > MOST_BYTES {
+        return Err(Wk1Fault::FileTooLarge);
+    }
+    if !has_bof(bytes) {
+        return Err(Wk1Fault::NoBof);
+    }
+    read_records(alloc, bytes)
+}

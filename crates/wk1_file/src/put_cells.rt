@@ -1,0 +1,301 @@
+// The records of a cell.
+ghost use Rattle.std.specs.Int.RustNames.{int_lt};
+ghost use Rattle.std.specs.Int.{to_le_bytes, w16, w64};
+ghost use Rattle.std.specs.Prelude.{◌≡◌, ◌≤◌, ◌<◌, ◌+◌, ◌++◌, ◌∷◌, [], OnOk, pos, true, length, flat_map, nat_abs};
+ghost use Rattle.std.specs.FinMap as finite;
+ghost use Rattle.std.specs.List.{AllByRecursion};
+ghost use Rattle.lics_text.specs.Prefixes.{prefix_byte};
+ghost use Rattle.formula_tree.specs.Ranges.{is_text};
+ghost use Rattle.wk1_file.specs.Said.{IsContent, IsValue};
+ghost use Rattle.formula_tree.specs.Shape.{IsFormula};
+ghost use Rattle.wk1_formula.specs.Doubles.{bits_of};
+ghost use Rattle.wk1_formula.specs.Written.{code_of};
+ghost use Rattle.wk1_records.specs.Records.{piece_bytes, pieces_bytes};
+ghost use Rattle.wk1_records.specs.declared.kind.Kind.TheVariants as kind;
+ghost use Rattle.wk1_records.specs.Bodies.{head, made};
+ghost use Rattle.wk1_file.specs.Saved.{cell_pieces, content_pieces, formula_piece, text_pieces, integer_bytes, is_integer, number_piece, value_bits};
+
+use fixed_value::Fixed;
+use formula_tree::{Content, Formula, Value};
+use grid_address::Cell;
+use lics_text::{LabelPrefix, Memory, Text};
+use sheet_store::{CellState, Store};
+use std::alloc::Global;
+use wk1_formula::{double_bits, put, put_short, write_code};
+use wk1_records::{Kind, put_head, put_piece};
+
+// The body of a record begins with the head of its cell.
+fn begin(cell: Cell, state: &CellState, body: &mut Vec<u8>) -> Result<(), Memory>
+    ensures { OnOk result (body.new.items ≡ head cell state.now) }
+{
+    body.clear();
+    put_head(cell, state, body)
+}
+
+/// Adds the record of a blank cell.
+pub fn put_blank(
+    cell: Cell,
+    state: &CellState,
+    body: &mut Vec<u8>,
+    into: &mut Vec<u8>,
+) -> Result<(), Memory>
+    ensures { OnOk result (into.new.items ≡ into.old.items ++ piece_bytes (made kind.Blank (head cell state.now))) }
+{
+    begin(cell, state, body)?;
+    put_piece(Kind::Blank, body.as_slice(), into)
+}
+
+/// Adds the record of a label.
+pub fn put_label(
+    cell: Cell,
+    state: &CellState,
+    prefix: LabelPrefix,
+    text: &Text,
+    body: &mut Vec<u8>,
+    into: &mut Vec<u8>,
+) -> Result<(), Memory>
+    ensures { OnOk result (into.new.items ≡ into.old.items ++ piece_bytes (made kind.Label (head cell state.now ++ prefix_byte prefix ∷ (text.now ++ 0 ∷ [])))) }
+{
+    begin(cell, state, body)?;
+    put(&[prefix.byte()], body)?;
+    put(text.bytes(), body)?;
+    put(&[0], body)?;
+    put_piece(Kind::Label, body.as_slice(), into)
+}
+
+/// Adds the record of a text that is a formula's value.
+pub fn put_text(
+    cell: Cell,
+    state: &CellState,
+    text: &Text,
+    body: &mut Vec<u8>,
+    into: &mut Vec<u8>,
+) -> Result<(), Memory>
+    ensures { OnOk result (into.new.items ≡ into.old.items ++ piece_bytes (made kind.Str (head cell state.now ++ (text.now ++ 0 ∷ [])))) }
+{
+    begin(cell, state, body)?;
+    put(text.bytes(), body)?;
+    put(&[0], body)?;
+    put_piece(Kind::Str, body.as_slice(), into)
+}
+
+// The bits of a formula's value.
+fn value_bits(value: &Value) -> u64
+    ensures { result ≡ value_bits value.now }
+{
+    match value {
+        Value::Blank => 0,
+        Value::Num(number) => double_bits(*number),
+        Value::Str(_) => 0,
+        Value::Err => 0x7FF0_0000_0000_0000,
+        Value::Na => 0xFFF0_0000_0000_0000,
+    }
+}
+
+// A formula's code alone.
+fn code_alone(formula: &Formula, cell: Cell, code: &mut Vec<u8>) -> Result<(), Memory>
+    ensures code { OnOk result (code.new.items ≡ code_of formula.now cell) }
+    ensures size { length (code_of formula.now cell) ≤ 65520 }
+{
+    let _ = formula.expr();
+    code.clear();
+    write_code(formula, cell, code)
+}
+
+/// Adds the record of a formula.
+pub fn put_formula(
+    cell: Cell,
+    state: &CellState,
+    formula: &Formula,
+    code: &mut Vec<u8>,
+    body: &mut Vec<u8>,
+    into: &mut Vec<u8>,
+) -> Result<(), Memory>
+    ensures { OnOk result (into.new.items ≡ into.old.items ++ piece_bytes (formula_piece cell state.now (code_of formula.now cell))) }
+{
+    code_alone(formula, cell, code)?;
+    begin(cell, state, body)?;
+    put(&value_bits(&state.value).to_le_bytes(), body)?;
+    put_short(code.len() as u16, body)?;
+    put(code.as_slice(), body)?;
+    put_piece(Kind::Formula, body.as_slice(), into)
+}
+
+// A whole number of -32768 to 32767.
+fn is_integer(number: Fixed) -> bool
+    ensures { result ≡ is_integer number }
+{
+    let millionths = number.millionths();
+    let size = millionths.unsigned_abs();
+    size % 1_000_000 == 0 && (size <= 32_767_000_000 || (millionths < 0 && size == 32_768_000_000))
+}
+
+// The two bytes of a whole number, in two's complement.
+fn whole_of(number: Fixed) -> u16
+    requires { is_integer number ≡ true }
+    ensures { to_le_bytes w16 result ≡ integer_bytes number }
+{
+    let millionths = number.millionths();
+    let whole = millionths.unsigned_abs() / 1_000_000;
+    if millionths < 0 {
+        (65_536 - whole) as u16
+    } else {
+        whole as u16
+    }
+}
+
+// Adds the record of a whole number of two bytes.
+fn put_integer(
+    cell: Cell,
+    state: &CellState,
+    number: Fixed,
+    body: &mut Vec<u8>,
+    into: &mut Vec<u8>,
+) -> Result<(), Memory>
+    requires { is_integer number ≡ true }
+    ensures { OnOk result (into.new.items ≡ into.old.items ++ piece_bytes (made kind.Integer (head cell state.now ++ integer_bytes number))) }
+{
+    begin(cell, state, body)?;
+    put_short(whole_of(number), body)?;
+    put_piece(Kind::Integer, body.as_slice(), into)
+}
+
+// Adds the record of a number as a double.
+fn put_double(
+    cell: Cell,
+    state: &CellState,
+    number: Fixed,
+    body: &mut Vec<u8>,
+    into: &mut Vec<u8>,
+) -> Result<(), Memory>
+    ensures { OnOk result (into.new.items ≡ into.old.items ++ piece_bytes (made kind.Number (head cell state.now ++ to_le_bytes w64 (bits_of number)))) }
+{
+    begin(cell, state, body)?;
+    put(&double_bits(number).to_le_bytes(), body)?;
+    put_piece(Kind::Number, body.as_slice(), into)
+}
+
+/// Adds the record of a number: INTEGER where two bytes hold it.
+pub fn put_number(
+    cell: Cell,
+    state: &CellState,
+    number: Fixed,
+    body: &mut Vec<u8>,
+    into: &mut Vec<u8>,
+) -> Result<(), Memory>
+    ensures { OnOk result (into.new.items ≡ into.old.items ++ piece_bytes (number_piece cell state.now number)) }
+{
+    if is_integer(number) {
+        put_integer(cell, state, number, body, into)
+    } else {
+        put_double(cell, state, number, body, into)
+    }
+}
+
+// Adds the text that is a formula's value, where it is one.
+fn put_value(
+    cell: Cell,
+    state: &CellState,
+    body: &mut Vec<u8>,
+    into: &mut Vec<u8>,
+) -> Result<(), Memory>
+    ensures { OnOk result (into.new.items ≡ into.old.items ++ pieces_bytes (text_pieces cell state.now state.now.value)) }
+{
+    match &state.value {
+        Value::Str(text) => put_text(cell, state, text, body, into),
+        Value::Blank | Value::Num(_) | Value::Err | Value::Na => Ok(()),
+    }
+}
+
+// Adds the records of a formula and of its value.
+fn put_formula_value(
+    cell: Cell,
+    state: &CellState,
+    formula: &Formula,
+    code: &mut Vec<u8>,
+    body: &mut Vec<u8>,
+    into: &mut Vec<u8>,
+) -> Result<(), Memory>
+    ensures { OnOk result (into.new.items ≡ into.old.items ++ pieces_bytes (formula_piece cell state.now (code_of formula.now cell) ∷ text_pieces cell state.now state.now.value)) }
+{
+    put_formula(cell, state, formula, code, body, into)?;
+    put_value(cell, state, body, into)
+}
+
+/// Adds the records of a cell.
+pub fn put_cell(
+    cell: Cell,
+    state: &CellState,
+    code: &mut Vec<u8>,
+    body: &mut Vec<u8>,
+    into: &mut Vec<u8>,
+) -> Result<(), Memory>
+    ensures { OnOk result (into.new.items ≡ into.old.items ++ pieces_bytes (content_pieces cell state.now state.now.content)) }
+{
+    match &state.content {
+        Content::Blank => put_blank(cell, state, body, into),
+        Content::Number(number) => put_number(cell, state, *number, body, into),
+        Content::Label(prefix, text) => put_label(cell, state, *prefix, text, body, into),
+        Content::Formula(formula) => put_formula_value(cell, state, formula, code, body, into),
+    }
+}
+
+// A number is below 1,000,000,000 in size. Nothing is done: the contract says it.
+fn number_is_sized(number: Fixed)
+    ensures { nat_abs number ≤ 999999999999999 }
+{
+    let _ = number.millionths();
+}
+
+// A text has at most 240 bytes, each at least 32. Nothing is done: the contract says it.
+#[tactic(auto, using(formula_tree::proofs::Ranged::as_text))]
+fn text_is_short(text: &Text)
+    ensures { is_text text.now ≡ true }
+{
+    let _ = text.bytes();
+}
+
+// What a content keeps by its type. Nothing is done: the contract says it.
+fn is_content(content: &Content)
+    ensures { IsContent content.now }
+{
+    match content {
+        Content::Blank => {}
+        Content::Number(number) => number_is_sized(*number),
+        Content::Label(_, text) => text_is_short(text),
+        Content::Formula(formula) => {
+            let _ = formula.expr();
+        }
+    }
+}
+
+// What a value keeps by its type. Nothing is done: the contract says it.
+fn is_value(value: &Value)
+    ensures { IsValue value.now }
+{
+    match value {
+        Value::Num(number) => number_is_sized(*number),
+        Value::Str(text) => text_is_short(text),
+        Value::Blank | Value::Err | Value::Na => {}
+    }
+}
+
+/// Adds the records of the cells, in row order.
+pub fn put_cells(
+    alloc: Global,
+    store: &Store,
+    body: &mut Vec<u8>,
+    into: &mut Vec<u8>,
+) -> Result<(), Memory>
+    ensures bytes { OnOk result (into.new.items ≡ into.old.items ++ pieces_bytes (flat_map cell_pieces (finite.entries store.now.cells))) }
+    ensures ranged { OnOk result (AllByRecursion (λ e. IsContent e.1.content × IsValue e.1.value) (finite.entries store.now.cells)) }
+{
+    let mut code = Vec::new(alloc);
+    let mut entries = store.entries();
+    while let Some(entry) = entries.next() {
+        is_content(&entry.1.content);
+        is_value(&entry.1.value);
+        put_cell(entry.0, entry.1, &mut code, body, into)?;
+    }
+    Ok(())
+}

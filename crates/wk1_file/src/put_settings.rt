@@ -1,0 +1,179 @@
+// The records of the settings, of the used span, of own widths and of hidden columns.
+ghost use Rattle.std.specs.Int.{to_le_bytes, w16};
+ghost use Rattle.std.specs.Prelude.{ℕ, ◌≡◌, ◌≤◌, ◌<◌, ◌+◌, ◌*◌, ◌++◌, ◌∷◌, [], OnOk, OnErr, None, false, get_or, length};
+ghost use Rattle.std.specs.Option.{ForSome};
+ghost use Rattle.std.specs.List.{list_any};
+ghost use Rattle.lics_text.specs.Prefixes.{prefix_byte};
+ghost use Rattle.grid_address.specs.Place.{Place};
+ghost use Rattle.sheet_store.specs.Grid.{last_used, width_of};
+ghost use Rattle.wk1_records.specs.Records.{piece_bytes, pieces_bytes};
+ghost use Rattle.wk1_records.specs.declared.kind.Kind.TheVariants as kind;
+ghost use Rattle.wk1_records.specs.Bodies.{made};
+ghost use Rattle.wk1_file.specs.Saved.{bits_byte, bits_bytes, hidden_pieces, on_byte, order_byte, range_piece, settings_pieces, width_piece, width_pieces, window_piece};
+
+use grid_address::Cell;
+use lics_text::{LabelPrefix, Memory};
+use sheet_store::{Order, Settings, Store};
+use wk1_formula::{put, put_short};
+use wk1_records::{Kind, put_piece, put_place};
+
+// A byte for what is on, and 0 for what is off.
+fn on_byte(on: bool, byte: u8) -> u8
+    ensures byte { result ≡ on_byte on byte }
+    ensures most { result ≤ byte }
+{
+    if on { byte } else { 0 }
+}
+
+// The byte of an order.
+fn order_byte(order: Order) -> u8
+    ensures { result ≡ order_byte order }
+{
+    match order {
+        Order::Natural => 0,
+        Order::Columnwise => 1,
+        Order::Rowwise => 255,
+    }
+}
+
+// Adds the record of the pointer, the global format and the global width.
+fn put_window(settings: Settings, body: &mut Vec<u8>, into: &mut Vec<u8>) -> Result<(), Memory>
+    ensures { OnOk result (into.new.items ≡ into.old.items ++ piece_bytes (window_piece settings)) }
+{
+    body.clear();
+    put_place(settings.pointer, body)?;
+    put(&[settings.format.0, 0], body)?;
+    put_short(u16::from(settings.width), body)?;
+    put(&[0; 23], body)?;
+    put_piece(Kind::Window, body.as_slice(), into)
+}
+
+// Adds the record of the label prefix.
+fn put_prefix(prefix: LabelPrefix, into: &mut Vec<u8>) -> Result<(), Memory>
+    ensures { OnOk result (into.new.items ≡ into.old.items ++ piece_bytes (made kind.LabelFormat (prefix_byte prefix ∷ []))) }
+{
+    let byte = prefix.byte();
+    put_piece(Kind::LabelFormat, &[byte], into)
+}
+
+// Adds the records of the other settings, one byte each.
+fn put_choices(settings: Settings, into: &mut Vec<u8>) -> Result<(), Memory>
+    ensures { OnOk result (into.new.items ≡ into.old.items ++ pieces_bytes (made kind.CalcCount (settings.passes ∷ []) ∷ made kind.CalcMode (on_byte settings.automatic 255 ∷ []) ∷ made kind.CalcOrder (order_byte settings.order ∷ []) ∷ made kind.Protection (on_byte settings.protection 1 ∷ []) ∷ made kind.LabelFormat (prefix_byte settings.prefix ∷ []) ∷ [])) }
+{
+    put_piece(Kind::CalcCount, &[settings.passes], into)?;
+    put_piece(Kind::CalcMode, &[on_byte(settings.automatic, 255)], into)?;
+    put_piece(Kind::CalcOrder, &[order_byte(settings.order)], into)?;
+    put_piece(Kind::Protection, &[on_byte(settings.protection, 1)], into)?;
+    put_prefix(settings.prefix, into)
+}
+
+/// Adds the records of the settings.
+pub fn put_settings(
+    settings: Settings,
+    body: &mut Vec<u8>,
+    into: &mut Vec<u8>,
+) -> Result<(), Memory>
+    ensures { OnOk result (into.new.items ≡ into.old.items ++ pieces_bytes (settings_pieces settings)) }
+{
+    put_choices(settings, into)?;
+    put_window(settings, body, into)
+}
+
+/// Adds the record of the used span, from A1 on.
+pub fn put_range(last: Option<Cell>, body: &mut Vec<u8>, into: &mut Vec<u8>) -> Result<(), Memory>
+    ensures { OnOk result (into.new.items ≡ into.old.items ++ piece_bytes (range_piece last)) }
+{
+    body.clear();
+    put_place(Cell { row: 0, col: 0 }, body)?;
+    match last {
+        Some(cell) => put_place(cell, body)?,
+        None => put_place(Cell { row: 0, col: 0 }, body)?,
+    }
+    put_piece(Kind::Range, body.as_slice(), into)
+}
+
+// Adds the record of a column's own width, where it has one.
+fn put_width(col: u16, width: Option<u8>, into: &mut Vec<u8>) -> Result<(), Memory>
+    ensures { OnOk result (into.new.items ≡ into.old.items ++ pieces_bytes (width_piece col width)) }
+{
+    match width {
+        Some(width) => {
+            let [low, high] = col.to_le_bytes();
+            put_piece(Kind::ColumnWidth, &[low, high, width], into)
+        }
+        None => Ok(()),
+    }
+}
+
+/// Adds the records of own widths.
+pub fn put_widths(store: &Store, into: &mut Vec<u8>) -> Result<(), Memory>
+    ensures bytes { OnOk result (into.new.items ≡ into.old.items ++ pieces_bytes (width_pieces store.now)) }
+    ensures most { OnOk result ((k : ℕ) → get_or store.now.widths k 0 ≤ 240) }
+{
+    store.are_columns();
+    for col in 0..256usize {
+        put_width(col as u16, store.width(col as u8), into)?;
+    }
+    Ok(())
+}
+
+// Whether a column is hidden.
+fn any_hidden(store: &Store) -> bool
+    ensures { result ≡ list_any (λ b. b) store.now.hidden }
+{
+    store.are_columns();
+    for col in 0..256usize {
+        if store.is_hidden(col as u8) {
+            return true;
+        }
+    }
+    false
+}
+
+// A byte for a hidden column, and 0 for a shown one.
+fn weight(store: &Store, col: usize, byte: u8) -> u8
+    requires { col < 256 }
+    ensures byte { result ≡ on_byte (get_or store.now.hidden col false) byte }
+    ensures most { result ≤ byte }
+{
+    on_byte(store.is_hidden(col as u8), byte)
+}
+
+// Eight columns in a byte, the lowest bit first.
+fn bits_byte(store: &Store, place: usize) -> u8
+    requires { place < 32 }
+    ensures { result ≡ bits_byte store.now.hidden place }
+{
+    let at = 8 * place;
+    let low = weight(store, at, 1)
+        + weight(store, at + 1, 2)
+        + weight(store, at + 2, 4)
+        + weight(store, at + 3, 8);
+    let high = weight(store, at + 4, 16)
+        + weight(store, at + 5, 32)
+        + weight(store, at + 6, 64)
+        + weight(store, at + 7, 128);
+    low + high
+}
+
+// The bytes of all columns.
+fn put_bits(store: &Store, body: &mut Vec<u8>) -> Result<(), Memory>
+    ensures { OnOk result (body.new.items ≡ bits_bytes store.now.hidden) }
+{
+    body.clear();
+    for place in 0..32usize {
+        body.push(bits_byte(store, place))?;
+    }
+    Ok(())
+}
+
+/// Adds the record of hidden columns, where there is one.
+pub fn put_hidden(store: &Store, body: &mut Vec<u8>, into: &mut Vec<u8>) -> Result<(), Memory>
+    ensures { OnOk result (into.new.items ≡ into.old.items ++ pieces_bytes (hidden_pieces store.now.hidden)) }
+{
+    if !any_hidden(store) {
+        return Ok(());
+    }
+    put_bits(store, body)?;
+    put_piece(Kind::HiddenColumns, body.as_slice(), into)
+}
