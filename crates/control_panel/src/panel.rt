@@ -2,7 +2,7 @@
 ghost use Rattle.std.specs.Prelude.{◌≡◌, ◌≤◌, length};
 ghost use Rattle.control_panel.specs.Panels.{line_panel, plain_panel};
 
-use lics_text::Line;
+use lics_text::{Line, MAX_LEN};
 
 /// The mode that is told.
 #[derive(Clone, Copy, Debug, PartialEq, Eq)]
@@ -62,8 +62,8 @@ impl Panel {
     /// A panel that tells a mode and the line that is typed behind its prompt, with the cursor behind so many of its
     /// bytes.
     pub fn of_line(mode: Mode, prompt: &[u8], typed: &[u8], cursor: u8) -> Panel
-        requires prompt { length prompt.now ≤ 240 }
-        requires typed { length typed.now ≤ 240 }
+        requires prompt { length prompt.now ≤ MAX_LEN }
+        requires typed { length typed.now ≤ MAX_LEN }
         ensures { result ≡ line_panel mode prompt.now typed.now cursor }
     {
         let mut panel = Panel::of(mode);

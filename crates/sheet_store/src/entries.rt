@@ -62,6 +62,9 @@ impl Store {
     }
 }
 
+/// The last row.
+const LAST_ROW: u16 = 8191;
+
 // The place behind another, in row order.
 fn place_after(place: Cell) -> Option<Cell>
     ensures some { IfSome result (λ c. (p : Place) → InSheet p → is_lt (place_cmp place p) ≡ is_le (place_cmp c p)) }
@@ -74,7 +77,7 @@ fn place_after(place: Cell) -> Option<Cell>
             col: place.col + 1,
         });
     }
-    if place.row < 8191 {
+    if place.row < LAST_ROW {
         return Some(Cell {
             row: place.row + 1,
             col: 0,
@@ -98,7 +101,7 @@ fn place_past(store: &Store, place: Cell) -> Option<Cell>
         return place_after(place);
     }
     let row = place.row / BAND * BAND + BAND;
-    if row < 8192 {
+    if row <= LAST_ROW {
         Some(Cell { row, col: 0 })
     } else {
         None
