@@ -3,7 +3,7 @@ ghost use Rattle.std.specs.Prelude.{◌≡◌};
 ghost use Rattle.cell_pointer.specs.Moves.{moved, or_home, stepped_times};
 
 use crate::runs::run_from;
-use crate::steps::stepped;
+use crate::steps::{LAST_ROW, stepped};
 use crate::{Arrow, Way};
 use grid_address::Cell;
 use sheet_store::Store;
@@ -51,7 +51,7 @@ pub fn moved(way: Way, shown: u8, cells: &Store, pointer: Cell) -> Cell
             col,
         },
         Way::PageDown => Cell {
-            row: (row + PAGE).min(8191),
+            row: (row + PAGE).min(LAST_ROW),
             col,
         },
         Way::WindowLeft => stepped_times(shown.max(1), Arrow::Left, cells, pointer),

@@ -4,6 +4,7 @@ ghost use Rattle.cell_pointer.specs.Moves.{ahead, is_filled, next_filled, run_en
 ghost use Rattle.sheet_store.specs.Grid.{is_blank};
 
 use crate::Arrow;
+use crate::steps::LAST_ROW;
 use formula_tree::Content;
 use grid_address::Cell;
 use sheet_store::Store;
@@ -43,7 +44,7 @@ fn next_cell(arrow: Arrow, cell: Cell) -> Option<Cell>
             }
         }
         Arrow::Down => {
-            if row < 8191 {
+            if row < LAST_ROW {
                 Some(Cell { row: row + 1, col })
             } else {
                 None
