@@ -45,7 +45,8 @@ is_whole_within low high n = nat_eq (n % millionths) 0 && (nat_le low (n / milli
 
 -- the whole number that so many millionths are; one below 0 lies outside the bounds
 abbrev pub whole_of : ℕ → ℕ → ℤ → ℕ → Result ℕ CommandError
-whole_of low high (pos n) place = if is_whole_within low high n then Ok (n / millionths) else Err (error.InvalidNumber place)
+whole_of low high (pos n) place =
+    if is_whole_within low high n then Ok (n / millionths) else Err (error.InvalidNumber place)
 whole_of low high (negsuc n) place = Err (error.InvalidNumber place)
 
 -- the whole number that a decimal is

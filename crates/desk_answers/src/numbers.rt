@@ -23,8 +23,8 @@ fn whole_of(low: u8, high: u8, number: Fixed, place: usize) -> Result<u8, Comman
     }
 }
 
-/// The whole number that an answer is, which is in decimals with an optional sign. `InvalidNumber` comes exactly where it
-/// is no number, isn't whole or lies outside the bounds.
+/// The whole number that an answer is, which is in decimals with an optional sign. `InvalidNumber` comes exactly where
+/// it is no number, isn't whole or lies outside the bounds.
 pub fn whole_answer(low: u8, high: u8, line: &[u8], place: usize) -> Result<u8, CommandError>
     ensures { result ≡ whole_answer low high line.now place }
 {
@@ -55,8 +55,8 @@ fn order_of(letter: u8, place: usize) -> Result<bool, CommandError>
     }
 }
 
-/// Whether a sort is descending: the answer is D, or A where it isn't, in either case. `InvalidNumber` comes exactly for
-/// any other.
+/// Whether a sort is descending: the answer is D, or A where it isn't, in either case. `InvalidNumber` comes exactly
+/// for any other.
 pub fn order_answer(line: &[u8], place: usize) -> Result<bool, CommandError>
     ensures { result ≡ order_answer line.now place }
 {

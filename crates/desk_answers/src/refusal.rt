@@ -18,6 +18,7 @@ fn first_small(name: &[u8]) -> Option<usize>
     name.iter().position(|byte| *byte < 32)
 }
 
+// Whether a space stands in front.
 fn starts_with_space(name: &[u8]) -> bool
     ensures { result ≡ (get_or name.now 0 0 == 32) }
 {
@@ -97,8 +98,8 @@ fn read<T: Drop>(answer: Result<T, CommandError>) -> Result<(), CommandError>
 
 /// Tests an answer by what was asked for, before the command has it: `place` is its place among the command's answers,
 /// counted from 0. A range or a cell is refused by `InvalidAddress` and `NameNotFound`, a number and the letter of a
-/// sort's order by `InvalidNumber`, a name by `InvalidName`, one that must be there also by `NameNotFound`, a file's name
-/// by `InvalidFileName`; a text and the choices are never refused. It takes no memory.
+/// sort's order by `InvalidNumber`, a name by `InvalidName`, one that must be there also by `NameNotFound`, a file's
+/// name by `InvalidFileName`; a text and the choices are never refused. It takes no memory.
 pub fn test_answer(ask: Ask, names: &Names, line: &[u8], place: usize) -> Result<(), CommandError>
     ensures { fault_in result ≡ refusal_of ask names.now line.now place }
 {
