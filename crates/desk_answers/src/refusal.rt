@@ -1,7 +1,7 @@
 // Why an answer is refused.
-ghost use Rattle.std.specs.Prelude.{◌≡◌, ◌≤◌, ◌==◌, None, get_or, length, nat_lt, position};
+ghost use Rattle.std.specs.Prelude.{◌≡◌};
 ghost use Rattle.outside_world.specs.FileNames.{file_name};
-ghost use Rattle.range_names.specs.Names.{bad_place, fault_of};
+ghost use Rattle.range_names.specs.Names.{fault_of};
 ghost use Rattle.desk_answers.specs.Readings.{fault_in, new_name_by, old_name_by, refusal_of, unless_named};
 
 use crate::numbers::{decimal_answer, order_answer, whole_answer};
@@ -9,55 +9,13 @@ use crate::spans::span_answer;
 use desk_errors::CommandError;
 use menu_tree::Ask;
 use outside_world::{Ext, FileName};
-use range_names::{NameFault, Names};
-
-// The first byte below 32.
-fn first_small(name: &[u8]) -> Option<usize>
-    ensures { result ≡ position (λ b. nat_lt b 32) name.now }
-{
-    name.iter().position(|byte| *byte < 32)
-}
-
-// Whether a space stands in front.
-fn starts_with_space(name: &[u8]) -> bool
-    ensures { result ≡ (get_or name.now 0 0 == 32) }
-{
-    name.len() > 0 && name[0] == b' '
-}
-
-// A space in front, or the first byte below 32.
-fn bad_place(name: &[u8]) -> Option<usize>
-    ensures { result ≡ bad_place name.now }
-{
-    if starts_with_space(name) {
-        Some(0)
-    } else {
-        first_small(name)
-    }
-}
-
-/// Why bytes can't be a name.
-pub(crate) fn name_fault(name: &[u8]) -> Option<NameFault>
-    ensures fault { result ≡ fault_of name.now }
-    ensures short { result ≡ None → length name.now ≤ 15 }
-{
-    if name.len() == 0 {
-        return Some(NameFault::Empty);
-    }
-    if name.len() > 15 {
-        return Some(NameFault::TooLong);
-    }
-    match bad_place(name) {
-        Some(at) => Some(NameFault::BadByte(at)),
-        None => None,
-    }
-}
+use range_names::{Names, fault_of};
 
 // A name to be given: any text that can be one.
 fn new_name(line: &[u8]) -> Result<(), CommandError>
     ensures { fault_in result ≡ new_name_by (fault_of line.now) }
 {
-    match name_fault(line) {
+    match fault_of(line) {
         Some(fault) => Err(CommandError::InvalidName(fault)),
         None => Ok(()),
     }
@@ -67,7 +25,7 @@ fn new_name(line: &[u8]) -> Result<(), CommandError>
 fn old_name(names: &Names, line: &[u8], place: usize) -> Result<(), CommandError>
     ensures { fault_in result ≡ old_name_by (fault_of line.now) names.now line.now place }
 {
-    match name_fault(line) {
+    match fault_of(line) {
         Some(fault) => Err(CommandError::InvalidName(fault)),
         None => match names.find(line) {
             Some(_) => Ok(()),

@@ -6,10 +6,9 @@ ghost use Rattle.session_rooms.specs.Bytes.{dot};
 ghost use Rattle.desk_answers.specs.Readings.{named_span, span_answer};
 ghost use Rattle.desk_answers.specs.Spans.{behind_dots, both_corners, span_in};
 
-use crate::refusal::name_fault;
 use desk_errors::CommandError;
 use grid_address::{Cell, Span, count_dots, read_cell};
-use range_names::Names;
+use range_names::{Names, fault_of};
 
 // The cell whose address the bytes are.
 fn cell_in(bytes: &[u8]) -> Option<Cell>
@@ -59,7 +58,7 @@ fn span_in(bytes: &[u8]) -> Option<Span>
 fn named_span(names: &Names, line: &[u8], place: usize) -> Result<Span, CommandError>
     ensures { result ≡ named_span (fault_of line.now) names.now line.now place }
 {
-    match name_fault(line) {
+    match fault_of(line) {
         Some(_) => Err(CommandError::InvalidAddress(place)),
         None => match names.find(line) {
             Some(span) => Ok(span),
