@@ -15,7 +15,7 @@ use session_rooms::{AnsweredCommand, Answering, Pointed, PromptRoom};
 // The name of the present prompt.
 fn name_of(command: &AnsweredCommand) -> &'static [u8]
     ensures name { result.now ≡ name_of command.now }
-    ensures short { length result.now ≤ 240 }
+    ensures short { length result.now ≤ MAX_LEN }
 {
     let name = prompt_name(command.action, command.answers.len());
     &name[..name.len().min(MAX_LEN)]
@@ -45,7 +45,7 @@ fn line_panel(command: &AnsweredCommand, line: &EntryLine) -> Panel
 // The two items of a choice.
 fn choice_line(ask: Option<Ask>, highlight: usize) -> &'static [u8]
     ensures line { result.now ≡ choice_line ask highlight }
-    ensures short { length result.now ≤ 240 }
+    ensures short { length result.now ≤ MAX_LEN }
 {
     match (ask, highlight) {
         (Some(Ask::Replace), 0) => b"[Cancel] Replace ",
