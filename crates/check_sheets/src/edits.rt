@@ -95,16 +95,14 @@ pub fn byte_of(bytes: &[u8]) -> Result<u8, Stop> {
     }
 }
 
-fn label(alloc: Global, prefix: LabelPrefix, bytes: &[u8]) -> Result<Content, Stop>
-{
+fn label(alloc: Global, prefix: LabelPrefix, bytes: &[u8]) -> Result<Content, Stop> {
     match Text::from_bytes(alloc, bytes) {
         Ok(text) => Ok(Content::Label(prefix, text)),
         Err(_) => Err(Stop::Memory),
     }
 }
 
-fn formula(desk: &Desk, cell: Cell, bytes: &[u8]) -> Result<Content, Stop>
-{
+fn formula(desk: &Desk, cell: Cell, bytes: &[u8]) -> Result<Content, Stop> {
     match read(desk.alloc, bytes, cell, desk.sheet.names()) {
         Ok(formula) => Ok(Content::Formula(formula)),
         Err(_) => Err(Stop::Line),
@@ -112,8 +110,7 @@ fn formula(desk: &Desk, cell: Cell, bytes: &[u8]) -> Result<Content, Stop>
 }
 
 // What a text spells: a label where it begins with a prefix, nothing where it is empty, a decimal, or a formula.
-fn content_of(desk: &Desk, cell: Cell, bytes: &[u8]) -> Result<Content, Stop>
-{
+fn content_of(desk: &Desk, cell: Cell, bytes: &[u8]) -> Result<Content, Stop> {
     let Some((first, rest)) = bytes.split_first() else {
         return Ok(Content::Blank);
     };
@@ -172,8 +169,7 @@ pub fn protect(desk: &mut Desk, bytes: &[u8], protected: bool) -> Result<(), Sto
 }
 
 // A cell, a format code or `-`, and a text.
-fn write_of(desk: &Desk, bytes: &[u8]) -> Result<Write, Stop>
-{
+fn write_of(desk: &Desk, bytes: &[u8]) -> Result<Write, Stop> {
     let (cell, rest) = parts(bytes)?;
     let (code, text) = parts(rest)?;
     let cell = cell_of(cell)?;
@@ -190,16 +186,14 @@ fn write_of(desk: &Desk, bytes: &[u8]) -> Result<Write, Stop>
     })
 }
 
-fn add(writes: &mut Writes, write: Write) -> Result<(), Stop>
-{
+fn add(writes: &mut Writes, write: Write) -> Result<(), Stop> {
     match writes.push(write) {
         Ok(()) => Ok(()),
         Err(_) => Err(Stop::Memory),
     }
 }
 
-fn writes_of(desk: &Desk, bytes: &[u8]) -> Result<Writes, Stop>
-{
+fn writes_of(desk: &Desk, bytes: &[u8]) -> Result<Writes, Stop> {
     let mut writes = Writes::new(desk.alloc);
     for part in bytes.split(|byte| *byte == b'\t') {
         add(&mut writes, write_of(desk, part)?)?;

@@ -72,7 +72,6 @@ same_order value.Na (value.Str t) = refl
 same_order value.Na value.Err = refl
 same_order value.Na value.Na = refl
 
-
 values_total : IsTotalOrder order_of_values
 values_total = subst (λ (R : Value → Value → Ordering). IsTotalOrder R) (λ i a b. same_order a b i) parts_total
 

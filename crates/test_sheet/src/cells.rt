@@ -31,8 +31,7 @@ fn at(row: u16, col: u8) -> Cell
     Cell { row, col }
 }
 
-fn write<R: Abort, E: Means>(rt: &R, sheet: &mut SheetOf<E>, cell: Cell, content: Content)
-{
+fn write<R: Abort, E: Means>(rt: &R, sheet: &mut SheetOf<E>, cell: Cell, content: Content) {
     sheet.enter(cell, content).expect(rt, "an edit");
 }
 

@@ -13,13 +13,11 @@ use work_sheet::Sheet;
 
 const APART: Cell = Cell { row: 4, col: 7 };
 
-fn number(number: u32) -> Content
-{
+fn number(number: u32) -> Content {
     Content::Number(Fixed::of(i64::from(number)).unwrap_or(Fixed::ZERO))
 }
 
-fn enter(sheet: &mut Sheet, cell: Cell, content: Content) -> Result<(), Memory>
-{
+fn enter(sheet: &mut Sheet, cell: Cell, content: Content) -> Result<(), Memory> {
     match sheet.enter(cell, content) {
         Ok(()) => Ok(()),
         Err(_) => Err(Memory),
