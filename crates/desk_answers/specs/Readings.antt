@@ -6,7 +6,6 @@ use Rattle.fixed_value.specs.declared.decimal.Decimal.{Decimal}
 use Rattle.fixed_value.specs.declared.decimal.Decimal.TheVariants as decimal
 use Rattle.grid_address.specs.Place.{Extent}
 use Rattle.outside_world.specs.FileNames.{file_name}
-use Rattle.outside_world.specs.declared.file_name.Ext.{Ext}
 use Rattle.outside_world.specs.declared.file_name.Ext.TheVariants as ext
 use Rattle.range_names.specs.Names.{fault_of, key_of, NameMap}
 use Rattle.range_names.specs.declared.fault.NameFault.{NameFault}

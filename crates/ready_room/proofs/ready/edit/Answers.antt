@@ -1,4 +1,4 @@
-use Rattle.std.proofs.Common.{◌≡◌, ℕ, List, ap, sym, ◌∙◌}
+use Rattle.std.proofs.Common.{ℕ, List, ap, sym, ◌∙◌}
 use Rattle.grid_address.specs.Place.{Place}
 use Rattle.ready_room.specs.Ready.{editing}
 use Rattle.work_sheet.specs.Typed.{typed}

@@ -1,4 +1,4 @@
-use Rattle.std.proofs.Common.{◌≡◌, ℕ, ◌-◌, List, ◌++◌, length, ap, sym, ◌∙◌}
+use Rattle.std.proofs.Common.{◌≡◌, ℕ, ◌-◌, List, ◌++◌, length, ap, ◌∙◌}
 use Rattle.std.specs.Prelude.{min, take}
 use Rattle.session_rooms.proofs.Ends.{cut_at_end, is_line_of}
 use Rattle.session_rooms.proofs.lines.extended.Goals as goal
