@@ -1,9 +1,8 @@
 // Writes of contents, and copies of cells.
-ghost use Rattle.std.specs.Prelude.{◌≡◌, ◌≤◌, ◌<◌, ◌+◌, ◌++◌, ◌∷◌, [], length, IfOk, OnOk};
-ghost use Rattle.std.specs.List.{All};
-ghost use Rattle.grid_address.specs.Place.{width_of};
+ghost use Rattle.std.specs.Prelude.{◌≡◌, ◌≤◌, ◌<◌, ◌+◌, ◌++◌, ◌∷◌, [], length, map, IfOk, OnOk};
+ghost use Rattle.grid_address.specs.Place.{height_of, width_of, Place};
 ghost use Rattle.formula_eval.specs.World.{Sight};
-ghost use Rattle.block_writes.specs.Writing.{at, columns_of, content_or_blank, copied, numbers_from, row_copied, rows_copied, written};
+ghost use Rattle.block_writes.specs.Writing.{at, columns_of, content_or_blank, copied, row_copied, rows_copied, rows_of, written};
 
 use crate::cells::column_at;
 use formula_eval::Look;
@@ -51,16 +50,15 @@ fn push_cell<K: Look>(
     look: &K,
     span: Span,
     col: u16,
-    from: u16,
-    to: u16,
+    from: Cell,
+    to: Cell,
 ) -> Result<(), Memory>
-    requires column { col < width_of span }
-    requires from { from < 8192 }
-    requires to { to < 8192 }
-    ensures { let there = span.first.col + col in OnOk result (writes.new ≡ writes.old ++ copied (K.sight look.now) (at from there) (at to there) ∷ []) }
+    requires { col < width_of span }
+    ensures { let there = span.first.col + col in
+        OnOk result (writes.new ≡ writes.old ++ copied (K.sight look.now) (at from.row there) (at to.row there) ∷ []) }
 {
     let col = column_at(span, col);
-    let write = copied(look, Cell { row: from, col }, Cell { row: to, col })?;
+    let write = copied(look, Cell { row: from.row, col }, Cell { row: to.row, col })?;
     writes.push(write)
 }
 
@@ -69,12 +67,11 @@ fn push_row<K: Look>(
     writes: &mut Writes,
     look: &K,
     span: Span,
-    from: u16,
-    to: u16,
+    from: Cell,
+    to: Cell,
 ) -> Result<(), Memory>
-    requires from { from < 8192 }
-    requires to { to < 8192 }
-    ensures { OnOk result (writes.new ≡ writes.old ++ row_copied (K.sight look.now) (columns_of span) from to) }
+    ensures { OnOk result
+        (writes.new ≡ writes.old ++ row_copied (K.sight look.now) (columns_of span) from.row to.row) }
 {
     let width = span.width();
     for col in 0..width {
@@ -83,23 +80,37 @@ fn push_row<K: Look>(
     Ok(())
 }
 
-/// Copies of some rows of a span's columns, for the `count` rows from `first` on, as long as there are rows.
+// The first cell of a span that is so many rows further down.
+fn below(span: Span, row: u16) -> Cell
+    requires { row < height_of span }
+    ensures { result ≡ at (span.first.row + row) span.first.col }
+{
+    Cell {
+        row: span.first.row + row,
+        col: span.first.col,
+    }
+}
+
+/// Copies of some rows of a span's columns, given by a cell of each, for the rows of the span in order.
 pub fn rows_copied<K: Look>(
     alloc: Global,
     look: &K,
     span: Span,
-    rows: &[u16],
-    first: u16,
-    count: u16,
+    cells: &[Cell],
 ) -> Result<Writes, Memory>
-    requires inside { All (λ row. row < 8192) rows.now }
-    requires room { length rows.now ≤ count }
-    requires last { first + count ≤ 8192 }
-    ensures { IfOk result (λ w. w ≡ rows_copied (K.sight look.now) (columns_of span) rows.now (numbers_from first count)) }
+    requires { length cells.now ≤ height_of span }
+    ensures { let rows = map (λ (p : Place). p.row) cells.now in
+        IfOk result (λ w. w ≡ rows_copied (K.sight look.now) (columns_of span) rows (rows_of span)) }
 {
     let mut writes = Writes::new(alloc);
-    for place in 0..rows.len() {
-        push_row(&mut writes, look, span, rows[place], first + place as u16)?;
+    for place in 0..cells.len() {
+        push_row(
+            &mut writes,
+            look,
+            span,
+            cells[place],
+            below(span, place as u16),
+        )?;
     }
     Ok(writes)
 }
