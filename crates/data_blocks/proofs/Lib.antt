@@ -1,2 +1,4 @@
+pub mod Orders
 pub mod Reached
 pub mod Shares
+pub mod Sorted

@@ -1,10 +1,10 @@
 -- The order of rows by their keys is a total order.
-use Rattle.std.proofs.Common.{◌≡◌, ℕ, ◌+◌, ◌<◌, List, [], ◌∷◌, length, drop, get_or, refl, sym, ap, ◌∙◌, subst}
+use Rattle.std.proofs.Common.{◌≡◌, ℕ, ◌+◌, ◌<◌, List, [], ◌∷◌, length, drop, get_or, refl, ap, subst}
 use Rattle.std.specs.Prelude.{Bool, true, false, ℤ, pos, map}
 use Rattle.std.specs.Char.{to_ascii_uppercase}
 use Rattle.std.specs.Cmp.{IsTotalOrder}
 use Rattle.std.specs.Cmp.Lexicographic.{slice_cmp}
-use Rattle.std.specs.Ordering.{int_cmp, nat_cmp, on, ordering_reverse, ordering_then, then_cmp}
+use Rattle.std.specs.Ordering.{int_cmp, nat_cmp, on, ordering_then, then_cmp}
 use Rattle.std.specs.declared.cmp.Ordering.{Ordering}
 use Rattle.std.specs.declared.cmp.Ordering.TheVariants.{Less, Equal, Greater}
 use Rattle.std.proofs.lemmas.Cmp.{back_total, int_cmp_total, nat_cmp_total, nat_list_cmp_total, on_total, then_total}
@@ -14,7 +14,7 @@ use Rattle.formula_tree.specs.declared.value.Value.{Value}
 use Rattle.formula_tree.specs.declared.value.Value.TheVariants as value
 use Rattle.block_writes.specs.Writing.{at}
 use Rattle.data_blocks.specs.Sorting.{kind_of, order_by_key, order_of_rows, order_of_values, turned}
-use Rattle.data_blocks.specs.declared.sort.SortKey.{SortKey}
+use Rattle.data_blocks.specs.declared.key.SortKey.{SortKey}
 
 abbrev number_in : Value → ℤ
 number_in (value.Num x) = x

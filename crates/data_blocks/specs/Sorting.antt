@@ -12,7 +12,7 @@ use Rattle.value_functions.specs.Operators.{order_of_texts}
 use Rattle.formula_eval.specs.World.{Sight}
 use Rattle.block_writes.specs.Writing.{at, columns_of, rows_copied, rows_of}
 use Rattle.sheet_store.specs.declared.writes.Write.{Write}
-use Rattle.data_blocks.specs.declared.sort.SortKey.{SortKey}
+use Rattle.data_blocks.specs.declared.key.SortKey.{SortKey}
 
 -- blanks, then numbers, then texts, then NA, then ERR
 abbrev pub kind_of : Value → ℕ

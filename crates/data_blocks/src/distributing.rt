@@ -9,6 +9,8 @@ ghost use Rattle.block_writes.specs.Writing.{as_content, at, written};
 ghost use Rattle.data_blocks.specs.Distribution.{bin_of, distributed, distribution, has_no_room, is_above, is_in_bin, number_of, numbers_in};
 
 use crate::BlockFault;
+use crate::filling::is_less;
+use crate::rows::row_cell;
 use block_writes::{content_of, written};
 use fixed_value::Fixed;
 use formula_eval::Look;
@@ -18,6 +20,11 @@ use lics_text::Memory;
 use sheet_store::{SheetFault, Write, Writes};
 use std::alloc::Global;
 use value_functions::counted;
+
+// The last row and the last column of a sheet.
+const LAST_ROW: u16 = 8191;
+
+const LAST_COLUMN: u8 = 255;
 
 // A value that is a number counts.
 fn put_number(numbers: &mut Vec<Fixed>, value: &Value) -> Result<(), Memory>
@@ -32,7 +39,8 @@ fn put_number(numbers: &mut Vec<Fixed>, value: &Value) -> Result<(), Memory>
 
 // The numbers among the values of a span.
 fn numbers_in<K: Look>(alloc: Global, span: Span, look: &K) -> Result<Vec<Fixed>, Memory>
-    ensures { IfOk result (λ v. v.items ≡ numbers_in (K.sight look.now).values (filled (K.sight look.now).values span)) }
+    ensures { let values = (K.sight look.now).values in
+        IfOk result (λ v. v.items ≡ numbers_in values (filled values span)) }
 {
     let cells = look.filled(span)?;
     let mut numbers = Vec::new(alloc);
@@ -52,12 +60,6 @@ fn bin_of(value: &Value) -> Fixed
         Value::Num(number) => *number,
         Value::Blank | Value::Str(_) | Value::Err | Value::Na => Fixed::ZERO,
     }
-}
-
-fn is_less(a: Fixed, b: Fixed) -> bool
-    ensures { result ≡ int_lt a b }
-{
-    a.millionths() < b.millionths()
 }
 
 // Whether a number is above the bin before, if there is one.
@@ -105,22 +107,11 @@ fn count_written(alloc: Global, cell: Cell, count: usize) -> Result<Write, Memor
     Ok(written(cell, content))
 }
 
-// The cell of a bin, its row counted from the first.
-fn bin_cell(bins: Span, row: u16) -> Cell
-    requires { row < height_of bins }
-    ensures { result ≡ at (bins.first.row + row) bins.first.col }
-{
-    Cell {
-        row: bins.first.row + row,
-        col: bins.first.col,
-    }
-}
-
 // Whether the last column or the last row leaves no room for the counts.
 fn has_no_room(bins: Span) -> bool
     ensures { result ≡ has_no_room bins }
 {
-    bins.first.col == 255 || bins.last.row == 8191
+    bins.first.col == LAST_COLUMN || bins.last.row == LAST_ROW
 }
 
 // The cell beside a bin or one row further, its row counted from the first.
@@ -146,7 +137,7 @@ fn distributed<K: Look>(alloc: Global, values: Span, bins: Span, look: &K) -> Re
     let mut before = None;
     let height = bins.height();
     for row in 0..height {
-        let bin = bin_of(look.value(bin_cell(bins, row)));
+        let bin = bin_of(look.value(row_cell(bins, row)));
         let count = share(numbers, before, bin);
         writes.push(count_written(alloc, count_cell(bins, row), count)?)?;
         before = Some(bin);
@@ -167,7 +158,8 @@ pub fn distribution<K: Look>(
     look: &K,
 ) -> Result<Writes, BlockFault>
     ensures found { IfOk result (λ w. distribution (K.sight look.now) values bins ≡ Ok w) }
-    ensures fault { IfErr result (λ f. (f ≡ BlockFault.Memory) ⊎ (distribution (K.sight look.now) values bins ≡ Err f)) }
+    ensures fault { let answer = distribution (K.sight look.now) values bins in
+        IfErr result (λ f. (f ≡ BlockFault.Memory) ⊎ (answer ≡ Err f)) }
 {
     if has_no_room(bins) {
         return Err(BlockFault::Sheet(SheetFault::OutOfSheet(bins)));

@@ -14,7 +14,8 @@ use lics_text::Memory;
 use sheet_store::Writes;
 use std::alloc::Global;
 
-fn is_less(a: Fixed, b: Fixed) -> bool
+/// Whether a number is below another.
+pub fn is_less(a: Fixed, b: Fixed) -> bool
     ensures { result ≡ int_lt a b }
 {
     a.millionths() < b.millionths()

@@ -4,11 +4,14 @@
 mod distributing;
 mod fault;
 mod filling;
+mod key;
 mod order;
+mod rows;
 mod sort;
 
 pub use distributing::distribution;
 pub use fault::BlockFault;
 pub use filling::fill;
+pub use key::SortKey;
 pub use order::order_of_values;
-pub use sort::SortKey;
+pub use sort::sort_rows;

@@ -1,9 +1,8 @@
 use Rattle.std.proofs.Common.{ℕ, ◌≡◌, ◌+◌, ◌<◌, ap, ◌∙◌, arith}
-use Rattle.std.specs.List.{count_by}
 use Rattle.grid_address.specs.Place.{height_of, Place}
 use Rattle.value_functions.specs.Values.{counted}
 use Rattle.block_writes.specs.Writing.{as_content, at, written}
-use Rattle.data_blocks.specs.Distribution.{bin_of, distributed, is_above, is_in_bin}
+use Rattle.data_blocks.specs.Distribution.{bin_of, distributed}
 use Rattle.data_blocks.proofs.Shares.{left_last, left_step}
 use Rattle.data_blocks.proofs.distributing.distributed.Goals as goal
 
@@ -14,7 +13,7 @@ loop-row-preserved g c =
     let inside : c.loop-row.row < height_of bins = omega (arith, c.loop-row-test.true, c.loop-row.invariant.1) in (
       left_step sight.values c.as_slice-numbers.result.now bins.first.row bins.first.col (height_of bins) c.loop-row.writes c.push.new.self (distributed sight c.args.values bins) c.loop-row.row c.share-count.result c.loop-row.before c.bin_of-bin.result c.in_ok-count_written.field-0
           inside
-          (c.bin_of-bin.ensures ∙ ap bin_of c.value.ensures ∙ ap (λ (p : Place). bin_of (sight.values p)) c.bin_cell.ensures)
+          (c.bin_of-bin.ensures ∙ ap bin_of c.value.ensures ∙ ap (λ (p : Place). bin_of (sight.values p)) c.row_cell.ensures)
           c.share-count.ensures
           (c.in_ok-count_written.ensures ∙ ap (λ (p : Place). written p (as_content (counted c.share-count.result))) c.count_cell.ensures)
           c.in_ok-push.ensures.ok
