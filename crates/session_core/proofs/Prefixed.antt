@@ -1,5 +1,5 @@
 -- Labels and their prefixes.
-use Rattle.std.proofs.Common.{◌≡◌, ℕ, suc, ◌<◌, true, List, [], ◌∷◌, length, drop, arith}
+use Rattle.std.proofs.Common.{ℕ, suc, ◌<◌, List, [], ◌∷◌, length, drop, arith}
 use Rattle.lics_text.specs.Bytes.{IsText}
 
 -- what stands behind the first byte of a text is one
