@@ -6,7 +6,7 @@ use fixed_value::Fixed;
 use formula_eval::{Tally, evaluate};
 use formula_text::{ParseFault, read};
 use formula_tree::{Content, Value};
-use lics_text::Text;
+use lics_text::{LabelPrefix, Text};
 use std::alloc::Global;
 use std::process::Abort;
 use std::test::Fail;
