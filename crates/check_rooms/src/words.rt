@@ -6,7 +6,7 @@ use crate::show::show;
 use formula_tree::Content;
 use grid_address::{Cell, Span, read_cell, read_span};
 use key_words::{Fed, Key, KeyReader};
-use lics_text::{Line, Text};
+use lics_text::{LabelPrefix, Line, Text};
 use std::alloc::Global;
 use std::io::Write;
 
@@ -57,7 +57,7 @@ fn parts(bytes: &[u8]) -> Result<(&[u8], &[u8]), Stop> {
 
 fn fill(desk: &mut Desk, cell: Cell, bytes: &[u8]) -> Result<(), Stop> {
     match Text::from_bytes(desk.sheet.alloc(), bytes) {
-        Ok(text) => match desk.sheet.enter(cell, Content::Label(b'\'', text)) {
+        Ok(text) => match desk.sheet.enter(cell, Content::Label(LabelPrefix::Left, text)) {
             Ok(()) => Ok(()),
             Err(_) => Err(Stop::Memory),
         },
