@@ -57,7 +57,10 @@ fn parts(bytes: &[u8]) -> Result<(&[u8], &[u8]), Stop> {
 
 fn fill(desk: &mut Desk, cell: Cell, bytes: &[u8]) -> Result<(), Stop> {
     match Text::from_bytes(desk.sheet.alloc(), bytes) {
-        Ok(text) => match desk.sheet.enter(cell, Content::Label(LabelPrefix::Left, text)) {
+        Ok(text) => match desk
+            .sheet
+            .enter(cell, Content::Label(LabelPrefix::Left, text))
+        {
             Ok(()) => Ok(()),
             Err(_) => Err(Stop::Memory),
         },
