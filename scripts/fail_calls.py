@@ -83,8 +83,8 @@ def main(words):
         shim = f"{room}/failing.so"
         subprocess.run(["cc", "-O1", "-shared", "-fPIC", "-o", shim, "scripts/failing.c"], check=True)
         for keys in sorted(glob.glob("examples/*.keys")):
-            shows = "pages" if os.path.exists(keys.removesuffix(".keys") + ".screens") else "last"
-            calls = Calls(program, shim, keys, ["--show", shows, "--count"])
+            # all pages, since a run that stops early shows a front of them
+            calls = Calls(program, shim, keys, ["--show", "pages", "--count"])
             for kind in kinds:
                 is_well = tried(calls, kind, keys, pool) and is_well
     print("all ended as they should" if is_well else "some did not end as they should")
