@@ -1,13 +1,13 @@
 // A sheet, and the edits that a line describes.
 ghost use Rattle.std.specs.Prelude.{◌<◌, IfOk};
 
+use control_panel::{Mode, Panel};
 use fixed_value::{Decimal, read_decimal};
 use formula_eval::{Scene, Tally};
 use formula_text::read;
 use formula_tree::Content;
 use grid_address::{Cell, Format, Span, read_cell, read_span};
 use lics_text::{LabelPrefix, Text};
-use screen_layout::{Mode, Panel};
 use serial_date::Moment;
 use sheet_store::{Order, Settings, SheetFault, Write, Writes};
 use std::alloc::Global;

@@ -2,9 +2,10 @@
 
 use crate::edits::{Desk, Stop, byte_of, cell_of, number_of, parts};
 use crate::show::written;
+use control_panel::{Mode, Panel};
 use grid_address::{Cell, Format};
 use lics_text::Line;
-use screen_layout::{Mode, Panel, corner_for, paint};
+use screen_layout::{corner_for, paint};
 use serial_date::Moment;
 use sheet_store::Settings;
 use std::io::Write;

@@ -9,7 +9,7 @@ use Rattle.grid_address.specs.Place.{Place}
 use Rattle.screen_layout.specs.Lines.{padded, shown_byte}
 use Rattle.screen_layout.specs.Screen.{line_text, screen, screen_line}
 use Rattle.work_sheet.specs.Seen.{Sheet}
-use Rattle.screen_layout.specs.declared.panel.Panel.{Panel}
+use Rattle.control_panel.specs.declared.panel.Panel.{Panel}
 use Rattle.screen_show.specs.Grid.{IsPrinted}
 
 -- a list of lines by their numbers, and one more

@@ -8,14 +8,10 @@ use Rattle.natural_recalc.specs.World.{format_of}
 use Rattle.sheet_store.specs.Grid.{width_of}
 use Rattle.screen_layout.specs.Lines.{filled}
 use Rattle.work_sheet.specs.Seen.{Sheet}
-use Rattle.screen_layout.specs.declared.panel.Mode.{Mode}
-use Rattle.screen_layout.specs.declared.panel.Mode.TheVariants.{Ready, Label, Value, Edit, Point, Menu, Error}
-use Rattle.screen_layout.specs.declared.panel.Panel.{Panel}
+use Rattle.control_panel.specs.declared.panel.Mode.{Mode}
+use Rattle.control_panel.specs.declared.panel.Mode.TheVariants.{Ready, Label, Value, Edit, Point, Menu, Error}
+use Rattle.control_panel.specs.declared.panel.Panel.{Panel}
 use Rattle.work_sheet.specs.Typed.{typed}
-
--- it tells a mode and nothing else
-abbrev pub plain_panel : Mode → Panel
-plain_panel mode = record { mode = mode; prompt = []; typed = []; cursor = 0; menu = []; below = []; message = []; end = false; running = false; indicate = [] }
 
 abbrev pub mode_name : Mode → List ℕ
 mode_name Ready = codes "READY"

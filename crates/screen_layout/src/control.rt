@@ -10,8 +10,8 @@ ghost use Rattle.work_sheet.specs.Seen.{of_worksheet};
 ghost use Rattle.work_sheet.specs.Typed.{typed};
 
 use crate::painted_line::PaintedLine;
-use crate::panel::{Mode, Panel};
 use cell_format::indicator;
+use control_panel::{Mode, Panel};
 use formula_eval::Look;
 use grid_address::{Cell, Format, cell_text, decimal_text};
 use lics_text::Line;

@@ -6,8 +6,8 @@ ghost use Rattle.screen_layout.specs.Lines.{shown_line};
 ghost use Rattle.work_sheet.specs.Seen.{of_worksheet};
 
 use crate::painted_line::PaintedLine;
-use crate::panel::{Mode, Panel};
 use cell_format::show_number;
+use control_panel::{Mode, Panel};
 use fixed_value::Fixed;
 use grid_address::Format;
 use lics_text::Line;

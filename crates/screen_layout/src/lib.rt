@@ -7,10 +7,8 @@ mod control;
 mod corner;
 mod foot;
 mod painted_line;
-mod panel;
 mod screen;
 mod widths;
 
 pub use corner::corner_for;
-pub use panel::{Mode, Panel};
 pub use screen::paint;

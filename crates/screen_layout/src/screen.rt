@@ -8,7 +8,7 @@ ghost use Rattle.screen_show.specs.Grid.{IsGrid, IsPrinted};
 use crate::columns::columns_line;
 use crate::control::{below_line, entry_line, pointer_line, text_line};
 use crate::foot::foot_line;
-use crate::panel::Panel;
+use control_panel::Panel;
 use grid_address::Cell;
 use screen_show::Grid;
 use serial_date::Moment;

@@ -1,9 +1,9 @@
 -- The screen of a state.
 use Rattle.std.specs.Prelude.{ℕ, List, length}
-use Rattle.screen_layout.specs.Control.{plain_panel}
+use Rattle.control_panel.specs.Panels.{plain_panel}
 use Rattle.screen_layout.specs.Screen.{screen as painted}
-use Rattle.screen_layout.specs.declared.panel.Mode.TheVariants as told
-use Rattle.screen_layout.specs.declared.panel.Panel.{Panel}
+use Rattle.control_panel.specs.declared.panel.Mode.TheVariants as told
+use Rattle.control_panel.specs.declared.panel.Panel.{Panel}
 use Rattle.session_core.specs.Machine.{State}
 use Rattle.session_core.specs.declared.mode.Mode.{Mode}
 use Rattle.session_core.specs.declared.mode.Mode.TheVariants.{Ready, Label, Value}

@@ -1,11 +1,11 @@
 // What the control panel tells of a mode.
 ghost use Rattle.std.specs.Prelude.{◌≡◌, length};
-ghost use Rattle.screen_layout.specs.Control.{plain_panel};
+ghost use Rattle.control_panel.specs.Panels.{plain_panel};
 ghost use Rattle.session_core.specs.Screen.{panel_of};
 
 use crate::Mode;
+use control_panel::{Mode as Told, Panel};
 use lics_text::TextLine;
-use screen_layout::{Mode as Told, Panel};
 
 // A line that is typed, with the cursor behind it.
 fn typing(told: Told, line: &TextLine) -> Panel
