@@ -1,4 +1,5 @@
 pub mod Blanks
+pub mod Coming
 pub mod Cuts
 pub mod Nearing
 pub mod Painted

@@ -6,10 +6,7 @@ use Rattle.screen_layout.specs.Cells.{cell_text}
 use Rattle.screen_layout.specs.Lines.{padded}
 use Rattle.work_sheet.specs.Seen.{Sheet}
 use Rattle.screen_layout.specs.Sheets.{width_in}
-
-pub record Column : Type 0 where
-  pub col : ℕ
-  pub width : ℕ
+use Rattle.screen_layout.specs.declared.shown_columns.Column.{Column}
 
 -- Of so many columns from one on, those that are shown in the room: hidden ones are passed over, and the others stand
 -- beside each other while they fit whole. The first one is shown in any case.
@@ -23,6 +20,10 @@ columns_from s first (suc count) col room =
 -- behind the four bytes of the row numbers 76 are left
 abbrev pub shown_columns : Sheet → ℕ → List Column
 shown_columns s first = columns_from s true (256 - first) first 76
+
+-- how many they are
+abbrev pub columns_shown : Sheet → ℕ → ℕ
+columns_shown s first = length (shown_columns s first)
 
 -- a column's letters, with half of the free bytes, rounded down, on their left
 abbrev pub head_text : ℕ → ℕ → List ℕ

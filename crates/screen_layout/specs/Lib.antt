@@ -1,5 +1,6 @@
 pub mod Cells
 pub mod Columns
+pub mod Coming
 pub mod Control
 pub mod Corner
 pub mod Foot

@@ -8,7 +8,9 @@ mod corner;
 mod foot;
 mod painted_line;
 mod screen;
+mod shown_columns;
 mod widths;
 
 pub use corner::corner_for;
 pub use screen::paint;
+pub use shown_columns::columns_shown;

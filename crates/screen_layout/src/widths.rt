@@ -5,10 +5,14 @@ ghost use Rattle.screen_layout.specs.Sheets.{width_in};
 
 use work_sheet::Sheet;
 
-/// A column's width: its own or the sheet's.
+/// The widest that a column can be.
+pub const MOST_WIDTH: u8 = 240;
+
+/// A column's width, 1 to 240: its own or the sheet's.
 pub fn width_in(sheet: &Sheet, col: u8) -> u8
     ensures width { result ≡ width_in (of_worksheet sheet.now) col }
-    ensures most { result ≤ 240 }
+    ensures least { 1 ≤ result }
+    ensures most { result ≤ MOST_WIDTH }
 {
     let settings = sheet.settings();
     settings.are_within();
