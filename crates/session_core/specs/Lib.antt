@@ -1,5 +1,7 @@
-pub mod Acts
+pub mod Carrying
+pub mod Entering
 pub mod Machine
-pub mod Pointer
+pub mod Moving
+pub mod Pressing
 pub mod Screen
-pub mod Typing
+pub mod Step

@@ -1,19 +1,14 @@
 -- The screen of a state.
-use Rattle.std.specs.Prelude.{ℕ, List, length}
-use Rattle.control_panel.specs.Panels.{plain_panel}
-use Rattle.screen_layout.specs.Screen.{screen as painted}
-use Rattle.control_panel.specs.declared.panel.Mode.TheVariants as told
+use Rattle.std.specs.Prelude.{ℕ, List}
 use Rattle.control_panel.specs.declared.panel.Panel.{Panel}
+use Rattle.screen_layout.specs.Screen.{screen as painted}
 use Rattle.session_core.specs.Machine.{State}
-use Rattle.session_core.specs.declared.mode.Mode.{Mode}
-use Rattle.session_core.specs.declared.mode.Mode.TheVariants.{Ready, Label, Value}
+use Rattle.session_core.specs.Pressing.{room_panel}
 
--- what the mode tells: the line that is typed, with the cursor behind it
-abbrev pub panel_of : Mode → Panel
-panel_of Ready = plain_panel told.Ready
-panel_of (Label line) = record (plain_panel told.Label) { typed = line; cursor = length line }
-panel_of (Value line) = record (plain_panel told.Value) { typed = line; cursor = length line }
+-- what is shown of the room, with END's mark
+abbrev pub panel_of : State → Panel
+panel_of s = record (room_panel s.room) { end = s.end }
 
 -- the screen that a state shows
 abbrev pub screen : State → List (List ℕ)
-screen s = painted s.sheet (panel_of s.mode) s.corner s.day s.second
+screen s = painted s.sheet (panel_of s) s.corner s.day s.second

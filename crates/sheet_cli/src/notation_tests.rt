@@ -38,7 +38,7 @@ fn marks_in_braces_are_typed(rt: HostRuntime) -> Result<(), Fail> {
 fn keys_that_are_not_built_are_passed_over(rt: HostRuntime) -> Result<(), Fail> {
     keys_show(
         &rt,
-        b"{DOWN}{HOME}{end}{PgDn}{ALT x}{BREAK}{UNDO}{EDIT 2}",
+        b"{DOWN}{QUERY}{table}{Graph}{ALT x}{WINDOW}{UNDO}{NAME 2}",
         0,
         "",
         9,
@@ -46,7 +46,7 @@ fn keys_that_are_not_built_are_passed_over(rt: HostRuntime) -> Result<(), Fail> 
     )?;
     keys_show(
         &rt,
-        b"AB{BS}{ESC}{QUERY}C~",
+        b"AB{ABS}{CALC}{QUERY}C~",
         0,
         "",
         7,

@@ -104,13 +104,13 @@ fn labels_in_a_range_count_as_nought_and_blanks_not_at_all(rt: HostRuntime) -> R
 }
 
 #[test]
-fn a_function_that_is_left_out_leaves_the_cell(rt: HostRuntime) -> Result<(), Fail> {
+fn a_function_that_is_left_out_is_edited(rt: HostRuntime) -> Result<(), Fail> {
     keys_show(
         &rt,
         b"@PMT(1,1,1)~",
         0,
         "",
         12,
-        &[(0, 0, "A1:  "), (0, 73, "READY"), (4, 0, "   1         ")],
+        &[(0, 0, "A1:  "), (0, 73, "EDIT "), (1, 0, "@PMT(1,1,1) ")],
     )
 }

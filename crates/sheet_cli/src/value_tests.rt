@@ -123,7 +123,7 @@ fn circles_are_told(rt: HostRuntime) -> Result<(), Fail> {
 }
 
 #[test]
-fn a_value_that_spells_nothing_leaves_the_cell(rt: HostRuntime) -> Result<(), Fail> {
+fn a_value_that_spells_nothing_is_edited(rt: HostRuntime) -> Result<(), Fail> {
     come_to(
         &rt,
         b"7~(1{DOWN}",
@@ -131,8 +131,8 @@ fn a_value_that_spells_nothing_leaves_the_cell(rt: HostRuntime) -> Result<(), Fa
         "0",
         &[
             (0, 0, "A1: 7 "),
-            (0, 73, "READY"),
-            (1, 0, "  "),
+            (0, 73, "EDIT "),
+            (1, 0, "(1 "),
             (4, 0, "   1       7 "),
         ],
     )?;
@@ -142,7 +142,7 @@ fn a_value_that_spells_nothing_leaves_the_cell(rt: HostRuntime) -> Result<(), Fa
         0,
         "",
         11,
-        &[(0, 0, "A1:  "), (0, 73, "READY"), (4, 0, "   1         ")],
+        &[(0, 0, "A1:  "), (0, 73, "EDIT "), (1, 0, "1000000000 ")],
     )
 }
 

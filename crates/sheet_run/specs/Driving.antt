@@ -3,8 +3,9 @@ use Rattle.std.specs.Prelude.{◌≡◌, ℕ, Bool, true, false, List, Option, �
 use Rattle.outside_world.specs.Clock.{TakesReading}
 use Rattle.serial_date.specs.declared.moment.Moment.{Moment}
 use Rattle.key_words.specs.declared.key.Key.{Key}
-use Rattle.session_core.specs.Machine.{start, step, Follows, Running}
-use Rattle.session_core.specs.declared.key.Event.TheVariants.{Key as KeyEvent}
+use Rattle.session_core.specs.Machine.{start, Follows, Running}
+use Rattle.session_core.specs.Step.{step}
+use Rattle.session_core.specs.declared.event.Event.TheVariants.{Key as KeyEvent}
 use Rattle.session_core.specs.Screen.{screen}
 use Rattle.screen_show.specs.Display.{View}
 use Rattle.screen_show.specs.Grid.{IsPrinted}

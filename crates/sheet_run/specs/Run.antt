@@ -5,8 +5,9 @@ use Rattle.outside_world.specs.Shelf.{OnShelf}
 use Rattle.serial_date.specs.declared.moment.Moment.{Moment}
 use Rattle.key_words.specs.Notation.{Begins, IsNoText}
 use Rattle.key_words.specs.declared.key.Key.{Key}
-use Rattle.session_core.specs.Machine.{start, step, Outcome, State}
-use Rattle.session_core.specs.declared.key.Event.TheVariants.{Key as KeyEvent}
+use Rattle.session_core.specs.Machine.{start, Outcome, State}
+use Rattle.session_core.specs.Step.{step}
+use Rattle.session_core.specs.declared.event.Event.TheVariants.{Key as KeyEvent}
 use Rattle.session_core.specs.Screen.{screen}
 use Rattle.work_sheet.specs.Doing.{Happened}
 use Rattle.work_sheet.specs.Work.{no_work, HasWorked, Work}

@@ -1,5 +1,0 @@
-use Rattle.std.proofs.Common.{rules}
-use Rattle.session_core.proofs.session.Session.write.Goals as goal
-
-pub returns : goal.returns
-returns c = record { state = search rules; work = search rules; spent = search rules }

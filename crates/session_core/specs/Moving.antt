@@ -1,0 +1,42 @@
+-- Which steps only move the pointer, or type.
+use Rattle.std.specs.Prelude.{◌≡◌}
+use Rattle.grid_address.specs.Place.{Place}
+use Rattle.key_words.specs.declared.key.Key.{Key}
+use Rattle.key_words.specs.declared.key.Key.TheVariants as key
+use Rattle.session_rooms.specs.declared.rooms.Room.{Room}
+use Rattle.session_rooms.specs.declared.rooms.Room.TheVariants as room
+use Rattle.session_rooms.specs.declared.turn.Turn.{Turn}
+use Rattle.session_rooms.specs.declared.turn.Turn.TheVariants as turn
+use Rattle.work_sheet.specs.Doing.{with_pointer}
+use Rattle.work_sheet.specs.Seen.{Sheet}
+use Rattle.session_core.specs.Machine.{State}
+use Rattle.session_core.specs.Pressing.{turn_of}
+use Rattle.session_core.specs.declared.event.Event.{Event}
+use Rattle.session_core.specs.declared.event.Event.TheVariants.{Key as KeyEvent, Unit as UnitEvent}
+
+-- the pointer alone may have moved
+abbrev pub IsMoved : Sheet → Sheet → Type 0
+IsMoved s t = (p : Place) × (t ≡ with_pointer p s)
+
+-- no answer of a prompt is kept
+abbrev pub KeepsNoAnswer : Room → Type 0
+KeepsNoAnswer (room.Asking r) = ⊥
+KeepsNoAnswer r = Unit {0}
+
+-- nothing is kept of the key beside the session's own line: any key outside a prompt, and BREAK
+abbrev pub TakesNoMemory : Key → Room → Type 0
+TakesNoMemory key.Break r = Unit {0}
+TakesNoMemory k r = KeepsNoAnswer r
+
+-- the session does something else, the pointer moves, END is marked, or an error is told
+abbrev pub OnlyMoves : Turn → Type 0
+OnlyMoves (turn.Become r) = Unit {0}
+OnlyMoves (turn.Move way) = Unit {0}
+OnlyMoves turn.Mark = Unit {0}
+OnlyMoves (turn.Fail e) = Unit {0}
+OnlyMoves t = ⊥
+
+-- an event that only moves the pointer, types or is passed over
+abbrev pub OnlyMovesBy : Event → State → Type 0
+OnlyMovesBy (KeyEvent k) s = TakesNoMemory k s.room × OnlyMoves (turn_of k s.room s.end s.sheet)
+OnlyMovesBy UnitEvent s = ⊥

@@ -1,0 +1,341 @@
+// The session's machine: where what a key comes to is carried out.
+ghost use Rattle.std.specs.Prelude.{◌≡◌, true, false, IsOk, OnOk};
+ghost use Rattle.entry_line.specs.Line.{placed};
+ghost use Rattle.formula_eval.specs.Mean.{mean};
+ghost use Rattle.prompt_room.specs.Opening.{opening};
+ghost use Rattle.screen_show.specs.Grid.{IsGrid, IsPrinted};
+ghost use Rattle.session_core.specs.Carrying.{acted, carried, entered, failed, finished, going, gone_by, gone_to, opened};
+ghost use Rattle.session_core.specs.Machine.{idle, in_room, pointer_of, pointing_at, scene_at, start, with_done, Leads};
+ghost use Rattle.session_core.specs.Moving.{IsMoved, OnlyMoves, TakesNoMemory};
+ghost use Rattle.session_core.specs.Pressing.{turn_of};
+ghost use Rattle.session_core.specs.Screen.{panel_of, screen};
+ghost use Rattle.session_core.specs.Step.{framed, taken};
+ghost use Rattle.sheet_edits.specs.Edits.{is_protected};
+ghost use Rattle.work_sheet.specs.Doing.{put, recalculated, settled};
+ghost use Rattle.work_sheet.specs.Work.{no_work};
+
+use crate::entering::{Meant, meaning_of};
+use crate::pressing::{room_panel, turn_of};
+use cell_pointer::{Way, moved};
+use control_panel::Panel;
+use desk_answers::span_answer;
+use desk_errors::CommandError;
+use entry_line::EntryLine;
+use formula_eval::{Look, Scene, Tally};
+use formula_tree::Content;
+use grid_address::Cell;
+use key_words::Key;
+use lics_text::Memory;
+use menu_tree::{Action, CommonAction};
+use prompt_room::{WhatFollows, opening};
+use screen_layout::{columns_shown, corner_for, paint};
+use screen_show::Grid;
+use serial_date::Moment;
+use session_rooms::{AnsweredCommand, PromptRoom, Room, Turn, TypingMode, TypingRoom};
+use sheet_store::{Settings, SheetFault};
+use std::alloc::Global;
+use std::marker::Model;
+use std::mem;
+use work_sheet::Sheet;
+
+const HOME: Cell = Cell { row: 0, col: 0 };
+
+/// The worksheet with its pointer, the cell at the top left of the screen, what the session is doing, and the moment of
+/// the last step.
+#[derive(Drop)]
+pub struct Machine {
+    sheet: Sheet,
+    tally: Tally,
+    corner: Cell,
+    room: Room,
+    end: bool,
+    moment: Moment,
+}
+
+impl Model for Machine {
+    ghost use Rattle.session_core.specs.Machine.{coded_worked, Worked};
+    ghost use Rattle.work_sheet.specs.Seen.{of_worksheet};
+
+    ghost Value = { Worked };
+
+    ghost coded = { coded_worked };
+
+    ghost view = { λ a. record {
+      state = record { sheet = of_worksheet a.sheet; corner = a.corner; room = a.room; end = a.end; day = a.moment.day; second = a.moment.second };
+      work = record { dirty = a.sheet.dirty; count = a.tally.count };
+    } };
+}
+
+impl Machine {
+    /// The machine of a fresh session.
+    pub fn start(alloc: Global) -> Machine
+        ensures state { result.state ≡ start }
+        ensures work { result.work ≡ no_work }
+    {
+        Machine {
+            sheet: Sheet::new(alloc),
+            tally: Tally::new(),
+            corner: HOME,
+            room: Room::Ready,
+            end: false,
+            moment: Moment::unknown(),
+        }
+    }
+
+    /// How many formulas were evaluated; the count stays at the last u64.
+    pub fn evaluations(&self) -> u64
+        ensures { result ≡ self.now.work.count }
+    {
+        self.tally.count()
+    }
+
+    // The pointer's cell.
+    fn pointer(&self) -> Cell
+        ensures { result ≡ pointer_of self.now.state }
+    {
+        self.sheet.settings().pointer
+    }
+
+    // What formulas look at beside the sheet.
+    fn scene(&self, now: &Moment) -> Scene
+        ensures { result ≡ scene_at self.now.state now.now }
+    {
+        Scene {
+            cursor: self.pointer(),
+            now: *now,
+        }
+    }
+
+    // The session does something else.
+    fn enter_room(&mut self, room: Room)
+        ensures state { self.new.state ≡ in_room room self.old.state }
+        ensures work { self.new.work ≡ self.old.work }
+        ensures sheet { IsMoved self.old.state.sheet self.new.state.sheet }
+    {
+        self.room = room;
+    }
+
+    // END waits for a moving key.
+    fn mark(&mut self)
+        ensures state { self.new.state ≡ record self.old.state { end = true } }
+        ensures work { self.new.work ≡ self.old.work }
+        ensures sheet { IsMoved self.old.state.sheet self.new.state.sheet }
+    {
+        self.end = true;
+    }
+
+    // Puts the pointer into a cell.
+    fn point_at(&mut self, pointer: Cell)
+        ensures state { self.new.state ≡ pointing_at pointer self.old.state }
+        ensures work { self.new.work ≡ self.old.work }
+        ensures sheet { IsMoved self.old.state.sheet self.new.state.sheet }
+    {
+        let settings = *self.sheet.settings();
+        self.sheet.set_settings(Settings {
+            pointer,
+            ..settings
+        });
+    }
+
+    // The pointer goes a way.
+    fn go(&mut self, way: Way)
+        ensures state { self.new.state ≡ going way self.old.state }
+        ensures work { self.new.work ≡ self.old.work }
+        ensures sheet { IsMoved self.old.state.sheet self.new.state.sheet }
+    {
+        let shown = columns_shown(&self.sheet, self.corner.col);
+        let to = moved(way, shown, self.sheet.cells(), self.pointer());
+        self.point_at(to);
+    }
+
+    // An error is told.
+    fn fail(&mut self, error: CommandError)
+        ensures state { self.new.state ≡ failed error self.old.state }
+        ensures work { self.new.work ≡ self.old.work }
+        ensures sheet { IsMoved self.old.state.sheet self.new.state.sheet }
+    {
+        self.enter_room(Room::Failed(error.message()));
+    }
+
+    // The pointer goes to the first cell of the span that an answer is.
+    fn go_to(&mut self, answer: &[u8])
+        ensures state { self.new.state ≡ gone_by (Some answer.now) self.old.state }
+        ensures work { self.new.work ≡ self.old.work }
+    {
+        match span_answer(self.sheet.names(), answer, 0) {
+            Ok(span) => self.point_at(span.first),
+            Err(error) => self.fail(error),
+        }
+    }
+
+    // A command is carried out.
+    fn act(&mut self, command: AnsweredCommand)
+        ensures state { self.new.state ≡ acted command.action command.answers self.old.state }
+        ensures work { self.new.work ≡ self.old.work }
+    {
+        match command.action {
+            Action::Common(CommonAction::Goto) => match command.answers.get(0) {
+                Some(answer) => self.go_to(answer.bytes()),
+                None => {}
+            },
+            _ => {}
+        }
+    }
+
+    // A command's next prompt follows, or it is carried out.
+    fn ask(&mut self, command: AnsweredCommand)
+        ensures state { self.new.state ≡ opened (opening command (pointer_of self.old.state)) command self.old.state }
+        ensures work { self.new.work ≡ self.old.work }
+    {
+        match opening(&command, self.pointer()) {
+            WhatFollows::Asks(answering) => {
+                self.enter_room(Room::Asking(PromptRoom { command, answering }));
+            }
+            WhatFollows::Looks => {}
+            WhatFollows::Acts => self.act(command),
+        }
+    }
+
+    // A line is edited, with the cursor at a place or at its end.
+    fn edit_at(&mut self, at: usize, mut line: EntryLine)
+        ensures state { self.new.state ≡ in_room (Room.Typing (record { mode = TypingMode.Edit; line = placed line at })) self.old.state }
+        ensures work { self.new.work ≡ self.old.work }
+    {
+        line.set_cursor(at.min(line.text().len()));
+        self.enter_room(Room::Typing(TypingRoom {
+            mode: TypingMode::Edit,
+            line,
+        }));
+    }
+
+    // All is recalculated.
+    fn calculate(&mut self, now: &Moment) -> Result<(), Memory>
+        ensures { OnOk result (Leads (with_done (recalculated mean (scene_at self.old.state now.now) self.old.state.sheet) self.old.state) self.old self.new) }
+    {
+        let scene = self.scene(now);
+        self.sheet.calc(&scene, &mut self.tally)?;
+        Ok(())
+    }
+
+    // In Automatic mode all is recalculated.
+    fn settle(&mut self, now: &Moment) -> Result<(), Memory>
+        ensures { OnOk result (Leads (with_done (settled mean (scene_at self.old.state now.now) self.old.state.sheet) self.old.state) self.old self.new) }
+    {
+        if self.sheet.settings().automatic {
+            self.calculate(now)?;
+        }
+        Ok(())
+    }
+
+    // Whether the pointer's cell is protected.
+    fn is_protected(&self) -> bool
+        ensures { result ≡ is_protected self.now.state.sheet.settings self.now.state.sheet.grid (pointer_of self.now.state) }
+    {
+        self.sheet.settings().protection && self.sheet.format(self.pointer()).is_protected()
+    }
+
+    // Writes a content into the pointer's cell, which isn't protected.
+    fn write(&mut self, content: Content, now: &Moment) -> Result<(), Memory>
+        requires { is_protected self.old.state.sheet.settings self.old.state.sheet.grid (pointer_of self.old.state) ≡ false }
+        ensures { OnOk result (Leads (with_done (put mean (scene_at self.old.state now.now) (pointer_of self.old.state) content self.old.state.sheet) self.old.state) self.old self.new) }
+    {
+        let scene = self.scene(now);
+        match self
+            .sheet
+            .enter_line(scene.cursor, content, &scene, &mut self.tally)
+        {
+            Ok(()) => {}
+            Err(SheetFault::Memory) => return Err(Memory),
+            Err(_) => unreachable!(),
+        }
+        Ok(())
+    }
+
+    // Enters a content into the pointer's cell, and then the pointer moves.
+    fn enter(&mut self, content: Content, way: Way, now: &Moment) -> Result<(), Memory>
+        ensures { OnOk result (Leads (entered content way (scene_at self.old.state now.now) self.old.state) self.old self.new) }
+    {
+        if self.is_protected() {
+            self.fail(CommandError::Protected(self.pointer()));
+            return Ok(());
+        }
+        self.write(content, now)?;
+        self.settle(now)?;
+        self.go(way);
+        Ok(())
+    }
+
+    // Enters what a line means into the pointer's cell; a fault goes to EDIT.
+    fn finish(&mut self, way: Way, line: EntryLine, now: &Moment) -> Result<(), Memory>
+        ensures { OnOk result (Leads (finished way line (scene_at self.old.state now.now) self.old.state) self.old self.new) }
+    {
+        match meaning_of(line.text(), &self.sheet, self.pointer())? {
+            Meant::Means(content) => self.enter(content, way, now),
+            Meant::Faulty(at) => {
+                self.edit_at(at, line);
+                Ok(())
+            }
+        }
+    }
+
+    // What a key came to is carried out.
+    fn carry(&mut self, turn: Turn, now: &Moment) -> Result<(), Memory>
+        ensures ok { OnOk result (Leads (carried turn (scene_at self.old.state now.now) self.old.state) self.old self.new) }
+        ensures moves { OnlyMoves turn → IsOk result }
+        ensures sheet { OnlyMoves turn → IsMoved self.old.state.sheet self.new.state.sheet }
+    {
+        match turn {
+            Turn::Become(room) => self.enter_room(room),
+            Turn::Move(way) => self.go(way),
+            Turn::Mark => self.mark(),
+            Turn::Finish(way, line) => self.finish(way, line, now)?,
+            Turn::Ask(command) => self.ask(command),
+            Turn::Act(command) => self.act(command),
+            Turn::Recalculate => self.calculate(now)?,
+            Turn::Start(_) | Turn::Undo => {}
+            Turn::Fail(error) => self.fail(error),
+        }
+        Ok(())
+    }
+
+    /// Takes a key, before the screen follows it. A key that only moves the pointer, types or is passed over takes no
+    /// memory and leaves all of the sheet but the pointer.
+    pub fn take(&mut self, key: Key, now: &Moment) -> Result<(), Memory>
+        ensures ok { OnOk result (Leads (taken key (scene_at self.old.state now.now) self.old.state) self.old self.new) }
+        ensures moves { TakesNoMemory key self.old.state.room → OnlyMoves (turn_of key self.old.state.room self.old.state.end self.old.state.sheet) → IsOk result }
+        ensures sheet { TakesNoMemory key self.old.state.room → OnlyMoves (turn_of key self.old.state.room self.old.state.end self.old.state.sheet) → IsMoved self.old.state.sheet self.new.state.sheet }
+    {
+        let end = self.end;
+        let room = mem::replace(&mut self.room, Room::Ready);
+        self.end = false;
+        let turn = turn_of(key, room, end, &self.sheet)?;
+        self.carry(turn, now)
+    }
+
+    /// The screen follows the pointer, at this moment.
+    pub fn follow(&mut self, now: &Moment)
+        ensures state { self.new.state ≡ framed now.now self.old.state }
+        ensures work { self.new.work ≡ self.old.work }
+    {
+        self.corner = corner_for(&self.sheet, self.corner);
+        self.moment = *now;
+    }
+
+    // What is shown beside the sheet.
+    fn panel(&self) -> Panel
+        ensures { result ≡ panel_of self.now.state }
+    {
+        let mut panel = room_panel(&self.room);
+        panel.end = self.end;
+        panel
+    }
+
+    /// The screen. None of its bytes is below 32.
+    pub fn grid(&self) -> Grid
+        ensures screen { result ≡ screen self.now.state }
+        ensures shape { IsGrid (screen self.now.state) }
+        ensures printed { IsPrinted (screen self.now.state) }
+    {
+        paint(&self.sheet, &self.panel(), self.corner, &self.moment)
+    }
+}

@@ -1,0 +1,53 @@
+// What a key comes to, and what is shown, by what the session is doing.
+ghost use Rattle.std.specs.Prelude.{◌≡◌, IfOk, IsOk};
+ghost use Rattle.session_core.specs.Moving.{KeepsNoAnswer, TakesNoMemory};
+ghost use Rattle.session_core.specs.Pressing.{pressed, room_panel, turn_of};
+ghost use Rattle.work_sheet.specs.Seen.{of_worksheet};
+
+use control_panel::{Mode, Panel};
+use key_words::Key;
+use lics_text::Memory;
+use session_rooms::{Room, Turn};
+use work_sheet::Sheet;
+
+// What a key comes to in a room.
+fn pressed(room: Room, key: Key, end: bool, sheet: &Sheet) -> Result<Turn, Memory>
+    ensures turn { IfOk result (λ t. t ≡ pressed room key end (of_worksheet sheet.now)) }
+    ensures sure { KeepsNoAnswer room → IsOk result }
+{
+    let pointer = sheet.settings().pointer;
+    match room {
+        Room::Ready => Ok(ready_room::press(key, end, sheet)),
+        Room::Typing(room) => Ok(typing_room::press(key, sheet.cells(), pointer, room)),
+        Room::Pointing(room) => Ok(point_room::press(key, sheet.cells(), pointer, room)),
+        Room::Menu(_) => Ok(Turn::Become(Room::Ready)),
+        Room::Asking(room) => prompt_room::press(key, sheet, room),
+        Room::Failed(message) => Ok(ready_room::press_failed(key, message)),
+    }
+}
+
+/// What a key comes to: BREAK goes to READY from everywhere, and any other key is the room's (Release 2 manual). Only an
+/// answer in a prompt takes memory.
+pub(crate) fn turn_of(key: Key, room: Room, end: bool, sheet: &Sheet) -> Result<Turn, Memory>
+    ensures turn { IfOk result (λ t. t ≡ turn_of key room end (of_worksheet sheet.now)) }
+    ensures sure { TakesNoMemory key room → IsOk result }
+{
+    match key {
+        Key::Break => Ok(Turn::Become(Room::Ready)),
+        _ => pressed(room, key, end, sheet),
+    }
+}
+
+/// What is shown of a room.
+pub(crate) fn room_panel(room: &Room) -> Panel
+    ensures { result ≡ room_panel room.now }
+{
+    match room {
+        Room::Ready => ready_room::panel(),
+        Room::Typing(room) => typing_room::panel(room),
+        Room::Pointing(room) => point_room::panel(room),
+        Room::Menu(_) => Panel::of(Mode::Menu),
+        Room::Asking(room) => prompt_room::panel(room),
+        Room::Failed(message) => ready_room::failed_panel(message),
+    }
+}
