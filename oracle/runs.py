@@ -14,7 +14,7 @@ from .answers import NOT_BUILT
 from .cases import SEED, Texts, WORDS, is_read
 from .cli import run
 from .names import Names
-from .session import OPERATORS, VALUE_BEGINS
+from .session import VALUE_BEGINS
 
 BLANK_MOMENT = b' ' * 15
 WITHOUT = NOT_BUILT | {b'NOW'}
@@ -57,16 +57,88 @@ class Typist:
             if text and text[0] not in VALUE_BEGINS and text[:1] != b'/':
                 return text
 
+    def finish(self):
+        """A key that finishes a line."""
+        r = self.r
+        return r.choice([b'~', b'~', b'~', b'\n', b'{UP}', b'{DOWN}', b'{LEFT}', b'{RIGHT}', b'{PGDN}', b'{PGUP}', b'{HOME}', b'{BIGRIGHT}'])
+
     def entry(self):
-        """A line and the key that finishes it; an arrow behind an operator would begin to point."""
+        """A line and the keys that finish it; an arrow behind an operator begins to point."""
         text = self.value() if self.r.randrange(3) else self.label()
-        points = text[0] in VALUE_BEGINS and text[-1] in OPERATORS + b'(,'
-        return self.typed(text) + (b'~' if points or self.r.randrange(2) else self.arrow())
+        return self.typed(text) + (self.finish() if self.r.randrange(2) else self.arrow())
+
+    def moving(self):
+        """A key that moves the pointer by more than a cell."""
+        r = self.r
+        name = r.choice([b'PGUP', b'PGDN', b'BIGLEFT', b'BIGRIGHT', b'HOME', b'PgDn', b'bigright'])
+        return b'{' + name + (b'}' if r.randrange(3) else b' %d}' % r.choice([1, 2, 5, 40, 420]))
+
+    def end(self):
+        """END, and mostly a key that it waits for."""
+        r = self.r
+        return b'{END}' + r.choice([b'{UP}', b'{DOWN}', b'{LEFT}', b'{RIGHT}', b'{HOME}', b'{END}', b'{PGDN}', b'{DOWN}', b'{RIGHT}', b'x~', b'~'])
+
+    def line_keys(self):
+        """Keys that go through a line that is edited."""
+        r = self.r
+        names = [b'LEFT', b'RIGHT', b'BIGLEFT', b'BIGRIGHT', b'HOME', b'END', b'DEL', b'BS', b'EDIT', b'ABS']
+        part = lambda: b'{' + r.choice(names) + b'}' if r.randrange(3) else self.typed(r.choice([b'7', b'1', b'+A1', b'(', b')', b'x', b'*2', b"'"]))
+        return b''.join(part() for _ in range(r.randrange(6)))
+
+    def leaving(self):
+        """Keys that end what is typed: it is finished or given up."""
+        r = self.r
+        return r.choice([b'~', b'~', b'{DOWN}', b'{UP}', b'{PGDN}', b'{ESC}{ESC}', b'{BREAK}', b'{HOME}{RIGHT}~'])
+
+    def edited(self):
+        """The pointer's cell, or a line that was begun, is edited."""
+        r = self.r
+        front = b'' if r.randrange(2) else self.typed(self.value() if r.randrange(2) else self.label())
+        return front + b'{EDIT}' + self.line_keys() + self.leaving() + r.choice([b'', b'{ESC}{ESC}'])
+
+    def faulty(self):
+        """A line that may spell nothing, which goes to EDIT, and what is then done."""
+        r = self.r
+        text = bytearray(self.value())
+        for _ in range(r.randrange(1, 3)):
+            at = r.randrange(len(text))
+            text[at:at + r.randrange(2)] = r.choice([b'', b')', b'(', b'+', b',', b'#', b'Q', b'9999999999', b'"', b'@', b'.'])
+        text = bytes(text)
+        if b'@NOW' in text.upper() or text[:1] not in (b'%c' % byte for byte in VALUE_BEGINS):
+            return b'1+~{ESC}{ESC}'
+        return self.typed(text) + self.finish() + self.line_keys() + self.leaving() + b'{ESC}{ESC}{BREAK}'
+
+    def pointing(self):
+        """Keys that steer a reference."""
+        r = self.r
+        part = lambda: r.choice([self.arrow, lambda: b'.', lambda: b'{ABS}', lambda: r.choice([b'{ESC}', b'{BS}', b'{HOME}', b'{NAME}'])])()
+        return b''.join(part() for _ in range(r.randrange(1, 5)))
+
+    def pointed(self):
+        """A value whose references are pointed at."""
+        r = self.r
+        out = self.typed(r.choice([b'+', b'-(', b'@SUM(', b'1+', b'+A1*', b'@MAX(A1,', b'@IF(A1=', b'#NOT#']))
+        for _ in range(r.randrange(1, 4)):
+            out += self.arrow() + self.pointing() + r.choice([b'+', b'*', b',', b')', b'-', b'^', b'x', b'&'])
+        if r.randrange(8) == 0:
+            out += b'1' * r.choice([200, 225, 236]) + b'+' + self.arrow()
+        return out + r.choice([b'~', b')~', b'{ESC}{ESC}~', b'{BREAK}', b'2~']) + r.choice([b'', b'{ESC}{ESC}{BREAK}'])
+
+    def goto(self):
+        """GOTO with an answer that is typed or pointed at, good or not."""
+        r = self.r
+        typed = lambda: self.typed(r.choice([b'A1', b'B7', b'C3', b'IV8192', b'J40', b'b2..c9', b'A1.B2', b'Z100', b'A0', b'IW1', b'NONAME', b'1+', b'A1..', b'', b'A$1', b'N0 NAME', b'A8193']))
+        answer = typed() if r.randrange(3) else self.pointing()
+        return b'{GOTO}' + answer + r.choice([b'~', b'~', b'~', b'{ESC}{ESC}', b'{BREAK}', b'{ESC}A3~']) + r.choice([b'', b'{ESC}', b'~'])
+
+    def other(self):
+        """A key that recalculates, or is passed over somewhere."""
+        r = self.r
+        return r.choice([b'{CALC}', b'{calc}', b'~', b'\n', b'{WINDOW}', b'{GRAPH}', b'{NAME}', b'{ABS}', b'{DEL}', b'{BS}', b'{ESC}', b'{BREAK}'])
 
     def part(self):
-        r = self.r
-        other = lambda: r.choice([b'{CALC}', b'{calc}', b'~', b'\n'])
-        return r.choice([self.entry, self.entry, self.entry, self.arrow, other])()
+        many = [self.entry] * 4 + [self.arrow, self.moving, self.end, self.edited, self.faulty, self.pointed, self.goto, self.other]
+        return self.r.choice(many)()
 
     def keys(self):
         r = self.r
