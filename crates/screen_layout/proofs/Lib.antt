@@ -4,3 +4,4 @@ pub mod Cuts
 pub mod Nearing
 pub mod Painted
 pub mod Passing
+pub mod Window

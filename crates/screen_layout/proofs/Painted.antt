@@ -1,7 +1,7 @@
 -- The lines of a screen, one after another.
 use Rattle.std.proofs.Common.{◌≡◌, ℕ, ◌+◌, ◌≤◌, ◌<◌, List, [], ◌∷◌, ◌++◌, length, take, set, map, get_or, Option, refl, ap, sym, ◌∙◌, arith}
 use Rattle.std.proofs.lemmas.Bool.Decides.{nat_tests}
-use Rattle.std.proofs.lemmas.List.{take_more_set, take_all, length-set, take_more}
+use Rattle.std.proofs.lemmas.List.{take_more_set, take_all, length-set, length-map, take_more}
 use Rattle.std.proofs.lemmas.List.Elements.{All-map}
 use Rattle.std.proofs.lemmas.List.FromFn.{take-map-range_with_len, get_or-map-range_with_len, length-map-range_with_len}
 use Rattle.std.specs.List.{All, range_with_len}
@@ -10,7 +10,8 @@ use Rattle.screen_layout.specs.Lines.{padded, shown_byte}
 use Rattle.screen_layout.specs.Screen.{line_text, screen, screen_line}
 use Rattle.work_sheet.specs.Seen.{Sheet}
 use Rattle.control_panel.specs.declared.panel.Panel.{Panel}
-use Rattle.screen_show.specs.Grid.{IsPrinted}
+use Rattle.screen_show.specs.Grid.{IsGrid, IsPrinted}
+use Rattle.screen_layout.proofs.Cuts.{padded_length}
 
 -- a list of lines by their numbers, and one more
 lines_more : (f : ℕ → List ℕ) (n : ℕ) → map f (range_with_len 0 (n + 1)) ≡ map f (range_with_len 0 n) ++ f n ∷ []
@@ -46,3 +47,13 @@ unfolding screen
 printed s p corner day second = All-map (λ line. All (λ b. 32 ≤ b) line) (screen_line s p corner day second) (range_with_len 0 25)
     (λ k d h. All-map (λ b. 32 ≤ b) shown_byte (padded 80 (line_text s p corner day second (get_or (range_with_len 0 25) k d)))
     (λ j e i. shown_in (get_or (padded 80 (line_text s p corner day second (get_or (range_with_len 0 25) k d))) j e)))
+
+-- a screen has 25 lines of 80 bytes
+pub shaped : (s : Sheet) (p : Panel) (corner : Place) (day : Option ℕ) (second : ℕ) → IsGrid (screen s p corner day second)
+unfolding screen
+shaped s p corner day second = record {
+  lines = length-map-range_with_len (screen_line s p corner day second) 0 25;
+  columns = All-map (λ line. length line ≡ 80) (screen_line s p corner day second) (range_with_len 0 25)
+      (λ k d h. length-map (padded 80 (line_text s p corner day second (get_or (range_with_len 0 25) k d))) shown_byte
+      ∙ padded_length 80 (line_text s p corner day second (get_or (range_with_len 0 25) k d)));
+}

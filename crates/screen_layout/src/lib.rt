@@ -12,5 +12,5 @@ mod shown_columns;
 mod widths;
 
 pub use corner::corner_for;
-pub use screen::paint;
+pub use screen::{paint, paint_panel};
 pub use shown_columns::columns_shown;

@@ -1,6 +1,6 @@
 // The whole screen.
 ghost use Rattle.std.specs.Prelude.{◌≡◌, ◌≤◌};
-ghost use Rattle.screen_layout.specs.Screen.{row_line, screen, screen_line};
+ghost use Rattle.screen_layout.specs.Screen.{row_line, screen, screen_line, RepaintsPanel};
 ghost use Rattle.screen_layout.specs.Lines.{shown_line};
 ghost use Rattle.work_sheet.specs.Seen.{of_worksheet};
 ghost use Rattle.screen_show.specs.Grid.{IsGrid, IsPrinted};
@@ -51,6 +51,16 @@ pub fn paint(sheet: &Sheet, panel: &Panel, corner: Cell, now: &Moment) -> Grid
     for line in 0..25u8 {
         grid.set_line(line, line_at(sheet, panel, corner, now, line));
     }
-    grid.is_whole();
     grid
+}
+
+/// Paints the panel's lines anew, 0 to 2 and 24, over a screen of the same cells at the same corner, whatever its
+/// pointer, its panel and its moment were: the lines between tell of none of them.
+pub fn paint_panel(sheet: &Sheet, panel: &Panel, now: &Moment, grid: &mut Grid)
+    ensures { RepaintsPanel (of_worksheet sheet.now) panel.now now.now.day now.now.second grid.old grid.new }
+{
+    grid.set_line(0, pointer_line(sheet, panel));
+    grid.set_line(1, entry_line(panel));
+    grid.set_line(2, below_line(panel));
+    grid.set_line(24, foot_line(sheet, panel, now));
 }
