@@ -38,10 +38,14 @@ value_meant (decimal.Num v) read line = Means (content.Number v)
 value_meant decimal.TooLarge read line = Faulty 0
 value_meant decimal.NotNumber read line = formula_meant read line
 
+-- what a line means as a value in a cell of a sheet
+abbrev pub value_in : List ℕ → Sheet → Place → Meant
+value_in line s c = value_meant (decimal_of line) (reading s.names c line) line
+
 -- what a line means in a cell of a sheet: a value or a label by its first byte
 abbrev pub meaning_of : List ℕ → Sheet → Place → Meant
 meaning_of [] s c = Means (label_content s.settings.prefix [])
 meaning_of (b ∷ bs) s c =
     if begins_value b
-    then value_meant (decimal_of (b ∷ bs)) (reading s.names c (b ∷ bs)) (b ∷ bs)
+    then value_in (b ∷ bs) s c
     else Means (label_content s.settings.prefix (b ∷ bs))

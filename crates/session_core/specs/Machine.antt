@@ -11,8 +11,8 @@ use Rattle.work_sheet.specs.Doing.{with_pointer, Done, Happened}
 use Rattle.work_sheet.specs.Seen.{coded_sheet, fresh_sheet, Sheet}
 use Rattle.work_sheet.specs.Work.{coded_work, no_work, HasWorked, Work}
 
--- The sheet with its pointer, the cell at the top left of the screen, what the session is doing, whether END waits for a
--- moving key, and the day and the second of the last step.
+-- The sheet with its pointer, the cell at the top left of the screen, what the session is doing, whether END waits for
+-- a moving key, and the day and the second of the last step.
 pub record State : Type 0 where
   pub sheet : Sheet
   pub corner : Place
@@ -32,18 +32,32 @@ pub record Running : Type 0 where
   pub work : Work
   pub spent : Bool
 
+-- a state's parts, as plain data
 abbrev pub coded_state : Coded State
-coded_state =
-    code_by (Sheet × (Place × (Room × (Bool × (Option ℕ × ℕ)))))
-    (coded× coded_sheet (coded× coded_place (coded× (room.the_row).coded (coded× coded_bool (coded× (coded_option coded_ℕ) coded_ℕ)))))
+coded_state = code_by (Sheet × (Place × (Room × (Bool × (Option ℕ × ℕ)))))
+    (coded× coded_sheet
+    (coded× coded_place
+    (coded× (room.the_row).coded (coded× coded_bool (coded× (coded_option coded_ℕ) coded_ℕ)))))
     (λ s. (s.sheet, (s.corner, (s.room, (s.end, (s.day, s.second))))))
-    (λ p. record { sheet = p.0; corner = p.1.0; room = p.1.1.0; end = p.1.1.1.0; day = p.1.1.1.1.0; second = p.1.1.1.1.1 }) (λ _. refl)
+    (λ p. record {
+      sheet = p.0;
+      corner = p.1.0;
+      room = p.1.1.0;
+      end = p.1.1.1.0;
+      day = p.1.1.1.1.0;
+      second = p.1.1.1.1.1;
+    })
+    (λ _. refl)
 
+-- the machine's parts, as plain data
 abbrev pub coded_worked : Coded Worked
-coded_worked = code_by (State × Work) (coded× coded_state coded_work) (λ w. (w.state, w.work)) (λ p. record { state = p.0; work = p.1 }) (λ _. refl)
+coded_worked = code_by (State × Work) (coded× coded_state coded_work)
+    (λ w. (w.state, w.work)) (λ p. record { state = p.0; work = p.1 }) (λ _. refl)
 
+-- a session's parts, as plain data
 abbrev pub coded_running : Coded Running
-coded_running = code_by (State × (Work × Bool)) (coded× coded_state (coded× coded_work coded_bool)) (λ r. (r.state, (r.work, r.spent))) (λ p. record { state = p.0; work = p.1.0; spent = p.1.1 }) (λ _. refl)
+coded_running = code_by (State × (Work × Bool)) (coded× coded_state (coded× coded_work coded_bool))
+    (λ r. (r.state, (r.work, r.spent))) (λ p. record { state = p.0; work = p.1.0; spent = p.1.1 }) (λ _. refl)
 
 -- the cell A1
 abbrev pub home : Place
@@ -102,6 +116,10 @@ and_further o change = record o { state = change o.state }
 pub record Leads (o : Outcome) (a b : Worked) : Type 0 where
   pub state : b.state ≡ o.state
   pub work : HasWorked o.log a.work b.work
+
+-- it goes on to what an act makes of its state, over this moment and where the pointer stands before
+abbrev pub LeadsBy : (Scene → State → Outcome) → Moment → Worked → Worked → Type 0
+LeadsBy act now a b = Leads (act (scene_at a.state now) a.state) a b
 
 -- a session goes on to an outcome, with the work of what happened
 pub record Follows (o : Outcome) (a b : Running) : Type 0 where

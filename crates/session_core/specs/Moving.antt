@@ -36,7 +36,11 @@ OnlyMoves turn.Mark = Unit {0}
 OnlyMoves (turn.Fail e) = Unit {0}
 OnlyMoves t = ⊥
 
--- an event that only moves the pointer, types or is passed over
+-- a key that only moves the pointer, types or is passed over
+abbrev pub OnlyMovesByKey : Key → State → Type 0
+OnlyMovesByKey k s = TakesNoMemory k s.room × OnlyMoves (turn_of k s.room s.end s.sheet)
+
+-- an event that does no more
 abbrev pub OnlyMovesBy : Event → State → Type 0
-OnlyMovesBy (KeyEvent k) s = TakesNoMemory k s.room × OnlyMoves (turn_of k s.room s.end s.sheet)
+OnlyMovesBy (KeyEvent k) s = OnlyMovesByKey k s
 OnlyMovesBy UnitEvent s = ⊥

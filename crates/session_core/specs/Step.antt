@@ -18,8 +18,8 @@ taken k scene s = carried (turn_of k s.room s.end s.sheet) scene (idle s)
 abbrev pub framed : Moment → State → State
 framed now s = record s { corner = corner_for s.sheet s.corner; day = now.day; second = now.second }
 
--- One step: what the key comes to in the room that the session is in, and then the screen follows it. No macro runs yet,
--- whose unit would do something.
+-- One step: what the key comes to in the room that the session is in, and then the screen follows it. No macro runs
+-- yet, whose unit would do something.
 abbrev pub step : Event → Moment → State → Outcome
 step (KeyEvent k) now s = and_further (taken k (scene_at s now) s) (framed now)
 step UnitEvent now s = quiet s

@@ -2,8 +2,7 @@
 ghost use Rattle.std.specs.Prelude.{◌≡◌, IfOk};
 ghost use Rattle.formula_text.specs.Reading.{reading};
 ghost use Rattle.lics_text.specs.Bytes.{IsText};
-ghost use Rattle.session_core.specs.Entering.{fault_place, formula_meant, meaning_of, value_meant};
-ghost use Rattle.fixed_value.specs.Decimals.{decimal_of};
+ghost use Rattle.session_core.specs.Entering.{fault_place, formula_meant, meaning_of, value_in};
 ghost use Rattle.work_sheet.specs.Lines.{label_content};
 ghost use Rattle.work_sheet.specs.Seen.{of_worksheet};
 
@@ -53,7 +52,7 @@ fn formula_of(line: &[u8], sheet: &Sheet, cell: Cell) -> Result<Meant, Memory>
 
 // A decimal is a number, one that is too large is a fault, and any other value is read as a formula.
 fn value_of(line: &[u8], sheet: &Sheet, cell: Cell) -> Result<Meant, Memory>
-    ensures { IfOk result (λ m. m ≡ value_meant (decimal_of line.now) (reading sheet.now.names cell line.now) line.now) }
+    ensures { IfOk result (λ m. m ≡ value_in line.now (of_worksheet sheet.now) cell) }
 {
     match read_decimal(line) {
         Decimal::Num(number) => Ok(Meant::Means(Content::Number(number))),

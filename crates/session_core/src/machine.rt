@@ -1,17 +1,12 @@
 // The session's machine: where what a key comes to is carried out.
-ghost use Rattle.std.specs.Prelude.{◌≡◌, true, false, IsOk, OnOk};
+ghost use Rattle.std.specs.Prelude.{◌≡◌, true, false, IfOk, IsOk, OnOk};
 ghost use Rattle.entry_line.specs.Line.{placed};
-ghost use Rattle.formula_eval.specs.Mean.{mean};
-ghost use Rattle.prompt_room.specs.Opening.{opening};
-ghost use Rattle.screen_show.specs.Grid.{IsGrid, IsPrinted};
-ghost use Rattle.session_core.specs.Carrying.{acted, carried, entered, failed, finished, going, gone_by, gone_to, opened};
-ghost use Rattle.session_core.specs.Machine.{idle, in_room, pointer_of, pointing_at, scene_at, start, with_done, Leads};
-ghost use Rattle.session_core.specs.Moving.{IsMoved, OnlyMoves, TakesNoMemory};
-ghost use Rattle.session_core.specs.Pressing.{turn_of};
-ghost use Rattle.session_core.specs.Screen.{panel_of, screen};
+ghost use Rattle.session_core.specs.Carrying.{acted, asked, carried, editing, entered, failed, finished, going};
+ghost use Rattle.session_core.specs.Carrying.{gone_by, is_pointer_protected, recalculated, settling, writing};
+ghost use Rattle.session_core.specs.Machine.{in_room, pointer_of, pointing_at, scene_at, start, LeadsBy};
+ghost use Rattle.session_core.specs.Moving.{IsMoved, OnlyMoves, OnlyMovesByKey};
+ghost use Rattle.session_core.specs.Screen.{panel_of, screen, Repaints};
 ghost use Rattle.session_core.specs.Step.{framed, taken};
-ghost use Rattle.sheet_edits.specs.Edits.{is_protected};
-ghost use Rattle.work_sheet.specs.Doing.{put, recalculated, settled};
 ghost use Rattle.work_sheet.specs.Work.{no_work};
 
 use crate::entering::{Meant, meaning_of};
@@ -28,7 +23,7 @@ use key_words::Key;
 use lics_text::Memory;
 use menu_tree::{Action, CommonAction};
 use prompt_room::{WhatFollows, opening};
-use screen_layout::{columns_shown, corner_for, paint};
+use screen_layout::{columns_shown, corner_for, paint, paint_panel};
 use screen_show::Grid;
 use serial_date::Moment;
 use session_rooms::{AnsweredCommand, PromptRoom, Room, Turn, TypingMode, TypingRoom};
@@ -61,9 +56,34 @@ impl Model for Machine {
     ghost coded = { coded_worked };
 
     ghost view = { λ a. record {
-      state = record { sheet = of_worksheet a.sheet; corner = a.corner; room = a.room; end = a.end; day = a.moment.day; second = a.moment.second };
+      state = record {
+        sheet = of_worksheet a.sheet;
+        corner = a.corner;
+        room = a.room;
+        end = a.end;
+        day = a.moment.day;
+        second = a.moment.second;
+      };
       work = record { dirty = a.sheet.dirty; count = a.tally.count };
     } };
+}
+
+/// What a key may have changed of the sheet.
+#[derive(Clone, Copy, Debug, PartialEq, Eq)]
+pub enum Touched {
+    Pointer,
+    Anything,
+}
+
+// What a turn may change of the sheet.
+fn touched_by(turn: &Turn) -> Touched
+    ensures { result ≡ Touched.Pointer → OnlyMoves turn.now }
+{
+    match turn {
+        Turn::Become(_) | Turn::Move(_) | Turn::Mark | Turn::Fail(_) => Touched::Pointer,
+        Turn::Finish(_, _) | Turn::Ask(_) | Turn::Act(_) => Touched::Anything,
+        Turn::Recalculate | Turn::Start(_) | Turn::Undo => Touched::Anything,
+    }
 }
 
 impl Machine {
@@ -184,7 +204,7 @@ impl Machine {
 
     // A command's next prompt follows, or it is carried out.
     fn ask(&mut self, command: AnsweredCommand)
-        ensures state { self.new.state ≡ opened (opening command (pointer_of self.old.state)) command self.old.state }
+        ensures state { self.new.state ≡ asked command self.old.state }
         ensures work { self.new.work ≡ self.old.work }
     {
         match opening(&command, self.pointer()) {
@@ -198,7 +218,7 @@ impl Machine {
 
     // A line is edited, with the cursor at a place or at its end.
     fn edit_at(&mut self, at: usize, mut line: EntryLine)
-        ensures state { self.new.state ≡ in_room (Room.Typing (record { mode = TypingMode.Edit; line = placed line at })) self.old.state }
+        ensures state { self.new.state ≡ editing (placed line at) self.old.state }
         ensures work { self.new.work ≡ self.old.work }
     {
         line.set_cursor(at.min(line.text().len()));
@@ -210,7 +230,7 @@ impl Machine {
 
     // All is recalculated.
     fn calculate(&mut self, now: &Moment) -> Result<(), Memory>
-        ensures { OnOk result (Leads (with_done (recalculated mean (scene_at self.old.state now.now) self.old.state.sheet) self.old.state) self.old self.new) }
+        ensures { OnOk result (LeadsBy recalculated now.now self.old self.new) }
     {
         let scene = self.scene(now);
         self.sheet.calc(&scene, &mut self.tally)?;
@@ -219,7 +239,7 @@ impl Machine {
 
     // In Automatic mode all is recalculated.
     fn settle(&mut self, now: &Moment) -> Result<(), Memory>
-        ensures { OnOk result (Leads (with_done (settled mean (scene_at self.old.state now.now) self.old.state.sheet) self.old.state) self.old self.new) }
+        ensures { OnOk result (LeadsBy settling now.now self.old self.new) }
     {
         if self.sheet.settings().automatic {
             self.calculate(now)?;
@@ -229,15 +249,15 @@ impl Machine {
 
     // Whether the pointer's cell is protected.
     fn is_protected(&self) -> bool
-        ensures { result ≡ is_protected self.now.state.sheet.settings self.now.state.sheet.grid (pointer_of self.now.state) }
+        ensures { result ≡ is_pointer_protected self.now.state }
     {
         self.sheet.settings().protection && self.sheet.format(self.pointer()).is_protected()
     }
 
     // Writes a content into the pointer's cell, which isn't protected.
     fn write(&mut self, content: Content, now: &Moment) -> Result<(), Memory>
-        requires { is_protected self.old.state.sheet.settings self.old.state.sheet.grid (pointer_of self.old.state) ≡ false }
-        ensures { OnOk result (Leads (with_done (put mean (scene_at self.old.state now.now) (pointer_of self.old.state) content self.old.state.sheet) self.old.state) self.old self.new) }
+        requires { is_pointer_protected self.old.state ≡ false }
+        ensures { OnOk result (LeadsBy (writing content) now.now self.old self.new) }
     {
         let scene = self.scene(now);
         match self
@@ -253,7 +273,7 @@ impl Machine {
 
     // Enters a content into the pointer's cell, and then the pointer moves.
     fn enter(&mut self, content: Content, way: Way, now: &Moment) -> Result<(), Memory>
-        ensures { OnOk result (Leads (entered content way (scene_at self.old.state now.now) self.old.state) self.old self.new) }
+        ensures { OnOk result (LeadsBy (entered content way) now.now self.old self.new) }
     {
         if self.is_protected() {
             self.fail(CommandError::Protected(self.pointer()));
@@ -267,7 +287,7 @@ impl Machine {
 
     // Enters what a line means into the pointer's cell; a fault goes to EDIT.
     fn finish(&mut self, way: Way, line: EntryLine, now: &Moment) -> Result<(), Memory>
-        ensures { OnOk result (Leads (finished way line (scene_at self.old.state now.now) self.old.state) self.old self.new) }
+        ensures { OnOk result (LeadsBy (finished way line) now.now self.old self.new) }
     {
         match meaning_of(line.text(), &self.sheet, self.pointer())? {
             Meant::Means(content) => self.enter(content, way, now),
@@ -280,7 +300,7 @@ impl Machine {
 
     // What a key came to is carried out.
     fn carry(&mut self, turn: Turn, now: &Moment) -> Result<(), Memory>
-        ensures ok { OnOk result (Leads (carried turn (scene_at self.old.state now.now) self.old.state) self.old self.new) }
+        ensures ok { OnOk result (LeadsBy (carried turn) now.now self.old self.new) }
         ensures moves { OnlyMoves turn → IsOk result }
         ensures sheet { OnlyMoves turn → IsMoved self.old.state.sheet self.new.state.sheet }
     {
@@ -300,16 +320,19 @@ impl Machine {
 
     /// Takes a key, before the screen follows it. A key that only moves the pointer, types or is passed over takes no
     /// memory and leaves all of the sheet but the pointer.
-    pub fn take(&mut self, key: Key, now: &Moment) -> Result<(), Memory>
-        ensures ok { OnOk result (Leads (taken key (scene_at self.old.state now.now) self.old.state) self.old self.new) }
-        ensures moves { TakesNoMemory key self.old.state.room → OnlyMoves (turn_of key self.old.state.room self.old.state.end self.old.state.sheet) → IsOk result }
-        ensures sheet { TakesNoMemory key self.old.state.room → OnlyMoves (turn_of key self.old.state.room self.old.state.end self.old.state.sheet) → IsMoved self.old.state.sheet self.new.state.sheet }
+    pub fn take(&mut self, key: Key, now: &Moment) -> Result<Touched, Memory>
+        ensures ok { OnOk result (LeadsBy (taken key) now.now self.old self.new) }
+        ensures moves { OnlyMovesByKey key self.old.state → IsOk result }
+        ensures sheet { OnlyMovesByKey key self.old.state → IsMoved self.old.state.sheet self.new.state.sheet }
+        ensures touched { IfOk result (λ t. t ≡ Touched.Pointer → IsMoved self.old.state.sheet self.new.state.sheet) }
     {
         let end = self.end;
         let room = mem::replace(&mut self.room, Room::Ready);
         self.end = false;
         let turn = turn_of(key, room, end, &self.sheet)?;
-        self.carry(turn, now)
+        let touched = touched_by(&turn);
+        self.carry(turn, now)?;
+        Ok(touched)
     }
 
     /// The screen follows the pointer, at this moment.
@@ -330,12 +353,24 @@ impl Machine {
         panel
     }
 
-    /// The screen. None of its bytes is below 32.
-    pub fn grid(&self) -> Grid
-        ensures screen { result ≡ screen self.now.state }
-        ensures shape { IsGrid (screen self.now.state) }
-        ensures printed { IsPrinted (screen self.now.state) }
+    /// The cell at the top left of the screen.
+    pub fn corner(&self) -> Cell
+        ensures { result ≡ self.now.state.corner }
+    {
+        self.corner
+    }
+
+    /// The screen, painted from nothing.
+    pub fn paint(&self) -> Grid
+        ensures { result ≡ screen self.now.state }
     {
         paint(&self.sheet, &self.panel(), self.corner, &self.moment)
+    }
+
+    /// The screen, over one of the same cells from the same corner on.
+    pub fn paint_panel(&self, shown: &mut Grid)
+        ensures { Repaints self.now.state shown.old shown.new }
+    {
+        paint_panel(&self.sheet, &self.panel(), &self.moment, shown);
     }
 }

@@ -26,8 +26,8 @@ fn pressed(room: Room, key: Key, end: bool, sheet: &Sheet) -> Result<Turn, Memor
     }
 }
 
-/// What a key comes to: BREAK goes to READY from everywhere, and any other key is the room's (Release 2 manual). Only an
-/// answer in a prompt takes memory.
+/// What a key comes to: BREAK goes to READY from everywhere, and any other key is the room's (Release 2 manual). Only
+/// an answer in a prompt takes memory.
 pub(crate) fn turn_of(key: Key, room: Room, end: bool, sheet: &Sheet) -> Result<Turn, Memory>
     ensures turn { IfOk result (λ t. t ≡ turn_of key room end (of_worksheet sheet.now)) }
     ensures sure { TakesNoMemory key room → IsOk result }

@@ -6,7 +6,7 @@ ghost use Rattle.session_core.specs.Moving.{IsMoved, OnlyMovesBy};
 ghost use Rattle.session_core.specs.Screen.{screen};
 ghost use Rattle.session_core.specs.Step.{is_key, step};
 
-use crate::machine::Machine;
+use crate::machine::{Machine, Touched};
 use crate::{Event, Stepped};
 use outside_world::{Memory, Shelf};
 use screen_show::Grid;
@@ -14,21 +14,27 @@ use serial_date::Moment;
 use std::alloc::Global;
 use std::marker::Model;
 
-/// A session: the worksheet, the pointer, and what is being typed, pointed at or asked for.
+/// A session: the worksheet, the pointer, and what is being typed, pointed at or asked for. It keeps its screen, and
+/// paints anew what a step may change.
 #[derive(Drop)]
 pub struct Session {
     machine: Machine,
+    shown: Grid,
     spent: bool,
 }
 
 impl Model for Session {
+    ghost use Rattle.std.specs.Prelude.{◌≡◌, false};
     ghost use Rattle.session_core.specs.Machine.{coded_running, Running};
+    ghost use Rattle.session_core.specs.Screen.{screen};
 
     ghost Value = { Running };
 
     ghost coded = { coded_running };
 
     ghost view = { λ a. record { state = a.machine.state; work = a.machine.work; spent = a.spent } };
+
+    ghost invariant = { λ a. a.spent ≡ false → a.shown ≡ screen a.machine.state };
 }
 
 impl Session {
@@ -36,8 +42,11 @@ impl Session {
     pub fn start(alloc: Global) -> Result<Session, Memory>
         ensures { IfOk result (λ s. s ≡ started) }
     {
+        let machine = Machine::start(alloc);
+        let shown = machine.paint();
         Ok(Session {
-            machine: Machine::start(alloc),
+            machine,
+            shown,
             spent: false,
         })
     }
@@ -82,9 +91,15 @@ impl Session {
         let Event::Key(key) = event else {
             unreachable!();
         };
+        let corner = self.machine.corner();
         match self.machine.take(key, now) {
-            Ok(()) => {
+            Ok(touched) => {
                 self.machine.follow(now);
+                if touched == Touched::Pointer && self.machine.corner() == corner {
+                    self.machine.paint_panel(&mut self.shown);
+                } else {
+                    self.shown = self.machine.paint();
+                }
                 Stepped::More
             }
             Err(Memory) => {
@@ -94,12 +109,13 @@ impl Session {
         }
     }
 
-    /// The screen. None of its bytes is below 32.
-    pub fn grid(&self) -> Grid
-        ensures screen { result ≡ screen self.now.state }
+    /// The screen of a session that isn't spent. None of its bytes is below 32.
+    pub fn grid(&self) -> &Grid
+        requires { self.now.spent ≡ false }
+        ensures screen { result.now ≡ screen self.now.state }
         ensures shape { IsGrid (screen self.now.state) }
         ensures printed { IsPrinted (screen self.now.state) }
     {
-        self.machine.grid()
+        &self.shown
     }
 }

@@ -57,10 +57,10 @@ fn make_step<S: Shelf, C: Clock>(
     let after = session.grid();
     let work = Work::Send {
         before: shown,
-        after: &after,
+        after,
     };
     work_on_all(&work, displays, failed);
-    *shown = after;
+    *shown = *after;
     StepEnd::Done
 }
 
