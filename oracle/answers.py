@@ -1,7 +1,7 @@
 """What each checking program must print for its standard input. A name is that of the crate, behind `check_`."""
 import struct
 
-from . import adjust, cellformat, fixed, formula, screen
+from . import adjust, blocks, cellformat, fixed, formula, screen
 from .address import cell_text, cells_of, read_cell, read_span, span_at, span_text, width_of, height_of
 from .cellformat import show_number
 from .dates import Moment
@@ -476,5 +476,58 @@ def sheets(data):
     return b''.join(out)
 
 
+# ---------------------------------------------------------------- data commands
+
+def content_text(content, cell, names):
+    """A content as check_data prints it."""
+    if content[0] == 'number':
+        return b'#%d' % content[1]
+    if content[0] == 'label':
+        return bytes([content[1]]) + content[2]
+    if content[0] == 'formula':
+        return b'=' + formula.print_(content[1], cell, names)[:240]
+    return b''
+
+
+def writes_text(writes, names):
+    """What is written, in order."""
+    return b'\t'.join(cell_text(cell) + (b' - ' if byte is None else b' %d ' % byte) + content_text(content, cell, names)
+                      for cell, content, byte in writes)
+
+
+def block_fault_text(fault):
+    """The fault of a block, with what it carries."""
+    if fault.kind == 'Sheet':
+        return b'!' + fault.payload.kind.encode() + b' ' + span_text(fault.payload.payload)
+    return b'!' + fault.kind.encode() + (b'' if fault.payload is None else b' ' + cell_text(fault.payload))
+
+
+def asked_block(sheet, line):
+    """What a line's fill, sort or distribution writes."""
+    words = line[1:].split(b' ')
+    span = read_span(words[0])
+    if line[:1] == b'f':
+        return blocks.fill(span, *(fixed.read_decimal(word) for word in words[1:]))
+    if line[:1] == b's':
+        return blocks.sort_rows(span, [(read_cell(word[1:])[0], word[:1] == b'-') for word in words[1:]], sheet)
+    return blocks.distribution(span, read_span(words[1]), sheet)
+
+
+def data(data):
+    """What data commands write over small sheets."""
+    desk, out = Desk(), []
+    for line in lines_of(data):
+        if line == b':':
+            desk = Desk()
+        elif line[:1] == b'x':
+            desk.edit(line)
+        else:
+            try:
+                out.append(writes_text(asked_block(desk.sheet, line), desk.sheet.names))
+            except blocks.BlockFault as fault:
+                out.append(block_fault_text(fault))
+    return b''.join(line + b'\n' for line in out)
+
+
 ANSWERS = {'numbers': numbers, 'formulas': formulas, 'words': words, 'values': values, 'adjustments': adjustments,
-           'sheets': sheets}
+           'sheets': sheets, 'data': data}

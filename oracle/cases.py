@@ -3,7 +3,7 @@ import os
 import random
 
 from . import fixed, formula
-from .address import cell_text, col_text, read_cell
+from .address import cell_text, col_text, read_cell, span_text
 from .answers import FORMULA_NAMES, NOT_BUILT, VALUE_NAMES
 from .formula import COUNTED, FUNCTIONS, LEFT_OUT_NAMES
 from .keys import COMMANDS, NAMES as KEYS, SLASH
@@ -389,7 +389,91 @@ def sheets(r):
     return worked('sheets') + b''.join(line + b'\n' for line in of.edits(10000) + of.screens(2000))
 
 
-CASES = {'formulas': formulas, 'words': words, 'values': values, 'adjustments': adjustments, 'sheets': sheets}
+# ---------------------------------------------------------------- data commands
+
+class Blocks:
+    """Small blocks with many equal values, and what is asked of them."""
+
+    def __init__(self, r):
+        self.r = r
+        self.names = Names()
+
+    def sheet(self):
+        """A fresh sheet with up to five columns and seven rows, mostly near A1."""
+        r = self.r
+        self.left, self.top = r.choice([(0, 0), (0, 0), (0, 0), (22, 90), (251, 8184)])
+        self.cols, self.rows = r.randrange(1, 6), r.randrange(1, 8)
+        plain = r.choice([True, False])
+        writes = []
+        for row in range(self.rows):
+            for col in range(self.cols):
+                if r.randrange(6):
+                    cell = (self.left + col, self.top + row)
+                    code = r.choice([b'-', b'-', b'2', b'113', b'255', b'%d' % r.randrange(256)])
+                    writes.append(cell_text(cell) + b' ' + code + b' ' + self.text(cell, plain))
+        return [b':'] + ([b'x' + b'\t'.join(writes)] if writes else [])
+
+    def text(self, cell, plain):
+        """What is entered: one of few numbers, labels that differ in their letters' case, and all kinds of values."""
+        r = self.r
+        number = lambda: r.choice([b'0', b'1', b'2', b'3', b'-1', b'1.5', b'0.000001', b'-999999999.999999'])
+        if plain and r.randrange(4):
+            return number()
+        label = lambda: bytes([r.choice(b"'\"^\\|")]) + r.choice([b'fig', b'Fig', b'FIG', b'fi', b'', b'b', b'B', b'1', b'\xe9'])
+        near = lambda: cell_text(self.place())
+        formula = lambda: r.choice([b'@NA', b'@ERR', b'1/0', b'+"fig"', b'+"Fig"', b'+' + near(), b'+$' + near() + b'*2',
+                                    b'@SUM(' + span_text((self.place(), self.place())) + b')'])
+        return r.choice([number, number, label, label, formula, lambda: b''])()
+
+    def place(self):
+        r = self.r
+        return self.left + r.randrange(self.cols), self.top + r.randrange(self.rows)
+
+    def span(self):
+        """Mostly all of the block, or a part."""
+        r = self.r
+        if r.randrange(2):
+            return (self.left, self.top), (self.left + self.cols - 1, self.top + self.rows - 1)
+        (a, b), (c, d) = self.place(), self.place()
+        return (min(a, c), min(b, d)), (max(a, c), max(b, d))
+
+    def fill(self):
+        r = self.r
+        first = r.choice([self.place(), self.place(), (254, 8190)])
+        last = min(first[0] + r.randrange(3), 255), min(first[1] + r.randrange(6), 8191)
+        number = lambda: r.choice([b'%d' % r.randrange(-4, 9), b'%.1f' % r.uniform(-3, 3), b'999999999.999997',
+                                   b'-999999999.999998', b'0'])
+        step = lambda: r.choice([b'1', b'1', b'2', b'-1', b'0.5', b'-0.1', b'0', b'-0', b'0.0000001', b'0.000001', b'600000000'])
+        stop = lambda: r.choice([number(), b'8191', b'8191', b'-8191', b'999999999.999999', b'-999999999.999999'])
+        return b'f' + b' '.join([span_text((first, last)), number(), step(), stop()])
+
+    def sort(self):
+        r = self.r
+        span = self.span()
+        key = lambda: r.choice([b'+', b'-']) + cell_text((r.randrange(span[0][0], span[1][0] + 1), r.randrange(8)))
+        return b's' + b' '.join([span_text(span)] + [key() for _ in range(r.choice([1, 1, 2]))])
+
+    def distribution(self):
+        r = self.r
+        bins = self.span() if r.randrange(2) else (self.place(),) * 2
+        if r.randrange(8) == 0:
+            bins = r.choice([((255, 0), (255, 2)), ((254, 8190), (254, 8191)), ((254, 8189), (255, 8190)), ((3, 0), (5, 2))])
+        return b'd' + span_text(self.span()) + b' ' + span_text(bins)
+
+    def asked(self, count):
+        """So many of each, a fresh sheet for each few."""
+        out = []
+        for _ in range(count):
+            out += self.sheet() + [self.fill(), self.sort(), self.distribution()]
+        return out
+
+
+def data(r):
+    """The worked lines, and 500 fills, sorts and distributions of small sheets."""
+    return worked('data') + b''.join(line + b'\n' for line in Blocks(r).asked(500))
+
+
+CASES = {'formulas': formulas, 'words': words, 'values': values, 'adjustments': adjustments, 'sheets': sheets, 'data': data}
 
 
 def case(name, seed=SEED):

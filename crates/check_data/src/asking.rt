@@ -1,0 +1,64 @@
+// What a line asks for.
+use crate::desk::{Stop, cell_of, number_of, parts, span_of};
+use data_blocks::{BlockFault, SortKey, distribution, fill, sort_rows};
+use sheet_store::Writes;
+use std::alloc::Global;
+use work_sheet::Sheet;
+
+/// A fill: a range, a start, a step and a stop.
+pub fn asked_fill(alloc: Global, bytes: &[u8]) -> Result<Result<Writes, BlockFault>, Stop> {
+    let (span, rest) = parts(bytes)?;
+    let (start, rest) = parts(rest)?;
+    let (step, stop) = parts(rest)?;
+    let span = span_of(span)?;
+    let start = number_of(start)?;
+    let step = number_of(step)?;
+    Ok(fill(alloc, span, start, step, number_of(stop)?))
+}
+
+// A column to sort by, behind its sign.
+fn key_of(bytes: &[u8]) -> Result<SortKey, Stop> {
+    let Some((sign, cell)) = bytes.split_first() else {
+        return Err(Stop::Line);
+    };
+    let cell = cell_of(cell)?;
+    Ok(SortKey {
+        col: cell.col,
+        descending: *sign == b'-',
+    })
+}
+
+// The columns to sort by.
+fn keys_of(alloc: Global, bytes: &[u8]) -> Result<Vec<SortKey>, Stop> {
+    let mut keys = Vec::new(alloc);
+    for word in bytes.split(|byte| *byte == b' ') {
+        let key = key_of(word)?;
+        if keys.push(key).is_err() {
+            return Err(Stop::Memory);
+        }
+    }
+    Ok(keys)
+}
+
+/// A sort: a range and the columns to sort by.
+pub fn asked_sort(
+    alloc: Global,
+    sheet: &Sheet,
+    bytes: &[u8],
+) -> Result<Result<Writes, BlockFault>, Stop> {
+    let (span, keys) = parts(bytes)?;
+    let span = span_of(span)?;
+    let keys = keys_of(alloc, keys)?;
+    Ok(sort_rows(alloc, span, keys.as_slice(), sheet))
+}
+
+/// A distribution: the values and the bins.
+pub fn asked_distribution(
+    alloc: Global,
+    sheet: &Sheet,
+    bytes: &[u8],
+) -> Result<Result<Writes, BlockFault>, Stop> {
+    let (values, bins) = parts(bytes)?;
+    let values = span_of(values)?;
+    Ok(distribution(alloc, values, span_of(bins)?, sheet))
+}

@@ -1,0 +1,106 @@
+// How answers are printed.
+use crate::desk::Stop;
+use data_blocks::BlockFault;
+use formula_text::print;
+use formula_tree::{Content, Formula};
+use grid_address::{Cell, Format, Span, cell_text};
+use lics_text::Line;
+use range_names::Names;
+use sheet_store::{SheetFault, Write as Entry, Writes};
+use std::io::{Error, Write};
+
+/// What came of writing to the output.
+pub fn written(answer: Result<(), Error>) -> Result<(), Stop> {
+    match answer {
+        Ok(()) => Ok(()),
+        Err(_) => Err(Stop::Stream),
+    }
+}
+
+// A formula as it would be typed in its cell.
+fn show_formula<W: Write>(
+    formula: &Formula,
+    cell: Cell,
+    names: &Names,
+    out: &mut W,
+) -> Result<(), Error> {
+    let mut line = Line::new();
+    print(formula, cell, names, &mut line);
+    out.write_all(b"=")?;
+    out.write_all(line.bytes())
+}
+
+// A content.
+fn show_content<W: Write>(
+    content: &Content,
+    cell: Cell,
+    names: &Names,
+    out: &mut W,
+) -> Result<(), Error> {
+    match content {
+        Content::Blank => Ok(()),
+        Content::Number(number) => write!(out, "#{}", number.millionths()),
+        Content::Label(prefix, text) => {
+            out.write_all(&[prefix.byte()])?;
+            out.write_all(text.bytes())
+        }
+        Content::Formula(formula) => show_formula(formula, cell, names, out),
+    }
+}
+
+// A format byte, or `-` for the cell's own.
+fn show_format<W: Write>(format: Option<Format>, out: &mut W) -> Result<(), Error> {
+    match format {
+        Some(format) => write!(out, " {} ", format.0),
+        None => out.write_all(b" - "),
+    }
+}
+
+// What is written to a cell.
+fn show_entry<W: Write>(entry: &Entry, names: &Names, out: &mut W) -> Result<(), Error> {
+    out.write_all(cell_text(entry.cell).bytes())?;
+    show_format(entry.format, out)?;
+    show_content(&entry.content, entry.cell, names, out)
+}
+
+/// What is written, parted by tabs.
+pub fn show_writes<W: Write>(writes: &Writes, names: &Names, out: &mut W) -> Result<(), Stop> {
+    for place in 0..writes.len() {
+        if place > 0 {
+            written(out.write_all(b"\t"))?;
+        }
+        if let Some(entry) = writes.get(place) {
+            written(show_entry(entry, names, out))?;
+        }
+    }
+    written(out.write_all(b"\n"))
+}
+
+// The corners of a range, behind what it is the fault of.
+fn show_span<W: Write>(name: &[u8], span: Span, out: &mut W) -> Result<(), Error> {
+    out.write_all(name)?;
+    out.write_all(cell_text(span.first).bytes())?;
+    out.write_all(b"..")?;
+    out.write_all(cell_text(span.last).bytes())?;
+    out.write_all(b"\n")
+}
+
+// A cell, behind what it is the fault of.
+fn show_cell<W: Write>(name: &[u8], cell: Cell, out: &mut W) -> Result<(), Error> {
+    out.write_all(name)?;
+    out.write_all(cell_text(cell).bytes())?;
+    out.write_all(b"\n")
+}
+
+/// A fault by its name and the cell or the range that it carries.
+pub fn show_block_fault<W: Write>(fault: BlockFault, out: &mut W) -> Result<(), Stop> {
+    written(match fault {
+        BlockFault::ZeroStep => out.write_all(b"!ZeroStep\n"),
+        BlockFault::NoTable => out.write_all(b"!NoTable\n"),
+        BlockFault::InputInTable(cell) => show_cell(b"!InputInTable ", cell, out),
+        BlockFault::Sheet(SheetFault::OutOfSheet(span)) => show_span(b"!OutOfSheet ", span, out),
+        BlockFault::Sheet(SheetFault::Protected(cell)) => show_cell(b"!Protected ", cell, out),
+        BlockFault::Sheet(SheetFault::PushedOff(cell)) => show_cell(b"!PushedOff ", cell, out),
+        BlockFault::Sheet(SheetFault::Memory) | BlockFault::Memory => return Err(Stop::Memory),
+    })
+}
