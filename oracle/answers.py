@@ -6,6 +6,7 @@ from .address import cell_text, cells_of, read_cell, read_span, span_at, span_te
 from .cellformat import show_number
 from .dates import Moment
 from .evaluate import Scene, Tally, glance
+from .gen import generate
 from .keys import COMMANDS, KeyReader, SLASH, fold, word_at
 from .names import Names
 from .sheet import Sheet, SheetFault, State
@@ -529,5 +530,41 @@ def data(data):
     return b''.join(line + b'\n' for line in out)
 
 
+# ---------------------------------------------------------------- generated
+
+def generated_text(content, cell, names):
+    """A content as check_generated prints it."""
+    if content[0] == 'formula':
+        return b'f' + formula.print_(content[1], cell, names)
+    return b'n%d' % content[1]
+
+
+def sum_of(text):
+    """The sum of bytes in which each place counts."""
+    total = 14695981039346656037
+    for byte in text:
+        total = (total ^ byte) * 1099511628211 % 2 ** 64
+    return total
+
+
+def generated(data):
+    """The cells of generated sheets, or how many they are and the sum of their lines."""
+    out = []
+    for line in lines_of(data):
+        rows = int(line.lstrip(b'='))
+        saved = generate(rows)
+        cells = [cell_text(cell) + b' %d ' % state.format + generated_text(state.content, cell, saved.names) + b' '
+                 + value_text(state.value) + b'\n' for cell, state in sorted(saved.cells.items(), key=row_order)]
+        if line[:1] == b'=':
+            out += cells
+        out.append(b'%d %d %016x\n' % (rows, len(cells), sum_of(b''.join(cells))))
+    return b''.join(out)
+
+
+def row_order(item):
+    (col, row), _ = item
+    return row, col
+
+
 ANSWERS = {'numbers': numbers, 'formulas': formulas, 'words': words, 'values': values, 'adjustments': adjustments,
-           'sheets': sheets, 'data': data}
+           'sheets': sheets, 'data': data, 'generated': generated}

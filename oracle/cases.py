@@ -473,7 +473,13 @@ def data(r):
     return worked('data') + b''.join(line + b'\n' for line in Blocks(r).asked(500))
 
 
-CASES = {'formulas': formulas, 'words': words, 'values': values, 'adjustments': adjustments, 'sheets': sheets, 'data': data}
+def generated(_r):
+    """Numbers of rows: few, whose cells are printed, and many, up to the most."""
+    return b'=1\n=2\n=3\n=19\n100\n1000\n8000\n'
+
+
+CASES = {'formulas': formulas, 'words': words, 'values': values, 'adjustments': adjustments, 'sheets': sheets,
+         'data': data, 'generated': generated}
 
 
 def case(name, seed=SEED):
