@@ -18,7 +18,9 @@ pub fn put_spaces(into: &mut Line, count: usize)
     requires { length into.old + count ≤ 240 }
     ensures { into.new ≡ into.old ++ replicate count 32 }
 {
-    into.put_all(&SPACES[..count]);
+    if count > 0 {
+        into.put_all(&SPACES[..count]);
+    }
 }
 
 // Adds one byte so many times.
