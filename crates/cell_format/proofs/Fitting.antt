@@ -36,9 +36,22 @@ tried_more (suc p) room v text is none = elim (cases_Bool (nat_le (length (writt
   | inr past ↦ one_less (suc p) room v (grind (arith, nat_tests, past)) (omega arith)
 ]
 
-pub tried_last : (room : ℕ) (v : ℤ) → tried 0 v room ≡ fitting 0 v room
+-- the most places that fit, where less than so many may
+abbrev pub fitting_below : ℕ → ℤ → ℕ → Option (List ℕ)
+fitting_below zero v room = None
+fitting_below (suc places) v room = fitting places v room
+
+pub up_to : (most room : ℕ) (v : ℤ) → fitting_below (most + 1) v room ≡ fitting most v room
+up_to most room v = (let more : most + 1 ≡ suc most = omega arith in ap (λ k. fitting_below k v room) more)
+
+pub fits_here : (places room : ℕ) (v : ℤ) → length (written v places) ≤ room → Some (short v places) ≡ fitting_below (places + 1) v room
+fits_here places room v h = fits places room v h ∙ sym (up_to places room v)
+
+pub past_here : (places room : ℕ) (v : ℤ) → room < length (written v places) → fitting_below places v room ≡ fitting_below (places + 1) v room
 unfolding fitting
-tried_last room v = refl
+past_here zero room v h = (let test : nat_le (length (written v 0)) room ≡ false = grind (arith, nat_tests, h) in rw test refl)
+past_here (suc p) room v h = (let same : suc p - 1 ≡ p = omega arith in
+    ap (λ k. fitting k v room) (sym same) ∙ one_less (suc p) room v h (omega arith) ∙ sym (up_to (suc p) room v))
 
 -- places for which there is no room
 pub skipped : (k places room : ℕ) (v : ℤ) → ((p : ℕ) → places < p → p ≤ 6 → room < length (written v p)) → places + k ≤ 6 → fitting places v room ≡ fitting (places + k) v room

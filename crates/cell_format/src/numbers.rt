@@ -11,8 +11,8 @@ use crate::dates::day_text;
 use crate::push::{fill, push, put_spaces};
 use crate::{DateForm, Shape, shape_of};
 use fixed_value::{
-    Digits, Fixed, digits_len, front_len, rounds_to_zero, whole_len, write_decimal, write_exact,
-    write_fitting, write_hundredfold,
+    Fixed, digits_len, front_len, rounds_to_zero, whole_len, write_decimal, write_exact,
+    write_fitting, write_hundredfold, write_short,
 };
 use grid_address::Format;
 use lics_text::Line;
@@ -93,20 +93,6 @@ fn most_places(value: Fixed, front: u8, room: usize) -> u8
     ensures most { (places : ℕ) → result < places → places ≤ 6 → room < length (written value places) }
 {
     room.saturating_sub(usize::from(front) + 1).min(6) as u8
-}
-
-// A number with as many decimals as fit, at most so many.
-fn rounded(value: Fixed, most: u8, room: usize) -> Option<Digits>
-    requires { most ≤ 6 }
-    ensures { result ≡ fitting most value room }
-{
-    for less in 0..most {
-        let text = write_fitting(value, most - less, room);
-        if text.is_some() {
-            return text;
-        }
-    }
-    write_fitting(value, 0, room)
 }
 
 /// Adds a number in a cell of that width, by the format byte. A number that is too long is shown as stars;
@@ -210,16 +196,22 @@ fn put_rounded(value: Fixed, most: u8, width: usize, into: &mut Line)
     }
 }
 
-// Adds a number with as many decimals as fit, at most so many, or stars, where one decimal more was too many.
+// Adds a number with as many decimals as fit, at most so many, or stars, where one decimal more was too many: that is
+// rare, so it tries the written text first and then writes the short one.
+#[cold]
 fn put_fewer(value: Fixed, most: u8, width: usize, into: &mut Line)
     requires most { most ≤ 6 }
     requires room { length into.old + width ≤ 240 }
     ensures { into.new ≡ into.old ++ placed (fitting most value (width - 1)) width }
 {
-    match rounded(value, most, width.saturating_sub(1)) {
-        Some(text) => put_right(text.bytes(), width, into),
-        None => fill(into, b'*', width),
+    let room = width.saturating_sub(1);
+    for less in 0..most + 1 {
+        let places = most - less;
+        if write_decimal(value, places).bytes().len() <= room {
+            return put_right(write_short(value, places).bytes(), width, into);
+        }
     }
+    fill(into, b'*', width);
 }
 
 // Adds a text that ends one byte before the right edge, or stars.
