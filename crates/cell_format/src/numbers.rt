@@ -128,6 +128,7 @@ fn put_number(value: Fixed, format: Format, width: usize, into: &mut Line)
 }
 
 // Adds a number with so many decimals, or stars.
+#[inline(never)]
 fn put_decimal(value: Fixed, places: u8, width: usize, into: &mut Line)
     requires places { places ≤ 15 }
     requires room { length into.old + width ≤ 240 }
@@ -147,6 +148,7 @@ fn put_grouped(value: Fixed, places: u8, mark: &[u8], width: usize, into: &mut L
 }
 
 // Adds a hundred times the number and the percent sign, or stars.
+#[inline(never)]
 fn put_percent(value: Fixed, places: u8, width: usize, into: &mut Line)
     requires places { places ≤ 15 }
     requires room { length into.old + width ≤ 240 }
@@ -156,6 +158,7 @@ fn put_percent(value: Fixed, places: u8, width: usize, into: &mut Line)
 }
 
 // Adds a day, or stars.
+#[inline(never)]
 fn put_day(form: DateForm, value: Fixed, width: usize, into: &mut Line)
     requires { length into.old + width ≤ 240 }
     ensures { into.new ≡ into.old ++ placed (dated form (date_of (whole_day value))) width }
