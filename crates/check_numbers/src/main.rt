@@ -1,11 +1,13 @@
 //! Works through numbers of the whole range. Without a word it prints, for each block of 200 of 20,000
 //! numbers, the sum of their double bits, which the stored run compares with sums of the host's doubles, and
 //! then 5,000 numbers as cells show them, which it compares with another program's.
-//! With the word `mul` or `div` it does a million of these and prints the sum of the results, for bench/.
+//! With the word `mul` or `div` it does a million of these and prints the sum of the results, for bench/numbers. With
+//! the word `tenths`, `whole`, `rounded`, `fixed` or `hidden` it shows 10,000 numbers of that kind, for bench/digits.
 #![tactic(auto)]
 
 mod numbers;
 mod shown;
+mod timed;
 
 use fixed_value::to_double_bits;
 use numbers::Numbers;
@@ -13,6 +15,7 @@ use shown::print_shown;
 use std::env;
 use std::io::Write;
 use std::process::ExitCode;
+use timed::{kind_of, shown_sum};
 
 const BLOCKS: u32 = 100;
 
@@ -58,7 +61,10 @@ fn main(rt: HostRuntime) -> ExitCode {
         Ok(args) => match args.skip(1).next() {
             Some(word) if word.as_str() == "mul" => writeln!(out, "{}", operations_sum(false)),
             Some(word) if word.as_str() == "div" => writeln!(out, "{}", operations_sum(true)),
-            Some(_) => return ExitCode::from(1),
+            Some(word) => match kind_of(word.as_str()) {
+                Some(kind) => writeln!(out, "{}", shown_sum(kind)),
+                None => return ExitCode::from(1),
+            },
             None => print_blocks(&mut out),
         },
         Err(_) => return ExitCode::from(1),
