@@ -1,0 +1,533 @@
+"""Worksheet files: the data of check_files, and what it must print for them. Its own text tells what the lines say."""
+import struct
+
+from . import fixed, formula, wk1
+from .address import cell_text, read_cell, read_span
+from .answers import NOT_BUILT, lines_of, names_of
+from .cases import TEXT_BYTES, Texts, WORDS, is_read, worked
+from .sheet import DEFAULT_FORMAT, Saved, State
+from .values import BLANK, C_BLANK, ERR, NA, num, string
+
+PREFIXES = b'\'"^\\|'
+ORDERS = {b'N': 'natural', b'C': 'columnwise', b'R': 'rowwise'}
+COLUMNS = [*range(7), 26, 254, 255]
+ROWS = [*range(8), 100, 8190, 8191]
+FORMATS = [DEFAULT_FORMAT, DEFAULT_FORMAT, DEFAULT_FORMAT, 0, 2, 34, 66, 113, 114, 117, 118, 127, 130, 241]
+HEAD, VALUE = 5, 8  # the bytes of a cell's head, and of a formula's value
+EMPTY = bytes.fromhex('00000200060401000000')
+
+
+# ---------------------------------------------------------------- what the program must print
+
+def rewritten(data):
+    """What reading bytes comes to: the fault, or the bytes that are written of the sheet."""
+    try:
+        return None, wk1.write(wk1.read(data))
+    except wk1.Wk1Fault as fault:
+        return fault, None
+
+
+def answer(fault, again):
+    return fault.text().encode() if fault else again.hex().encode()
+
+
+def outcome(data):
+    """What a line tells of bytes."""
+    return answer(*rewritten(data))
+
+
+def bytes_of(word):
+    return b'' if word == b'-' else bytes.fromhex(word.decode())
+
+
+class Desk:
+    """A sheet, a file, and what came of the files so far."""
+
+    def __init__(self):
+        self.saved = Saved()
+        self.file = b''
+        self.written = self.read = self.differ = 0
+        self.faults = [0] * 13
+
+    def put(self, cell, state):
+        if state.content == C_BLANK and state.format == DEFAULT_FORMAT:
+            self.saved.cells.pop(cell, None)
+        else:
+            self.saved.cells[cell] = state
+
+    def cell(self, line):
+        cell, code, text = line.split(b' ', 2)
+        cell = read_cell(cell)
+        if not text:
+            state = State(C_BLANK, BLANK, int(code))
+        elif text[0] in PREFIXES:
+            state = State(('label', text[0], text[1:]), string(text[1:]), int(code))
+        else:
+            number = fixed.read_decimal(text)
+            state = State(('number', number), num(number), int(code))
+        self.put(cell, state)
+
+    def formula(self, line):
+        cell, code, value, text = line.split(b' ', 3)
+        cell = read_cell(cell)
+        tree = formula.read(text, cell, self.saved.names)
+        kind = value[:1]
+        if kind == b'n':
+            value = num(int(value[1:]))
+        elif kind == b's':
+            value = string(bytes_of(value[1:]))
+        else:
+            value = ERR if kind == b'e' else NA
+        self.put(cell, State(('formula', tree), value, int(code)))
+
+    def settings(self, line):
+        mode, passes, prefix, code, width, protection, order, pointer = line.split(b' ')
+        settings = self.saved.settings
+        settings.automatic, settings.passes, settings.prefix = mode == b'A', int(passes), prefix[0]
+        settings.format, settings.width, settings.protection = int(code), int(width), protection == b'P'
+        settings.order, settings.pointer = ORDERS[order], read_cell(pointer)
+
+    def count(self, data, wanted):
+        """Counts what reading comes to, and whether that is what the line tells."""
+        fault, again = rewritten(data)
+        if fault:
+            self.faults[fault.number] += 1
+        else:
+            self.read += 1
+        self.differ += answer(fault, again) != wanted or (fault is None and rewritten(again) != (None, again))
+
+    def follow(self, line):
+        head, rest = line[:1], line[1:]
+        if head == b'b':
+            self.file = bytes_of(rest)
+        elif head == b'c':
+            self.cell(rest)
+        elif head == b'd':
+            at, count, put, wanted = rest.split(b' ', 3)
+            self.count(self.file[:int(at)] + bytes_of(put) + self.file[int(at) + int(count):], wanted)
+        elif head == b'h':
+            self.saved.hidden.add(read_cell(rest)[0])
+        elif head == b'm':
+            span, name = rest.split(b' ', 1)
+            self.saved.names.create(name, read_span(span))
+        elif head == b'r':
+            self.count(self.file, rest)
+        elif head == b's':
+            self.settings(rest)
+        elif head == b'v':
+            self.formula(rest)
+        elif head == b'w':
+            cell, width = rest.split(b' ')
+            self.saved.widths[read_cell(cell)[0]] = int(width)
+        elif head == b'z':
+            count, wanted = rest.split(b' ', 1)
+            self.count(self.file + bytes(int(count)), wanted)
+        elif head == b'=':
+            self.file = bytes_of(rest)
+            self.written += 1
+            self.differ += wk1.write(self.saved) != self.file or rewritten(self.file) != (None, self.file)
+        elif head == b':':
+            self.saved = Saved()
+        elif head != b'#':
+            raise ValueError(line)
+
+    def told(self):
+        out = [b'%d sheets written' % self.written, b'%d files read' % self.read]
+        out += [b'%d files with F%d' % (self.faults[number], number) for number in range(1, 13)]
+        return out + [b'%d differ' % self.differ]
+
+
+def answers(data):
+    """How many sheets were written, what came of the files, and how many differ from what their lines tell."""
+    desk = Desk()
+    for line in lines_of(data):
+        desk.follow(line)
+    return b''.join(line + b'\n' for line in desk.told())
+
+
+# ---------------------------------------------------------------- sheets that are built
+
+def some_text(r, *sizes):
+    return bytes(r.choice(TEXT_BYTES) for _ in range(r.choice(sizes)))
+
+
+def hex_of(data):
+    return data.hex().encode() or b'-'
+
+
+class Built:
+    """The lines that build a random sheet."""
+
+    def __init__(self, r):
+        self.r = r
+
+    def place(self):
+        return cell_text((self.r.choice(COLUMNS), self.r.choice(ROWS)))
+
+    def text(self):
+        r = self.r
+        if r.randrange(3) == 0:
+            return r.choice(WORDS)
+        return some_text(r, 240) if r.randrange(30) == 0 else some_text(r, 0, 1, 3, 8, 20, 60)
+
+    def number(self):
+        """Whole numbers round the ends of two bytes, decimals, and both signs."""
+        r = self.r
+        text = r.choice([
+            lambda: b'%d' % r.choice([0, 1, -1, 32767, 32768, -32768, -32769, 999999999, -999999999]),
+            lambda: b'%d' % r.randrange(-40000, 40000), lambda: b'%.2f' % r.uniform(-1000, 1000),
+            lambda: b'%.6f' % r.uniform(-1, 1), lambda: b'%.*f' % (r.randrange(1, 7), r.uniform(-999999999, 999999999)),
+            lambda: r.choice([b'0.000001', b'-0.000001', b'-0.0000001', b'999999999.999999', b'-999999999.999999'])])()
+        return text if isinstance(fixed.read_decimal(text), int) else b'7'
+
+    def value(self):
+        r = self.r
+        number = lambda: b'n%d' % fixed.read_decimal(self.number())
+        text = lambda: b's' + hex_of(self.text())
+        return r.choice([number, number, number, text, lambda: b'e', lambda: b'a'])()
+
+    def name(self):
+        r = self.r
+        known = r.choice([b'TOTAL', b'rates', b'Tax_Rate', b'A1', b'NET PAY', b'\\A', b'EXACTLY15LETTER'])
+        return known if r.randrange(2) else some_text(r, *range(1, 16)).lstrip(b' ') or b'Q'
+
+    def span(self):
+        return self.place() + (b'..' + self.place() if self.r.randrange(3) else b'')
+
+    def cell(self, names):
+        r, place, code = self.r, self.place(), b'%d' % self.r.choice(FORMATS)
+        texts = Texts(r, 7, 8, True, [name for name in names if name.isalnum()], without=NOT_BUILT)
+        while r.randrange(2):
+            text = texts.tree(r.choice([1, 2, 3, 4]))
+            if len(text) <= 240 and is_read(text, read_cell(place), names_of_lines(names)):
+                return b'v' + place + b' ' + code + b' ' + self.value() + b' ' + text
+        label = lambda: bytes([r.choice(PREFIXES)]) + self.text()
+        return b'c' + place + b' ' + code + b' ' + r.choice([self.number, self.number, label, label, lambda: b''])()
+
+    def settings(self):
+        r = self.r
+        return b' '.join([b's' + r.choice([b'A', b'M']), b'%d' % r.choice([1, 2, 49, 50, r.randrange(1, 51)]),
+                          r.choice([b"'", b'"', b'^']), b'%d' % r.choice(FORMATS),
+                          b'%d' % r.choice([9, 1, 240, r.randrange(1, 241)]), r.choice([b'P', b'N']),
+                          r.choice([b'N', b'C', b'R']), self.place()])
+
+    def lines(self):
+        r = self.r
+        names = {self.name(): self.span() for _ in range(r.choice([0, 0, 1, 2, 4]))}
+        out = [b':'] + [self.settings()] * (r.randrange(3) > 0)
+        width = lambda: b'%d' % r.choice([1, 9, 240, r.randrange(1, 241)])
+        out += [b'w' + self.place() + b' ' + width() for _ in range(r.choice([0, 0, 1, 3]))]
+        out += [b'h' + self.place() for _ in range(r.choice([0, 0, 1, 4]))]
+        out += [b'm' + span + b' ' + name for name, span in names.items()]
+        return out + [self.cell(names) for _ in range(r.choice([0, 1, 2, 3, 5, 8]))]
+
+
+def names_of_lines(names):
+    return names_of([(name, span.decode()) for name, span in names.items()])
+
+
+def file_of(lines):
+    """The bytes of the sheet that lines build."""
+    desk = Desk()
+    for line in lines:
+        desk.follow(line)
+    return wk1.write(desk.saved)
+
+
+# ---------------------------------------------------------------- files that nobody saved
+
+class Codes:
+    """Random codes of formulas, also those that a save doesn't write, and now and then a faulty one."""
+
+    def __init__(self, r):
+        self.r = r
+
+    def coordinate(self, size, bits):
+        """A relative one, whose bits past the offset say nothing, or an absolute one."""
+        r = self.r
+        if r.randrange(3):
+            offset = r.choice([0, 1, 2, size - 1, size - 2, r.randrange(size)])
+            return 0x8000 | offset | (r.randrange(0x8000 >> bits) << bits if r.randrange(2) else 0)
+        return r.choice([0, 1, size - 1, r.randrange(size)]) if r.randrange(60) else r.choice([size, size + 1, 0x7FFF])
+
+    def ref(self):
+        return wk1._u16s(self.coordinate(256, 8), self.coordinate(8192, 13))
+
+    def text(self):
+        r = self.r
+        text = some_text(r, 0, 1, 4, 12).replace(b'"', b"'")
+        if r.randrange(30) == 0:
+            text = r.choice([b'say "so"', b'a\x1fb', b'x' * 240, b'x' * 241])
+        return b'\x06' + text + b'\0'
+
+    def leaf(self):
+        r = self.r
+        double = lambda: b'\0' + any_double(r)
+        whole = lambda: b'\x05' + r.choice([0, 1, 100, 32767, 32768, 65535, r.randrange(65536)]).to_bytes(2, 'little')
+        bare = lambda: bytes([r.choice([code for code, (_, _, most) in formula.FUNCTIONS.items() if most == 0])])
+        return r.choice([double, whole, whole, self.text, lambda: b'\x01' + self.ref(), lambda: b'\x01' + self.ref(),
+                         lambda: b'\x02' + self.ref() + self.ref(), bare])()
+
+    def call(self, depth):
+        r = self.r
+        code = r.choice(list(formula.FUNCTIONS))
+        if r.randrange(15) == 0:
+            return b'\x05\x01\x00' * 4 + bytes([r.choice([*formula.LEFT_OUT, 0x19, 0x7A, 0xFF])])
+        _, least, most = formula.FUNCTIONS[code]
+        count = r.randrange(least, min(most, 4) + 1) if code in formula.COUNTED else least
+        args = b''.join(self.tree(depth - 1) for _ in range(count))
+        if r.randrange(40) == 0:
+            count = r.choice([0, count + 1, 255])
+        return args + bytes([code]) + (bytes([count]) if code in formula.COUNTED else b'')
+
+    def tree(self, depth):
+        r = self.r
+        pick = r.randrange(10) if depth > 0 else 0
+        if pick < 3:
+            return self.leaf()
+        if pick < 5:
+            return self.tree(depth - 1) + bytes(r.choice([0x04, 0x08, 0x16, 0x17]) for _ in range(r.choice([1, 1, 2])))
+        if pick < 8:
+            return self.tree(depth - 1) + self.tree(depth - 1) + bytes([r.choice(list(wk1.BINARY))])
+        return self.call(depth)
+
+    def whole(self):
+        r = self.r
+        code = self.tree(r.choice([0, 1, 2, 3, 4]))
+        odd = r.randrange(100)
+        if odd < 3:
+            count = r.choice([254, 255, 256])
+            code = b'\x05\x01\x00' + r.choice([b'\x08', b'\x04', b'\x16', b'\x05\x01\x00\x09', b'\x21']) * count
+        elif odd < 5:
+            code = r.choice([code + code, code[:-1], code + b'\x09', b''])
+        return code + (b'\x03' if odd != 5 else b'') + (b'\x03xyz' if odd == 6 else b'')
+
+
+def any_double(r):
+    """The bits of numbers, of numbers beside them, of what is no number, and any bits."""
+    bits = fixed.to_double_bits(r.choice([
+        0, 1, -1, 1_000_000, -32_768_000_000, 32_768_000_000, r.randrange(-70000, 70000) * 1_000_000,
+        r.randrange(-10 ** 9, 10 ** 9), r.randrange(-10 ** 15, 10 ** 15)]))
+    odd = r.randrange(24)
+    if odd == 0:
+        bits = r.choice([fixed.ERR_BITS, fixed.NA_BITS, fixed.ERR_BITS + 1, fixed.NA_BITS + 1, 0x7FF8 << 48, 0xFFF8 << 48,
+                         1 << 63, 1, (1 << 63) + 1])
+    elif odd == 1:
+        # the largest number, what is nearest to it and beyond
+        bits = fixed.to_double_bits(999_999_999_999_999) + r.choice([0, 1, 2, 3, 4, 5]) + r.choice([0, 1 << 63])
+    elif odd == 2:
+        small = (0x3E00 + r.randrange(0x200) << 48) + r.randrange(1 << 48)
+        bits = r.choice([small, small, r.randrange(1 << 64)])
+    elif odd < 5:
+        bits = max(bits + r.randrange(-9, 10), 0)
+    elif odd < 7:
+        # halfway between two millionths
+        return struct.pack('<d', (2 * r.randrange(-1000, 1000) + 1) / 128)
+    return bits.to_bytes(8, 'little')
+
+
+class Records:
+    """Random records, of which most are as the format wants them."""
+
+    def __init__(self, r):
+        self.r = r
+        self.codes = Codes(r)
+
+    def place(self):
+        r = self.r
+        if r.randrange(150) == 0:
+            return r.choice([(256, 0), (0, 8192), (65535, 65535), (256, 8192), (32768, 1)])
+        return r.choice(COLUMNS), r.choice(ROWS)
+
+    def head(self):
+        return bytes([self.r.choice(FORMATS)]) + wk1._u16s(*self.place())
+
+    def text(self):
+        r = self.r
+        text = some_text(r, 0, 1, 3, 8, 20)
+        if r.randrange(40) == 0:
+            text = r.choice([r.choice([b'', b"'"]) + b'x' * r.choice([239, 240, 241]), b'a\x1fb', b'\x1f', b'\n'])
+        return text + (b'\0' if r.randrange(60) else b'') + (b'\0more' if r.randrange(20) == 0 else b'')
+
+    def name(self):
+        r = self.r
+        name = r.choice([b'TOTAL', b'rates', b'A1', b'x y', b'Q', b'q', b'fifteen_bytes_x', some_text(r, 1)])
+        if r.randrange(25) == 0:
+            name = r.choice([b'', b' q', b'a\x01', b'sixteen_bytes_xx', b'\xff\xfe'])
+        first, last = (r.choice([0, 1, 5]), r.choice([0, 2, 8190])), (r.choice([5, 6, 255]), r.choice([8190, 8191]))
+        if r.randrange(25) == 0:
+            odd = [(last, first), ((0, 0), (256, 0)), ((0, 0), (0, 8192)), ((3, 0), (2, 5)), ((0, 4), (3, 3))]
+            first, last = r.choice(odd)
+        after = bytes(r.randrange(256) for _ in range(16)) if r.randrange(4) == 0 else bytes(16)
+        return (name + b'\0' + after)[:16] + wk1._u16s(*first, *last)
+
+    def window(self):
+        r = self.r
+        place = r.choice([self.place(), self.place(), (256, 3), (3, 8192), (65535, 0)])
+        width = r.choice([9, 1, 240, r.randrange(1, 241), 0, 241, 256, 65535])
+        tail = r.choice([bytes(23), b'', bytes(r.randrange(256) for _ in range(5))])
+        return wk1._u16s(*place) + bytes([r.choice(FORMATS), r.randrange(256)]) + wk1._u16s(width) + tail
+
+    def formula(self, head):
+        code = self.codes.whole()
+        return wk1._record(wk1.FORMULA, head + any_double(self.r) + wk1._u16s(len(code)) + code)
+
+    def with_text(self):
+        """A formula and a text behind it, mostly for its cell."""
+        r = self.r
+        head = self.head()
+        between = r.choice([b'', b'', b'', wk1._record(wk1.PROTEC, b'\1'), wk1._record(wk1.STRING, head + b'first\0')])
+        other = r.choice([head, head, head, self.head(), bytes([r.choice(FORMATS)]) + head[1:]])
+        return self.formula(head) + between + wk1._record(wk1.STRING, other + self.text())
+
+    def body(self, kind):
+        r = self.r
+        any_bytes = lambda *sizes: bytes(r.randrange(256) for _ in range(r.choice(sizes)))
+        choice = lambda: bytes([r.choice([0, 1, 2, 50, 51, 254, 255, r.randrange(256)])])
+        own_width = lambda: wk1._u16s(r.choice([*COLUMNS, 256, 65535])) + bytes([r.choice([0, 1, 9, 240, 241, 255])])
+        return {
+            wk1.BOF: lambda: r.choice([b'\x06\x04', b'\x07\x04', b'ab']),
+            wk1.CALCMODE: choice, wk1.CALCORDER: choice, wk1.PROTEC: choice, wk1.CALCCOUNT: choice,
+            wk1.LABELFMT: lambda: bytes([r.choice(b'\'"^\\|x ')]),
+            wk1.RANGE: lambda: bytes(8),
+            wk1.WINDOW1: self.window,
+            wk1.COLW1: own_width,
+            wk1.HIDVEC1: lambda: r.choice([bytes(32), bytes(31) + b'\x80', any_bytes(32)]),
+            wk1.NAME: self.name,
+            wk1.BLANK_R: self.head,
+            wk1.INTEGER: lambda: self.head() + any_bytes(2),
+            wk1.NUMBER: lambda: self.head() + any_double(r),
+            wk1.LABEL: lambda: self.head() + r.choice([b"'", b'"', b'^', b'\\', b'|', b'']) + self.text(),
+            wk1.STRING: lambda: self.head() + self.text(),
+        }.get(kind, lambda: any_bytes(*range(6)))()
+
+    def record(self):
+        r = self.r
+        passed_over = r.choice([0x04, 0x18, 0x60, 0x100, 0xFFFF])
+        kinds = [kind for kind in wk1.LEAST if kind != wk1.EOF]
+        kind = r.choice([*kinds, *wk1.HEADED, wk1.FORMULA, wk1.FORMULA, wk1.FORMULA, passed_over])
+        if kind == wk1.FORMULA:
+            return self.with_text() if r.randrange(2) else self.formula(self.head())
+        body = self.body(kind)
+        odd = r.randrange(80)
+        if odd == 0:
+            body = body[:r.randrange(len(body) + 1)]
+        elif odd < 4:
+            body += bytes(r.randrange(256) for _ in range(r.randrange(4)))
+        return wk1._record(kind, body)
+
+    def file(self):
+        r = self.r
+        version = r.choice([b'\x06\x04'] * 8 + [b'\x05\x04', b'\x04\x04', b'\x06\x04more', b'\x04\x04\0'])
+        if r.randrange(60) == 0:
+            version = r.choice([b'\x03\x04', b'\x07\x04', b'\x06\x05', b'\x06', b''])
+        out = wk1._record(wk1.BOF, version) + b''.join(self.record() for _ in range(r.randrange(8)))
+        return out + wk1._record(wk1.EOF) + r.choice([b'', b'', b'', b'\x1a', b'\x01\0\0\0'])
+
+
+# ---------------------------------------------------------------- damage
+
+def places_of(data):
+    """The places at which records begin, and the end of the last."""
+    places = [0]
+    while places[-1] + 4 <= len(data) and places[-1] + 4 + wk1.u16(data, places[-1] + 2) <= len(data):
+        places.append(places[-1] + 4 + wk1.u16(data, places[-1] + 2))
+    return places
+
+
+def changed_byte(r, data):
+    at = r.randrange(len(data))
+    byte = data[at]
+    byte = r.choice([r.randrange(256), byte ^ 1 << r.randrange(8), (byte + 1) % 256, (byte - 1) % 256, 0, 255])
+    return at, 1, bytes([byte])
+
+
+def cut_short(r, data):
+    at = r.randrange(len(data))
+    return at, len(data) - at, b''
+
+
+def cut_out(r, data):
+    at = r.randrange(len(data))
+    return at, min(r.choice([1, 1, 2, 4, 9]), len(data) - at), b''
+
+
+def doubled(r, data):
+    at = r.randrange(len(data))
+    return at, 0, data[at:at + r.choice([1, 1, 2, 4, 9])]
+
+
+def of_records(r, data):
+    """A record dropped or doubled, or two that change their places."""
+    places = places_of(data)
+    if len(places) < 3:
+        return changed_byte(r, data)
+    at = r.randrange(len(places) - 2)
+    first, second, third = places[at:at + 3]
+    return r.choice([(first, second - first, b''), (first, 0, data[first:second]),
+                     (first, third - first, data[second:third] + data[first:second])])
+
+
+def of_a_body(r, data):
+    """A record that has lost or doubled some bytes of its body, and whose length tells so."""
+    places = places_of(data)
+    found = [(first, last) for first, last in zip(places, places[1:]) if last - first > 4]
+    if not found:
+        return changed_byte(r, data)
+    first, last = r.choice(found)
+    body = data[first + 4:last]
+    at, count, put = r.choice([cut_short, cut_out, doubled])(r, body)
+    body = body[:at] + put + body[at + count:]
+    return first + 2, last - first - 2, wk1._u16s(len(body)) + body
+
+
+def in_a_formula(r, data):
+    """A byte changed in a formula's code, its size or its value."""
+    places = places_of(data)
+    found = [(a, b) for a, b in zip(places, places[1:]) if wk1.u16(data, a) == wk1.FORMULA and b - a > 4 + HEAD]
+    if not found:
+        return changed_byte(r, data)
+    first, last = r.choice(found)
+    at = r.randrange(first + 4 + HEAD, last)
+    return at, 1, changed_byte(r, data[at:at + 1])[2]
+
+
+def damage(r, data):
+    """A line that tells what a damaged form of a file is read as."""
+    kinds = [changed_byte, changed_byte, changed_byte, cut_short, cut_out, doubled, of_records, of_records, of_a_body,
+             of_a_body, in_a_formula, in_a_formula]
+    at, count, put = r.choice(kinds)(r, data)
+    return b'd%d %d ' % (at, count) + hex_of(put) + b' ' + outcome(data[:at] + put + data[at + count:])
+
+
+def at_the_most():
+    """A formula of the most bytes, and the same without a bracket and with a text of a byte more: the bracket that is put
+    has no room. Then a file of the most bytes and one of a byte more, and one that is nothing but too large."""
+    text = lambda size: b'\x06' + b'x' * size + b'\0'
+    sum_of = lambda count: bytes([0x50, count])
+    bracketed, bare = b'\x04\x05\x03\0\x0b\x06', b'\x05\x03\0\x0b\x06x'
+    code = (b'\x05\x01\0\x05\x02\0\x09' + bracketed[:-1] + text(161) + text(240) * 16 + sum_of(18) + text(240) * 254
+            + sum_of(255) + b'\x03')
+    assert len(code) == 65520
+    body = b'\xff' + bytes(4) + bytes(VALUE) + wk1._u16s(len(code)) + code
+    long = EMPTY[:-4] + wk1._record(wk1.FORMULA, body) + EMPTY[-4:]
+    at = long.index(bracketed)
+    return [b'b' + long.hex().encode(), b'r' + outcome(long),
+            b'd%d %d ' % (at, len(bare)) + bare.hex().encode() + b' F7 1 65519',
+            b'b' + EMPTY.hex().encode(), b'z%d ' % (wk1.MOST - len(EMPTY)) + outcome(EMPTY),
+            b'z%d F11' % (wk1.MOST - len(EMPTY) + 1), b'b-', b'z%d F11' % (wk1.MOST + 1)]
+
+
+SHEETS, DAMAGES = 500, 3  # and as many files besides; damaged forms of each file
+
+
+def data(r, count):
+    """The worked lines; then so many sheets and as many files that nobody saved, and each of them damaged."""
+    built, records, out = Built(r), Records(r), at_the_most()
+    for _ in range(count):
+        lines = built.lines()
+        saved = file_of(lines)
+        out += lines + [b'=' + saved.hex().encode()] + [damage(r, saved) for _ in range(DAMAGES)]
+        found = records.file()
+        out += [b'b' + found.hex().encode(), b'r' + outcome(found)] + [damage(r, found) for _ in range(DAMAGES)]
+    return worked('files') + b''.join(line + b'\n' for line in out)
