@@ -12,9 +12,10 @@ use Rattle.formula_eval.specs.World.{Sight, World}
 use Rattle.block_writes.specs.Writing.{at, columns_of, rows_below}
 use Rattle.data_query.specs.Fields.{field_named, has_fields, is_no_field}
 use Rattle.data_query.specs.Patterns.{fits}
-use Rattle.data_query.specs.declared.matching.Match.{Match}
-use Rattle.data_query.specs.declared.matching.Match.TheVariants as match
+use Rattle.data_query.specs.declared.record_match.Match.{Match}
+use Rattle.data_query.specs.declared.record_match.Match.TheVariants as match
 
+-- a number that is equal
 abbrev pub equals_number : ℤ → Value → Bool
 equals_number x (value.Num y) = int_eq x y
 equals_number x value.Blank = false
@@ -41,6 +42,7 @@ content_holds w (content.Number x) place v = equals_number x v
 content_holds w (content.Label p t) place v = fits t v
 content_holds w (content.Formula f) place v = is_true (mean f place w)
 
+-- where a cell of the criterion holds nothing, no condition is made
 abbrev pub condition_holds : World → Option Content → Place → Value → Bool
 condition_holds w None place v = true
 condition_holds w (Some c) place v = content_holds w c place v
@@ -50,9 +52,11 @@ abbrev pub value_of_field : Sight → Option ℕ → ℕ → Value
 value_of_field sight None row = value.Blank
 value_of_field sight (Some col) row = sight.values (at row col)
 
+-- the condition in a cell of the criterion, for the record in a row of the input
 abbrev pub holds_at : World → Extent → Extent → ℕ → Place → Bool
 holds_at w input criterion row p =
-    condition_holds w (w.sight.contents p) (rows_down (row - (input.first.row + 1)) p) (value_of_field w.sight (field_named w.sight input (at criterion.first.row p.col)) row)
+    condition_holds w (w.sight.contents p) (rows_down (row - (input.first.row + 1)) p)
+    (value_of_field w.sight (field_named w.sight input (at criterion.first.row p.col)) row)
 
 -- all conditions of one criterion row
 abbrev pub row_holds : World → Extent → Extent → ℕ → ℕ → Bool
@@ -72,15 +76,23 @@ asks_field None = false
 
 -- the first header that names no field, above a condition that speaks of it
 abbrev pub is_missing : Sight → Extent → Extent → ℕ → Bool
-is_missing sight input criterion col = is_no_field sight input (at criterion.first.row col) && list_any (λ row. asks_field (sight.contents (at row col))) (rows_below criterion)
+is_missing sight input criterion col =
+    is_no_field sight input (at criterion.first.row col)
+    && list_any (λ row. asks_field (sight.contents (at row col))) (rows_below criterion)
 
+-- the first such header
 abbrev pub missing : Sight → Extent → Extent → Option ℕ
 missing sight input criterion = find (is_missing sight input criterion) (columns_of criterion)
 
 -- the first row is no record
 abbrev pub match_of : World → Extent → Extent → ℕ → Option ℕ → Match
 match_of w input criterion row (Some col) = match.FieldAbsent (at criterion.first.row col)
-match_of w input criterion row None = if nat_eq row input.first.row then match.No else (if record_matches w input criterion row then match.Yes else match.No)
+match_of w input criterion row None =
+    if nat_eq row input.first.row then match.No
+    else (if record_matches w input criterion row then match.Yes else match.No)
 
+-- where the input names its fields and no header is missing, a record matches or it does not
 abbrev pub matching : World → Extent → Extent → ℕ → Match
-matching w input criterion row = if has_fields w.sight input then match_of w input criterion row (missing w.sight input criterion) else match.NoFieldRow
+matching w input criterion row =
+    if has_fields w.sight input then match_of w input criterion row (missing w.sight input criterion)
+    else match.NoFieldRow

@@ -17,16 +17,20 @@ label_in (Some (content.Number x)) = None
 label_in (Some (content.Formula f)) = None
 label_in None = None
 
+-- there is one
 abbrev pub is_some : {X : Type 0} → Option X → Bool
 is_some (Some x) = true
 is_some None = false
 
+-- a cell holds a label
 abbrev pub is_label_at : Sight → Place → Bool
 is_label_at sight p = is_some (label_in (sight.contents p))
 
 -- there are records, and the first row names their fields by labels
 abbrev pub has_fields : Sight → Extent → Bool
-has_fields sight input = nat_lt input.first.row input.last.row && list_all (λ col. is_label_at sight (at input.first.row col)) (columns_of input)
+has_fields sight input =
+    nat_lt input.first.row input.last.row
+    && list_all (λ col. is_label_at sight (at input.first.row col)) (columns_of input)
 
 -- two labels that are equal, folded
 abbrev pub same_label : Option (List ℕ) → Option (List ℕ) → Bool
@@ -36,7 +40,9 @@ same_label None b = false
 
 -- the first field that a header names
 abbrev pub field_named : Sight → Extent → Place → Option ℕ
-field_named sight input header = find (λ col. same_label (label_in (sight.contents header)) (label_in (sight.contents (at input.first.row col)))) (columns_of input)
+field_named sight input header =
+    find (λ col. same_label (label_in (sight.contents header)) (label_in (sight.contents (at input.first.row col))))
+    (columns_of input)
 
 -- a header names no field
 abbrev pub is_no_field : Sight → Extent → Place → Bool

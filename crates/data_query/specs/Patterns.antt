@@ -28,5 +28,6 @@ abbrev pub is_negated : List ℕ → Bool
 is_negated [] = false
 is_negated (p ∷ ps) = p == 126
 
+-- a value is like the pattern, or with ~ is not like the rest of it
 abbrev pub fits : List ℕ → Value → Bool
 fits pattern v = if is_negated pattern then not (value_is_like (drop 1 pattern) v) else value_is_like pattern v

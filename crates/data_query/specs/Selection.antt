@@ -19,12 +19,15 @@ abbrev pub unless_missing : {X : Type 0} → Extent → Option ℕ → X → Res
 unless_missing criterion (Some col) x = Err (fault.FieldAbsent (at criterion.first.row col))
 unless_missing criterion None x = Ok x
 
+-- the faults of an input and a criterion, or an answer
 abbrev pub asked : {X : Type 0} → Sight → Extent → Extent → X → Result X QueryFault
-asked sight input criterion x = if has_fields sight input then unless_missing criterion (missing sight input criterion) x else Err fault.NoFieldRow
+asked sight input criterion x =
+    if has_fields sight input then unless_missing criterion (missing sight input criterion) x else Err fault.NoFieldRow
 
 -- the first cells of the chosen records
 abbrev pub selection : World → Extent → Extent → Result (List Place) QueryFault
-selection w input criterion = asked w.sight input criterion (map (λ row. at row input.first.col) (chosen w input criterion))
+selection w input criterion =
+    asked w.sight input criterion (map (λ row. at row input.first.col) (chosen w input criterion))
 
 -- so many cells of some columns erased, from a row on
 abbrev pub rows_erased : List ℕ → List ℕ → List Write
@@ -37,7 +40,9 @@ kept w input criterion = filter (λ row. not (record_matches w input criterion r
 abbrev pub moved_up : Sight → Extent → List ℕ → List Write
 moved_up sight input rows =
     rows_copied sight (columns_of input) rows (rows_below input)
-    ++ rows_erased (columns_of input) (numbers_from (input.first.row + 1 + length rows) (input.last.row - input.first.row - length rows))
+    ++ rows_erased (columns_of input)
+    (numbers_from (input.first.row + 1 + length rows) (input.last.row - input.first.row - length rows))
 
+-- the faults, or what is written
 abbrev pub deletion : World → Extent → Extent → Result (List Write) QueryFault
 deletion w input criterion = asked w.sight input criterion (moved_up w.sight input (kept w input criterion))

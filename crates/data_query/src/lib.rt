@@ -2,11 +2,20 @@
 #![tactic(auto)]
 
 mod conditions;
+mod deleting;
+mod erasing;
 mod fault;
-mod matching;
+mod fields;
+mod missing;
 mod patterns;
+mod plan;
+mod record_match;
+mod rows;
+mod selecting;
 
 pub use conditions::{content_holds, equals_number, is_true, rows_down};
+pub use deleting::deletion;
 pub use fault::QueryFault;
-pub use matching::Match;
 pub use patterns::{fits, value_is_like};
+pub use record_match::{Match, matching};
+pub use selecting::select;

@@ -1,0 +1,77 @@
+// What deleting the records that match writes.
+ghost use Rattle.std.specs.Prelude.{◌≡◌, ◌⊎◌, ◌<◌, ◌≤◌, ◌+◌, ◌-◌, IfOk, IfErr, Ok, Err, length, map};
+ghost use Rattle.grid_address.specs.Place.{Place};
+ghost use Rattle.formula_eval.specs.Scenes.{world_of};
+ghost use Rattle.formula_eval.specs.World.{Sight};
+ghost use Rattle.data_query.specs.Selection.{deletion, kept, moved_up};
+
+use crate::QueryFault;
+use crate::erasing::push_rows_erased;
+use crate::missing::asked;
+use crate::plan::records;
+use crate::rows::{behind_first, count_below, row_below};
+use block_writes::rows_copied;
+use formula_eval::{Look, Scene};
+use grid_address::{CellList, Span};
+use lics_text::Memory;
+use sheet_store::Writes;
+use std::alloc::Global;
+
+// Writes by which the records of these cells move up, and the rest is erased.
+fn moved_up<K: Look>(
+    alloc: Global,
+    look: &K,
+    input: Span,
+    kept: &CellList,
+) -> Result<Writes, Memory>
+    requires some { input.first.row < input.last.row }
+    requires fits { length kept.now ≤ input.last.row - input.first.row }
+    ensures { let rows = map (λ (p : Place). p.row) kept.now in
+        IfOk result (λ l. l ≡ moved_up (K.sight look.now) input rows) }
+{
+    let mut writes = rows_copied(alloc, look, behind_first(input), kept.as_slice())?;
+    let count = kept.len() as u16;
+    let first = row_below(input, count);
+    push_rows_erased(&mut writes, input, first, count_below(input) - count)?;
+    Ok(writes)
+}
+
+// What deleting the records that match writes, where the input names its fields.
+fn deleted<K: Look>(
+    alloc: Global,
+    input: Span,
+    criterion: Span,
+    look: &K,
+    scene: &Scene,
+) -> Result<Writes, Memory>
+    requires { input.first.row < input.last.row }
+    ensures { let w = world_of (K.sight look.now) scene.entry.now in
+        IfOk result (λ l. l ≡ moved_up w.sight input (kept w input criterion)) }
+{
+    let kept = records(alloc, look, scene, input, criterion, false)?;
+    let writes = moved_up(alloc, look, input, &kept)?;
+    Ok(writes)
+}
+
+/// What deleting the records that match a criterion writes: the others move up as copies of their contents and
+/// formats, and the rest of the input is erased, its cells keeping their formats. Each cell below the input's first row
+/// is written, also where a record keeps its place. The faults are those of `select`. (Release 2 manual; that all cells
+/// are written is this project's own choice.)
+pub fn deletion<K: Look>(
+    alloc: Global,
+    input: Span,
+    criterion: Span,
+    look: &K,
+    scene: &Scene,
+) -> Result<Writes, QueryFault>
+    ensures found { let w = world_of (K.sight look.now) scene.entry.now in
+        IfOk result (λ l. deletion w input criterion ≡ Ok l) }
+    ensures fault { let w = world_of (K.sight look.now) scene.entry.now in
+        IfErr result (λ f. (f ≡ QueryFault.Memory) ⊎ (deletion w input criterion ≡ Err f)) }
+{
+    asked(look, input, criterion)?;
+    match deleted(alloc, input, criterion, look, scene) {
+        Ok(writes) => Ok(writes),
+        Err(Memory) => Err(QueryFault::Memory),
+    }
+}
