@@ -1,11 +1,11 @@
 """What each checking program must print for its standard input. A name is that of the crate, behind `check_`."""
 import struct
 
-from . import adjust, blocks, cellformat, fixed, formula, screen
+from . import adjust, blocks, cellformat, fixed, formula, query, screen
 from .address import cell_text, cells_of, read_cell, read_span, span_at, span_text, width_of, height_of
 from .cellformat import show_number
 from .dates import Moment
-from .evaluate import Scene, Tally, glance
+from .evaluate import Scene, Tally, glance, matches
 from .gen import generate
 from .keys import COMMANDS, KeyReader, SLASH, fold, word_at
 from .names import Names
@@ -514,6 +514,39 @@ def asked_block(sheet, line):
     return blocks.distribution(span, read_span(words[1]), sheet)
 
 
+def query_fault_text(fault):
+    """The fault of a query, with what it carries."""
+    return b'!' + fault.kind.encode() + (b'' if fault.payload is None else b' ' + cell_text(fault.payload))
+
+
+def match_text(answer):
+    """Whether a record matches."""
+    return answer.encode() if isinstance(answer, str) else b'FieldAbsent ' + cell_text(answer[1])
+
+
+def asked_query(sheet, line):
+    """Whether a record matches, which ones do, and what deleting them writes."""
+    words = line[1:].split(b' ')
+    if line[:1] == b'm':
+        return match_text(matches(read_span(words[1]), read_span(words[2]), read_cell(words[0])[1], sheet, SCENE))
+    spans = [read_span(word) for word in words]
+    if line[:1] == b'q':
+        return b''.join(cell_text(cell) + b' ' for cell in query.select(*spans, sheet, SCENE))
+    return writes_text(query.delete(*spans, sheet, SCENE), sheet.names)
+
+
+def asked_data(sheet, line):
+    """What a line asks for, or why it is refused."""
+    try:
+        if line[:1] in (b'f', b's', b'd'):
+            return writes_text(asked_block(sheet, line), sheet.names)
+        return asked_query(sheet, line)
+    except blocks.BlockFault as fault:
+        return block_fault_text(fault)
+    except query.QueryFault as fault:
+        return query_fault_text(fault)
+
+
 def data(data):
     """What data commands write over small sheets."""
     desk, out = Desk(), []
@@ -523,10 +556,7 @@ def data(data):
         elif line[:1] == b'x':
             desk.edit(line)
         else:
-            try:
-                out.append(writes_text(asked_block(desk.sheet, line), desk.sheet.names))
-            except blocks.BlockFault as fault:
-                out.append(block_fault_text(fault))
+            out.append(asked_data(desk.sheet, line))
     return b''.join(line + b'\n' for line in out)
 
 

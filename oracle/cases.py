@@ -3,7 +3,7 @@ import os
 import random
 
 from . import fixed, formula
-from .address import cell_text, col_text, read_cell, span_text
+from .address import cell_text, col_text, height_of, read_cell, span_text, width_of
 from .answers import FORMULA_NAMES, NOT_BUILT, VALUE_NAMES
 from .formula import COUNTED, FUNCTIONS, LEFT_OUT_NAMES
 from .keys import COMMANDS, NAMES as KEYS, SLASH
@@ -468,9 +468,84 @@ class Blocks:
         return out
 
 
+class Queries:
+    """Small lists of records with few values, criteria for them, and what is asked of them."""
+
+    NAMES = [b'N', b'AMT', b'Day', b'who', b'x*']
+
+    def __init__(self, r):
+        self.r = r
+
+    def sheet(self):
+        """A fresh sheet with records and a criterion."""
+        r = self.r
+        self.names = r.sample(self.NAMES, 4)
+        self.input = self.range(r.choice([(0, 0), (0, 0), (2, 3), (0, 8184)]), r.randrange(1, 5), r.choice([1, 2, *range(3, 9)] * 2 + [7]))
+        self.criterion = self.range(r.choice([(6, 0), (6, 0), (6, 3), (6, 8189)]), r.randrange(1, 4), r.choice([1, 2, 2, 2, 3, 3]))
+        writes = [self.put(cell, self.header(i)) for i, cell in enumerate(self.row(self.input, 0))]
+        for line in range(1, height_of(self.input)):
+            writes += [self.put(cell, self.value()) for cell in self.row(self.input, line)]
+        writes += [self.put(cell, self.header()) for cell in self.row(self.criterion, 0)]
+        for line in range(1, height_of(self.criterion)):
+            writes += [self.put(cell, self.condition()) for cell in self.row(self.criterion, line)]
+        return [b':', b'x' + b'\t'.join(writes)]
+
+    def range(self, first, cols, rows):
+        """A range from its first cell, cut at the end of the sheet."""
+        return first, (min(first[0] + cols - 1, 255), min(first[1] + rows - 1, 8191))
+
+    def row(self, span, line):
+        return [(col, span[0][1] + line) for col in range(span[0][0], span[1][0] + 1)]
+
+    def put(self, cell, text):
+        code = self.r.choice([b'-', b'-', b'2', b'113', b'%d' % self.r.randrange(256)])
+        return cell_text(cell) + b' ' + code + b' ' + text
+
+    def header(self, place=None):
+        """A field's name, or seldom what is none."""
+        r = self.r
+        if r.randrange(60) == 0:
+            return r.choice([b'', b'1', b'+"N"', b"'", b"'nobody"])
+        if place is None or r.randrange(12) == 0:
+            place = r.randrange(width_of(self.input))
+        return b"'" + any_case(r, self.names[place])
+
+    def value(self):
+        r = self.r
+        return r.choice([lambda: b'%d' % r.randrange(4), lambda: b"'" + r.choice([b'fig', b'Fig', b'fi', b'figs', b'', b'b']),
+                         lambda: r.choice([b'', b'@NA', b'@ERR', b'+"fig"', b'1.5', b'+' + self.near()])])()
+
+    def near(self):
+        """A cell of the first record, or another one."""
+        r = self.r
+        first, last = self.input
+        cell = r.randrange(first[0], last[0] + 1), min(first[1] + r.choice([1, 1, 1, 0, 2]), 8191)
+        return r.choice([b'', b'', b'', b'$']) + col_text(cell[0]) + r.choice([b'', b'', b'', b'$']) + b'%d' % (cell[1] + 1)
+
+    def condition(self):
+        r = self.r
+        number = lambda: b'%d' % r.randrange(4)
+        pattern = lambda: b"'" + r.choice([b'fig', b'f*', b'?i?', b'~fig', b'~f*', b'~', b'', b'*', b'fig?', b'~*', b'x*y', b'FI*z'])
+        formula = lambda: r.choice([
+            b'+' + self.near() + r.choice([b'>', b'<', b'=', b'<>']) + r.choice([number(), self.near(), b'"fig"']),
+            b'@ISSTRING(' + self.near() + b')', b'@SUM(' + self.near() + b'..' + self.near() + b')>3', b'+"1"', b'1', b'@NA',
+            b'+' + self.near(), b'@CELL("row",' + self.near() + b')>3'])
+        return r.choice([lambda: b'', lambda: b'', number, pattern, pattern, formula, formula])()
+
+    def asked(self, count):
+        """So many of each, a fresh sheet for each few."""
+        out = []
+        for _ in range(count):
+            out += self.sheet()
+            given = span_text(self.input) + b' ' + span_text(self.criterion)
+            cell = self.input[0][0], self.r.randrange(self.input[0][1], self.input[1][1] + 1)
+            out += [b'm' + cell_text(cell) + b' ' + given, b'q' + given, b'r' + given]
+        return out
+
+
 def data(r):
-    """The worked lines, and 500 fills, sorts and distributions of small sheets."""
-    return worked('data') + b''.join(line + b'\n' for line in Blocks(r).asked(500))
+    """The worked lines, 500 fills, sorts and distributions of small sheets, and 500 queries of each kind."""
+    return worked('data') + b''.join(line + b'\n' for line in Blocks(r).asked(500) + Queries(r).asked(500))
 
 
 def generated(_r):

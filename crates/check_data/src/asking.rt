@@ -1,6 +1,9 @@
 // What a line asks for.
-use crate::desk::{Stop, cell_of, number_of, parts, span_of};
+use crate::desk::{SCENE, Stop, cell_of, number_of, parts, span_of};
 use data_blocks::{BlockFault, SortKey, distribution, fill, sort_rows};
+use data_query::{Match, QueryFault, deletion, matching, select};
+use grid_address::{CellList, Span};
+use lics_text::Memory;
 use sheet_store::Writes;
 use std::alloc::Global;
 use work_sheet::Sheet;
@@ -61,4 +64,45 @@ pub fn asked_distribution(
     let (values, bins) = parts(bytes)?;
     let values = span_of(values)?;
     Ok(distribution(alloc, values, span_of(bins)?, sheet))
+}
+
+// An input and a criterion.
+fn query_of(bytes: &[u8]) -> Result<(Span, Span), Stop> {
+    let (input, criterion) = parts(bytes)?;
+    let input = span_of(input)?;
+    Ok((input, span_of(criterion)?))
+}
+
+/// Whether a record matches: its cell, an input and a criterion.
+pub fn asked_match(alloc: Global, sheet: &Sheet, bytes: &[u8]) -> Result<Match, Stop> {
+    let (cell, rest) = parts(bytes)?;
+    let (input, criterion) = query_of(rest)?;
+    let cell = cell_of(cell)?;
+    if !input.contains(cell) {
+        return Err(Stop::Line);
+    }
+    match matching(alloc, input, criterion, cell.row, sheet, &SCENE) {
+        Ok(answer) => Ok(answer),
+        Err(Memory) => Err(Stop::Memory),
+    }
+}
+
+/// The records that match.
+pub fn asked_selection(
+    alloc: Global,
+    sheet: &Sheet,
+    bytes: &[u8],
+) -> Result<Result<CellList, QueryFault>, Stop> {
+    let (input, criterion) = query_of(bytes)?;
+    Ok(select(alloc, input, criterion, sheet, &SCENE))
+}
+
+/// What deleting them writes.
+pub fn asked_deletion(
+    alloc: Global,
+    sheet: &Sheet,
+    bytes: &[u8],
+) -> Result<Result<Writes, QueryFault>, Stop> {
+    let (input, criterion) = query_of(bytes)?;
+    Ok(deletion(alloc, input, criterion, sheet, &SCENE))
 }

@@ -1,9 +1,10 @@
 // How answers are printed.
 use crate::desk::Stop;
 use data_blocks::BlockFault;
+use data_query::{Match, QueryFault};
 use formula_text::print;
 use formula_tree::{Content, Formula};
-use grid_address::{Cell, Format, Span, cell_text};
+use grid_address::{Cell, CellList, Format, Span, cell_text};
 use lics_text::Line;
 use range_names::Names;
 use sheet_store::{SheetFault, Write as Entry, Writes};
@@ -92,15 +93,52 @@ fn show_cell<W: Write>(name: &[u8], cell: Cell, out: &mut W) -> Result<(), Error
     out.write_all(b"\n")
 }
 
-/// A fault by its name and the cell or the range that it carries.
+// What the sheet refuses, with the cell or the range that it carries.
+fn show_sheet_fault<W: Write>(fault: SheetFault, out: &mut W) -> Result<(), Stop> {
+    written(match fault {
+        SheetFault::OutOfSheet(span) => show_span(b"!OutOfSheet ", span, out),
+        SheetFault::Protected(cell) => show_cell(b"!Protected ", cell, out),
+        SheetFault::PushedOff(cell) => show_cell(b"!PushedOff ", cell, out),
+        SheetFault::Memory => return Err(Stop::Memory),
+    })
+}
+
+/// A fault by its name and what it carries.
 pub fn show_block_fault<W: Write>(fault: BlockFault, out: &mut W) -> Result<(), Stop> {
     written(match fault {
         BlockFault::ZeroStep => out.write_all(b"!ZeroStep\n"),
         BlockFault::NoTable => out.write_all(b"!NoTable\n"),
         BlockFault::InputInTable(cell) => show_cell(b"!InputInTable ", cell, out),
-        BlockFault::Sheet(SheetFault::OutOfSheet(span)) => show_span(b"!OutOfSheet ", span, out),
-        BlockFault::Sheet(SheetFault::Protected(cell)) => show_cell(b"!Protected ", cell, out),
-        BlockFault::Sheet(SheetFault::PushedOff(cell)) => show_cell(b"!PushedOff ", cell, out),
-        BlockFault::Sheet(SheetFault::Memory) | BlockFault::Memory => return Err(Stop::Memory),
+        BlockFault::Sheet(fault) => return show_sheet_fault(fault, out),
+        BlockFault::Memory => return Err(Stop::Memory),
+    })
+}
+
+/// Whether a record matches.
+pub fn show_match<W: Write>(answer: Match, out: &mut W) -> Result<(), Stop> {
+    written(match answer {
+        Match::Yes => out.write_all(b"Yes\n"),
+        Match::No => out.write_all(b"No\n"),
+        Match::NoFieldRow => out.write_all(b"NoFieldRow\n"),
+        Match::FieldAbsent(cell) => show_cell(b"FieldAbsent ", cell, out),
+    })
+}
+
+/// Cells, parted by spaces.
+pub fn show_cells<W: Write>(cells: &CellList, out: &mut W) -> Result<(), Stop> {
+    for cell in cells.as_slice() {
+        written(out.write_all(cell_text(*cell).bytes()))?;
+        written(out.write_all(b" "))?;
+    }
+    written(out.write_all(b"\n"))
+}
+
+/// A fault by its name and the cell or the number that it carries.
+pub fn show_query_fault<W: Write>(fault: QueryFault, out: &mut W) -> Result<(), Stop> {
+    written(match fault {
+        QueryFault::NoFieldRow => out.write_all(b"!NoFieldRow\n"),
+        QueryFault::FieldAbsent(cell) => show_cell(b"!FieldAbsent ", cell, out),
+        QueryFault::OutputFull(count) => writeln!(out, "!OutputFull {count}"),
+        QueryFault::Memory => return Err(Stop::Memory),
     })
 }
