@@ -173,10 +173,11 @@ def kind_of(words):
 
 
 def without_moments(pages):
-    """Pages with blanks in the place of the moments."""
+    """Pages with blanks in the place of the moments; in ERROR the message stands there."""
     lines = pages.split(b'\n')
     for at in range(24, len(lines), 26):
-        lines[at] = BLANK_MOMENT + lines[at][15:]
+        if lines[at - 24][73:78] != b'ERROR':
+            lines[at] = BLANK_MOMENT + lines[at][15:]
     return lines
 
 
