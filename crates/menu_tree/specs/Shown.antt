@@ -1,0 +1,77 @@
+-- Which items are shown: those whose commands are built.
+use Rattle.std.specs.Prelude.{Bool, true, false, List}
+use Rattle.std.specs.List.{filter}
+use Rattle.menu_tree.specs.Tree.{items}
+use Rattle.menu_tree.specs.declared.menu.Action.{Action}
+use Rattle.menu_tree.specs.declared.menu.Action.TheVariants as action
+use Rattle.menu_tree.specs.declared.menu.CommonAction.{CommonAction}
+use Rattle.menu_tree.specs.declared.menu.CommonAction.TheVariants as common
+use Rattle.menu_tree.specs.declared.menu.Item.{Item}
+use Rattle.menu_tree.specs.declared.menu.Item.TheVariants as item
+use Rattle.menu_tree.specs.declared.menu.Menu.{Menu}
+use Rattle.menu_tree.specs.declared.menu.Menu.TheVariants as menu
+use Rattle.menu_tree.specs.declared.menu.RangeAction.{RangeAction}
+use Rattle.menu_tree.specs.declared.menu.RangeAction.TheVariants as range
+use Rattle.menu_tree.specs.declared.menu.WorksheetAction.{WorksheetAction}
+use Rattle.menu_tree.specs.declared.menu.WorksheetAction.TheVariants as worksheet
+
+-- the menus below which no command is built yet
+abbrev pub is_menu_built : Menu → Bool
+is_menu_built menu.Insert = false
+is_menu_built menu.Delete = false
+is_menu_built menu.Name = false
+is_menu_built menu.File = false
+is_menu_built menu.Combine = false
+is_menu_built menu.Xtract = false
+is_menu_built menu.Print = false
+is_menu_built menu.PrintFileMenu = false
+is_menu_built menu.Options = false
+is_menu_built menu.Margins = false
+is_menu_built menu.Data = false
+is_menu_built menu.Table = false
+is_menu_built menu.Sort = false
+is_menu_built menu.Query = false
+is_menu_built menu.QueryDelete = false
+is_menu_built m = true
+
+-- all but Move, and what stands in those menus alone
+abbrev pub is_common_built : CommonAction → Bool
+is_common_built common.Move = false
+is_common_built common.Cancel = false
+is_common_built common.Leave = false
+is_common_built a = true
+
+-- all but inserting and deleting
+abbrev pub is_worksheet_built : WorksheetAction → Bool
+is_worksheet_built worksheet.InsertColumn = false
+is_worksheet_built worksheet.InsertRow = false
+is_worksheet_built worksheet.DeleteColumn = false
+is_worksheet_built worksheet.DeleteRow = false
+is_worksheet_built a = true
+
+-- all but names, Value and Transpose
+abbrev pub is_range_built : RangeAction → Bool
+is_range_built range.Value = false
+is_range_built range.Transpose = false
+is_range_built range.NameCreate = false
+is_range_built range.NameDelete = false
+is_range_built range.NameReset = false
+is_range_built a = true
+
+-- whether a command is built
+abbrev pub is_built : Action → Bool
+is_built (action.Common a) = is_common_built a
+is_built (action.Worksheet a) = is_worksheet_built a
+is_built (action.Range a) = is_range_built a
+is_built (action.File a) = false
+is_built (action.Print a) = false
+is_built (action.Data a) = false
+
+-- whether an item leads to one
+abbrev pub is_shown : Item → Bool
+is_shown (item.Menu m) = is_menu_built m
+is_shown (item.Action a) = is_built a
+
+-- the items that a menu shows
+abbrev pub shown : Menu → List Item
+shown m = filter is_shown (items m)
