@@ -10,6 +10,8 @@ use Rattle.key_words.specs.declared.key.Key.{Key}
 use Rattle.key_words.specs.declared.key.Key.TheVariants as key
 use Rattle.menu_tree.specs.declared.menu.Action.TheVariants as action
 use Rattle.menu_tree.specs.declared.menu.CommonAction.TheVariants as common
+use Rattle.menu_tree.specs.declared.menu.Menu.TheVariants as menu
+use Rattle.menu_room.specs.Room.{opened}
 use Rattle.session_rooms.specs.Bytes.{begins_value, slash}
 use Rattle.session_rooms.specs.Lines.{fits_line, line_of}
 use Rattle.session_rooms.specs.declared.rooms.Room.{Room}
@@ -25,9 +27,12 @@ use Rattle.work_sheet.specs.Typed as cell
 abbrev pub begun_mode : ℕ → TypingMode
 begun_mode b = if begins_value b then typing.Value else typing.Label
 
--- a byte begins a line; a slash, which begins a menu, is passed over
+-- a slash opens the main menu, and any other byte begins a line
 abbrev pub begun : ℕ → Room
-begun b = if nat_eq b slash then room.Ready else room.Typing (record { mode = begun_mode b; line = line_of (b ∷ []) })
+begun b =
+    if nat_eq b slash
+    then opened menu.Main
+    else room.Typing (record { mode = begun_mode b; line = line_of (b ∷ []) })
 
 -- what the pointer's cell holds, as it would be typed
 abbrev pub pointed_text : Sheet → List ℕ

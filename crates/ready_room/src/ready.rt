@@ -10,7 +10,8 @@ use entry_line::EntryLine;
 use grid_address::Cell;
 use key_words::Key;
 use lics_text::{Line, TextByte};
-use menu_tree::{Action, CommonAction};
+use menu_room::opened;
+use menu_tree::{Action, CommonAction, Menu};
 use session_rooms::{
     AnsweredCommand, Answers, Room, Turn, TypingMode, TypingRoom, begins_value, fits_line,
     line_of_byte,
@@ -34,7 +35,7 @@ fn begun(byte: TextByte) -> Room
 {
     let code = byte.get();
     if code == b'/' {
-        Room::Ready
+        opened(Menu::Main)
     } else {
         Room::Typing(TypingRoom {
             mode: begun_mode(code),
@@ -109,10 +110,10 @@ fn way_of(end: bool, key: &Key) -> Option<Way>
     }
 }
 
-/// What a key comes to in READY, where END was pressed before it or not: a byte begins a line, the moving keys move the
-/// pointer, END waits for one of them, EDIT edits the pointer's cell, GOTO asks for a cell, and CALC recalculates. Any
-/// other key is passed over, and so is a slash (Release 2 manual). `LineTooLong` comes exactly where the cell's text is
-/// no line's. It takes no memory.
+/// What a key comes to in READY, where END was pressed before it or not: a slash opens the main menu, any other byte
+/// begins a line, the moving keys move the pointer, END waits for one of them, EDIT edits the pointer's cell, GOTO asks
+/// for a cell, and CALC recalculates. Any other key is passed over (Release 2 manual). `LineTooLong` comes exactly
+/// where the cell's text is no line's. It takes no memory.
 pub fn press(key: Key, end: bool, sheet: &Sheet) -> Turn
     ensures { result ≡ press key end (of_worksheet sheet.now) }
 {

@@ -1,0 +1,68 @@
+-- What a key comes to in MENU, and what is shown there.
+use Rattle.std.specs.Prelude.{ℕ, List, [], length, map, take, Option, None, Some, slice_get}
+use Rattle.control_panel.specs.Panels.{plain_panel}
+use Rattle.control_panel.specs.declared.panel.Mode.TheVariants as mode
+use Rattle.control_panel.specs.declared.panel.Panel.{Panel}
+use Rattle.key_words.specs.declared.key.Key.{Key}
+use Rattle.key_words.specs.declared.key.Key.TheVariants as key
+use Rattle.menu_tree.specs.Levels.{parent}
+use Rattle.menu_tree.specs.Shown.{shown}
+use Rattle.menu_tree.specs.Tree.{chosen, item_name}
+use Rattle.menu_tree.specs.declared.menu.Item.{Item}
+use Rattle.menu_tree.specs.declared.menu.Item.TheVariants as item
+use Rattle.menu_tree.specs.declared.menu.Menu.{Menu}
+use Rattle.menu_room.specs.Ring.{highlighted, items_line, listed}
+use Rattle.session_rooms.specs.Bytes.{max_line}
+use Rattle.session_rooms.specs.declared.rooms.MenuRoom.{MenuRoom}
+use Rattle.session_rooms.specs.declared.rooms.Room.{Room}
+use Rattle.session_rooms.specs.declared.rooms.Room.TheVariants as room
+use Rattle.session_rooms.specs.declared.turn.Turn.{Turn}
+use Rattle.session_rooms.specs.declared.turn.Turn.TheVariants as turn
+
+-- a menu with its first item highlighted
+abbrev pub opened : Menu → Room
+opened m = room.Menu (record { menu = m; highlight = 0 })
+
+-- the menu that is gone back to, or READY
+abbrev pub menu_or_ready : Option Menu → Room
+menu_or_ready None = room.Ready
+menu_or_ready (Some m) = opened m
+
+-- an item that is taken opens its menu, or its command begins to ask
+abbrev pub taken : Item → Turn
+taken (item.Menu m) = turn.Become (opened m)
+taken (item.Action a) = turn.Ask (record { action = a; answers = [] })
+
+-- where there is no such item, the key is passed over
+abbrev pub taken_or : Option Item → MenuRoom → Turn
+taken_or None r = turn.Become (room.Menu r)
+taken_or (Some i) r = taken i
+
+-- where a key leaves the highlight
+abbrev pub highlight_after : Key → MenuRoom → ℕ
+highlight_after k r = highlighted k (length (shown r.menu)) r.highlight
+
+-- Enter takes the highlighted item, a byte the first that begins with it, ESC goes up one level, and any other key
+-- moves the highlight or is passed over
+abbrev pub press : Key → MenuRoom → Turn
+press key.Enter r = taken_or (slice_get (shown r.menu) r.highlight) r
+press (key.Byte b) r = taken_or (chosen (shown r.menu) b) r
+press key.Esc r = turn.Become (menu_or_ready (parent r.menu))
+press k r = turn.Become (room.Menu (record r { highlight = highlight_after k r }))
+
+-- the names of a menu's items
+abbrev pub names_of : Menu → List (List ℕ)
+names_of m = map item_name (shown m)
+
+-- the names of the next level; an action has none
+abbrev pub names_below : Option Item → List (List ℕ)
+names_below None = []
+names_below (Some (item.Action a)) = []
+names_below (Some (item.Menu m)) = names_of m
+
+-- the items, of which the highlighted one is marked, and below them what it leads to
+abbrev pub panel : MenuRoom → Panel
+panel r = record (plain_panel mode.Menu) {
+  menu = take max_line (items_line r.highlight (names_of r.menu));
+  below = take max_line (listed (names_below (slice_get (shown r.menu) r.highlight)));
+}

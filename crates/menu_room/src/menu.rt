@@ -1,0 +1,98 @@
+// What a key comes to in MENU, and what is shown there.
+ghost use Rattle.std.specs.Prelude.{◌≡◌, map, slice_get};
+ghost use Rattle.menu_room.specs.Room.{highlight_after, menu_or_ready, names_below, opened, panel, press, taken, taken_or};
+ghost use Rattle.menu_tree.specs.Tree.{item_name};
+
+use crate::lines::{items_line, listed};
+use crate::ring::highlighted;
+use control_panel::{Mode, Panel};
+use key_words::Key;
+use menu_tree::{Item, Menu, choose, parent, shown};
+use session_rooms::{AnsweredCommand, Answers, MenuRoom, Room, Turn};
+use std::alloc::Global;
+
+/// A menu with its first item highlighted.
+pub fn opened(menu: Menu) -> Room
+    ensures { result ≡ opened menu }
+{
+    Room::Menu(MenuRoom { menu, highlight: 0 })
+}
+
+/// The menu that is gone back to, or READY.
+pub fn menu_or_ready(menu: Option<Menu>) -> Room
+    ensures { result ≡ menu_or_ready menu }
+{
+    match menu {
+        Some(menu) => opened(menu),
+        None => Room::Ready,
+    }
+}
+
+// The item at a place; none past the last.
+fn item_at(items: &[Item], place: usize) -> Option<Item>
+    ensures { result ≡ slice_get items.now place }
+{
+    items.get(place).copied()
+}
+
+// What an item that is taken comes to.
+fn taken(alloc: Global, item: Item) -> Turn
+    ensures { result ≡ taken item }
+{
+    match item {
+        Item::Menu(menu) => Turn::Become(opened(menu)),
+        Item::Action(action) => Turn::Ask(AnsweredCommand {
+            action,
+            answers: Answers::new(alloc),
+        }),
+    }
+}
+
+// Where there is no such item, the key is passed over.
+fn taken_or(alloc: Global, item: Option<Item>, room: MenuRoom) -> Turn
+    ensures { result ≡ taken_or item room }
+{
+    match item {
+        Some(item) => taken(alloc, item),
+        None => Turn::Become(Room::Menu(room)),
+    }
+}
+
+/// What a key comes to in MENU: Enter takes the highlighted item, a byte the first item that begins with it in either
+/// case, ESC goes up one level and from the main menu to READY, LEFT and RIGHT move the highlight in a ring, and HOME
+/// and END to the ends. Any other key is passed over (Release 2 manual). It takes no memory.
+pub fn press(alloc: Global, key: Key, room: MenuRoom) -> Turn
+    ensures { result ≡ press key room }
+{
+    let items = shown(room.menu);
+    match key {
+        Key::Enter => taken_or(alloc, item_at(items, room.highlight), room),
+        Key::Byte(byte) => taken_or(alloc, choose(items, byte.get()), room),
+        Key::Esc => Turn::Become(menu_or_ready(parent(room.menu))),
+        _ => Turn::Become(Room::Menu(MenuRoom {
+            highlight: highlighted(&key, items.len(), room.highlight),
+            ..room
+        })),
+    }
+}
+
+// The items of the next level; an action has none.
+fn items_below(item: Option<Item>) -> &'static [Item]
+    ensures { map item_name result.now ≡ names_below item }
+{
+    match item {
+        Some(Item::Menu(menu)) => shown(menu),
+        Some(Item::Action(_)) | None => &[],
+    }
+}
+
+/// What is shown in MENU: the items, of which the highlighted one is marked, and below them what it leads to.
+pub fn panel(room: &MenuRoom) -> Panel
+    ensures { result ≡ panel room.now }
+{
+    let items = shown(room.menu);
+    let mut panel = Panel::of(Mode::Menu);
+    panel.menu = items_line(items, room.highlight);
+    panel.below = listed(items_below(item_at(items, room.highlight)));
+    panel
+}
