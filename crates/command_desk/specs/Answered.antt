@@ -1,0 +1,47 @@
+-- What the answers of a command mean.
+use Rattle.std.specs.Prelude.{ℕ, ◌≤◌, List, [], Option, None, Some, Result, Ok, Err, slice_get}
+use Rattle.desk_answers.specs.Readings.{span_answer, whole_answer}
+use Rattle.desk_errors.specs.declared.error.CommandError.{CommandError}
+use Rattle.desk_errors.specs.declared.error.CommandError.TheVariants as error
+use Rattle.grid_address.specs.Place.{Extent, Place}
+use Rattle.menu_tree.specs.Tree.{prompts}
+use Rattle.menu_tree.specs.declared.menu.Action.{Action}
+use Rattle.menu_tree.specs.declared.menu.Ask.{Ask}
+use Rattle.menu_tree.specs.declared.menu.Ask.TheVariants as ask
+use Rattle.range_names.specs.Names.{NameMap}
+
+-- an answer, or the empty line where none was given
+abbrev pub line_of : Option (List ℕ) → List ℕ
+line_of None = []
+line_of (Some line) = line
+
+-- the answer at a place
+abbrev pub line_at : List (List ℕ) → ℕ → List ℕ
+line_at answers place = line_of (slice_get answers place)
+
+-- the answer at a place as a span
+abbrev pub span_at : NameMap → List (List ℕ) → ℕ → Result Extent CommandError
+span_at names answers place = span_answer names (line_at answers place) place
+
+-- of a span its first cell counts
+abbrev pub first_of : Result Extent CommandError → Result Place CommandError
+first_of (Ok span) = Ok span.first
+first_of (Err e) = Err e
+
+-- the answer at a place as a cell
+abbrev pub cell_at : NameMap → List (List ℕ) → ℕ → Result Place CommandError
+cell_at names answers place = first_of (span_at names answers place)
+
+-- a whole number within the bounds of its prompt
+abbrev pub whole_by : Option Ask → List ℕ → ℕ → Result ℕ CommandError
+whole_by (Some (ask.Whole low high)) line place = whole_answer low high line place
+whole_by k line place = Err (error.InvalidNumber place)
+
+-- the answer at a place as the whole number that its prompt asks for
+abbrev pub whole_at : Action → List (List ℕ) → ℕ → Result ℕ CommandError
+whole_at a answers place = whole_by (slice_get (prompts a) place) (line_at answers place) place
+
+-- a number lies within the bounds of its prompt
+abbrev pub IsWithin : Option Ask → ℕ → Type 0
+IsWithin (Some (ask.Whole low high)) n = (low ≤ n) × (n ≤ high)
+IsWithin k n = Unit {0}

@@ -1,0 +1,4 @@
+pub mod Acting
+pub mod Answered
+pub mod Desks
+pub mod Formats

@@ -1,0 +1,16 @@
+//! The desk that commands work on, how they read their answers, and what they come to.
+#![tactic(auto)]
+
+mod answers;
+mod desk;
+mod ending;
+mod formats;
+mod ranges;
+mod settling;
+
+pub use answers::{cell_at, line_at, span_at, whole_at};
+pub use desk::Desk;
+pub use ending::{CommandEnd, settled};
+pub use formats::FormatChoice;
+pub use ranges::{DeskRanges, LastQuery, LastTable, SortKey};
+pub use settling::settle;
