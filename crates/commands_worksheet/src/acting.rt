@@ -1,0 +1,90 @@
+// What each command below Worksheet does.
+ghost use Rattle.std.specs.Prelude.{IfOk};
+ghost use Rattle.command_desk.specs.Acting.{finished, HasActedBy};
+ghost use Rattle.commands_worksheet.specs.Acts.{HasOnlyActed};
+ghost use Rattle.commands_worksheet.specs.Commands.{act, erased, sets};
+ghost use Rattle.work_sheet.specs.Editing.{reordered};
+
+use crate::columns::{hide, set_width, widen};
+use crate::settings::settings_after;
+use command_desk::{CommandEnd, settle};
+use formula_eval::{Scene, Tally};
+use lics_text::Memory;
+use menu_tree::WorksheetAction;
+use session_rooms::Answers;
+use sheet_store::Order;
+use work_sheet::Sheet;
+
+// The settings are changed.
+fn set(action: WorksheetAction, answers: &Answers, sheet: &mut Sheet) -> CommandEnd
+    ensures { HasOnlyActed (sets action answers.now) result sheet.old sheet.new }
+{
+    match settings_after(action, answers, *sheet.settings()) {
+        Ok(settings) => {
+            sheet.set_settings(settings);
+            CommandEnd::Finished
+        }
+        Err(error) => CommandEnd::Refused(error),
+    }
+}
+
+// The order of recalculation becomes this one.
+fn reorder(order: Order, sheet: &mut Sheet) -> Result<CommandEnd, Memory>
+    ensures { IfOk result (λ end. HasOnlyActed (λ s. finished (reordered order s)) end sheet.old sheet.new) }
+{
+    sheet.set_order(order)?;
+    Ok(CommandEnd::Finished)
+}
+
+// A fresh sheet takes the place of this one.
+fn erase(sheet: &mut Sheet, scene: &Scene, tally: &mut Tally) -> Result<CommandEnd, Memory>
+    ensures { IfOk result (λ end.
+        HasActedBy (erased scene.entry.now) end sheet.old sheet.new tally.old.count tally.new.count) }
+{
+    *sheet = Sheet::new(sheet.alloc());
+    settle(sheet, scene, tally)?;
+    Ok(CommandEnd::Finished)
+}
+
+/// Carries out a command below Worksheet, by its answers (Release 2 manual):
+/// - Global, Format, Label-Prefix and Column-Width set the sheet's format, prefix and width. Recalculation sets the
+///   order, the mode and the passes of a recalculation; another order than before makes all formulas dirty. Protection
+///   turns protection on or off.
+/// - Column, Set-Width and Reset-Width give the pointer's column a width of its own or take it away; Hide and Display
+///   hide the columns of a range or show them.
+/// - Erase gives a fresh sheet: no cell, no name, the settings of a fresh sheet, and the pointer in A1. As behind each
+///   edit of contents all is recalculated, since a fresh sheet is in Automatic mode.
+///
+/// No other of these commands recalculates, also where the mode, the order or the passes change, and protection refuses
+/// none of them, Erase included (this project's choice). There are 0 to 15 decimals, a width is 1 to 240, and 1 to 50
+/// passes are made (the most passes are this project's choice). Insert and Delete do nothing: their items aren't shown.
+///
+/// `InvalidNumber` comes exactly where a number is asked for and its answer is none within these bounds,
+/// `InvalidAddress` and `NameNotFound` where a range is asked for and its answer is none, as `span_at` says. A refused
+/// command leaves the sheet as it was. Another order and Erase alone want memory.
+pub fn act(
+    action: WorksheetAction,
+    answers: &Answers,
+    sheet: &mut Sheet,
+    scene: &Scene,
+    tally: &mut Tally,
+) -> Result<CommandEnd, Memory>
+    ensures { IfOk result (λ end.
+        HasActedBy (act action answers.now scene.entry.now) end sheet.old sheet.new tally.old.count tally.new.count) }
+{
+    match action {
+        WorksheetAction::Natural => reorder(Order::Natural, sheet),
+        WorksheetAction::Columnwise => reorder(Order::Columnwise, sheet),
+        WorksheetAction::Rowwise => reorder(Order::Rowwise, sheet),
+        WorksheetAction::InsertColumn
+        | WorksheetAction::InsertRow
+        | WorksheetAction::DeleteColumn
+        | WorksheetAction::DeleteRow => Ok(CommandEnd::Finished),
+        WorksheetAction::SetWidth => Ok(set_width(answers, sheet)),
+        WorksheetAction::ResetWidth => Ok(widen(None, sheet)),
+        WorksheetAction::Hide => Ok(hide(true, answers, sheet)),
+        WorksheetAction::Display => Ok(hide(false, answers, sheet)),
+        WorksheetAction::Erase => erase(sheet, scene, tally),
+        _ => Ok(set(action, answers, sheet)),
+    }
+}
