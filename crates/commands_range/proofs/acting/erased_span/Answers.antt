@@ -1,0 +1,17 @@
+use Rattle.command_desk.proofs.Ascending.{span_ascends}
+use Rattle.command_desk.proofs.Edited.{edit_acted}
+use Rattle.commands_range.proofs.Ended.{if_ok}
+use Rattle.grid_address.specs.Place.{is_within}
+use Rattle.work_sheet.proofs.Filled.{has_cells}
+use Rattle.work_sheet.specs.Cells.{cells_of}
+use Rattle.work_sheet.specs.Editing.{erased}
+use Rattle.commands_range.proofs.acting.erased_span.Goals as goal
+
+pub returns : goal.returns
+returns c =
+    let span = c.args.span in
+    if_ok c.settled.result
+    (λ end settles. edit_acted (cells_of span) (is_within span) (span_ascends span) (has_cells span) (erased span) c.args.scene.now
+    c.args.sheet.now c.erase-answer.new.self c.settled.new.sheet c.args.tally.now.count c.settled.new.tally.count
+    c.erase-answer.result end c.erase-answer.ensures.answer c.erase-answer.ensures.did c.erase-answer.ensures.err settles)
+    c.settled.ensures

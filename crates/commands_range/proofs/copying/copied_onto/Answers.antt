@@ -1,0 +1,11 @@
+use Rattle.commands_range.proofs.Ended.{copy_acted, if_ok}
+use Rattle.sheet_edits.specs.Spans.{target_of}
+use Rattle.commands_range.proofs.copying.copied_onto.Goals as goal
+
+pub returns : goal.returns
+returns c = if_ok c.settled.result
+    (λ end settles. copy_acted (target_of c.args.from c.args.to) c.args.from c.args.scene.now
+    c.args.sheet.now c.copy_span-answer.new.self c.settled.new.sheet c.args.tally.now.count c.settled.new.tally.count
+    c.copy_span-answer.result end c.copy_span-answer.ensures.outside c.copy_span-answer.ensures.answer
+    c.copy_span-answer.ensures.did c.copy_span-answer.ensures.err settles)
+    c.settled.ensures

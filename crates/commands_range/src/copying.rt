@@ -1,0 +1,54 @@
+// Copies of spans.
+ghost use Rattle.std.specs.Prelude.{IfOk};
+ghost use Rattle.command_desk.specs.Acting.{HasActedBy};
+ghost use Rattle.commands_range.specs.Commands.{copied, copied_onto};
+ghost use Rattle.sheet_edits.specs.Spans.{target_of};
+
+use command_desk::{CommandEnd, settled, span_at};
+use formula_eval::{Scene, Tally};
+use grid_address::Span;
+use lics_text::Memory;
+use session_rooms::Answers;
+use work_sheet::Sheet;
+
+// A span is copied onto another, where the copy lies in the sheet.
+fn copied_onto(
+    from: Span,
+    to: Span,
+    sheet: &mut Sheet,
+    scene: &Scene,
+    tally: &mut Tally,
+) -> Result<CommandEnd, Memory>
+    ensures { let act = copied_onto (target_of from to) from scene.entry.now in
+        IfOk result (λ end. HasActedBy act end sheet.old sheet.new tally.old.count tally.new.count) }
+{
+    let answer = sheet.copy_span(from, to);
+    settled(answer, sheet, scene, tally)
+}
+
+/// Carries out Copy: the contents and the formats of the span that the first answer is go to the span that the second
+/// is; the relative references of formulas follow them. A source of one column is repeated across the columns of the
+/// target, and one of one row down its rows; otherwise one copy stands at the target's first cell. In Automatic mode a
+/// recalculation follows (Release 2 manual); where there is no memory for it, the copy stands.
+///
+/// It is refused by the first of these, and then leaves the sheet as it was: `InvalidAddress` or `NameNotFound` for the
+/// source, then for the target; `OutOfSheet` with the source, where the copy would leave the sheet; `Protected` with
+/// the first cell in row order that would be written and is protected, where protection is on. Blank cells are written
+/// too (this project's choice), and a cell of which the sheet holds nothing is protected.
+pub fn copy(
+    answers: &Answers,
+    sheet: &mut Sheet,
+    scene: &Scene,
+    tally: &mut Tally,
+) -> Result<CommandEnd, Memory>
+    ensures { IfOk result (λ end. HasActedBy (copied answers.now scene.entry.now)
+        end sheet.old sheet.new tally.old.count tally.new.count) }
+{
+    match span_at(sheet.names(), answers, 0) {
+        Ok(from) => match span_at(sheet.names(), answers, 1) {
+            Ok(to) => copied_onto(from, to, sheet, scene, tally),
+            Err(error) => Ok(CommandEnd::Refused(error)),
+        },
+        Err(error) => Ok(CommandEnd::Refused(error)),
+    }
+}

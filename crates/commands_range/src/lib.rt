@@ -1,0 +1,10 @@
+//! The commands below Range, and Copy.
+#![tactic(auto)]
+
+mod acting;
+mod copying;
+mod formats;
+mod labels;
+
+pub use acting::act;
+pub use copying::copy;
