@@ -1,0 +1,41 @@
+-- One command: which area carries it out.
+use Rattle.std.specs.Prelude.{ℕ, List}
+use Rattle.command_desk.specs.Acting.{finished, given, on_desk, quits, Acted, DeskActed}
+use Rattle.command_desk.specs.Answered.{cell_at}
+use Rattle.command_desk.specs.Desks.{Desk}
+use Rattle.commands_range.specs.Commands as on_range
+use Rattle.commands_worksheet.specs.Commands as on_worksheet
+use Rattle.formula_eval.specs.declared.look.Scene.{Scene}
+use Rattle.menu_tree.specs.declared.menu.Action.{Action}
+use Rattle.menu_tree.specs.declared.menu.Action.TheVariants as action
+use Rattle.menu_tree.specs.declared.menu.CommonAction.{CommonAction}
+use Rattle.menu_tree.specs.declared.menu.CommonAction.TheVariants as common
+use Rattle.work_sheet.specs.Doing.{quiet, with_pointer}
+use Rattle.work_sheet.specs.Seen.{Sheet}
+
+-- the pointer goes to the cell that the answer is
+abbrev pub gone_to : List (List ℕ) → Sheet → Acted
+gone_to answers s = given (cell_at s.names answers 0) (λ p. finished (quiet (with_pointer p s))) s
+
+-- No, Cancel and Quit of a menu do nothing, GOTO moves the pointer, and Quit's Yes ends the run; Move isn't built yet
+abbrev pub act_common : CommonAction → List (List ℕ) → Scene → Sheet → Acted
+act_common common.No answers scene s = finished (quiet s)
+act_common common.Cancel answers scene s = finished (quiet s)
+act_common common.Leave answers scene s = finished (quiet s)
+act_common common.Copy answers scene s = on_range.copied answers scene s
+act_common common.Move answers scene s = finished (quiet s)
+act_common common.QuitYes answers scene s = quits s
+act_common common.Goto answers scene s = gone_to answers s
+
+-- what a command does to the worksheet; the commands of files, reports and data aren't built yet
+abbrev pub act_on_sheet : Action → List (List ℕ) → Scene → Sheet → Acted
+act_on_sheet (action.Common a) answers scene s = act_common a answers scene s
+act_on_sheet (action.Worksheet a) answers scene s = on_worksheet.act a answers scene s
+act_on_sheet (action.Range a) answers scene s = on_range.act answers scene s a
+act_on_sheet (action.File a) answers scene s = finished (quiet s)
+act_on_sheet (action.Print a) answers scene s = finished (quiet s)
+act_on_sheet (action.Data a) answers scene s = finished (quiet s)
+
+-- what a command with these answers does to the desk
+abbrev pub act : Action → List (List ℕ) → Scene → Desk → DeskActed
+act a answers scene d = on_desk (act_on_sheet a answers scene) d

@@ -1,0 +1,86 @@
+// The area that carries a command out.
+ghost use Rattle.std.specs.Prelude.{ℕ, IfOk};
+ghost use Rattle.command_desk.specs.Acting.{HasActedBy, HasActedOn};
+ghost use Rattle.command_desk.specs.Desks.{of_desk};
+ghost use Rattle.sheet_commands.specs.Act.{act, act_common, act_on_sheet, gone_to};
+
+use command_desk::{CommandEnd, Desk, cell_at};
+use formula_eval::{Scene, Tally};
+use lics_text::Memory;
+use menu_tree::{Action, CommonAction};
+use session_rooms::{AnsweredCommand, Answers};
+use sheet_store::Settings;
+use work_sheet::Sheet;
+
+// The pointer goes to the cell that the answer is.
+fn go_to(answers: &Answers, sheet: &mut Sheet) -> CommandEnd
+    ensures { (n : ℕ) → HasActedBy (gone_to answers.now) result sheet.old sheet.new n n }
+{
+    match cell_at(sheet.names(), answers, 0) {
+        Ok(pointer) => {
+            let settings = *sheet.settings();
+            sheet.set_settings(Settings {
+                pointer,
+                ..settings
+            });
+            CommandEnd::Finished
+        }
+        Err(error) => CommandEnd::Refused(error),
+    }
+}
+
+// A command beside the areas of the main menu.
+fn act_common(
+    action: CommonAction,
+    answers: &Answers,
+    sheet: &mut Sheet,
+    scene: &Scene,
+    tally: &mut Tally,
+) -> Result<CommandEnd, Memory>
+    ensures { IfOk result (λ end. HasActedBy (act_common action answers.now scene.entry.now)
+        end sheet.old sheet.new tally.old.count tally.new.count) }
+{
+    match action {
+        CommonAction::No | CommonAction::Cancel | CommonAction::Leave => Ok(CommandEnd::Finished),
+        CommonAction::Copy => commands_range::copy(answers, sheet, scene, tally),
+        CommonAction::Move => Ok(CommandEnd::Finished),
+        CommonAction::QuitYes => Ok(CommandEnd::Quits),
+        CommonAction::Goto => Ok(go_to(answers, sheet)),
+    }
+}
+
+// A command on the worksheet.
+fn act_on_sheet(
+    command: &AnsweredCommand,
+    sheet: &mut Sheet,
+    scene: &Scene,
+    tally: &mut Tally,
+) -> Result<CommandEnd, Memory>
+    ensures { IfOk result (λ end. HasActedBy (act_on_sheet command.now.action command.now.answers scene.entry.now)
+        end sheet.old sheet.new tally.old.count tally.new.count) }
+{
+    let answers = &command.answers;
+    match command.action {
+        Action::Common(action) => act_common(action, answers, sheet, scene, tally),
+        Action::Worksheet(action) => {
+            commands_worksheet::act(action, answers, sheet, scene, tally)
+        }
+        Action::Range(action) => commands_range::act(action, answers, sheet, scene, tally),
+        Action::File(_) | Action::Print(_) | Action::Data(_) => Ok(CommandEnd::Finished),
+    }
+}
+
+/// Carries a command out, once it has all its answers, with the recalculation that follows it. A refused command leaves
+/// the desk as it was: its cause is the first that is found, in the order in which the areas tell them. After want of
+/// memory the sheet is open, but keeps what it keeps.
+pub fn act(
+    command: &AnsweredCommand,
+    desk: &mut Desk,
+    scene: &Scene,
+    tally: &mut Tally,
+) -> Result<CommandEnd, Memory>
+    ensures { let acted = act command.now.action command.now.answers scene.entry.now (of_desk desk.old) in
+        IfOk result (λ end. HasActedOn acted end desk.old desk.new tally.old.count tally.new.count) }
+{
+    act_on_sheet(command, &mut desk.sheet, scene, tally)
+}
