@@ -1,5 +1,5 @@
 -- A run that must end well does.
-use Rattle.std.proofs.Common.{◌≡◌, ℕ, ◌<◌, ◌≤◌, ◌-◌, ◌^◌, Bool, false, List, [], ◌∷◌, ◌++◌, length, Option, Some, None, Result, Ok, Err, refl, sym, ap, ◌∙◌, subst, arith, inl, inr, length-append}
+use Rattle.std.proofs.Common.{◌≡◌, ℕ, ◌+◌, ◌<◌, ◌≤◌, ◌-◌, ◌^◌, Bool, false, List, [], ◌∷◌, ◌++◌, length, Option, Some, None, Result, Ok, Err, refl, sym, ap, ◌∙◌, subst, arith, inl, inr, length-append}
 use Rattle.std.proofs.lemmas.List.{append-nil, length-map}
 use Rattle.outside_world.specs.Causes.{Rose}
 use Rattle.key_words.specs.declared.key.Key.{Key}
@@ -18,7 +18,7 @@ use Rattle.sheet_run.specs.declared.drive.Ending.TheVariants.{KeysEnded, BadWord
 use Rattle.sheet_run.specs.declared.options.Options.{Options}
 use Rattle.sheet_run.proofs.Endings.{handled}
 use Rattle.key_words.proofs.Scanning.{prefix_keys}
-use Rattle.sheet_run.proofs.Pressed.{into_length, pressed-append}
+use Rattle.sheet_run.proofs.Pressed.{into_length, into_spelled, pressed-append}
 
 -- what the keys told was taken from their bytes
 took : (bytes taken : List ℕ) (told now : Option (List ℕ)) → told ≡ Some bytes → TakesBytes told taken now → (rest : List ℕ) × (bytes ≡ taken ++ rest) × (now ≡ Some rest)
@@ -57,10 +57,11 @@ module _ (o : Options) (before now : Outside) (bytes : List ℕ) (keys : List Ke
   only_end Stopped leaves h =
       let t = took bytes h.taken before.bytes now.bytes told h.did.bytes in
       let i = h.spelled in
-      let more = prefix_keys h.taken t.0 i.words spelled.0 i.spelled (subst (λ (b : List ℕ). SpellsWords b spelled.0) t.1 spelled.1) in
-      let all : keys ≡ pressed i.words ++ pressed more.0 = sym spelled.2 ∙ ap pressed more.1 ∙ pressed-append i.words more.0 in
-      let made : length (keys_of steps ++ h.last ∷ []) ≤ length (pressed i.words) = into_length i.words (keys_of steps ++ h.last ∷ []) i.key i.left i.into in
-      absurd (omega (arith, ap length all, length-append (pressed i.words) (pressed more.0), made, length-append (keys_of steps) (h.last ∷ []), length-map steps (λ (x : Step). x.key), h.all))
+      let words : List (Key × ℕ) = i.into.words ++ (i.key, i.into.done + i.left) ∷ [] in
+      let more = prefix_keys h.taken t.0 words spelled.0 (into_spelled h.taken (keys_of steps ++ h.last ∷ []) i.key i.left i.into) (subst (λ (b : List ℕ). SpellsWords b spelled.0) t.1 spelled.1) in
+      let all : keys ≡ pressed words ++ pressed more.0 = sym spelled.2 ∙ ap pressed more.1 ∙ pressed-append words more.0 in
+      let made : length (keys_of steps ++ h.last ∷ []) ≤ length (pressed words) = into_length h.taken (keys_of steps ++ h.last ∷ []) i.key i.left i.into in
+      absurd (omega (arith, ap length all, length-append (pressed words) (pressed more.0), made, length-append (keys_of steps) (h.last ∷ []), length-map steps (λ (x : Step). x.key), h.all))
   only_end NoMemory leaves h = absurd leaves
 
 ended_well : (words : List (List ℕ)) (o : Options) (before now : World) (found : ℕ) (text : List ℕ) (must : MustEndWell words before now) → must.options ≡ o → HasFinished o before.outside now.outside found text →

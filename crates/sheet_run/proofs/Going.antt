@@ -209,7 +209,7 @@ module _ (limit count : ℕ) (s : Running) (f : KeyFeed) (shown : Screen) (befor
     few = omega (arith, just.read.taken, counted)
 
     into : SpellsInto (going.taken ++ read.0) (keys_of going.steps ++ key ∷ [])
-    into = record { words = just.words; spelled = just.spelled; key = g.key; left = g.left; into = just.into }
+    into = record { key = g.key; left = g.left; into = just.into }
 
     keys_more : (m : Moment) → keys_of (going.steps ++ record { key = key; moment = m } ∷ []) ≡ keys_of going.steps ++ key ∷ []
     keys_more m = map-append (λ (x : Step). x.key) going.steps (record { key = key; moment = m } ∷ [])

@@ -4,11 +4,12 @@ use Rattle.std.specs.Prelude.{replicate}
 use Rattle.std.proofs.lemmas.List.{append-nil, length-replicate}
 use Rattle.outside_world.specs.Keys.{TakesByte}
 use Rattle.outside_world.specs.declared.faults.Failed.{Failed}
-use Rattle.key_words.specs.Notation.{Spells}
+use Rattle.key_words.specs.Notation.{Spells, SpellsWord, one_word}
 use Rattle.key_words.specs.Reading.{HasRead}
 use Rattle.key_words.specs.declared.key.Key.{Key}
 use Rattle.key_words.specs.declared.reader.KeyReader.{KeyReader}
 use Rattle.key_words.proofs.Completing.{has_keys, last_positive}
+use Rattle.sheet_run.proofs.LastWord.{word_ends}
 use Rattle.sheet_run.specs.Notation.{pressed, HasKeys, IntoLast}
 use Rattle.sheet_run.specs.Reader.{HasJustPressed, HasPressed, HasPressedAll, Reads, Takes}
 use Rattle.sheet_run.specs.Taking.{AtEnd, TakesBytes}
@@ -24,30 +25,40 @@ replicate_more : (n : ℕ) (k : Key) → replicate n k ++ k ∷ [] ≡ replicate
 replicate_more zero k = refl
 replicate_more (suc n) k = ap (λ (l : List Key). k ∷ l) (replicate_more n k)
 
+-- the keys of some words, and then of a last one
+pub pressed_more : (words : List (Key × ℕ)) (key : Key) (n : ℕ) → pressed (words ++ (key, n) ∷ []) ≡ pressed words ++ replicate n key
+pressed_more words key n = pressed-append words ((key, n) ∷ []) ∙ ap (λ (l : List Key). pressed words ++ l) (append-nil (replicate n key))
+
+-- all words of the bytes
+pub into_spelled : (bytes : List ℕ) (keys : List Key) (key : Key) (left : ℕ) → (i : IntoLast bytes keys key left) → Spells bytes (i.words ++ (key, i.done + left) ∷ [])
+into_spelled bytes keys key left i = subst (λ (b : List ℕ). Spells b (i.words ++ (key, i.done + left) ∷ [])) (sym i.bytes_are) (one_word i.spelled i.last_spelled)
+
 -- none are left of the last word
-all_pressed : (words : List (Key × ℕ)) (keys : List Key) (key : Key) (left : ℕ) → left ≡ 0 → IntoLast words keys key left → pressed words ≡ keys
-all_pressed words keys key left none i =
+all_pressed : (bytes : List ℕ) (keys : List Key) (key : Key) (left : ℕ) → left ≡ 0 → (i : IntoLast bytes keys key left) → pressed (i.words ++ (key, i.done + left) ∷ []) ≡ keys
+all_pressed bytes keys key left none i =
     let times : i.done + left ≡ i.done = omega (arith, none) in
-    ap pressed i.words_are ∙ pressed-append i.front ((key, i.done + left) ∷ []) ∙ ap (λ (l : List Key). pressed i.front ++ l) (append-nil (replicate (i.done + left) key))
-    ∙ ap (λ n. pressed i.front ++ replicate n key) times ∙ sym i.keys_are
+    pressed_more i.words key (i.done + left) ∙ ap (λ n. pressed i.words ++ replicate n key) times ∙ sym i.keys_are
 
 -- the keys are at most all keys of the words
-pub into_length : (words : List (Key × ℕ)) (keys : List Key) (key : Key) (left : ℕ) → IntoLast words keys key left → length keys ≤ length (pressed words)
-into_length words keys key left i = omega (
+pub into_length : (bytes : List ℕ) (keys : List Key) (key : Key) (left : ℕ) → (i : IntoLast bytes keys key left) → length keys ≤ length (pressed (i.words ++ (key, i.done + left) ∷ []))
+into_length bytes keys key left i = omega (
   arith,
   ap length i.keys_are,
-  length-append (pressed i.front) (replicate i.done key),
+  length-append (pressed i.words) (replicate i.done key),
   length-replicate i.done key,
-  ap (λ (ws : List (Key × ℕ)). length (pressed ws)) i.words_are,
-  ap length (pressed-append i.front ((key, i.done + left) ∷ [])),
-  length-append (pressed i.front) (replicate (i.done + left) key ++ []),
-  length-append (replicate (i.done + left) key) [],
+  ap length (pressed_more i.words key (i.done + left)),
+  length-append (pressed i.words) (replicate (i.done + left) key),
   length-replicate (i.done + left) key,
 )
 
 pub settled : (bytes : List ℕ) (keys : List Key) (f : KeyFeed) → f.left ≡ 0 → HasPressed bytes keys f → HasPressedAll bytes keys f
 settled bytes keys f none (inl all) = all
-settled bytes keys f none (inr just) = record { words = just.words; read = just.read; keys_are = all_pressed just.words keys f.key f.left none just.into; none = none }
+settled bytes keys f none (inr just) = record {
+  words = just.into.words ++ (f.key, just.into.done + f.left) ∷ [];
+  read = just.read;
+  keys_are = all_pressed bytes keys f.key f.left none just.into;
+  none = none;
+}
 
 -- the last word's key once more
 pub again : (bytes : List ℕ) (keys : List Key) (f g : KeyFeed) → 0 < f.left → g ≡ record f { left = f.left - 1 } → HasPressed bytes keys f → HasJustPressed (bytes ++ []) (keys ++ f.key ∷ []) g
@@ -56,16 +67,18 @@ again bytes keys f g some is (inr just) =
     let i = just.into in
     let times : i.done + f.left ≡ suc i.done + (f.left - 1) = omega (arith, some) in
     rw (is, append-nil bytes) (record {
-      words = just.words;
-      read = just.read;
-      spelled = just.spelled;
       into = record {
         front = i.front;
+        last = i.last;
+        bytes_are = i.bytes_are;
+        words = i.words;
+        spelled = i.spelled;
         done = suc i.done;
         some = omega arith;
-        words_are = i.words_are ∙ ap (λ n. i.front ++ (f.key, n) ∷ []) times;
-        keys_are = ap (λ (l : List Key). l ++ f.key ∷ []) i.keys_are ∙ append_assoc (pressed i.front) (replicate i.done f.key) (f.key ∷ []) ∙ ap (λ (l : List Key). pressed i.front ++ l) (replicate_more i.done f.key);
+        last_spelled = subst (λ n. SpellsWord i.last f.key n) times i.last_spelled;
+        keys_are = ap (λ (l : List Key). l ++ f.key ∷ []) i.keys_are ∙ append_assoc (pressed i.words) (replicate i.done f.key) (f.key ∷ []) ∙ ap (λ (l : List Key). pressed i.words ++ l) (replicate_more i.done f.key);
       };
+      read = subst (λ n. HasRead bytes (i.words ++ (f.key, n) ∷ []) f.words) times just.read;
     })
 
 -- a word's key for the first time
@@ -75,17 +88,20 @@ pub first_time : (bytes : List ℕ) (keys : List Key) (f : KeyFeed) (b : ℕ) (r
 first_time bytes keys f b r k n left all (read, spelled) is =
     let some : 1 ≤ n = last_positive (bytes ++ b ∷ []) (all.words ++ (k, n) ∷ []) all.words k n spelled refl in
     let times : n ≡ 1 + left = omega (arith, some, is) in
+    let ends = word_ends bytes b all.words f.words k n all.read spelled in
     (record {
-      words = all.words ++ (k, n) ∷ [];
-      read = read;
-      spelled = spelled;
       into = record {
-        front = all.words;
+        front = ends.front;
+        last = ends.last;
+        bytes_are = ends.text_is;
+        words = all.words;
+        spelled = ends.spelled;
         done = 1;
         some = omega arith;
-        words_are = ap (λ m. all.words ++ (k, m) ∷ []) times;
+        last_spelled = subst (λ m. SpellsWord ends.last k m) times ends.last_spelled;
         keys_are = ap (λ (l : List Key). l ++ k ∷ []) (sym all.keys_are);
       };
+      read = subst (λ m. HasRead (bytes ++ b ∷ []) (all.words ++ (k, m) ∷ []) r) times read;
     })
 
 pub has : (bytes : List ℕ) (keys : List Key) (f : KeyFeed) → HasPressedAll bytes keys f → HasKeys bytes keys

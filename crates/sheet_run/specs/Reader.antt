@@ -23,10 +23,8 @@ ahead f = (18446744073709551615 - f.words.taken) * 65536 + f.left
 
 -- these bytes were read, and these keys came, of which the last is one of the last word's
 pub record HasJustPressed (bytes : List ℕ) (keys : List Key) (f : KeyFeed) : Type 0 where
-  pub words : List (Key × ℕ)
-  pub read : HasRead bytes words f.words
-  pub spelled : Spells bytes words
-  pub into : IntoLast words keys f.key f.left
+  pub into : IntoLast bytes keys f.key f.left
+  pub read : HasRead bytes (into.words ++ (f.key, into.done + f.left) ∷ []) f.words
 
 -- these bytes were read, and these keys came, of which none are left
 pub record HasPressedAll (bytes : List ℕ) (keys : List Key) (f : KeyFeed) : Type 0 where
