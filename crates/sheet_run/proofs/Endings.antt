@@ -18,7 +18,7 @@ use Rattle.sheet_run.specs.Status.{RunsWith, World, asked, finished, is_any, no_
 use Rattle.sheet_run.specs.OptionAnswers.{refused_text}
 use Rattle.sheet_run.specs.declared.options.Refused.{Refused}
 use Rattle.sheet_run.specs.declared.drive.Ending.{Ending}
-use Rattle.sheet_run.specs.declared.drive.Ending.TheVariants.{KeysEnded, BadWord, KeysFailed, Stopped, NoMemory}
+use Rattle.sheet_run.specs.declared.drive.Ending.TheVariants.{KeysEnded, Quit, BadWord, KeysFailed, Stopped, NoMemory}
 use Rattle.sheet_run.specs.declared.options.Options.{Options}
 use Rattle.sheet_run.proofs.Shown.{Lifted, all_closed, each_left}
 
@@ -44,6 +44,7 @@ pub record Handled (steps : List Step) (left out : List Watched) (before now : O
 
 pub handled : (limit : ℕ) (steps : List Step) (left out : List Watched) (before now : Outside) (ending : Ending) → HasEnded limit steps left out before now ending → Handled steps left out before now
 handled limit steps left out before now KeysEnded h = record { sent = h.did.sent; displays = h.did.displays; failed = h.did.failed }
+handled limit steps left out before now Quit h = record { sent = h.did.sent; displays = h.did.displays; failed = h.did.failed }
 handled limit steps left out before now (BadWord at) (inl h) = record { sent = h.did.sent; displays = h.did.displays; failed = h.did.failed }
 handled limit steps left out before now (BadWord at) (inr h) = record { sent = h.did.sent; displays = h.did.displays; failed = h.did.failed }
 handled limit steps left out before now KeysFailed h = record { sent = h.did.sent; displays = h.did.displays; failed = h.did.failed }
@@ -52,6 +53,7 @@ handled limit steps left out before now NoMemory h = record { sent = h.did.sent;
 
 state_is : (s : Running) (steps : List Step) (ending : Ending) → LeavesSession ending → LeavesState s steps ending → IsAfter s steps
 state_is s steps KeysEnded leaves is = is
+state_is s steps Quit leaves is = is
 state_is s steps (BadWord at) leaves is = is
 state_is s steps KeysFailed leaves is = is
 state_is s steps Stopped leaves is = is
@@ -110,6 +112,7 @@ ran_out o limit s begun before now limit_is begun_is driven tried =
 
 pub leaves_unless : (ending : Ending) → (ending ≡ NoMemory → ⊥) → LeavesSession ending
 leaves_unless KeysEnded h = tt
+leaves_unless Quit h = tt
 leaves_unless (BadWord at) h = tt
 leaves_unless KeysFailed h = tt
 leaves_unless Stopped h = tt

@@ -1,5 +1,5 @@
 -- A run that is going on.
-use Rattle.std.proofs.Common.{◌≡◌, ℕ, ◌<◌, ◌≤◌, ◌+◌, ◌-◌, ◌^◌, List, [], ◌∷◌, ◌++◌, length, Bool, cond, true, false, Option, None, Some, refl, sym, ap, ◌∙◌, subst, arith, inl, inr, append_assoc, length-append}
+use Rattle.std.proofs.Common.{◌≡◌, ℕ, ◌<◌, ◌≤◌, ◌+◌, ◌-◌, ◌^◌, List, [], ◌∷◌, ◌++◌, length, Bool, true, false, Option, refl, sym, ap, ◌∙◌, subst, arith, inl, inr, append_assoc, length-append}
 use Rattle.std.proofs.lemmas.List.{append-nil, map-append}
 use Rattle.outside_world.specs.Causes.{Rose}
 use Rattle.outside_world.specs.Clock.{TakesReading}
@@ -13,17 +13,18 @@ use Rattle.session_core.specs.Screen.{screen}
 use Rattle.screen_show.specs.Display.{View}
 use Rattle.screen_show.specs.Grid.{empty_grid}
 use Rattle.sheet_run.specs.Displays.{Screen, Sent, Watched, last_screen, no_screen}
-use Rattle.sheet_run.specs.Driving.{ended_as, EndsAsTold, HasEnded, HasMadeStep, HasNotMadeStep, IsAfter, LeavesState}
+use Rattle.sheet_run.specs.Driving.{ended_as, EndsAsTold, HasDriven, HasEnded, HasMadeStep, HasNotMadeStep, IsAfter, LeavesState}
 use Rattle.sheet_run.specs.Notation.{SpellsInto}
 use Rattle.sheet_run.specs.Reader.{HasJustPressed, HasPressed, HasPressedAll, IsFull, Reads, RestsAsTold}
-use Rattle.sheet_run.specs.Run.{after, happened, keys_of, moments_of, outcome, outside, screens, screens_from, Ended, HasRun, Outside, RanOutOfMemory, RanToBadByte, RanToKeyFault, RanToLimit, ShelfView, Step}
+use Rattle.sheet_run.specs.Run.{after, happened, keys_of, moments_of, outcome, outside, screens, screens_from, Ended, GoOn, HasRun, Outside, RanOutOfMemory, RanToBadByte, RanToKeyFault, RanToLimit, ShelfView, Step}
 use Rattle.sheet_run.specs.Taking.{TakesBytes, TakesReadings}
 use Rattle.sheet_run.specs.declared.reader.KeyFeed.{KeyFeed}
 use Rattle.sheet_run.specs.declared.drive.Ending.{Ending}
+use Rattle.sheet_run.specs.declared.drive.Ending.TheVariants.{Quit}
 use Rattle.sheet_run.specs.declared.reader.Read.{Read}
 use Rattle.sheet_run.specs.declared.reader.Read.TheVariants.{Key as ReadKey, More as ReadMore, Bad as ReadBad, End as ReadEnd, Failed as ReadFailed}
 use Rattle.sheet_run.proofs.Pressed.{has, settled}
-use Rattle.sheet_run.proofs.Shown.{each_left, last_more, sent_one, views_start}
+use Rattle.sheet_run.proofs.Shown.{SentOne, each_left, last_more, sent_one, views_start}
 use Rattle.sheet_run.proofs.Taken.{takes_none, takes_both, reads_one_more}
 
 -- one more step
@@ -38,6 +39,10 @@ happened_more (y ∷ ys) s x = ap (λ (l : List Happened). (outcome s y).log ++ 
 screens_more : (steps : List Step) (s : State) (x : Step) → screens_from s (steps ++ x ∷ []) ≡ screens_from s steps ++ screen (outcome (after s steps) x).state ∷ []
 screens_more [] s x = refl
 screens_more (y ∷ ys) s x = ap (λ (l : List Screen). screen (outcome s y).state ∷ l) (screens_more ys (outcome s y).state x)
+
+goes_on_more : (steps : List Step) (s : State) (x : Step) → GoOn s steps → (outcome (after s steps) x).ends ≡ false → GoOn s (steps ++ x ∷ [])
+goes_on_more [] s x on more = (more, tt)
+goes_on_more (y ∷ ys) s x on more = (on.0, goes_on_more ys (outcome s y).state x on.1 more)
 
 one_more_after : (s t : Running) (steps : List Step) (x : Step) → IsAfter s steps → Follows (outcome s.state x) s t → IsAfter t (steps ++ x ∷ [])
 one_more_after s t steps x was made =
@@ -57,6 +62,7 @@ pub record Going (limit count : ℕ) (s : Running) (f : KeyFeed) (shown : Screen
   pub out : List Watched
   pub did : HasRun limit taken (first ∷ moments_of steps) steps left out before now
   pub typed : HasPressed taken (keys_of steps) f
+  pub go_on : GoOn start steps
   pub session : IsAfter s steps
   pub fresh : s.spent ≡ false
   pub no_fault : now.key_faults ≡ before.key_faults
@@ -82,6 +88,7 @@ going_starts limit bytes faults told now shelf displays failed s first f shown i
     few = omega arith;
   };
   typed = inl none;
+  go_on = tt;
   session = rw is (record { state = refl; work = refl });
   fresh = rw is refl;
   no_fault = refl;
@@ -126,6 +133,7 @@ module _ (limit count : ℕ) (s : Running) (f : KeyFeed) (shown : Screen) (befor
         out = going.out;
         did = did_take (read.0 ∷ []) bytes' faults' read.1 (omega (arith, read.2.read.taken, few));
         typed = inl read.2;
+        go_on = going.go_on;
         session = going.session;
         fresh = going.fresh;
         no_fault = same ∙ going.no_fault;
@@ -139,6 +147,7 @@ module _ (limit count : ℕ) (s : Running) (f : KeyFeed) (shown : Screen) (befor
     taken = going.taken;
     first = going.first;
     did = did_none bytes' faults' none;
+    go_on = going.go_on;
     spelled = (all.words, rest.whole going.taken all.words all.read refl, all.keys_are);
     ended = ended;
     no_fault = same ∙ going.no_fault;
@@ -147,6 +156,7 @@ module _ (limit count : ℕ) (s : Running) (f : KeyFeed) (shown : Screen) (befor
     taken = going.taken;
     first = going.first;
     did = did_none bytes' faults' none;
+    go_on = going.go_on;
     keys = has going.taken (keys_of going.steps) g all;
     no_text = rest.inside going.taken all.words all.read refl;
     ended = ended;
@@ -180,6 +190,7 @@ module _ (limit count : ℕ) (s : Running) (f : KeyFeed) (shown : Screen) (befor
         bad = read.0;
         first = going.first;
         did = did_take (read.0 ∷ []) bytes' faults' read.1 (omega (arith, length-append going.taken (read.0 ∷ []), read.4, read.5));
+        go_on = going.go_on;
         keys = read.2;
         begins_none = read.3;
         place = read.4;
@@ -194,6 +205,7 @@ module _ (limit count : ℕ) (s : Running) (f : KeyFeed) (shown : Screen) (befor
         taken = going.taken;
         first = going.first;
         did = did_none bytes' faults' read.0;
+        go_on = going.go_on;
         keys = read.1;
         fault = rw (← going.no_fault) rose;
       }
@@ -226,6 +238,7 @@ module _ (limit count : ℕ) (s : Running) (f : KeyFeed) (shown : Screen) (befor
       first = going.first;
       last = key;
       did = did_take read.0 bytes' faults' read.1 few;
+      go_on = going.go_on;
       all = omega (arith, going.did.within, going.made);
       spelled = into;
       no_fault = same ∙ going.no_fault;
@@ -248,41 +261,83 @@ module _ (limit count : ℕ) (s : Running) (f : KeyFeed) (shown : Screen) (befor
         within = going.did.within;
         few = few;
       };
+      go_on = going.go_on;
       more = omega (arith, going.made);
       spelled = into;
       no_fault = same ∙ going.no_fault;
     }
 
-    pub step_made : (told' : Option (List Moment)) (shelf' : ShelfView) (t : Running) (shown' : Screen) (displays' failed' : List View) → shelf' ≡ shelf → count < limit → HasMadeStep key s t told told' shown shown' displays displays' failed failed' →
+    module _ (told' : Option (List Moment)) (shelf' : ShelfView) (t : Running) (shown' : Screen) (displays' failed' : List View) (still : shelf' ≡ shelf) (below : count < limit) (ends : Bool)
+        (made : HasMadeStep key ends s t told told' shown shown' displays displays' failed failed') where
+      abbrev pub this : Step
+      this = record { key = key; moment = made.moment }
+
+      screens_now : screens (going.steps ++ this ∷ []) ≡ screens going.steps ++ screen t.state ∷ []
+      screens_now =
+          let now : t.state ≡ (outcome (after start going.steps) this).state = made.stepped.state ∙ ap (λ (u : State). (outcome u this).state) going.session.state in
+          screens_more going.steps start this ∙ ap (λ (u : State). screens going.steps ++ screen u ∷ []) (sym now)
+
+      pub sent : SentOne before.displays (screens going.steps ++ screen t.state ∷ []) displays' before.failed failed'
+      sent = sent_one before.displays (screens going.steps) shown (screen t.state) going.left going.out displays displays' before.failed failed failed' made.printed going.shows going.did.sent
+          (each_left before.displays (screens going.steps) going.left going.out going.did.sent) going.did.displays going.did.failed made.passed
+
+      pub did_step : HasRun limit (going.taken ++ read.0) (going.first ∷ moments_of (going.steps ++ this ∷ [])) (going.steps ++ this ∷ []) sent.left sent.out before (outside bytes' faults' told' shelf' displays' failed')
+      did_step = record {
+        bytes = takes_both before.bytes bytes bytes' going.taken read.0 going.did.bytes read.1;
+        readings = subst (λ (ms : List Moment). TakesReadings before.readings (going.first ∷ ms) told') (sym (moments_more made.moment)) (readings_more made.moment told' made.took);
+        shelf = still ∙ going.did.shelf;
+        sent = subst (λ (ss : List Screen). Sent before.displays ss sent.left sent.out) (sym screens_now) sent.sent;
+        displays = sent.displays_are;
+        failed = sent.failed_are;
+        within = omega (arith, length-append going.steps (this ∷ []), going.made);
+        few = few;
+      }
+
+      session_now : IsAfter t (going.steps ++ this ∷ [])
+      session_now = one_more_after s t going.steps this going.session made.stepped
+
+      ends_so : (outcome (after start going.steps) this).ends ≡ ends
+      ends_so = ap (λ (u : State). (outcome u this).ends) (sym going.session.state) ∙ made.ending
+
+    pub step_made : (told' : Option (List Moment)) (shelf' : ShelfView) (t : Running) (shown' : Screen) (displays' failed' : List View) → shelf' ≡ shelf → count < limit → HasMadeStep key false s t told told' shown shown' displays displays' failed failed' →
         Going limit (count + 1) t g shown' before (outside bytes' faults' told' shelf' displays' failed')
     step_made told' shelf' t shown' displays' failed' still below made =
-        let x : Step = record { key = key; moment = made.moment } in
-        let now : t.state ≡ (outcome (after start going.steps) x).state = made.stepped.state ∙ ap (λ (u : State). (outcome u x).state) going.session.state in
-        let more : screens (going.steps ++ x ∷ []) ≡ screens going.steps ++ screen t.state ∷ [] = screens_more going.steps start x ∙ ap (λ (u : State). screens going.steps ++ screen u ∷ []) (sym now) in
-        let sent = sent_one before.displays (screens going.steps) shown (screen t.state) going.left going.out displays displays' before.failed failed failed' made.printed going.shows going.did.sent
-        (each_left before.displays (screens going.steps) going.left going.out going.did.sent) going.did.displays going.did.failed made.passed in
+        let x : Step = this told' shelf' t shown' displays' failed' still below false made in
+        let now = sent told' shelf' t shown' displays' failed' still below false made in
         record {
           taken = going.taken ++ read.0;
           first = going.first;
           steps = going.steps ++ x ∷ [];
-          left = sent.left;
-          out = sent.out;
-          did = record {
-            bytes = takes_both before.bytes bytes bytes' going.taken read.0 going.did.bytes read.1;
-            readings = subst (λ (ms : List Moment). TakesReadings before.readings (going.first ∷ ms) told') (sym (moments_more made.moment)) (readings_more made.moment told' made.took);
-            shelf = still ∙ going.did.shelf;
-            sent = subst (λ (ss : List Screen). Sent before.displays ss sent.left sent.out) (sym more) sent.sent;
-            displays = sent.displays_are;
-            failed = sent.failed_are;
-            within = omega (arith, length-append going.steps (x ∷ []), going.made);
-            few = few;
-          };
+          left = now.left;
+          out = now.out;
+          did = did_step told' shelf' t shown' displays' failed' still below false made;
           typed = inr (subst (λ (ks : List Key). HasJustPressed (going.taken ++ read.0) ks g) (sym (keys_more made.moment)) just);
-          session = one_more_after s t going.steps x going.session made.stepped;
+          go_on = goes_on_more going.steps start x going.go_on (ends_so told' shelf' t shown' displays' failed' still below false made);
+          session = session_now told' shelf' t shown' displays' failed' still below false made;
           fresh = made.stepped.spent ∙ going.fresh;
           no_fault = same ∙ going.no_fault;
           made = omega (arith, length-append going.steps (x ∷ []), going.made);
-          shows = made.shows ∙ sym (last_more empty_grid (screens going.steps) (screen t.state)) ∙ ap (last_screen empty_grid) (sym more);
+          shows = made.shows ∙ sym (last_more empty_grid (screens going.steps) (screen t.state)) ∙ ap (last_screen empty_grid) (sym (screens_now told' shelf' t shown' displays' failed' still below false made));
+        }
+
+    pub quit_made : (told' : Option (List Moment)) (shelf' : ShelfView) (t : Running) (shown' : Screen) (displays' failed' : List View) → shelf' ≡ shelf → count < limit → HasMadeStep key true s t told told' shown shown' displays displays' failed failed' →
+        HasDriven limit t before (outside bytes' faults' told' shelf' displays' failed') Quit
+    quit_made told' shelf' t shown' displays' failed' still below made =
+        let x : Step = this told' shelf' t shown' displays' failed' still below true made in
+        let now = sent told' shelf' t shown' displays' failed' still below true made in
+        record {
+          steps = going.steps ++ x ∷ [];
+          left = now.left;
+          out = now.out;
+          ended = record {
+            taken = going.taken ++ read.0;
+            first = going.first;
+            did = did_step told' shelf' t shown' displays' failed' still below true made;
+            spelled = subst (λ (ks : List Key). SpellsInto (going.taken ++ read.0) ks) (sym (keys_more made.moment)) into;
+            quit = record { front = going.steps; last = x; steps_are = refl; go_on = going.go_on; ends = ends_so told' shelf' t shown' displays' failed' still below true made };
+            no_fault = same ∙ going.no_fault;
+          };
+          state = session_now told' shelf' t shown' displays' failed' still below true made;
         }
 
 pub leaves : (s : Running) (steps : List Step) (f : KeyFeed) (ending : Ending) → EndsAsTold f ending → IsAfter s steps → LeavesState s steps ending

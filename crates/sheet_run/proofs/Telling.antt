@@ -1,12 +1,10 @@
 -- Notes that are written one after another.
-use Rattle.std.proofs.Common.{◌≡◌, ℕ, suc, ◌+◌, Bool, true, List, [], ◌∷◌, ◌++◌, length, take, Option, Some, None, refl, sym, ap, ◌∙◌, subst, arith, inl, inr, append_assoc, length-append}
+use Rattle.std.proofs.Common.{◌≡◌, ℕ, suc, ◌+◌, List, [], ◌∷◌, ◌++◌, length, take, Option, Some, None, refl, sym, ap, ◌∙◌, subst, arith, inl, inr, append_assoc, length-append}
 use Rattle.std.specs.Prelude.{codes}
 use Rattle.std.proofs.lemmas.List.{take-append-le}
 use Rattle.outside_world.specs.Causes.{Rose}
 use Rattle.grid_address.specs.Address.{decimal}
-use Rattle.sheet_run.specs.Notes.{AddsPart, AddsText, Tells, ending_note, ending_status, note}
-use Rattle.sheet_run.specs.declared.drive.Ending.{Ending}
-use Rattle.sheet_run.specs.declared.drive.Ending.TheVariants.{KeysEnded}
+use Rattle.sheet_run.specs.Notes.{AddsPart, AddsText, Tells, note}
 
 pub told_as : (text line : List ℕ) (found status_found : ℕ) (before now : Option (List ℕ)) (faults faults' status : ℕ) → text ≡ line → found ≡ status_found →
     Tells line status_found before now faults faults' status → Tells text found before now faults faults' status
@@ -51,12 +49,6 @@ told_after first more found a b c f f' f'' status x same (inr t) = inr (t.0, tex
 -- the first write failed, and no more was written
 pub told_none : (first more : List ℕ) (found : ℕ) (a b : Option (List ℕ)) (f f' : ℕ) → AddsPart first a b → Rose f f' → Tells (first ++ more) found a b f f' 8
 told_none first more found a b f f' x rose = inr (refl, part_of_first first more a b x, rose)
-
-pub display_note : (limit : ℕ) (moved : Bool) (ending : Ending) → ending ≡ KeysEnded → moved ≡ true → ending_note limit moved ending ≡ note (codes "display failed")
-display_note limit moved ending is so = ap (ending_note limit moved) is ∙ ap (λ (m : Bool). ending_note limit m KeysEnded) so
-
-pub display_status : (moved : Bool) (ending : Ending) → ending ≡ KeysEnded → moved ≡ true → ending_status moved ending ≡ 7
-display_status moved ending is so = ap (ending_status moved) is ∙ ap (λ (m : Bool). ending_status m KeysEnded) so
 
 -- the last part of a line with a number in its middle
 pub stopped_line : (n : ℕ) → note (codes "stopped after " ++ decimal n ++ codes " steps") ≡ (codes "1-2-3: stopped after " ++ decimal n) ++ (codes " steps" ++ 10 ∷ [])

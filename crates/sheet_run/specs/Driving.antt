@@ -11,19 +11,22 @@ use Rattle.screen_show.specs.Display.{View}
 use Rattle.screen_show.specs.Grid.{IsPrinted}
 use Rattle.sheet_run.specs.Displays.{Screen, Watched}
 use Rattle.sheet_run.specs.Passing.{HasSentOne, Passed}
-use Rattle.sheet_run.specs.Run.{Outside, Step, after, IsWorkOf, RanToEnd, RanIntoWord, RanToBadByte, RanToKeyFault, RanToLimit, RanOutOfMemory}
+use Rattle.sheet_run.specs.Run.{Outside, Step, after, IsWorkOf, RanToEnd, RanToQuit, RanIntoWord, RanToBadByte}
+use Rattle.sheet_run.specs.Run.{RanToKeyFault, RanToLimit, RanOutOfMemory}
 use Rattle.sheet_run.specs.Reader.{RestsAsTold}
 use Rattle.sheet_run.specs.declared.reader.KeyFeed.{KeyFeed}
 use Rattle.sheet_run.specs.declared.drive.StepEnd.{StepEnd}
-use Rattle.sheet_run.specs.declared.drive.StepEnd.TheVariants.{Done, NoMemory as StepNoMemory}
+use Rattle.sheet_run.specs.declared.drive.StepEnd.TheVariants.{Done, Quit as StepQuit, NoMemory as StepNoMemory}
 use Rattle.sheet_run.specs.declared.drive.Ending.{Ending}
-use Rattle.sheet_run.specs.declared.drive.Ending.TheVariants.{KeysEnded, BadWord, KeysFailed, Stopped, NoMemory}
+use Rattle.sheet_run.specs.declared.drive.Ending.TheVariants.{KeysEnded, Quit, BadWord, KeysFailed, Stopped, NoMemory}
 
--- a step was made and its screen sent
-pub record HasMadeStep (key : Key) (s t : Running) (readings readings' : Option (List Moment)) (shown shown' : Screen) (displays displays' failed failed' : List View) : Type 0 where
+-- a step was made and its screen sent; the flag says whether it ends the run
+pub record HasMadeStep (key : Key) (ends : Bool) (s t : Running) (readings readings' : Option (List Moment))
+    (shown shown' : Screen) (displays displays' failed failed' : List View) : Type 0 where
   pub moment : Moment
   pub took : TakesReading readings readings' moment
   pub stepped : Follows (step (KeyEvent key) moment s.state) s t
+  pub ending : (step (KeyEvent key) moment s.state).ends ≡ ends
   pub passed : Passed (HasSentOne shown (screen t.state)) displays displays' failed failed'
   pub shows : shown' ≡ screen t.state
   pub printed : IsPrinted (screen t.state)
@@ -37,7 +40,9 @@ pub record HasNotMadeStep (readings readings' : Option (List Moment)) (displays 
 
 -- a step was made, or memory ran out in it
 abbrev pub HasStepped : Key → Running → Running → Option (List Moment) → Option (List Moment) → Screen → Screen → List View → List View → List View → List View → StepEnd → Type 0
-HasStepped key s t readings readings' shown shown' displays displays' failed failed' Done = HasMadeStep key s t readings readings' shown shown' displays displays' failed failed'
+HasStepped key s t readings readings' shown shown' displays displays' failed failed' Done = HasMadeStep key false s t readings readings' shown shown' displays displays' failed failed'
+HasStepped key s t readings readings' shown shown' displays displays' failed failed' StepQuit =
+    HasMadeStep key true s t readings readings' shown shown' displays displays' failed failed'
 HasStepped key s t readings readings' shown shown' displays displays' failed failed' StepNoMemory = HasNotMadeStep readings readings' displays displays' failed failed'
 
 -- the ending where the keys are at their end, behind so many bytes
@@ -52,6 +57,7 @@ EndsAsTold f ending = (rests : Bool) × RestsAsTold f rests × (ending ≡ ended
 -- the steps of a run were made up to this ending
 abbrev pub HasEnded : ℕ → List Step → List Watched → List Watched → Outside → Outside → Ending → Type 0
 HasEnded limit steps left out before now KeysEnded = RanToEnd limit steps left out before now
+HasEnded limit steps left out before now Quit = RanToQuit limit steps left out before now
 HasEnded limit steps left out before now (BadWord at) = RanIntoWord limit at steps left out before now ⊎ RanToBadByte limit at steps left out before now
 HasEnded limit steps left out before now KeysFailed = RanToKeyFault limit steps left out before now
 HasEnded limit steps left out before now Stopped = RanToLimit limit steps left out before now
@@ -65,6 +71,7 @@ pub record IsAfter (s : Running) (steps : List Step) : Type 0 where
 -- the session after the steps, where the ending leaves it
 abbrev pub LeavesState : Running → List Step → Ending → Type 0
 LeavesState s steps KeysEnded = IsAfter s steps
+LeavesState s steps Quit = IsAfter s steps
 LeavesState s steps (BadWord at) = IsAfter s steps
 LeavesState s steps KeysFailed = IsAfter s steps
 LeavesState s steps Stopped = IsAfter s steps

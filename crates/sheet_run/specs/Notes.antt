@@ -5,7 +5,7 @@ use Rattle.outside_world.specs.Causes.{Rose}
 use Rattle.outside_world.specs.declared.faults.Failed.{Failed}
 use Rattle.work_sheet.specs.Work.{Work}
 use Rattle.sheet_run.specs.declared.drive.Ending.{Ending}
-use Rattle.sheet_run.specs.declared.drive.Ending.TheVariants.{KeysEnded, BadWord, KeysFailed, Stopped, NoMemory}
+use Rattle.sheet_run.specs.declared.drive.Ending.TheVariants.{KeysEnded, Quit, BadWord, KeysFailed, Stopped, NoMemory}
 use Rattle.sheet_run.specs.declared.options.Options.{Options}
 
 -- a line that begins with the program's name
@@ -29,9 +29,18 @@ abbrev pub count_note : Option ℕ → List ℕ
 count_note None = []
 count_note (Some n) = note (codes "evaluations " ++ decimal n)
 
+-- the note where a display failed, as the flag says
+abbrev pub display_note : Bool → List ℕ
+display_note moved = if moved then note (codes "display failed") else []
+
+-- the status where nothing else is found, by whether a display failed
+abbrev pub display_status : Bool → ℕ
+display_status moved = if moved then 7 else 0
+
 -- the note of an ending; the flag says whether a display failed
 abbrev pub ending_note : ℕ → Bool → Ending → List ℕ
-ending_note limit moved KeysEnded = if moved then note (codes "display failed") else []
+ending_note limit moved KeysEnded = display_note moved
+ending_note limit moved Quit = display_note moved
 ending_note limit moved (BadWord at) = note (codes "bad key word at byte " ++ decimal at)
 ending_note limit moved KeysFailed = note (codes "keys failed")
 ending_note limit moved Stopped = note (codes "stopped after " ++ decimal limit ++ codes " steps")
@@ -39,7 +48,8 @@ ending_note limit moved NoMemory = memory_note
 
 -- the status of an ending; the flag says whether a display failed
 abbrev pub ending_status : Bool → Ending → ℕ
-ending_status moved KeysEnded = if moved then 7 else 0
+ending_status moved KeysEnded = display_status moved
+ending_status moved Quit = display_status moved
 ending_status moved (BadWord at) = 4
 ending_status moved KeysFailed = 5
 ending_status moved Stopped = 3
@@ -48,6 +58,7 @@ ending_status moved NoMemory = 9
 -- an ending that leaves a session that goes on
 abbrev pub LeavesSession : Ending → Type 0
 LeavesSession KeysEnded = Unit {0}
+LeavesSession Quit = Unit {0}
 LeavesSession (BadWord at) = Unit {0}
 LeavesSession KeysFailed = Unit {0}
 LeavesSession Stopped = Unit {0}

@@ -1,5 +1,5 @@
 -- A whole run, from the first reading of the clock to the last step.
-use Rattle.std.specs.Prelude.{◌≡◌, ℕ, ◌<◌, ◌≤◌, ◌-◌, ◌^◌, ◌⊎◌, List, [], ◌∷◌, ◌++◌, length, map, Option}
+use Rattle.std.specs.Prelude.{◌≡◌, ℕ, ◌<◌, ◌≤◌, ◌-◌, ◌^◌, ◌⊎◌, ⊤, true, false, List, [], ◌∷◌, ◌++◌, length, map, Option}
 use Rattle.outside_world.specs.Causes.{Rose}
 use Rattle.outside_world.specs.Shelf.{OnShelf}
 use Rattle.serial_date.specs.declared.moment.Moment.{Moment}
@@ -56,6 +56,19 @@ moments_of steps = map (λ x. x.moment) steps
 abbrev pub IsWorkOf : List Step → Work → Type 0
 IsWorkOf steps w = HasWorked (happened start steps) no_work w
 
+-- none of these steps ends the run
+abbrev pub GoOn : State → List Step → Type 0
+GoOn s [] = ⊤
+GoOn s (x ∷ xs) = ((outcome s x).ends ≡ false) × GoOn (outcome s x).state xs
+
+-- the last of these steps ends the run, and none before it does
+pub record EndAtLast (steps : List Step) : Type 0 where
+  pub front : List Step
+  pub last : Step
+  pub steps_are : steps ≡ front ++ last ∷ []
+  pub go_on : GoOn start front
+  pub ends : (outcome (after start front) last).ends ≡ true
+
 -- a shelf: what it tells of its files, and the count of its faults
 pub record ShelfView : Type 0 where
   pub told : Option OnShelf
@@ -96,62 +109,77 @@ pub record HasRun (limit : ℕ) (taken : List ℕ) (moments : List Moment) (step
 abbrev pub Ended : List ℕ → Option (List ℕ) → Type 0
 Ended taken bytes = AtEnd bytes ⊎ (length taken ≡ 2 ^ 64 - 1)
 
--- the keys ended at a word's end
+-- The last step ended the run. No byte was taken behind its key's word, of which keys may be left.
+pub record RanToQuit (limit : ℕ) (steps : List Step) (left out : List Watched) (before now : Outside) : Type 0 where
+  pub taken : List ℕ
+  pub first : Moment
+  pub did : HasRun limit taken (first ∷ moments_of steps) steps left out before now
+  pub spelled : SpellsInto taken (keys_of steps)
+  pub quit : EndAtLast steps
+  pub no_fault : now.key_faults ≡ before.key_faults
+
+-- the keys ended at a word's end, and no step ended the run
 pub record RanToEnd (limit : ℕ) (steps : List Step) (left out : List Watched) (before now : Outside) : Type 0 where
   pub taken : List ℕ
   pub first : Moment
   pub did : HasRun limit taken (first ∷ moments_of steps) steps left out before now
+  pub go_on : GoOn start steps
   pub spelled : Spells taken (keys_of steps)
   pub ended : Ended taken now.bytes
   pub no_fault : now.key_faults ≡ before.key_faults
 
--- the keys ended inside a word, behind so many bytes
+-- the keys ended inside a word, behind so many bytes, and no step ended the run
 pub record RanIntoWord (limit at : ℕ) (steps : List Step) (left out : List Watched) (before now : Outside) : Type 0 where
   pub taken : List ℕ
   pub first : Moment
   pub did : HasRun limit taken (first ∷ moments_of steps) steps left out before now
+  pub go_on : GoOn start steps
   pub keys : HasKeys taken (keys_of steps)
   pub no_text : IsNoText taken
   pub ended : Ended taken now.bytes
   pub place : at ≡ length taken
   pub no_fault : now.key_faults ≡ before.key_faults
 
--- behind so many bytes came one with which no text of the notation goes on
+-- behind so many bytes came one with which no text of the notation goes on, and no step ended the run
 pub record RanToBadByte (limit at : ℕ) (steps : List Step) (left out : List Watched) (before now : Outside) : Type 0 where
   pub taken : List ℕ
   pub bad : ℕ
   pub first : Moment
   pub did : HasRun limit (taken ++ bad ∷ []) (first ∷ moments_of steps) steps left out before now
+  pub go_on : GoOn start steps
   pub keys : HasKeys taken (keys_of steps)
   pub begins_none : Begins (taken ++ bad ∷ []) → ⊥
   pub place : at ≡ length taken
   pub no_fault : now.key_faults ≡ before.key_faults
 
--- the keys failed
+-- the keys failed, and no step ended the run
 pub record RanToKeyFault (limit : ℕ) (steps : List Step) (left out : List Watched) (before now : Outside) : Type 0 where
   pub taken : List ℕ
   pub first : Moment
   pub did : HasRun limit taken (first ∷ moments_of steps) steps left out before now
+  pub go_on : GoOn start steps
   pub keys : HasKeys taken (keys_of steps)
   pub fault : Rose before.key_faults now.key_faults
 
--- as many steps as the limit were made, and a key was there for one more
+-- as many steps as the limit were made, of which none ended the run, and a key was there for one more
 pub record RanToLimit (limit : ℕ) (steps : List Step) (left out : List Watched) (before now : Outside) : Type 0 where
   pub taken : List ℕ
   pub first : Moment
   pub last : Key
   pub did : HasRun limit taken (first ∷ moments_of steps) steps left out before now
+  pub go_on : GoOn start steps
   pub all : length steps ≡ limit
   pub spelled : SpellsInto taken (keys_of steps ++ last ∷ [])
   pub no_fault : now.key_faults ≡ before.key_faults
 
--- memory ran out in a step, which is not shown
+-- memory ran out in a step, which is not shown; none before it ended the run
 pub record RanOutOfMemory (limit : ℕ) (steps : List Step) (left out : List Watched) (before now : Outside) : Type 0 where
   pub taken : List ℕ
   pub first : Moment
   pub unfinished : Key
   pub reading : Moment
   pub did : HasRun limit taken (first ∷ moments_of steps ++ reading ∷ []) steps left out before now
+  pub go_on : GoOn start steps
   pub more : length steps < limit
   pub spelled : SpellsInto taken (keys_of steps ++ unfinished ∷ [])
   pub no_fault : now.key_faults ≡ before.key_faults

@@ -1,8 +1,10 @@
 // Drives a session by keys.
 ghost use Rattle.std.specs.Prelude.{◌≡◌, ◌≤◌, ◌+◌, false, map, vec_len, vec_capacity};
-ghost use Rattle.screen_show.specs.Grid.{empty_grid};
+ghost use Rattle.screen_show.specs.Grid.{empty_grid, IsPrinted};
 ghost use Rattle.session_core.specs.Machine.{started};
+ghost use Rattle.session_core.specs.Screen.{screen};
 ghost use Rattle.sheet_run.specs.Driving.{EndsAsTold, HasStepped, HasDriven};
+ghost use Rattle.sheet_run.specs.Passing.{HasSentOne, Passed};
 ghost use Rattle.sheet_run.specs.Run.{outside, shelf_view};
 
 use crate::displays::{Work, work_on_all};
@@ -16,6 +18,8 @@ use session_core::{Event, Session, Stepped};
 #[derive(Clone, Copy)]
 pub enum StepEnd {
     Done,
+    /// The step was made and ends the run.
+    Quit,
     NoMemory,
 }
 
@@ -24,12 +28,39 @@ pub enum StepEnd {
 pub enum Ending {
     /// The keys ended at a word's end.
     KeysEnded,
+    /// The keys asked to quit.
+    Quit,
     /// The keys ended inside a word, or a byte came with which none goes on, behind so many bytes.
     BadWord(u64),
     KeysFailed,
     /// A key was there for one step more than the limit allows.
     Stopped,
     NoMemory,
+}
+
+// Sends the session's screen to displays that show the one before.
+fn send_screen(
+    session: &Session,
+    displays: &mut Vec<Box<dyn Display>>,
+    failed: &mut Vec<Box<dyn Display>>,
+    shown: &mut Grid,
+)
+    requires fresh { session.now.spent ≡ false }
+    requires room { vec_len failed.old + vec_len displays.old ≤ vec_capacity failed.old }
+    ensures passed { Passed (HasSentOne shown.old (screen session.now.state))
+        (map seen displays.old.items) (map seen displays.new.items)
+        (map seen failed.old.items) (map seen failed.new.items) }
+    ensures shows { shown.new ≡ screen session.now.state }
+    ensures printed { IsPrinted (screen session.now.state) }
+    ensures room { vec_len failed.new + vec_len displays.new ≤ vec_capacity failed.new }
+{
+    let after = session.grid();
+    let work = Work::Send {
+        before: shown,
+        after,
+    };
+    work_on_all(&work, displays, failed);
+    *shown = *after;
 }
 
 // Reads the clock, makes a step, and sends its screen.
@@ -50,18 +81,16 @@ fn make_step<S: Shelf, C: Clock>(
 {
     let now = clock.read();
     match session.step(Event::Key(key), &now, shelf) {
-        Stepped::More => {}
-        Stepped::Quit => unreachable!(),
-        Stepped::Memory => return StepEnd::NoMemory,
+        Stepped::More => {
+            send_screen(session, displays, failed, shown);
+            StepEnd::Done
+        }
+        Stepped::Quit => {
+            send_screen(session, displays, failed, shown);
+            StepEnd::Quit
+        }
+        Stepped::Memory => StepEnd::NoMemory,
     }
-    let after = session.grid();
-    let work = Work::Send {
-        before: shown,
-        after,
-    };
-    work_on_all(&work, displays, failed);
-    *shown = *after;
-    StepEnd::Done
 }
 
 // The ending where the keys are at their end.
@@ -75,7 +104,7 @@ fn ended(feed: &KeyFeed) -> Ending
     }
 }
 
-/// Reads the clock for the start, and makes steps until the keys end, the limit is reached or something
+/// Reads the clock for the start, and makes steps until the keys ask to quit or end, the limit is reached or something
 /// fails.
 pub fn drive<K: Keys, S: Shelf, C: Clock>(
     limit: u32,
@@ -111,6 +140,7 @@ pub fn drive<K: Keys, S: Shelf, C: Clock>(
         }
         match make_step(key, shelf, clock, displays, failed, session, &mut shown) {
             StepEnd::Done => steps += 1,
+            StepEnd::Quit => return Ending::Quit,
             StepEnd::NoMemory => return Ending::NoMemory,
         }
     }

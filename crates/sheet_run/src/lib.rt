@@ -1,5 +1,5 @@
 //! A run of the worksheet program: words of the command line, keys, clock and files go in, and screens and notes come
-//! out, until the keys end or a named cause ends it.
+//! out, until the keys end or ask to quit, or a named cause ends it.
 #![tactic(auto)]
 
 mod displays;

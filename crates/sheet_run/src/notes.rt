@@ -1,7 +1,9 @@
 // The notes that a run writes.
 ghost use Rattle.std.specs.Prelude.{◌≡◌, ◌≤◌, ◌++◌, length, IfOk, OnOk};
 ghost use Rattle.grid_address.specs.Address.{decimal};
-ghost use Rattle.sheet_run.specs.Notes.{count_note, ending_note, ending_status, memory_note, refused_note, HasWritten, LeavesSession, Tells, ToldRefused, Tried};
+ghost use Rattle.sheet_run.specs.Notes.{count_note, display_note, display_status, ending_note, ending_status};
+ghost use Rattle.sheet_run.specs.Notes.{memory_note, refused_note};
+ghost use Rattle.sheet_run.specs.Notes.{HasWritten, LeavesSession, Tells, ToldRefused, Tried};
 
 use crate::drive::Ending;
 use grid_address::decimal_text;
@@ -10,6 +12,8 @@ use outside_world::{Failed, Memory, Notes};
 use std::alloc::Global;
 
 const MEMORY_NOTE: &[u8] = b"1-2-3: memory full\n";
+
+const DISPLAY_FAILED: u8 = 7;
 
 const NOTES_FAILED: u8 = 8;
 
@@ -80,19 +84,25 @@ fn tell_line<N: Notes>(notes: &mut N, found: u8, line: &[u8]) -> u8
     }
 }
 
+// Tells whether a display failed, where nothing else is found.
+fn tell_display<N: Notes>(notes: &mut N, moved: bool) -> u8
+    ensures { Tells (display_note moved) (display_status moved) (N.written notes.old) (N.written notes.new)
+        (N.faults notes.old) (N.faults notes.new) result }
+{
+    if moved {
+        tell_line(notes, DISPLAY_FAILED, b"1-2-3: display failed\n")
+    } else {
+        0
+    }
+}
+
 // Tells of an ending.
 fn tell_ending<N: Notes>(notes: &mut N, limit: u32, moved: bool, ending: Ending) -> u8
     requires { LeavesSession ending }
     ensures { Tells (ending_note limit moved ending) (ending_status moved ending) (N.written notes.old) (N.written notes.new) (N.faults notes.old) (N.faults notes.new) result }
 {
     match ending {
-        Ending::KeysEnded => {
-            if moved {
-                tell_line(notes, 7, b"1-2-3: display failed\n")
-            } else {
-                0
-            }
-        }
+        Ending::KeysEnded | Ending::Quit => tell_display(notes, moved),
         Ending::BadWord(at) => {
             let line = number_line(b"1-2-3: bad key word at byte ", at, b"\n");
             tell_line(notes, 4, line.bytes())

@@ -39,12 +39,12 @@ fn refused_text(words: &Words, refused: Refused) -> &[u8]
 /// the clock is read once for the start; then the steps follow.
 /// Before each step bytes are read until a key is there or the keys end, then the limit is tested, then
 /// the clock is read, the step is made and its screen is sent to each display in order. A display whose
-/// call failed moves to the end of `failed`, and the others go on. At the end each display that is left
-/// is closed.
+/// call failed moves to the end of `failed`, and the others go on. Behind a step that asks to quit no byte more is
+/// taken. At the end each display that is left is closed.
 ///
 /// | Status | Comes | Note |
 /// |---|---|---|
-/// | 0 | the keys ended at a word's end | none |
+/// | 0 | the keys ended at a word's end, or asked to quit | none |
 /// | 1 | exactly where the words are outside the grammar | `bad word: W` |
 /// | 3 | exactly where as many steps as the limit were made and a key was there for one more | `stopped after N steps` |
 /// | 4 | exactly where the bytes begin no text of key notation, or end inside a word | `bad key word at byte N` |
@@ -70,9 +70,24 @@ pub fn run<K: Keys, S: Shelf, C: Clock, N: Notes>(
         (world (outside (K.left keys.new) (K.faults keys.new) (C.readings clock.new) (shelf_view (S.holds shelf.new) (S.faults shelf.new)) (map seen displays.new.items) (map seen failed.new.items)) (N.written notes.new) (N.faults notes.new))
         result }
     ensures complete { MustEndWell words.now
-        (world (outside (K.left keys.old) (K.faults keys.old) (C.readings clock.old) (shelf_view (S.holds shelf.old) (S.faults shelf.old)) (map seen displays.old.items) (map seen failed.old.items)) (N.written notes.old) (N.faults notes.old))
-        (world (outside (K.left keys.new) (K.faults keys.new) (C.readings clock.new) (shelf_view (S.holds shelf.new) (S.faults shelf.new)) (map seen displays.new.items) (map seen failed.new.items)) (N.written notes.new) (N.faults notes.new))
-        → HasEndedWell (world (outside (K.left keys.new) (K.faults keys.new) (C.readings clock.new) (shelf_view (S.holds shelf.new) (S.faults shelf.new)) (map seen displays.new.items) (map seen failed.new.items)) (N.written notes.new) (N.faults notes.new)) result }
+        (world
+        (outside (K.left keys.old) (K.faults keys.old) (C.readings clock.old)
+        (shelf_view (S.holds shelf.old) (S.faults shelf.old)) (map seen displays.old.items) (map seen failed.old.items))
+        (N.written notes.old) (N.faults notes.old))
+        (world
+        (outside (K.left keys.new) (K.faults keys.new) (C.readings clock.new)
+        (shelf_view (S.holds shelf.new) (S.faults shelf.new)) (map seen displays.new.items) (map seen failed.new.items))
+        (N.written notes.new) (N.faults notes.new))
+        → HasEndedWell
+        (world
+        (outside (K.left keys.old) (K.faults keys.old) (C.readings clock.old)
+        (shelf_view (S.holds shelf.old) (S.faults shelf.old)) (map seen displays.old.items) (map seen failed.old.items))
+        (N.written notes.old) (N.faults notes.old))
+        (world
+        (outside (K.left keys.new) (K.faults keys.new) (C.readings clock.new)
+        (shelf_view (S.holds shelf.new) (S.faults shelf.new)) (map seen displays.new.items) (map seen failed.new.items))
+        (N.written notes.new) (N.faults notes.new))
+        result }
 {
     match read_words(words) {
         Ok(options) => run_with(alloc, options, keys, shelf, clock, displays, failed, notes),
@@ -125,8 +140,9 @@ fn count_of(options: &Options, session: &Session) -> Option<u64>
     }
 }
 
-/// A run ends well where the words are in the grammar, the bytes spell at most as many keys as the limit allows, and
-/// nothing failed, unless memory ran out.
+/// A run ends well where the words are in the grammar, nothing failed, and the bytes spell at most as many keys as the
+/// limit allows or begin with words whose keys quit the run within it, unless memory ran out.
 pub fn a_run_ends_well()
-    ensures { (words : List (List ℕ)) (before now : World) (status : ℕ) → IsRun words before now status → MustEndWell words before now → HasEndedWell now status }
+    ensures { (words : List (List ℕ)) (before now : World) (status : ℕ) →
+        IsRun words before now status → MustEndWell words before now → HasEndedWell before now status }
 {}

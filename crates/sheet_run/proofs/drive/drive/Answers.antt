@@ -1,5 +1,5 @@
 use Rattle.std.proofs.Common.{refl, arith, inr}
-use Rattle.sheet_run.proofs.Going.{going_starts, going_on, ran_to_end, ran_all, ran_to_bad, ran_to_fault, ran_to_limit, ran_out, step_made, leaves}
+use Rattle.sheet_run.proofs.Going.{going_starts, going_on, ran_to_end, ran_all, ran_to_bad, ran_to_fault, ran_to_limit, ran_out, step_made, quit_made, leaves}
 use Rattle.sheet_run.proofs.drive.drive.Goals as goal
 
 pub loop-shown-init : goal.loop-shown-init
@@ -58,6 +58,10 @@ returns-then-steps-limit-clause-driven g c = record {
   ended = ran_to_limit _ _ _ _ _ _ _ _ _ _ _ _ c.loop-shown.invariant.going _ _ _ c.in-Key.key c.in-Key.ensures.read c.in-Key.ensures.few (c.in-Key.ensures.fine (λ e. cc)) (omega arith);
   state = c.loop-shown.invariant.going.session;
 }
+
+pub returns-in-Quit-clause-driven : goal.returns-in-Quit-clause-driven
+returns-in-Quit-clause-driven g c =
+    quit_made _ _ _ _ _ _ _ _ _ _ _ _ c.loop-shown.invariant.going _ _ _ c.in-Key.key c.in-Key.ensures.read c.in-Key.ensures.few (c.in-Key.ensures.fine (λ e. cc)) _ _ _ _ _ _ c.in-Quit.ensures.shelf (omega arith) c.in-Quit.ensures.stepped
 
 pub returns-in-NoMemory-clause-driven : goal.returns-in-NoMemory-clause-driven
 returns-in-NoMemory-clause-driven g c = record {

@@ -1,15 +1,11 @@
 use Rattle.std.proofs.Common.{ap, ◌∙◌, sym}
 use Rattle.sheet_run.specs.Notes.{ending_note, ending_status}
-use Rattle.sheet_run.proofs.Telling.{told_as, display_note, display_status, stopped_line}
+use Rattle.sheet_run.proofs.Telling.{told_as, stopped_line}
 use Rattle.sheet_run.proofs.notes.tell_ending.Goals as goal
-
-pub returns-then-moved : goal.returns-then-moved
-returns-then-moved g c =
-    told_as _ _ _ _ _ _ _ _ _ (display_note c.args.limit c.args.moved c.args.ending c.in-KeysEnded.is c.if-moved.true) (display_status c.args.moved c.args.ending c.in-KeysEnded.is c.if-moved.true) c.tell_line.ensures
 
 pub returns-in-BadWord : goal.returns-in-BadWord
 returns-in-BadWord g c =
-    told_as _ _ _ _ _ _ _ _ _ (ap (ending_note c.args.limit c.args.moved) c.in-BadWord.is ∙ sym (c.bytes.ensures.bytes ∙ c.number_line-line.ensures)) (ap (ending_status c.args.moved) c.in-BadWord.is) c.tell_line-in-BadWord.ensures
+    told_as _ _ _ _ _ _ _ _ _ (ap (ending_note c.args.limit c.args.moved) c.in-BadWord.is ∙ sym (c.bytes.ensures.bytes ∙ c.number_line-line.ensures)) (ap (ending_status c.args.moved) c.in-BadWord.is) c.tell_line.ensures
 
 pub returns-in-KeysFailed : goal.returns-in-KeysFailed
 returns-in-KeysFailed g c =
