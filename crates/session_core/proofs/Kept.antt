@@ -4,7 +4,7 @@ use Rattle.grid_address.specs.Place.{Place}
 use Rattle.screen_layout.specs.Screen.{screen as painted}
 use Rattle.work_sheet.specs.Doing.{with_pointer}
 use Rattle.work_sheet.specs.Seen.{Sheet}
-use Rattle.session_core.specs.Machine.{State}
+use Rattle.session_core.specs.Machine.{sheet_of, State}
 use Rattle.session_core.specs.Screen.{panel_of, screen, Repaints}
 
 -- the pointer goes back
@@ -12,10 +12,10 @@ pub back : (s t : Sheet) (p : Place) → t ≡ with_pointer p s → with_pointer
 back s t p is = ap (λ (u : Sheet). with_pointer s.settings.pointer u) is
 
 -- where the pointer alone moved and the corner stays, what is painted over the screen before is the screen
-pub repainted : (s t : State) (p : Place) (before after : List (List ℕ)) → t.sheet ≡ with_pointer p s.sheet → t.corner ≡ s.corner →
+pub repainted : (s t : State) (p : Place) (before after : List (List ℕ)) → (sheet_of t) ≡ with_pointer p (sheet_of s) → t.corner ≡ s.corner →
     before ≡ screen s → Repaints t before after → after ≡ screen t
 repainted s t p before after moved stays shown paints =
-    let same : with_pointer s.sheet.settings.pointer t.sheet ≡ s.sheet = back s.sheet t.sheet p moved in
-    let was : before ≡ painted (with_pointer s.sheet.settings.pointer t.sheet) (panel_of s) s.corner s.day s.second =
+    let same : with_pointer (sheet_of s).settings.pointer (sheet_of t) ≡ (sheet_of s) = back (sheet_of s) (sheet_of t) p moved in
+    let was : before ≡ painted (with_pointer (sheet_of s).settings.pointer (sheet_of t)) (panel_of s) s.corner s.day s.second =
     shown ∙ ap (λ (u : Sheet). painted u (panel_of s) s.corner s.day s.second) (sym same) in
-    paints s.sheet.settings.pointer (panel_of s) s.corner s.day s.second was ∙ ap (λ (k : Place). painted t.sheet (panel_of t) k t.day t.second) (sym stays)
+    paints (sheet_of s).settings.pointer (panel_of s) s.corner s.day s.second was ∙ ap (λ (k : Place). painted (sheet_of t) (panel_of t) k t.day t.second) (sym stays)

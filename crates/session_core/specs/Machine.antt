@@ -1,6 +1,7 @@
 -- The session as a machine over one map of cells, in which every formula is evaluated at each recalculation.
 use Rattle.std.specs.Prelude.{◌≡◌, ℕ, Bool, true, false, Option, None, List, [], refl}
 use Rattle.std.specs.Coded.{Coded, code_by, coded×, coded_bool, coded_option, coded_ℕ}
+use Rattle.command_desk.specs.Desks.{coded_desk, fresh_desk, on_sheet, Desk}
 use Rattle.formula_eval.specs.declared.look.Scene.{Scene}
 use Rattle.grid_address.specs.Place.{Place, coded_place}
 use Rattle.serial_date.specs.declared.moment.Moment.{Moment}
@@ -8,13 +9,13 @@ use Rattle.session_rooms.specs.contracts.rooms.Room as room
 use Rattle.session_rooms.specs.declared.rooms.Room.{Room}
 use Rattle.session_rooms.specs.declared.rooms.Room.TheVariants.{Ready}
 use Rattle.work_sheet.specs.Doing.{with_pointer, Done, Happened}
-use Rattle.work_sheet.specs.Seen.{coded_sheet, fresh_sheet, Sheet}
+use Rattle.work_sheet.specs.Seen.{Sheet}
 use Rattle.work_sheet.specs.Work.{coded_work, no_work, HasWorked, Work}
 
--- The sheet with its pointer, the cell at the top left of the screen, what the session is doing, whether END waits for
--- a moving key, and the day and the second of the last step.
+-- The desk with the worksheet and its pointer, the cell at the top left of the screen, what the session is doing,
+-- whether END waits for a moving key, and the day and the second of the last step.
 pub record State : Type 0 where
-  pub sheet : Sheet
+  pub desk : Desk
   pub corner : Place
   pub room : Room
   pub end : Bool
@@ -34,13 +35,13 @@ pub record Running : Type 0 where
 
 -- a state's parts, as plain data
 abbrev pub coded_state : Coded State
-coded_state = code_by (Sheet × (Place × (Room × (Bool × (Option ℕ × ℕ)))))
-    (coded× coded_sheet
+coded_state = code_by (Desk × (Place × (Room × (Bool × (Option ℕ × ℕ)))))
+    (coded× coded_desk
     (coded× coded_place
     (coded× (room.the_row).coded (coded× coded_bool (coded× (coded_option coded_ℕ) coded_ℕ)))))
-    (λ s. (s.sheet, (s.corner, (s.room, (s.end, (s.day, s.second))))))
+    (λ s. (s.desk, (s.corner, (s.room, (s.end, (s.day, s.second))))))
     (λ p. record {
-      sheet = p.0;
+      desk = p.0;
       corner = p.1.0;
       room = p.1.1.0;
       end = p.1.1.1.0;
@@ -65,7 +66,7 @@ home = record { row = 0; col = 0 }
 
 -- the state of a fresh session
 abbrev pub start : State
-start = record { sheet = fresh_sheet; corner = home; room = Ready; end = false; day = None; second = 0 }
+start = record { desk = fresh_desk; corner = home; room = Ready; end = false; day = None; second = 0 }
 
 -- a fresh session
 abbrev pub started : Running
@@ -75,9 +76,17 @@ started = record { state = start; work = no_work; spent = false }
 abbrev pub wants_key : State → Bool
 wants_key s = true
 
+-- the worksheet
+abbrev pub sheet_of : State → Sheet
+sheet_of s = s.desk.sheet
+
+-- the worksheet becomes this one
+abbrev pub with_sheet : Sheet → State → State
+with_sheet sheet s = record s { desk = on_sheet s.desk sheet }
+
 -- the pointer's cell
 abbrev pub pointer_of : State → Place
-pointer_of s = s.sheet.settings.pointer
+pointer_of s = (sheet_of s).settings.pointer
 
 -- the moment, and where the pointer stands before it moves
 abbrev pub scene_at : State → Moment → Scene
@@ -93,33 +102,35 @@ idle s = record s { room = Ready; end = false }
 
 -- the pointer stands in a cell
 abbrev pub pointing_at : Place → State → State
-pointing_at p s = record s { sheet = with_pointer p s.sheet }
+pointing_at p s = with_sheet (with_pointer p (sheet_of s)) s
 
--- what is made of a state: the next one, and what happened in the sheet
+-- what is made of a state: the next one, what happened in the sheet, and whether the run ends
 pub record Outcome : Type 0 where
   pub state : State
   pub log : List Happened
+  pub ends : Bool
 
 -- nothing happens in the sheet
 abbrev pub quiet : State → Outcome
-quiet s = record { state = s; log = [] }
+quiet s = record { state = s; log = []; ends = false }
 
 -- the sheet becomes what was done to it
 abbrev pub with_done : Done → State → Outcome
-with_done d s = record { state = record s { sheet = d.sheet }; log = d.log }
+with_done d s = record { state = with_sheet d.sheet s; log = d.log; ends = false }
 
 -- an outcome's state is changed further, and nothing more happens in the sheet
 abbrev pub and_further : Outcome → (State → State) → Outcome
 and_further o change = record o { state = change o.state }
 
--- the machine goes on to an outcome, with the work of what happened
-pub record Leads (o : Outcome) (a b : Worked) : Type 0 where
+-- the machine goes on to an outcome, with the work of what happened, and is told whether the run ends
+pub record Leads (o : Outcome) (told : Bool) (a b : Worked) : Type 0 where
   pub state : b.state ≡ o.state
   pub work : HasWorked o.log a.work b.work
+  pub ends : told ≡ o.ends
 
 -- it goes on to what an act makes of its state, over this moment and where the pointer stands before
-abbrev pub LeadsBy : (Scene → State → Outcome) → Moment → Worked → Worked → Type 0
-LeadsBy act now a b = Leads (act (scene_at a.state now) a.state) a b
+abbrev pub LeadsBy : (Scene → State → Outcome) → Moment → Bool → Worked → Worked → Type 0
+LeadsBy act now told a b = Leads (act (scene_at a.state now) a.state) told a b
 
 -- a session goes on to an outcome, with the work of what happened
 pub record Follows (o : Outcome) (a b : Running) : Type 0 where

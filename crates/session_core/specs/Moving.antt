@@ -9,7 +9,7 @@ use Rattle.session_rooms.specs.declared.turn.Turn.{Turn}
 use Rattle.session_rooms.specs.declared.turn.Turn.TheVariants as turn
 use Rattle.work_sheet.specs.Doing.{with_pointer}
 use Rattle.work_sheet.specs.Seen.{Sheet}
-use Rattle.session_core.specs.Machine.{State}
+use Rattle.session_core.specs.Machine.{sheet_of, State}
 use Rattle.session_core.specs.Pressing.{turn_of}
 use Rattle.session_core.specs.declared.event.Event.{Event}
 use Rattle.session_core.specs.declared.event.Event.TheVariants.{Key as KeyEvent, Unit as UnitEvent}
@@ -38,7 +38,7 @@ OnlyMoves t = ⊥
 
 -- a key that only moves the pointer, types or is passed over
 abbrev pub OnlyMovesByKey : Key → State → Type 0
-OnlyMovesByKey k s = TakesNoMemory k s.room × OnlyMoves (turn_of k s.room s.end s.sheet)
+OnlyMovesByKey k s = TakesNoMemory k s.room × OnlyMoves (turn_of k s.room s.end (sheet_of s))
 
 -- an event that does no more
 abbrev pub OnlyMovesBy : Event → State → Type 0

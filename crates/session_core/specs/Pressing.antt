@@ -1,10 +1,9 @@
 -- What a key comes to, and what the panel shows, by what the session is doing.
 use Rattle.std.specs.Prelude.{Bool}
-use Rattle.control_panel.specs.Panels.{plain_panel}
-use Rattle.control_panel.specs.declared.panel.Mode.TheVariants as mode
 use Rattle.control_panel.specs.declared.panel.Panel.{Panel}
 use Rattle.key_words.specs.declared.key.Key.{Key}
 use Rattle.key_words.specs.declared.key.Key.TheVariants as key
+use Rattle.menu_room.specs.Room as menu
 use Rattle.point_room.specs.Room as point
 use Rattle.prompt_room.specs.Panel as prompt_panel
 use Rattle.prompt_room.specs.Room as prompt
@@ -17,12 +16,12 @@ use Rattle.session_rooms.specs.declared.turn.Turn.{Turn}
 use Rattle.session_rooms.specs.declared.turn.Turn.TheVariants as turn
 use Rattle.work_sheet.specs.Seen.{Sheet}
 
--- what a key comes to in a room; no menu opens yet, and any key would leave it
+-- what a key comes to in a room
 abbrev pub pressed : Room → Key → Bool → Sheet → Turn
 pressed room.Ready k end s = ready.press k end s
 pressed (room.Typing r) k end s = typing.press k s.grid s.settings.pointer r
 pressed (room.Pointing r) k end s = point.press k s.grid s.settings.pointer r
-pressed (room.Menu r) k end s = turn.Become room.Ready
+pressed (room.Menu r) k end s = menu.press k r
 pressed (room.Asking r) k end s = prompt.press k s r
 pressed (room.Failed message) k end s = failed.press_failed k message
 
@@ -36,6 +35,6 @@ abbrev pub room_panel : Room → Panel
 room_panel room.Ready = ready.panel
 room_panel (room.Typing r) = typing.panel r
 room_panel (room.Pointing r) = point.panel r
-room_panel (room.Menu r) = plain_panel mode.Menu
+room_panel (room.Menu r) = menu.panel r
 room_panel (room.Asking r) = prompt_panel.panel r
 room_panel (room.Failed message) = failed.failed_panel message

@@ -2,7 +2,7 @@
 use Rattle.std.specs.Prelude.{ℕ, List}
 use Rattle.control_panel.specs.declared.panel.Panel.{Panel}
 use Rattle.screen_layout.specs.Screen.{screen as painted, RepaintsPanel}
-use Rattle.session_core.specs.Machine.{State}
+use Rattle.session_core.specs.Machine.{sheet_of, State}
 use Rattle.session_core.specs.Pressing.{room_panel}
 
 -- what is shown of the room, with END's mark
@@ -11,8 +11,8 @@ panel_of s = record (room_panel s.room) { end = s.end }
 
 -- the screen that a state shows
 abbrev pub screen : State → List (List ℕ)
-screen s = painted s.sheet (panel_of s) s.corner s.day s.second
+screen s = painted (sheet_of s) (panel_of s) s.corner s.day s.second
 
 -- over a screen of the same cells from the same corner, that of the state is painted
 abbrev pub Repaints : State → List (List ℕ) → List (List ℕ) → Type 0
-Repaints s before after = RepaintsPanel s.sheet (panel_of s) s.day s.second before after
+Repaints s before after = RepaintsPanel (sheet_of s) (panel_of s) s.day s.second before after

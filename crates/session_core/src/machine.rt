@@ -1,9 +1,9 @@
 // The session's machine: where what a key comes to is carried out.
-ghost use Rattle.std.specs.Prelude.{◌≡◌, true, false, IfOk, IsOk, OnOk};
+ghost use Rattle.std.specs.Prelude.{◌≡◌, true, false, IfOk, IsOk, Ok, OnOk};
 ghost use Rattle.entry_line.specs.Line.{placed};
 ghost use Rattle.session_core.specs.Carrying.{acted, asked, carried, editing, entered, failed, finished, going};
-ghost use Rattle.session_core.specs.Carrying.{gone_by, is_pointer_protected, recalculated, settling, writing};
-ghost use Rattle.session_core.specs.Machine.{in_room, pointer_of, pointing_at, scene_at, start, LeadsBy};
+ghost use Rattle.session_core.specs.Carrying.{is_pointer_protected, recalculated, settling, writing};
+ghost use Rattle.session_core.specs.Machine.{in_room, pointer_of, pointing_at, scene_at, sheet_of, start, LeadsBy};
 ghost use Rattle.session_core.specs.Moving.{IsMoved, OnlyMoves, OnlyMovesByKey};
 ghost use Rattle.session_core.specs.Screen.{panel_of, screen, Repaints};
 ghost use Rattle.session_core.specs.Step.{framed, taken};
@@ -12,8 +12,8 @@ ghost use Rattle.work_sheet.specs.Work.{no_work};
 use crate::entering::{Meant, meaning_of};
 use crate::pressing::{room_panel, turn_of};
 use cell_pointer::{Way, moved};
+use command_desk::settle;
 use control_panel::Panel;
-use desk_answers::span_answer;
 use desk_errors::CommandError;
 use entry_line::EntryLine;
 use formula_eval::{Look, Scene, Tally};
@@ -21,25 +21,26 @@ use formula_tree::Content;
 use grid_address::Cell;
 use key_words::Key;
 use lics_text::Memory;
-use menu_tree::{Action, CommonAction};
+use menu_room::menu_or_ready;
+use menu_tree::back;
 use prompt_room::{WhatFollows, opening};
 use screen_layout::{columns_shown, corner_for, paint, paint_panel};
 use screen_show::Grid;
 use serial_date::Moment;
 use session_rooms::{AnsweredCommand, PromptRoom, Room, Turn, TypingMode, TypingRoom};
+use sheet_commands::{CommandEnd, Desk, act};
 use sheet_store::{Settings, SheetFault};
 use std::alloc::Global;
 use std::marker::Model;
 use std::mem;
-use work_sheet::Sheet;
 
 const HOME: Cell = Cell { row: 0, col: 0 };
 
-/// The worksheet with its pointer, the cell at the top left of the screen, what the session is doing, and the moment of
-/// the last step.
+/// The desk with the worksheet and its pointer, the cell at the top left of the screen, what the session is doing, and
+/// the moment of the last step.
 #[derive(Drop)]
 pub struct Machine {
-    sheet: Sheet,
+    desk: Desk,
     tally: Tally,
     corner: Cell,
     room: Room,
@@ -49,7 +50,7 @@ pub struct Machine {
 
 impl Model for Machine {
     ghost use Rattle.session_core.specs.Machine.{coded_worked, Worked};
-    ghost use Rattle.work_sheet.specs.Seen.{of_worksheet};
+    ghost use Rattle.command_desk.specs.Desks.{of_desk};
 
     ghost Value = { Worked };
 
@@ -57,14 +58,14 @@ impl Model for Machine {
 
     ghost view = { λ a. record {
       state = record {
-        sheet = of_worksheet a.sheet;
+        desk = of_desk a.desk;
         corner = a.corner;
         room = a.room;
         end = a.end;
         day = a.moment.day;
         second = a.moment.second;
       };
-      work = record { dirty = a.sheet.dirty; count = a.tally.count };
+      work = record { dirty = a.desk.sheet.dirty; count = a.tally.count };
     } };
 }
 
@@ -73,6 +74,13 @@ impl Model for Machine {
 pub enum Touched {
     Pointer,
     Anything,
+}
+
+/// What a key came to: what it may have changed of the sheet, and whether the run ends.
+#[derive(Clone, Copy, Debug, PartialEq, Eq)]
+pub struct Taken {
+    pub touched: Touched,
+    pub ends: bool,
 }
 
 // What a turn may change of the sheet.
@@ -93,7 +101,7 @@ impl Machine {
         ensures work { result.work ≡ no_work }
     {
         Machine {
-            sheet: Sheet::new(alloc),
+            desk: Desk::new(alloc),
             tally: Tally::new(),
             corner: HOME,
             room: Room::Ready,
@@ -113,7 +121,7 @@ impl Machine {
     fn pointer(&self) -> Cell
         ensures { result ≡ pointer_of self.now.state }
     {
-        self.sheet.settings().pointer
+        self.desk.sheet.settings().pointer
     }
 
     // What formulas look at beside the sheet.
@@ -130,7 +138,7 @@ impl Machine {
     fn enter_room(&mut self, room: Room)
         ensures state { self.new.state ≡ in_room room self.old.state }
         ensures work { self.new.work ≡ self.old.work }
-        ensures sheet { IsMoved self.old.state.sheet self.new.state.sheet }
+        ensures sheet { IsMoved (sheet_of self.old.state) (sheet_of self.new.state) }
     {
         self.room = room;
     }
@@ -139,7 +147,7 @@ impl Machine {
     fn mark(&mut self)
         ensures state { self.new.state ≡ record self.old.state { end = true } }
         ensures work { self.new.work ≡ self.old.work }
-        ensures sheet { IsMoved self.old.state.sheet self.new.state.sheet }
+        ensures sheet { IsMoved (sheet_of self.old.state) (sheet_of self.new.state) }
     {
         self.end = true;
     }
@@ -148,10 +156,10 @@ impl Machine {
     fn point_at(&mut self, pointer: Cell)
         ensures state { self.new.state ≡ pointing_at pointer self.old.state }
         ensures work { self.new.work ≡ self.old.work }
-        ensures sheet { IsMoved self.old.state.sheet self.new.state.sheet }
+        ensures sheet { IsMoved (sheet_of self.old.state) (sheet_of self.new.state) }
     {
-        let settings = *self.sheet.settings();
-        self.sheet.set_settings(Settings {
+        let settings = *self.desk.sheet.settings();
+        self.desk.sheet.set_settings(Settings {
             pointer,
             ..settings
         });
@@ -161,10 +169,10 @@ impl Machine {
     fn go(&mut self, way: Way)
         ensures state { self.new.state ≡ going way self.old.state }
         ensures work { self.new.work ≡ self.old.work }
-        ensures sheet { IsMoved self.old.state.sheet self.new.state.sheet }
+        ensures sheet { IsMoved (sheet_of self.old.state) (sheet_of self.new.state) }
     {
-        let shown = columns_shown(&self.sheet, self.corner.col);
-        let to = moved(way, shown, self.sheet.cells(), self.pointer());
+        let shown = columns_shown(&self.desk.sheet, self.corner.col);
+        let to = moved(way, shown, self.desk.sheet.cells(), self.pointer());
         self.point_at(to);
     }
 
@@ -172,47 +180,40 @@ impl Machine {
     fn fail(&mut self, error: CommandError)
         ensures state { self.new.state ≡ failed error self.old.state }
         ensures work { self.new.work ≡ self.old.work }
-        ensures sheet { IsMoved self.old.state.sheet self.new.state.sheet }
+        ensures sheet { IsMoved (sheet_of self.old.state) (sheet_of self.new.state) }
     {
         self.enter_room(Room::Failed(error.message()));
     }
 
-    // The pointer goes to the first cell of the span that an answer is.
-    fn go_to(&mut self, answer: &[u8])
-        ensures state { self.new.state ≡ gone_by (Some answer.now) self.old.state }
-        ensures work { self.new.work ≡ self.old.work }
+    // A command is carried out, and the session goes on as it ended; whether the run ends.
+    fn act(&mut self, command: AnsweredCommand, now: &Moment) -> Result<bool, Memory>
+        ensures { IfOk result (λ ends. LeadsBy (acted command) now.now ends self.old self.new) }
     {
-        match span_answer(self.sheet.names(), answer, 0) {
-            Ok(span) => self.point_at(span.first),
-            Err(error) => self.fail(error),
+        let scene = self.scene(now);
+        match act(&command, &mut self.desk, &scene, &mut self.tally)? {
+            CommandEnd::Finished => {
+                self.enter_room(menu_or_ready(back(command.action)));
+                Ok(false)
+            }
+            CommandEnd::Quits => Ok(true),
+            CommandEnd::Refused(error) => {
+                self.fail(error);
+                Ok(false)
+            }
         }
     }
 
-    // A command is carried out.
-    fn act(&mut self, command: AnsweredCommand)
-        ensures state { self.new.state ≡ acted command.action command.answers self.old.state }
-        ensures work { self.new.work ≡ self.old.work }
-    {
-        match command.action {
-            Action::Common(CommonAction::Goto) => match command.answers.get(0) {
-                Some(answer) => self.go_to(answer.bytes()),
-                None => {}
-            },
-            _ => {}
-        }
-    }
-
-    // A command's next prompt follows, or it is carried out.
-    fn ask(&mut self, command: AnsweredCommand)
-        ensures state { self.new.state ≡ asked command self.old.state }
-        ensures work { self.new.work ≡ self.old.work }
+    // A command's next prompt follows, or it is carried out; whether the run ends.
+    fn ask(&mut self, command: AnsweredCommand, now: &Moment) -> Result<bool, Memory>
+        ensures { IfOk result (λ ends. LeadsBy (asked command) now.now ends self.old self.new) }
     {
         match opening(&command, self.pointer()) {
             WhatFollows::Asks(answering) => {
                 self.enter_room(Room::Asking(PromptRoom { command, answering }));
+                Ok(false)
             }
-            WhatFollows::Looks => {}
-            WhatFollows::Acts => self.act(command),
+            WhatFollows::Looks => Ok(false),
+            WhatFollows::Acts => self.act(command, now),
         }
     }
 
@@ -230,37 +231,37 @@ impl Machine {
 
     // All is recalculated.
     fn calculate(&mut self, now: &Moment) -> Result<(), Memory>
-        ensures { OnOk result (LeadsBy recalculated now.now self.old self.new) }
+        ensures { OnOk result (LeadsBy recalculated now.now false self.old self.new) }
     {
         let scene = self.scene(now);
-        self.sheet.calc(&scene, &mut self.tally)?;
+        self.desk.sheet.calc(&scene, &mut self.tally)?;
         Ok(())
     }
 
     // In Automatic mode all is recalculated.
     fn settle(&mut self, now: &Moment) -> Result<(), Memory>
-        ensures { OnOk result (LeadsBy settling now.now self.old self.new) }
+        ensures { OnOk result (LeadsBy settling now.now false self.old self.new) }
     {
-        if self.sheet.settings().automatic {
-            self.calculate(now)?;
-        }
-        Ok(())
+        let scene = self.scene(now);
+        settle(&mut self.desk.sheet, &scene, &mut self.tally)
     }
 
     // Whether the pointer's cell is protected.
     fn is_protected(&self) -> bool
         ensures { result ≡ is_pointer_protected self.now.state }
     {
-        self.sheet.settings().protection && self.sheet.format(self.pointer()).is_protected()
+        self.desk.sheet.settings().protection
+            && self.desk.sheet.format(self.pointer()).is_protected()
     }
 
     // Writes a content into the pointer's cell, which isn't protected.
     fn write(&mut self, content: Content, now: &Moment) -> Result<(), Memory>
         requires { is_pointer_protected self.old.state ≡ false }
-        ensures { OnOk result (LeadsBy (writing content) now.now self.old self.new) }
+        ensures { OnOk result (LeadsBy (writing content) now.now false self.old self.new) }
     {
         let scene = self.scene(now);
         match self
+            .desk
             .sheet
             .enter_line(scene.cursor, content, &scene, &mut self.tally)
         {
@@ -273,7 +274,7 @@ impl Machine {
 
     // Enters a content into the pointer's cell, and then the pointer moves.
     fn enter(&mut self, content: Content, way: Way, now: &Moment) -> Result<(), Memory>
-        ensures { OnOk result (LeadsBy (entered content way) now.now self.old self.new) }
+        ensures { OnOk result (LeadsBy (entered content way) now.now false self.old self.new) }
     {
         if self.is_protected() {
             self.fail(CommandError::Protected(self.pointer()));
@@ -287,9 +288,9 @@ impl Machine {
 
     // Enters what a line means into the pointer's cell; a fault goes to EDIT.
     fn finish(&mut self, way: Way, line: EntryLine, now: &Moment) -> Result<(), Memory>
-        ensures { OnOk result (LeadsBy (finished way line) now.now self.old self.new) }
+        ensures { OnOk result (LeadsBy (finished way line) now.now false self.old self.new) }
     {
-        match meaning_of(line.text(), &self.sheet, self.pointer())? {
+        match meaning_of(line.text(), &self.desk.sheet, self.pointer())? {
             Meant::Means(content) => self.enter(content, way, now),
             Meant::Faulty(at) => {
                 self.edit_at(at, line);
@@ -298,41 +299,44 @@ impl Machine {
         }
     }
 
-    // What a key came to is carried out.
-    fn carry(&mut self, turn: Turn, now: &Moment) -> Result<(), Memory>
-        ensures ok { OnOk result (LeadsBy (carried turn) now.now self.old self.new) }
-        ensures moves { OnlyMoves turn → IsOk result }
-        ensures sheet { OnlyMoves turn → IsMoved self.old.state.sheet self.new.state.sheet }
+    // What a key came to is carried out; whether the run ends.
+    fn carry(&mut self, turn: Turn, now: &Moment) -> Result<bool, Memory>
+        ensures ok { IfOk result (λ ends. LeadsBy (carried turn) now.now ends self.old self.new) }
+        ensures moves { OnlyMoves turn → result ≡ Ok false }
+        ensures sheet { OnlyMoves turn → IsMoved (sheet_of self.old.state) (sheet_of self.new.state) }
     {
         match turn {
             Turn::Become(room) => self.enter_room(room),
             Turn::Move(way) => self.go(way),
             Turn::Mark => self.mark(),
             Turn::Finish(way, line) => self.finish(way, line, now)?,
-            Turn::Ask(command) => self.ask(command),
-            Turn::Act(command) => self.act(command),
+            Turn::Ask(command) => return self.ask(command, now),
+            Turn::Act(command) => return self.act(command, now),
             Turn::Recalculate => self.calculate(now)?,
             Turn::Start(_) | Turn::Undo => {}
             Turn::Fail(error) => self.fail(error),
         }
-        Ok(())
+        Ok(false)
     }
 
     /// Takes a key, before the screen follows it. A key that only moves the pointer, types or is passed over takes no
-    /// memory and leaves all of the sheet but the pointer.
-    pub fn take(&mut self, key: Key, now: &Moment) -> Result<Touched, Memory>
-        ensures ok { OnOk result (LeadsBy (taken key) now.now self.old self.new) }
+    /// memory, leaves all of the sheet but the pointer, and doesn't end the run.
+    pub fn take(&mut self, key: Key, now: &Moment) -> Result<Taken, Memory>
+        ensures ok { IfOk result (λ t. LeadsBy (taken key) now.now t.ends self.old self.new) }
         ensures moves { OnlyMovesByKey key self.old.state → IsOk result }
-        ensures sheet { OnlyMovesByKey key self.old.state → IsMoved self.old.state.sheet self.new.state.sheet }
-        ensures touched { IfOk result (λ t. t ≡ Touched.Pointer → IsMoved self.old.state.sheet self.new.state.sheet) }
+        ensures stays { OnlyMovesByKey key self.old.state → IfOk result (λ t. t.ends ≡ false) }
+        ensures sheet { OnlyMovesByKey key self.old.state →
+            IsMoved (sheet_of self.old.state) (sheet_of self.new.state) }
+        ensures touched { IfOk result
+            (λ t. t.touched ≡ Touched.Pointer → IsMoved (sheet_of self.old.state) (sheet_of self.new.state)) }
     {
         let end = self.end;
         let room = mem::replace(&mut self.room, Room::Ready);
         self.end = false;
-        let turn = turn_of(key, room, end, &self.sheet)?;
+        let turn = turn_of(key, room, end, &self.desk.sheet)?;
         let touched = touched_by(&turn);
-        self.carry(turn, now)?;
-        Ok(touched)
+        let ends = self.carry(turn, now)?;
+        Ok(Taken { touched, ends })
     }
 
     /// The screen follows the pointer, at this moment.
@@ -340,7 +344,7 @@ impl Machine {
         ensures state { self.new.state ≡ framed now.now self.old.state }
         ensures work { self.new.work ≡ self.old.work }
     {
-        self.corner = corner_for(&self.sheet, self.corner);
+        self.corner = corner_for(&self.desk.sheet, self.corner);
         self.moment = *now;
     }
 
@@ -364,13 +368,13 @@ impl Machine {
     pub fn paint(&self) -> Grid
         ensures { result ≡ screen self.now.state }
     {
-        paint(&self.sheet, &self.panel(), self.corner, &self.moment)
+        paint(&self.desk.sheet, &self.panel(), self.corner, &self.moment)
     }
 
     /// The screen, over one of the same cells from the same corner on.
     pub fn paint_panel(&self, shown: &mut Grid)
         ensures { Repaints self.now.state shown.old shown.new }
     {
-        paint_panel(&self.sheet, &self.panel(), &self.moment, shown);
+        paint_panel(&self.desk.sheet, &self.panel(), &self.moment, shown);
     }
 }

@@ -4,7 +4,7 @@ ghost use Rattle.session_core.specs.Moving.{KeepsNoAnswer, TakesNoMemory};
 ghost use Rattle.session_core.specs.Pressing.{pressed, room_panel, turn_of};
 ghost use Rattle.work_sheet.specs.Seen.{of_worksheet};
 
-use control_panel::{Mode, Panel};
+use control_panel::Panel;
 use key_words::Key;
 use lics_text::Memory;
 use session_rooms::{Room, Turn};
@@ -20,7 +20,7 @@ fn pressed(room: Room, key: Key, end: bool, sheet: &Sheet) -> Result<Turn, Memor
         Room::Ready => Ok(ready_room::press(key, end, sheet)),
         Room::Typing(room) => Ok(typing_room::press(key, sheet.cells(), pointer, room)),
         Room::Pointing(room) => Ok(point_room::press(key, sheet.cells(), pointer, room)),
-        Room::Menu(_) => Ok(Turn::Become(Room::Ready)),
+        Room::Menu(room) => Ok(menu_room::press(sheet.alloc(), key, room)),
         Room::Asking(room) => prompt_room::press(key, sheet, room),
         Room::Failed(message) => Ok(ready_room::press_failed(key, message)),
     }
@@ -46,7 +46,7 @@ pub(crate) fn room_panel(room: &Room) -> Panel
         Room::Ready => ready_room::panel(),
         Room::Typing(room) => typing_room::panel(room),
         Room::Pointing(room) => point_room::panel(room),
-        Room::Menu(_) => Panel::of(Mode::Menu),
+        Room::Menu(room) => menu_room::panel(room),
         Room::Asking(room) => prompt_room::panel(room),
         Room::Failed(message) => ready_room::failed_panel(message),
     }

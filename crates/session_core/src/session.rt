@@ -1,7 +1,7 @@
 // A session, step by step.
 ghost use Rattle.std.specs.Prelude.{◌≡◌, IfOk, false, true};
 ghost use Rattle.screen_show.specs.Grid.{IsGrid, IsPrinted};
-ghost use Rattle.session_core.specs.Machine.{started, wants_key, Follows};
+ghost use Rattle.session_core.specs.Machine.{sheet_of, started, wants_key, Follows};
 ghost use Rattle.session_core.specs.Moving.{IsMoved, OnlyMovesBy};
 ghost use Rattle.session_core.specs.Screen.{screen};
 ghost use Rattle.session_core.specs.Step.{is_key, step};
@@ -75,17 +75,19 @@ impl Session {
         self.machine.evaluations()
     }
 
-    /// One step: a key exactly where the session wants one. `Quit` never comes yet. After `Memory` the
-    /// session is spent. A step that only moves the pointer, types, or is passed over, takes no memory and leaves
-    /// all of the sheet but the pointer.
+    /// One step: a key exactly where the session wants one. `Quit` comes exactly where the menu's Quit was confirmed
+    /// (Release 2 manual). After `Memory` the session is spent. A step that only moves the pointer, types, or is passed
+    /// over, takes no memory and leaves all of the sheet but the pointer.
     pub fn step<S: Shelf>(&mut self, event: Event, now: &Moment, _shelf: &mut S) -> Stepped
         requires fresh { self.old.spent ≡ false }
         requires key { is_key event ≡ wants_key self.old.state }
         ensures more { result ≡ Stepped.More → Follows (step event now.now self.old.state) self.old self.new }
-        ensures quit { result ≡ Stepped.Quit → ⊥ }
+        ensures goes_on { result ≡ Stepped.More → (step event now.now self.old.state).ends ≡ false }
+        ensures quit { result ≡ Stepped.Quit → Follows (step event now.now self.old.state) self.old self.new }
+        ensures ends { result ≡ Stepped.Quit → (step event now.now self.old.state).ends ≡ true }
         ensures memory { result ≡ Stepped.Memory → self.new.spent ≡ true }
         ensures moves { OnlyMovesBy event self.old.state → result ≡ Stepped.More }
-        ensures sheet { OnlyMovesBy event self.old.state → IsMoved self.old.state.sheet self.new.state.sheet }
+        ensures sheet { OnlyMovesBy event self.old.state → IsMoved (sheet_of self.old.state) (sheet_of self.new.state) }
         ensures shelf { _shelf.new ≡ _shelf.old }
     {
         let Event::Key(key) = event else {
@@ -93,14 +95,15 @@ impl Session {
         };
         let corner = self.machine.corner();
         match self.machine.take(key, now) {
-            Ok(touched) => {
+            Ok(taken) => {
+                let stepped = Stepped::of(taken.ends);
                 self.machine.follow(now);
-                if touched == Touched::Pointer && self.machine.corner() == corner {
+                if taken.touched == Touched::Pointer && self.machine.corner() == corner {
                     self.machine.paint_panel(&mut self.shown);
                 } else {
                     self.shown = self.machine.paint();
                 }
-                Stepped::More
+                stepped
             }
             Err(Memory) => {
                 self.spent = true;

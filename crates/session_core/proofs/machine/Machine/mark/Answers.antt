@@ -3,4 +3,4 @@ use Rattle.session_core.proofs.machine.Machine.mark.Goals as goal
 
 -- the pointer stays
 pub returns-clause-sheet : goal.returns-clause-sheet
-returns-clause-sheet c = (c.args.self.now.state.sheet.settings.pointer, search rules)
+returns-clause-sheet c = (c.args.self.now.state.desk.sheet.settings.pointer, search rules)
