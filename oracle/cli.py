@@ -5,6 +5,7 @@ import re
 import sys
 
 from . import fixed, gen, wk1
+from .answers import leave_out
 from .commands import Desk
 from .keys import KeyReader
 from .outside import (Failed, ListKeys, MapShelf, ListClock, ListNotes, Recorder, send, EMPTY_GRID, file_name)
@@ -323,7 +324,10 @@ def main(argv):
     p.add_argument('--as-program', action='store_true',
                    help='stdout gets exactly what the program writes for the kind of --show (pages, ansi, last)')
     p.add_argument('--state', help='a text dump of the last state goes to this file')
+    p.add_argument('--built', action='store_true', help='no more functions and menus than the program has built')
     a = p.parse_args(own)
+    if a.built:
+        leave_out()
     data = sys.stdin.buffer.read() if a.keys == '-' else open(a.keys, 'rb').read()
     files = {}
     if a.dir:

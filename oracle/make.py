@@ -4,8 +4,8 @@ python3 -B -m oracle.make NAME [SEED [COUNT]], where `files` alone takes a count
 import random
 import sys
 
-from . import files, formula
-from .answers import ANSWERS, NOT_BUILT
+from . import files
+from .answers import ANSWERS, leave_out
 from .cases import SEED, case
 
 ANSWERS = {**ANSWERS, 'files': files.answers}
@@ -19,7 +19,7 @@ def made(name, seed=SEED, count=files.SHEETS):
 
 
 def main(words):
-    formula.NOT_BUILT = NOT_BUILT
+    leave_out()
     answers = '--answers' in words
     words = [word for word in words if word != '--answers']
     if not words or words[0] not in ANSWERS or len(words) > 3:

@@ -58,6 +58,22 @@ MENUS = {
     'q': [('No', 'nothing'), ('Yes', 'q.yes')],
 }
 
+# paths and actions that are left out of the menus: none, or those that the program has not built
+NOT_BUILT = set()
+
+
+def is_shown(nxt):
+    """Whether a menu shows the item that leads there: a menu all of whose items are left out isn't shown either."""
+    if nxt in NOT_BUILT:
+        return False
+    return nxt not in MENUS or any(is_shown(below) for _, below in MENUS[nxt])
+
+
+def items(path):
+    """The items of a path that are shown."""
+    return [item for item in MENUS[path] if is_shown(item[1])]
+
+
 PARENT = {nxt: path for path, items in MENUS.items() for _, nxt in items if nxt in MENUS}
 PARENT['print'] = 'p'          # the menu that Print > File opens stands below Print
 

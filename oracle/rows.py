@@ -3,7 +3,7 @@ Run: python3 -m oracle.rows [NAME...]"""
 import sys
 import traceback
 
-from . import address, cellformat, evaluate, fixed, formula, wk1
+from . import address, cellformat, evaluate, fixed, formula, menu, wk1
 from .cli import run
 from .dates import Moment
 from .names import Names
@@ -1281,6 +1281,22 @@ def _():
     for keys in ['/{ESC}', '/Q~', '/WGF{BREAK}', '5~/FSX~/FS~{ESC}', '/FEX~N', '/DQDC', '/DSDA1~R', '/WEN', '/PFX~OML5~QQQ']:
         sees(keys, m='READY', l1='')
     sees('/QYABC', k=3, m='READY')
+
+
+@row('menus of what is built')
+def _():
+    left_out = menu.NOT_BUILT
+    menu.NOT_BUILT = {'wi', 'wd.column', 'wd.row', 'r', 'move', 'f', 'd'}
+    try:
+        for keys, line, below in [
+                ('/', '[Worksheet] Copy  Print  Quit', 'Global  Column  Erase'),
+                ('/W{END}{LEFT}', ' Global [Column] Erase', 'Set-Width  Reset-Width  Hide  Display'),
+                ('/RMFD{LEFT}{RIGHT}', '[Worksheet] Copy  Print  Quit', 'Global  Column  Erase'),
+                ('/WDI{HOME}', '[Global] Column  Erase', 'Format  Label-Prefix  Column-Width  Recalculation  Protection'),
+                ('/P{ESC}', '[Worksheet] Copy  Print  Quit', 'Global  Column  Erase')]:
+            sees(keys, m='MENU', l1=line, l2=below)
+    finally:
+        menu.NOT_BUILT = left_out
 
 
 @row('errors and their order')

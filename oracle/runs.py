@@ -9,8 +9,7 @@ import shlex
 import subprocess
 import sys
 
-from . import formula
-from .answers import NOT_BUILT
+from .answers import NOT_BUILT, leave_out
 from .cases import SEED, Texts, WORDS, is_read
 from .cli import run
 from .names import Names
@@ -232,7 +231,7 @@ def runs(count, seed):
 
 
 def main(words):
-    formula.NOT_BUILT = NOT_BUILT
+    leave_out()
     program, count, seed = words[0], int(words[1]), words[2] if len(words) > 2 else SEED
     screens, bad = 0, 0
     for options, keys in runs(count, seed):

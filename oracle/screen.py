@@ -1,7 +1,7 @@
 """The screen of 25 lines of 80.  Painted from nothing."""
 from . import address, cellformat, dates
 from .macro import shown_cell, mask, state_of
-from .menu import MENUS
+from .menu import MENUS, items as items_of
 
 
 def width_of(sheet, col):
@@ -170,7 +170,7 @@ def panel_lines(session):
         items = session.items()
         names = [n.encode() for n, _ in items]
         nxt = items[session.high][1]
-        below = b'  '.join(n.encode() for n, _ in MENUS[nxt]) if nxt in MENUS else b''
+        below = b'  '.join(n.encode() for n, _ in items_of(nxt)) if nxt in MENUS else b''
         return items_line(names, session.high)[:240], below[:240]
     return b'', b''
 

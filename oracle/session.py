@@ -1,6 +1,6 @@
 """One step of the session: what a key or a macro's unit does in each mode."""
 from . import address, dates, formula, fixed
-from . import commands, screen
+from . import commands, menu, screen
 from .commands import CommandError, Desk, set_settings, sheet_error
 from .evaluate import Scene
 from .keys import ENTER, BREAK, UNDO, fold
@@ -406,7 +406,7 @@ class Session:
     def items(self):
         if self.choice is not None:
             return [(n, None) for n in CHOICES[self.choice]]
-        return MENUS[self.path]
+        return menu.items(self.path)
 
     def in_menu(self, key, mark):
         items = self.items()
