@@ -2,7 +2,7 @@
 
 python3 -B -m oracle.runs PROGRAM N [SEED]
 
-A key list is made of what the program has built; WITHOUT and the makers of Typist grow with it. The moment on a screen's
+A key list is made of what the program has built; WITHOUT and the makers of Typist and MenuKeys grow with it. The moment on a screen's
 last line is left out, and no formula asks for it."""
 import random
 import shlex
@@ -12,6 +12,7 @@ import sys
 from .answers import NOT_BUILT, leave_out
 from .cases import SEED, Texts, WORDS, is_read
 from .cli import run
+from .menu_keys import MenuKeys
 from .names import Names
 from .session import VALUE_BEGINS
 
@@ -26,6 +27,7 @@ class Typist:
     def __init__(self, r):
         self.r = r
         self.texts = Texts(r, 3, 5, False, [], without=WITHOUT)
+        self.menus = MenuKeys(self)
 
     def typed(self, text):
         """The key notation of typed bytes."""
@@ -136,12 +138,17 @@ class Typist:
         return r.choice([b'{CALC}', b'{calc}', b'~', b'\n', b'{WINDOW}', b'{GRAPH}', b'{NAME}', b'{ABS}', b'{DEL}', b'{BS}', b'{ESC}', b'{BREAK}'])
 
     def part(self):
+        if self.r.randrange(5) < 2:
+            return self.menus.part()
         many = [self.entry] * 4 + [self.arrow, self.moving, self.end, self.edited, self.faulty, self.pointed, self.goto, self.other]
         return self.r.choice(many)()
 
     def keys(self):
         r = self.r
-        out = b''.join(self.part() for _ in range(r.choice([0, 1, 3, 8, 15, 30])))
+        parts = [self.part() for _ in range(r.choice([0, 1, 3, 8, 15, 30]))]
+        if r.randrange(8) == 0:
+            parts.insert(r.randrange(len(parts) + 1), self.menus.quit())
+        out = b''.join(parts)
         ending = r.randrange(12)
         if ending == 0:
             out += self.typed(self.value())

@@ -1,0 +1,252 @@
+"""Keys that go through menus: the ways to each command that the program has built, and answers to its prompts.
+
+Ranges that are formatted, protected, erased or copied hold at most some 2,000 cells, since each is held."""
+from . import menu
+from .address import cell_text
+
+SPANS = [b'A1', b'B2', b'C3..C5', b'A1..C5', b'a1.b9', b'D2', b'C5..A1', b'B3..B3', b'E1..E20', b'A7..J7', b'IV8190..IV8192',
+         b'A8192', b'H1.H1', b'Z100', b'A1..AB60', b'C1..C12', b'B2..D4', b'A1..A2']
+NO_SPANS = [b'A0', b'IW1', b'NONAME', b'1+', b'A1..', b'', b'A$1', b'A8193', b'TAX RATE', b'B2..NONAME', b'$A$1', b'A1...B2',
+            b'=', b'SIXTEEN_LETTERS_', b'SIXTEEN_LETTERS_', b' A1', b' A1', b'A1 ']
+BESIDE_NUMBERS = [b'-1', b'2.5', b'', b'x', b'1e1', b'1/2', b'1000000000', b'0.5', b' 5', b'5 ', b'-0', b'0', b'99999999999999999999',
+                  b'+', b'.', b'5%', b'241', b'51', b'16']
+NUMBERS = [b'0', b'5', b'1234.5', b'-1234.567', b'0.000001', b'31929', b'999999999', b'-0.4', b'73051', b'0.5', b'60', b'12345678.9']
+LABELS = [b'Tax', b"'left", b'"right', b'^mid', b'\\-=', b'|not printed', b'a longer label than its column']
+REFERENCES = [b'A1', b'B2', b'C3', b'$A$1', b'$B2', b'C$3', b'D4', b'A8192', b'IV1', b'$IV$8192', b'B1']
+# keys that a menu passes over; only where a menu is surely there also those that mean something in READY once they are built
+PASSED = [b'{UP}', b'{DOWN}', b'{PGUP}', b'{PGDN}', b'{EDIT}', b'{CALC}', b'{ABS}', b'{NAME}', b'{DEL}', b'{BS}', b'{GOTO}', b'{BIGLEFT}',
+          b'{BIGRIGHT}', b'{WINDOW}', b'{GRAPH}', b'z', b' ', b'5', b'/', b'.', b'[']
+PASSED_SURELY = [b'{QUERY}', b'{TABLE}', b'{UNDO}', b'{ALT A}']
+EVERYWHERE = b'A1..IV1'
+
+
+def ways(path='main', way=()):
+    """The items that lead to no menu: the item, and the (path, place) of each item up to it."""
+    for place, (_, after) in enumerate(menu.items(path)):
+        here = way + ((path, place),)
+        if after in menu.MENUS:
+            yield from ways(after, here)
+        else:
+            yield after, here
+
+
+# how often a command is taken, where not twice
+WEIGHTS = {'copy': 10, 'r.erase': 4, 'wgp.enable': 1, 'wgr.manual': 1, 'wgr.automatic': 3, 'wgp.disable': 3, 'we.yes': 4, 'q.yes': 0,
+           'wc.hide': 1, 'wc.display': 4, 'wgf.hidden': 1, 'rf.hidden': 1}
+
+
+class MenuKeys:
+    """Makes the keys; the typist makes entries and the like."""
+
+    def __init__(self, typist):
+        self.typist, self.r = typist, typist.r
+        self.ways = list(ways())
+        self.way_to = dict(self.ways)
+        self.weights = [WEIGHTS.get(action, 2) for action, _ in self.ways]
+
+    # ------------------------------------------------------------ the way
+    def taken(self, path, place):
+        """Keys that take an item of a menu whose first item is highlighted."""
+        r, items = self.r, menu.items(path)
+        letter = items[place][0][:1].encode()
+        left, behind = len(items) - place, len(items) - 1 - place
+        return r.choice([
+            lambda: letter, lambda: letter, lambda: letter.lower(), lambda: letter.lower(),
+            lambda: b'{RIGHT}' * place + b'~',
+            lambda: b'{RIGHT %d}~' % (place + len(items) * r.randrange(1, 3)),
+            lambda: b'{LEFT %d}~' % left,
+            lambda: b'{END}' + b'{LEFT}' * behind + b'~',
+            lambda: b'{LEFT}{HOME}' + b'{R}' * place + b'~',
+        ])()
+
+    def passed(self, path, surely):
+        """Mostly nothing, or a key that the menu passes over: the letters of what isn't built too."""
+        r = self.r
+        if r.randrange(6):
+            return b''
+        shown = {name[0] for name, _ in menu.items(path)}
+        letters = [name[:1].encode() for name, _ in menu.MENUS[path] if name[0] not in shown]
+        return r.choice(letters if letters and r.randrange(2) else PASSED + (PASSED_SURELY if surely else []))
+
+    def way(self, way, surely=False):
+        """Keys that go a way, with detours."""
+        r, out = self.r, b'/'
+        for path, place in way:
+            out += self.passed(path, surely)
+            deeper = [at for at, (_, after) in enumerate(menu.items(path)) if after in menu.MENUS]
+            if deeper and r.randrange(12) == 0:
+                out += self.taken(path, r.choice(deeper)) + b'{ESC}'
+            out += self.taken(path, place)
+        return out
+
+    # ------------------------------------------------------------ answers
+    def answered(self, keys):
+        """An answer's keys, and what ends it."""
+        r = self.r
+        if r.randrange(12) == 0:
+            keys += self.typist.line_keys()
+        if r.randrange(12) == 0:
+            keys += r.choice([b'{UP}', b'{NAME}', b'{PGDN}', b'{ESC}B2', b'{ESC}', b'{CALC}', b'{ABS}', b'{GOTO}', b'{EDIT}'])
+        return keys + r.choice([b'~'] * 24 + [b'{ESC}{ESC}', b'{BREAK}', b'{ESC}B2~', b'{ESC 3}{BREAK}'])
+
+    def steered(self):
+        """A range that is pointed at, not far from the pointer."""
+        r = self.r
+        step = lambda: b'{' + r.choice([b'UP', b'DOWN', b'LEFT', b'RIGHT', b'D', b'R', b'DOWN', b'RIGHT']) + r.choice([b'}', b'}', b' 2}', b' 5}'])
+        part = lambda: step() if r.randrange(4) else r.choice([b'.', b'{ESC}', b'{BS}', b'{ABS}', b'{ESC}' + step() + b'.', b'{NAME}', b'{HOME}'])
+        return b''.join(part() for _ in range(r.randrange(4)))
+
+    def span(self):
+        """A span of a few cells in the first columns and rows, or one of those above."""
+        r = self.r
+        if r.randrange(3) == 0:
+            return r.choice(SPANS)
+        col, row = r.randrange(6), r.randrange(12)
+        return cell_text((col, row)) + b'..' + cell_text((col + r.randrange(4), row + r.randrange(6)))
+
+    def asked_R(self):
+        """An answer to a prompt for a range, good or not; asked_N is one for a whole number."""
+        r = self.r
+        if r.randrange(8) == 0:
+            return self.typist.typed(r.choice(NO_SPANS))
+        return self.typist.typed(self.span()) if r.randrange(3) else self.steered()
+
+    def asked_N(self, low, high):
+        r = self.r
+        if r.randrange(6) == 0:
+            return r.choice(BESIDE_NUMBERS + [b'%d' % (low - 1), b'%d' % (high + 1)])
+        number = r.choice([low, high] + [r.randrange(low, min(high, low + 20) + 1) for _ in range(8)])
+        return r.choice([b'%d', b'%d', b'%d', b'+%d', b'%d.0', b'0%d', b'%d.', b'%d.000000']) % number
+
+    def answer(self, ask):
+        """An answer to a prompt of any kind that is built: a kind has its maker."""
+        kind, *bounds = ask if isinstance(ask, tuple) else (ask,)
+        return self.answered(getattr(self, 'asked_' + kind)(*bounds))
+
+    # ------------------------------------------------------------ commands
+    def done(self, action, *answers):
+        """A command by its way, with these answers to its first prompts, and any to the others."""
+        keys = self.way(self.way_to[action])
+        for at, (_, ask) in enumerate(menu.prompts(action)):
+            keys += answers[at] + b'~' if at < len(answers) else self.answer(ask)
+        return keys
+
+    def behind(self):
+        """What may stand behind a command, since it may have been refused."""
+        return self.r.choice([b'', b'', b'', b'{ESC}', b'{ESC}', b'~', b'{ESC 3}', b'{BREAK}'])
+
+    def command(self):
+        """Any command."""
+        r = self.r
+        action, way = r.choices(self.ways, self.weights)[0]
+        surely = r.randrange(3) == 0
+        keys = (b'{BREAK}' if surely else b'') + self.way(way, surely)
+        return keys + b''.join(self.answer(ask) for _, ask in menu.prompts(action)) + self.behind()
+
+    def at(self, cell):
+        return b'{GOTO}' + cell + b'~'
+
+    def formula(self):
+        """A short formula with references of every kind."""
+        r = self.r
+        ref = lambda: r.choice(REFERENCES)
+        return r.choice([lambda: b'+' + ref() + b'*2', lambda: b'@SUM(' + ref() + b'..' + ref() + b')', lambda: b'+' + ref() + b'+' + ref(),
+                         lambda: b'@COUNT(' + ref() + b'..' + ref() + b')&"n"', lambda: b'@IF(' + ref() + b'>1,' + ref() + b',@NA)',
+                         lambda: b'+"long text beside "&@STRING(' + ref() + b',2)'])()
+
+    def content(self):
+        r = self.r
+        return self.typist.typed(r.choice([lambda: r.choice(NUMBERS), lambda: r.choice(LABELS), self.formula])())
+
+    def column(self, cell):
+        """Contents from a cell on downward."""
+        return self.at(cell) + b''.join(self.content() + b'{DOWN}' for _ in range(self.r.randrange(1, 5)))
+
+    def formatted(self):
+        """Contents of all kinds, and formats over them."""
+        r = self.r
+        formats = [action for action, _ in self.ways if action.startswith('rf.')]
+        keys = self.column(r.choice([b'A1', b'B2', b'C3']))
+        for _ in range(r.randrange(1, 4)):
+            action = r.choice(formats)
+            span = r.choice([b'A1..C8', b'B2..B5', b'C3', b'A1..A2', b'b2.c4'])
+            keys += self.done(action, *([span] if len(menu.prompts(action)) == 1 else [])) + self.behind()
+        return keys + (self.done('wc.set') if r.randrange(3) == 0 else b'')
+
+    def copied(self):
+        """A formula that is copied: to a cell, along a row, down a column, over a block, or past the sheet."""
+        r = self.r
+        source = r.choice([b'A1', b'B2', b'D5', b'C3'])
+        keys = self.at(source) + self.typist.typed(self.formula()) + b'~'
+        span = r.choice([source, source, b'A1..A3', b'A1..C1', b'B2..D5', source + b'.' + source])
+        to = r.choice([b'B3', b'A2..A9', b'B1..H1', b'B2..E6', b'A1', b'D5', b'E6..F7', b'C8..C8', b'IV8192', b'A8192', b'IU8191..IV8192', b'IV1',
+                       b'A8191..A8192', b'IV1..IV20', b'A8192..H8192'])
+        keys += self.done('copy', span, to) + self.behind()
+        return keys + (self.at(r.choice([b'B3', b'A9', b'IV8192', b'A8192', b'E6'])) if r.randrange(2) else b'')
+
+    def guarded(self):
+        """Protection, and what is written under it."""
+        r = self.r
+        keys = b'' if r.randrange(3) == 0 else self.done('r.unprotect', r.choice([b'A1', b'B2..C4', b'A1..B9'])) + self.behind()
+        keys += self.done('wgp.enable')
+        write = [lambda: self.at(r.choice([b'A1', b'B2', b'D9', b'C4'])) + self.content() + r.choice([b'~', b'{DOWN}', b'{UP}']),
+                 lambda: self.done('r.erase', self.span()), lambda: self.done('copy', self.span(), self.span()),
+                 lambda: self.done(r.choice(['rl.left', 'rl.right', 'rl.center']), self.span()), self.command,
+                 lambda: self.done(r.choice(['r.protect', 'r.unprotect']), self.span()), self.typist.edited]
+        for _ in range(r.randrange(1, 5)):
+            keys += r.choice(write)() + r.choice([b'{ESC}', b'{ESC}', b'~', b'{BREAK}', b''])
+        return keys + (self.done('wgp.disable') if r.randrange(4) else b'')
+
+    def labelled(self):
+        """Labels, whose prefixes are changed."""
+        r = self.r
+        keys = self.done(r.choice(['wgl.left', 'wgl.right', 'wgl.center'])) + self.column(b'B2') + self.behind()
+        return keys + self.done(r.choice(['rl.left', 'rl.right', 'rl.center']), r.choice([b'B2..B6', b'A1..C5', b'B3'])) + self.behind()
+
+    def columns(self):
+        """Columns that are wide, narrow and hidden, and moving past them."""
+        r = self.r
+        hidden = r.choice([EVERYWHERE, b'B1', b'B1..C1', b'A1', b'IV1', b'A1..G9', b'D1..IV1', b'A1..IU1'])
+        part = [lambda: self.done('wc.set'), lambda: self.done('wc.reset'), lambda: self.done('wc.hide', hidden),
+                lambda: self.done('wc.display', self.span()), lambda: self.done('wgc'), self.typist.moving, self.typist.arrow, self.typist.arrow,
+                self.typist.end, self.typist.goto, lambda: self.content() + b'{RIGHT}', self.typist.pointed]
+        keys = b''.join(r.choice(part)() + self.behind() for _ in range(r.randrange(2, 7)))
+        return keys + (b'{BREAK}' + self.done('wc.display', EVERYWHERE) if r.randrange(4) else b'')
+
+    def reckoned(self):
+        """Orders, passes, circles, and Manual with CALC."""
+        r = self.r
+        orders = [lambda: self.done(r.choice(['wgr.natural', 'wgr.columnwise', 'wgr.rowwise'])),
+                  lambda: self.done('wgr.iteration', r.choice([b'1', b'2', b'3', b'5', b'3', b'50'])),
+                  lambda: self.done('wgr.manual'), lambda: self.done('wgr.automatic')]
+        circle = lambda: self.at(r.choice([b'A1', b'B1', b'A2', b'C3'])) + r.choice([b'+A1+1', b'+B1+1', b'+A2*2', b'@SUM(A1..B2)', b'5', b'+C3+B1',
+                                                                                    b'@CELLPOINTER("row")', b'@@("B1")']) + r.choice([b'~', b'{DOWN}', b'{RIGHT}'])
+        part = orders + [circle, circle, circle, lambda: b'{CALC}', lambda: b'{CALC 3}', self.typist.entry]
+        keys = b''.join(r.choice(part)() for _ in range(r.randrange(2, 8)))
+        return keys + r.choice([b'', self.done('wgr.automatic'), b'{CALC}', self.done('wgr.iteration', b'1')])
+
+    def wandered(self):
+        """Keys that come to this or that in the menus."""
+        r = self.r
+        some = [b'%c' % byte for byte in b'wrcgflrcpehdsunmaiey,0123'] + [b'{RIGHT}', b'{LEFT}', b'{HOME}', b'{END}', b'{ESC}', b'{ESC 2}', b'~', b'~', b'/', b'q', b'{BREAK}/']
+        return b'/' + b''.join(r.choice(some) for _ in range(r.randrange(1, 9))) + r.choice([b'{BREAK}', b'{ESC 3}', b'{ESC 4}', b''])
+
+    def too_long(self):
+        """A text past what a line holds, which isn't edited."""
+        r = self.r
+        label = b'x' * 240 + b'~{EDIT}'
+        formula = self.at(b'A1') + b'+A1' * r.choice([60, 79, 80]) + b'~' + self.done('copy', b'A1', b'Z100') + self.at(b'Z100') + b'{EDIT}'
+        return r.choice([label, formula]) + r.choice([b'{ESC}', b'{BS}~', b'~', b'{ESC 3}'])
+
+    def stayed(self):
+        """Quit that isn't taken."""
+        return self.way(self.way_to['q.yes'][:1]) + self.r.choice([b'n', b'~', b'{ESC}{ESC}', b'{BREAK}', b'{LEFT 2}~', b'x{ESC 2}'])
+
+    def quit(self):
+        """Quit that is taken, and mostly keys behind it."""
+        return b'{BREAK}' + self.way(self.way_to['q.yes'], True)
+
+    def part(self):
+        many = [self.command] * 8 + [self.formatted, self.copied, self.copied, self.guarded, self.guarded, self.labelled, self.columns,
+                                     self.columns, self.reckoned, self.reckoned, self.wandered, self.stayed]
+        return self.too_long() if self.r.randrange(40) == 0 else self.r.choice(many)()
