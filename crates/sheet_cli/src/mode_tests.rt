@@ -19,7 +19,7 @@ A{ESC}{ESC}|3|READY|A1:  | |
 "#;
 
 // The number that digits are.
-fn number_of(digits: &str) -> usize {
+pub fn number_of(digits: &str) -> usize {
     let mut number: usize = 0;
     for byte in digits.as_bytes() {
         let digit = usize::from(byte.saturating_sub(b'0'));
