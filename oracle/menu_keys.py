@@ -8,8 +8,8 @@ SPANS = [b'A1', b'B2', b'C3..C5', b'A1..C5', b'a1.b9', b'D2', b'C5..A1', b'B3..B
          b'A8192', b'H1.H1', b'Z100', b'A1..AB60', b'C1..C12', b'B2..D4', b'A1..A2']
 NO_SPANS = [b'A0', b'IW1', b'NONAME', b'1+', b'A1..', b'', b'A$1', b'A8193', b'TAX RATE', b'B2..NONAME', b'$A$1', b'A1...B2',
             b'=', b'SIXTEEN_LETTERS_', b'SIXTEEN_LETTERS_', b' A1', b' A1', b'A1 ']
-BESIDE_NUMBERS = [b'-1', b'2.5', b'', b'x', b'1e1', b'1/2', b'1000000000', b'0.5', b' 5', b'5 ', b'-0', b'0', b'99999999999999999999',
-                  b'+', b'.', b'5%', b'241', b'51', b'16']
+BESIDE_NUMBERS = [b'-1', b'', b'x', b'1e1', b'1/2', b'1000000000', b' 5', b'5 ', b'-0', b'0', b'99999999999999999999', b'+', b'.', b'5%']
+NOT_WHOLE = [b'2.5', b'0.5', b'1.5', b'12.25', b'3.000001']
 NUMBERS = [b'0', b'5', b'1234.5', b'-1234.567', b'0.000001', b'31929', b'999999999', b'-0.4', b'73051', b'0.5', b'60', b'12345678.9']
 LABELS = [b'Tax', b"'left", b'"right', b'^mid', b'\\-=', b'|not printed', b'a longer label than its column']
 REFERENCES = [b'A1', b'B2', b'C3', b'$A$1', b'$B2', b'C$3', b'D4', b'A8192', b'IV1', b'$IV$8192', b'B1']
@@ -113,9 +113,11 @@ class MenuKeys:
 
     def asked_N(self, low, high):
         r = self.r
-        if r.randrange(6) == 0:
-            return r.choice(BESIDE_NUMBERS + [b'%d' % (low - 1), b'%d' % (high + 1)])
-        number = r.choice([low, high] + [r.randrange(low, min(high, low + 20) + 1) for _ in range(8)])
+        pick = r.randrange(16)
+        if pick < 2:
+            return r.choice(BESIDE_NUMBERS if pick else NOT_WHOLE)
+        number = (r.choice([low - 1, high + 1]) if pick < 4 else r.choice([low, high]) if pick < 7
+                  else r.randrange(low, min(high, low + 20) + 1))
         return r.choice([b'%d', b'%d', b'%d', b'+%d', b'%d.0', b'0%d', b'%d.', b'%d.000000']) % number
 
     def answer(self, ask):
@@ -146,6 +148,15 @@ class MenuKeys:
     def at(self, cell):
         return b'{GOTO}' + cell + b'~'
 
+    def looked(self, cells):
+        """The pointer goes to some of the cells and beside them, so that the first line tells of them."""
+        r = self.r
+        return b''.join(self.at(r.choice(cells)) + r.choice([b'', b'', b'{DOWN}', b'{RIGHT}', b'{UP}']) for _ in range(r.randrange(1, 4)))
+
+    def begun(self):
+        """Mostly READY, and often without protection."""
+        return self.r.choice([b'', b'{BREAK}', b'{BREAK}', b'{BREAK}' + self.done('wgp.disable')])
+
     def formula(self):
         """A short formula with references of every kind."""
         r = self.r
@@ -162,46 +173,65 @@ class MenuKeys:
         """Contents from a cell on downward."""
         return self.at(cell) + b''.join(self.content() + b'{DOWN}' for _ in range(self.r.randrange(1, 5)))
 
-    def formatted(self):
-        """Contents of all kinds, and formats over them."""
+    def format(self, span):
+        """A format over a span."""
+        action = self.r.choice([action for action, _ in self.ways if action.startswith('rf.')])
+        return self.done(action, *([span] if len(menu.prompts(action)) == 1 else [b'%d' % self.r.randrange(4), span]))
+
+    def marked(self, span):
+        """Mostly a format or a mark on a span, or both."""
         r = self.r
-        formats = [action for action, _ in self.ways if action.startswith('rf.')]
-        keys = self.column(r.choice([b'A1', b'B2', b'C3']))
+        return b''.join(r.choice([lambda: b'', lambda: self.format(span), lambda: self.done('r.unprotect', span),
+                                  lambda: self.done('r.protect', span)])() for _ in range(2))
+
+    def formatted(self):
+        """Contents of all kinds, and formats and marks over them."""
+        r = self.r
+        keys = self.begun() + self.column(r.choice([b'A1', b'B2', b'C3']))
         for _ in range(r.randrange(1, 4)):
-            action = r.choice(formats)
-            span = r.choice([b'A1..C8', b'B2..B5', b'C3', b'A1..A2', b'b2.c4'])
-            keys += self.done(action, *([span] if len(menu.prompts(action)) == 1 else [])) + self.behind()
-        return keys + (self.done('wc.set') if r.randrange(3) == 0 else b'')
+            keys += self.marked(r.choice([b'A1..C8', b'B2..B5', b'C3', b'A1..A2', b'b2.c4'])) + self.behind()
+        if r.randrange(3) == 0:
+            keys += self.done(r.choice([action for action, _ in self.ways if action.startswith('wgf.') or action == 'wc.set']))
+        return keys + self.looked([b'A1', b'B2', b'B3', b'C3', b'C8'])
 
     def copied(self):
         """A formula that is copied: to a cell, along a row, down a column, over a block, or past the sheet."""
         r = self.r
         source = r.choice([b'A1', b'B2', b'D5', b'C3'])
-        keys = self.at(source) + self.typist.typed(self.formula()) + b'~'
         span = r.choice([source, source, b'A1..A3', b'A1..C1', b'B2..D5', source + b'.' + source])
         to = r.choice([b'B3', b'A2..A9', b'B1..H1', b'B2..E6', b'A1', b'D5', b'E6..F7', b'C8..C8', b'IV8192', b'A8192', b'IU8191..IV8192', b'IV1',
                        b'A8191..A8192', b'IV1..IV20', b'A8192..H8192'])
-        keys += self.done('copy', span, to) + self.behind()
-        return keys + (self.at(r.choice([b'B3', b'A9', b'IV8192', b'A8192', b'E6'])) if r.randrange(2) else b'')
+        keys = self.begun() + self.at(source) + self.typist.typed(self.formula()) + b'~' + self.marked(span)
+        keys += (self.marked(b'B3..E6') if r.randrange(3) == 0 else b'') + self.done('copy', span, to) + self.behind()
+        return keys + self.looked([b'B3', b'A9', b'E6', b'C3', b'D5', b'F7', to.split(b'.')[0]])
+
+    def erased(self):
+        """Contents with formats and marks, and what is left when they are erased."""
+        r = self.r
+        keys = self.begun() + self.column(b'B2') + self.marked(b'B2..B4') + self.marked(r.choice([b'B3', b'A1..B2']))
+        return keys + self.done('r.erase', r.choice([b'B2..B3', b'B2', b'A1..C4', b'B3..B9'])) + self.behind() + self.looked([b'B2', b'B3', b'B4', b'A1'])
 
     def guarded(self):
-        """Protection, and what is written under it."""
+        """Protection, and what is written under it, also where only the first cells are free."""
         r = self.r
-        keys = b'' if r.randrange(3) == 0 else self.done('r.unprotect', r.choice([b'A1', b'B2..C4', b'A1..B9'])) + self.behind()
-        keys += self.done('wgp.enable')
+        free = r.choice([b'A1', b'B2', b'A1..A2', b'B2..C4', b'A1..B9'])
+        keys = self.begun() + (self.column(b'A1') if r.randrange(2) else b'') + self.done('r.unprotect', free) + self.done('wgp.enable')
+        span = lambda: r.choice([free, free, b'A1..B2', b'B2..C5', b'A1..A3', self.span()])
         write = [lambda: self.at(r.choice([b'A1', b'B2', b'D9', b'C4'])) + self.content() + r.choice([b'~', b'{DOWN}', b'{UP}']),
-                 lambda: self.done('r.erase', self.span()), lambda: self.done('copy', self.span(), self.span()),
-                 lambda: self.done(r.choice(['rl.left', 'rl.right', 'rl.center']), self.span()), self.command,
-                 lambda: self.done(r.choice(['r.protect', 'r.unprotect']), self.span()), self.typist.edited]
+                 lambda: self.done('r.erase', span()), lambda: self.done('copy', span(), span()),
+                 lambda: self.done('copy', r.choice([b'A1..B2', b'B1..B2']), r.choice([b'IV8192', b'A8192', b'IV1', b'IV2..IV5'])),
+                 lambda: self.done(r.choice(['rl.left', 'rl.right', 'rl.center']), span()), self.command,
+                 lambda: self.done(r.choice(['r.protect', 'r.unprotect']), span()), self.typist.edited]
         for _ in range(r.randrange(1, 5)):
             keys += r.choice(write)() + r.choice([b'{ESC}', b'{ESC}', b'~', b'{BREAK}', b''])
-        return keys + (self.done('wgp.disable') if r.randrange(4) else b'')
+        return keys + (b'{BREAK}' + self.done('wgp.disable') if r.randrange(6) else b'') + self.looked([b'A1', b'B2', b'A3', b'C5'])
 
     def labelled(self):
         """Labels, whose prefixes are changed."""
         r = self.r
-        keys = self.done(r.choice(['wgl.left', 'wgl.right', 'wgl.center'])) + self.column(b'B2') + self.behind()
-        return keys + self.done(r.choice(['rl.left', 'rl.right', 'rl.center']), r.choice([b'B2..B6', b'A1..C5', b'B3'])) + self.behind()
+        keys = self.begun() + self.done(r.choice(['wgl.left', 'wgl.right', 'wgl.center'])) + self.column(b'B2') + self.behind()
+        return (keys + self.done(r.choice(['rl.left', 'rl.right', 'rl.center']), r.choice([b'B2..B6', b'A1..C5', b'B3'])) + self.behind()
+                + self.looked([b'B2', b'B3', b'B4']))
 
     def columns(self):
         """Columns that are wide, narrow and hidden, and moving past them."""
@@ -213,17 +243,45 @@ class MenuKeys:
         keys = b''.join(r.choice(part)() + self.behind() for _ in range(r.randrange(2, 7)))
         return keys + (b'{BREAK}' + self.done('wc.display', EVERYWHERE) if r.randrange(4) else b'')
 
+    def order(self):
+        return self.done(self.r.choice(['wgr.natural', 'wgr.columnwise', 'wgr.rowwise']))
+
+    def passes(self):
+        return self.done('wgr.iteration', self.r.choice([b'1', b'1', b'2', b'3', b'5', b'50']))
+
     def reckoned(self):
         """Orders, passes, circles, and Manual with CALC."""
         r = self.r
-        orders = [lambda: self.done(r.choice(['wgr.natural', 'wgr.columnwise', 'wgr.rowwise'])),
-                  lambda: self.done('wgr.iteration', r.choice([b'1', b'2', b'3', b'5', b'3', b'50'])),
-                  lambda: self.done('wgr.manual'), lambda: self.done('wgr.automatic')]
+        part = [self.order, self.passes, lambda: self.done('wgr.manual'), lambda: self.done('wgr.automatic')]
         circle = lambda: self.at(r.choice([b'A1', b'B1', b'A2', b'C3'])) + r.choice([b'+A1+1', b'+B1+1', b'+A2*2', b'@SUM(A1..B2)', b'5', b'+C3+B1',
                                                                                     b'@CELLPOINTER("row")', b'@@("B1")']) + r.choice([b'~', b'{DOWN}', b'{RIGHT}'])
-        part = orders + [circle, circle, circle, lambda: b'{CALC}', lambda: b'{CALC 3}', self.typist.entry]
-        keys = b''.join(r.choice(part)() for _ in range(r.randrange(2, 8)))
+        part += [circle, circle, circle, lambda: b'{CALC}', lambda: b'{CALC 3}', self.typist.entry]
+        keys = self.begun() + b''.join(r.choice(part)() for _ in range(r.randrange(2, 8)))
         return keys + r.choice([b'', self.done('wgr.automatic'), b'{CALC}', self.done('wgr.iteration', b'1')])
+
+    def ordered(self):
+        """Formulas whose values tell in which order and how often they were evaluated."""
+        r = self.r
+        cells = [b'{GOTO}A2~+B1+1~', b'{GOTO}B1~+A1*2~', b'{GOTO}C1~+A3~', b'{GOTO}A3~+C1+B1~', b'{GOTO}C2~+C2+1~', b'{GOTO}B3~+A2+C2~']
+        r.shuffle(cells)
+        keys = self.begun() + self.order() + (self.passes() if r.randrange(2) else b'') + b''.join(cells[:r.randrange(3, 7)])
+        return keys + b'{GOTO}A1~%d~' % r.randrange(1, 9) + r.choice([b'', b'{CALC}', self.order() + b'{CALC}', self.passes() + b'{CALC}'])
+
+    def freshened(self):
+        """Settings, and a fresh sheet, or not."""
+        r = self.r
+        some = [lambda: self.done('wgc', b'%d' % r.randrange(3, 20)), lambda: self.done('wc.set', b'%d' % r.randrange(3, 20)),
+                lambda: self.done('wc.hide', b'B1..C1'), lambda: self.done(r.choice(['wgl.right', 'wgl.center', 'wgf.text', 'wgf.date1', 'wgr.manual'])),
+                lambda: self.done('wgp.enable'), self.order, self.passes, lambda: self.format(b'A1..B3'), lambda: self.column(b'B2')]
+        keys = b'{BREAK}' + b''.join(r.choice(some)() for _ in range(r.randrange(1, 5)))
+        keys += self.way(self.way_to['we.yes'][:-1]) + r.choice([b'y', b'y', b'{LEFT}~', b'Y', b'N', b'~', b'{ESC 3}'])
+        return keys + r.choice([b'', self.looked([b'A1', b'B2', b'C1']), self.content() + b'{RIGHT}', self.content() + b'{CALC}', b'+A1+1{CALC}~'])
+
+    def numbered(self):
+        """Whole numbers at their bounds and beside them."""
+        r = self.r
+        asking = [action for action, _ in self.ways if menu.prompts(action) and isinstance(menu.prompts(action)[0][1], tuple)]
+        return self.begun() + b''.join(self.done(r.choice(asking)) + self.behind() for _ in range(r.randrange(1, 4)))
 
     def wandered(self):
         """Keys that come to this or that in the menus."""
@@ -246,7 +304,11 @@ class MenuKeys:
         """Quit that is taken, and mostly keys behind it."""
         return b'{BREAK}' + self.way(self.way_to['q.yes'], True)
 
+    def scene(self):
+        """Commands that belong together."""
+        return self.r.choice([self.copied, self.guarded, self.formatted, self.erased, self.labelled, self.columns, self.numbered, self.reckoned,
+                              self.ordered, self.freshened])()
+
     def part(self):
-        many = [self.command] * 8 + [self.formatted, self.copied, self.copied, self.guarded, self.guarded, self.labelled, self.columns,
-                                     self.columns, self.reckoned, self.reckoned, self.wandered, self.stayed]
+        many = [self.scene] * 16 + [self.command] * 7 + [self.wandered, self.stayed]
         return self.too_long() if self.r.randrange(40) == 0 else self.r.choice(many)()

@@ -146,6 +146,8 @@ class Typist:
     def keys(self):
         r = self.r
         parts = [self.part() for _ in range(r.choice([0, 1, 3, 8, 15, 30]))]
+        if r.randrange(2):
+            parts.insert(0, self.menus.scene())
         if r.randrange(8) == 0:
             parts.insert(r.randrange(len(parts) + 1), self.menus.quit())
         out = b''.join(parts)
