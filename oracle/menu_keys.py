@@ -85,8 +85,8 @@ class MenuKeys:
         r = self.r
         if r.randrange(12) == 0:
             keys += self.typist.line_keys()
-        if r.randrange(12) == 0:
-            keys += r.choice([b'{UP}', b'{NAME}', b'{PGDN}', b'{ESC}B2', b'{ESC}', b'{CALC}', b'{ABS}', b'{GOTO}', b'{EDIT}'])
+        if r.randrange(6) == 0:
+            keys += r.choice([b'{UP}', b'{DOWN}', b'{NAME}', b'{PGUP}', b'{PGDN}', b'{ESC}B2', b'{ESC}', b'{CALC}', b'{ABS}', b'{GOTO}', b'{EDIT}'])
         return keys + r.choice([b'~'] * 24 + [b'{ESC}{ESC}', b'{BREAK}', b'{ESC}B2~', b'{ESC 3}{BREAK}'])
 
     def steered(self):
