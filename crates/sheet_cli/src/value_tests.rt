@@ -151,7 +151,7 @@ fn bytes_begin_values_and_labels(rt: HostRuntime) -> Result<(), Fail> {
     keys_show(&rt, b"$", 0, "", 1, &[(0, 73, "VALUE"), (1, 0, "$ ")])?;
     keys_show(&rt, b"*", 0, "", 1, &[(0, 73, "LABEL"), (1, 0, "* ")])?;
     keys_show(&rt, b" A", 0, "", 2, &[(0, 73, "LABEL"), (1, 0, " A ")])?;
-    keys_show(&rt, b"/", 0, "", 1, &[(0, 73, "READY"), (1, 0, "  ")])?;
+    keys_show(&rt, b"/", 0, "", 1, &[(0, 73, "MENU "), (1, 0, "[")])?;
     keys_show(
         &rt,
         b"1{calc}2",
