@@ -2,7 +2,7 @@
 use Rattle.std.specs.Prelude.{ℕ, Bool, true, false, List, [], ◌∷◌, flat_map, Option, None, Some, Result}
 use Rattle.std.specs.FinMap as map
 use Rattle.command_desk.specs.Acting.{finished, given, refused, written, Acted}
-use Rattle.command_desk.specs.Answered.{span_at, whole_at}
+use Rattle.command_desk.specs.Answered.{line_at, span_at, whole_at}
 use Rattle.command_desk.specs.Formats.{code_of}
 use Rattle.command_desk.specs.declared.formats.FormatChoice.{FormatChoice}
 use Rattle.command_desk.specs.declared.formats.FormatChoice.TheVariants as choice
@@ -17,12 +17,14 @@ use Rattle.lics_text.specs.declared.prefix.LabelPrefix.TheVariants.{Left, Right,
 use Rattle.menu_tree.specs.declared.menu.Action.TheVariants as action
 use Rattle.menu_tree.specs.declared.menu.RangeAction.{RangeAction}
 use Rattle.menu_tree.specs.declared.menu.RangeAction.TheVariants as range
+use Rattle.range_names.specs.Names.{fault_of, key_of}
+use Rattle.range_names.specs.declared.fault.NameFault.{NameFault}
 use Rattle.sheet_edits.specs.Spans.{target_of, with_code, with_mark, written_cells}
 use Rattle.sheet_store.specs.Grid.{cells_within, Grid}
 use Rattle.sheet_store.specs.declared.state.CellState.{CellState}
 use Rattle.sheet_store.specs.declared.writes.Write.{Write}
 use Rattle.work_sheet.specs.Cells.{cells_of}
-use Rattle.work_sheet.specs.Doing.{quiet}
+use Rattle.work_sheet.specs.Doing.{quiet, Done}
 use Rattle.work_sheet.specs.Editing as editing
 use Rattle.work_sheet.specs.Seen.{Sheet}
 
@@ -62,6 +64,36 @@ module _ (answers : List (List ℕ)) (s : Sheet) where
   abbrev pub marked : Bool → Acted
   marked b = with_span 0 (λ span. finished (editing.reformatted span (with_mark b) s))
 
+-- a text that can't be a name refuses a command
+abbrev pub unless_faulty : Option NameFault → Acted → Sheet → Acted
+unless_faulty None a s = a
+unless_faulty (Some fault) a s = refused (error.InvalidName fault) s
+
+-- a span has a name, which it takes from another where that has it
+abbrev pub with_name : List ℕ → Extent → Sheet → Done
+with_name name span s = editing.with_names (map.insert s.names (key_of name) span) s
+
+-- the span that the second answer is takes a name
+abbrev pub span_named : List ℕ → List (List ℕ) → Sheet → Acted
+span_named name answers s = with_span answers s 1 (λ span. finished (with_name name span s))
+
+-- the first answer becomes a name of the span that the second one is
+abbrev pub name_created : List (List ℕ) → Sheet → Acted
+name_created answers s = unless_faulty (fault_of (line_at answers 0)) (span_named (line_at answers 0) answers s) s
+
+-- a name goes, where it is there
+abbrev pub taken_away : Option Extent → List ℕ → Sheet → Acted
+taken_away None name s = refused (error.NameNotFound 0) s
+taken_away (Some span) name s = finished (editing.with_names (map.remove s.names (key_of name)) s)
+
+-- a name goes
+abbrev pub name_deleted : List ℕ → Sheet → Acted
+name_deleted name s = unless_faulty (fault_of name) (taken_away (map.get s.names (key_of name)) name s) s
+
+-- all names go
+abbrev pub names_reset : Sheet → Acted
+names_reset s = finished (editing.with_names map.empty s)
+
 -- the cells of a span become blank
 abbrev pub erased_span : Extent → Scene → Sheet → Acted
 erased_span span scene s = written (cells_of span) (editing.erased span s) scene s
@@ -90,7 +122,7 @@ module _ (answers : List (List ℕ)) (scene : Scene) (s : Sheet) where
   abbrev pub copied : Acted
   copied = with_span answers s 0 (λ from. with_span answers s 1 (λ to. copied_onto (target_of from to) from scene s))
 
-  -- what a command below Range does; names, Value and Transpose aren't built yet
+  -- what a command below Range does; Value and Transpose aren't built yet
   abbrev pub act : RangeAction → Acted
   act range.Erase = erased
   act range.Protect = marked answers s true
@@ -111,6 +143,6 @@ module _ (answers : List (List ℕ)) (scene : Scene) (s : Sheet) where
   act range.LabelLeft = labelled Left
   act range.LabelRight = labelled Right
   act range.LabelCenter = labelled Center
-  act range.NameCreate = finished (quiet s)
-  act range.NameDelete = finished (quiet s)
-  act range.NameReset = finished (quiet s)
+  act range.NameCreate = name_created answers s
+  act range.NameDelete = name_deleted (line_at answers 0) s
+  act range.NameReset = names_reset s

@@ -6,7 +6,8 @@ ghost use Rattle.work_sheet.specs.Seen.{of_worksheet};
 
 use crate::formats::{decimals_of, formatted, marked};
 use crate::labels::labelled;
-use command_desk::{CommandEnd, FormatChoice, settled, span_at};
+use crate::naming::{create_name, delete_name, reset_names};
+use command_desk::{CommandEnd, FormatChoice, line_at, settled, span_at};
 use formula_eval::{Scene, Tally};
 use grid_address::Span;
 use lics_text::{LabelPrefix, Memory};
@@ -44,21 +45,24 @@ fn erased(
     }
 }
 
-/// Carries out a command below Range with its answers (Release 2 manual). Names, Value and Transpose aren't built yet,
-/// and do nothing.
+/// Carries out a command below Range with its answers (Release 2 manual). Value and Transpose aren't built yet, and do
+/// nothing.
 ///
 /// - Format gives the cells of the span a format, and Reset the sheet's. Protect and Unprotect set their protection
 ///   marks and take them away. Each keeps what the other sets, may be done while protection is on, and is no change of
 ///   contents: nothing is recalculated (this project's choice).
 /// - Label gives the labels of the span another prefix, and writes no other cell: a protected cell without a label
 ///   doesn't refuse it, and a span without labels counts as changed all the same (this project's choice).
+/// - Name, Create gives the span a name, and a name that is there the new span; Delete takes a name away, and Reset all
+///   of them. No content changes: nothing is recalculated.
 /// - Erase makes the cells of the span blank; they keep their formats. Blank cells are written too (this project's
 ///   choice), and a cell of which the sheet holds nothing is protected.
 ///
 /// In Automatic mode a recalculation follows Label and Erase; where there is no memory for it, the edit stands.
 ///
 /// A command is refused by the first of these, and then leaves the sheet as it was: `InvalidNumber`, where the decimals
-/// aren't a whole number from 0 to 15; `InvalidAddress` or `NameNotFound` for the span; `Protected` with the first cell
+/// aren't a whole number from 0 to 15; `InvalidName`, where the first answer is to be a name and can't be one;
+/// `NameNotFound`, where the name to delete isn't there; `InvalidAddress` or `NameNotFound` for the span; `Protected` with the first cell
 /// in row order that Label or Erase would write and that is protected, where protection is on.
 pub fn act(
     action: RangeAction,
@@ -100,10 +104,9 @@ pub fn act(
         RangeAction::LabelLeft => labelled(LabelPrefix::Left, answers, sheet, scene, tally),
         RangeAction::LabelRight => labelled(LabelPrefix::Right, answers, sheet, scene, tally),
         RangeAction::LabelCenter => labelled(LabelPrefix::Center, answers, sheet, scene, tally),
-        RangeAction::Value
-        | RangeAction::Transpose
-        | RangeAction::NameCreate
-        | RangeAction::NameDelete
-        | RangeAction::NameReset => Ok(CommandEnd::Finished),
+        RangeAction::NameCreate => create_name(answers, sheet),
+        RangeAction::NameDelete => Ok(delete_name(line_at(answers, 0), sheet)),
+        RangeAction::NameReset => Ok(reset_names(sheet)),
+        RangeAction::Value | RangeAction::Transpose => Ok(CommandEnd::Finished),
     }
 }

@@ -5,6 +5,7 @@ mod acting;
 mod copying;
 mod formats;
 mod labels;
+mod naming;
 
 pub use acting::act;
 pub use copying::copy;
