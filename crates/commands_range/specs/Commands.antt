@@ -2,10 +2,13 @@
 use Rattle.std.specs.Prelude.{ℕ, Bool, true, false, List, [], ◌∷◌, flat_map, Option, None, Some, Result}
 use Rattle.std.specs.FinMap as map
 use Rattle.command_desk.specs.Acting.{finished, given, refused, written, Acted}
-use Rattle.command_desk.specs.Answered.{line_at, span_at, whole_at}
+use Rattle.command_desk.specs.Answered.{cell_at, line_at, span_at, whole_at}
 use Rattle.command_desk.specs.Formats.{code_of}
 use Rattle.command_desk.specs.declared.formats.FormatChoice.{FormatChoice}
 use Rattle.command_desk.specs.declared.formats.FormatChoice.TheVariants as choice
+use Rattle.commands_range.specs.Valued.{valued_from}
+use Rattle.commands_range.specs.declared.values.Layout.{Layout}
+use Rattle.commands_range.specs.declared.values.Layout.TheVariants as layout
 use Rattle.desk_errors.specs.declared.error.CommandError.{CommandError}
 use Rattle.desk_errors.specs.declared.error.CommandError.TheVariants as error
 use Rattle.formula_eval.specs.declared.look.Scene.{Scene}
@@ -24,7 +27,7 @@ use Rattle.sheet_store.specs.Grid.{cells_within, Grid}
 use Rattle.sheet_store.specs.declared.state.CellState.{CellState}
 use Rattle.sheet_store.specs.declared.writes.Write.{Write}
 use Rattle.work_sheet.specs.Cells.{cells_of}
-use Rattle.work_sheet.specs.Doing.{quiet, Done}
+use Rattle.work_sheet.specs.Doing.{Done}
 use Rattle.work_sheet.specs.Editing as editing
 use Rattle.work_sheet.specs.Seen.{Sheet}
 
@@ -122,13 +125,17 @@ module _ (answers : List (List ℕ)) (scene : Scene) (s : Sheet) where
   abbrev pub copied : Acted
   copied = with_span answers s 0 (λ from. with_span answers s 1 (λ to. copied_onto (target_of from to) from scene s))
 
-  -- what a command below Range does; Value and Transpose aren't built yet
+  -- the values of a span are written, laid out from a cell on
+  abbrev pub valued : Layout → Acted
+  valued l = with_span answers s 0 (λ from. given (cell_at s.names answers 1) (λ to. valued_from l from to scene s) s)
+
+  -- what a command below Range does
   abbrev pub act : RangeAction → Acted
   act range.Erase = erased
   act range.Protect = marked answers s true
   act range.Unprotect = marked answers s false
-  act range.Value = finished (quiet s)
-  act range.Transpose = finished (quiet s)
+  act range.Value = valued layout.Straight
+  act range.Transpose = valued layout.Turned
   act range.Fixed = with_decimals answers s range.Fixed choice.Fixed
   act range.Currency = with_decimals answers s range.Currency choice.Currency
   act range.Comma = with_decimals answers s range.Comma choice.Comma

@@ -7,6 +7,7 @@ ghost use Rattle.work_sheet.specs.Seen.{of_worksheet};
 use crate::formats::{decimals_of, formatted, marked};
 use crate::labels::labelled;
 use crate::naming::{create_name, delete_name, reset_names};
+use crate::values::{Layout, valued};
 use command_desk::{CommandEnd, FormatChoice, line_at, settled, span_at};
 use formula_eval::{Scene, Tally};
 use grid_address::Span;
@@ -45,8 +46,7 @@ fn erased(
     }
 }
 
-/// Carries out a command below Range with its answers (Release 2 manual). Value and Transpose aren't built yet, and do
-/// nothing.
+/// Carries out a command below Range with its answers (Release 2 manual).
 ///
 /// - Format gives the cells of the span a format, and Reset the sheet's. Protect and Unprotect set their protection
 ///   marks and take them away. Each keeps what the other sets, may be done while protection is on, and is no change of
@@ -57,13 +57,18 @@ fn erased(
 ///   of them. No content changes: nothing is recalculated.
 /// - Erase makes the cells of the span blank; they keep their formats. Blank cells are written too (this project's
 ///   choice), and a cell of which the sheet holds nothing is protected.
+/// - Value writes the values and the formats of the span from the cell on that the second answer is, and Transpose with
+///   rows and columns exchanged. A text is written as a label with `'`, ERR as `@ERR` and NA as `@NA`; blank cells are
+///   written too (this project's choice). All is read before a cell is written.
 ///
-/// In Automatic mode a recalculation follows Label and Erase; where there is no memory for it, the edit stands.
+/// In Automatic mode a recalculation follows Label, Erase, Value and Transpose; where there is no memory for it, the
+/// edit stands.
 ///
 /// A command is refused by the first of these, and then leaves the sheet as it was: `InvalidNumber`, where the decimals
 /// aren't a whole number from 0 to 15; `InvalidName`, where the first answer is to be a name and can't be one;
-/// `NameNotFound`, where the name to delete isn't there; `InvalidAddress` or `NameNotFound` for the span; `Protected` with the first cell
-/// in row order that Label or Erase would write and that is protected, where protection is on.
+/// `NameNotFound`, where the name to delete isn't there; `InvalidAddress` or `NameNotFound` for the span, and then for
+/// the cell; `OutOfSheet` with the span, where its values would leave the sheet; `Protected` with the first cell in row
+/// order that Label, Erase, Value or Transpose would write and that is protected, where protection is on.
 pub fn act(
     action: RangeAction,
     answers: &Answers,
@@ -107,6 +112,7 @@ pub fn act(
         RangeAction::NameCreate => create_name(answers, sheet),
         RangeAction::NameDelete => Ok(delete_name(line_at(answers, 0), sheet)),
         RangeAction::NameReset => Ok(reset_names(sheet)),
-        RangeAction::Value | RangeAction::Transpose => Ok(CommandEnd::Finished),
+        RangeAction::Value => valued(Layout::Straight, answers, sheet, scene, tally),
+        RangeAction::Transpose => valued(Layout::Turned, answers, sheet, scene, tally),
     }
 }

@@ -6,6 +6,7 @@ mod copying;
 mod formats;
 mod labels;
 mod naming;
+mod values;
 
 pub use acting::act;
 pub use copying::copy;
