@@ -10,8 +10,6 @@ use Rattle.menu_tree.specs.declared.menu.Item.{Item}
 use Rattle.menu_tree.specs.declared.menu.Item.TheVariants as item
 use Rattle.menu_tree.specs.declared.menu.Menu.{Menu}
 use Rattle.menu_tree.specs.declared.menu.Menu.TheVariants as menu
-use Rattle.menu_tree.specs.declared.menu.RangeAction.{RangeAction}
-use Rattle.menu_tree.specs.declared.menu.RangeAction.TheVariants as range
 use Rattle.menu_tree.specs.declared.menu.WorksheetAction.{WorksheetAction}
 use Rattle.menu_tree.specs.declared.menu.WorksheetAction.TheVariants as worksheet
 
@@ -19,7 +17,6 @@ use Rattle.menu_tree.specs.declared.menu.WorksheetAction.TheVariants as workshee
 abbrev pub is_menu_built : Menu → Bool
 is_menu_built menu.Insert = false
 is_menu_built menu.Delete = false
-is_menu_built menu.Name = false
 is_menu_built menu.File = false
 is_menu_built menu.Combine = false
 is_menu_built menu.Xtract = false
@@ -49,20 +46,11 @@ is_worksheet_built worksheet.DeleteColumn = false
 is_worksheet_built worksheet.DeleteRow = false
 is_worksheet_built a = true
 
--- all but names, Value and Transpose
-abbrev pub is_range_built : RangeAction → Bool
-is_range_built range.Value = false
-is_range_built range.Transpose = false
-is_range_built range.NameCreate = false
-is_range_built range.NameDelete = false
-is_range_built range.NameReset = false
-is_range_built a = true
-
 -- whether a command is built
 abbrev pub is_built : Action → Bool
 is_built (action.Common a) = is_common_built a
 is_built (action.Worksheet a) = is_worksheet_built a
-is_built (action.Range a) = is_range_built a
+is_built (action.Range a) = true
 is_built (action.File a) = false
 is_built (action.Print a) = false
 is_built (action.Data a) = false

@@ -3,7 +3,7 @@ ghost use Rattle.std.specs.Prelude.{◌≡◌};
 ghost use Rattle.menu_tree.specs.Shown.{shown};
 
 use crate::tables::items;
-use crate::{Action, CommonAction, Item, Menu, RangeAction};
+use crate::{Action, CommonAction, Item, Menu};
 
 const MAIN: [Item; 4] = [
     Item::Menu(Menu::Worksheet),
@@ -18,14 +18,6 @@ const WORKSHEET: [Item; 3] = [
     Item::Menu(Menu::WorksheetErase),
 ];
 
-const RANGE: [Item; 5] = [
-    Item::Menu(Menu::RangeFormat),
-    Item::Menu(Menu::Label),
-    Item::Action(Action::Range(RangeAction::Erase)),
-    Item::Action(Action::Range(RangeAction::Protect)),
-    Item::Action(Action::Range(RangeAction::Unprotect)),
-];
-
 /// The items that a menu shows, in their order: those of its items whose commands are built.
 pub fn shown(menu: Menu) -> &'static [Item]
     ensures { result.now ≡ shown menu }
@@ -33,14 +25,14 @@ pub fn shown(menu: Menu) -> &'static [Item]
     match menu {
         Menu::Main => &MAIN,
         Menu::Worksheet => &WORKSHEET,
-        Menu::Range => &RANGE,
-        Menu::Insert | Menu::Delete | Menu::Name => &[],
+        Menu::Insert | Menu::Delete => &[],
         Menu::File | Menu::Combine | Menu::Xtract => &[],
         Menu::Print | Menu::PrintFileMenu | Menu::Options | Menu::Margins => &[],
         Menu::Data | Menu::Table | Menu::Sort | Menu::Query | Menu::QueryDelete => &[],
         Menu::Global | Menu::GlobalFormat | Menu::GlobalDate => items(menu),
         Menu::LabelPrefix | Menu::Recalculation | Menu::Protection => items(menu),
         Menu::Column | Menu::WorksheetErase => items(menu),
-        Menu::RangeFormat | Menu::RangeDate | Menu::Label | Menu::Quit => items(menu),
+        Menu::Range | Menu::RangeFormat | Menu::RangeDate | Menu::Label => items(menu),
+        Menu::Name | Menu::Quit => items(menu),
     }
 }
