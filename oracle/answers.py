@@ -20,9 +20,6 @@ NOT_BUILT = {b'DSUM', b'DAVG', b'DCOUNT', b'DMIN', b'DMAX'}
 NOT_IN_MENUS = {
     'wi',            # Worksheet > Insert
     'wd',            # Worksheet > Delete
-    'rn',            # Range > Name
-    'r.value',       # Range > Value
-    'r.transpose',   # Range > Transpose
     'move',          # Move
     'f',             # File
     'p',             # Print

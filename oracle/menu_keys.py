@@ -13,6 +13,11 @@ NOT_WHOLE = [b'2.5', b'0.5', b'1.5', b'12.25', b'3.000001']
 NUMBERS = [b'0', b'5', b'1234.5', b'-1234.567', b'0.000001', b'31929', b'999999999', b'-0.4', b'73051', b'0.5', b'60', b'12345678.9']
 LABELS = [b'Tax', b"'left", b'"right', b'^mid', b'\\-=', b'|not printed', b'a longer label than its column']
 REFERENCES = [b'A1', b'B2', b'C3', b'$A$1', b'$B2', b'C$3', b'D4', b'A8192', b'IV1', b'$IV$8192', b'B1']
+NAMES = [b'TOTAL', b'RATE', b'Rate', b'total', b'TAX_RATE', b'NET PAY', b'1', b'Q', b'IW1', b'A1', b'EXACTLY15LETTER', b'x.y', b'\\A', b'RATE2']
+NO_NAMES = [b'', b'SIXTEEN_LETTERS_', b' RATE', b' ', b'SIXTEENLETTERS 1']
+# formulas where these names may be there; where they aren't, the line goes to EDIT
+WITH_NAMES = [b'+RATE*2', b'@SUM(TOTAL)', b'$RATE+1', b'+$rate+$1', b'@COUNT(TOTAL)+@SUM($TAX_RATE)', b'@SUM(TOTAL,RATE)', b'+total&"x"', b'+A1+RATE',
+              b'@ROWS(TOTAL)*@COLS(q)', b'-IW1', b'+EXACTLY15LETTER', b'@MAX(A1..B3,Q)', b'+$Q*$RATE']
 # keys that a menu passes over; only where a menu is surely there also those that mean something in READY once they are built
 PASSED = [b'{UP}', b'{DOWN}', b'{PGUP}', b'{PGDN}', b'{EDIT}', b'{CALC}', b'{ABS}', b'{NAME}', b'{DEL}', b'{BS}', b'{GOTO}', b'{BIGLEFT}',
           b'{BIGRIGHT}', b'{WINDOW}', b'{GRAPH}', b'z', b' ', b'5', b'/', b'.', b'[']
@@ -32,7 +37,7 @@ def ways(path='main', way=()):
 
 # how often a command is taken, where not twice
 WEIGHTS = {'copy': 10, 'r.erase': 4, 'wgp.enable': 1, 'wgr.manual': 1, 'wgr.automatic': 3, 'wgp.disable': 3, 'we.yes': 4, 'q.yes': 0,
-           'wc.hide': 1, 'wc.display': 4, 'wgf.hidden': 1, 'rf.hidden': 1}
+           'wc.hide': 1, 'wc.display': 4, 'wgf.hidden': 1, 'rf.hidden': 1, 'rn.create': 6, 'r.value': 5, 'r.transpose': 5}
 
 
 class MenuKeys:
@@ -109,7 +114,25 @@ class MenuKeys:
         r = self.r
         if r.randrange(8) == 0:
             return self.typist.typed(r.choice(NO_SPANS))
+        if r.randrange(10) == 0:
+            return self.by_name()
         return self.typist.typed(self.span()) if r.randrange(3) else self.steered()
+
+    # a prompt for a cell takes a range as well
+    asked_C = asked_R
+
+    def by_name(self):
+        """A name that may be there: typed, or found by NAME."""
+        r = self.r
+        return r.choice([lambda: self.typist.typed(r.choice(NAMES)), lambda: b'{NAME}' * r.randrange(1, 5), lambda: b'{NAME 2}{BS}',
+                         lambda: b'{NAME}{NAME}'])()
+
+    def asked_name(self):
+        """A name to create, which may be there, or a text that is no name."""
+        r = self.r
+        return self.by_name() if r.randrange(4) == 0 else self.typist.typed(r.choice(NO_NAMES if r.randrange(8) == 0 else NAMES))
+
+    asked_old = asked_name
 
     def asked_N(self, low, high):
         r = self.r
@@ -123,7 +146,7 @@ class MenuKeys:
     def answer(self, ask):
         """An answer to a prompt of any kind that is built: a kind has its maker."""
         kind, *bounds = ask if isinstance(ask, tuple) else (ask,)
-        return self.answered(getattr(self, 'asked_' + kind)(*bounds))
+        return self.answered(getattr(self, 'asked_' + kind.split(':')[-1])(*bounds))
 
     # ------------------------------------------------------------ commands
     def done(self, action, *answers):
@@ -243,6 +266,41 @@ class MenuKeys:
         keys = b''.join(r.choice(part)() + self.behind() for _ in range(r.randrange(2, 7)))
         return keys + (b'{BREAK}' + self.done('wc.display', EVERYWHERE) if r.randrange(4) else b'')
 
+    def named(self):
+        """Names that are created, move and go, formulas with them, and answers by them."""
+        r = self.r
+        span = lambda: r.choice([b'A1', b'B2..B5', b'A1..C3', b'B2', b'C4..B1', b'A1..A4', self.span()])
+        create = lambda: self.done('rn.create', self.typist.typed(r.choice(NAMES)), span())
+        keys = self.begun() + self.column(r.choice([b'A1', b'B2'])) + b''.join(create() for _ in range(r.randrange(1, 4)))
+        formula = lambda: self.at(r.choice([b'D1', b'D2', b'E5'])) + self.typist.typed(r.choice(WITH_NAMES)) + r.choice(
+            [b'~', b'~', b'{DOWN}', b'{EDIT}~', b'{EDIT}{BS}~']) + r.choice([b'{ESC}{ESC}', b'{ESC}{ESC}', b'{BREAK}'])
+        part = [create, create, formula, formula, formula, lambda: self.done('rn.delete', self.typist.typed(r.choice(NAMES))) + b'{ESC}',
+                lambda: self.done('rn.delete'), lambda: self.done('rn.create'), lambda: self.done('rn.reset'),
+                lambda: b'{GOTO}' + self.by_name() + b'~{ESC 2}', lambda: self.done('copy', self.by_name(), r.choice([b'F1', b'D8'])),
+                lambda: self.done(r.choice(['r.value', 'r.transpose']), self.by_name(), r.choice([b'F1', b'TOTAL', b'B2'])),
+                lambda: self.format(self.by_name()), lambda: self.at(r.choice([b'D1', b'D2'])) + b'{EDIT}' + r.choice([b'~', b'+1~', b'{ESC 2}', b'{HOME}{DEL}~{ESC 2}']),
+                lambda: self.done('copy', b'D1..D2', b'E5'), lambda: self.at(r.choice([b'A1', b'B3'])) + self.content() + b'~']
+        for _ in range(r.randrange(2, 8)):
+            keys += r.choice(part)() + self.behind()
+        return keys + self.looked([b'D1', b'D2', b'E5', b'F1', b'A1'])
+
+    def valued(self):
+        """Values of all kinds with formats and marks, written elsewhere as they stand or turned: over themselves and past the sheet too."""
+        r = self.r
+        corner = r.choice([b'A1', b'B2'])
+        keys = self.begun() + self.column(corner) + self.column(r.choice([b'B1', b'C2', b'A3']))
+        keys += r.choice([b'', self.at(b'B3') + r.choice([b'@ERR~', b'@NA~', b'+"text"&"s"~', b'+1/3~', b'+A1/0~', b'^mid~'])])
+        keys += self.marked(r.choice([b'A1..C5', b'B2..B4', b'A1'])) + (self.done('wgr.manual') if r.randrange(6) == 0 else b'')
+        guarded = r.randrange(5) == 0
+        for _ in range(r.randrange(1, 4)):
+            source = r.choice([b'A1..A4', b'B2..C5', b'A1..C1', b'A1', b'A1..C5', b'B3..B2', self.span()])
+            to = r.choice([b'E1', b'A1', b'B2', b'B1', b'A3', b'C3', b'D4', b'IV8192', b'A8192', b'IV1', b'IU8191', b'A8190', b'B3..C4'])
+            keys += self.done(r.choice(['r.value', 'r.transpose']), source, to) + self.behind()
+            if guarded:
+                keys += b'{BREAK}' + self.done('r.unprotect', r.choice([b'E1', b'E1..H4', b'A1..D4', b'D4..D8'])) + self.done('wgp.enable')
+        keys += b'{BREAK}' + self.done('wgp.disable') if guarded and r.randrange(4) else b''
+        return keys + self.looked([b'E1', b'E2', b'F1', b'A1', b'B2', b'C3', b'D4', b'B3'])
+
     def order(self):
         return self.done(self.r.choice(['wgr.natural', 'wgr.columnwise', 'wgr.rowwise']))
 
@@ -307,7 +365,7 @@ class MenuKeys:
     def scene(self):
         """Commands that belong together."""
         return self.r.choice([self.copied, self.guarded, self.formatted, self.erased, self.labelled, self.columns, self.numbered, self.reckoned,
-                              self.ordered, self.freshened])()
+                              self.ordered, self.freshened, self.named, self.named, self.valued, self.valued])()
 
     def part(self):
         many = [self.scene] * 16 + [self.command] * 7 + [self.wandered, self.stayed]

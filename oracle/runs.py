@@ -128,8 +128,8 @@ class Typist:
     def goto(self):
         """GOTO with an answer that is typed or pointed at, good or not."""
         r = self.r
-        typed = lambda: self.typed(r.choice([b'A1', b'B7', b'C3', b'IV8192', b'J40', b'b2..c9', b'A1.B2', b'Z100', b'A0', b'IW1', b'NONAME', b'1+', b'A1..', b'', b'A$1', b'N0 NAME', b'A8193']))
-        answer = typed() if r.randrange(3) else self.pointing()
+        typed = lambda: self.typed(r.choice([b'A1', b'B7', b'C3', b'IV8192', b'J40', b'b2..c9', b'A1.B2', b'Z100', b'A0', b'IW1', b'NONAME', b'1+', b'A1..', b'', b'A$1', b'N0 NAME', b'A8193', b'TOTAL', b'rate', b'NET PAY']))
+        answer = r.choice([typed, typed, typed, typed, self.pointing, self.pointing, self.menus.by_name])()
         return b'{GOTO}' + answer + r.choice([b'~', b'~', b'~', b'{ESC}{ESC}', b'{BREAK}', b'{ESC}A3~']) + r.choice([b'', b'{ESC}', b'~'])
 
     def other(self):
