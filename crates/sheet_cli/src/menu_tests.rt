@@ -64,10 +64,32 @@ X~/WGC4~{RIGHT}Y~|11|0|READY|B1: 'Y | |4|   1X   Y    |
 +$B$1+B1~{RIGHT}1~{DOWN}2~{HOME}/C~A2~{DOWN}|23|3|READY|A2: $B$1+B2 | |5|   2       3        2 |
 1~/C~B1.D1~{RIGHT 3}|14|0|READY|D1: 1 | |4|   1       1        1        1        1 |
 1~{DOWN}2~{UP}/CA1.A2~B1.C1~{RIGHT 2}|22|0|READY|C1: 1 | |5|   2       2        2        2 |
+3~/RVA1~B1~{RIGHT}|12|0|READY|B1: 3 | |4|   1       3        3 |
++1/3~/RVA1~B1~{RIGHT}|15|1|READY|B1: 0.333333 | |4|   10.333333 0.333333 |
+@ERR~{RIGHT}@NA~{RIGHT}+"x"&"y"~/RVA1.C1~A2~{DOWN}|33|5|READY|C2: 'xy | |5|   2     ERR       NA xy|
+@ERR~{RIGHT}@NA~/RVA1.B1~A2~{DOWN}|23|4|READY|B2: @NA | |5|   2     ERR       NA |
+^M~/RFH~/RVA1~B1~{RIGHT}|18|0|READY|B1: (H) 'M | |4|   1                  |
+5~/RFC2~~/RU~/RVA1~B1~{RIGHT}|23|0|READY|B1: (C2) U 5 | |4|   1   $5.00    $5.00 |
+1~{RIGHT}2~{RIGHT}3~/RVA1.C1~B1~|20|0|READY|C1: 2 | |4|   1       1        1        2        3 |
++B1+1~/RVA1~B1~|15|2|READY|A1: +B1+1 | |4|   1       2        1 |
+1~{RIGHT}7~/RVA2~B1~|14|0|READY|B1:  | |4|   1       1          |
+/WGRM5~{CALC}/RVA1~B1~|17|0|READY|A1: 5 | |24|                                                  CALC         |
+1~{DOWN}2~/RTA1.A2~C1~|17|0|READY|A2: 2 | |4|   1       1                 1        2 |
+3~{DOWN}1~{DOWN}2~/RTA1.A3~C1~|20|0|READY|A3: 2 | |4|   1       3                 3        1        2 |
+1~{DOWN}2~{RIGHT}4~{UP}3~/RTA1.B2~D1~|23|0|READY|B1: 3 | |5|   2       2        4                 3        4 |
+1~{DOWN}2~/RTA1.A2~A1~|17|0|READY|A2: 2 | |4|   1       1        2 |
+7~/RNCRATE~~{DOWN}+RATE*2~|21|1|READY|A2: +RATE*2 | |5|   2      14 |
+7~/RNCRATE~~{DOWN}+RATE*2~/RNDRATE~|30|1|READY|A2: +A1*2 | |5|   2      14 |
+7~/RNCRATE~~{DOWN}+RATE*2~/RNDrate~|30|1|READY|A2: +A1*2 | |5|   2      14 |
+7~/RNCRATE~~/RNCTWO~~{DOWN}+RATE*2~/RNR|34|1|READY|A2: +A1*2 | |5|   2      14 |
+7~/RNCRATE~~/RNCrate~B1~{DOWN}+RATE~|31|1|READY|A2: +RATE | |5|   2       0 |
+7~/RNCRATE~~{RIGHT}+$RATE*2~|22|1|READY|B1: $RATE*2 | |4|   1       7       14 |
+1~{RIGHT}2~/RNCT~A1.B1~/REt~|22|0|READY|B1:  | |4|   1                  |
+1~{RIGHT}2~{RIGHT}/RNCTOTAL~A1.B1~@SUM(TOTAL)~|34|1|READY|C1: @SUM(TOTAL) | |4|   1       1        2        3 |
 "#;
 
-// What each command refuses: no address, no name that is there, no number within the bounds, a protected cell, and a
-// copy past the sheet.
+// What each command refuses: no address, no name that is there, no name at all, no number within the bounds, a
+// protected cell, and what would be written past the sheet.
 const REFUSALS: &str = r#"/RFG A1~|8|0|ERROR|A1:  | |24|Invalid address |
 /RLLABCDEFGHIJKLMNOP~|21|0|ERROR|A1:  | |24|Invalid address |
 /RE A1~|7|0|ERROR|A1:  | |24|Invalid address |
@@ -110,18 +132,44 @@ A~/WGPE/RLR~|12|0|ERROR|A1: PR 'A | |24|Protected cell |
 1~{DOWN}2~/CA1.A2~A8192~|19|0|ERROR|A2: 2 | |24|Range leaves the sheet |
 1~{RIGHT}2~{HOME}/CA1.B1~IV1~|18|0|ERROR|A1: 1 | |24|Range leaves the sheet |
 /WGPE/CA1.B1~IV1~|17|0|ERROR|A1: PR | |24|Range leaves the sheet |
+/RNC~|5|0|ERROR|A1:  | |24|Invalid name |
+/RNC X~|7|0|ERROR|A1:  | |24|Invalid name |
+/RNCSIXTEEN_LETTERS_~|21|0|ERROR|A1:  | |24|Invalid name |
+/RNCX~ A1~|10|0|ERROR|A1:  | |24|Invalid address |
+/RNCX~A0~|9|0|ERROR|A1:  | |24|Name not found |
+/RND~|5|0|ERROR|A1:  | |24|Invalid name |
+/RND X~|7|0|ERROR|A1:  | |24|Invalid name |
+/RNDX~|6|0|ERROR|A1:  | |24|Name not found |
+/RNCX~~/RNR/RNDX~|17|0|ERROR|A1:  | |24|Name not found |
+/RV A1~|7|0|ERROR|A1:  | |24|Invalid address |
+/RVNONAME~|10|0|ERROR|A1:  | |24|Name not found |
+/RVA1~ A1~|10|0|ERROR|A1:  | |24|Invalid address |
+/RVA1~NONAME~|13|0|ERROR|A1:  | |24|Name not found |
+/RT A1~|7|0|ERROR|A1:  | |24|Invalid address |
+/RTNONAME~|10|0|ERROR|A1:  | |24|Name not found |
+/RTA1~ A1~|10|0|ERROR|A1:  | |24|Invalid address |
+/RTA1~NONAME~|13|0|ERROR|A1:  | |24|Name not found |
+1~{DOWN}2~/RVA1.A2~A8192~|20|0|ERROR|A2: 2 | |24|Range leaves the sheet |
+1~{RIGHT}2~/RVA1.B1~IV1~|18|0|ERROR|B1: 2 | |24|Range leaves the sheet |
+1~{DOWN}2~/RTA1.A2~IV1~|18|0|ERROR|A2: 2 | |24|Range leaves the sheet |
+1~{RIGHT}2~/RTA1.B1~A8192~|20|0|ERROR|B1: 2 | |24|Range leaves the sheet |
+1~/WGPE/RVA1~B1~|16|0|ERROR|A1: PR 1 | |24|Protected cell |
+1~/WGPE/RTA1~B1~|16|0|ERROR|A1: PR 1 | |24|Protected cell |
+/WGPE/RU~/RVA1.B1~A1~|21|0|ERROR|A1: U | |24|Protected cell |
+/WGPE/RVA1.A2~A8192~|20|0|ERROR|A1: PR | |24|Range leaves the sheet |
+/WGPE/RTA1.A2~IV1~|18|0|ERROR|A1: PR | |24|Range leaves the sheet |
 "#;
 
 // Menus as they are shown, ways through them, and prompts.
 const MENUS: &str = r#"/|1|0|MENU |A1:  |[Worksheet] Range  Copy  Quit |2|Global  Column  Erase |
 /{LEFT}|2|0|MENU |A1:  | Worksheet  Range  Copy [Quit] |2|No  Yes |
 /wg{RIGHT 3}|6|0|MENU |A1:  | Format  Label-Prefix  Column-Width [Recalculation] Protection |2|Natural  Col|
-/r{END}|3|0|MENU |A1:  | Format  Label  Erase  Protect [Unprotect] |2| |
+/r{END}|3|0|MENU |A1:  | Format  Label  Erase  Name  Protect  Unprotect  Value [Transpose] |2| |
 /WGF|4|0|MENU |A1:  |[Fixed] Currency  ,  General  Percent  Date  Text  Hidden |2| |
 /RF{END}|4|0|MENU |A1:  | Fixed  Currency  ,  General  Percent  Date  Text  Hidden [Reset] |2| |
 /MFDP|5|0|MENU |A1:  |[Worksheet] Range  Copy  Quit |2|Global  Column  Erase |
 /wid|4|0|MENU |A1:  |[Global] Column  Erase |2|Format  Label-Prefix  Column-Width  Recalculation  P|
-/rnvt|5|0|MENU |A1:  |[Format] Label  Erase  Protect  Unprotect |2|Fixed  Currency  ,  General  Per|
+/rnvt|5|0|MENU |A1:  |[Create] Delete  Reset |2|                                                |
 /WGFD|5|0|MENU |A1:  |[1] 2  3 |2| |
 /w{RIGHT 2}~{RIGHT}|6|0|MENU |A1:  | No [Yes] |2| |
 /WC{ESC}|4|0|MENU |A1:  |[Global] Column  Erase |2|Format  Label-Prefix  Column-Width  Recalculatio|
@@ -136,6 +184,17 @@ const MENUS: &str = r#"/|1|0|MENU |A1:  |[Worksheet] Range  Copy  Quit |2|Global
 /WCS12{LEFT}{BS}~|9|0|READY|A1: [W2] | |2| |
 /WCS{UP}5{PGDN}~|8|0|READY|A1: [W5] | |2| |
 /C{NAME}~|4|0|POINT|A1:  |To A1..A1 |2| |
+/RN|3|0|MENU |A1:  |[Create] Delete  Reset |2| |
+/RNC|4|0|EDIT |A1:  |Create |2| |
+/RND|4|0|EDIT |A1:  |Delete |2| |
+/RNCX~|6|0|POINT|A1:  |Range A1..A1 |2| |
+/RVA1~|6|0|POINT|A1:  |To A1 |2| |
+/RT~|4|0|POINT|A1:  |To A1 |2| |
+7~/RNCRATE~~{DOWN}/C{NAME}|16|0|EDIT |A2:  |Copy RATE |2| |
+7~/RNCRATE~~/RNCTAX~~{DOWN}/RE{NAME 2}|27|0|EDIT |A2:  |Erase TAX |2| |
+7~/RNCRATE~~{DOWN}/C{NAME}~~|18|0|READY|A2: 7 | |5|   2       7 |
+/RNCRATE~B2~{GOTO}{NAME}~|15|0|READY|B2:  | |2| |
+7~/RNCRATE~~{RIGHT}+RATE*2~{EDIT}|22|1|EDIT |B1: +RATE*2 |+RATE*2 |2| |
 "#;
 
 // The row's run shows what the row tells.
