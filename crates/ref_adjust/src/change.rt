@@ -73,8 +73,9 @@ fn with_col(cell: Cell, col: Option<u16>) -> Option<Cell>
     }
 }
 
-// Where a cell is after the change; none where it is deleted, or past the sheet.
-fn cell_shifted(change: Change, cell: Cell) -> Option<Cell>
+/// Where a cell is after rows or columns were inserted or deleted: at least one, and none past the last. None comes
+/// exactly where it was deleted or has left the sheet.
+pub fn cell_shifted(change: Change, cell: Cell) -> Option<Cell>
     requires { IsChange change }
     ensures { result ≡ place_shifted change cell }
 {

@@ -8,6 +8,6 @@ mod moves;
 #[cfg(test)]
 mod tests;
 
-pub use change::{Change, shifted, span_shifted};
+pub use change::{Change, cell_shifted, shifted, span_shifted};
 pub use laws::{references_follow_a_change, references_follow_a_move};
-pub use moves::{moved, span_moved};
+pub use moves::{cell_moved, moved, span_moved};

@@ -32,8 +32,9 @@ fn target(from: Span, to: Cell) -> Span
     Span { first: to, last }
 }
 
-// Where a cell is after the move; none where it was overwritten.
-fn cell_moved(from: Span, to: Cell, cell: Cell) -> Option<Cell>
+/// Where a cell is after the span `from` was moved so that its first corner came to `to`. None comes exactly where it
+/// was overwritten.
+pub fn cell_moved(from: Span, to: Cell, cell: Cell) -> Option<Cell>
     requires { FitsAt from to }
     ensures { result ≡ place_moved from to cell }
 {

@@ -1,0 +1,6 @@
+pub mod Apart
+pub mod First
+pub mod Sources
+pub mod Maps
+pub mod Rows
+pub mod Standing
