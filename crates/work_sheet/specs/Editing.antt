@@ -6,6 +6,8 @@ use Rattle.natural_order.specs.Walk.{has}
 use Rattle.range_names.specs.Names.{NameMap}
 use Rattle.sheet_edits.specs.Spans as cell
 use Rattle.sheet_edits.specs.Spans.{source_of, written_all, written_cells}
+use Rattle.sheet_shifts.specs.Shifts.{grid_after, names_after}
+use Rattle.sheet_shifts.specs.declared.shift.Shift.{Shift}
 use Rattle.sheet_store.specs.Choices.{Choices}
 use Rattle.sheet_store.specs.Grid.{set_hidden_of, set_width_of, Grid}
 use Rattle.sheet_store.specs.declared.order.Order.{Order}
@@ -61,6 +63,13 @@ abbrev pub reordered : Order → Sheet → Done
 reordered order s =
     if same_order order s.settings.order then quiet s
     else record { sheet = record s { settings = record s.settings { order = order } }; log = all_dirty s.grid ∷ [] }
+
+-- cells move, and references, names and what columns have of their own follow; all formulas become dirty
+abbrev pub shifted : Shift → Sheet → Done
+shifted shift s = record {
+  sheet = record s { grid = grid_after shift s.grid; names = names_after shift s.names; stale = true };
+  log = all_dirty (grid_after shift s.grid) ∷ [];
+}
 
 -- a sheet that was saved takes the place of another: all its formulas are dirty
 abbrev pub restored : Grid → NameMap → Choices → Sheet → Done

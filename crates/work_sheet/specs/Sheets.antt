@@ -78,3 +78,9 @@ abbrev pub IsFaultOf : Bool → Place → Result (Unit {0}) SheetFault → Type 
 IsFaultOf true cell r = r ≡ Err (faults.Protected cell)
 IsFaultOf false cell (Ok x) = Unit {0}
 IsFaultOf false cell (Err f) = f ≡ faults.Memory
+
+-- an edit is refused by its fault, where it has one, and is refused otherwise for want of memory alone
+abbrev pub IsRefusedBy : Option SheetFault → Result (Unit {0}) SheetFault → Type 0
+IsRefusedBy (Some f) r = r ≡ Err f
+IsRefusedBy None (Ok x) = Unit {0}
+IsRefusedBy None (Err f) = f ≡ faults.Memory

@@ -14,11 +14,13 @@ ghost use Rattle.sheet_store.specs.declared.order.Order.TheVariants as orders;
 ghost use Rattle.sheet_store.specs.declared.writes.SheetFault.TheVariants as faults;
 ghost use Rattle.sheet_store.specs.Grid.{is_formula, is_hidden, is_kept, last_used, width_of, IsSound};
 ghost use Rattle.sheet_edits.specs.Edits.{is_protected, written_state, AreDirtied};
+ghost use Rattle.sheet_shifts.specs.Refusals.{refusal, AreInSheet};
+ghost use Rattle.sheet_shifts.specs.Shifts.{IsShift};
 ghost use Rattle.work_sheet.specs.Did.{Did, DidEdit};
 ghost use Rattle.work_sheet.specs.Doing.{context_in, put, recalculated, with_content};
-ghost use Rattle.work_sheet.specs.Editing.{all_written, copied, erased, reformatted, reordered, restored, with_hidden, with_names, with_settings, with_width};
+ghost use Rattle.work_sheet.specs.Editing.{all_written, copied, erased, reformatted, reordered, restored, shifted, with_hidden, with_names, with_settings, with_width};
 ghost use Rattle.work_sheet.specs.Seen.{fresh_sheet, of_worksheet};
-ghost use Rattle.work_sheet.specs.Sheets.{value_told, AllDirtyIn, IsFaultOf, SameBeside, Worksheet};
+ghost use Rattle.work_sheet.specs.Sheets.{value_told, AllDirtyIn, IsFaultOf, IsRefusedBy, SameBeside, Worksheet};
 ghost use Rattle.sheet_edits.specs.Spans.{changed, rule_of, target_of, with_code, with_mark, written_cells, AreSound, Becomes, HasCode, IsAnswered};
 ghost use Rattle.work_sheet.specs.Typed.{typed};
 
@@ -37,6 +39,7 @@ use sheet_edits::{
     Changes, FormatChange, cells_of, change_cells, copied, erased, first_of, gathered, is_marked,
     reformatted, refusing, state_of, target_of, write_cell, write_cells, write_evaluated,
 };
+use sheet_shifts::{Shift, names_after, refusal, store_after};
 use sheet_store::{CellState, Order, SavedSheet, Settings, SheetFault, Store, Writes, is_formula};
 use std::alloc::Global;
 use std::marker::{Model, PhantomData};
@@ -456,6 +459,45 @@ impl<E: Means> SheetOf<E> {
             Ok(()) => self.put_changes(&cells, changes),
             Err(Memory) => Err(SheetFault::Memory),
         }
+    }
+
+    /// Moves cells: rows or columns are inserted or deleted, or a span is moved. References, names and what columns have
+    /// of their own follow, and all formulas become dirty. `OutOfSheet` carries the moved span that would leave the sheet;
+    /// then `Protected` names the first line's first cell, or the first cell of the span and of its target that is
+    /// protected, where protection is on; then `PushedOff` names the first filled cell that would leave the sheet. The
+    /// sheet is unchanged where the edit is refused.
+    pub fn shift(&mut self, shift: &Shift) -> Result<(), SheetFault>
+        requires { AreInSheet shift.now }
+        ensures fault { IsRefusedBy (refusal self.old.settings self.old.grid.cells shift.now) result }
+        ensures did { OnOk result (DidEdit (shifted shift.now) self.old self.new) }
+        ensures err { OnErr result (self.new ≡ self.old) }
+    {
+        if let Some(fault) = refusal(&self.store, &self.settings, shift) {
+            return Err(fault);
+        }
+        match self.take_shifted(shift) {
+            Ok(()) => Ok(()),
+            Err(Memory) => Err(SheetFault::Memory),
+        }
+    }
+
+    // The cells stand where they were moved to. The sheet is unchanged where there is no memory.
+    fn take_shifted(&mut self, shift: &Shift) -> Result<(), Memory>
+        requires { IsShift shift.now }
+        ensures did { OnOk result (DidEdit (shifted shift.now) self.old self.new) }
+        ensures err { OnErr result (self.new ≡ self.old) }
+    {
+        let store = store_after(&self.store, shift)?;
+        let names = names_after(self.store.alloc(), &self.names, shift)?;
+        let graph = graph_of(&store)?;
+        let formulas = all_dirty(&store)?;
+        let _ = formulas.len();
+        self.store = store;
+        self.names = names;
+        self.graph = graph;
+        self.dirty = formulas;
+        mark(&mut self.stale);
+        Ok(())
     }
 
     /// Gives the cells of a span another format code, 0 to 127; their protection marks stay. It is no change of
