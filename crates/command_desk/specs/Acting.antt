@@ -7,10 +7,13 @@ use Rattle.formula_eval.specs.Mean.{mean}
 use Rattle.formula_eval.specs.declared.look.Scene.{Scene}
 use Rattle.grid_address.specs.Place.{Place}
 use Rattle.sheet_edits.specs.Edits.{is_protected}
+use Rattle.sheet_shifts.specs.Refusals.{refusal}
+use Rattle.sheet_shifts.specs.declared.shift.Shift.{Shift}
 use Rattle.sheet_store.specs.declared.writes.SheetFault.{SheetFault}
 use Rattle.sheet_store.specs.declared.writes.SheetFault.TheVariants as fault
 use Rattle.work_sheet.specs.Did.{work_of, Did}
 use Rattle.work_sheet.specs.Doing.{and_then, quiet, settled, Done, Happened}
+use Rattle.work_sheet.specs.Editing.{shifted}
 use Rattle.work_sheet.specs.Seen.{of_worksheet, Sheet}
 use Rattle.work_sheet.specs.Sheets.{Worksheet}
 use Rattle.work_sheet.specs.Work.{HasWorked}
@@ -58,12 +61,28 @@ unless_protected (Some c) a s = refused (error.Protected c) s
 abbrev pub written : List Place → Done → Scene → Sheet → Acted
 written cells d scene s = unless_protected (first_protected cells s) (edited scene d) s
 
+-- the error of an edit's fault
+abbrev pub error_of : SheetFault → CommandError
+error_of (fault.Protected cell) = error.Protected cell
+error_of (fault.PushedOff cell) = error.PushedOff cell
+error_of (fault.OutOfSheet span) = error.OutOfSheet span
+error_of fault.Memory = error.Memory
+
 -- what a refused edit of the sheet comes to; none is want of memory
 abbrev pub refusal_of : SheetFault → Option CommandEnd
 refusal_of (fault.Protected cell) = Some (Refused (error.Protected cell))
 refusal_of (fault.PushedOff cell) = Some (Refused (error.PushedOff cell))
 refusal_of (fault.OutOfSheet span) = Some (Refused (error.OutOfSheet span))
 refusal_of fault.Memory = None
+
+-- an edit's fault refuses a command
+abbrev pub unless_refused : Option SheetFault → Acted → Sheet → Acted
+unless_refused None a s = a
+unless_refused (Some f) a s = refused (error_of f) s
+
+-- cells are moved, where nothing refuses it
+abbrev pub moved_by : Shift → Scene → Sheet → Acted
+moved_by shift scene s = unless_refused (refusal s.settings s.grid.cells shift) (edited scene (shifted shift s)) s
 
 -- A command that came to this end made of a worksheet another, and of a count of evaluations another.
 pub record HasActed (a : Acted) (came : CommandEnd) (v w : Worksheet) (m n : ℕ) : Type 0 where

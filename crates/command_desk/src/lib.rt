@@ -5,6 +5,7 @@ mod answers;
 mod desk;
 mod ending;
 mod formats;
+mod moving;
 mod ranges;
 mod settling;
 
@@ -12,5 +13,6 @@ pub use answers::{cell_at, line_at, span_at, whole_at};
 pub use desk::Desk;
 pub use ending::{CommandEnd, settled};
 pub use formats::FormatChoice;
+pub use moving::move_cells;
 pub use ranges::{DeskRanges, LastQuery, LastTable, SortKey};
 pub use settling::settle;

@@ -1,5 +1,5 @@
 -- How commands end.
-use Rattle.std.specs.Prelude.{ℕ, ◌≡◌, refl, IfOk, OnErr, OnOk, Option, None, Some, Result, Ok, Err}
+use Rattle.std.specs.Prelude.{ℕ, ◌≡◌, refl, OnErr, OnOk, Option, None, Some, Result, Ok, Err}
 use Rattle.std.specs.Option.{ForSome}
 use Rattle.std.proofs.Common.{subst}
 use Rattle.command_desk.proofs.Ascending.{span_ascends}
@@ -22,11 +22,6 @@ use Rattle.work_sheet.specs.Did.{DidEdit}
 use Rattle.work_sheet.specs.Editing.{copied}
 use Rattle.work_sheet.specs.Seen.{of_worksheet}
 use Rattle.work_sheet.specs.Sheets.{Worksheet}
-
--- where an answer is Ok, what follows of what is told of it
-pub if_ok : {A E : Type 0} (r : Result A E) {P Q : A → Type 0} → ((x : A) → P x → Q x) → IfOk r P → IfOk r Q
-if_ok (Ok x) f p = f x p
-if_ok (Err e) f p = p
 
 -- a refused command
 pub refused_acts : (e : CommandError) (v : Worksheet) (n : ℕ) → HasActed (refused e (of_worksheet v)) (Refused e) v v n n

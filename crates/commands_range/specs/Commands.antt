@@ -1,7 +1,7 @@
--- The commands below Range, and Copy.
+-- The commands below Range, Copy and Move.
 use Rattle.std.specs.Prelude.{ℕ, Bool, true, false, List, [], ◌∷◌, flat_map, Option, None, Some, Result}
 use Rattle.std.specs.FinMap as map
-use Rattle.command_desk.specs.Acting.{finished, given, refused, written, Acted}
+use Rattle.command_desk.specs.Acting.{finished, given, moved_by, refused, written, Acted}
 use Rattle.command_desk.specs.Answered.{cell_at, line_at, span_at, whole_at}
 use Rattle.command_desk.specs.Formats.{code_of}
 use Rattle.command_desk.specs.declared.formats.FormatChoice.{FormatChoice}
@@ -23,6 +23,7 @@ use Rattle.menu_tree.specs.declared.menu.RangeAction.TheVariants as range
 use Rattle.range_names.specs.Names.{fault_of, key_of}
 use Rattle.range_names.specs.declared.fault.NameFault.{NameFault}
 use Rattle.sheet_edits.specs.Spans.{target_of, with_code, with_mark, written_cells}
+use Rattle.sheet_shifts.specs.declared.shift.Shift.TheVariants.{Block}
 use Rattle.sheet_store.specs.Grid.{cells_within, Grid}
 use Rattle.sheet_store.specs.declared.state.CellState.{CellState}
 use Rattle.sheet_store.specs.declared.writes.Write.{Write}
@@ -124,6 +125,11 @@ module _ (answers : List (List ℕ)) (scene : Scene) (s : Sheet) where
   -- a source of one column or one row is repeated over the target
   abbrev pub copied : Acted
   copied = with_span answers s 0 (λ from. with_span answers s 1 (λ to. copied_onto (target_of from to) from scene s))
+
+  -- a span is moved to a cell
+  abbrev pub moved : Acted
+  moved = with_span answers s 0 (λ from.
+      given (cell_at s.names answers 1) (λ to. moved_by (Block from to) scene s) s)
 
   -- the values of a span are written, laid out from a cell on
   abbrev pub valued : Layout → Acted

@@ -1,18 +1,23 @@
 -- The commands below Worksheet.
 use Rattle.std.specs.Prelude.{ℕ, ◌≤◌, Bool, true, false, List, [], ◌∷◌, Option, None, Some, Result, Ok, Err}
 use Rattle.std.specs.List.{range_with_len}
-use Rattle.command_desk.specs.Acting.{edited, finished, given, Acted}
+use Rattle.command_desk.specs.Acting.{edited, finished, given, moved_by, Acted}
 use Rattle.command_desk.specs.Answered.{span_at, whole_at}
 use Rattle.command_desk.specs.Formats.{code_of}
 use Rattle.command_desk.specs.declared.formats.FormatChoice.{FormatChoice}
 use Rattle.command_desk.specs.declared.formats.FormatChoice.TheVariants as choice
+use Rattle.commands_worksheet.specs.declared.lines.LineEdit.{LineEdit}
+use Rattle.commands_worksheet.specs.declared.lines.LineEdit.TheVariants as lines
 use Rattle.desk_errors.specs.declared.error.CommandError.{CommandError}
 use Rattle.formula_eval.specs.declared.look.Scene.{Scene}
-use Rattle.grid_address.specs.Place.{width_of, Extent}
+use Rattle.grid_address.specs.Place.{height_of, width_of, Extent}
 use Rattle.lics_text.specs.declared.prefix.LabelPrefix.TheVariants.{Left, Right, Center}
 use Rattle.menu_tree.specs.declared.menu.Action.TheVariants as action
 use Rattle.menu_tree.specs.declared.menu.WorksheetAction.{WorksheetAction}
 use Rattle.menu_tree.specs.declared.menu.WorksheetAction.TheVariants as worksheet
+use Rattle.ref_adjust.specs.declared.change.Change.{Change}
+use Rattle.ref_adjust.specs.declared.change.Change.TheVariants.{InsertRows, InsertColumns, DeleteRows, DeleteColumns}
+use Rattle.sheet_shifts.specs.declared.shift.Shift.TheVariants.{Lines}
 use Rattle.sheet_store.specs.Choices.{Choices}
 use Rattle.sheet_store.specs.Grid.{set_hidden_of, Grid}
 use Rattle.sheet_store.specs.declared.order.Order.TheVariants as order
@@ -93,19 +98,31 @@ widened width s = finished (with_width s.settings.pointer.col width s)
 abbrev pub widens : List (List ℕ) → Sheet → Acted
 widens answers s = given (whole_at (action.Worksheet worksheet.SetWidth) answers 0) (λ n. widened (Some n) s) s
 
+-- what becomes of the columns or the rows of a span
+abbrev pub change_of : LineEdit → Extent → Change
+change_of lines.InsertColumns span = InsertColumns span.first.col (width_of span)
+change_of lines.InsertRows span = InsertRows span.first.row (height_of span)
+change_of lines.DeleteColumns span = DeleteColumns span.first.col (width_of span)
+change_of lines.DeleteRows span = DeleteRows span.first.row (height_of span)
+
+-- columns or rows come in or go, as many as a span has
+abbrev pub line_edited : LineEdit → List (List ℕ) → Scene → Sheet → Acted
+line_edited edit answers scene s =
+    given (span_at s.names answers 0) (λ span. moved_by (Lines (change_of edit span)) scene s) s
+
 -- a fresh sheet
 abbrev pub erased : Scene → Sheet → Acted
 erased scene s = edited scene (restored fresh_sheet.grid fresh_sheet.names fresh_sheet.settings s)
 
--- what a command below Worksheet does; inserting and deleting aren't built yet
+-- what a command below Worksheet does
 abbrev pub act : WorksheetAction → List (List ℕ) → Scene → Sheet → Acted
 act worksheet.Natural answers scene s = finished (reordered order.Natural s)
 act worksheet.Columnwise answers scene s = finished (reordered order.Columnwise s)
 act worksheet.Rowwise answers scene s = finished (reordered order.Rowwise s)
-act worksheet.InsertColumn answers scene s = finished (quiet s)
-act worksheet.InsertRow answers scene s = finished (quiet s)
-act worksheet.DeleteColumn answers scene s = finished (quiet s)
-act worksheet.DeleteRow answers scene s = finished (quiet s)
+act worksheet.InsertColumn answers scene s = line_edited lines.InsertColumns answers scene s
+act worksheet.InsertRow answers scene s = line_edited lines.InsertRows answers scene s
+act worksheet.DeleteColumn answers scene s = line_edited lines.DeleteColumns answers scene s
+act worksheet.DeleteRow answers scene s = line_edited lines.DeleteRows answers scene s
 act worksheet.SetWidth answers scene s = widens answers s
 act worksheet.ResetWidth answers scene s = widened None s
 act worksheet.Hide answers scene s = hides true answers s

@@ -6,6 +6,7 @@ ghost use Rattle.commands_worksheet.specs.Commands.{act, erased, sets};
 ghost use Rattle.work_sheet.specs.Editing.{reordered};
 
 use crate::columns::{hide, set_width, widen};
+use crate::lines::{LineEdit, edit_lines};
 use crate::settings::settings_after;
 use command_desk::{CommandEnd, settle};
 use formula_eval::{Scene, Tally};
@@ -52,16 +53,21 @@ fn erase(sheet: &mut Sheet, scene: &Scene, tally: &mut Tally) -> Result<CommandE
 ///   turns protection on or off.
 /// - Column, Set-Width and Reset-Width give the pointer's column a width of its own or take it away; Hide and Display
 ///   hide the columns of a range or show them.
+/// - Insert and Delete, Column and Row insert or delete as many columns or rows as the range has, where it stands.
+///   References, names and what columns have of their own follow.
 /// - Erase gives a fresh sheet: no cell, no name, the settings of a fresh sheet, and the pointer in A1. As behind each
 ///   edit of contents all is recalculated, since a fresh sheet is in Automatic mode.
 ///
-/// No other of these commands recalculates, also where the mode, the order or the passes change, and protection refuses
-/// none of them, Erase included (this project's choice). There are 0 to 15 decimals, a width is 1 to 240, and 1 to 50
-/// passes are made (the most passes are this project's choice). Insert and Delete do nothing: their items aren't shown.
+/// In Automatic mode a recalculation follows Insert and Delete. No other of these commands recalculates, also where the
+/// mode, the order or the passes change, and protection refuses none of the others, Erase included (this project's
+/// choice). There are 0 to 15 decimals, a width is 1 to 240, and 1 to 50 passes are made (the most passes are this
+/// project's choice).
 ///
 /// `InvalidNumber` comes exactly where a number is asked for and its answer is none within these bounds,
-/// `InvalidAddress` and `NameNotFound` where a range is asked for and its answer is none, as `span_at` says. A refused
-/// command leaves the sheet as it was. Another order and Erase alone want memory.
+/// `InvalidAddress` and `NameNotFound` where a range is asked for and its answer is none, as `span_at` says. Insert and
+/// Delete are then refused by `Protected`, which names the first cell of the first line, wherever protection is on, and
+/// Insert by `PushedOff` with the first filled cell that would leave the sheet. A refused command leaves the sheet as
+/// it was.
 pub fn act(
     action: WorksheetAction,
     answers: &Answers,
@@ -76,10 +82,18 @@ pub fn act(
         WorksheetAction::Natural => reorder(Order::Natural, sheet),
         WorksheetAction::Columnwise => reorder(Order::Columnwise, sheet),
         WorksheetAction::Rowwise => reorder(Order::Rowwise, sheet),
-        WorksheetAction::InsertColumn
-        | WorksheetAction::InsertRow
-        | WorksheetAction::DeleteColumn
-        | WorksheetAction::DeleteRow => Ok(CommandEnd::Finished),
+        WorksheetAction::InsertColumn => {
+            edit_lines(LineEdit::InsertColumns, answers, sheet, scene, tally)
+        }
+        WorksheetAction::InsertRow => {
+            edit_lines(LineEdit::InsertRows, answers, sheet, scene, tally)
+        }
+        WorksheetAction::DeleteColumn => {
+            edit_lines(LineEdit::DeleteColumns, answers, sheet, scene, tally)
+        }
+        WorksheetAction::DeleteRow => {
+            edit_lines(LineEdit::DeleteRows, answers, sheet, scene, tally)
+        }
         WorksheetAction::SetWidth => Ok(set_width(answers, sheet)),
         WorksheetAction::ResetWidth => Ok(widen(None, sheet)),
         WorksheetAction::Hide => Ok(hide(true, answers, sheet)),

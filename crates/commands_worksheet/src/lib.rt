@@ -3,6 +3,7 @@
 
 mod acting;
 mod columns;
+mod lines;
 mod settings;
 
 pub use acting::act;

@@ -10,13 +10,9 @@ use Rattle.menu_tree.specs.declared.menu.Item.{Item}
 use Rattle.menu_tree.specs.declared.menu.Item.TheVariants as item
 use Rattle.menu_tree.specs.declared.menu.Menu.{Menu}
 use Rattle.menu_tree.specs.declared.menu.Menu.TheVariants as menu
-use Rattle.menu_tree.specs.declared.menu.WorksheetAction.{WorksheetAction}
-use Rattle.menu_tree.specs.declared.menu.WorksheetAction.TheVariants as worksheet
 
 -- the menus below which no command is built yet
 abbrev pub is_menu_built : Menu → Bool
-is_menu_built menu.Insert = false
-is_menu_built menu.Delete = false
 is_menu_built menu.File = false
 is_menu_built menu.Combine = false
 is_menu_built menu.Xtract = false
@@ -31,25 +27,16 @@ is_menu_built menu.Query = false
 is_menu_built menu.QueryDelete = false
 is_menu_built m = true
 
--- all but Move, and what stands in those menus alone
+-- all but what stands in those menus alone
 abbrev pub is_common_built : CommonAction → Bool
-is_common_built common.Move = false
 is_common_built common.Cancel = false
 is_common_built common.Leave = false
 is_common_built a = true
 
--- all but inserting and deleting
-abbrev pub is_worksheet_built : WorksheetAction → Bool
-is_worksheet_built worksheet.InsertColumn = false
-is_worksheet_built worksheet.InsertRow = false
-is_worksheet_built worksheet.DeleteColumn = false
-is_worksheet_built worksheet.DeleteRow = false
-is_worksheet_built a = true
-
 -- whether a command is built
 abbrev pub is_built : Action → Bool
 is_built (action.Common a) = is_common_built a
-is_built (action.Worksheet a) = is_worksheet_built a
+is_built (action.Worksheet a) = true
 is_built (action.Range a) = true
 is_built (action.File a) = false
 is_built (action.Print a) = false

@@ -5,17 +5,12 @@ ghost use Rattle.menu_tree.specs.Shown.{shown};
 use crate::tables::items;
 use crate::{Action, CommonAction, Item, Menu};
 
-const MAIN: [Item; 4] = [
+const MAIN: [Item; 5] = [
     Item::Menu(Menu::Worksheet),
     Item::Menu(Menu::Range),
     Item::Action(Action::Common(CommonAction::Copy)),
+    Item::Action(Action::Common(CommonAction::Move)),
     Item::Menu(Menu::Quit),
-];
-
-const WORKSHEET: [Item; 3] = [
-    Item::Menu(Menu::Global),
-    Item::Menu(Menu::Column),
-    Item::Menu(Menu::WorksheetErase),
 ];
 
 /// The items that a menu shows, in their order: those of its items whose commands are built.
@@ -24,12 +19,11 @@ pub fn shown(menu: Menu) -> &'static [Item]
 {
     match menu {
         Menu::Main => &MAIN,
-        Menu::Worksheet => &WORKSHEET,
-        Menu::Insert | Menu::Delete => &[],
         Menu::File | Menu::Combine | Menu::Xtract => &[],
         Menu::Print | Menu::PrintFileMenu | Menu::Options | Menu::Margins => &[],
         Menu::Data | Menu::Table | Menu::Sort | Menu::Query | Menu::QueryDelete => &[],
-        Menu::Global | Menu::GlobalFormat | Menu::GlobalDate => items(menu),
+        Menu::Worksheet | Menu::Global | Menu::GlobalFormat | Menu::GlobalDate => items(menu),
+        Menu::Insert | Menu::Delete => items(menu),
         Menu::LabelPrefix | Menu::Recalculation | Menu::Protection => items(menu),
         Menu::Column | Menu::WorksheetErase => items(menu),
         Menu::Range | Menu::RangeFormat | Menu::RangeDate | Menu::Label => items(menu),

@@ -17,13 +17,13 @@ use Rattle.work_sheet.specs.Seen.{Sheet}
 abbrev pub gone_to : List (List ℕ) → Sheet → Acted
 gone_to answers s = given (cell_at s.names answers 0) (λ p. finished (quiet (with_pointer p s))) s
 
--- No, Cancel and Quit of a menu do nothing, GOTO moves the pointer, and Quit's Yes ends the run; Move isn't built yet
+-- No, Cancel and Quit of a menu do nothing, GOTO moves the pointer, and Quit's Yes ends the run
 abbrev pub act_common : CommonAction → List (List ℕ) → Scene → Sheet → Acted
 act_common common.No answers scene s = finished (quiet s)
 act_common common.Cancel answers scene s = finished (quiet s)
 act_common common.Leave answers scene s = finished (quiet s)
 act_common common.Copy answers scene s = on_range.copied answers scene s
-act_common common.Move answers scene s = finished (quiet s)
+act_common common.Move answers scene s = on_range.moved answers scene s
 act_common common.QuitYes answers scene s = quits s
 act_common common.Goto answers scene s = gone_to answers s
 

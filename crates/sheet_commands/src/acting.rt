@@ -43,7 +43,7 @@ fn act_common(
     match action {
         CommonAction::No | CommonAction::Cancel | CommonAction::Leave => Ok(CommandEnd::Finished),
         CommonAction::Copy => commands_range::copy(answers, sheet, scene, tally),
-        CommonAction::Move => Ok(CommandEnd::Finished),
+        CommonAction::Move => commands_range::move_span(answers, sheet, scene, tally),
         CommonAction::QuitYes => Ok(CommandEnd::Quits),
         CommonAction::Goto => Ok(go_to(answers, sheet)),
     }

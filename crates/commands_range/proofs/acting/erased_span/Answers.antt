@@ -1,6 +1,5 @@
 use Rattle.command_desk.proofs.Ascending.{span_ascends}
-use Rattle.command_desk.proofs.Edited.{edit_acted}
-use Rattle.commands_range.proofs.Ended.{if_ok}
+use Rattle.command_desk.proofs.Edited.{if_ok, edit_acted}
 use Rattle.grid_address.specs.Place.{is_within}
 use Rattle.work_sheet.proofs.Filled.{has_cells}
 use Rattle.work_sheet.specs.Cells.{cells_of}

@@ -1,4 +1,5 @@
-use Rattle.commands_range.proofs.Ended.{copy_acted, if_ok}
+use Rattle.command_desk.proofs.Edited.{if_ok}
+use Rattle.commands_range.proofs.Ended.{copy_acted}
 use Rattle.sheet_edits.specs.Spans.{target_of}
 use Rattle.commands_range.proofs.copying.copied_onto.Goals as goal
 

@@ -1,9 +1,8 @@
 use Rattle.std.specs.Prelude.{◌≡◌, refl, List}
 use Rattle.std.proofs.Common.{ap, subst, sym, ◌∙◌}
 use Rattle.command_desk.proofs.Ascending.{Ascends}
-use Rattle.command_desk.proofs.Edited.{edit_acted}
+use Rattle.command_desk.proofs.Edited.{if_ok, edit_acted}
 use Rattle.command_desk.specs.Acting.{written, HasActed}
-use Rattle.commands_range.proofs.Ended.{if_ok}
 use Rattle.commands_range.proofs.Relabelled.{relabelled_ascend}
 use Rattle.commands_range.specs.Commands.{relabelled}
 use Rattle.grid_address.specs.Place.{same_place}
