@@ -4,7 +4,7 @@ import random
 
 from . import fixed, formula
 from .address import cell_text, col_text, height_of, read_cell, span_text, width_of
-from .answers import FORMULA_NAMES, NOT_BUILT, VALUE_NAMES
+from .answers import FORMULA_NAMES, NOT_BUILT, VALUE_NAMES, Desk
 from .formula import COUNTED, FUNCTIONS, LEFT_OUT_NAMES
 from .keys import COMMANDS, NAMES as KEYS, SLASH
 from .names import Names
@@ -262,12 +262,20 @@ def adjustments(r):
 
 # ---------------------------------------------------------------- sheets
 
+# names of spans; two are no plain ones, so that no formula is printed with them
+SPAN_NAMES = [b'TAX', b'NET_PAY', b'q2', b'Z9', b'TOTAL OF ALL', b'AREA']
+
+FAR_CELLS = [b'IV1', b'IU2', b'A8192', b'B8191', b'C8189', b'IV8192']
+FAR_SPANS = [b'IU1..IV2', b'IV8192', b'A8190..C8192', b'IT8191..IV8192', b'A4..A8192', b'C1..IV1', b'B2..IV3', b'A1..B8192']
+
+
 class Sheets:
-    """Lines of small sheets: edits of A1 to C4, and screens of wider ones."""
+    """Lines of small sheets: edits around A1 to C4, and screens of wider ones. The edits are made as they come, so that
+    formulas are entered with names that are there."""
 
     def __init__(self, r):
         self.r = r
-        self.names = Names()
+        self.desk = Desk()
 
     def cell(self):
         return col_text(self.r.randrange(3)) + b'%d' % self.r.randrange(1, 5)
@@ -289,10 +297,29 @@ class Sheets:
                 lambda: b'@' + r.choice([b'SUM', b'COUNT', b'MAX', b'MIN', b'AVG']) + b'(' + texts.span() + b')',
                 lambda: b'@IF(' + texts.cell() + b'>' + texts.cell() + b',' + texts.cell() + b',4)',
                 lambda: r.choice([b'@INT(@NOW)', b'@@("B4")', b'@CELL("width",' + texts.cell() + b')', b'@NA', b'1/0']),
-                lambda: b'@CELL("contents",' + texts.span() + b')'])()
+                lambda: b'@CELL("contents",' + texts.span() + b')',
+                lambda: r.choice([b'@SUM(', b'@COUNT(', b'@ROWS(']) + r.choice([b'', b'$']) + r.choice(SPAN_NAMES) + b')'])()
             is_plain = text[:1] in (b'', b"'", b'"', b'^', b'\\', b'|') or isinstance(fixed.read_decimal(text), int)
-            if is_plain or is_read(text, read_cell(cell), self.names):
+            if is_plain or is_read(text, read_cell(cell), self.desk.sheet.names):
                 return text
+
+    def line_span(self):
+        """A span by whose rows or columns lines are inserted or deleted: mostly of few lines near A1."""
+        r = self.r
+        return r.choice([self.cell, self.cell, self.span, lambda: r.choice(FAR_CELLS + FAR_SPANS)])()
+
+    def shift(self):
+        """A move, or lines inserted or deleted: some far away, and some that leave the sheet or push cells out of it."""
+        r = self.r
+        from_span = self.span() if r.randrange(6) else r.choice(FAR_SPANS)
+        to = self.cell() if r.randrange(6) else r.choice(FAR_CELLS)
+        return r.choice([lambda: b'>' + from_span + b' ' + to, lambda: b'>' + from_span + b' ' + to,
+                         lambda: r.choice([b'ir', b'ic', b'dr', b'dc']) + self.line_span(),
+                         lambda: r.choice([b'ir', b'ic', b'dr', b'dc']) + self.line_span()])()
+
+    def column(self):
+        """A column's own width, or whether it is hidden."""
+        return self.r.choice([b'w%s 12', b'w%s 3', b'w%s 0', b'h%s', b'v%s']) % self.cell()
 
     def write(self):
         cell = self.cell()
@@ -302,7 +329,7 @@ class Sheets:
     def edit(self):
         r = self.r
         def entry():
-            cell = self.cell()
+            cell = self.cell() if r.randrange(15) else r.choice(FAR_CELLS)
             return b'=' + cell + b' ' + self.text(cell)
         far = lambda: self.cell() if r.randrange(12) else r.choice([b'IV1', b'IU1..IV2', b'A8192', b'IV8192'])
         return r.choice([
@@ -310,22 +337,31 @@ class Sheets:
             lambda: b'c' + self.span() + b' ' + (self.span() if r.randrange(3) == 0 else far()),
             lambda: b'c' + self.cell() + b' ' + self.span(),
             lambda: b'f' + self.span() + b' %d' % r.choice([0, 2, 34, 66, 112, 113, 114, 117, 118, 127]),
-            lambda: r.choice([b'p', b'u']) + self.span(),
+            lambda: r.choice([b'p', b'u']) + self.span() if r.randrange(3) else b'uA1..E7',
             lambda: b's' + bytes(r.choice(b'AAMPQQNCR1123') for _ in range(r.choice([1, 1, 2]))),
-            lambda: b'x' + b'\t'.join(self.write() for _ in range(r.randrange(1, 5)))])()
+            lambda: b'x' + b'\t'.join(self.write() for _ in range(r.randrange(1, 5))),
+            lambda: b'x' + b'\t'.join(self.write() for _ in range(r.randrange(1, 5))),
+            self.shift, self.shift, self.shift, self.shift, self.shift, self.column,
+            lambda: b'+' + self.span() + b' ' + r.choice(SPAN_NAMES)])()
 
     def edits(self, count):
-        """So many edits: a fresh sheet for each dozen, whose texts and formats are shown at its end."""
+        """So many edits: a fresh sheet for each dozen, all of which is shown at its end."""
         out = []
         while count:
             many = min(count, self.r.randrange(5, 22))
-            out += [b':'] + [self.edit() for _ in range(many)] + [b'!', b'?']
+            self.desk = Desk()
+            out.append(b':')
+            for _ in range(many):
+                out.append(self.edit())
+                self.desk.line(out[-1])
+            out += [b'!', b'?']
             count -= many
         return out
 
     def sheet(self):
         """A sheet around a corner with cells, formats, widths and marks."""
         r = self.r
+        self.desk = Desk()
         self.left, self.top = r.choice([(0, 0), (0, 0), (22, 90), (248, 8176)])
         place = self.place
         byte, width = r.choice([113, 113, 127, 2, 34, 66, 112, 118, 16]), r.choice([9, 9, 10, 1, 3, 72, 240])

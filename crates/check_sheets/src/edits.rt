@@ -69,7 +69,7 @@ pub fn cell_of(bytes: &[u8]) -> Result<Cell, Stop> {
     }
 }
 
-fn span_of(bytes: &[u8]) -> Result<Span, Stop> {
+pub fn span_of(bytes: &[u8]) -> Result<Span, Stop> {
     match read_span(bytes) {
         Ok(span) => Ok(span),
         Err(_) => Err(Stop::Line),

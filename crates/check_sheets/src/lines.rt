@@ -2,6 +2,7 @@
 
 use crate::edits::{Desk, Stop, calculate, copy, enter, erase, format, protect, set, write};
 use crate::screens::work_screen;
+use crate::shifts::{delete, insert, move_span, name};
 use crate::show::{show, show_fault, show_states, written};
 use sheet_store::SheetFault;
 use std::alloc::Global;
@@ -25,30 +26,34 @@ fn edited<W: Write>(
     }
 }
 
+// The answer to an edit of contents; none where the line describes another thing.
+fn answer_of(desk: &mut Desk, line: &[u8]) -> Result<Option<Result<(), SheetFault>>, Stop> {
+    match line {
+        [b'=', rest @ ..] => Ok(Some(enter(desk, rest)?)),
+        [b'e', rest @ ..] => Ok(Some(erase(desk, rest)?)),
+        [b'c', rest @ ..] => Ok(Some(copy(desk, rest)?)),
+        [b'x', rest @ ..] => Ok(Some(write(desk, rest)?)),
+        [b'>', rest @ ..] => Ok(Some(move_span(desk, rest)?)),
+        [b'i', rest @ ..] => Ok(Some(insert(desk, rest)?)),
+        [b'd', rest @ ..] => Ok(Some(delete(desk, rest)?)),
+        _ => Ok(None),
+    }
+}
+
+// What a line does, and what came of it.
 fn work<W: Write>(desk: &mut Desk, line: &[u8], out: &mut W) -> Result<(), Stop> {
+    if let Some(answer) = answer_of(desk, line)? {
+        edited(desk, answer, out)?;
+        return show(desk, out);
+    }
     match line {
         [b'!'] => calculate(desk)?,
         [b'?'] => return show_states(desk, out),
-        [b'=', rest @ ..] => {
-            let answer = enter(desk, rest)?;
-            edited(desk, answer, out)?;
-        }
-        [b'e', rest @ ..] => {
-            let answer = erase(desk, rest)?;
-            edited(desk, answer, out)?;
-        }
-        [b'c', rest @ ..] => {
-            let answer = copy(desk, rest)?;
-            edited(desk, answer, out)?;
-        }
-        [b'x', rest @ ..] => {
-            let answer = write(desk, rest)?;
-            edited(desk, answer, out)?;
-        }
         [b'f', rest @ ..] => format(desk, rest)?,
         [b'p', rest @ ..] => protect(desk, rest, true)?,
         [b'u', rest @ ..] => protect(desk, rest, false)?,
         [b's', rest @ ..] => set(desk, rest)?,
+        [b'+', rest @ ..] => name(desk, rest)?,
         _ => return work_screen(desk, line, out),
     }
     show(desk, out)

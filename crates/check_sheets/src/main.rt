@@ -2,10 +2,12 @@
 //! it, how many evaluations there were, and the values of A1 to C4. `:` begins a fresh sheet. `=A1 TEXT` enters what the
 //! text spells, `eA1..B2` erases, `cA1..B2 C1..D2` copies, `fA1..B2 CODE` sets the format code, `pA1..B2` protects and
 //! `uA1..B2` takes protection away. `xA1 CODE TEXT` makes a list of writes, which tabs part; the code is a format byte,
-//! or `-` for the cell's own. `sLETTERS` changes settings letter by letter: A and M are the modes Automatic and Manual, P
-//! and Q protection on and off, N, C and R the orders, and a digit the passes. `!` recalculates, and so does each edit of
-//! contents in Automatic mode. `?` prints the texts and formats. The stored run begins with worked edits and compares
-//! 10,000 random ones with another program's.
+//! or `-` for the cell's own. `>A1..B2 C3` moves so that the first corner comes to the cell; `irA2..A3` and `icB1..C1`
+//! insert rows and columns in front of a span, as many as it has, and `drA2..A3` and `dcB1..C1` delete its own. `+A1..B2
+//! NAME` names a span. `sLETTERS` changes settings letter by letter: A and M are the modes Automatic and Manual, P and Q
+//! protection on and off, N, C and R the orders, and a digit the passes. `!` recalculates, and so does each edit of
+//! contents in Automatic mode. `?` prints all cells with format, text and value, the columns' own widths and marks, and
+//! the names. The stored run begins with worked edits and compares 10,000 random ones with another program's.
 //!
 //! Other lines paint the screen. `wB1 12` gives column B a width of its own, or takes it away at 0; `hB1` hides it and `vB1`
 //! shows it. `g113 9` sets the sheet's format byte and width, `aB7` the pointer, `kB7` the cell at the top left, and `k`
@@ -18,6 +20,7 @@
 mod edits;
 mod lines;
 mod screens;
+mod shifts;
 mod show;
 
 use edits::Stop;

@@ -2,14 +2,18 @@
 
 use crate::edits::{Desk, Stop};
 use formula_tree::Value;
-use grid_address::{Cell, cell_text};
+use grid_address::{Cell, cell_text, column_text};
 use lics_text::Line;
-use sheet_store::{SavedSheet, SheetFault};
+use range_names::{Names, name_in};
+use sheet_store::{CellState, SheetFault, Store};
 use std::io::{Error, Write};
 
 const ROWS: u16 = 4;
 
 const COLUMNS: u8 = 3;
+
+// The columns of a sheet.
+const COLS: u16 = 256;
 
 pub fn written(answer: Result<(), Error>) -> Result<(), Stop> {
     match answer {
@@ -62,33 +66,74 @@ pub fn show<W: Write>(desk: &Desk, out: &mut W) -> Result<(), Stop> {
     written(out.write_all(b"\n"))
 }
 
+// A cell's format, text and value.
 fn show_state<W: Write>(
     desk: &Desk,
-    saved: &SavedSheet,
     cell: Cell,
+    state: &CellState,
     out: &mut W,
 ) -> Result<(), Stop> {
-    let Some(state) = saved.store.get(cell) else {
-        return Ok(());
-    };
     let mut line = Line::new();
     let _ = desk.sheet.text_of(cell, &mut line);
     written(write!(out, " {} ", state.format.0))?;
     written(out.write_all(cell_text(cell).bytes()))?;
     written(out.write_all(b"="))?;
-    written(out.write_all(line.bytes()))
+    written(out.write_all(line.bytes()))?;
+    show_value(out, Some(&state.value))
 }
 
-/// The formats and the texts of the cells that are there.
+// The cells of a sheet in row order.
+fn show_cells<W: Write>(desk: &Desk, store: &Store, out: &mut W) -> Result<(), Stop> {
+    let mut entries = store.entries();
+    while let Some((cell, state)) = entries.next() {
+        show_state(desk, cell, state, out)?;
+    }
+    Ok(())
+}
+
+// A column's own width, and whether it is hidden, where it has or is so.
+fn show_column<W: Write>(store: &Store, col: u8, out: &mut W) -> Result<(), Stop> {
+    if let Some(width) = store.width(col) {
+        written(out.write_all(b" w"))?;
+        written(out.write_all(column_text(col).bytes()))?;
+        written(write!(out, " {width}"))?;
+    }
+    if store.is_hidden(col) {
+        written(out.write_all(b" h"))?;
+        written(out.write_all(column_text(col).bytes()))?;
+    }
+    Ok(())
+}
+
+// What the columns have of their own.
+fn show_columns<W: Write>(store: &Store, out: &mut W) -> Result<(), Stop> {
+    for col in 0..COLS {
+        show_column(store, col as u8, out)?;
+    }
+    Ok(())
+}
+
+// The names in byte order, each with its span.
+fn show_names<W: Write>(names: &Names, out: &mut W) -> Result<(), Stop> {
+    for (key, span) in names.entries() {
+        written(out.write_all(b" +"))?;
+        written(out.write_all(name_in(key)))?;
+        written(out.write_all(b" "))?;
+        written(out.write_all(cell_text(span.first).bytes()))?;
+        written(out.write_all(b".."))?;
+        written(out.write_all(cell_text(span.last).bytes()))?;
+    }
+    Ok(())
+}
+
+/// What a file holds of the sheet: its cells, what its columns have of their own, and its names.
 pub fn show_states<W: Write>(desk: &Desk, out: &mut W) -> Result<(), Stop> {
     let Ok(saved) = desk.sheet.snapshot() else {
         return Err(Stop::Memory);
     };
     written(out.write_all(b"?"))?;
-    for row in 0..ROWS {
-        for col in 0..COLUMNS {
-            show_state(desk, &saved, Cell { row, col }, out)?;
-        }
-    }
+    show_cells(desk, &saved.store, out)?;
+    show_columns(&saved.store, out)?;
+    show_names(&saved.names, out)?;
     written(out.write_all(b"\n"))
 }

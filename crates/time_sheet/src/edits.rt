@@ -24,8 +24,8 @@ fn enter(sheet: &mut Sheet, cell: Cell, content: Content) -> Result<(), Memory> 
     }
 }
 
-// A chain of so many formulas.
-fn chain(alloc: Global, tally: &mut Tally, rows: u16) -> Result<Sheet, Memory> {
+/// A chain of so many formulas.
+pub fn chain(alloc: Global, tally: &mut Tally, rows: u16) -> Result<Sheet, Memory> {
     let mut sheet = Sheet::new(alloc);
     for row in 0..rows {
         enter(&mut sheet, at(row, 0), Content::Formula(link(alloc)?))?;

@@ -1,21 +1,26 @@
-//! The work that bench/store, bench/recalculate and bench/edits measure. With the word `cells` it puts 100,000 formulas,
-//! and reads each of them and sets its value ten times; with `owners` it asks ten times for the owners of each of 8,000
-//! cells, of which each has one owner; with `spans` for those of 8,000 cells among 1,000 owners of long spans; with
-//! `closure` it goes ten times along a chain of 8,000 formulas; with `chain` it writes ten times the head of such a
-//! chain, finds what reaches it, and recalculates; with `short` and `long` it makes a million entries beside chains of 10
-//! and of 8,000 formulas. It prints a sum by which the work can be compared, and without a word the sums of all.
+//! The work that bench/store, bench/recalculate, bench/edits and bench/shifts measure. With the word `cells` it puts
+//! 100,000 formulas, and reads each of them and sets its value ten times; with `owners` it asks ten times for the
+//! owners of each of 8,000 cells, of which each has one owner; with `spans` for those of 8,000 cells among 1,000
+//! owners of long spans; with `closure` it goes ten times along a chain of 8,000 formulas; with `chain` it writes ten
+//! times the head of such a chain, finds what reaches it, and recalculates; with `short` and `long` it makes a
+//! million entries beside chains of 10 and of 8,000 formulas. With `insert`, `delete` or `move`, and 1000 or 8000
+//! right behind it, it inserts or deletes the first row of a chain of so many formulas, or moves its first hundred to
+//! the next column or back, ten times; with `rows` and such a number it makes the chain alone. It prints a sum by
+//! which the work can be compared, and without a word the sums of all.
 #![tactic(auto)]
 
 mod cells;
 mod chain;
 mod edits;
 mod graphs;
+mod shifts;
 
 use cells::touch_cells;
 use chain::edit_head;
 use edits::edit_apart;
 use graphs::{ask_owners, ask_spans, go_along};
 use lics_text::Memory;
+use shifts::{Edit, ROUNDS, shift_rows};
 use std::alloc::Global;
 use std::env;
 use std::io::Write;
@@ -30,6 +35,8 @@ enum Work {
     Chain,
     Short,
     Long,
+    Rows(u16),
+    Shifts(Edit, u16),
 }
 
 enum Stop {
@@ -46,6 +53,21 @@ fn work_of(word: &str) -> Option<Work> {
         "chain" => Some(Work::Chain),
         "short" => Some(Work::Short),
         "long" => Some(Work::Long),
+        _ => rows_of(word),
+    }
+}
+
+// The works by the rows of a sheet.
+fn rows_of(word: &str) -> Option<Work> {
+    match word {
+        "rows1000" => Some(Work::Rows(1000)),
+        "rows8000" => Some(Work::Rows(8000)),
+        "insert1000" => Some(Work::Shifts(Edit::Insert, 1000)),
+        "insert8000" => Some(Work::Shifts(Edit::Insert, 8000)),
+        "delete1000" => Some(Work::Shifts(Edit::Delete, 1000)),
+        "delete8000" => Some(Work::Shifts(Edit::Delete, 8000)),
+        "move1000" => Some(Work::Shifts(Edit::Move, 1000)),
+        "move8000" => Some(Work::Shifts(Edit::Move, 8000)),
         _ => None,
     }
 }
@@ -59,6 +81,8 @@ fn sum_of(alloc: Global, work: Work) -> Result<u64, Memory> {
         Work::Chain => edit_head(alloc),
         Work::Short => edit_apart(alloc, 10),
         Work::Long => edit_apart(alloc, 8000),
+        Work::Rows(rows) => shift_rows(alloc, Edit::Insert, rows, 0),
+        Work::Shifts(edit, rows) => shift_rows(alloc, edit, rows, ROUNDS),
     }
 }
 
@@ -81,6 +105,12 @@ fn print_all<W: Write>(alloc: Global, out: &mut W) -> Result<(), Stop> {
         Work::Chain,
         Work::Short,
         Work::Long,
+        Work::Shifts(Edit::Insert, 1000),
+        Work::Shifts(Edit::Delete, 1000),
+        Work::Shifts(Edit::Move, 1000),
+        Work::Shifts(Edit::Insert, 8000),
+        Work::Shifts(Edit::Delete, 8000),
+        Work::Shifts(Edit::Move, 8000),
     ] {
         print(alloc, work, out)?;
     }
