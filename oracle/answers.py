@@ -2,7 +2,7 @@
 import struct
 
 from . import adjust, blocks, cellformat, fixed, formula, menu, query, screen
-from .address import cell_text, cells_of, read_cell, read_span, span_at, span_text, width_of, height_of
+from .address import cell_text, cells_of, col_text, read_cell, read_span, span_at, span_text, width_of, height_of
 from .cellformat import show_number
 from .dates import Moment
 from .evaluate import Scene, Tally, glance, matches
@@ -18,9 +18,6 @@ FAULTS = {1: b'Unexpected', 2: b'Ended', 3: b'UnknownFunction', 4: b'FunctionOut
 NOT_BUILT = {b'DSUM', b'DAVG', b'DCOUNT', b'DMIN', b'DMAX'}
 # its menus don't show these as yet, and no letter takes them; the line of a command goes when it is built
 NOT_IN_MENUS = {
-    'wi',            # Worksheet > Insert
-    'wd',            # Worksheet > Delete
-    'move',          # Move
     'f',             # File
     'p',             # Print
     'd',             # Data
@@ -373,6 +370,11 @@ class Desk:
         elif line[:1] == b'c':
             source, _, to = rest.partition(b' ')
             sheet.copy_span(read_span(source), read_span(to))
+        elif line[:1] == b'>':
+            source, _, to = rest.partition(b' ')
+            sheet.shift(read_span(source), read_cell(to))
+        elif line[:1] in b'id':
+            self.lines(line)
         else:
             writes = []
             for part in rest.split(b'\t'):
@@ -382,6 +384,14 @@ class Desk:
             sheet.write(writes)
         if sheet.settings.automatic:
             self.calc()
+
+    def lines(self, line):
+        """Inserts as many rows or columns in front of a span as it has, or deletes its own."""
+        first, last = read_span(line[2:])
+        edit = {b'ir': self.sheet.insert_rows, b'ic': self.sheet.insert_columns,
+                b'dr': self.sheet.delete_rows, b'dc': self.sheet.delete_columns}[line[:2]]
+        axis = 1 if line[1:2] == b'r' else 0
+        edit(first[axis], last[axis] - first[axis] + 1)
 
     def set(self, letters):
         settings = self.sheet.settings
@@ -406,12 +416,16 @@ class Desk:
         return out
 
     def states(self):
-        out = b'?'
-        for row in range(4):
-            for col in range(3):
-                state = self.sheet.cells.get((col, row))
-                if state is not None:
-                    out += b' %d ' % state.format + cell_text((col, row)) + b'=' + self.sheet.text_of((col, row))[:240]
+        """Its cells in row order, what its columns have of their own, and its names."""
+        sheet, out = self.sheet, b'?'
+        for cell, state in sorted(sheet.cells.items(), key=row_order):
+            out += b' %d ' % state.format + cell_text(cell) + b'=' + sheet.text_of(cell)[:240]
+            out += b' ' + shown_value(state.value)
+        for col in sorted({*sheet.widths, *sheet.hidden}):
+            out += b' w' + col_text(col) + b' %d' % sheet.widths[col] if col in sheet.widths else b''
+            out += b' h' + col_text(col) if col in sheet.hidden else b''
+        for name, span in sheet.names.items():
+            out += b' +' + name + b' ' + cell_text(span[0]) + b'..' + cell_text(span[1])
         return out
 
     def screen(self):
@@ -463,7 +477,7 @@ class Desk:
             return self.states() + b'\n'
         if head == b'!':
             self.calc()
-        elif head and head in b'=ecx':
+        elif head and head in b'=ecx>id':
             try:
                 self.edit(line)
             except SheetFault as fault:
@@ -476,6 +490,9 @@ class Desk:
             self.sheet.set_protected(read_span(line[1:]), head == b'p')
         elif head == b's':
             self.set(line[1:])
+        elif head == b'+':
+            span, _, name = line[1:].partition(b' ')
+            self.sheet.create_name(name, read_span(span))
         else:
             return self.screen_line(line)
         return before + self.shown() + b'\n'

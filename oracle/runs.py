@@ -102,7 +102,7 @@ class Typist:
         r = self.r
         text = bytearray(self.value())
         for _ in range(r.randrange(1, 3)):
-            at = r.randrange(len(text))
+            at = r.randrange(len(text) + 1)
             text[at:at + r.randrange(2)] = r.choice([b'', b')', b'(', b'+', b',', b'#', b'Q', b'9999999999', b'"', b'@', b'.'])
         text = bytes(text)
         if b'@NOW' in text.upper() or text[:1] not in (b'%c' % byte for byte in VALUE_BEGINS):
