@@ -86,6 +86,18 @@ X~/WGC4~{RIGHT}Y~|11|0|READY|B1: 'Y | |4|   1X   Y    |
 7~/RNCRATE~~{RIGHT}+$RATE*2~|22|1|READY|B1: $RATE*2 | |4|   1       7       14 |
 1~{RIGHT}2~/RNCT~A1.B1~/REt~|22|0|READY|B1:  | |4|   1                  |
 1~{RIGHT}2~{RIGHT}/RNCTOTAL~A1.B1~@SUM(TOTAL)~|34|1|READY|C1: @SUM(TOTAL) | |4|   1       1        2        3 |
+{RIGHT}+A1~{RIGHT}{RIGHT}+C1~{HOME}/M~C1~{RIGHT}|19|4|READY|B1: +C1 | |4|   1                0               ERR |
+{RIGHT}+A1~{RIGHT}{RIGHT}+C1~{HOME}/M~C1~{RIGHT 3}|21|4|READY|D1: @ERR | |4|   1                0               ERR |
+1~{DOWN}2~{UP}/MA1.A2~B1~{RIGHT}{DOWN}|19|0|READY|B2: 2 | |5|   2                2 |
++A3~{DOWN}/WIR~{HOME}|11|2|READY|A1: +A4 | |4|   1       0 |
++A3~{DOWN}/WIR~{DOWN}{DOWN}/WDR~{HOME}|18|3|READY|A1: @ERR | |4|   1     ERR |
+1~{END}{DOWN}2~{HOME}/WIR~{ESC}|13|0|READY|A1: 1 | |4|   1       1 |
+1~{RIGHT}+A1*2~{LEFT}/WICA1.B1~{RIGHT 3}|23|2|READY|D1: +C1*2 | |4|   1                         1        2 |
+1~{RIGHT}2~{RIGHT}+A1+B1~/WDCA1~{LEFT}|21|2|READY|B1: @ERR+A1 | |4|   1       2      ERR |
+/WCS4~X~{RIGHT}Y~{LEFT}/WIC~|17|0|READY|A1:  | |3|        A     B      C|
+/WCS4~X~/WDC~|13|0|READY|A1:  | |3|        A        B |
+/WCHB1~/WICA1~{RIGHT 2}|16|0|READY|D1:  | |3|        A        B        D |
+1~{DOWN}2~{DOWN}@SUM(A1..A2)~{UP}/WIRA2..A3~{END}{DOWN}{DOWN}|34|2|READY|A5: @SUM(A1..A4) | |8|   5       3 |
 "#;
 
 // What each command refuses: no address, no name that is there, no name at all, no number within the bounds, a
@@ -158,21 +170,38 @@ A~/WGPE/RLR~|12|0|ERROR|A1: PR 'A | |24|Protected cell |
 /WGPE/RU~/RVA1.B1~A1~|21|0|ERROR|A1: U | |24|Protected cell |
 /WGPE/RVA1.A2~A8192~|20|0|ERROR|A1: PR | |24|Range leaves the sheet |
 /WGPE/RTA1.A2~IV1~|18|0|ERROR|A1: PR | |24|Range leaves the sheet |
+1~/M A~|7|0|ERROR|A1: 1 | |24|Invalid address |
+1~/MA1~A0~|10|0|ERROR|A1: 1 | |24|Name not found |
+1~/MA1.B2~IV1~|14|0|ERROR|A1: 1 | |24|Range leaves the sheet |
+/WGPE/MA1~B1~|13|0|ERROR|A1: PR | |24|Protected cell |
+1~{END}{DOWN}2~{HOME}/WIR~|12|0|ERROR|A1: 1 | |24|Cells would leave the sheet |
+1~{END}{RIGHT}2~{HOME}/WIC~|12|0|ERROR|A1: 1 | |24|Cells would leave the sheet |
+/WIR A1~|8|0|ERROR|A1:  | |24|Invalid address |
+/WIC A1~|8|0|ERROR|A1:  | |24|Invalid address |
+/WDR A1~|8|0|ERROR|A1:  | |24|Invalid address |
+/WDC A1~|8|0|ERROR|A1:  | |24|Invalid address |
+/WIRA0~|7|0|ERROR|A1:  | |24|Name not found |
+/WDCA0~|7|0|ERROR|A1:  | |24|Name not found |
+/WGPE/WIR~|10|0|ERROR|A1: PR | |24|Protected cell |
+/WGPE/WIC~|10|0|ERROR|A1: PR | |24|Protected cell |
+/WGPE/WDR~|10|0|ERROR|A1: PR | |24|Protected cell |
+/WGPE/WDC~|10|0|ERROR|A1: PR | |24|Protected cell |
 "#;
 
 // Menus as they are shown, ways through them, and prompts.
-const MENUS: &str = r#"/|1|0|MENU |A1:  |[Worksheet] Range  Copy  Quit |2|Global  Column  Erase |
-/{LEFT}|2|0|MENU |A1:  | Worksheet  Range  Copy [Quit] |2|No  Yes |
+const MENUS: &str =
+    r#"/|1|0|MENU |A1:  |[Worksheet] Range  Copy  Move  Quit |2|Global  Insert  Delete  Column  Erase |
+/{LEFT}|2|0|MENU |A1:  | Worksheet  Range  Copy  Move [Quit] |2|No  Yes |
 /wg{RIGHT 3}|6|0|MENU |A1:  | Format  Label-Prefix  Column-Width [Recalculation] Protection |2|Natural  Col|
 /r{END}|3|0|MENU |A1:  | Format  Label  Erase  Name  Protect  Unprotect  Value [Transpose] |2| |
 /WGF|4|0|MENU |A1:  |[Fixed] Currency  ,  General  Percent  Date  Text  Hidden |2| |
 /RF{END}|4|0|MENU |A1:  | Fixed  Currency  ,  General  Percent  Date  Text  Hidden [Reset] |2| |
-/MFDP|5|0|MENU |A1:  |[Worksheet] Range  Copy  Quit |2|Global  Column  Erase |
-/wid|4|0|MENU |A1:  |[Global] Column  Erase |2|Format  Label-Prefix  Column-Width  Recalculation  P|
+/FDP|4|0|MENU |A1:  |[Worksheet] Range  Copy  Move  Quit |2|Global  Insert  Delete  Column  Erase |
+/wid|4|0|MENU |A1:  |[Column] Row |2| |
 /rnvt|5|0|MENU |A1:  |[Create] Delete  Reset |2|                                                |
 /WGFD|5|0|MENU |A1:  |[1] 2  3 |2| |
-/w{RIGHT 2}~{RIGHT}|6|0|MENU |A1:  | No [Yes] |2| |
-/WC{ESC}|4|0|MENU |A1:  |[Global] Column  Erase |2|Format  Label-Prefix  Column-Width  Recalculatio|
+/w{RIGHT 4}~{RIGHT}|8|0|MENU |A1:  | No [Yes] |2| |
+/WC{ESC}|4|0|MENU |A1:  |[Global] Insert  Delete  Column  Erase |2|Format  Label-Prefix  Column-Width  Recalculatio|
 /WC{ESC 3}|6|0|READY|A1:  | |2| |
 /WGR{BREAK}|5|0|READY|A1:  | |2| |
 /C{RIGHT}{DOWN}|4|0|POINT|A1:  |Copy A1..B2 |2| |
