@@ -2,10 +2,10 @@
 
 use crate::edits::{Desk, Stop};
 use formula_tree::Value;
-use grid_address::{Cell, cell_text, column_text};
+use grid_address::{Cell, Span, cell_text, column_text};
 use lics_text::Line;
 use range_names::{Names, name_in};
-use sheet_store::{CellState, SheetFault, Store};
+use sheet_store::{SheetFault, Store};
 use std::io::{Error, Write};
 
 const ROWS: u16 = 4;
@@ -67,12 +67,10 @@ pub fn show<W: Write>(desk: &Desk, out: &mut W) -> Result<(), Stop> {
 }
 
 // A cell's format, text and value.
-fn show_state<W: Write>(
-    desk: &Desk,
-    cell: Cell,
-    state: &CellState,
-    out: &mut W,
-) -> Result<(), Stop> {
+fn show_state<W: Write>(desk: &Desk, store: &Store, cell: Cell, out: &mut W) -> Result<(), Stop> {
+    let Some(state) = store.get(cell) else {
+        return Ok(());
+    };
     let mut line = Line::new();
     let _ = desk.sheet.text_of(cell, &mut line);
     written(write!(out, " {} ", state.format.0))?;
@@ -84,9 +82,11 @@ fn show_state<W: Write>(
 
 // The cells of a sheet in row order.
 fn show_cells<W: Write>(desk: &Desk, store: &Store, out: &mut W) -> Result<(), Stop> {
-    let mut entries = store.entries();
-    while let Some((cell, state)) = entries.next() {
-        show_state(desk, cell, state, out)?;
+    let Ok(cells) = store.cells_in(Span::whole()) else {
+        return Err(Stop::Memory);
+    };
+    for cell in cells.as_slice() {
+        show_state(desk, store, *cell, out)?;
     }
     Ok(())
 }
