@@ -2,6 +2,7 @@ pub mod Cells
 pub mod Did
 pub mod Doing
 pub mod Editing
+pub mod Kept
 pub mod Lines
 pub mod Seen
 pub mod Sheets

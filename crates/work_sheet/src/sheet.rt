@@ -19,11 +19,13 @@ ghost use Rattle.sheet_shifts.specs.Shifts.{IsShift};
 ghost use Rattle.work_sheet.specs.Did.{Did, DidEdit};
 ghost use Rattle.work_sheet.specs.Doing.{context_in, put, recalculated, with_content};
 ghost use Rattle.work_sheet.specs.Editing.{all_written, copied, erased, reformatted, reordered, restored, shifted, with_hidden, with_names, with_settings, with_width};
+ghost use Rattle.work_sheet.specs.Kept.{put_back, sheet_of};
 ghost use Rattle.work_sheet.specs.Seen.{fresh_sheet, of_worksheet};
 ghost use Rattle.work_sheet.specs.Sheets.{value_told, AllDirtyIn, IsFaultOf, IsRefusedBy, SameBeside, Worksheet};
 ghost use Rattle.sheet_edits.specs.Spans.{changed, rule_of, target_of, with_code, with_mark, written_cells, AreSound, Becomes, HasCode, IsAnswered};
 ghost use Rattle.work_sheet.specs.Typed.{typed};
 
+use crate::KeptState;
 use crate::typed::text_of;
 use depend_graph::Graph;
 use formula_eval::{Look, Means, Scene, Tally};
@@ -127,6 +129,27 @@ impl<E: Means> SheetOf<E> {
             names,
             settings: self.settings,
         })
+    }
+
+    /// Puts a kept sheet in the place of this one, with its pointer and its marks. All its formulas are dirty, and none
+    /// is evaluated. The sheet is unchanged where there is no memory.
+    pub fn put_back(&mut self, kept: &KeptState) -> Result<(), Memory>
+        ensures did { OnOk result (DidEdit (put_back (sheet_of kept.now)) self.old self.new) }
+        ensures err { OnErr result (self.new ≡ self.old) }
+    {
+        let store = kept.saved.store.copy()?;
+        let names = kept.saved.names.copy()?;
+        let graph = graph_of(&store)?;
+        let all = all_dirty(&store)?;
+        let _ = all.len();
+        self.store = store;
+        self.graph = graph;
+        self.dirty = all;
+        self.circular = kept.circular;
+        self.stale = kept.stale;
+        self.names = names;
+        self.settings = kept.saved.settings;
+        Ok(())
     }
 
     /// The memory that the sheet is in.
