@@ -1,0 +1,5 @@
+pub mod Compared
+pub mod States
+pub mod Tests
+pub mod Twins
+pub mod Undone

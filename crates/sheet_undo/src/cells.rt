@@ -1,0 +1,177 @@
+// Whether two stores hold the same cells.
+ghost use Rattle.std.specs.Bool.{Decides};
+ghost use Rattle.std.specs.Prelude.{◌≡◌, ◌&&◌, [], bytes_eq, nat_eq, IfOk};
+ghost use Rattle.lics_text.specs.Prefixes.{prefix_byte};
+ghost use Rattle.grid_address.specs.Place.{same_place};
+ghost use Rattle.sheet_undo.specs.Same.{entry, same_content, same_entry, same_state, same_value, IsWritten};
+ghost use Rattle.wk1_formula.specs.Written.{code_of};
+
+use formula_tree::{Content, Formula, Value};
+use grid_address::Cell;
+use lics_text::{LabelPrefix, Memory, Text};
+use sheet_store::{CellState, Entries, Store};
+use wk1_formula::write_code;
+
+// Whether two texts are one.
+fn is_same_text(one: &Text, other: &Text) -> bool
+    ensures { result ≡ bytes_eq one.now other.now }
+{
+    one.bytes() == other.bytes()
+}
+
+// Whether two labels are one.
+fn is_same_label(prefix: LabelPrefix, one: &Text, mark: LabelPrefix, other: &Text) -> bool
+    ensures { result ≡ (nat_eq (prefix_byte prefix) (prefix_byte mark) && bytes_eq one.now other.now) }
+{
+    prefix.byte() == mark.byte() && is_same_text(one, other)
+}
+
+// Whether two values are one.
+fn is_same_value(one: &Value, other: &Value) -> bool
+    ensures { result ≡ same_value one.now other.now }
+{
+    match one {
+        Value::Blank => match other {
+            Value::Blank => true,
+            Value::Num(_) | Value::Str(_) | Value::Err | Value::Na => false,
+        },
+        Value::Num(number) => match other {
+            Value::Num(value) => number.millionths() == value.millionths(),
+            Value::Blank | Value::Str(_) | Value::Err | Value::Na => false,
+        },
+        Value::Str(text) => match other {
+            Value::Str(value) => is_same_text(text, value),
+            Value::Blank | Value::Num(_) | Value::Err | Value::Na => false,
+        },
+        Value::Err => match other {
+            Value::Err => true,
+            Value::Blank | Value::Num(_) | Value::Str(_) | Value::Na => false,
+        },
+        Value::Na => match other {
+            Value::Na => true,
+            Value::Blank | Value::Num(_) | Value::Str(_) | Value::Err => false,
+        },
+    }
+}
+
+// Whether two formulas of a cell have the same code in a worksheet file.
+fn is_same_formula(one: &Formula, other: &Formula, at: Cell) -> Result<bool, Memory>
+    ensures { IfOk result (λ same. same ≡ bytes_eq (code_of one.now at) (code_of other.now at)) }
+{
+    let mut left = Vec::new(one.alloc());
+    let mut right = Vec::new(one.alloc());
+    write_code(one, at, &mut left)?;
+    write_code(other, at, &mut right)?;
+    Ok(left.as_slice() == right.as_slice())
+}
+
+// Whether two contents of a cell are one.
+fn is_same_content(one: &Content, other: &Content, at: Cell) -> Result<bool, Memory>
+    ensures { IfOk result (λ same. same ≡ same_content at one.now other.now) }
+{
+    match one {
+        Content::Blank => match other {
+            Content::Blank => Ok(true),
+            Content::Number(_) | Content::Label(_, _) | Content::Formula(_) => Ok(false),
+        },
+        Content::Number(number) => match other {
+            Content::Number(value) => Ok(number.millionths() == value.millionths()),
+            Content::Blank | Content::Label(_, _) | Content::Formula(_) => Ok(false),
+        },
+        Content::Label(prefix, text) => match other {
+            Content::Label(mark, label) => Ok(is_same_label(*prefix, text, *mark, label)),
+            Content::Blank | Content::Number(_) | Content::Formula(_) => Ok(false),
+        },
+        Content::Formula(formula) => match other {
+            Content::Formula(tree) => is_same_formula(formula, tree, at),
+            Content::Blank | Content::Number(_) | Content::Label(_, _) => Ok(false),
+        },
+    }
+}
+
+// What a formula's tree keeps. Nothing is done: the contract says it.
+fn is_written(content: &Content)
+    ensures { IsWritten content.now }
+{
+    match content {
+        Content::Blank | Content::Number(_) | Content::Label(_, _) => {}
+        Content::Formula(formula) => {
+            let _ = formula.expr();
+        }
+    }
+}
+
+// Whether two values and formats are one.
+fn is_same_rest(one: &CellState, other: &CellState) -> bool
+    ensures { result ≡ (same_value one.now.value other.now.value && nat_eq one.now.format.0 other.now.format.0) }
+{
+    is_same_value(&one.value, &other.value) && one.format.0 == other.format.0
+}
+
+// Whether two states of a cell are one.
+fn is_same_state(one: &CellState, other: &CellState, at: Cell) -> Result<bool, Memory>
+    ensures { IfOk result (λ same. same ≡ same_state at one.now other.now) }
+{
+    if is_same_content(&one.content, &other.content, at)? {
+        Ok(is_same_rest(one, other))
+    } else {
+        Ok(false)
+    }
+}
+
+// Whether two cells are one.
+fn is_same_cell(cell: Cell, other: Cell) -> bool
+    ensures { result ≡ same_place cell other }
+{
+    cell.row == other.row && cell.col == other.col
+}
+
+// Whether two cells with their states pass the test of being one.
+fn pass_as_one(cell: Cell, one: &CellState, place: Cell, other: &CellState) -> Result<bool, Memory>
+    ensures { IfOk result (λ same. same ≡ same_entry cell one.now place other.now) }
+{
+    if is_same_cell(cell, place) {
+        is_same_state(one, other, cell)
+    } else {
+        Ok(false)
+    }
+}
+
+// Whether two cells with their states are one.
+pub fn is_same_entry(
+    cell: Cell,
+    one: &CellState,
+    place: Cell,
+    other: &CellState,
+) -> Result<bool, Memory>
+    ensures { IfOk result (λ same. Decides same (entry cell one.now ≡ entry place other.now)) }
+{
+    cell.is_on_sheet();
+    is_written(&one.content);
+    is_written(&other.content);
+    pass_as_one(cell, one, place, other)
+}
+
+// Whether no cell is left.
+fn is_over(left: &mut Entries<'_>) -> bool
+    ensures { Decides result (left.old ≡ []) }
+{
+    left.next().is_none()
+}
+
+// Whether two stores hold the same cells.
+pub fn are_same_cells(one: &Store, other: &Store) -> Result<bool, Memory>
+    ensures { IfOk result (λ same. Decides same (one.now.cells ≡ other.now.cells)) }
+{
+    let mut left = one.entries();
+    let mut right = other.entries();
+    while let Some(entry) = left.next() {
+        let Some(facing) = right.next() else {
+            return Ok(false);
+        };
+        if !is_same_entry(entry.0, entry.1, facing.0, facing.1)? {
+            return Ok(false);
+        }
+    }
+    Ok(is_over(&mut right))
+}

@@ -1,0 +1,39 @@
+// Whether two stores have the same columns.
+ghost use Rattle.std.specs.Bool.{Decides};
+ghost use Rattle.std.specs.Prelude.{◌≡◌, get_or};
+ghost use Rattle.sheet_undo.specs.Same.{IsSameColumn, SameColumns};
+
+use sheet_store::Store;
+
+// The width of a column's own; 0 where it has none.
+fn width_number(store: &Store, col: u8) -> u8
+    ensures { result ≡ get_or store.now.widths col 0 }
+{
+    match store.width(col) {
+        Some(width) => width,
+        None => 0,
+    }
+}
+
+// Whether a column has the same width of its own in two stores, or in neither, and is hidden in both or in neither.
+fn is_same_column(one: &Store, other: &Store, col: u8) -> bool
+    ensures { Decides result (IsSameColumn one.now other.now col) }
+{
+    let is_same = width_number(one, col) == width_number(other, col);
+    let is_both = one.is_hidden(col) == other.is_hidden(col);
+    is_same && is_both
+}
+
+// Whether two stores have the same columns.
+pub fn are_same_columns(one: &Store, other: &Store) -> bool
+    ensures { Decides result (SameColumns one.now other.now) }
+{
+    one.are_columns();
+    other.are_columns();
+    for col in 0..256usize {
+        if !is_same_column(one, other, col as u8) {
+            return false;
+        }
+    }
+    true
+}

@@ -1,0 +1,5 @@
+//! Tests of undo by calls.
+#![tactic(auto)]
+
+#[cfg(test)]
+mod undos;
