@@ -548,7 +548,9 @@ def asked_block(sheet, line):
 
 
 def query_fault_text(fault):
-    """The fault of a query, with what it carries."""
+    """The fault of a query, with the cell or the number that it carries."""
+    if isinstance(fault.payload, int):
+        return b'!' + fault.kind.encode() + b' %d' % fault.payload
     return b'!' + fault.kind.encode() + (b'' if fault.payload is None else b' ' + cell_text(fault.payload))
 
 
@@ -558,13 +560,16 @@ def match_text(answer):
 
 
 def asked_query(sheet, line):
-    """Whether a record matches, which ones do, and what deleting them writes."""
+    """Whether a record matches, which ones do, and what deleting or extracting them writes."""
     words = line[1:].split(b' ')
     if line[:1] == b'm':
         return match_text(matches(read_span(words[1]), read_span(words[2]), read_cell(words[0])[1], sheet, SCENE))
     spans = [read_span(word) for word in words]
     if line[:1] == b'q':
         return b''.join(cell_text(cell) + b' ' for cell in query.select(*spans, sheet, SCENE))
+    if line[:1] in (b'e', b'u'):
+        output, given, criterion = spans
+        return writes_text(query.extract(given, criterion, output, line[:1] == b'u', sheet, SCENE), sheet.names)
     return writes_text(query.delete(*spans, sheet, SCENE), sheet.names)
 
 

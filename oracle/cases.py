@@ -579,9 +579,53 @@ class Queries:
         return out
 
 
+class Extractions(Queries):
+    """Records of which many have equal values, and outputs that have room for them or too little."""
+
+    def sheet(self):
+        """A fresh sheet with records, a criterion and an output."""
+        r = self.r
+        lines = super().sheet()
+        first = r.choice([(10, 0), (10, 0), (10, 0), (10, 3), (10, 8180), (10, 8186), (10, 8190), (10, 8191), (254, 0), self.input[0]])
+        rows = r.choice([1 if first[1] >= 8180 else 5, 2, 3, 4, 5, 7, 8, 9])
+        self.output = self.range(first, r.randrange(1, 5), rows)
+        lines[1] += b''.join(b'\t' + self.put(cell, self.taken()) for cell in self.row(self.output, 0)
+                             if first != self.input[0])
+        return lines
+
+    def header(self, place=None):
+        """A field's name, and often that of an earlier field."""
+        return super().header(place if place is None or self.r.randrange(4) else self.r.randrange(place + 1))
+
+    def value(self):
+        """One of few values; the same text as a label of each alignment, in other letters, and as a formula's value."""
+        return self.r.choice([b'1', b'1', b'2', b"'fig", b"'fig", b'^fig', b"'Fig", b'+"fig"', b'', b"'", b'@NA', b'@ERR', b'1.000001'])
+
+    def condition(self):
+        """Mostly one that all records or many of them meet."""
+        r = self.r
+        return r.choice([b'', b'', b"'~x", b"'~x", b"'*", b'@TRUE']) if r.randrange(4) else super().condition()
+
+    def taken(self):
+        """A header of an output: a field's name, nothing, what is no label, or seldom a label that is no field."""
+        r = self.r
+        return r.choice([b'', b'1', b'+"N"']) if r.randrange(6) == 0 else b"'nobody" if r.randrange(40) == 0 else self.header()
+
+    def asked(self, count):
+        """So many of each, a fresh sheet for each two."""
+        out = []
+        for _ in range(count):
+            out += self.sheet()
+            given = b' '.join(map(span_text, (self.output, self.input, self.criterion)))
+            out += [b'e' + given, b'u' + given]
+        return out
+
+
 def data(r):
-    """The worked lines, 500 fills, sorts and distributions of small sheets, and 500 queries of each kind."""
-    return worked('data') + b''.join(line + b'\n' for line in Blocks(r).asked(500) + Queries(r).asked(500))
+    """The worked lines, 500 fills, sorts and distributions of small sheets, 500 queries of each kind, and 400
+    extractions of all records and of those that differ."""
+    asked = Blocks(r).asked(500) + Queries(r).asked(500) + Extractions(r).asked(400)
+    return worked('data') + b''.join(line + b'\n' for line in asked)
 
 
 def generated(_r):

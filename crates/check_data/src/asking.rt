@@ -1,7 +1,7 @@
 // What a line asks for.
 use crate::desk::{SCENE, Stop, cell_of, number_of, parts, span_of};
 use data_blocks::{BlockFault, SortKey, distribution, fill, sort_rows};
-use data_query::{Match, QueryFault, deletion, matching, select};
+use data_query::{Match, QueryFault, deletion, extract, matching, select};
 use grid_address::{CellList, Span};
 use lics_text::Memory;
 use sheet_store::Writes;
@@ -105,4 +105,17 @@ pub fn asked_deletion(
 ) -> Result<Result<Writes, QueryFault>, Stop> {
     let (input, criterion) = query_of(bytes)?;
     Ok(deletion(alloc, input, criterion, sheet, &SCENE))
+}
+
+/// What extracting them writes, all of them or those that differ: an input, a criterion and an output.
+pub fn asked_extraction(
+    alloc: Global,
+    sheet: &Sheet,
+    bytes: &[u8],
+    unique: bool,
+) -> Result<Result<Writes, QueryFault>, Stop> {
+    let (output, rest) = parts(bytes)?;
+    let output = span_of(output)?;
+    let (input, criterion) = query_of(rest)?;
+    Ok(extract(alloc, input, criterion, output, unique, sheet, &SCENE))
 }

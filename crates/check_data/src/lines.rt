@@ -1,6 +1,7 @@
 // What each line does.
 use crate::asking::{
-    asked_deletion, asked_distribution, asked_fill, asked_match, asked_selection, asked_sort,
+    asked_deletion, asked_distribution, asked_extraction, asked_fill, asked_match, asked_selection,
+    asked_sort,
 };
 use crate::desk::{Stop, enter};
 use crate::show::{show_block_fault, show_cells, show_match, show_query_fault, show_writes};
@@ -58,6 +59,8 @@ fn work<W: Write>(alloc: Global, sheet: &mut Sheet, line: &[u8], out: &mut W) ->
         [b'm', rest @ ..] => show_match(asked_match(alloc, sheet, rest)?, out),
         [b'q', rest @ ..] => answer_cells(asked_selection(alloc, sheet, rest)?, out),
         [b'r', rest @ ..] => answer_query(asked_deletion(alloc, sheet, rest)?, sheet, out),
+        [b'e', rest @ ..] => answer_query(asked_extraction(alloc, sheet, rest, false)?, sheet, out),
+        [b'u', rest @ ..] => answer_query(asked_extraction(alloc, sheet, rest, true)?, sheet, out),
         _ => Err(Stop::Line),
     }
 }

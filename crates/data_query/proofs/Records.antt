@@ -22,7 +22,7 @@ numbers_count : (n k : ℕ) → length (numbers_from n k) ≡ k
 numbers_count n zero = refl
 numbers_count n (suc k) = ap suc (numbers_count (n + 1) k)
 
-filter_count : (test : ℕ → Bool) (rows : List ℕ) → length (filter test rows) ≤ length rows
+pub filter_count : (test : ℕ → Bool) (rows : List ℕ) → length (filter test rows) ≤ length rows
 filter_count test [] = omega arith
 filter_count test (row ∷ rows) = one_more (test row) (filter_count test rows)
   where

@@ -1,6 +1,6 @@
 -- Numbers from one on, looked through one by one.
 use Rattle.std.proofs.Common.{◌≡◌, ℕ, suc, ◌+◌, ◌-◌, ◌<◌, ◌≤◌, List, [], ◌∷◌, ◌++◌, map, length, get_or, cond, refl, sym, ap, ◌∙◌, append_assoc, arith}
-use Rattle.std.specs.Prelude.{zero, ◌&&◌, ◌||◌, Bool, true, false, Option, Some, None}
+use Rattle.std.specs.Prelude.{zero, ◌&&◌, ◌||◌, Bool, true, false, Option, Some, None, option_to_list}
 use Rattle.std.specs.List.{cons_option, filter, filter_map, find, list_all, list_any}
 use Rattle.std.proofs.lemmas.List.{append-nil}
 use Rattle.block_writes.specs.Writing.{numbers_from}
@@ -68,6 +68,23 @@ module _ {X : Type 0} (make : ℕ → X) (f : ℕ → Bool) (n count : ℕ) wher
 
   pub put_all : (i : ℕ) (now all : List X) → count ≤ i → now ++ passed i ≡ all → now ≡ all
   put_all i now all past so_far = sym (append-nil now) ∙ ap (λ l. now ++ map make (filter f l)) (sym (left_none n count i past)) ∙ so_far
+
+module _ {X : Type 0} (h : ℕ → Option X) (n count : ℕ) where
+  -- what is taken of those that are left
+  abbrev pub taken_of : ℕ → List X
+  taken_of i = filter_map h (left n count i)
+
+  listed : (o : Option X) (xs : List X) → option_to_list o ++ xs ≡ cons_option o xs
+  listed None xs = refl
+  listed (Some x) xs = refl
+
+  pub took_next : (i : ℕ) (now new all : List X) (o : Option X) → i < count → o ≡ h (n + i) → new ≡ now ++ option_to_list o → now ++ taken_of i ≡ all → new ++ taken_of (i + 1) ≡ all
+  took_next i now new all o inside is more so_far =
+      ap (λ l. l ++ taken_of (i + 1)) more ∙ append_assoc now (option_to_list o) (taken_of (i + 1))
+      ∙ ap (λ l. now ++ l) (listed o (taken_of (i + 1)) ∙ ap (λ p. cons_option p (taken_of (i + 1))) is ∙ sym (ap (filter_map h) (left_more n count i inside))) ∙ so_far
+
+  pub took_all : (i : ℕ) (now all : List X) → count ≤ i → now ++ taken_of i ≡ all → now ≡ all
+  took_all i now all past so_far = sym (append-nil now) ∙ ap (λ l. now ++ filter_map h l) (sym (left_none n count i past)) ∙ so_far
 
 module _ {X : Type 0} (make : ℕ → X) where
   -- how many are made, and each of them

@@ -2,7 +2,7 @@
 use Rattle.std.specs.Prelude.{ℕ, ◌+◌, ◌-◌, ◌%◌, ◌&&◌, ◌==◌, nat_abs, nat_eq, not, ℤ, Bool, true, false, Option, None, Some, if◌then◌else◌}
 use Rattle.std.specs.Ordering.{int_eq}
 use Rattle.std.specs.List.{find, list_all, list_any}
-use Rattle.grid_address.specs.Place.{Extent, Place}
+use Rattle.grid_address.specs.Place.{height_of, whole, Extent, Place}
 use Rattle.formula_tree.specs.declared.value.Content.{Content}
 use Rattle.formula_tree.specs.declared.value.Content.TheVariants as content
 use Rattle.formula_tree.specs.declared.value.Value.{Value}
@@ -33,7 +33,7 @@ is_true value.Na = false
 
 -- a cell so many rows further down; behind the last row comes the first
 abbrev pub rows_down : ℕ → Place → Place
-rows_down count p = at ((p.row + count) % 8192) p.col
+rows_down count p = at ((p.row + count) % height_of whole) p.col
 
 -- A condition holds of a field's value; a formula is taken as if it were copied down to the record.
 abbrev pub content_holds : World → Content → Place → Value → Bool

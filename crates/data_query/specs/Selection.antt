@@ -33,10 +33,11 @@ selection w input criterion =
 abbrev pub rows_erased : List ℕ → List ℕ → List Write
 rows_erased columns rows = flat_map (λ row. map erased (across row columns)) rows
 
--- the records that stay move up, and the rest is erased
+-- the rows of the records that stay, in order
 abbrev pub kept : World → Extent → Extent → List ℕ
 kept w input criterion = filter (λ row. not (record_matches w input criterion row)) (rows_below input)
 
+-- the records that stay move up, and the rest is erased
 abbrev pub moved_up : Sight → Extent → List ℕ → List Write
 moved_up sight input rows =
     rows_copied sight (columns_of input) rows (rows_below input)

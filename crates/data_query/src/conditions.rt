@@ -1,18 +1,21 @@
 // Conditions that are numbers and formulas.
-ghost use Rattle.std.specs.Prelude.{◌≡◌, ◌<◌, ◌==◌, nat_abs, not, IfOk};
+ghost use Rattle.std.specs.Prelude.{◌≡◌, ◌≤◌, ◌==◌, nat_abs, not, IfOk};
 ghost use Rattle.std.specs.Ordering.{int_eq};
 ghost use Rattle.data_query.specs.Criteria.{content_holds, equals_number, is_true, rows_down};
+ghost use Rattle.data_query.specs.Plans.{last_row};
 ghost use Rattle.formula_eval.specs.Scenes.{world_of};
 ghost use Rattle.formula_eval.specs.World.{Sight};
 
 use crate::patterns::fits;
+use crate::rows::LAST_ROW;
 use fixed_value::Fixed;
 use formula_eval::{Look, Scene, glance};
 use formula_tree::{Content, Value};
 use grid_address::Cell;
 use lics_text::Memory;
 
-fn is_same(a: Fixed, b: Fixed) -> bool
+/// Whether two numbers are equal.
+pub fn is_same(a: Fixed, b: Fixed) -> bool
     ensures { result ≡ int_eq a b }
 {
     a.millionths() == b.millionths()
@@ -46,11 +49,11 @@ pub fn is_true(value: &Value) -> bool
 
 /// A cell so many rows further down, fewer than 8192; behind the last row comes the first.
 pub fn rows_down(count: u16, cell: Cell) -> Cell
-    requires { count < 8192 }
+    requires { count ≤ last_row }
     ensures { result ≡ rows_down count cell }
 {
     Cell {
-        row: (cell.row + count) % 8192,
+        row: (cell.row + count) % (LAST_ROW + 1),
         col: cell.col,
     }
 }
@@ -64,7 +67,8 @@ pub fn content_holds<K: Look>(
     look: &K,
     scene: &Scene,
 ) -> Result<bool, Memory>
-    ensures { IfOk result (λ b. b ≡ content_holds (world_of (K.sight look.now) scene.entry.now) content.now place value.now) }
+    ensures { let w = world_of (K.sight look.now) scene.entry.now in
+        IfOk result (λ b. b ≡ content_holds w content.now place value.now) }
 {
     match content {
         Content::Blank => Ok(true),

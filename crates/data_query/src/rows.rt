@@ -5,6 +5,9 @@ ghost use Rattle.data_query.specs.Plans.{behind_first, last_row};
 
 use grid_address::{Cell, Span};
 
+/// The last row of the sheet.
+pub const LAST_ROW: u16 = 8191;
+
 /// How many rows a range has below its first.
 pub fn count_below(span: Span) -> u16
     ensures count { result ≡ span.last.row - span.first.row }
