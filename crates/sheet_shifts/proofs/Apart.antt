@@ -12,17 +12,18 @@ use Rattle.std.proofs.Common.{ℕ, sym, subst, ◌∙◌, ap, inl, inr}
 use Rattle.std.proofs.lemmas.Bool.{cases_Bool}
 use Rattle.grid_address.proofs.Maps.{equal_of}
 use Rattle.grid_address.proofs.Places.{cells_exact, cells_total}
-use Rattle.grid_address.specs.Place.{place_cmp, Extent, InSheet, Place}
+use Rattle.grid_address.specs.Place.{place_cmp, whole, Extent, InSheet, Place}
 use Rattle.range_names.proofs.NameMaps.{names_exact, names_total}
 use Rattle.range_names.specs.Names.{name_cmp, AreKeys, IsKey, NameMap}
 use Rattle.ref_adjust.proofs.Following.{changes_apart, moves_apart}
 use Rattle.ref_adjust.specs.Laws.{IsOneToOne}
-use Rattle.sheet_store.specs.Grid.{AreHeld, Cells, Grid, IsHeld}
+use Rattle.sheet_store.specs.Grid.{any_state, picked, AreHeld, Cells, Grid}
 use Rattle.sheet_store.specs.declared.state.CellState.{CellState}
-use Rattle.sheet_shifts.specs.Puts.{put_all, AreAllHeld, AreAllKeys, IsNaming, IsPutting}
+use Rattle.sheet_shifts.specs.Puts.{entry_at, put_all, put_all_at, AreAllKeys, IsNaming}
 use Rattle.sheet_shifts.specs.Shifts.{cells_after, entry_after, name_after, name_at, names_after, place_after, span_after, state_after, state_at, IsShift}
 use Rattle.sheet_shifts.specs.declared.shift.Shift.{Shift}
 use Rattle.sheet_shifts.specs.declared.shift.Shift.TheVariants.{Lines, Block}
+use Rattle.sheet_shifts.proofs.Listed.{all_held, all_states, entries_at, whole_picked, AreAllHeld}
 use Rattle.sheet_shifts.proofs.Maps.{all_put, each, entries_apart, entries_ordered, AreApart}
 
 pub shift_apart : (shift : Shift) → IsShift shift → IsOneToOne (place_after shift)
@@ -34,9 +35,6 @@ equal_less e l = absurd cc
 
 not_itself : (x y : Place) → x ≡ y → place_cmp x y ≡ Less → ⊥
 not_itself x y e l = equal_less (tied_itself cells_total x) (ap (place_cmp x) e ∙ l)
-
-pub all_held : (m : Cells) → AreHeld m → AreAllHeld (entries m)
-all_held m held = each cells_total cells_exact IsHeld (entries m) (entries_apart cells_total cells_exact m) (λ p s h. held p s (get-entries m p ∙ h))
 
 module _ (shift : Shift) (is : IsShift shift) where
   -- no later cell comes where one comes
@@ -92,31 +90,19 @@ put_first : {K X : Type 0} {R : K → K → Ordering} (m : FinMap R X) (o : Opti
 put_first m None es = refl
 put_first m (Some e) es = refl
 
--- before any is put
-pub none_put : (shift : Shift) → IsShift shift → (m : Cells) → AreHeld m → (first : Grid) (rest : List (Place × CellState)) → first.cells ≡ empty → rest ≡ entries m → IsPutting shift m first first rest
-none_put shift is m held first rest none all = record {
-  held = subst AreAllHeld (sym all) (all_held m held);
-  cells = ap (λ l. put_all first.cells (filter_map (entry_after shift) l)) all ∙ ap (λ k. put_all k (filter_map (entry_after shift) (entries m))) none ∙ cells_put shift is m held;
-  widths = refl;
-  hidden = refl;
-}
-
 -- one cell more is put
-pub one_put : (shift : Shift) (m : Cells) (first now next : Grid) (e : Place × CellState) (rest more : List (Place × CellState)) → IsPutting shift m first now more → more ≡ e ∷ rest
-    → next ≡ record now { cells = put_all now.cells (cons_option (entry_after shift e) []) } → IsPutting shift m first next rest
-one_put shift m first now next e rest more so here is = record {
-  held = (subst AreAllHeld here so.held).1;
-  cells = ap (λ (g : Grid). put_all g.cells (filter_map (entry_after shift) rest)) is ∙ put_first now.cells (entry_after shift e) (filter_map (entry_after shift) rest)
-      ∙ ap (λ l. put_all now.cells (filter_map (entry_after shift) l)) (sym here) ∙ so.cells;
-  widths = ap (λ (g : Grid). g.widths) is ∙ so.widths;
-  hidden = ap (λ (g : Grid). g.hidden) is ∙ so.hidden;
-}
+pub one_put : (shift : Shift) (m : Cells) (now next : Grid) (p : Place) (rest more : List Place) → more ≡ p ∷ rest → next ≡ record now { cells = put_all now.cells (cons_option (entry_at shift m p) []) }
+    → put_all_at shift m next rest ≡ put_all_at shift m now more
+one_put shift m now next p rest more here is =
+    ap (λ (g : Grid). put_all_at shift m g rest) is ∙ ap (λ (l : Cells). record now { cells = l })
+    (put_first now.cells (entry_at shift m p) (filter_map (entry_at shift m) rest) ∙ ap (λ l. put_all now.cells (filter_map (entry_at shift m) l)) (sym here))
 
--- all are put
-pub all_are_put : (shift : Shift) (m : Cells) (first now : Grid) (rest : List (Place × CellState)) → IsPutting shift m first now rest → rest ≡ [] → now ≡ record first { cells = cells_after shift m }
-all_are_put shift m first now rest so none =
-    let cells : now.cells ≡ cells_after shift m = ap (λ l. put_all now.cells (filter_map (entry_after shift) l)) (sym none) ∙ so.cells in
-    λ i. record { cells = cells i; widths = so.widths i; hidden = so.hidden i }
+-- what a map holds at all its places is put
+pub cells_put_at : (shift : Shift) → IsShift shift → (m : Cells) → AreHeld m → (into : Grid) (cells : List Place) → into.cells ≡ empty → cells ≡ picked any_state whole (entries m)
+    → put_all_at shift m into cells ≡ record into { cells = cells_after shift m }
+cells_put_at shift is m held into cells none all = ap (λ (l : Cells). record into { cells = l })
+    (ap (λ l. put_all into.cells (filter_map (entry_at shift m) l)) (all ∙ whole_picked (entries m) (all_held m held))
+    ∙ ap (put_all into.cells) (entries_at shift m (entries m) (all_states m)) ∙ ap (λ k. put_all k (filter_map (entry_after shift) (entries m))) none ∙ cells_put shift is m held)
 
 pub none_named : (shift : Shift) → IsShift shift → (m : NameMap) → AreKeys m → (now : NameMap) (rest : List (List ℕ × Extent)) → now ≡ empty → rest ≡ entries m → IsNaming shift m now rest
 none_named shift is m keyed now rest none all = record {

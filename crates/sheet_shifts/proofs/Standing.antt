@@ -11,10 +11,10 @@ use Rattle.grid_address.specs.Place.{place_cmp, InSheet, Place}
 use Rattle.sheet_store.specs.Grid.{AreHeld, Cells}
 use Rattle.sheet_store.specs.declared.state.CellState.{CellState}
 use Rattle.sheet_shifts.specs.Laws.{CellsCame, CellsGo}
-use Rattle.sheet_shifts.specs.Puts.{AreAllHeld}
 use Rattle.sheet_shifts.specs.Shifts.{cells_after, entry_after, place_after, state_after, state_at, IsShift}
 use Rattle.sheet_shifts.specs.declared.shift.Shift.{Shift}
-use Rattle.sheet_shifts.proofs.Apart.{all_held, shift_apart}
+use Rattle.sheet_shifts.proofs.Apart.{shift_apart}
+use Rattle.sheet_shifts.proofs.Listed.{all_held, AreAllHeld}
 use Rattle.sheet_shifts.proofs.Maps.{entries_apart, first_found, found_later, same_key, AreApart}
 
 some_is : {X : Type 0} {x y : X} → Some x ≡ Some y → x ≡ y

@@ -3,13 +3,13 @@ ghost use Rattle.std.specs.Prelude.{◌≡◌, [], IfOk, OnOk};
 ghost use Rattle.std.specs.List.{cons_option};
 ghost use Rattle.std.specs.FinMap as map;
 ghost use Rattle.sheet_store.specs.Grid.{IsHeld};
-ghost use Rattle.sheet_shifts.specs.Puts.{put_all};
+ghost use Rattle.sheet_shifts.specs.Puts.{entry_at, put_all, put_all_at};
 ghost use Rattle.sheet_shifts.specs.Shifts.{cells_after, entry_after, grid_after, state_after, IsShift};
 
 use crate::Shift;
 use crate::columns::put_columns;
 use crate::shift::{content_after, place_after};
-use grid_address::Cell;
+use grid_address::{Cell, Span};
 use lics_text::Memory;
 use sheet_store::{CellState, Store};
 
@@ -45,17 +45,40 @@ fn put_cell(shift: &Shift, cell: Cell, state: &CellState, into: &mut Store) -> R
     }
 }
 
-// Puts each cell that isn't lost at its new place in a store without cells.
+// Puts what a store holds at a cell, if anything, at its new place, if it isn't lost.
+fn put_at(shift: &Shift, store: &Store, cell: Cell, into: &mut Store) -> Result<(), Memory>
+    requires { IsShift shift.now }
+    ensures { OnOk result (into.new ≡ record into.old {
+      cells = put_all into.old.cells (cons_option (entry_at shift.now store.now.cells cell) []);
+    }) }
+{
+    store.are_held();
+    match store.get(cell) {
+        Some(state) => put_cell(shift, cell, state, into),
+        None => Ok(()),
+    }
+}
+
+// Puts what a store holds at some cells, each at its new place, if it isn't lost.
+fn put_all_at(shift: &Shift, store: &Store, cells: &[Cell], into: &mut Store) -> Result<(), Memory>
+    requires { IsShift shift.now }
+    ensures { OnOk result (into.new ≡ put_all_at shift.now store.now.cells into.old cells.now) }
+{
+    for cell in cells {
+        put_at(shift, store, *cell, into)?;
+    }
+    Ok(())
+}
+
+// Puts each cell that isn't lost at its new place in a store without cells. It looks at no place without a cell.
 fn put_cells(shift: &Shift, store: &Store, into: &mut Store) -> Result<(), Memory>
     requires shift { IsShift shift.now }
     requires none { into.old.cells ≡ map.empty }
     ensures { OnOk result (into.new ≡ record into.old { cells = cells_after shift.now store.now.cells }) }
 {
     store.are_held();
-    let mut entries = store.entries();
-    while let Some(entry) = entries.next() {
-        put_cell(shift, entry.0, entry.1, into)?;
-    }
+    let cells = store.cells_in(Span::whole())?;
+    put_all_at(shift, store, cells.as_slice(), into)?;
     Ok(())
 }
 

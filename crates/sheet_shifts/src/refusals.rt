@@ -95,7 +95,7 @@ fn pushed_in(store: &Store, shift: &Shift) -> Option<Cell>
 /// protection is on, the first protected cell in row order of this span and its target, and for lines the first cell of
 /// the first one; and the first filled cell in row order that an insert would push out of the sheet (this project's
 /// choice for the order and the cells). Lines that are inserted or deleted are at least one, and none past the last. It
-/// takes no memory.
+/// needs no memory: where there is none for a list of cells, it looks at more places.
 pub fn refusal(store: &Store, settings: &Settings, shift: &Shift) -> Option<SheetFault>
     requires { AreInSheet shift.now }
     ensures fault { result ≡ refusal settings.now store.now.cells shift.now }
