@@ -36,6 +36,13 @@ impl ByteList {
         Ok(ByteList { bytes })
     }
 
+    // A list of the bytes of a vector.
+    pub(crate) fn of_vec(bytes: Vec<u8>) -> ByteList
+        ensures { result ≡ bytes.items }
+    {
+        ByteList { bytes }
+    }
+
     /// Adds a byte at the end. After want of memory the list is as it was.
     pub fn push(&mut self, byte: u8) -> Result<(), Memory>
         ensures ok { OnOk result (self.new ≡ self.old ++ byte ∷ []) }

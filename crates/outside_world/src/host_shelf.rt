@@ -1,0 +1,310 @@
+ghost use Rattle.std.specs.Prelude.{◌≡◌, ◌≤◌, List, None, length};
+ghost use Rattle.outside_world.specs.Shelf.{HasCause};
+
+use crate::{ByteList, FileName, Shelf, ShelfFault};
+use byte_list::ByteList as Short;
+use std::alloc::Global;
+use std::fs::{Files, Metadata, OpenFile, OpenOptions};
+use std::io::{ErrorKind, Read, Write};
+use std::{fs, io};
+
+// How many bytes of a file are read at most: one more than a worksheet's file may have.
+const MOST_BYTES: u64 = 67_108_865;
+
+// What a file is called while it is written, behind its name. No name of a shelf's file ends in it.
+const BESIDE: &[u8] = b".saving";
+
+/// The files of the current folder. They tell nothing of their content, and each failed call raises their count of
+/// faults. At most 67,108,865 bytes of a file are read, one more than a worksheet's file may have. A put writes the
+/// bytes into a file `NAME.WK1.saving` beside, waits until they are on the disk, and gives that file the name: one that
+/// breaks off at any point leaves what the name held before. The file keeps its access rights.
+///
+/// A name leads to the file that is called exactly so, in capitals; another spelling, as `pay.wk1`, is another file,
+/// which no name leads to. What is no plain file (a folder, a link, a pipe) is neither read, written nor taken away:
+/// each call with its name fails, since a link may lead out of the folder. So does the reading of a file that can't be
+/// read, and a put or a removal of one that nobody may write. All this is this project's choice.
+#[derive(Drop)]
+pub struct HostShelf<F: Files + Drop> {
+    files: F,
+    alloc: Global,
+    faults: u64,
+}
+
+impl<F: Files + Drop> HostShelf<F> {
+    /// The current folder of these files.
+    pub fn new(files: F, alloc: Global) -> HostShelf<F> {
+        HostShelf {
+            files,
+            alloc,
+            faults: 0,
+        }
+    }
+
+    // The answer of a call: want of memory is told apart, and every other failure raises the count.
+    fn answer<T>(&mut self, outcome: io::Result<T>) -> Result<T, ShelfFault>
+        ensures { HasCause self.old.faults self.new.faults result }
+    {
+        match outcome {
+            Ok(value) => Ok(value),
+            Err(fault) => match fault.kind() {
+                ErrorKind::OutOfMemory => Err(ShelfFault::Memory),
+                _ => {
+                    self.faults = self.faults.saturating_add(1);
+                    Err(ShelfFault::Failed)
+                }
+            },
+        }
+    }
+}
+
+// A name as text.
+fn text_of(bytes: &[u8]) -> io::Result<&str> {
+    match str::from_utf8(bytes) {
+        Ok(text) => Ok(text),
+        Err(_) => Err(ErrorKind::InvalidInput.into()),
+    }
+}
+
+// The state of the plain file of this name, and none where there is nothing of the name.
+fn state_of(files: &impl Files, name: &str) -> io::Result<Option<Metadata>> {
+    match files.symlink_metadata(name) {
+        Ok(state) if state.is_file() => Ok(Some(state)),
+        Ok(_) => Err(ErrorKind::InvalidInput.into()),
+        Err(fault) if fault.kind() == ErrorKind::NotFound => Ok(None),
+        Err(fault) => Err(fault),
+    }
+}
+
+// As `state_of`, for a file that is to be changed.
+fn state_to_change(files: &impl Files, name: &str) -> io::Result<Option<Metadata>> {
+    match state_of(files, name)? {
+        Some(state) if state.permissions().readonly() => Err(ErrorKind::PermissionDenied.into()),
+        state => Ok(state),
+    }
+}
+
+// The first bytes of a file, up to the most.
+fn read_file(files: &impl Files, alloc: Global, name: &str) -> io::Result<Option<ByteList>> {
+    if state_of(files, name)?.is_none() {
+        return Ok(None);
+    }
+    let mut bytes = Vec::new(alloc);
+    let file = fs::open(files, name)?;
+    file.take(MOST_BYTES).read_to_end(&mut bytes)?;
+    Ok(Some(ByteList::of_vec(bytes)))
+}
+
+// Makes a file of these bytes, which are on the disk when it answers. There must be none of the name.
+fn write_new<R: Files>(
+    files: &R,
+    name: &str,
+    bytes: &[u8],
+    before: Option<Metadata>,
+) -> io::Result<()> {
+    let mut file = OpenOptions::new()
+        .write(true)
+        .create_new(true)
+        .open(files, name)?;
+    file.write_all(bytes)?;
+    if let Some(state) = before {
+        file.set_permissions(state.permissions())?;
+    }
+    file.sync_all()
+}
+
+// Writes a file beside, and gives it the name when it is on the disk; so the bytes of before stay until then. What it
+// wrote beside goes where it fails.
+fn replace_file(files: &impl Files, name: &str, beside: &str, bytes: &[u8]) -> io::Result<()> {
+    let before = state_to_change(files, name)?;
+    if state_of(files, beside)?.is_some() {
+        files.remove_file(beside)?;
+    }
+    let outcome = match write_new(files, beside, bytes, before) {
+        Ok(()) => files.rename(beside, name),
+        Err(fault) => Err(fault),
+    };
+    if outcome.is_err() {
+        let _ = files.remove_file(beside);
+    }
+    outcome
+}
+
+// Takes a file away, where it is there.
+fn remove_file(files: &impl Files, name: &str) -> io::Result<bool> {
+    let there = state_to_change(files, name)?.is_some();
+    if there {
+        files.remove_file(name)?;
+    }
+    Ok(there)
+}
+
+// What is written where the file of this name is to be replaced.
+fn beside(name: &FileName) -> Short<19> {
+    let mut bytes = Short::new();
+    bytes.put_all(name.bytes());
+    bytes.put_all(BESIDE);
+    bytes
+}
+
+impl<F: Files + Drop> Shelf for HostShelf<F> {
+    ghost holds = { λ s. None };
+
+    ghost faults = { λ s. s.faults };
+
+    fn has(&mut self, name: &FileName) -> Result<bool, ShelfFault> {
+        let outcome = match text_of(name.bytes()) {
+            Ok(text) => state_of(&self.files, text),
+            Err(fault) => Err(fault),
+        };
+        Ok(self.answer(outcome)?.is_some())
+    }
+
+    fn get(&mut self, name: &FileName) -> Result<Option<ByteList>, ShelfFault> {
+        let outcome = match text_of(name.bytes()) {
+            Ok(text) => read_file(&self.files, self.alloc, text),
+            Err(fault) => Err(fault),
+        };
+        self.answer(outcome)
+    }
+
+    fn put(&mut self, name: &FileName, bytes: &ByteList) -> Result<(), ShelfFault> {
+        let beside = beside(name);
+        let outcome = match (text_of(name.bytes()), text_of(beside.bytes())) {
+            (Ok(text), Ok(other)) => replace_file(&self.files, text, other, bytes.bytes()),
+            (Err(fault), _) | (_, Err(fault)) => Err(fault),
+        };
+        self.answer(outcome)
+    }
+
+    fn remove(&mut self, name: &FileName) -> Result<bool, ShelfFault> {
+        let outcome = match text_of(name.bytes()) {
+            Ok(text) => remove_file(&self.files, text),
+            Err(fault) => Err(fault),
+        };
+        self.answer(outcome)
+    }
+}
+
+#[cfg(test)]
+mod tests {
+    use super::*;
+    use std::os::unix::fs::{PermissionsExt, symlink};
+    use std::process::Abort;
+    use std::rt::Files;
+    use std::test::Fail;
+
+    // The test's files; no worksheet of the folder is called so.
+    const NAME: &str = "HS_TEST.WK1";
+
+    const WRITTEN_BESIDE: &str = "HS_TEST.WK1.saving";
+
+    const LOWER: &str = "hs_test.wk1";
+
+    type Tested = HostShelf<HostRuntime>;
+
+    // The bytes that a file holds.
+    fn held(shelf: &mut Tested, name: &FileName) -> Option<ByteList> {
+        shelf.get(name).unwrap_or(None)
+    }
+
+    // It holds these bytes.
+    fn holds(shelf: &mut Tested, name: &FileName, bytes: &[u8]) -> bool {
+        held(shelf, name).is_some_and(|list| list.bytes() == bytes)
+    }
+
+    // Takes away what an earlier test left.
+    fn clear(rt: &HostRuntime) {
+        for name in [NAME, WRITTEN_BESIDE, LOWER] {
+            let _ = fs::remove_file(rt, name);
+            let _ = fs::remove_dir(rt, name);
+        }
+    }
+
+    // A file is written, written anew, and taken away.
+    fn files_come_and_go<R: Abort + Files + AllocGlobal>(
+        rt: &R,
+        shelf: &mut Tested,
+        name: &FileName,
+    ) -> Result<(), Fail> {
+        let first = ByteList::from_slice(rt.alloc(), b"first")?;
+        fs::write(rt, LOWER, b"other".as_slice())?;
+        assert_eq!(rt; shelf.has(name), Ok(false));
+        assert!(rt; matches!(shelf.get(name), Ok(None)));
+        assert_eq!(rt; shelf.remove(name), Ok(false));
+        assert_eq!(rt; shelf.put(name, &first), Ok(()));
+        assert_eq!(rt; shelf.has(name), Ok(true));
+        assert!(rt; holds(shelf, name, b"first"));
+        fs::set_permissions(rt, NAME, fs::Permissions::from_mode(0o640))?;
+        fs::write(rt, WRITTEN_BESIDE, b"broken off".as_slice())?;
+        assert_eq!(rt; shelf.put(name, &ByteList::new(rt.alloc())), Ok(()));
+        assert!(rt; holds(shelf, name, b""));
+        assert_eq!(rt; fs::metadata(rt, NAME)?.permissions().mode() & 0o777, 0o640);
+        assert!(rt; fs::metadata(rt, WRITTEN_BESIDE).is_err());
+        assert_eq!(rt; shelf.remove(name), Ok(true));
+        assert_eq!(rt; shelf.has(name), Ok(false));
+        assert_eq!(rt; shelf.faults, 0);
+        Ok(())
+    }
+
+    // A put that can't write beside, and changes of a file that nobody may write, leave the file.
+    fn failures_leave_it<R: Abort + Files + AllocGlobal>(
+        rt: &R,
+        shelf: &mut Tested,
+        name: &FileName,
+    ) -> Result<(), Fail> {
+        let second = ByteList::from_slice(rt.alloc(), b"second")?;
+        fs::write(rt, NAME, b"first".as_slice())?;
+        fs::create_dir(rt, WRITTEN_BESIDE)?;
+        assert_eq!(rt; shelf.put(name, &second), Err(ShelfFault::Failed));
+        fs::remove_dir(rt, WRITTEN_BESIDE)?;
+        fs::set_permissions(rt, NAME, fs::Permissions::from_mode(0o444))?;
+        assert_eq!(rt; shelf.put(name, &second), Err(ShelfFault::Failed));
+        assert_eq!(rt; shelf.remove(name), Err(ShelfFault::Failed));
+        assert!(rt; holds(shelf, name, b"first"));
+        assert_eq!(rt; shelf.faults, 3);
+        fs::remove_file(rt, NAME)?;
+        Ok(())
+    }
+
+    // Each call with the name of a folder or of a link fails.
+    fn others_are_refused<R: Abort + Files + AllocGlobal>(
+        rt: &R,
+        shelf: &mut Tested,
+        name: &FileName,
+    ) -> Result<(), Fail> {
+        let before = shelf.faults;
+        for is_link in [false, true] {
+            if is_link {
+                symlink(rt, LOWER, NAME)?;
+            } else {
+                fs::create_dir(rt, NAME)?;
+            }
+            assert_eq!(rt; shelf.has(name), Err(ShelfFault::Failed));
+            assert!(rt; matches!(shelf.get(name), Err(ShelfFault::Failed)));
+            assert_eq!(rt;
+                shelf.put(name, &ByteList::new(rt.alloc())),
+                Err(ShelfFault::Failed)
+            );
+            assert_eq!(rt; shelf.remove(name), Err(ShelfFault::Failed));
+            let _ = fs::remove_dir(rt, NAME);
+            let _ = fs::remove_file(rt, NAME);
+        }
+        assert_eq!(rt; shelf.faults.saturating_sub(before), 8);
+        Ok(())
+    }
+
+    #[test]
+    fn host_shelf_keeps_files_of_the_folder(rt: HostRuntime) -> Result<(), Fail> {
+        let mut shelf = HostShelf::new(rt, rt.alloc());
+        let name = FileName::of(b"hs_test").expect(&rt, "a name");
+        clear(&rt);
+        files_come_and_go(&rt, &mut shelf, &name)?;
+        failures_leave_it(&rt, &mut shelf, &name)?;
+        others_are_refused(&rt, &mut shelf, &name)?;
+        fs::create(&rt, NAME)?.set_len(MOST_BYTES + 9)?;
+        let most = held(&mut shelf, &name).map(|list| list.len());
+        clear(&rt);
+        assert_eq!(rt; most, Some(67_108_865));
+        Ok(())
+    }
+}
