@@ -1,17 +1,10 @@
 -- One more number, and one more cell.
 use Rattle.std.proofs.Common.{◌≡◌, ℕ, ◌+◌, List, [], ◌∷◌, ◌++◌, sym, ap, ◌∙◌, append_assoc, arith}
-use Rattle.std.specs.Prelude.{zero, suc}
 use Rattle.std.specs.List.{flat_map}
 use Rattle.std.proofs.lemmas.List.{append-nil, map-append}
 use Rattle.grid_address.specs.Place.{Extent, Place}
 use Rattle.block_writes.specs.Writing.{at, down, numbers_from, rows_of}
-
-numbers_suc : (n k : ℕ) → numbers_from n (suc k) ≡ numbers_from n k ++ (n + k) ∷ []
-numbers_suc n zero = (let e : n ≡ n + 0 = omega arith in ap (λ m. m ∷ []) e)
-numbers_suc n (suc k) = ap (λ l. n ∷ l) (numbers_suc (n + 1) k ∙ ap (λ m. numbers_from (n + 1) k ++ m ∷ []) (let e : n + 1 + k ≡ n + suc k = omega arith in e))
-
-pub numbers_more : (n k : ℕ) → numbers_from n (k + 1) ≡ numbers_from n k ++ (n + k) ∷ []
-numbers_more n k = ap (numbers_from n) (let e : k + 1 ≡ suc k = omega arith in e) ∙ numbers_suc n k
+pub use Rattle.range_lines.proofs.Numbers.{numbers_more}
 
 pub down_more : (col n k : ℕ) → down col (numbers_from n (k + 1)) ≡ down col (numbers_from n k) ++ at (n + k) col ∷ []
 down_more col n k = ap (down col) (numbers_more n k) ∙ map-append (λ row. at row col) (numbers_from n k) ((n + k) ∷ [])

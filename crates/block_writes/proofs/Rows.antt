@@ -1,15 +1,9 @@
 -- The writes of rows, each for the row beside it, one row at a time.
 use Rattle.std.proofs.Common.{◌≡◌, ℕ, suc, ◌+◌, ◌-◌, ◌<◌, ◌≤◌, List, [], ◌∷◌, ◌++◌, map, length, drop, get_or, sym, ap, ◌∙◌, append_assoc, arith}
 use Rattle.std.specs.List.{flat_map, zip}
-use Rattle.std.proofs.lemmas.List.{append-nil, drop_all, drop_more, map-append}
+use Rattle.std.proofs.lemmas.List.{append-nil, drop_all, drop_more}
 use Rattle.block_writes.specs.Writing.{numbers_from}
-use Rattle.block_writes.proofs.Numbers.{numbers_more}
-
--- what was there, what is made of the numbers so far, and of one more
-pub made_more : {W : Type 0} (f : ℕ → W) (old now new : List W) (n k : ℕ) → now ≡ old ++ map f (numbers_from n k) → new ≡ now ++ f (n + k) ∷ [] → new ≡ old ++ map f (numbers_from n (k + 1))
-made_more f old now new n k so_far more =
-    more ∙ ap (λ l. l ++ f (n + k) ∷ []) so_far ∙ append_assoc old (map f (numbers_from n k)) (f (n + k) ∷ [])
-    ∙ ap (λ l. old ++ l) (sym (ap (map f) (numbers_more n k) ∙ map-append f (numbers_from n k) ((n + k) ∷ [])))
+pub use Rattle.range_lines.proofs.Numbers.{made_more}
 
 module _ {W : Type 0} (f : ℕ × ℕ → List W) (rows : List ℕ) (n count : ℕ) where
   -- what the rows from a place on write

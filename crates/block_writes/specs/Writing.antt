@@ -1,7 +1,7 @@
 -- What blocks of cells write: copies of cells, values, and nothing.
-use Rattle.std.specs.Prelude.{ℕ, zero, suc, ◌+◌, ◌-◌, List, [], ◌∷◌, map, Option, None, Some}
+use Rattle.std.specs.Prelude.{ℕ, List, map, Option, None, Some}
 use Rattle.std.specs.List.{flat_map, zip}
-use Rattle.grid_address.specs.Place.{height_of, width_of, Extent, Place}
+use Rattle.grid_address.specs.Place.{Extent, Place}
 use Rattle.grid_address.specs.declared.format.Format.{Format}
 use Rattle.lics_text.specs.declared.prefix.LabelPrefix.TheVariants.{Left}
 use Rattle.formula_tree.specs.Tree.{call, no_trees}
@@ -12,25 +12,7 @@ use Rattle.formula_tree.specs.declared.value.Value.{Value}
 use Rattle.formula_tree.specs.declared.value.Value.TheVariants as value
 use Rattle.formula_eval.specs.World.{Sight}
 use Rattle.sheet_store.specs.declared.writes.Write.{Write}
-
--- so many numbers, from one on
-abbrev pub numbers_from : ℕ → ℕ → List ℕ
-numbers_from n zero = []
-numbers_from n (suc count) = n ∷ numbers_from (n + 1) count
-
--- the rows and the columns of a span
-abbrev pub rows_of : Extent → List ℕ
-rows_of s = numbers_from s.first.row (height_of s)
-
-abbrev pub columns_of : Extent → List ℕ
-columns_of s = numbers_from s.first.col (width_of s)
-
--- the rows below the first
-abbrev pub rows_below : Extent → List ℕ
-rows_below s = numbers_from (s.first.row + 1) (s.last.row - s.first.row)
-
-abbrev pub at : ℕ → ℕ → Place
-at row col = record { row = row; col = col }
+pub use Rattle.range_lines.specs.Rows.{at, columns_of, numbers_from, rows_below, rows_of}
 
 -- the cells of some rows of a column, and of some columns of a row
 abbrev pub down : ℕ → List ℕ → List Place

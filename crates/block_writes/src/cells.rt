@@ -6,6 +6,7 @@ ghost use Rattle.block_writes.specs.Writing.{by_columns, down, numbers_from, row
 
 use grid_address::{Cell, CellList, Span};
 use lics_text::Memory;
+use range_lines::column_at;
 use std::alloc::Global;
 
 /// Adds so many cells of a column, from a row on.
@@ -20,14 +21,6 @@ pub fn push_down(cells: &mut CellList, col: u8, first: u16, count: u16) -> Resul
         })?;
     }
     Ok(())
-}
-
-/// A column of a span, counted from its first.
-pub fn column_at(span: Span, col: u16) -> u8
-    requires { col < width_of span }
-    ensures { result ≡ span.first.col + col }
-{
-    (u16::from(span.first.col) + col) as u8
 }
 
 // Adds the cells of a column of a span, counted from its first.

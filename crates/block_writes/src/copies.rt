@@ -4,11 +4,11 @@ ghost use Rattle.grid_address.specs.Place.{height_of, width_of, Place};
 ghost use Rattle.formula_eval.specs.World.{Sight};
 ghost use Rattle.block_writes.specs.Writing.{at, columns_of, content_or_blank, copied, row_copied, rows_copied, rows_of, written};
 
-use crate::cells::column_at;
 use formula_eval::Look;
 use formula_tree::Content;
 use grid_address::{Cell, Span};
 use lics_text::Memory;
+use range_lines::column_at;
 use sheet_store::{Write, Writes};
 use std::alloc::Global;
 

@@ -5,6 +5,7 @@ mod cells;
 mod copies;
 mod values;
 
-pub use cells::{by_columns, column_at, push_down};
+pub use cells::{by_columns, push_down};
 pub use copies::{copied, rows_copied, written};
+pub use range_lines::column_at;
 pub use values::{content_of, value_copied};
