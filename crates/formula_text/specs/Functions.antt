@@ -49,6 +49,11 @@ name_of function.Min = codes "MIN"
 name_of function.Max = codes "MAX"
 name_of function.VLookup = codes "VLOOKUP"
 name_of function.HLookup = codes "HLOOKUP"
+name_of function.DSum = codes "DSUM"
+name_of function.DAvg = codes "DAVG"
+name_of function.DCount = codes "DCOUNT"
+name_of function.DMin = codes "DMIN"
+name_of function.DMax = codes "DMAX"
 name_of function.Index = codes "INDEX"
 name_of function.Cols = codes "COLS"
 name_of function.Rows = codes "ROWS"
@@ -71,7 +76,7 @@ left_out =
     codes "SQRT" ∷ codes "LOG" ∷ codes "LN" ∷ codes "PI" ∷ codes "SIN" ∷ codes "COS" ∷ codes "TAN" ∷ codes "ATAN2" ∷ codes "ATAN"
     ∷ codes "ASIN" ∷ codes "ACOS" ∷ codes "EXP" ∷ codes "RAND" ∷ codes "PMT" ∷ codes "PV" ∷ codes "FV" ∷ codes "NPV" ∷ codes "VAR"
     ∷ codes "STD" ∷ codes "IRR" ∷ codes "DVAR" ∷ codes "DSTD" ∷ codes "S" ∷ codes "N" ∷ codes "RATE" ∷ codes "TERM" ∷ codes "CTERM"
-    ∷ codes "SLN" ∷ codes "SYD" ∷ codes "DDB" ∷ codes "DSUM" ∷ codes "DAVG" ∷ codes "DCOUNT" ∷ codes "DMIN" ∷ codes "DMAX" ∷ []
+    ∷ codes "SLN" ∷ codes "SYD" ∷ codes "DDB" ∷ []
 
 -- each name with its function
 abbrev pub names : List (List ℕ × Function)

@@ -6,7 +6,7 @@ use formula_tree::Function;
 use lics_text::{is_name, name_in};
 
 // The functions and their names, in their order.
-const NAMES: [(&[u8], Function); 55] = [
+const NAMES: [(&[u8], Function); 60] = [
     (b"NA", Function::Na),
     (b"ERR", Function::Err),
     (b"ABS", Function::Abs),
@@ -47,6 +47,11 @@ const NAMES: [(&[u8], Function); 55] = [
     (b"MAX", Function::Max),
     (b"VLOOKUP", Function::VLookup),
     (b"HLOOKUP", Function::HLookup),
+    (b"DSUM", Function::DSum),
+    (b"DAVG", Function::DAvg),
+    (b"DCOUNT", Function::DCount),
+    (b"DMIN", Function::DMin),
+    (b"DMAX", Function::DMax),
     (b"INDEX", Function::Index),
     (b"COLS", Function::Cols),
     (b"ROWS", Function::Rows),
@@ -65,11 +70,10 @@ const NAMES: [(&[u8], Function); 55] = [
 ];
 
 // Functions of Release 2 that no formula may call.
-const LEFT_OUT: [&[u8]; 35] = [
+const LEFT_OUT: [&[u8]; 30] = [
     b"SQRT", b"LOG", b"LN", b"PI", b"SIN", b"COS", b"TAN", b"ATAN2", b"ATAN", b"ASIN", b"ACOS",
     b"EXP", b"RAND", b"PMT", b"PV", b"FV", b"NPV", b"VAR", b"STD", b"IRR", b"DVAR", b"DSTD", b"S",
-    b"N", b"RATE", b"TERM", b"CTERM", b"SLN", b"SYD", b"DDB", b"DSUM", b"DAVG", b"DCOUNT", b"DMIN",
-    b"DMAX",
+    b"N", b"RATE", b"TERM", b"CTERM", b"SLN", b"SYD", b"DDB",
 ];
 
 // The name of a function, which stands behind its @.

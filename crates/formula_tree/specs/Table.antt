@@ -14,10 +14,10 @@ functions =
     ∷ function.Hour ∷ function.Minute ∷ function.Second ∷ function.IsNumber ∷ function.IsString ∷ function.Length
     ∷ function.Value ∷ function.String ∷ function.Mid ∷ function.Char ∷ function.Code ∷ function.Find
     ∷ function.DateValue ∷ function.TimeValue ∷ function.CellPointer ∷ function.Sum ∷ function.Avg ∷ function.Count
-    ∷ function.Min ∷ function.Max ∷ function.VLookup ∷ function.HLookup ∷ function.Index ∷ function.Cols
-    ∷ function.Rows ∷ function.Repeat ∷ function.Upper ∷ function.Lower ∷ function.Left ∷ function.Right
-    ∷ function.Replace ∷ function.Proper ∷ function.Cell ∷ function.Trim ∷ function.Clean ∷ function.Exact
-    ∷ function.Pointed ∷ []
+    ∷ function.Min ∷ function.Max ∷ function.VLookup ∷ function.HLookup ∷ function.DSum ∷ function.DAvg
+    ∷ function.DCount ∷ function.DMin ∷ function.DMax ∷ function.Index ∷ function.Cols ∷ function.Rows
+    ∷ function.Repeat ∷ function.Upper ∷ function.Lower ∷ function.Left ∷ function.Right ∷ function.Replace
+    ∷ function.Proper ∷ function.Cell ∷ function.Trim ∷ function.Clean ∷ function.Exact ∷ function.Pointed ∷ []
 
 -- how many arguments a function takes
 abbrev pub counts_of : Function → Counts
@@ -61,6 +61,11 @@ counts_of function.Min = AtLeast 1
 counts_of function.Max = AtLeast 1
 counts_of function.VLookup = Exactly 3
 counts_of function.HLookup = Exactly 3
+counts_of function.DSum = Exactly 3
+counts_of function.DAvg = Exactly 3
+counts_of function.DCount = Exactly 3
+counts_of function.DMin = Exactly 3
+counts_of function.DMax = Exactly 3
 counts_of function.Index = Exactly 3
 counts_of function.Cols = Exactly 1
 counts_of function.Rows = Exactly 1
@@ -82,12 +87,17 @@ abbrev pub takes : Counts → ℕ → Bool
 takes (Exactly wanted) count = wanted == count
 takes (AtLeast least) count = nat_le least count && nat_le count 255
 
--- whether a function's value changes by itself
+-- whether a function's value changes by itself, or hangs on cells that its formula doesn't name
 abbrev pub is_volatile_function : Function → Bool
 is_volatile_function function.Now = true
 is_volatile_function function.Cell = true
 is_volatile_function function.CellPointer = true
 is_volatile_function function.Pointed = true
+is_volatile_function function.DSum = true
+is_volatile_function function.DAvg = true
+is_volatile_function function.DCount = true
+is_volatile_function function.DMin = true
+is_volatile_function function.DMax = true
 is_volatile_function f = false
 
 abbrev pub counts_size : Counts → ℕ

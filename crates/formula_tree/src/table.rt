@@ -36,7 +36,12 @@ pub fn counts_of(function: Function) -> Counts
         | Function::Find
         | Function::VLookup
         | Function::HLookup
-        | Function::Index => Counts::Exactly(3),
+        | Function::Index
+        | Function::DSum
+        | Function::DAvg
+        | Function::DCount
+        | Function::DMin
+        | Function::DMax => Counts::Exactly(3),
         Function::Replace => Counts::Exactly(4),
         Function::Sum | Function::Avg | Function::Count | Function::Min | Function::Max =>
             Counts::AtLeast(1),
@@ -62,12 +67,15 @@ pub fn takes(function: Function, count: usize) -> bool
     has_count(counts_of(function), count)
 }
 
-/// Whether a function's value changes by itself: NOW, CELL, CELLPOINTER and @@.
+/// Whether a function's value changes by itself, or hangs on cells that its formula doesn't name: NOW, CELL,
+/// CELLPOINTER, @@, and the functions of records.
 pub fn is_volatile_function(function: Function) -> bool
     ensures { result ≡ is_volatile_function function }
 {
     match function {
         Function::Now | Function::Cell | Function::CellPointer | Function::Pointed => true,
+        Function::DSum | Function::DAvg | Function::DCount | Function::DMin | Function::DMax =>
+            true,
         _ => false,
     }
 }

@@ -59,6 +59,8 @@ fn functions_take_their_arguments(rt: HostRuntime) -> Result<(), Fail> {
         (Function::Sum, 256, false),
         (Function::Replace, 4, true),
         (Function::Index, 3, true),
+        (Function::DSum, 3, true),
+        (Function::DMax, 2, false),
         (Function::Pointed, 1, true),
     ] {
         let made = fault(Formula::of(alloc, call(&rt, alloc, function, count)));
@@ -228,6 +230,11 @@ fn some_functions_are_volatile(rt: HostRuntime) -> Result<(), Fail> {
         (Function::CellPointer, 1, true),
         (Function::Cell, 2, true),
         (Function::Pointed, 1, true),
+        (Function::DSum, 3, true),
+        (Function::DAvg, 3, true),
+        (Function::DCount, 3, true),
+        (Function::DMin, 3, true),
+        (Function::DMax, 3, true),
         (Function::Na, 0, false),
         (Function::Index, 3, false),
     ] {

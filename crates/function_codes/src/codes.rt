@@ -5,7 +5,7 @@ ghost use Rattle.function_codes.specs.Codes as spec;
 use formula_tree::Function;
 
 // The functions and their codes, in the order of the functions.
-const CODES: [(u8, Function); 55] = [
+const CODES: [(u8, Function); 60] = [
     (0x1F, Function::Na),
     (0x20, Function::Err),
     (0x21, Function::Abs),
@@ -46,6 +46,11 @@ const CODES: [(u8, Function); 55] = [
     (0x54, Function::Max),
     (0x55, Function::VLookup),
     (0x5A, Function::HLookup),
+    (0x5B, Function::DSum),
+    (0x5C, Function::DAvg),
+    (0x5D, Function::DCount),
+    (0x5E, Function::DMin),
+    (0x5F, Function::DMax),
     (0x62, Function::Index),
     (0x63, Function::Cols),
     (0x64, Function::Rows),

@@ -12,6 +12,9 @@ fn codes_have_their_functions(rt: HostRuntime) -> Result<(), Fail> {
         (0x30, Some(Function::Choose)),
         (0x50, Some(Function::Sum)),
         (0x5A, Some(Function::HLookup)),
+        (0x5B, Some(Function::DSum)),
+        (0x5F, Some(Function::DMax)),
+        (0x60, None),
         (0x62, Some(Function::Index)),
         (0x73, Some(Function::Pointed)),
         (0xFF, None),
@@ -23,13 +26,13 @@ fn codes_have_their_functions(rt: HostRuntime) -> Result<(), Fail> {
 }
 
 #[test]
-fn fifty_five_codes_have_a_function(rt: HostRuntime) -> Result<(), Fail> {
+fn sixty_codes_have_a_function(rt: HostRuntime) -> Result<(), Fail> {
     let mut kept = 0u32;
     for code in 0..=255u8 {
         if function_of(code).is_some() {
             kept = kept.wrapping_add(1);
         }
     }
-    assert_eq!(rt; kept, 55);
+    assert_eq!(rt; kept, 60);
     Ok(())
 }

@@ -63,7 +63,7 @@ front_kind code =
 abbrev pub left_out : List ℕ
 left_out =
     35 ∷ 36 ∷ 37 ∷ 38 ∷ 39 ∷ 40 ∷ 41 ∷ 42 ∷ 43 ∷ 44 ∷ 45 ∷ 46 ∷ 53 ∷ 56 ∷ 57 ∷ 58 ∷ 86 ∷ 87 ∷ 88 ∷ 89
-    ∷ 91 ∷ 92 ∷ 93 ∷ 94 ∷ 95 ∷ 96 ∷ 97 ∷ 111 ∷ 112 ∷ 114 ∷ 116 ∷ 117 ∷ 118 ∷ 119 ∷ 120 ∷ 121 ∷ []
+    ∷ 96 ∷ 97 ∷ 111 ∷ 112 ∷ 114 ∷ 116 ∷ 117 ∷ 118 ∷ 119 ∷ 120 ∷ 121 ∷ []
 
 -- whether a code is one of them
 abbrev pub is_left_out : ℕ → Bool
