@@ -1,7 +1,7 @@
 // What a line asks for.
 use crate::desk::{SCENE, Stop, cell_of, number_of, parts, span_of};
 use data_blocks::{BlockFault, SortKey, distribution, fill, sort_rows};
-use data_query::{Match, QueryFault, deletion, extract, matching, select};
+use data_query::{Match, QueryFault, deletion, extract, matches, select};
 use grid_address::{CellList, Span};
 use lics_text::Memory;
 use sheet_store::Writes;
@@ -81,7 +81,7 @@ pub fn asked_match(alloc: Global, sheet: &Sheet, bytes: &[u8]) -> Result<Match, 
     if !input.contains(cell) {
         return Err(Stop::Line);
     }
-    match matching(alloc, input, criterion, cell.row, sheet, &SCENE) {
+    match matches(alloc, input, criterion, cell.row, sheet, &SCENE) {
         Ok(answer) => Ok(answer),
         Err(Memory) => Err(Stop::Memory),
     }

@@ -5,9 +5,9 @@ use Rattle.std.proofs.lemmas.List.{length-map}
 use Rattle.grid_address.specs.Place.{Extent, Place}
 use Rattle.formula_eval.specs.World.{World}
 use Rattle.block_writes.specs.Writing.{at}
-use Rattle.data_query.specs.Criteria.{record_matches}
+use Rattle.formula_eval.specs.Criteria.{record_matches}
 use Rattle.data_query.specs.Extraction.{extracted_rows, same_record, without_repeats}
-use Rattle.data_query.specs.Plans.{last_row}
+use Rattle.range_lines.specs.Rows.{last_row}
 use Rattle.data_query.specs.Selection.{chosen}
 use Rattle.data_query.specs.declared.output.OutputField.{OutputField}
 use Rattle.data_query.proofs.Distinct.{fewer}

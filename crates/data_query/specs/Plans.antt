@@ -1,20 +1,10 @@
 -- How the records of a query are looked through.
-use Rattle.std.specs.Prelude.{ℕ, ◌+◌, not, Bool, true, false, Option, List, map}
+use Rattle.std.specs.Prelude.{ℕ, ◌+◌, not, Bool, true, false, List}
 use Rattle.std.specs.List.{filter}
-use Rattle.grid_address.specs.Place.{Extent, whole}
-use Rattle.formula_eval.specs.World.{Sight, World}
-use Rattle.block_writes.specs.Writing.{at, columns_of, rows_below}
-use Rattle.data_query.specs.Criteria.{record_matches}
-use Rattle.data_query.specs.Fields.{field_named}
-
--- the last row of the sheet
-abbrev pub last_row : ℕ
-last_row = whole.last.row
-
--- the field that each header of a criterion names
-abbrev pub fields_of : Sight → Extent → Extent → List (Option ℕ)
-fields_of sight input criterion =
-    map (λ col. field_named sight input (at criterion.first.row col)) (columns_of criterion)
+use Rattle.grid_address.specs.Place.{Extent}
+use Rattle.range_lines.specs.Rows.{at, rows_below}
+use Rattle.formula_eval.specs.Criteria.{record_matches}
+use Rattle.formula_eval.specs.World.{World}
 
 -- a range without its first row
 abbrev pub behind_first : Extent → Extent

@@ -5,8 +5,8 @@ use Rattle.grid_address.specs.Place.{Extent, Place}
 use Rattle.formula_eval.specs.World.{Sight, World}
 use Rattle.block_writes.specs.Writing.{across, at, columns_of, erased, numbers_from, rows_below, rows_copied}
 use Rattle.sheet_store.specs.declared.writes.Write.{Write}
-use Rattle.data_query.specs.Criteria.{missing, record_matches}
-use Rattle.data_query.specs.Fields.{has_fields}
+use Rattle.formula_eval.specs.Criteria.{missing, record_matches}
+use Rattle.formula_eval.specs.Fields.{has_fields}
 use Rattle.data_query.specs.declared.fault.QueryFault.{QueryFault}
 use Rattle.data_query.specs.declared.fault.QueryFault.TheVariants as fault
 

@@ -3,19 +3,35 @@ ghost use Rattle.std.specs.Prelude.{◌≡◌, ◌⊎◌, ◌<◌, ◌≤◌, �
 ghost use Rattle.grid_address.specs.Place.{Place};
 ghost use Rattle.formula_eval.specs.Scenes.{world_of};
 ghost use Rattle.formula_eval.specs.World.{Sight};
+ghost use Rattle.data_query.specs.Plans.{behind_first};
 ghost use Rattle.data_query.specs.Selection.{deletion, kept, moved_up};
 
 use crate::QueryFault;
 use crate::erasing::push_rows_erased;
 use crate::missing::asked;
 use crate::plan::records;
-use crate::rows::{behind_first, count_below, row_below};
 use block_writes::rows_copied;
 use formula_eval::{Look, Scene};
-use grid_address::{CellList, Span};
+use grid_address::{Cell, CellList, Span};
 use lics_text::Memory;
+use range_lines::{count_below, row_below};
 use sheet_store::Writes;
 use std::alloc::Global;
+
+// A range without its first row.
+fn behind_first(input: Span) -> Span
+    requires { input.first.row < input.last.row }
+    ensures { result ≡ behind_first input }
+{
+    let first = Cell {
+        row: input.first.row + 1,
+        col: input.first.col,
+    };
+    Span {
+        first,
+        last: input.last,
+    }
+}
 
 // Writes by which the records of these cells move up, and the rest is erased.
 fn moved_up<K: Look>(

@@ -1,23 +1,23 @@
 // What an extraction of records writes.
 ghost use Rattle.std.specs.Prelude.{◌≡◌, ◌⊎◌, ◌≤◌, ◌+◌, ◌++◌, ◌∷◌, [], IfOk, IfErr, OnOk, Ok, Err, length, map};
 ghost use Rattle.grid_address.specs.Place.{Place};
+ghost use Rattle.range_lines.specs.Rows.{last_row};
 ghost use Rattle.formula_eval.specs.Scenes.{world_of};
 ghost use Rattle.formula_eval.specs.World.{Sight};
 ghost use Rattle.block_writes.specs.Writing.{at, numbers_from, value_copied};
 ghost use Rattle.data_query.specs.Extraction.{extracted_rows, extraction, fields_extracted, output_written, record_written, records_written, room_of, rows_extracted};
-ghost use Rattle.data_query.specs.Plans.{last_row};
 
 use crate::QueryFault;
 use crate::erasing::push_rows_erased;
 use crate::missing::asked;
 use crate::output::{OutputField, labelled, room_of, taken_fields};
 use crate::repeats::without_repeats;
-use crate::rows::row_below;
 use crate::selecting::chosen;
 use block_writes::value_copied;
 use formula_eval::{Look, Scene};
 use grid_address::{Cell, CellList, Span};
 use lics_text::Memory;
+use range_lines::row_below;
 use sheet_store::Writes;
 use std::alloc::Global;
 

@@ -1,19 +1,17 @@
 // The output of an extraction: the fields that its headers name, and its room.
 ghost use Rattle.std.specs.Prelude.{◌≡◌, ◌≤◌, ◌<◌, ◌+◌, ◌++◌, IfOk, OnOk, option_to_list};
 ghost use Rattle.grid_address.specs.Place.{width_of};
+ghost use Rattle.range_lines.specs.Rows.{last_row};
+ghost use Rattle.formula_eval.specs.Fields.{field_named};
 ghost use Rattle.formula_eval.specs.World.{Sight};
 ghost use Rattle.block_writes.specs.Writing.{at};
 ghost use Rattle.data_query.specs.Extraction.{is_unknown, labelled, room_of, taken, taken_fields, unknown_label};
-ghost use Rattle.data_query.specs.Fields.{field_named};
-ghost use Rattle.data_query.specs.Plans.{last_row};
 
 use crate::QueryFault;
-use crate::fields::{field_named, header, is_label_at, is_no_field};
-use crate::rows::LAST_ROW;
-use block_writes::column_at;
-use formula_eval::Look;
+use formula_eval::{Look, field_named, is_label_at, is_no_field};
 use grid_address::{Cell, Span};
 use lics_text::Memory;
+use range_lines::{LAST_ROW, column_at, header};
 use std::alloc::Global;
 
 /// A field that an output takes: its column in the input, and the column of the output.

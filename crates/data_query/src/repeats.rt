@@ -6,13 +6,13 @@ ghost use Rattle.formula_eval.specs.World.{Sight};
 ghost use Rattle.block_writes.specs.Writing.{at};
 ghost use Rattle.data_query.specs.Extraction.{same_record, same_value, without_repeats};
 
-use crate::conditions::is_same;
 use crate::output::OutputField;
 use formula_eval::Look;
 use formula_tree::Value;
 use grid_address::{Cell, CellList};
 use lics_text::Memory;
 use std::alloc::Global;
+use value_conditions::is_same;
 
 // Whether two values are equal; letters are not folded.
 fn same_value(a: &Value, b: &Value) -> bool

@@ -18,7 +18,10 @@ use Rattle.formula_eval.specs.Agreement.{in_arguments, in_operand, same_of, with
 use Rattle.formula_eval.specs.Lists.{items_of, list_value}
 use Rattle.formula_eval.specs.Lookalike.{same_index, same_lookup}
 use Rattle.formula_eval.specs.Lookups.{lookup_value}
-use Rattle.formula_eval.specs.Mean.{arguments_at, call_value, called, filled_in, mean, one_value, operand_of, three_value, two_value, value_at, Reads}
+use Rattle.formula_eval.specs.Calls.{called, one_value, three_value, two_value}
+use Rattle.formula_eval.specs.Databases.{database_value}
+use Rattle.formula_eval.specs.Mean.{mean, Reads}
+use Rattle.formula_eval.specs.Parts.{arguments_by, call_value, filled_in, operand_of, value_by, Database}
 use Rattle.value_functions.specs.Operators.{binary_value, denied, negated}
 use Rattle.value_functions.specs.Scalars.{constant_value}
 use Rattle.formula_eval.specs.World.{World}
@@ -32,7 +35,7 @@ not_blank value.Na h = absurd cc
 
 pub never_blank : (t : Tree) (at : Place) (w : World) → mean t at w ≡ value.Blank → ⊥
 unfolding mean
-never_blank t at w h = not_blank (value_at t at w) h
+never_blank t at w h = not_blank (value_by database_value t at w) h
 
 either_false : (a b : Bool) → (a || b) ≡ false → (a ≡ false) × (b ≡ false)
 either_false true b h = absurd cc
@@ -96,16 +99,21 @@ same_list : (f : Function) (w u : World) (args : List Argument) → AgreeOn args
     list_value f (items_of w.sight.values args) ≡ list_value f (items_of u.sight.values args)
 same_list f w u args agree = ap (list_value f) (same_of w.sight.values u.sight.values args agree)
 
-same_call : (f : Function) (w u : World) (args : List Argument) → is_volatile_function f ≡ false → AgreeOn args w u →
-    call_value f w args ≡ call_value f u args
-same_call function.Choose w u args s agree = refl
-same_call function.If w u args s agree = refl
-same_call function.Sum w u args s agree = same_list function.Sum w u args agree
-same_call function.Avg w u args s agree = same_list function.Avg w u args agree
-same_call function.Count w u args s agree = same_list function.Count w u args agree
-same_call function.Min w u args s agree = same_list function.Min w u args agree
-same_call function.Max w u args s agree = same_list function.Max w u args agree
-same_call f w u args s agree = same_called f w u args s agree
+same_call : (d : Database) (f : Function) (w u : World) (args : List Argument) → is_volatile_function f ≡ false → AgreeOn args w u →
+    call_value d f w args ≡ call_value d f u args
+same_call d function.Choose w u args s agree = refl
+same_call d function.If w u args s agree = refl
+same_call d function.Sum w u args s agree = same_list function.Sum w u args agree
+same_call d function.Avg w u args s agree = same_list function.Avg w u args agree
+same_call d function.Count w u args s agree = same_list function.Count w u args agree
+same_call d function.Min w u args s agree = same_list function.Min w u args agree
+same_call d function.Max w u args s agree = same_list function.Max w u args agree
+same_call d function.DSum w u args s agree = absurd cc
+same_call d function.DAvg w u args s agree = absurd cc
+same_call d function.DCount w u args s agree = absurd cc
+same_call d function.DMin w u args s agree = absurd cc
+same_call d function.DMax w u args s agree = absurd cc
+same_call d f w u args s agree = same_called f w u args s agree
 
 -- the ranges of arguments are among the spans that they read
 any_here : (p : Place) (xs ys : List Extent) → list_any (λ s. is_within s p) xs ≡ true → list_any (λ s. is_within s p) (xs ++ ys) ≡ true
@@ -137,11 +145,11 @@ read_operand (call f ts) at p h = absurd cc
 abbrev AgreeFor : List Extent → World → World → Type 0
 AgreeFor spans w u = (c : Place) → list_any (λ s. is_within s c) spans ≡ true → w.sight.values c ≡ u.sight.values c
 
-read_arguments : (ts : Trees) (at : Place) (w : World) (p : Place) → in_arguments (arguments_at ts at w) p ≡ true → list_any (λ s. is_within s p) (spans_of_all ts at) ≡ true
-read_arguments no_trees at w p h = absurd cc
-read_arguments (trees a ts) at w p h = elim (cases_Bool (in_operand (operand_of a at) p)) [
+read_arguments : (d : Database) (ts : Trees) (at : Place) (w : World) (p : Place) → in_arguments (arguments_by d ts at w) p ≡ true → list_any (λ s. is_within s p) (spans_of_all ts at) ≡ true
+read_arguments d no_trees at w p h = absurd cc
+read_arguments d (trees a ts) at w p h = elim (cases_Bool (in_operand (operand_of a at) p)) [
   | inl here ↦ any_here p (spans_of a at) (spans_of_all ts at) (read_operand a at p here)
-  | inr later ↦ any_there p (spans_of a at) (spans_of_all ts at) (read_arguments ts at w p (sym (ap (λ b. b || in_arguments (arguments_at ts at w) p) later) ∙ h))
+  | inr later ↦ any_there p (spans_of a at) (spans_of_all ts at) (read_arguments d ts at w p (sym (ap (λ b. b || in_arguments (arguments_by d ts at w) p) later) ∙ h))
 ]
 
 for_left : (xs ys : List Extent) (w u : World) → AgreeFor (xs ++ ys) w u → AgreeFor xs w u
@@ -151,31 +159,31 @@ for_right : (xs ys : List Extent) (w u : World) → AgreeFor (xs ++ ys) w u → 
 for_right xs ys w u h = λ c r. h c (any_there c xs ys r)
 
 mutual
-  value_reads : (t : Tree) (at : Place) (w u : World) → is_volatile t ≡ false → AgreeFor (spans_of t at) w u → value_at t at w ≡ value_at t at u
-  value_reads (num v) at w u s h = refl
-  value_reads (str v) at w u s h = refl
-  value_reads (cell r) at w u s h = h (resolve r at) (rw (within_itself (resolve r at)) refl)
-  value_reads (span a b) at w u s h = refl
-  value_reads (group a) at w u s h = value_reads a at w u s h
-  value_reads (neg a) at w u s h = ap negated (value_reads a at w u s h)
-  value_reads (not a) at w u s h = ap denied (value_reads a at w u s h)
-  value_reads (binary op a b) at w u s h =
+  value_reads : (d : Database) (t : Tree) (at : Place) (w u : World) → is_volatile t ≡ false → AgreeFor (spans_of t at) w u → value_by d t at w ≡ value_by d t at u
+  value_reads d (num v) at w u s h = refl
+  value_reads d (str v) at w u s h = refl
+  value_reads d (cell r) at w u s h = h (resolve r at) (rw (within_itself (resolve r at)) refl)
+  value_reads d (span a b) at w u s h = refl
+  value_reads d (group a) at w u s h = value_reads d a at w u s h
+  value_reads d (neg a) at w u s h = ap negated (value_reads d a at w u s h)
+  value_reads d (not a) at w u s h = ap denied (value_reads d a at w u s h)
+  value_reads d (binary op a b) at w u s h =
       let steady_parts = either_false (is_volatile a) (is_volatile b) s in
-      let one = value_reads a at w u steady_parts.0 (for_left (spans_of a at) (spans_of b at) w u h) in
-      let two = value_reads b at w u steady_parts.1 (for_right (spans_of a at) (spans_of b at) w u h) in
+      let one = value_reads d a at w u steady_parts.0 (for_left (spans_of a at) (spans_of b at) w u h) in
+      let two = value_reads d b at w u steady_parts.1 (for_right (spans_of a at) (spans_of b at) w u h) in
       λ i. binary_value op (one i) (two i)
-  value_reads (call f ts) at w u s h =
+  value_reads d (call f ts) at w u s h =
       let parts = either_false (is_volatile_function f) (any_volatile ts) s in
-      same_call f w u (arguments_at ts at w) parts.0 (λ p r. h p (read_arguments ts at w p r)) ∙ ap (call_value f u) (arguments_read ts at w u parts.1 h)
+      same_call d f w u (arguments_by d ts at w) parts.0 (λ p r. h p (read_arguments d ts at w p r)) ∙ ap (call_value d f u) (arguments_read d ts at w u parts.1 h)
 
-  arguments_read : (ts : Trees) (at : Place) (w u : World) → any_volatile ts ≡ false → AgreeFor (spans_of_all ts at) w u → arguments_at ts at w ≡ arguments_at ts at u
-  arguments_read no_trees at w u s h = refl
-  arguments_read (trees a ts) at w u s h =
+  arguments_read : (d : Database) (ts : Trees) (at : Place) (w u : World) → any_volatile ts ≡ false → AgreeFor (spans_of_all ts at) w u → arguments_by d ts at w ≡ arguments_by d ts at u
+  arguments_read d no_trees at w u s h = refl
+  arguments_read d (trees a ts) at w u s h =
       let parts = either_false (is_volatile a) (any_volatile ts) s in
-      let here = value_reads a at w u parts.0 (for_left (spans_of a at) (spans_of_all ts at) w u h) in
-      let more = arguments_read ts at w u parts.1 (for_right (spans_of a at) (spans_of_all ts at) w u h) in
+      let here = value_reads d a at w u parts.0 (for_left (spans_of a at) (spans_of_all ts at) w u h) in
+      let more = arguments_read d ts at w u parts.1 (for_right (spans_of a at) (spans_of_all ts at) w u h) in
       λ i. record { value = here i; operand = operand_of a at } ∷ more i
 
 pub reads_alone : (t : Tree) (at : Place) (w u : World) → is_volatile t ≡ false → ((c : Place) → Reads t at c → w.sight.values c ≡ u.sight.values c) → mean t at w ≡ mean t at u
 unfolding mean
-reads_alone t at w u s h = ap filled_in (value_reads t at w u s h)
+reads_alone t at w u s h = ap filled_in (value_reads database_value t at w u s h)

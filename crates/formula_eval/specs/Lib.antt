@@ -1,9 +1,14 @@
 pub mod Agreement
 pub mod Attributes
+pub mod Calls
+pub mod Criteria
+pub mod Databases
+pub mod Fields
 pub mod Laws
 pub mod Lists
 pub mod Lookalike
 pub mod Lookups
 pub mod Mean
+pub mod Parts
 pub mod Scenes
 pub mod World

@@ -1,8 +1,8 @@
 // Functions by the number of their arguments.
 ghost use Rattle.std.specs.Prelude.{◌≡◌, IfOk};
 ghost use Rattle.at_functions.specs.Numbers.{count_of};
+ghost use Rattle.formula_eval.specs.Calls.{behind_first, called, choice, one_value, place_for, three_value, two_value};
 ghost use Rattle.formula_eval.specs.Lookups.{extent_value, on_range, range_of};
-ghost use Rattle.formula_eval.specs.Mean.{behind_first, called, choice, one_value, place_for, three_value, two_value};
 ghost use Rattle.formula_eval.specs.Scenes.{world_of};
 ghost use Rattle.formula_eval.specs.World.{Sight};
 

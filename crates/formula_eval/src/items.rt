@@ -47,8 +47,8 @@ fn scalar(value: &Value) -> Item
     }
 }
 
-// A cell of a range: a blank one is passed over, and a label counts as 0.
-fn put_cell(items: &mut Vec<Item>, value: &Value) -> Result<(), Memory>
+/// A cell of a range: a blank one is passed over, and a label counts as 0.
+pub fn put_cell(items: &mut Vec<Item>, value: &Value) -> Result<(), Memory>
     ensures { OnOk result (items.new.items ≡ items.old.items ++ in_range value.now) }
 {
     match value {

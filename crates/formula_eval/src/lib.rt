@@ -1,15 +1,26 @@
-//! What formulas mean: operators and functions over the values of cells, counted for each evaluation.
+//! What formulas mean: operators and functions over the values of cells, counted for each evaluation; and which records
+//! match a criterion.
 #![tactic(auto)]
 
 mod argument;
 mod attributes;
 mod calls;
+mod criteria;
+mod databases;
+mod fields;
+mod headers;
 mod items;
 mod look;
 mod lookups;
 mod meaning;
 mod means;
+mod record_match;
+mod records;
 
+pub use criteria::{content_holds, fields_of, record_matches};
+pub use fields::{field_named, has_fields, is_label_at, is_no_field};
+pub use headers::missing;
 pub use look::{Look, Scene};
 pub use meaning::{Tally, evaluate, glance};
 pub use means::Means;
+pub use record_match::{Match, matches};

@@ -2,7 +2,9 @@
 ghost use Rattle.std.specs.Prelude.{◌≡◌, ℕ, ◌+◌, ◌-◌, ◌^◌, ◌∷◌, [], ◌++◌, map, min, IfOk, IfSome, OnOk};
 ghost use Rattle.formula_tree.specs.View.{listed, tree_of};
 ghost use Rattle.formula_eval.specs.Lists.{items_of, list_value};
-ghost use Rattle.formula_eval.specs.Mean.{arguments_at, call_value, chosen, filled_in, mean, operand_of, value_at};
+ghost use Rattle.formula_eval.specs.Calls.{chosen};
+ghost use Rattle.formula_eval.specs.Mean.{mean};
+ghost use Rattle.formula_eval.specs.Parts.{arguments_by, call_value, filled_in, mean_within, operand_of, value_by, Database};
 ghost use Rattle.value_functions.specs.Operators.{binary_value, denied, negated};
 ghost use Rattle.formula_eval.specs.Scenes.{world_of};
 ghost use Rattle.formula_eval.specs.World.{Sight};
@@ -10,6 +12,7 @@ ghost use Rattle.formula_tree.specs.declared.value.Value.TheVariants as value;
 
 use crate::argument::{Argument, Operand};
 use crate::calls::{called, choice};
+use crate::databases::{Databases, Recorded, Refused};
 use crate::items::{items_of, list_value};
 use crate::look::{Look, Scene};
 use fixed_value::Fixed;
@@ -55,18 +58,20 @@ fn operand_of(expr: &Expr, at: Cell) -> Operand
 
 // The arguments of a function.
 #[cycle(value)]
-fn arguments_of<K: Look>(
+fn arguments_of<D: Databases, K: Look>(
     alloc: Global,
+    databases: &D,
     exprs: &[Expr],
     at: Cell,
     look: &K,
     scene: &Scene,
 ) -> Result<Vec<Argument>, Memory>
-    ensures { IfOk result (λ v. v.items ≡ arguments_at (listed (map tree_of exprs.now)) at (world_of (K.sight look.now) scene.entry.now)) }
+    ensures { let w = world_of (K.sight look.now) scene.entry.now in
+        IfOk result (λ v. v.items ≡ arguments_by D.answers (listed (map tree_of exprs.now)) at w) }
 {
     let mut arguments = Vec::new(alloc);
     for expr in exprs {
-        let value = value_of(alloc, expr, at, look, scene)?;
+        let value = value_of(alloc, databases, expr, at, look, scene)?;
         let operand = operand_of(expr, at);
         arguments.push(Argument { value, operand })?;
     }
@@ -75,24 +80,26 @@ fn arguments_of<K: Look>(
 
 // The value of CHOOSE or IF.
 #[cycle(value)]
-fn chosen<K: Look>(
+fn chosen<D: Databases, K: Look>(
     alloc: Global,
+    databases: &D,
     function: Function,
     exprs: &[Expr],
     at: Cell,
     look: &K,
     scene: &Scene,
 ) -> Result<Value, Memory>
-    ensures { IfOk result (λ v. v ≡ chosen function (arguments_at (listed (map tree_of exprs.now)) at (world_of (K.sight look.now) scene.entry.now))) }
+    ensures { let w = world_of (K.sight look.now) scene.entry.now in let ts = listed (map tree_of exprs.now) in
+        IfOk result (λ v. v ≡ chosen function (arguments_by D.answers ts at w)) }
 {
     if exprs.len() == 0 {
         return Ok(Value::Err);
     }
-    let first = value_of(alloc, &exprs[0], at, look, scene)?;
+    let first = value_of(alloc, databases, &exprs[0], at, look, scene)?;
     match choice(function, exprs.len(), &first) {
         Ok(place) => {
             if place < exprs.len() {
-                value_of(alloc, &exprs[place], at, look, scene)
+                value_of(alloc, databases, &exprs[place], at, look, scene)
             } else {
                 Ok(Value::Err)
             }
@@ -103,40 +110,50 @@ fn chosen<K: Look>(
 
 // The value of a function of a list.
 #[cycle(value)]
-fn listed_value<K: Look>(
+fn listed_value<D: Databases, K: Look>(
     alloc: Global,
+    databases: &D,
     function: Function,
     exprs: &[Expr],
     at: Cell,
     look: &K,
     scene: &Scene,
 ) -> Result<Value, Memory>
-    ensures { IfOk result (λ v. v ≡ list_value function (items_of (K.sight look.now).values (arguments_at (listed (map tree_of exprs.now)) at (world_of (K.sight look.now) scene.entry.now)))) }
+    ensures { let w = world_of (K.sight look.now) scene.entry.now in let ts = listed (map tree_of exprs.now) in
+        IfOk result (λ v. v ≡ list_value function (items_of (K.sight look.now).values (arguments_by D.answers ts at w))) }
 {
-    let arguments = arguments_of(alloc, exprs, at, look, scene)?;
+    let arguments = arguments_of(alloc, databases, exprs, at, look, scene)?;
     let items = items_of(alloc, arguments.as_slice(), look)?;
     Ok(list_value(function, items.as_slice()))
 }
 
 // The value of a function of arguments.
 #[cycle(value)]
-fn call_value<K: Look>(
+fn call_value<D: Databases, K: Look>(
     alloc: Global,
+    databases: &D,
     function: Function,
     exprs: &[Expr],
     at: Cell,
     look: &K,
     scene: &Scene,
 ) -> Result<Value, Memory>
-    ensures { IfOk result (λ v. v ≡ call_value function (world_of (K.sight look.now) scene.entry.now) (arguments_at (listed (map tree_of exprs.now)) at (world_of (K.sight look.now) scene.entry.now))) }
+    ensures { let w = world_of (K.sight look.now) scene.entry.now in let ts = listed (map tree_of exprs.now) in
+        IfOk result (λ v. v ≡ call_value D.answers function w (arguments_by D.answers ts at w)) }
 {
     match function {
-        Function::Choose | Function::If => chosen(alloc, function, exprs, at, look, scene),
+        Function::Choose | Function::If => chosen(
+            alloc, databases, function, exprs, at, look, scene,
+        ),
         Function::Sum | Function::Avg | Function::Count | Function::Min | Function::Max => {
-            listed_value(alloc, function, exprs, at, look, scene)
+            listed_value(alloc, databases, function, exprs, at, look, scene)
+        }
+        Function::DSum | Function::DAvg | Function::DCount | Function::DMin | Function::DMax => {
+            let arguments = arguments_of(alloc, databases, exprs, at, look, scene)?;
+            databases.value(alloc, function, arguments.as_slice(), look, scene)
         }
         _ => {
-            let arguments = arguments_of(alloc, exprs, at, look, scene)?;
+            let arguments = arguments_of(alloc, databases, exprs, at, look, scene)?;
             called(alloc, function, arguments.as_slice(), look, scene)
         }
     }
@@ -149,36 +166,41 @@ fn text_value(text: &Text) -> Result<Value, Memory>
 }
 
 #[cycle(value)]
-fn negated_value<K: Look>(
+fn negated_value<D: Databases, K: Look>(
     alloc: Global,
+    databases: &D,
     inner: &Expr,
     at: Cell,
     look: &K,
     scene: &Scene,
 ) -> Result<Value, Memory>
-    ensures { IfOk result (λ v. v ≡ negated (value_at (tree_of inner.now) at (world_of (K.sight look.now) scene.entry.now))) }
+    ensures { let w = world_of (K.sight look.now) scene.entry.now in
+        IfOk result (λ v. v ≡ negated (value_by D.answers (tree_of inner.now) at w)) }
 {
-    let value = value_of(alloc, inner, at, look, scene)?;
+    let value = value_of(alloc, databases, inner, at, look, scene)?;
     Ok(negated(&value))
 }
 
 #[cycle(value)]
-fn denied_value<K: Look>(
+fn denied_value<D: Databases, K: Look>(
     alloc: Global,
+    databases: &D,
     inner: &Expr,
     at: Cell,
     look: &K,
     scene: &Scene,
 ) -> Result<Value, Memory>
-    ensures { IfOk result (λ v. v ≡ denied (value_at (tree_of inner.now) at (world_of (K.sight look.now) scene.entry.now))) }
+    ensures { let w = world_of (K.sight look.now) scene.entry.now in
+        IfOk result (λ v. v ≡ denied (value_by D.answers (tree_of inner.now) at w)) }
 {
-    let value = value_of(alloc, inner, at, look, scene)?;
+    let value = value_of(alloc, databases, inner, at, look, scene)?;
     Ok(denied(&value))
 }
 
 // The number of a part that is one, or of the cell that it names. It spares most operators two values.
 fn number_at<K: Look>(expr: &Expr, at: Cell, look: &K) -> Option<Fixed>
-    ensures { IfSome result (λ n. (s : Scene) → value_at (tree_of expr.now) at (world_of (K.sight look.now) s) ≡ value.Num n) }
+    ensures { let w = λ (s : Scene). world_of (K.sight look.now) s in
+        IfSome result (λ n. (d : Database) (s : Scene) → value_by d (tree_of expr.now) at (w s) ≡ value.Num n) }
 {
     match expr {
         Expr::Num(number) => Some(*number),
@@ -192,8 +214,9 @@ fn number_at<K: Look>(expr: &Expr, at: Cell, look: &K) -> Option<Fixed>
 }
 
 #[cycle(value)]
-fn binary_value<K: Look>(
+fn binary_value<D: Databases, K: Look>(
     alloc: Global,
+    databases: &D,
     op: Op,
     left: &Expr,
     right: &Expr,
@@ -201,37 +224,50 @@ fn binary_value<K: Look>(
     look: &K,
     scene: &Scene,
 ) -> Result<Value, Memory>
-    ensures { IfOk result (λ v. v ≡ binary_value op (value_at (tree_of left.now) at (world_of (K.sight look.now) scene.entry.now)) (value_at (tree_of right.now) at (world_of (K.sight look.now) scene.entry.now))) }
+    ensures { let w = world_of (K.sight look.now) scene.entry.now in
+        IfOk result (λ v. v ≡ binary_value op (value_by D.answers (tree_of left.now) at w) (value_by D.answers (tree_of right.now) at w)) }
 {
     if let (Some(x), Some(y)) = (number_at(left, at, look), number_at(right, at, look)) {
         return binary(alloc, op, &Value::Num(x), &Value::Num(y));
     }
-    let left = value_of(alloc, left, at, look, scene)?;
-    let right = value_of(alloc, right, at, look, scene)?;
+    let left = value_of(alloc, databases, left, at, look, scene)?;
+    let right = value_of(alloc, databases, right, at, look, scene)?;
     binary(alloc, op, &left, &right)
 }
 
 // The value of a part, which may be blank.
 #[cycle(value)]
-fn value_of<K: Look>(
+fn value_of<D: Databases, K: Look>(
     alloc: Global,
+    databases: &D,
     expr: &Expr,
     at: Cell,
     look: &K,
     scene: &Scene,
 ) -> Result<Value, Memory>
-    ensures { IfOk result (λ v. v ≡ value_at (tree_of expr.now) at (world_of (K.sight look.now) scene.entry.now)) }
+    ensures { let w = world_of (K.sight look.now) scene.entry.now in
+        IfOk result (λ v. v ≡ value_by D.answers (tree_of expr.now) at w) }
 {
     match expr {
         Expr::Num(number) => Ok(Value::Num(*number)),
         Expr::Str(text) => text_value(text),
         Expr::Cell(reference) => look.value(reference.resolve(at)).copy(),
         Expr::Span(_, _) => Ok(Value::Err),
-        Expr::Group(inner) => value_of(alloc, inner, at, look, scene),
-        Expr::Neg(inner) => negated_value(alloc, inner, at, look, scene),
-        Expr::Not(inner) => denied_value(alloc, inner, at, look, scene),
-        Expr::Binary(op, left, right) => binary_value(alloc, *op, left, right, at, look, scene),
-        Expr::Call(function, exprs) => call_value(alloc, *function, exprs.items(), at, look, scene),
+        Expr::Group(inner) => value_of(alloc, databases, inner, at, look, scene),
+        Expr::Neg(inner) => negated_value(alloc, databases, inner, at, look, scene),
+        Expr::Not(inner) => denied_value(alloc, databases, inner, at, look, scene),
+        Expr::Binary(op, left, right) => binary_value(
+            alloc, databases, *op, left, right, at, look, scene,
+        ),
+        Expr::Call(function, exprs) => call_value(
+            alloc,
+            databases,
+            *function,
+            exprs.items(),
+            at,
+            look,
+            scene,
+        ),
     }
 }
 
@@ -245,6 +281,20 @@ fn filled_in(value: Value) -> Value
     }
 }
 
+/// The value of a formula that stands in a cell of a criterion, by what it looks at; its functions of records are ERR.
+#[tactic(auto, unfolding(crate::specs::Parts::mean_within))]
+pub fn glance_within<K: Look>(
+    formula: &Formula,
+    at: Cell,
+    look: &K,
+    scene: &Scene,
+) -> Result<Value, Memory>
+    ensures { IfOk result (λ v. v ≡ mean_within formula.now at (world_of (K.sight look.now) scene.entry.now)) }
+{
+    let value = value_of(formula.alloc(), &Refused, formula.expr(), at, look, scene)?;
+    Ok(filled_in(value))
+}
+
 /// The value of a formula that stands in a cell, by what it looks at; it isn't counted.
 #[tactic(auto, unfolding(crate::specs::Mean::mean))]
 pub fn glance<K: Look>(
@@ -255,7 +305,7 @@ pub fn glance<K: Look>(
 ) -> Result<Value, Memory>
     ensures { IfOk result (λ v. v ≡ mean formula.now at (world_of (K.sight look.now) scene.entry.now)) }
 {
-    let value = value_of(formula.alloc(), formula.expr(), at, look, scene)?;
+    let value = value_of(formula.alloc(), &Recorded, formula.expr(), at, look, scene)?;
     Ok(filled_in(value))
 }
 

@@ -4,9 +4,9 @@ use Rattle.std.specs.List.{filter_map}
 use Rattle.grid_address.specs.Place.{width_of}
 use Rattle.block_writes.specs.Writing.{at}
 use Rattle.data_query.specs.Extraction.{taken, taken_fields}
-use Rattle.data_query.specs.Fields.{field_named}
+use Rattle.formula_eval.specs.Fields.{field_named}
 use Rattle.data_query.specs.declared.output.OutputField.{OutputField}
-use Rattle.data_query.proofs.Scans.{left_first, taken_of, took_all, took_next}
+use Rattle.range_lines.proofs.Scans.{left_first, taken_of, took_all, took_next}
 use Rattle.data_query.proofs.output.taken_fields.Goals as goal
 
 pub loop-col-init : goal.loop-col-init

@@ -3,9 +3,9 @@ use Rattle.std.specs.List.{filter}
 use Rattle.grid_address.specs.Place.{Place}
 use Rattle.formula_eval.specs.Scenes.{world_of}
 use Rattle.block_writes.specs.Writing.{at}
-use Rattle.data_query.specs.Criteria.{record_matches}
+use Rattle.formula_eval.specs.Criteria.{record_matches}
 use Rattle.data_query.specs.Plans.{is_wanted, records}
-use Rattle.data_query.proofs.Scans.{left_first, passed, put_all, put_none, put_one}
+use Rattle.range_lines.proofs.Scans.{left_first, passed, put_all, put_none, put_one}
 use Rattle.data_query.proofs.plan.records_of.Goals as goal
 use Rattle.data_query.proofs.plan.records_of.Goals.{then-is_wanted+in_ok-push, else-is_wanted}
 

@@ -1,9 +1,9 @@
 use Rattle.std.proofs.Common.{◌≡◌, ◌+◌, ◌-◌, ◌++◌, map}
 use Rattle.formula_eval.specs.Scenes.{world_of}
 use Rattle.block_writes.specs.Writing.{at}
-use Rattle.data_query.specs.Criteria.{record_matches}
+use Rattle.formula_eval.specs.Criteria.{record_matches}
 use Rattle.data_query.specs.Plans.{is_wanted, records}
-use Rattle.data_query.proofs.Scans.{passed}
+use Rattle.range_lines.proofs.Scans.{passed}
 use Rattle.data_query.proofs.plan.records_of.Given as goal
 
 abbrev pub invariant-loop-place : goal.invariant-loop-place

@@ -3,7 +3,8 @@ use Rattle.std.specs.Prelude.{IfOk}
 use Rattle.formula_tree.specs.Nodes.{all_nodes, nodes}
 use Rattle.formula_tree.specs.View.{listed, tree_of, trees_in}
 use Rattle.formula_tree.proofs.Rows.{fewer_nodes, tree_of-Call}
-use Rattle.formula_eval.specs.Mean.{arguments_at, call_value, choice, value_at}
+use Rattle.formula_eval.specs.Calls.{choice}
+use Rattle.formula_eval.specs.Parts.{arguments_by, call_value, value_by}
 use Rattle.formula_eval.specs.declared.argument.Argument.{Argument}
 use Rattle.formula_eval.specs.Scenes.{world_of}
 use Rattle.formula_eval.proofs.Places.{argument, nth_is, nth_past, one_more, stopped, taken}
@@ -24,10 +25,10 @@ arguments_of-loop-expr-preserved g t c =
     let before = c.loop-expr.arguments.items in
     c.in_ok-push.ensures.items
     ∙ ap (λ v. before ++ record { value = v; operand = c.operand_of-operand.result } ∷ []) c.in_ok-value.ensures
-    ∙ ap (λ o. before ++ record { value = value_at (tree_of item) at w; operand = o } ∷ []) c.operand_of-operand.ensures
-    ∙ ap (λ e. before ++ argument at w (tree_of e) ∷ []) c.expr-item.is
-    ∙ ap (λ (l : List Argument). l ++ argument at w (tree_of (get_or es c.loop-expr.expr-index item)) ∷ []) c.loop-expr.invariant
-    ∙ sym (one_more at w es c.loop-expr.expr-index item c.loop-expr-test.true)
+    ∙ ap (λ o. before ++ record { value = value_by g.D.Databases.answers (tree_of item) at w; operand = o } ∷ []) c.operand_of-operand.ensures
+    ∙ ap (λ e. before ++ argument g.D.Databases.answers at w (tree_of e) ∷ []) c.expr-item.is
+    ∙ ap (λ (l : List Argument). l ++ argument g.D.Databases.answers at w (tree_of (get_or es c.loop-expr.expr-index item)) ∷ []) c.loop-expr.invariant
+    ∙ sym (one_more g.D.Databases.answers at w es c.loop-expr.expr-index item c.loop-expr-test.true)
 
 pub chosen-value_of-requires-then-place-exprs : goal.chosen-value_of-requires-then-place-exprs
 chosen-value_of-requires-then-place-exprs g t c κs within =
@@ -45,9 +46,9 @@ chosen-returns-then-place-exprs g t c =
     let item = c.index-exprs-place.result in
     let zeroth = c.index-exprs-0.result in
     let some : 0 < length es = omega (arith, c.if-exprs-eq0.false) in
-    let first : c.in_ok-first.first ≡ value_at (tree_of (get_or es 0 zeroth)) at w = c.in_ok-first.ensures ∙ ap (λ e. value_at (tree_of e) at w) c.index-exprs-0.is in
-    let told : choice f (length es) (value_at (tree_of (get_or es 0 zeroth)) at w) ≡ Ok place = ap (choice f (length es)) (sym first) ∙ sym c.choice.ensures ∙ c.in-Ok.is in
-    let is = ap (λ e. value_at (tree_of e) at w) c.index-exprs-place.is ∙ sym (nth_is at w es place item c.if-place-exprs.true) ∙ sym (taken f at w es zeroth place some told) in
+    let first : c.in_ok-first.first ≡ value_by g.D.Databases.answers (tree_of (get_or es 0 zeroth)) at w = c.in_ok-first.ensures ∙ ap (λ e. value_by g.D.Databases.answers (tree_of e) at w) c.index-exprs-0.is in
+    let told : choice f (length es) (value_by g.D.Databases.answers (tree_of (get_or es 0 zeroth)) at w) ≡ Ok place = ap (choice f (length es)) (sym first) ∙ sym c.choice.ensures ∙ c.in-Ok.is in
+    let is = ap (λ e. value_by g.D.Databases.answers (tree_of e) at w) c.index-exprs-place.is ∙ sym (nth_is g.D.Databases.answers at w es place item c.if-place-exprs.true) ∙ sym (taken g.D.Databases.answers f at w es zeroth place some told) in
     subst (λ x. IfOk c.value_of-then-place-exprs.result (λ v. v ≡ x)) is c.value_of-then-place-exprs.ensures
 
 pub chosen-returns-in-Ok : goal.chosen-returns-in-Ok
@@ -60,9 +61,9 @@ chosen-returns-in-Ok g t c =
     let zeroth = c.index-exprs-0.result in
     let some : 0 < length es = omega (arith, c.if-exprs-eq0.false) in
     let past : length es ≤ place = omega (arith, c.if-place-exprs.false) in
-    let first : c.in_ok-first.first ≡ value_at (tree_of (get_or es 0 zeroth)) at w = c.in_ok-first.ensures ∙ ap (λ e. value_at (tree_of e) at w) c.index-exprs-0.is in
-    let told : choice f (length es) (value_at (tree_of (get_or es 0 zeroth)) at w) ≡ Ok place = ap (choice f (length es)) (sym first) ∙ sym c.choice.ensures ∙ c.in-Ok.is in
-    sym (taken f at w es zeroth place some told ∙ nth_past at w es place past)
+    let first : c.in_ok-first.first ≡ value_by g.D.Databases.answers (tree_of (get_or es 0 zeroth)) at w = c.in_ok-first.ensures ∙ ap (λ e. value_by g.D.Databases.answers (tree_of e) at w) c.index-exprs-0.is in
+    let told : choice f (length es) (value_by g.D.Databases.answers (tree_of (get_or es 0 zeroth)) at w) ≡ Ok place = ap (choice f (length es)) (sym first) ∙ sym c.choice.ensures ∙ c.in-Ok.is in
+    sym (taken g.D.Databases.answers f at w es zeroth place some told ∙ nth_past g.D.Databases.answers at w es place past)
 
 pub chosen-returns : goal.chosen-returns
 chosen-returns g t c =
@@ -72,9 +73,9 @@ chosen-returns g t c =
     let f = c.args.function in
     let zeroth = c.index-exprs-0.result in
     let some : 0 < length es = omega (arith, c.if-exprs-eq0.false) in
-    let first : c.in_ok-first.first ≡ value_at (tree_of (get_or es 0 zeroth)) at w = c.in_ok-first.ensures ∙ ap (λ e. value_at (tree_of e) at w) c.index-exprs-0.is in
-    let told : choice f (length es) (value_at (tree_of (get_or es 0 zeroth)) at w) ≡ Err c.in-Err.value = ap (choice f (length es)) (sym first) ∙ sym c.choice.ensures ∙ c.in-Err.is in
-    sym (stopped f at w es zeroth c.in-Err.value some told)
+    let first : c.in_ok-first.first ≡ value_by g.D.Databases.answers (tree_of (get_or es 0 zeroth)) at w = c.in_ok-first.ensures ∙ ap (λ e. value_by g.D.Databases.answers (tree_of e) at w) c.index-exprs-0.is in
+    let told : choice f (length es) (value_by g.D.Databases.answers (tree_of (get_or es 0 zeroth)) at w) ≡ Err c.in-Err.value = ap (choice f (length es)) (sym first) ∙ sym c.choice.ensures ∙ c.in-Err.is in
+    sym (stopped g.D.Databases.answers f at w es zeroth c.in-Err.value some told)
 
 pub value_of-call_value-requires : goal.value_of-call_value-requires
 value_of-call_value-requires g t c κs within =
@@ -91,5 +92,5 @@ value_of-returns-in-Call g t c =
     let f = c.in-Call.function in
     let args = c.in-Call.exprs in
     let is =
-    ap (λ es. call_value f w (arguments_at (listed (map tree_of es)) at w)) c.items.ensures ∙ ap (λ x. value_at x at w) (sym (tree_of-Call f args)) ∙ ap (λ e. value_at (tree_of e) at w) (sym c.in-Call.is) in
+    ap (λ es. call_value g.D.Databases.answers f w (arguments_by g.D.Databases.answers (listed (map tree_of es)) at w)) c.items.ensures ∙ ap (λ x. value_by g.D.Databases.answers x at w) (sym (tree_of-Call f args)) ∙ ap (λ e. value_by g.D.Databases.answers (tree_of e) at w) (sym c.in-Call.is) in
     subst (λ x. IfOk c.call_value.result (λ v. v ≡ x)) is c.call_value.ensures

@@ -1,6 +1,0 @@
-use Rattle.std.proofs.Common.{sym, ◌∙◌, refl}
-use Rattle.data_query.proofs.Bytes.{at_both}
-use Rattle.data_query.proofs.patterns.is_like.Goals as goal
-
-pub returns : goal.returns
-returns c = sym (at_both c.args.pattern.now c.args.text.now c.loop-at.at _ c.loop-at-test.false c.loop-at.invariant.0 refl) ∙ c.loop-at.invariant.1

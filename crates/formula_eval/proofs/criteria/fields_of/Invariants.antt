@@ -1,0 +1,8 @@
+use Rattle.std.proofs.Common.{◌≡◌, map}
+use Rattle.range_lines.specs.Rows.{at, numbers_from}
+use Rattle.formula_eval.specs.Fields.{field_named}
+use Rattle.formula_eval.proofs.criteria.fields_of.Given as goal
+
+abbrev pub invariant-loop-col : goal.invariant-loop-col
+invariant-loop-col g l =
+    l.fields.items ≡ map (λ col. field_named (g.K.Look.sight l.look) l.input (at l.criterion.first.row col)) (numbers_from l.criterion.first.col l.col)

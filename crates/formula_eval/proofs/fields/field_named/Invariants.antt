@@ -1,0 +1,12 @@
+use Rattle.std.proofs.Common.{◌≡◌}
+use Rattle.std.specs.List.{find}
+use Rattle.grid_address.specs.Place.{width_of}
+use Rattle.range_lines.specs.Rows.{at}
+use Rattle.formula_eval.specs.Fields.{field_named, label_in, same_label}
+use Rattle.range_lines.proofs.Scans.{left}
+use Rattle.formula_eval.proofs.fields.field_named.Given as goal
+
+abbrev pub invariant-loop-col : goal.invariant-loop-col
+invariant-loop-col g l =
+    find (λ col. same_label (label_in ((g.K.Look.sight l.look).contents l.name)) (label_in ((g.K.Look.sight l.look).contents (at l.input.first.row col)))) (left l.input.first.col (width_of l.input) l.col)
+    ≡ field_named (g.K.Look.sight l.look) l.input l.name
