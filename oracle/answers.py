@@ -14,9 +14,7 @@ from .values import BLANK, C_BLANK, first_value, num, string
 
 FAULTS = {1: b'Unexpected', 2: b'Ended', 3: b'UnknownFunction', 4: b'FunctionOutside', 5: b'ArgCount', 6: b'BadNumber',
           7: b'UnknownName', 8: b'TooLong'}
-# the program refuses these as yet
-NOT_BUILT = {b'DSUM', b'DAVG', b'DCOUNT', b'DMIN', b'DMAX'}
-# its menus don't show these as yet, and no letter takes them; the line of a command goes when it is built
+# the program's menus don't show these as yet, and no letter takes them; the line of a command goes when it is built
 NOT_IN_MENUS = {
     'f',             # File
     'p',             # Print
@@ -26,7 +24,7 @@ NOT_IN_MENUS = {
 
 def leave_out():
     """From here on the oracle knows no more than the program has built."""
-    formula.NOT_BUILT, menu.NOT_BUILT = NOT_BUILT, NOT_IN_MENUS
+    menu.NOT_BUILT = NOT_IN_MENUS
 
 
 # the pointer in C2, and noon and after on 1 June 1987

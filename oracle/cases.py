@@ -4,7 +4,7 @@ import random
 
 from . import fixed, formula
 from .address import cell_text, col_text, height_of, read_cell, span_text, width_of
-from .answers import FORMULA_NAMES, NOT_BUILT, VALUE_NAMES, Desk
+from .answers import FORMULA_NAMES, VALUE_CELL, VALUE_NAMES, Desk
 from .formula import COUNTED, FUNCTIONS, LEFT_OUT_NAMES
 from .keys import COMMANDS, NAMES as KEYS, SLASH
 from .names import Names
@@ -224,18 +224,70 @@ def held(r, texts):
         lambda: b':L' + bytes([r.choice(b"'\"^\\|")]) + r.choice(WORDS), lambda: b':V' + texts.tree(1)])()
 
 
+FIELDS = [b'NAME', b'Pay', b'AGE', b'X y']
+PATTERNS = [b'A*', b'~A*', b'??', b'*', b'~', b'ab', b'~ab?', b'', b'AB']
+
+
+def criterion_formula(r, col, row):
+    """A formula for a condition in a cell, as it is read in VALUE_CELL: mostly over the first record's cells."""
+    def cell():
+        to = (r.randrange(4) - col + VALUE_CELL[0], 1 + r.choice([0, 0, 0, 1, -1]) - row + VALUE_CELL[1])
+        return r.choice([b'', b'', b'', b'$']) + col_text(to[0]) + b'%d' % (to[1] + 1)
+    operator = r.choice([b'>', b'<', b'=', b'<>', b'-', b'#AND#', b'+'])
+    inner = r.choice([lambda: b'%d' % r.randrange(-3, 9), cell, cell, lambda: b'@DSUM(A1..D7,1,E1..F2)',
+                      lambda: b'@ISERR(@DCOUNT(A1..D7,1,E1..E2))', lambda: b'@CELLPOINTER("col")', lambda: b'"AB"'])
+    return b'+' + cell() + operator + inner()
+
+
+def records(r, texts):
+    """The lines of a block with records in the columns A to D and conditions in E to H."""
+    spoilt = r.randrange(4) == 0
+    value = lambda: r.choice([b':N%d' % r.randrange(-3, 9)] * 4 + [b':B', b":L'" + r.choice([b'AB', b'ab', b'abc', b'A', b'']),
+                                                                 b':V' + r.choice([b'@NA', b'@ERR'] if spoilt else [b'"ab"', b'1.5'])])
+    out = []
+    for col in range(8):
+        name = r.choice(FIELDS) if col >= 4 or r.randrange(25) == 0 else FIELDS[col]
+        if r.randrange(60) == 0:
+            name = r.choice([b'OTHER', b''])
+        name = r.choice([name, name, name.lower()])
+        out.append(r.choice([b':B', b':N5']) if r.randrange(100) == 0 else b":L'" + name)
+    for row in range(1, r.randrange(3, 9)):
+        out += [value() for _ in range(4)]
+        for col in range(4, 8):
+            out.append(r.choice([
+                lambda: b':B', lambda: b':B', lambda: b':N%d' % r.randrange(-3, 9), lambda: b":L'" + r.choice(PATTERNS),
+                lambda: b':V' + criterion_formula(r, col, row), lambda: b':V' + criterion_formula(r, col, row)])())
+    return out
+
+
+def record_formula(r, texts):
+    """A function of records, mostly over the whole block of records and a few conditions."""
+    first = r.choice([4, 4, 5, 6])
+    source = r.choice([b'A1..D%d' % r.choice([1, 2, 3, 4, 5, 6, 7, 8])] * 16 + [texts.span(), texts.cell(), b'RATES', b'(A1..D6)'])
+    number = r.choice([b'%d' % r.randrange(4)] * 20 + [b'-1', b'4', b'1.9', b'@NA', b'1/0', b'"x"', b'H9', texts.cell()])
+    last = r.choice([first, first, first + 1])
+    criterion = r.choice([col_text(first) + b'1..' + col_text(last) + b'%d' % r.choice([1, 2, 2, 2, 3, 4])] * 16
+                         + [texts.span(), texts.cell(), b'5'])
+    call = r.choice([b'@DSUM', b'@DAVG', b'@DCOUNT', b'@DMIN', b'@DMAX']) + b'(' + b','.join([source, number, criterion]) + b')'
+    return call if r.randrange(5) else call + r.choice([b'+1', b'&"x"', b'*2'])
+
+
 def values(r):
     """The worked lines and 500 blocks of cells, with formulas up to 20,000 in all."""
-    texts = Texts(r, 9, 9, False, [name for name, _ in VALUE_NAMES], without=NOT_BUILT)
+    texts = Texts(r, 9, 9, False, [name for name, _ in VALUE_NAMES])
     head = worked('values')
     left = 20000 - sum(not line.startswith(b':') for line in head.splitlines())
     out = []
     for block in range(500, 0, -1):
         out.append(b':')
-        out += [held(r, texts) for _ in range(r.randrange(8, 72))]
         count = left // block
         left -= count
-        out += [texts.tree(r.choice([1, 1, 2, 3])) for _ in range(count)]
+        if block % 5 == 0:
+            out += records(r, texts)
+            out += [record_formula(r, texts) for _ in range(count)]
+        else:
+            out += [held(r, texts) for _ in range(r.randrange(8, 72))]
+            out += [texts.tree(r.choice([1, 1, 2, 3])) for _ in range(count)]
     return head + b''.join(line[:240] + b'\n' for line in out)
 
 
@@ -269,6 +321,13 @@ FAR_CELLS = [b'IV1', b'IU2', b'A8192', b'B8191', b'C8189', b'IV8192']
 FAR_SPANS = [b'IU1..IV2', b'IV8192', b'A8190..C8192', b'IT8191..IV8192', b'A4..A8192', b'C1..IV1', b'B2..IV3', b'A1..B8192']
 
 
+def records_of_column(r):
+    """A function of the records of a column, by conditions below the column's own header."""
+    col = col_text(r.randrange(3))
+    return (b'@' + r.choice([b'DSUM', b'DCOUNT', b'DMAX']) + b'(' + col + b'1..' + col + b'4,0,'
+            + col + b'1..' + col + b'%d)' % r.choice([2, 3]))
+
+
 class Sheets:
     """Lines of small sheets: edits around A1 to C4, and screens of wider ones. The edits are made as they come, so that
     formulas are entered with names that are there."""
@@ -287,6 +346,8 @@ class Sheets:
         """What is entered in a cell: it is read as a number, a label, a formula or nothing."""
         r = self.r
         texts = Texts(r, cols, rows, False, [])
+        if cell[1:] == b'1' and r.randrange(3) == 0:
+            return b"'" + r.choice(WORDS)  # a field's name
         while True:
             text = r.choice([
                 lambda: b'%d' % r.randrange(100), lambda: b'%.2f' % r.uniform(-10, 10), lambda: b'',
@@ -297,7 +358,7 @@ class Sheets:
                 lambda: b'@' + r.choice([b'SUM', b'COUNT', b'MAX', b'MIN', b'AVG']) + b'(' + texts.span() + b')',
                 lambda: b'@IF(' + texts.cell() + b'>' + texts.cell() + b',' + texts.cell() + b',4)',
                 lambda: r.choice([b'@INT(@NOW)', b'@@("B4")', b'@CELL("width",' + texts.cell() + b')', b'@NA', b'1/0']),
-                lambda: b'@CELL("contents",' + texts.span() + b')',
+                lambda: b'@CELL("contents",' + texts.span() + b')', lambda: records_of_column(r),
                 lambda: r.choice([b'@SUM(', b'@COUNT(', b'@ROWS(']) + r.choice([b'', b'$']) + r.choice(SPAN_NAMES) + b')'])()
             is_plain = text[:1] in (b'', b"'", b'"', b'^', b'\\', b'|') or isinstance(fixed.read_decimal(text), int)
             if is_plain or is_read(text, read_cell(cell), self.desk.sheet.names):

@@ -3,7 +3,7 @@ import struct
 
 from . import fixed, formula, wk1
 from .address import cell_text, read_cell, read_span
-from .answers import NOT_BUILT, lines_of, names_of
+from .answers import lines_of, names_of
 from .cases import TEXT_BYTES, Texts, WORDS, is_read, worked
 from .sheet import DEFAULT_FORMAT, Saved, State
 from .values import BLANK, C_BLANK, ERR, NA, num, string
@@ -196,7 +196,7 @@ class Built:
 
     def cell(self, names):
         r, place, code = self.r, self.place(), b'%d' % self.r.choice(FORMATS)
-        texts = Texts(r, 7, 8, True, [name for name in names if name.isalnum()], without=NOT_BUILT)
+        texts = Texts(r, 7, 8, True, [name for name in names if name.isalnum()])
         while r.randrange(2):
             text = texts.tree(r.choice([1, 2, 3, 4]))
             if len(text) <= 240 and is_read(text, read_cell(place), names_of_lines(names)):

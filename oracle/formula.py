@@ -216,10 +216,6 @@ def is_volatile(expr):
 
 # ---- reading ----
 
-# functions that the program still refuses as it does those that are left out
-NOT_BUILT = set()
-
-
 class ParseFault(Exception):
     """1 nothing may begin at this byte, 2 the text ends too early, 3 no such function, 4 a function that is left out,
     5 a wrong count of arguments, 6 a number too large, 7 no such name, 8 a text too long.  `at` is None for 2 and 8."""
@@ -327,8 +323,6 @@ def next_token(text, pos, at, names):
         name = fold(text[pos + 1:end])
         if not name:
             return None  # a run has at least one byte
-        if name in NOT_BUILT:
-            return ('function', end, None, 4)
         if name in CODE_OF:
             code = CODE_OF[name]
             if FUNCTIONS[code][2] == 0:

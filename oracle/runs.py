@@ -9,7 +9,7 @@ import shlex
 import subprocess
 import sys
 
-from .answers import NOT_BUILT, leave_out
+from .answers import leave_out
 from .cases import SEED, Texts, WORDS, is_read
 from .cli import run
 from .menu_keys import MenuKeys
@@ -17,7 +17,7 @@ from .names import Names
 from .session import VALUE_BEGINS
 
 BLANK_MOMENT = b' ' * 15
-WITHOUT = NOT_BUILT | {b'NOW'}
+WITHOUT = {b'NOW'}
 NO_NAMES = Names()
 
 

@@ -188,8 +188,6 @@ def read_code(code):
             if not formula.right_ok(name, right.expr):
                 right = bracket(right)
             stack.append(_Node(('bin', name, left.expr, right.expr), [left, right], min(level, right.edge)))
-        elif op in formula.FUNCTIONS and formula.FUNCTIONS[op][0] in formula.NOT_BUILT:
-            raise CodeFault('Outside', op)
         elif op in formula.FUNCTIONS:
             _, least, most = formula.FUNCTIONS[op]
             count = least
