@@ -24,8 +24,8 @@ pub enum Kind {
     Unknown,
 }
 
-// SQRT, LOG, LN, PI, SIN, COS, TAN, ATAN2, ATAN, ASIN, ACOS, EXP, RAND, PMT, PV, FV, NPV, VAR, STD, IRR, DVAR, DSTD, S, N, the
-// add-in call, RATE, TERM, CTERM, SLN, SYD and DDB.
+// SQRT, LOG, LN, PI, SIN, COS, TAN, ATAN2, ATAN, ASIN, ACOS, EXP, RAND, PMT, PV, FV, NPV, VAR, STD, IRR, DVAR, DSTD, S,
+// N, the add-in call, RATE, TERM, CTERM, SLN, SYD and DDB.
 const LEFT_OUT: [u8; 31] = [
     0x23, 0x24, 0x25, 0x26, 0x27, 0x28, 0x29, 0x2A, 0x2B, 0x2C, 0x2D, 0x2E, 0x35, 0x38, 0x39, 0x3A,
     0x56, 0x57, 0x58, 0x59, 0x60, 0x61, 0x6F, 0x70, 0x72, 0x74, 0x75, 0x76, 0x77, 0x78, 0x79,
