@@ -1,4 +1,6 @@
+pub mod InOrder
 pub mod Orders
 pub mod Reached
 pub mod Shares
 pub mod Sorted
+pub mod Turns

@@ -1,3 +1,4 @@
+pub mod Benches
 pub mod Distribution
 pub mod Filling
 pub mod Sorting

@@ -53,3 +53,18 @@ pub record IsSort (sight : Sight) (s : Extent) (keys : List SortKey) (writes : L
   pub sorted : List ℕ
   pub order : IsStableSort (order_of_rows sight.values keys) (rows_of s) sorted
   pub moved : writes ≡ rows_copied sight (columns_of s) sorted (rows_of s)
+
+-- a row among rows in order: before the first that doesn't come before it
+abbrev pub placed : (ℕ → ℕ → Ordering) → ℕ → List ℕ → List ℕ
+placed order row [] = row ∷ []
+placed order row (r ∷ rows) = if is_lt (order r row) then r ∷ placed order row rows else row ∷ r ∷ rows
+
+-- rows in order, where those that tie stay as they stand
+abbrev pub in_order : (ℕ → ℕ → Ordering) → List ℕ → List ℕ
+in_order order [] = []
+in_order order (row ∷ rows) = placed order row (in_order order rows)
+
+-- what a sort writes
+abbrev pub rows_sorted : Sight → Extent → List SortKey → List Write
+rows_sorted sight s keys =
+    rows_copied sight (columns_of s) (in_order (order_of_rows sight.values keys) (rows_of s)) (rows_of s)

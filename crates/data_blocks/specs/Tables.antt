@@ -1,18 +1,28 @@
 -- The two tables: what formulas are after one input or two are tried.
-use Rattle.std.specs.Prelude.{ℕ, ◌+◌, ◌-◌, ◌||◌, Bool, Option, None, Some, List, [], ◌∷◌, map, nat_eq, if◌then◌else◌}
-use Rattle.std.specs.List.{find, flat_map, zip}
+use Rattle.std.specs.Prelude.{ℕ, ◌+◌, ◌-◌, ◌||◌, Bool, Option, None, Some, List, [], ◌∷◌, ◌++◌, map, nat_eq, if◌then◌else◌}
+use Rattle.std.specs.List.{find, flat_map}
 use Rattle.grid_address.specs.Place.{is_within, Extent, Place}
 use Rattle.formula_tree.specs.declared.value.Value.{Value}
-use Rattle.block_writes.specs.Writing.{across, as_content, at, down, numbers_from, rows_below, written}
+use Rattle.sheet_store.specs.declared.writes.SheetFault.TheVariants as sheet_fault
+use Rattle.block_writes.specs.Writing.{as_content, at, numbers_from, rows_below, written}
 use Rattle.sheet_store.specs.declared.writes.Write.{Write}
 use Rattle.data_blocks.specs.declared.fault.BlockFault.{BlockFault}
 use Rattle.data_blocks.specs.declared.fault.BlockFault.TheVariants as fault
 
--- a sheet on which inputs are tried: a value is entered and the sheet recalculated, or the old contents come back
-pub record Trials (Sheet : Type 0) : Type 0 where
-  pub tried : Place → Value → Sheet → Sheet
-  pub given_back : Sheet → Sheet
-  pub answer : Sheet → Place → Value
+-- an input that is tried: a value is entered into a cell, and all is recalculated
+pub record Trial : Type 0 where
+  pub cell : Place
+  pub value : Value
+
+-- the answer of one cell is written into another
+pub record Answer : Type 0 where
+  pub from : Place
+  pub to : Place
+
+-- inputs that are tried one after another, and the answers that are then written
+pub record Turn : Type 0 where
+  pub trials : List Trial
+  pub answers : List Answer
 
 -- the columns behind the first
 abbrev pub columns_behind : Extent → List ℕ
@@ -22,50 +32,75 @@ columns_behind s = numbers_from (s.first.col + 1) (s.last.col - s.first.col)
 abbrev pub is_no_table : Extent → Bool
 is_no_table s = nat_eq s.first.row s.last.row || nat_eq s.first.col s.last.col
 
-abbrev pub inputs_fault : Option Place → Option BlockFault
-inputs_fault None = None
-inputs_fault (Some p) = Some (fault.InputInTable p)
+-- an input cell that lies in its table is a fault
+abbrev pub inside_fault : Option Place → Option BlockFault
+inside_fault None = None
+inside_fault (Some p) = Some (fault.InputInTable p)
 
--- the first given input cell that lies in the table is the fault
-abbrev pub table_fault : Extent → List Place → Option BlockFault
-table_fault s inputs = if is_no_table s then Some fault.NoTable else inputs_fault (find (is_within s) inputs)
+-- why a span is no table with these input cells: of those that lie in it the first is told
+abbrev pub shape_fault : Extent → List Place → Option BlockFault
+shape_fault s inputs = if is_no_table s then Some fault.NoTable else inside_fault (find (is_within s) inputs)
 
-module _ {Sheet : Type 0} (trials : Trials Sheet) where
-  -- the sheet after each of some inputs in turn
-  abbrev pub after_each : Place → List Value → Sheet → List Sheet
-  after_each input [] sheet = []
-  after_each input (v ∷ vs) sheet = trials.tried input v sheet ∷ after_each input vs (trials.tried input v sheet)
+-- the first protected input cell is a fault behind that
+abbrev pub or_guarded : Option BlockFault → Option Place → Option BlockFault
+or_guarded (Some f) cell = Some f
+or_guarded None (Some p) = Some (fault.Sheet (sheet_fault.Protected p))
+or_guarded None None = None
 
-  -- the same for two input cells, of which the first is tried first
-  abbrev pub after_both : Place → Place → List (Value × Value) → Sheet → List Sheet
-  after_both first second [] sheet = []
-  after_both first second (v ∷ vs) sheet =
-      trials.tried second v.1 (trials.tried first v.0 sheet) ∷ after_both first second vs (trials.tried second v.1 (trials.tried first v.0 sheet))
+-- why a table with these input cells is refused, by which cells are protected
+abbrev pub table_fault : Extent → List Place → (Place → Bool) → Option BlockFault
+table_fault s inputs guarded = or_guarded (shape_fault s inputs) (find guarded inputs)
 
-  -- the answer of one cell, for another
-  abbrev pub answered : Sheet → Place → Place → Write
-  answered sheet from to = written to (as_content (trials.answer sheet from))
+-- table 1: each cell below the first of its column holds an input, and the cells beside it take the answers of the top row
+abbrev pub row_answers : Extent → ℕ → List Answer
+row_answers s row = map (λ col. record { from = at s.first.row col; to = at row col }) (columns_behind s)
 
-  -- table 1: the inputs stand in the first column, the formulas in the top row
-  abbrev pub inputs_down : Extent → Sheet → List Value
-  inputs_down s sheet = map (trials.answer sheet) (down s.first.col (rows_below s))
+abbrev pub row_turn : Extent → Place → (Place → Value) → ℕ → Turn
+row_turn s input values row = record {
+  trials = record { cell = input; value = values (at row s.first.col) } ∷ [];
+  answers = row_answers s row;
+}
 
-  abbrev pub inputs_across : Extent → Sheet → List Value
-  inputs_across s sheet = map (trials.answer sheet) (across s.first.row (columns_behind s))
+abbrev pub turns_one : Extent → Place → (Place → Value) → List Turn
+turns_one s input values = map (row_turn s input values) (rows_below s)
 
-  abbrev pub row_answered : Extent → ℕ → Sheet → List Write
-  row_answered s row sheet = map (λ col. answered sheet (at s.first.row col) (at row col)) (columns_behind s)
+-- table 2: a cell takes the answer of the corner, after its row's input and then its column's were tried
+abbrev pub cell_turn : Extent → Place → Place → (Place → Value) → ℕ → ℕ → Turn
+cell_turn s down across values row col = record {
+  trials = record { cell = down; value = values (at row s.first.col) } ∷ record { cell = across; value = values (at s.first.row col) } ∷ [];
+  answers = record { from = s.first; to = at row col } ∷ [];
+}
 
+abbrev pub row_turns : Extent → Place → Place → (Place → Value) → ℕ → List Turn
+row_turns s down across values row = map (cell_turn s down across values row) (columns_behind s)
+
+abbrev pub turns_two : Extent → Place → Place → (Place → Value) → List Turn
+turns_two s down across values = flat_map (row_turns s down across values) (rows_below s)
+
+-- an answer as it is written, by the values of the cells
+abbrev pub answered : (Place → Value) → Answer → Write
+answered values a = written a.to (as_content (values a.from))
+
+module _ {Sheet : Type 0} (tried : Trial → Sheet → Sheet) (values : Sheet → Place → Value) where
+  -- a sheet after some inputs were tried, one after another
+  abbrev pub after_trials : List Trial → Sheet → Sheet
+  after_trials [] sheet = sheet
+  after_trials (t ∷ ts) sheet = after_trials ts (tried t sheet)
+
+  -- the same of the inputs of some turns
+  abbrev pub after_turns : List Turn → Sheet → Sheet
+  after_turns [] sheet = sheet
+  after_turns (t ∷ ts) sheet = after_turns ts (after_trials t.trials sheet)
+
+  -- what some turns write
+  abbrev pub turns_written : List Turn → Sheet → List Write
+  turns_written [] sheet = []
+  turns_written (t ∷ ts) sheet =
+      map (answered (values (after_trials t.trials sheet))) t.answers ++ turns_written ts (after_trials t.trials sheet)
+
+  -- what the tables write; their inputs are read before the first is tried
   abbrev pub table_one : Extent → Place → Sheet → List Write
-  table_one s input sheet = flat_map (λ p. row_answered s p.0 p.1) (zip (rows_below s) (after_each input (inputs_down s sheet) sheet))
-
-  -- table 2: the formula stands in the corner, the first input in the first column and the second in the top row
-  abbrev pub pairs : List Value → List Value → List (Value × Value)
-  pairs firsts seconds = flat_map (λ v. map (λ w. (v, w)) seconds) firsts
-
-  abbrev pub inner_cells : Extent → List Place
-  inner_cells s = flat_map (λ row. across row (columns_behind s)) (rows_below s)
+  table_one s input sheet = turns_written (turns_one s input (values sheet)) sheet
 
   abbrev pub table_two : Extent → Place → Place → Sheet → List Write
-  table_two s first second sheet =
-      map (λ p. answered p.1 s.first p.0) (zip (inner_cells s) (after_both first second (pairs (inputs_down s sheet) (inputs_across s sheet)) sheet))
+  table_two s down across sheet = turns_written (turns_two s down across (values sheet)) sheet

@@ -5,7 +5,7 @@ ghost use Rattle.std.specs.Ordering.{is_lt, ordering_reverse};
 ghost use Rattle.grid_address.specs.Place.{Place};
 ghost use Rattle.formula_eval.specs.World.{Sight};
 ghost use Rattle.block_writes.specs.Writing.{down, rows_of};
-ghost use Rattle.data_blocks.specs.Sorting.{IsSort, order_by_key, order_of_rows, turned};
+ghost use Rattle.data_blocks.specs.Sorting.{order_by_key, order_of_rows, rows_sorted, turned, IsSort};
 
 use crate::rows::row_cell;
 use crate::{BlockFault, SortKey, order_of_values};
@@ -120,6 +120,7 @@ pub fn sort_rows<K: Look>(
     look: &K,
 ) -> Result<Writes, BlockFault>
     ensures sorted { IfOk result (λ w. IsSort (K.sight look.now) span keys.now w) }
+    ensures rows { IfOk result (λ w. w ≡ rows_sorted (K.sight look.now) span keys.now) }
     ensures fault { IfErr result (λ f. f ≡ BlockFault.Memory) }
 {
     match rows_sorted(alloc, span, keys, look) {
