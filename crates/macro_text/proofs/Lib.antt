@@ -1,0 +1,4 @@
+pub mod Cutting
+pub mod Keeping
+pub mod Splitting
+pub mod Turns

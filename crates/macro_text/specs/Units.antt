@@ -1,0 +1,141 @@
+-- The next unit of a macro, as its text now stands.
+use Rattle.std.specs.Prelude.{ℕ, zero, suc, ℤ, ◌+◌, Bool, true, false, nat_lt, List, Option, Some, None, if◌then◌else◌}
+use Rattle.at_functions.specs.Numbers.{count_of}
+use Rattle.formula_eval.specs.World.{World}
+use Rattle.formula_text.specs.Words.{named_span}
+use Rattle.grid_address.specs.Place.{Extent, Place}
+use Rattle.key_words.specs.declared.command.Command.{Command}
+use Rattle.key_words.specs.declared.command.Command.TheVariants as command
+use Rattle.key_words.specs.declared.key.Key.{Key}
+use Rattle.key_words.specs.declared.macro_word.MacroWord.{MacroWord}
+use Rattle.key_words.specs.declared.macro_word.MacroWord.TheVariants as word
+use Rattle.key_words.specs.MacroText.{unit_at}
+use Rattle.macro_text.specs.Arguments.{number_of}
+use Rattle.macro_text.specs.Texts.{macro_text, part}
+use Rattle.macro_text.specs.declared.position.Position.{Position}
+use Rattle.macro_text.specs.declared.position.Spot.{Spot}
+use Rattle.macro_text.specs.declared.unit.MacroFault.TheVariants as fault
+use Rattle.macro_text.specs.declared.unit.Turn.{Turn}
+use Rattle.macro_text.specs.declared.unit.Turn.TheVariants.{Now, Passed}
+use Rattle.macro_text.specs.declared.unit.Unit.{Unit}
+use Rattle.macro_text.specs.declared.unit.Unit.TheVariants as unit
+
+-- what the macro does, and where it goes on
+abbrev pub Next : Type 0
+Next = Unit × Position
+
+-- at the beginning of a cell's text
+abbrev pub start_of : Place → Spot
+start_of c = record { cell = c; offset = 0 }
+
+-- at a place, with nothing typed
+abbrev pub at_spot : Spot → Position
+at_spot s = record { spot = s; typed = 0 }
+
+-- behind the word, which ends at this offset
+abbrev pub behind : ℕ → Position → Position
+behind end p = at_spot (record { cell = p.spot.cell; offset = end })
+
+-- the sheet's last row, counted from 0
+abbrev pub last_row : ℕ
+last_row = 8191
+
+-- the cell below
+abbrev pub cell_below : Place → Place
+cell_below c = record { row = c.row + 1; col = c.col }
+
+-- behind the text's end the macro goes to the cell below; below the last row it returns
+abbrev pub down : Position → Next
+down p =
+    if nat_lt p.spot.cell.row last_row then (unit.Down, at_spot (start_of (cell_below p.spot.cell)))
+    else (unit.Return, p)
+
+-- the commands that are words; the others are none
+abbrev pub is_known : Command → Bool
+is_known command.Branch = true
+is_known command.Dispatch = true
+is_known command.Define = true
+is_known command.Return = true
+is_known command.Restart = true
+is_known command.Quit = true
+is_known command.If = true
+is_known command.For = true
+is_known command.ForBreak = true
+is_known command.Let = true
+is_known command.Put = true
+is_known command.Blank = true
+is_known command.Contents = true
+is_known command.OnError = true
+is_known command.Recalc = true
+is_known command.RecalcCol = true
+is_known _ = false
+
+-- a word that is none
+abbrev pub unknown : Position → Next
+unknown p = (unit.Fault (fault.UnknownWord p.spot), p)
+
+-- a command, or a call: its word stands at the place
+abbrev pub carried : ℕ → Position → Next
+carried end p = (unit.Command p.spot, behind end p)
+
+-- a command, where it is a word
+abbrev pub command_unit : Command → ℕ → Position → Next
+command_unit c end p = if is_known c then carried end p else unknown p
+
+-- a call of a name, where there is such a name
+abbrev pub call_unit : Option Extent → ℕ → Position → Next
+call_unit None end p = unknown p
+call_unit (Some s) end p = carried end p
+
+-- a key that is to be typed so often was typed less often; below 0 is never
+abbrev pub is_left : Option ℕ → ℕ → Bool
+is_left None typed = false
+is_left (Some n) typed = nat_lt typed n
+
+-- A repeated key is typed once more, or passed where it was typed as often as it is to be: a number, cut toward zero.
+abbrev pub repeated_turn : Key → Option ℤ → ℕ → Position → Turn
+repeated_turn k None end p = Now (unit.Fault (fault.BadArgument p.spot)) p
+repeated_turn k (Some n) end p =
+    if is_left (count_of n) p.typed then Now (unit.Key k) (record p { typed = p.typed + 1 }) else Passed (behind end p)
+
+-- the macro does this
+abbrev pub now : Next → Turn
+now n = Now n.0 n.1
+
+-- a word that ends at this offset; the number of a repeated key is read anew each time
+abbrev pub word_turn : World → List ℕ → MacroWord → ℕ → Position → Turn
+word_turn w text (word.Key k) end p = Now (unit.Key k) (behind end p)
+word_turn w text (word.Repeated k c) end p = repeated_turn k (number_of w p.spot.cell (part text c)) end p
+word_turn w text (word.Command c args) end p = now (command_unit c end p)
+word_turn w text (word.Call name args) end p = now (call_unit (named_span w.sight.names (part text name)) end p)
+word_turn w text (word.PlaceCall c) end p = now (carried end p)
+word_turn w text word.End end p = now (down p)
+word_turn w text word.Bad end p = now (unknown p)
+
+-- a cell without a text ends the routine
+abbrev pub text_turn : World → Option (List ℕ) → Position → Turn
+text_turn w None p = Now unit.Return p
+text_turn w (Some text) p = word_turn w text (unit_at text p.spot.offset).0 (unit_at text p.spot.offset).1 p
+
+-- the word at the place, as the text now stands
+unfoldable pub turn_at : World → Position → Turn
+turn_at w p = text_turn w (macro_text w.sight p.spot.cell) p
+
+-- what the macro does, or what it does behind a word that it passes
+abbrev pub go_on : Turn → (Position → Next) → Next
+go_on (Now u p) rest = (u, p)
+go_on (Passed p) rest = rest p
+
+-- within so many words
+unfoldable pub unit_within : ℕ → World → Position → Next
+unit_within zero w p = (unit.Return, p)
+unit_within (suc n) w p = go_on (turn_at w p) (unit_within n w)
+
+-- a text has at most 240 words, and an end
+abbrev pub most_words : ℕ
+most_words = 241
+
+-- The next unit of a macro, and where it goes on: that of the word at its place, or behind the repeated keys that were
+-- typed as often as they are to be.
+abbrev pub next_unit : World → Position → Next
+next_unit w p = unit_within most_words w p

@@ -1,0 +1,91 @@
+// Arguments that are expressions.
+ghost use Rattle.std.specs.Prelude.{◌≡◌, ◌≤◌, IfOk, IfSome};
+ghost use Rattle.at_functions.specs.Numbers as numbers;
+ghost use Rattle.formula_eval.specs.Scenes.{world_of};
+ghost use Rattle.macro_text.specs.Arguments as spec;
+
+use at_functions::whole;
+use fixed_value::Fixed;
+use formula_eval::{Look, Scene, glance};
+use formula_text::{ParseFault, read};
+use formula_tree::{Formula, Value};
+use grid_address::Cell;
+use lics_text::Memory;
+use std::alloc::Global;
+
+/// The formula that a text spells where it stands in a cell; none where it spells none.
+pub fn formula_in<K: Look>(
+    alloc: Global,
+    text: &[u8],
+    at: Cell,
+    look: &K,
+    scene: &Scene,
+) -> Result<Option<Formula>, Memory>
+    ensures { let world = world_of (K.sight look.now) scene.entry.now in
+        IfOk result (λ f. f ≡ spec.formula_in world at text.now) }
+{
+    match read(alloc, text, at, look.names()) {
+        Ok(formula) => Ok(Some(formula)),
+        Err(ParseFault::Memory) => Err(Memory),
+        Err(_) => Ok(None),
+    }
+}
+
+/// The value of an expression that stands in a cell; none where the text is no formula. No evaluation is counted.
+pub fn expression_value<K: Look>(
+    alloc: Global,
+    text: &[u8],
+    at: Cell,
+    look: &K,
+    scene: &Scene,
+) -> Result<Option<Value>, Memory>
+    ensures { let world = world_of (K.sight look.now) scene.entry.now in
+        IfOk result (λ v. v ≡ spec.expression_value world at text.now) }
+{
+    match formula_in(alloc, text, at, look, scene)? {
+        Some(formula) => Ok(Some(glance(&formula, at, look, scene)?)),
+        None => Ok(None),
+    }
+}
+
+// The number that a value is.
+fn number_or_none(value: &Option<Value>) -> Option<Fixed>
+    ensures { result ≡ spec.number_or_none value.now }
+{
+    match value {
+        Some(Value::Num(number)) => Some(*number),
+        Some(Value::Blank) => None,
+        Some(Value::Str(_)) => None,
+        Some(Value::Err) => None,
+        Some(Value::Na) => None,
+        None => None,
+    }
+}
+
+/// The number that an expression in a cell has as its value; none where it is no formula, or its value no number.
+pub fn number_of<K: Look>(
+    alloc: Global,
+    text: &[u8],
+    at: Cell,
+    look: &K,
+    scene: &Scene,
+) -> Result<Option<Fixed>, Memory>
+    ensures { let world = world_of (K.sight look.now) scene.entry.now in
+        IfOk result (λ n. n ≡ spec.number_of world at text.now) }
+{
+    let value = expression_value(alloc, text, at, look, scene)?;
+    Ok(number_or_none(&value))
+}
+
+/// How often a number tells: cut toward zero, and none below that.
+pub fn count_of(number: Fixed) -> Option<u32>
+    ensures count { result ≡ numbers.count_of number }
+    ensures most { IfSome result (λ n. n ≤ 999999999) }
+{
+    let number = whole(number);
+    if number < 0 {
+        None
+    } else {
+        Some(number as u32)
+    }
+}

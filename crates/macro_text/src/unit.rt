@@ -1,0 +1,259 @@
+// The next unit of a macro.
+ghost use Rattle.std.specs.Prelude.{◌≡◌, IfOk};
+ghost use Rattle.formula_eval.specs.Scenes.{world_of};
+ghost use Rattle.formula_text.specs.Words.{named_span};
+ghost use Rattle.lics_text.specs.Bytes.{IsText};
+ghost use Rattle.macro_text.specs.Units as spec;
+
+use crate::expression::{count_of, number_of};
+use crate::pieces::{macro_text, part};
+use crate::{KeptWords, Position, Spot};
+use fixed_value::Fixed;
+use formula_eval::{Look, Scene};
+use grid_address::Cell;
+use key_words::{Command, Key, MacroWord};
+use lics_text::Memory;
+use range_names::Names;
+use std::alloc::Global;
+
+/// Why a macro stops with an error. The place is that of the word at fault.
+#[derive(Clone, Copy, Debug, PartialEq, Eq)]
+pub enum MacroFault {
+    /// No name is a backslash and the letter that was given with Alt.
+    NoSuchMacro,
+    /// A call, or a loop that calls, inside 31 others.
+    TooDeep(Spot),
+    /// A word that is neither a key nor a command nor a name of a range, or that isn't whole.
+    UnknownWord(Spot),
+    /// An argument that isn't of its kind, or a wrong number of arguments.
+    BadArgument(Spot),
+    /// A cell that should hold a text, or a label, and doesn't.
+    NotText(Spot),
+}
+
+/// What a macro does next.
+#[derive(Clone, Copy, Debug, PartialEq, Eq)]
+pub enum Unit {
+    /// It types a key.
+    Key(Key),
+    /// It carries out the command, or the call, whose word stands here.
+    Command(Spot),
+    /// It goes to the cell below.
+    Down,
+    /// It returns to its caller, or stops where it has none.
+    Return,
+    /// It stops with an error.
+    Fault(MacroFault),
+}
+
+// What a word comes to: a unit and the place behind it, or it is passed.
+#[derive(Clone, Copy)]
+enum Turn {
+    Now(Unit, Position),
+    Passed(Position),
+}
+
+// At a place, with nothing typed.
+fn at_spot(spot: Spot) -> Position
+    ensures { result ≡ spec.at_spot spot }
+{
+    Position { spot, typed: 0 }
+}
+
+// Behind the word, which ends at this offset.
+fn behind(end: usize, position: &Position) -> Position
+    ensures { result ≡ spec.behind end position.now }
+{
+    at_spot(Spot {
+        cell: position.spot.cell,
+        offset: end,
+    })
+}
+
+// The sheet's last row.
+const LAST_ROW: u16 = 8191;
+
+// The cell below, where there is one.
+fn down(position: &Position) -> Turn
+    ensures { result ≡ spec.now (spec.down position.now) }
+{
+    let Cell { row, col } = position.spot.cell;
+    if row < LAST_ROW {
+        let below = Spot {
+            cell: Cell { row: row + 1, col },
+            offset: 0,
+        };
+        Turn::Now(Unit::Down, at_spot(below))
+    } else {
+        Turn::Now(Unit::Return, *position)
+    }
+}
+
+/// Whether a command is a word of macros; the others of its names are none as yet.
+pub fn is_known(command: Command) -> bool
+    ensures { result ≡ spec.is_known command }
+{
+    match command {
+        Command::Branch | Command::Dispatch | Command::Define | Command::Return => true,
+        Command::Restart | Command::Quit | Command::If | Command::For => true,
+        Command::ForBreak | Command::Let | Command::Put | Command::Blank => true,
+        Command::Contents | Command::OnError => true,
+        Command::Recalc | Command::RecalcCol => true,
+        Command::Get | Command::GetLabel | Command::GetNumber | Command::Look => false,
+        Command::MenuBranch | Command::MenuCall | Command::Wait | Command::Interact => false,
+        Command::Beep | Command::Indicate | Command::PanelOn | Command::PanelOff => false,
+        Command::WindowsOn | Command::WindowsOff => false,
+        Command::BreakOn | Command::BreakOff => false,
+        Command::Open | Command::Close | Command::Read | Command::ReadLn => false,
+        Command::Write | Command::WriteLn | Command::FileSize => false,
+        Command::GetPos | Command::SetPos => false,
+    }
+}
+
+// A word that is none.
+fn unknown(position: &Position) -> Turn
+    ensures { result ≡ spec.now (spec.unknown position.now) }
+{
+    Turn::Now(
+        Unit::Fault(MacroFault::UnknownWord(position.spot)),
+        *position,
+    )
+}
+
+// A command, or a call.
+fn carried(end: usize, position: &Position) -> Turn
+    ensures { result ≡ spec.now (spec.carried end position.now) }
+{
+    Turn::Now(Unit::Command(position.spot), behind(end, position))
+}
+
+// A command, where it is a word.
+fn command_turn(command: Command, end: usize, position: &Position) -> Turn
+    ensures { result ≡ spec.now (spec.command_unit command end position.now) }
+{
+    if is_known(command) {
+        carried(end, position)
+    } else {
+        unknown(position)
+    }
+}
+
+// A call of a name, where there is such a name.
+fn call_turn(names: &Names, name: &[u8], end: usize, position: &Position) -> Turn
+    ensures { result ≡ spec.now (spec.call_unit (named_span names.now name.now) end position.now) }
+{
+    match names.find(name) {
+        Some(_) => carried(end, position),
+        None => unknown(position),
+    }
+}
+
+// Whether a key was typed less often than it is to be.
+fn is_left(count: Option<u32>, typed: u32) -> bool
+    ensures { result ≡ spec.is_left count typed }
+{
+    match count {
+        Some(count) => typed < count,
+        None => false,
+    }
+}
+
+// A repeated key, once more or passed.
+fn repeated_turn(key: Key, number: Option<Fixed>, end: usize, position: &Position) -> Turn
+    ensures { result ≡ spec.repeated_turn key number end position.now }
+{
+    let Some(number) = number else {
+        return Turn::Now(
+            Unit::Fault(MacroFault::BadArgument(position.spot)),
+            *position,
+        );
+    };
+    if is_left(count_of(number), position.typed) {
+        let next = Position {
+            spot: position.spot,
+            typed: position.typed + 1,
+        };
+        Turn::Now(Unit::Key(key), next)
+    } else {
+        Turn::Passed(behind(end, position))
+    }
+}
+
+// What a word comes to that ends at this offset.
+fn word_turn<K: Look>(
+    alloc: Global,
+    look: &K,
+    scene: &Scene,
+    position: &Position,
+    text: &[u8],
+    word: MacroWord,
+    end: usize,
+) -> Result<Turn, Memory>
+    ensures { let world = world_of (K.sight look.now) scene.entry.now in
+        IfOk result (λ t. t ≡ spec.word_turn world text.now word end position.now) }
+{
+    match word {
+        MacroWord::Key(key) => Ok(Turn::Now(Unit::Key(key), behind(end, position))),
+        MacroWord::Repeated(key, cut) => {
+            let number = number_of(alloc, part(text, cut), position.spot.cell, look, scene)?;
+            Ok(repeated_turn(key, number, end, position))
+        }
+        MacroWord::Command(command, _) => Ok(command_turn(command, end, position)),
+        MacroWord::Call(name, _) => {
+            let name = part(text, name);
+            Ok(call_turn(look.names(), name, end, position))
+        }
+        MacroWord::PlaceCall(_) => Ok(carried(end, position)),
+        MacroWord::End => Ok(down(position)),
+        MacroWord::Bad => Ok(unknown(position)),
+    }
+}
+
+// What the word at a place comes to, by the text as it now stands.
+#[tactic(auto, unfolding(crate::specs::Units::turn_at))]
+fn turn_at<K: Look>(
+    alloc: Global,
+    look: &K,
+    scene: &Scene,
+    kept: &mut KeptWords,
+    position: &Position,
+) -> Result<Turn, Memory>
+    ensures { let world = world_of (K.sight look.now) scene.entry.now in
+        IfOk result (λ t. t ≡ spec.turn_at world position.now) }
+{
+    let Some(text) = macro_text(look, position.spot.cell) else {
+        return Ok(Turn::Now(Unit::Return, *position));
+    };
+    let bytes = text.bytes();
+    let (word, end) = kept.word_at(bytes, position.spot.offset);
+    word_turn(alloc, look, scene, position, bytes, word, end)
+}
+
+// A text has at most 240 words, and an end.
+const MOST_WORDS: u32 = 241;
+
+/// The next unit of a macro, by the text as it now stands, and where the macro goes on: behind a key, a command or a
+/// call, and at the beginning of the cell below. A repeated key is typed once; its number is read anew each time, and
+/// where it was typed as often as it is to be, the word behind it tells the unit. At a return and at a fault the
+/// place stays. Words that were kept of a text are used for that text alone. (Release 2 manual for the words; that the
+/// text is read anew for each unit is this project's choice.)
+pub fn next_unit<K: Look>(
+    alloc: Global,
+    look: &K,
+    scene: &Scene,
+    kept: &mut KeptWords,
+    position: &Position,
+) -> Result<(Unit, Position), Memory>
+    ensures { let world = world_of (K.sight look.now) scene.entry.now in
+        IfOk result (λ n. n ≡ spec.next_unit world position.now) }
+{
+    let mut place = *position;
+    for turn in 0..MOST_WORDS {
+        let _ = turn;
+        match turn_at(alloc, look, scene, kept, &place)? {
+            Turn::Now(unit, next) => return Ok((unit, next)),
+            Turn::Passed(next) => place = next,
+        }
+    }
+    Ok((Unit::Return, place))
+}
