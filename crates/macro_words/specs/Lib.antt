@@ -1,0 +1,4 @@
+pub mod Moves
+pub mod Rows
+pub mod Shown
+pub mod Values

@@ -1,0 +1,413 @@
+-- What each word of a macro does: a row for each (Release 2 manual).
+use Rattle.std.specs.Prelude.{ℕ, zero, ℤ, pos, ◌+◌, ◌&&◌, nat_le, nat_lt, Bool, true, false, List, [], ◌∷◌, length, get_or, min, Option, None, Some, Result, Ok, Err, if◌then◌else◌}
+use Rattle.std.specs.Int.RustNames.{int_lt}
+use Rattle.at_functions.specs.Numbers.{count_of}
+use Rattle.block_writes.specs.Writing.{as_content, written}
+use Rattle.formula_eval.specs.World.{World}
+use Rattle.formula_text.specs.Words.{named_span}
+use Rattle.formula_tree.specs.Tree.{Tree}
+use Rattle.formula_tree.specs.declared.ast.Op.TheVariants.{Add}
+use Rattle.formula_tree.specs.declared.value.Value.{Value}
+use Rattle.formula_tree.specs.declared.value.Value.TheVariants as value
+use Rattle.grid_address.specs.Place.{height_of, width_of, Extent, Place}
+use Rattle.key_words.specs.declared.command.Command.{Command}
+use Rattle.key_words.specs.declared.command.Command.TheVariants as command
+use Rattle.key_words.specs.declared.macro_word.MacroWord.{MacroWord}
+use Rattle.key_words.specs.declared.macro_word.MacroWord.TheVariants as word
+use Rattle.key_words.specs.MacroText.{unit_at}
+use Rattle.range_names.specs.Names.{NameMap}
+use Rattle.sheet_store.specs.declared.writes.Write.{Write}
+use Rattle.value_functions.specs.Operators.{binary_value}
+use Rattle.value_functions.specs.Values.{text_in}
+use Rattle.macro_words.specs.Moves.{below, innermost}
+use Rattle.macro_words.specs.Shown.{shown_cell}
+use Rattle.macro_words.specs.Values.{as_string, as_value, ends_in, label, let_value, without}
+use Rattle.macro_words.specs.declared.frames.Frame.{Frame}
+use Rattle.macro_words.specs.declared.frames.Frame.TheVariants as frame
+use Rattle.macro_words.specs.declared.frames.Loop.{Loop}
+use Rattle.macro_words.specs.declared.running.Cause.{Cause}
+use Rattle.macro_words.specs.declared.running.Cause.TheVariants.{BadArgument, NotText, TooDeep}
+use Rattle.macro_words.specs.declared.running.Change.TheVariants as change
+use Rattle.macro_words.specs.declared.running.Deed.{Deed}
+use Rattle.macro_words.specs.declared.running.Move.{Move}
+use Rattle.macro_words.specs.declared.running.Move.TheVariants as move
+use Rattle.macro_words.specs.declared.running.Running.{Running}
+use Rattle.macro_words.specs.declared.running.Sweep.{Sweep}
+use Rattle.macro_text.specs.Arguments.{expression_value, formula_in, number_of}
+use Rattle.macro_text.specs.Listed.{arguments_of, ends_quoted}
+use Rattle.macro_text.specs.Ranges.{place_of, range_of}
+use Rattle.macro_text.specs.Texts.{macro_text, part}
+use Rattle.macro_text.specs.Units.{start_of}
+use Rattle.macro_text.specs.declared.position.Spot.{Spot}
+
+-- what a word does, or why it is a fault
+abbrev pub Row : Type 0
+Row = Result Deed Cause
+
+-- an argument isn't of its kind, or their number is wrong
+abbrev pub bad : Row
+bad = Err BadArgument
+
+-- the sheet stays as it is
+abbrev pub moves : Move → Row
+moves m = Ok (record { change = change.Nothing; after = m })
+
+-- contents are written
+abbrev pub puts : List Write → Move → Row
+puts ws m = Ok (record { change = change.Write ws; after = m })
+
+-- a value is put into a cell
+abbrev pub puts_value : Place → Value → Move → Row
+puts_value c v m = puts (written c (as_content v) ∷ []) m
+
+-- an argument by its place, from 0 on
+abbrev pub arg : List (List ℕ) → ℕ → List ℕ
+arg args k = get_or args k []
+
+-- what isn't of its kind is a fault
+abbrev pub on_some : {A : Type 0} → Option A → (A → Row) → Row
+on_some None f = bad
+on_some (Some x) f = f x
+
+-- a place, a range, and a number
+abbrev pub on_place : World → List ℕ → (Place → Row) → Row
+on_place w text f = on_some (place_of w.sight.names text) f
+
+-- a range
+abbrev pub on_range : World → List ℕ → (Extent → Row) → Row
+on_range w text f = on_some (range_of w.sight.names text) f
+
+-- a number
+abbrev pub on_number : World → Place → List ℕ → (ℤ → Row) → Row
+on_number w at text f = on_some (number_of w at text) f
+
+-- the whole number that a number is, cut toward zero; none below 0
+abbrev pub count_in : Option ℤ → Option ℕ
+count_in None = None
+count_in (Some n) = count_of n
+
+-- a whole number that isn't below 0, cut toward zero
+abbrev pub on_count : World → Place → List ℕ → (ℕ → Row) → Row
+on_count w at text f = on_some (count_in (number_of w at text)) f
+
+-- ---- going and calling
+
+-- the macro goes on at a cell
+abbrev pub goes : Place → Row
+goes c = moves (move.Go (start_of c))
+
+-- BRANCH
+abbrev pub branch_row : World → List (List ℕ) → Row
+branch_row w args = on_place w (arg args 0) goes
+
+-- a text spells a place
+abbrev pub dispatched : World → Option (List ℕ) → Row
+dispatched w None = Err NotText
+dispatched w (Some text) = on_place w text goes
+
+-- DISPATCH: the text that a cell has as its value spells the place
+abbrev pub dispatch_row : World → List (List ℕ) → Row
+dispatch_row w args = on_place w (arg args 0) (λ c. dispatched w (text_in (w.sight.values c)))
+
+-- calls and loops nest so deep
+abbrev pub most_frames : ℕ
+most_frames = 31
+
+-- one call or loop more may be inside the others
+abbrev pub has_room : Running → Bool
+has_room r = nat_lt (length r.frames) most_frames
+
+-- the word at a place calls a cell's routine
+abbrev pub calls : Running → Spot → Place → Row
+calls r at c = if has_room r then moves (move.Call at (start_of c)) else Err TooDeep
+
+-- a name calls the routine of its first cell
+abbrev pub call_row : Running → Spot → Option Extent → Row
+call_row r at span = on_some span (λ s. calls r at s.first)
+
+-- a number is past a bound, by the sign of the step
+abbrev pub is_past : ℤ → ℤ → ℤ → Bool
+is_past n bound step = if int_lt (pos 0) step then int_lt bound n else int_lt n bound
+
+-- a loop goes on where its count is a number that isn't past the bound, and else behind its word
+abbrev pub round : Loop → Value → Move
+round l (value.Num n) = if is_past n l.bound l.step then move.Leave l.behind else move.Go (start_of l.routine)
+round l value.Blank = move.Leave l.behind
+round l (value.Str t) = move.Leave l.behind
+round l value.Err = move.Leave l.behind
+round l value.Na = move.Leave l.behind
+
+-- the step is added to the count as by +
+abbrev pub next_count : World → Loop → Value
+next_count w l = binary_value Add (w.sight.values l.counter) (value.Num l.step)
+
+-- back to a frame
+abbrev pub returned : World → Option Frame → Row
+returned w None = moves move.Stop
+returned w (Some (frame.Call word back)) = moves (move.Leave back)
+returned w (Some (frame.Loop l)) = puts_value l.counter (next_count w l) (round l (next_count w l))
+
+-- RETURN, and the end of a routine: back to the caller, or on with the loop; without either the macro stops
+abbrev pub return_row : World → Running → Row
+return_row w r = returned w (innermost r.frames)
+
+-- a number other than 0
+abbrev pub is_true : Value → Bool
+is_true (value.Num (pos zero)) = false
+is_true (value.Num n) = true
+is_true _ = false
+
+-- IF: where the condition isn't true the macro goes on in the cell below
+abbrev pub if_row : World → Spot → List (List ℕ) → Row
+if_row w at args =
+    on_some (expression_value w at.cell (arg args 0)) (λ v.
+    moves (if is_true v then move.Stay else move.Go (below at.cell)))
+
+-- a loop begins where its first count isn't past the bound
+abbrev pub begins : Running → ℤ → Loop → Row
+begins r first l =
+    if is_past first l.bound l.step then puts_value l.counter (value.Num first) move.Stay
+    else if has_room r then puts_value l.counter (value.Num first) (move.Begin l)
+    else Err TooDeep
+
+-- FOR: a step of 0 is a fault
+abbrev pub for_row : World → Running → Spot → List (List ℕ) → Row
+for_row w r at args =
+    on_place w (arg args 0) (λ k. on_number w at.cell (arg args 1) (λ first. on_number w at.cell (arg args 2) (λ bound.
+    on_number w at.cell (arg args 3) (λ step. on_place w (arg args 4) (λ p.
+    if is_true (value.Num step)
+    then begins r first (record { behind = r.position.spot; counter = k; routine = p; bound = bound; step = step })
+    else bad)))))
+
+-- FORBREAK: the innermost frame is a loop, which is left
+abbrev pub broken : Option Frame → Row
+broken (Some (frame.Loop l)) = moves (move.Leave l.behind)
+broken (Some (frame.Call word back)) = bad
+broken None = bad
+
+-- a cell for the message may be given
+abbrev pub message_row : World → List (List ℕ) → Place → Row
+message_row w args c =
+    if nat_lt 1 (length args)
+    then on_place w (arg args 1) (λ q. moves (move.Handle (record { place = c; message = Some q })))
+    else moves (move.Handle (record { place = c; message = None }))
+
+-- ONERROR
+abbrev pub onerror_row : World → List (List ℕ) → Row
+onerror_row w args = on_place w (arg args 0) (message_row w args)
+
+-- ---- writing
+
+-- LET
+abbrev pub let_row : World → Spot → List (List ℕ) → Row
+let_row w at args = on_place w (arg args 0) (λ c. puts_value c (let_value w at.cell (arg args 1)) move.Stay)
+
+-- a cell of a range by its column and row, each from 0 on
+abbrev pub cell_in : Extent → ℕ → ℕ → Option Place
+cell_in s col row =
+    if nat_lt col (width_of s) && nat_lt row (height_of s)
+    then Some (record { row = s.first.row + row; col = s.first.col + col })
+    else None
+
+-- PUT
+abbrev pub put_row : World → Spot → List (List ℕ) → Row
+put_row w at args =
+    on_range w (arg args 0) (λ s. on_count w at.cell (arg args 1) (λ col. on_count w at.cell (arg args 2) (λ row.
+    on_some (cell_in s col row) (λ c. puts_value c (let_value w at.cell (arg args 3)) move.Stay))))
+
+-- BLANK
+abbrev pub blank_row : World → List (List ℕ) → Row
+blank_row w args = on_range w (arg args 0) (λ s. Ok (record { change = change.Erase s; after = move.Stay }))
+
+-- a whole number within bounds
+abbrev pub within : ℕ → ℕ → Option ℕ → Option ℕ
+within low high None = None
+within low high (Some n) = if nat_le low n && nat_le n high then Some n else None
+
+-- an argument that may be left out: a whole number within bounds, cut toward zero
+abbrev pub given_count : World → Spot → List (List ℕ) → ℕ → ℕ → ℕ → ℕ → Option ℕ
+given_count w at args k low high left_out =
+    if nat_lt k (length args) then within low high (count_in (number_of w at.cell (arg args k))) else Some left_out
+
+-- a text is at most so wide
+abbrev pub most_width : ℕ
+most_width = 240
+
+-- CONTENTS: what a cell shows, in its column's width and its format or in those that are given
+abbrev pub contents_row : World → ℕ → Spot → List (List ℕ) → Row
+contents_row w global at args =
+    on_place w (arg args 0) (λ c. on_place w (arg args 1) (λ q.
+    on_some (given_count w at args 2 1 most_width (w.sight.widths q.col)) (λ width.
+    on_some (given_count w at args 3 0 255 (w.sight.formats q)) (λ byte.
+    puts (written c (label (shown_cell w.sight global q (min width most_width) byte)) ∷ []) move.Stay))))
+
+-- ---- the arguments of the present routine
+
+-- the word of a call
+abbrev pub call_of : Frame → Option Spot
+call_of (frame.Call word back) = Some word
+call_of (frame.Loop l) = None
+
+-- the first that is there
+abbrev pub or_else : Option Spot → Option Spot → Option Spot
+or_else (Some x) other = Some x
+or_else None other = other
+
+-- the word of the innermost call
+abbrev pub present_call : List Frame → Option Spot
+present_call [] = None
+present_call (f ∷ fs) = or_else (present_call fs) (call_of f)
+
+-- where there is such a name
+abbrev pub if_named : Option Extent → List (List ℕ) → Option (List (List ℕ))
+if_named None args = None
+if_named (Some s) args = Some args
+
+-- a word is a call of a name that there is
+abbrev pub given_in : NameMap → List ℕ → MacroWord → Option (List (List ℕ))
+given_in names text (word.Call name args) =
+    if_named (named_span names (part text name)) (arguments_of (ends_quoted false (part text name)) text args)
+given_in names text _ = None
+
+-- a cell without a text holds no call
+abbrev pub given_by : NameMap → ℕ → Option (List ℕ) → Option (List (List ℕ))
+given_by names offset None = None
+given_by names offset (Some text) = given_in names text (unit_at text offset).0
+
+-- the arguments of the call whose word stands at a place, as its text now stands
+abbrev pub given_at : World → Option Spot → Option (List (List ℕ))
+given_at w None = None
+given_at w (Some s) = given_by w.sight.names s.offset (macro_text w.sight s.cell)
+
+-- a value for a cell, where both are there
+abbrev pub entered : Option Place → Option Value → Option Write
+entered None v = None
+entered (Some c) None = None
+entered (Some c) (Some v) = Some (written c (as_content v))
+
+-- without :string, which may stand behind a place
+abbrev pub plain_target : List ℕ → List ℕ
+plain_target target = if ends_in as_string target then without as_string target else target
+
+-- a cell takes an argument as a label, or behind :value the value of its formula
+abbrev pub defined : World → Place → List ℕ → List ℕ → Option Write
+defined w at target given =
+    if ends_in as_value target
+    then entered (place_of w.sight.names (without as_value target)) (expression_value w at given)
+    else entered (place_of w.sight.names (plain_target target)) (Some (value.Str given))
+
+-- one write more, where all can be made
+abbrev pub in_front : Option Write → Option (List Write) → Option (List Write)
+in_front None ws = None
+in_front (Some e) None = None
+in_front (Some e) (Some ws) = Some (e ∷ ws)
+
+-- as many cells as arguments
+abbrev pub defined_all : World → Place → List (List ℕ) → List (List ℕ) → Option (List Write)
+defined_all w at [] [] = Some []
+defined_all w at [] (g ∷ gs) = None
+defined_all w at (t ∷ ts) [] = None
+defined_all w at (t ∷ ts) (g ∷ gs) = in_front (defined w at t g) (defined_all w at ts gs)
+
+-- DEFINE
+abbrev pub define_row : World → Running → Spot → List (List ℕ) → Row
+define_row w r at args =
+    on_some (given_at w (present_call r.frames)) (λ given.
+    on_some (defined_all w at.cell args given) (λ ws. puts ws move.Stay))
+
+-- ---- recalculation of a range
+
+-- with a condition and no number the passes are at most so many
+abbrev pub most_passes : ℕ
+most_passes = 50
+
+-- how many passes there are where no number is given
+abbrev pub passes_left_out : List (List ℕ) → ℕ
+passes_left_out args = if nat_lt 1 (length args) then most_passes else 1
+
+-- a condition that is a formula
+abbrev pub condition_of : Option Tree → Option (Option Tree)
+condition_of None = None
+condition_of (Some t) = Some (Some t)
+
+-- a condition may be left out; one that is given is a formula
+abbrev pub condition_in : World → Spot → List (List ℕ) → Option (Option Tree)
+condition_in w at args = if nat_lt 1 (length args) then condition_of (formula_in w at.cell (arg args 1)) else Some None
+
+-- the formulas of a range are evaluated
+abbrev pub sweeps : Sweep → Row
+sweeps s = Ok (record { change = change.Recalculate s; after = move.Stay })
+
+-- RECALC, and RECALCCOL by columns
+abbrev pub recalc_row : World → Spot → Bool → List (List ℕ) → Row
+recalc_row w at by_columns args =
+    on_range w (arg args 0) (λ s. on_some (condition_in w at args) (λ c.
+    on_some (given_count w at args 2 1 most_passes (passes_left_out args)) (λ most.
+    sweeps (record { span = s; by_columns = by_columns; until = c; at = at.cell; most = most }))))
+
+-- ---- the table
+
+-- the fewest and the most arguments of a command; a text has at most 240
+abbrev pub counts : Command → ℕ × ℕ
+counts command.Branch = (1, 1)
+counts command.Dispatch = (1, 1)
+counts command.Define = (1, 240)
+counts command.Return = (0, 0)
+counts command.Restart = (0, 0)
+counts command.Quit = (0, 0)
+counts command.If = (1, 1)
+counts command.For = (5, 5)
+counts command.ForBreak = (0, 0)
+counts command.Let = (2, 2)
+counts command.Put = (4, 4)
+counts command.Blank = (1, 1)
+counts command.Contents = (2, 4)
+counts command.OnError = (1, 2)
+counts command.Recalc = (1, 3)
+counts command.RecalcCol = (1, 3)
+counts _ = (0, 0)
+
+-- a command with as many arguments as it takes
+unfoldable pub command_row : World → ℕ → Running → Spot → Command → List (List ℕ) → Row
+command_row w global r at command.Branch args = branch_row w args
+command_row w global r at command.Dispatch args = dispatch_row w args
+command_row w global r at command.Define args = define_row w r at args
+command_row w global r at command.Return args = return_row w r
+command_row w global r at command.Restart args = moves move.Forget
+command_row w global r at command.Quit args = moves move.Stop
+command_row w global r at command.If args = if_row w at args
+command_row w global r at command.For args = for_row w r at args
+command_row w global r at command.ForBreak args = broken (innermost r.frames)
+command_row w global r at command.Let args = let_row w at args
+command_row w global r at command.Put args = put_row w at args
+command_row w global r at command.Blank args = blank_row w args
+command_row w global r at command.Contents args = contents_row w global at args
+command_row w global r at command.OnError args = onerror_row w args
+command_row w global r at command.Recalc args = recalc_row w at false args
+command_row w global r at command.RecalcCol args = recalc_row w at true args
+command_row w global r at _ args = bad
+
+-- within the fewest and the most
+abbrev pub is_taken : ℕ × ℕ → ℕ → Bool
+is_taken c n = nat_le c.0 n && nat_le n c.1
+
+-- a command, where its arguments are as many as it takes
+unfoldable pub counted_row : World → ℕ → Running → Spot → Command → List (List ℕ) → Row
+counted_row w global r at c args = if is_taken (counts c) (length args) then command_row w global r at c args else bad
+
+-- a word of a text that stands at a place
+abbrev pub word_row : World → ℕ → Running → Spot → List ℕ → MacroWord → Row
+word_row w global r at text (word.Command c args) = counted_row w global r at c (arguments_of false text args)
+word_row w global r at text (word.Call name args) = call_row r at (named_span w.sight.names (part text name))
+word_row w global r at text (word.PlaceCall c) = on_place w (part text c) (calls r at)
+word_row w global r at text _ = bad
+
+-- the word at a place of a text
+abbrev pub text_row : World → ℕ → Running → Spot → Option (List ℕ) → Row
+text_row w global r at None = bad
+text_row w global r at (Some text) = word_row w global r at text (unit_at text at.offset).0
+
+-- What the word at a place does, as its text now stands, where the sheet's format is this one. A place without a
+-- command or a call is a fault.
+unfoldable pub row : World → ℕ → Running → Spot → Row
+row w global r at = text_row w global r at (macro_text w.sight at.cell)

@@ -1,0 +1,20 @@
+//! What the words of a macro do: a row for each, as the sheet and the macro now stand.
+#![tactic(auto)]
+
+mod define;
+mod frames;
+mod going;
+mod looping;
+mod rows;
+mod running;
+mod shown;
+mod table;
+mod values;
+mod writing;
+
+pub use frames::{Frame, Frames, Loop};
+pub use going::start_of;
+pub use looping::return_row;
+pub use rows::moves;
+pub use running::{Cause, Change, Deed, Handler, Move, Row, Running, Sweep};
+pub use table::row;

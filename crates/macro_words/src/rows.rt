@@ -1,0 +1,178 @@
+// Words that go, call and stop.
+ghost use Rattle.std.specs.Prelude.{◌≡◌, IfOk};
+ghost use Rattle.formula_eval.specs.Scenes.{world_of};
+ghost use Rattle.macro_words.specs.Moves as moving;
+ghost use Rattle.macro_words.specs.Rows as spec;
+
+use crate::going::start_of;
+use crate::{Cause, Change, Deed, Handler, Move, Row, Running};
+use formula_eval::{Look, Scene};
+use formula_tree::Value;
+use grid_address::{Cell, Span};
+use lics_text::Memory;
+use macro_text::{Spot, TextList, expression_value, place_of};
+use std::alloc::Global;
+use value_functions::text_in;
+
+/// An argument isn't of its kind.
+pub fn bad() -> Row
+    ensures { result ≡ spec.bad }
+{
+    Err(Cause::BadArgument)
+}
+
+/// The sheet stays as it is.
+pub fn moves(after: Move) -> Row
+    ensures { result ≡ spec.moves after }
+{
+    Ok(Deed {
+        change: Change::Nothing,
+        after,
+    })
+}
+
+// The macro goes on at a cell.
+fn goes(cell: Cell) -> Row
+    ensures { result ≡ spec.goes cell }
+{
+    moves(Move::Go(start_of(cell)))
+}
+
+/// BRANCH.
+pub fn branch_row<K: Look>(look: &K, scene: &Scene, args: &TextList) -> Row
+    ensures { result ≡ spec.branch_row (world_of (K.sight look.now) scene.entry.now) args.now }
+{
+    match place_of(look.names(), args.get(0)) {
+        Some(cell) => goes(cell),
+        None => bad(),
+    }
+}
+
+/// DISPATCH.
+pub fn dispatch_row<K: Look>(look: &K, scene: &Scene, args: &TextList) -> Row
+    ensures { result ≡ spec.dispatch_row (world_of (K.sight look.now) scene.entry.now) args.now }
+{
+    let Some(cell) = place_of(look.names(), args.get(0)) else {
+        return bad();
+    };
+    let Some(text) = text_in(look.value(cell)) else {
+        return Err(Cause::NotText);
+    };
+    match place_of(look.names(), text.bytes()) {
+        Some(cell) => goes(cell),
+        None => bad(),
+    }
+}
+
+// So many calls and loops may be inside one another.
+const MOST_FRAMES: usize = 31;
+
+/// Whether one call or loop more may be inside the others.
+pub fn has_room(running: &Running) -> bool
+    ensures { result ≡ spec.has_room running.now }
+{
+    running.frames.len() < MOST_FRAMES
+}
+
+/// A call of a cell's routine, by the word at a place.
+pub fn calls(running: &Running, at: &Spot, cell: Cell) -> Row
+    ensures { result ≡ spec.calls running.now at.now cell }
+{
+    if has_room(running) {
+        moves(Move::Call(*at, start_of(cell)))
+    } else {
+        Err(Cause::TooDeep)
+    }
+}
+
+/// A call of a name.
+pub fn call_row(running: &Running, at: &Spot, span: Option<Span>) -> Row
+    ensures { result ≡ spec.call_row running.now at.now span }
+{
+    match span {
+        Some(span) => calls(running, at, span.first),
+        None => bad(),
+    }
+}
+
+// The sheet's last row.
+const LAST_ROW: u16 = 8191;
+
+// Behind every text.
+const BEHIND_ALL: usize = 240;
+
+// The cell below, or below the last row a place at which the macro returns.
+fn below(cell: Cell) -> Spot
+    ensures { result ≡ moving.below cell }
+{
+    if cell.row < LAST_ROW {
+        start_of(Cell {
+            row: cell.row + 1,
+            col: cell.col,
+        })
+    } else {
+        Spot {
+            cell,
+            offset: BEHIND_ALL,
+        }
+    }
+}
+
+// Whether a value is a number other than 0.
+fn is_true(value: &Value) -> bool
+    ensures { result ≡ spec.is_true value.now }
+{
+    match value {
+        Value::Num(number) => number.millionths() != 0,
+        Value::Blank => false,
+        Value::Str(_) => false,
+        Value::Err => false,
+        Value::Na => false,
+    }
+}
+
+/// IF.
+pub fn if_row<K: Look>(
+    alloc: Global,
+    look: &K,
+    scene: &Scene,
+    at: &Spot,
+    args: &TextList,
+) -> Result<Row, Memory>
+    ensures { let world = world_of (K.sight look.now) scene.entry.now in
+        IfOk result (λ r. r ≡ spec.if_row world at.now args.now) }
+{
+    let value = expression_value(alloc, args.get(0), at.cell, look, scene)?;
+    match &value {
+        None => Ok(bad()),
+        Some(value) => {
+            if is_true(value) {
+                Ok(moves(Move::Stay))
+            } else {
+                Ok(moves(Move::Go(below(at.cell))))
+            }
+        }
+    }
+}
+
+/// ONERROR.
+pub fn onerror_row<K: Look>(look: &K, scene: &Scene, args: &TextList) -> Row
+    ensures { result ≡ spec.onerror_row (world_of (K.sight look.now) scene.entry.now) args.now }
+{
+    let Some(place) = place_of(look.names(), args.get(0)) else {
+        return bad();
+    };
+    if args.len() < 2 {
+        return moves(Move::Handle(Handler {
+            place,
+            message: None,
+        }));
+    }
+    match place_of(look.names(), args.get(1)) {
+        Some(cell) => moves(Move::Handle(Handler {
+            place,
+            message: Some(cell),
+        })),
+        None => bad(),
+    }
+}

@@ -1,0 +1,87 @@
+// A macro that runs, and what a word does.
+
+use crate::{Frames, Loop};
+use formula_tree::Formula;
+use grid_address::{Cell, Span};
+use macro_text::{Position, Spot};
+use sheet_store::Writes;
+
+/// Where a macro goes on after an error, and the cell that takes its message.
+#[derive(Clone, Copy, Debug, PartialEq, Eq)]
+pub struct Handler {
+    pub place: Cell,
+    pub message: Option<Cell>,
+}
+
+/// A macro that runs: where it goes on, the calls and loops that it is in, and what it does after an error.
+#[derive(Drop)]
+pub struct Running {
+    pub position: Position,
+    pub frames: Frames,
+    pub handler: Option<Handler>,
+}
+
+/// How a word moves the macro, which stands behind the word already.
+#[derive(Clone, Copy, Debug, PartialEq, Eq)]
+pub enum Move {
+    /// It goes on where it stands.
+    Stay,
+    /// It goes to a place.
+    Go(Spot),
+    /// It calls the routine at the second place; the word stands at the first.
+    Call(Spot, Spot),
+    /// It begins a loop, and calls its routine.
+    Begin(Loop),
+    /// It leaves the innermost call or loop for a place.
+    Leave(Spot),
+    /// It forgets its calls and loops.
+    Forget,
+    /// It stops.
+    Stop,
+    /// It takes another place for errors.
+    Handle(Handler),
+}
+
+/// What a word does to the sheet.
+#[derive(Drop)]
+pub enum Change {
+    Nothing,
+    /// It writes contents; in Automatic mode a recalculation follows.
+    Write(Writes),
+    /// It erases a span; in Automatic mode a recalculation follows.
+    Erase(Span),
+    /// It recalculates the formulas of a span alone.
+    Recalculate(Sweep),
+}
+
+/// A recalculation of a span: row by row or column by column, 1 to 50 times, but no more once the condition, which is a
+/// formula that stands in a cell, is a number other than 0.
+#[derive(Drop)]
+pub struct Sweep {
+    pub span: Span,
+    pub by_columns: bool,
+    pub until: Option<Formula>,
+    pub at: Cell,
+    pub most: u8,
+}
+
+/// What a word does: to the sheet, and to the macro where no cell that is to be written is protected.
+#[derive(Drop)]
+pub struct Deed {
+    pub change: Change,
+    pub after: Move,
+}
+
+/// Why a word is a fault, which changes nothing.
+#[derive(Clone, Copy, Debug, PartialEq, Eq)]
+pub enum Cause {
+    /// An argument isn't of its kind, or their number is wrong.
+    BadArgument,
+    /// A cell holds no text.
+    NotText,
+    /// There are 31 calls and loops already.
+    TooDeep,
+}
+
+/// What a word does, or why it is a fault.
+pub type Row = Result<Deed, Cause>;

@@ -1,0 +1,175 @@
+// The table of commands.
+ghost use Rattle.std.specs.Prelude.{◌≡◌, IfOk};
+ghost use Rattle.formula_eval.specs.Scenes.{world_of};
+ghost use Rattle.lics_text.specs.Bytes.{IsText};
+ghost use Rattle.macro_words.specs.Rows as spec;
+
+use crate::define::define_row;
+use crate::looping::{break_row, for_row, return_row};
+use crate::rows::{bad, branch_row, call_row, calls, dispatch_row, if_row, moves, onerror_row};
+use crate::writing::{blank_row, contents_row, let_row, put_row, recalc_row};
+use crate::{Move, Row, Running};
+use formula_eval::{Look, Scene};
+use grid_address::Format;
+use key_words::{Command, MacroWord, unit_at};
+use lics_text::{MAX_LEN, Memory};
+use macro_text::{Spot, TextList, arguments_of, macro_text, named_span, part, place_of};
+use std::alloc::Global;
+
+// The fewest and the most arguments of a command; those that are no words as yet take none.
+fn counts(command: Command) -> (usize, usize)
+    ensures { result ≡ spec.counts command }
+{
+    match command {
+        Command::Branch | Command::Dispatch | Command::If | Command::Blank => (1, 1),
+        Command::OnError => (1, 2),
+        Command::Recalc | Command::RecalcCol => (1, 3),
+        Command::Define => (1, MAX_LEN),
+        Command::Let => (2, 2),
+        Command::Contents => (2, 4),
+        Command::Put => (4, 4),
+        Command::For => (5, 5),
+        Command::Return | Command::Restart | Command::Quit | Command::ForBreak => (0, 0),
+        Command::Get | Command::GetLabel | Command::GetNumber | Command::Look => (0, 0),
+        Command::MenuBranch | Command::MenuCall | Command::Wait | Command::Interact => (0, 0),
+        Command::Beep | Command::Indicate | Command::PanelOn | Command::PanelOff => (0, 0),
+        Command::WindowsOn | Command::WindowsOff => (0, 0),
+        Command::BreakOn | Command::BreakOff => (0, 0),
+        Command::Open | Command::Close | Command::Read | Command::ReadLn => (0, 0),
+        Command::Write | Command::WriteLn | Command::FileSize => (0, 0),
+        Command::GetPos | Command::SetPos => (0, 0),
+    }
+}
+
+// Whether a command takes so many arguments.
+fn is_taken(command: Command, count: usize) -> bool
+    ensures { result ≡ spec.is_taken (spec.counts command) count }
+{
+    let (least, most) = counts(command);
+    least <= count && count <= most
+}
+
+// A command with as many arguments as it takes.
+#[tactic(auto, unfolding(crate::specs::Rows::command_row))]
+fn command_row<K: Look>(
+    alloc: Global,
+    look: &K,
+    scene: &Scene,
+    global: Format,
+    running: &Running,
+    at: &Spot,
+    command: Command,
+    args: &TextList,
+) -> Result<Row, Memory>
+    ensures { let world = world_of (K.sight look.now) scene.entry.now in
+        IfOk result (λ r. r ≡ spec.command_row world global.0 running.now at.now command args.now) }
+{
+    match command {
+        Command::Branch => Ok(branch_row(look, scene, args)),
+        Command::Dispatch => Ok(dispatch_row(look, scene, args)),
+        Command::Define => define_row(alloc, look, scene, running, at, args),
+        Command::Return => return_row(alloc, look, scene, running),
+        Command::Restart => Ok(moves(Move::Forget)),
+        Command::Quit => Ok(moves(Move::Stop)),
+        Command::If => if_row(alloc, look, scene, at, args),
+        Command::For => for_row(alloc, look, scene, running, at, args),
+        Command::ForBreak => Ok(break_row(running)),
+        Command::Let => let_row(alloc, look, scene, at, args),
+        Command::Put => put_row(alloc, look, scene, at, args),
+        Command::Blank => Ok(blank_row(look, scene, args)),
+        Command::Contents => contents_row(alloc, look, scene, global, at, args),
+        Command::OnError => Ok(onerror_row(look, scene, args)),
+        Command::Recalc => recalc_row(alloc, look, scene, at, false, args),
+        Command::RecalcCol => recalc_row(alloc, look, scene, at, true, args),
+        Command::Get | Command::GetLabel | Command::GetNumber | Command::Look => Ok(bad()),
+        Command::MenuBranch | Command::MenuCall | Command::Wait | Command::Interact => Ok(bad()),
+        Command::Beep | Command::Indicate | Command::PanelOn | Command::PanelOff => Ok(bad()),
+        Command::WindowsOn | Command::WindowsOff => Ok(bad()),
+        Command::BreakOn | Command::BreakOff => Ok(bad()),
+        Command::Open | Command::Close | Command::Read | Command::ReadLn => Ok(bad()),
+        Command::Write | Command::WriteLn | Command::FileSize => Ok(bad()),
+        Command::GetPos | Command::SetPos => Ok(bad()),
+    }
+}
+
+// A command, where it takes so many arguments.
+#[tactic(auto, unfolding(crate::specs::Rows::counted_row))]
+fn counted_row<K: Look>(
+    alloc: Global,
+    look: &K,
+    scene: &Scene,
+    global: Format,
+    running: &Running,
+    at: &Spot,
+    command: Command,
+    args: &TextList,
+) -> Result<Row, Memory>
+    ensures { let world = world_of (K.sight look.now) scene.entry.now in
+        IfOk result (λ r. r ≡ spec.counted_row world global.0 running.now at.now command args.now) }
+{
+    if is_taken(command, args.len()) {
+        command_row(alloc, look, scene, global, running, at, command, args)
+    } else {
+        Ok(bad())
+    }
+}
+
+// What a word of a text does that stands at a place.
+fn word_row<K: Look>(
+    alloc: Global,
+    look: &K,
+    scene: &Scene,
+    global: Format,
+    running: &Running,
+    at: &Spot,
+    text: &[u8],
+    word: MacroWord,
+) -> Result<Row, Memory>
+    requires { IsText text.now }
+    ensures { let world = world_of (K.sight look.now) scene.entry.now in
+        IfOk result (λ r. r ≡ spec.word_row world global.0 running.now at.now text.now word) }
+{
+    match word {
+        MacroWord::Command(command, args) => {
+            let args = arguments_of(alloc, false, text, args)?;
+            counted_row(alloc, look, scene, global, running, at, command, &args)
+        }
+        MacroWord::Call(name, _) => {
+            let name = part(text, name);
+            Ok(call_row(running, at, named_span(look.names(), name)))
+        }
+        MacroWord::PlaceCall(cut) => match place_of(look.names(), part(text, cut)) {
+            Some(cell) => Ok(calls(running, at, cell)),
+            None => Ok(bad()),
+        },
+        MacroWord::Key(_) => Ok(bad()),
+        MacroWord::Repeated(_, _) => Ok(bad()),
+        MacroWord::End => Ok(bad()),
+        MacroWord::Bad => Ok(bad()),
+    }
+}
+
+/// What the word at a place does, as its text now stands, where the sheet's format is `global`: to the sheet and to the
+/// macro, or why it is a fault; a fault writes nothing. All arguments are read first: one that isn't of its kind, or a
+/// wrong number of them, comes before a cell without a text and before a call or loop inside 31 others. A place
+/// without a command or a call is a bad argument. (Release 2 manual for the words; the order of causes and the
+/// nesting of 31 are this project's choice.)
+#[tactic(auto, unfolding(crate::specs::Rows::row))]
+pub fn row<K: Look>(
+    alloc: Global,
+    look: &K,
+    scene: &Scene,
+    global: Format,
+    running: &Running,
+    at: &Spot,
+) -> Result<Row, Memory>
+    ensures { let world = world_of (K.sight look.now) scene.entry.now in
+        IfOk result (λ r. r ≡ spec.row world global.0 running.now at.now) }
+{
+    let Some(text) = macro_text(look, at.cell) else {
+        return Ok(bad());
+    };
+    let bytes = text.bytes();
+    let (word, _) = unit_at(bytes, at.offset);
+    word_row(alloc, look, scene, global, running, at, bytes, word)
+}

@@ -1,0 +1,118 @@
+// What is put into cells.
+ghost use Rattle.std.specs.Prelude.{◌≡◌, ◌∷◌, [], IfOk};
+ghost use Rattle.block_writes.specs.Writing.{as_content, written};
+ghost use Rattle.formula_eval.specs.Scenes.{world_of};
+ghost use Rattle.formula_tree.specs.declared.value.Value.TheVariants as value;
+ghost use Rattle.lics_text.specs.Bytes.{IsText};
+ghost use Rattle.macro_words.specs.Rows as rows;
+ghost use Rattle.macro_words.specs.Values as spec;
+
+use crate::{Change, Deed, Move, Row};
+use block_writes::{content_of, written};
+use formula_eval::{Look, Scene};
+use formula_tree::{Content, Value};
+use grid_address::Cell;
+use lics_text::{Memory, Text};
+use macro_text::{expression_value, front, rest_of};
+use sheet_store::Writes;
+use std::alloc::Global;
+
+/// One content is written.
+pub fn puts_one(alloc: Global, cell: Cell, content: Content, after: Move) -> Result<Row, Memory>
+    ensures { IfOk result (λ r. r ≡ rows.puts (written cell content ∷ []) after) }
+{
+    let mut writes = Writes::new(alloc);
+    writes.push(written(cell, content))?;
+    Ok(Ok(Deed {
+        change: Change::Write(writes),
+        after,
+    }))
+}
+
+/// A value is put into a cell: a text as a label with `'`, ERR and NA as formulas.
+pub fn puts_value(alloc: Global, cell: Cell, value: &Value, after: Move) -> Result<Row, Memory>
+    ensures { IfOk result (λ r. r ≡ rows.puts_value cell value.now after) }
+{
+    let content = content_of(alloc, value)?;
+    puts_one(alloc, cell, content, after)
+}
+
+/// Whether a text ends so, in letters of either case.
+pub fn ends_in(text: &[u8], ending: &[u8]) -> bool
+    ensures { result ≡ spec.ends_in ending.now text.now }
+{
+    let from = text.len().saturating_sub(ending.len());
+    rest_of(text, from).eq_ignore_ascii_case(ending)
+}
+
+/// A text without so many bytes at its end.
+pub fn without<'a>(text: &'a [u8], ending: &[u8]) -> &'a [u8]
+    ensures bytes { result.now ≡ spec.without ending.now text.now }
+    ensures text { IsText text.now → IsText result.now }
+{
+    let to = text.len().saturating_sub(ending.len());
+    front(text, to)
+}
+
+/// Behind it an argument is a text.
+pub const AS_STRING: &[u8] = b":STRING";
+
+/// Behind it an argument is an expression.
+pub const AS_VALUE: &[u8] = b":VALUE";
+
+/// Bytes as a text's value.
+pub fn text_value(alloc: Global, bytes: &[u8]) -> Result<Value, Memory>
+    requires { IsText bytes.now }
+    ensures { IfOk result (λ v. v ≡ value.Str bytes.now) }
+{
+    Ok(Value::Str(Text::copy_of(alloc, bytes)?))
+}
+
+// The value of a formula, or else the bytes.
+fn value_or_bytes(alloc: Global, text: &[u8], value: Option<Value>) -> Result<Value, Memory>
+    requires { IsText text.now }
+    ensures { IfOk result (λ v. v ≡ spec.value_or_bytes text.now value) }
+{
+    match value {
+        Some(value) => Ok(value),
+        None => text_value(alloc, text),
+    }
+}
+
+// The value of a formula; behind `:string`, or where it is none, the bytes.
+fn typed_value<K: Look>(
+    alloc: Global,
+    look: &K,
+    scene: &Scene,
+    at: Cell,
+    text: &[u8],
+) -> Result<Value, Memory>
+    requires { IsText text.now }
+    ensures { let world = world_of (K.sight look.now) scene.entry.now in
+        IfOk result (λ v. v ≡ spec.typed_value world at text.now) }
+{
+    if ends_in(text, AS_STRING) {
+        return text_value(alloc, without(text, AS_STRING));
+    }
+    let value = expression_value(alloc, text, at, look, scene)?;
+    value_or_bytes(alloc, text, value)
+}
+
+/// What LET puts: an ending `:value` is dropped first; behind it `:string`, or no formula, gives the bytes.
+pub fn let_value<K: Look>(
+    alloc: Global,
+    look: &K,
+    scene: &Scene,
+    at: Cell,
+    text: &[u8],
+) -> Result<Value, Memory>
+    requires { IsText text.now }
+    ensures { let world = world_of (K.sight look.now) scene.entry.now in
+        IfOk result (λ v. v ≡ spec.let_value world at text.now) }
+{
+    if ends_in(text, AS_VALUE) {
+        typed_value(alloc, look, scene, at, without(text, AS_VALUE))
+    } else {
+        typed_value(alloc, look, scene, at, text)
+    }
+}

@@ -1,0 +1,322 @@
+// Words that write, erase or recalculate cells.
+ghost use Rattle.std.specs.Prelude.{◌≡◌, IfOk};
+ghost use Rattle.formula_eval.specs.Scenes.{world_of};
+ghost use Rattle.macro_words.specs.Rows as spec;
+ghost use Rattle.macro_text.specs.Arguments as arguments;
+
+use crate::rows::bad;
+use crate::shown::shown_cell;
+use crate::values::{let_value, puts_one, puts_value};
+use crate::{Change, Deed, Move, Row, Sweep};
+use fixed_value::Fixed;
+use formula_eval::{Look, Scene};
+use formula_tree::{Content, Formula};
+use grid_address::{Cell, Format, Span};
+use lics_text::{LabelPrefix, Memory};
+use macro_text::{Spot, TextList, count_of, formula_in, number_of, place_of, range_of};
+use std::alloc::Global;
+
+/// LET.
+pub fn let_row<K: Look>(
+    alloc: Global,
+    look: &K,
+    scene: &Scene,
+    at: &Spot,
+    args: &TextList,
+) -> Result<Row, Memory>
+    ensures { let world = world_of (K.sight look.now) scene.entry.now in
+        IfOk result (λ r. r ≡ spec.let_row world at.now args.now) }
+{
+    let Some(cell) = place_of(look.names(), args.get(0)) else {
+        return Ok(bad());
+    };
+    let value = let_value(alloc, look, scene, at.cell, args.get(1))?;
+    puts_value(alloc, cell, &value, Move::Stay)
+}
+
+// The whole number that a number tells, cut toward zero; none below 0.
+fn count_in(number: Option<Fixed>) -> Option<u32>
+    ensures { result ≡ spec.count_in number }
+{
+    match number {
+        Some(number) => count_of(number),
+        None => None,
+    }
+}
+
+// A whole number that isn't below 0.
+fn count_given<K: Look>(
+    alloc: Global,
+    look: &K,
+    scene: &Scene,
+    at: Cell,
+    text: &[u8],
+) -> Result<Option<u32>, Memory>
+    ensures { let world = world_of (K.sight look.now) scene.entry.now in
+        IfOk result (λ n. n ≡ spec.count_in (arguments.number_of world at text.now)) }
+{
+    let number = number_of(alloc, text, at, look, scene)?;
+    Ok(count_in(number))
+}
+
+// A cell of a range by its column and row.
+fn cell_in(span: Span, col: u32, row: u32) -> Option<Cell>
+    ensures { result ≡ spec.cell_in span col row }
+{
+    if col < u32::from(span.width()) && row < u32::from(span.height()) {
+        Some(Cell {
+            row: span.first.row + row as u16,
+            col: (u32::from(span.first.col) + col) as u8,
+        })
+    } else {
+        None
+    }
+}
+
+/// PUT.
+pub fn put_row<K: Look>(
+    alloc: Global,
+    look: &K,
+    scene: &Scene,
+    at: &Spot,
+    args: &TextList,
+) -> Result<Row, Memory>
+    ensures { let world = world_of (K.sight look.now) scene.entry.now in
+        IfOk result (λ r. r ≡ spec.put_row world at.now args.now) }
+{
+    let Some(span) = range_of(look.names(), args.get(0)) else {
+        return Ok(bad());
+    };
+    let Some(col) = count_given(alloc, look, scene, at.cell, args.get(1))? else {
+        return Ok(bad());
+    };
+    let Some(row) = count_given(alloc, look, scene, at.cell, args.get(2))? else {
+        return Ok(bad());
+    };
+    let Some(cell) = cell_in(span, col, row) else {
+        return Ok(bad());
+    };
+    let value = let_value(alloc, look, scene, at.cell, args.get(3))?;
+    puts_value(alloc, cell, &value, Move::Stay)
+}
+
+/// BLANK.
+pub fn blank_row<K: Look>(look: &K, scene: &Scene, args: &TextList) -> Row
+    ensures { result ≡ spec.blank_row (world_of (K.sight look.now) scene.entry.now) args.now }
+{
+    match range_of(look.names(), args.get(0)) {
+        Some(span) => Ok(Deed {
+            change: Change::Erase(span),
+            after: Move::Stay,
+        }),
+        None => bad(),
+    }
+}
+
+// A whole number within bounds.
+fn within(low: u8, high: u8, count: Option<u32>) -> Option<u8>
+    ensures { result ≡ spec.within low high count }
+{
+    match count {
+        Some(count) => {
+            if u32::from(low) <= count && count <= u32::from(high) {
+                Some(count as u8)
+            } else {
+                None
+            }
+        }
+        None => None,
+    }
+}
+
+// A whole number that may be left out: its place among the arguments, its bounds, and what stands for it.
+#[derive(Clone, Copy)]
+struct Asked {
+    place: usize,
+    low: u8,
+    high: u8,
+    left_out: u8,
+}
+
+// An argument that may be left out: a whole number within bounds.
+fn given_count<K: Look>(
+    alloc: Global,
+    look: &K,
+    scene: &Scene,
+    at: &Spot,
+    args: &TextList,
+    asked: Asked,
+) -> Result<Option<u8>, Memory>
+    ensures { let world = world_of (K.sight look.now) scene.entry.now in
+        IfOk result (λ n. n ≡ spec.given_count world at.now args.now asked.place asked.low asked.high asked.left_out) }
+{
+    if args.len() <= asked.place {
+        return Ok(Some(asked.left_out));
+    }
+    let count = count_given(alloc, look, scene, at.cell, args.get(asked.place))?;
+    Ok(within(asked.low, asked.high, count))
+}
+
+// A text is at most so wide.
+const MOST_WIDTH: u8 = 240;
+
+// RECALC makes at most so many passes.
+const MOST_PASSES: u8 = 50;
+
+// CONTENTS' width: its third argument, or the column's.
+fn width_given<K: Look>(
+    alloc: Global,
+    look: &K,
+    scene: &Scene,
+    at: &Spot,
+    args: &TextList,
+    cell: Cell,
+) -> Result<Option<u8>, Memory>
+    ensures { let world = world_of (K.sight look.now) scene.entry.now in
+        IfOk result
+        (λ n. n ≡ spec.given_count world at.now args.now 2 1 spec.most_width (world.sight.widths cell.col)) }
+{
+    let asked = Asked {
+        place: 2,
+        low: 1,
+        high: MOST_WIDTH,
+        left_out: look.width(cell.col),
+    };
+    given_count(alloc, look, scene, at, args, asked)
+}
+
+// CONTENTS' format: its fourth argument, or the cell's.
+fn format_given<K: Look>(
+    alloc: Global,
+    look: &K,
+    scene: &Scene,
+    at: &Spot,
+    args: &TextList,
+    cell: Cell,
+) -> Result<Option<u8>, Memory>
+    ensures { let world = world_of (K.sight look.now) scene.entry.now in
+        IfOk result (λ n. n ≡ spec.given_count world at.now args.now 3 0 255 (world.sight.formats cell)) }
+{
+    let asked = Asked {
+        place: 3,
+        low: 0,
+        high: 255,
+        left_out: look.format(cell).0,
+    };
+    given_count(alloc, look, scene, at, args, asked)
+}
+
+/// CONTENTS; the sheet's format stands in for the default one.
+pub fn contents_row<K: Look>(
+    alloc: Global,
+    look: &K,
+    scene: &Scene,
+    global: Format,
+    at: &Spot,
+    args: &TextList,
+) -> Result<Row, Memory>
+    ensures { let world = world_of (K.sight look.now) scene.entry.now in
+        IfOk result (λ r. r ≡ spec.contents_row world global.0 at.now args.now) }
+{
+    let Some(target) = place_of(look.names(), args.get(0)) else {
+        return Ok(bad());
+    };
+    let Some(cell) = place_of(look.names(), args.get(1)) else {
+        return Ok(bad());
+    };
+    let Some(width) = width_given(alloc, look, scene, at, args, cell)? else {
+        return Ok(bad());
+    };
+    let Some(byte) = format_given(alloc, look, scene, at, args, cell)? else {
+        return Ok(bad());
+    };
+    let text = shown_cell(
+        alloc,
+        look,
+        global,
+        cell,
+        width.min(MOST_WIDTH),
+        Format(byte),
+    )?;
+    puts_one(
+        alloc,
+        target,
+        Content::Label(LabelPrefix::Left, text),
+        Move::Stay,
+    )
+}
+
+// The passes of a recalculation: the third argument, or one without a condition, and with one the most.
+fn passes_given<K: Look>(
+    alloc: Global,
+    look: &K,
+    scene: &Scene,
+    at: &Spot,
+    args: &TextList,
+) -> Result<Option<u8>, Memory>
+    ensures { let world = world_of (K.sight look.now) scene.entry.now in
+        IfOk result
+        (λ n. n ≡ spec.given_count world at.now args.now 2 1 spec.most_passes (spec.passes_left_out args.now)) }
+{
+    let asked = Asked {
+        place: 2,
+        low: 1,
+        high: MOST_PASSES,
+        left_out: if args.len() <= 1 { 1 } else { MOST_PASSES },
+    };
+    given_count(alloc, look, scene, at, args, asked)
+}
+
+// The formula of a condition, where one is given.
+fn condition_given<K: Look>(
+    alloc: Global,
+    look: &K,
+    scene: &Scene,
+    at: &Spot,
+    args: &TextList,
+) -> Result<Option<Option<Formula>>, Memory>
+    ensures { let world = world_of (K.sight look.now) scene.entry.now in
+        IfOk result (λ f. f ≡ spec.condition_in world at.now args.now) }
+{
+    if args.len() <= 1 {
+        return Ok(Some(None));
+    }
+    match formula_in(alloc, args.get(1), at.cell, look, scene)? {
+        Some(formula) => Ok(Some(Some(formula))),
+        None => Ok(None),
+    }
+}
+
+/// RECALC, and RECALCCOL by columns.
+pub fn recalc_row<K: Look>(
+    alloc: Global,
+    look: &K,
+    scene: &Scene,
+    at: &Spot,
+    by_columns: bool,
+    args: &TextList,
+) -> Result<Row, Memory>
+    ensures { let world = world_of (K.sight look.now) scene.entry.now in
+        IfOk result (λ r. r ≡ spec.recalc_row world at.now by_columns args.now) }
+{
+    let Some(span) = range_of(look.names(), args.get(0)) else {
+        return Ok(bad());
+    };
+    let Some(until) = condition_given(alloc, look, scene, at, args)? else {
+        return Ok(bad());
+    };
+    let Some(most) = passes_given(alloc, look, scene, at, args)? else {
+        return Ok(bad());
+    };
+    let sweep = Sweep {
+        span,
+        by_columns,
+        until,
+        at: at.cell,
+        most,
+    };
+    Ok(Ok(Deed {
+        change: Change::Recalculate(sweep),
+        after: Move::Stay,
+    }))
+}
