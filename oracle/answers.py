@@ -1,13 +1,13 @@
 """What each checking program must print for its standard input. A name is that of the crate, behind `check_`."""
 import struct
 
-from . import adjust, blocks, cellformat, fixed, formula, menu, query, screen
+from . import adjust, blocks, cellformat, fixed, formula, macro, menu, query, screen
 from .address import cell_text, cells_of, col_text, read_cell, read_span, span_at, span_text, width_of, height_of
 from .cellformat import show_number
 from .dates import Moment
 from .evaluate import Scene, Tally, glance, matches
 from .gen import generate
-from .keys import COMMANDS, KeyReader, SLASH, fold, word_at
+from .keys import COMMANDS, FILE_WORDS, KeyReader, SLASH, fold, word_at
 from .names import Names
 from .sheet import Sheet, SheetFault, State
 from .values import BLANK, C_BLANK, first_value, num, string
@@ -22,9 +22,14 @@ NOT_IN_MENUS = {
 }
 
 
+# command words of macros that are none as yet
+NOT_IN_MACROS = {b'GET', b'GETLABEL', b'GETNUMBER', b'LOOK', b'MENUBRANCH', b'MENUCALL', b'WAIT', b'?', b'BEEP', b'INDICATE',
+                 b'PANELON', b'PANELOFF', b'WINDOWSON', b'WINDOWSOFF', b'BREAKON', b'BREAKOFF', *FILE_WORDS}
+
+
 def leave_out():
     """From here on the oracle knows no more than the program has built."""
-    menu.NOT_BUILT = NOT_IN_MENUS
+    menu.NOT_BUILT, macro.NOT_BUILT = NOT_IN_MENUS, NOT_IN_MACROS
 
 
 # the pointer in C2, and noon and after on 1 June 1987
@@ -596,6 +601,133 @@ def data(data):
     return b''.join(line + b'\n' for line in out)
 
 
+# ---------------------------------------------------------------- macros
+
+MACRO_FAULTS = {2: b'TooDeep', 3: b'UnknownWord', 4: b'BadArgument', 5: b'NotText'}
+
+
+class Run:
+    """A macro that is run from a cell on, with what each unit does."""
+
+    def __init__(self, sheet, cell):
+        self.sheet, self.log, self.out, self.passes = sheet, [], [], None
+        self.engine = macro.Engine()
+        self.engine.running, self.engine.cell = True, cell
+        self.tally = Tally()
+
+    def spot(self, cell, offset):
+        return cell_text(cell) + b'+%d' % offset
+
+    def place(self):
+        """Where the macro goes on, and how many calls and loops it is in, with the innermost."""
+        engine = self.engine
+        out = self.spot(engine.cell, engine.offset) + b'*%d' % engine.reps
+        if engine.frames:
+            frame = engine.frames[-1]
+            out += b' %d' % len(engine.frames)
+            if frame[0] == 'call':
+                out += b'<' + self.spot(frame[1], frame[2]) + b',' + self.spot(*frame[3])
+            else:
+                _, behind, counter, bound, step, routine = frame
+                out += (b'[' + self.spot(*behind) + b',' + cell_text(counter) + b',' + cell_text(routine)
+                        + b',%d,%d' % (bound, step))
+        return out + b'; '
+
+    def write(self, writes):
+        """The sheet's write, told."""
+        for cell, content, _ in writes:
+            self.out.append(cell_text(cell) + content_text(content, cell, self.sheet.names) + b'\t')
+        try:
+            Sheet.write(self.sheet, writes)
+        except SheetFault as fault:
+            self.out.append(b'Protected ' + cell_text(fault.payload))
+            raise
+
+    def erase(self, span):
+        """The sheet's erasing, told."""
+        self.out.append(b'-' + span_text(span) + b' ')
+        try:
+            Sheet.erase(self.sheet, span)
+        except SheetFault as fault:
+            self.out.append(b'Protected ' + cell_text(fault.payload))
+            raise
+
+    def sweep(self, span, by_columns, scene, tally):
+        """A pass over a range, which is told and not made."""
+        count = self.passes[2] + 1 if self.passes else 1
+        self.passes = (span, by_columns, count)
+
+    def fault(self, number, cell):
+        self.out.append(b'?' + MACRO_FAULTS[number] + b' ' + cell_text(cell))
+
+    def step(self):
+        """One unit; whether the macro goes on."""
+        self.passes = None
+        unit = self.engine.next(self.sheet, SCENE)
+        if unit[0] == 'fault':
+            self.fault(unit[1], unit[2])
+            return False
+        self.out.append(key_text(unit[1]) + b' ' if unit[0] == 'key' else b'down ' if unit[0] == 'down'
+                        else b'return ' if unit[0] == 'return' else b'word ')
+        answer = self.engine.apply(unit, self.sheet, SCENE, self.tally, None)
+        if self.passes:
+            span, by_columns, count = self.passes
+            self.out.append(span_text(span) + (b' columns' if by_columns else b' rows') + b' %d ' % count)
+        if answer[0] == 'going':
+            self.out.append(self.place())
+        elif answer[0] == 'stopped':
+            self.out.append(b'stop ')
+        elif answer[0] == 'fault':
+            self.fault(answer[1], answer[2])
+        return answer[0] == 'going'
+
+    def line(self, most):
+        self.sheet.write, self.sheet.erase, self.sheet.recalc_span = self.write, self.erase, self.sweep
+        for _ in range(most):
+            if not self.step():
+                break
+        else:
+            if self.engine.onerror:
+                place, message = self.engine.onerror
+                self.out.append(b'error ' + cell_text(place) + (b',' + cell_text(message) if message else b''))
+        del self.sheet.write, self.sheet.erase, self.sheet.recalc_span
+        return b''.join(self.out) + b'\n'
+
+
+def macro_line(desk, line):
+    """What a line does; a run prints."""
+    sheet, rest = desk.sheet, line[1:]
+    if line[:1] == b'x':
+        sheet.write([(read_cell(cell), desk.content_of(read_cell(cell), text), None if code == b'-' else int(code))
+                     for cell, code, text in (part.split(b' ', 2) for part in rest.split(b'\t'))])
+        desk.calc()
+    elif line[:1] == b'+':
+        span, _, name = rest.partition(b' ')
+        sheet.create_name(name, read_span(span))
+    elif line[:1] == b'w':
+        cell, _, width = rest.partition(b' ')
+        sheet.set_width(read_cell(cell)[0], int(width))
+    elif line[:1] == b'g':
+        sheet.settings.format = int(rest)
+    elif line[:1] == b's':
+        desk.set(rest)
+    else:
+        cell, _, most = rest.partition(b' ')
+        return Run(sheet, read_cell(cell)).line(int(most))
+    return b''
+
+
+def macros(data):
+    """The units of macros over small sheets, and what they do."""
+    desk, out = Desk(), []
+    for line in lines_of(data):
+        if line == b':':
+            desk = Desk()
+        else:
+            out.append(macro_line(desk, line))
+    return b''.join(out)
+
+
 # ---------------------------------------------------------------- generated
 
 def generated_text(content, cell, names):
@@ -633,4 +765,4 @@ def row_order(item):
 
 
 ANSWERS = {'numbers': numbers, 'formulas': formulas, 'words': words, 'values': values, 'adjustments': adjustments,
-           'sheets': sheets, 'data': data, 'generated': generated}
+           'sheets': sheets, 'data': data, 'macros': macros, 'generated': generated}

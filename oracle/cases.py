@@ -682,6 +682,120 @@ class Extractions(Queries):
         return out
 
 
+class Macros:
+    """Small sheets whose cells hold macros that write their own cells, those of others, and cells that text formulas read."""
+
+    TARGETS = [b'A1', b'A2', b'B1', b'B2', b'C3', b'D1', b'D2', b'E1', b'F1', b'COUNT', b'SUB', b'CODE', b'A8192', b'd1', b'iv8192']
+    NAMES = [(b'D2..D3', b'SUB'), (b'E1', b'CODE'), (b'A1', b'COUNT'), (b'D1', b'AGAIN'), (b'B1..C3', b'TABLE'), (b'F1', b'NET PAY')]
+    BROKEN = [b'{', b'}', b'{SUB', b'/XI1', b'{NOWORD}', b'{NET PAY}', b'{GET A1}', b'{BEEP}', b'{?}', b'{MENUCALL A1}', b'/XMA1~',
+              b'{PANELOFF}', b'{WAIT 1}', b'{LOOK A1}', b'{READ 3,A1}', b'{"}']
+
+    def __init__(self, r):
+        self.r = r
+        self.texts = Texts(r, 6, 4, False, [b'COUNT', b'CODE', b'TABLE'], without=NOT_BUILT | {b'CELLPOINTER'})
+
+    def target(self):
+        """A place, seldom none."""
+        r = self.r
+        return r.choice([b'$A$1', b' A1', b'NOWHERE', b'A1..B2', b'', b'1', b'A8193']) if r.randrange(25) == 0 else r.choice(self.TARGETS)
+
+    def range(self):
+        r = self.r
+        return r.choice([b'TABLE', b'B1..C3', b'C3.B1', b'A1', b'D1..D3', b'SUB', b'A1..B2', b'E1..E2', b'A8191..A8192', self.target()])
+
+    def number(self):
+        """A number by an expression, seldom none."""
+        r = self.r
+        if r.randrange(12) == 0:
+            return r.choice([b'@ERR', b'@NA', b'"x"', b'', b'1,', b'A1..B2', b'1 2', b'@SUM(', b'CODE', b'E1'])
+        return r.choice([b'%d' % r.randrange(5), b'%d' % r.randrange(-3, 10), b'A1', b'COUNT', b'A1+1', b'@SUM(A1,B1)', b'B2', b'1.9', b'-0.5',
+                         b'@COUNT(A1..B2)', b'@IF(A1<3,1,0)', b'9999999'])
+
+    def value(self):
+        """What LET puts."""
+        r = self.r
+        text = r.choice([self.number(), b'A1+1', b'COUNT*2', b'"{LET A1,2}"', b'{LET A1', b'some text', b'"a,b"', b'(A1,B1)', b'B1&"~"', b'',
+                         b'@REPEAT("x",A1)', b'"~"', b'7', self.texts.tree(1)])
+        return text + r.choice([b'', b'', b'', b':value', b':STRING', b':String', b':VALUE:string', b':string:value', b':strin'])
+
+    def word(self):
+        """A word, mostly whole."""
+        r, sep = self.r, self.r.choice([b',', b',', b';'])
+        pick = r.randrange(26)
+        if pick < 4:
+            return b'{LET ' + self.target() + sep + self.value() + b'}'
+        if pick < 6:
+            return b'{' + r.choice([b'DOWN', b'R', b'ESC', b'HOME', b'CALC']) + r.choice([b'', b'', b' ' + self.number(), b' ' + self.number()]) + b'}'
+        if pick < 8:
+            return r.choice([b'~', b'x', b'1', b'/', b'/WC', b'{~}', b'{{}', b'{}}', b'"', b' '])
+        if pick < 10:
+            return r.choice([b'{SUB}', b'{AGAIN}', b'{CODE}', b'{SUB ' + sep.join([self.value() for _ in range(r.randrange(1, 4))]) + b'}',
+                             b'{sub ' + self.number() + b'}', b'{TABLE}'])
+        if pick < 12:
+            return b'{FOR ' + sep.join([self.target(), self.number(), self.number(), r.choice([b'1', b'1', b'2', b'-1', b'0.5', self.number()]),
+                                        r.choice([b'SUB', b'E1', b'D2', b'D3', self.target()])]) + b'}'
+        if pick < 15:
+            return b'{IF ' + r.choice([b'A1<3', b'A1=2', b'@TRUE', b'@FALSE', b'"a"', self.number(), self.texts.tree(1)]) + b'}'
+        return r.choice([
+            lambda: b'{BRANCH ' + self.target() + b'}', lambda: b'{DISPATCH ' + self.target() + b'}',
+            lambda: b'{RETURN}', lambda: b'{FORBREAK}', lambda: b'{RESTART}', lambda: b'{QUIT}', lambda: b'/XR', lambda: b'/xq',
+            lambda: b'/XI' + self.number() + b'~', lambda: b'/XG' + self.target() + b'~', lambda: b'/XC' + self.target() + b'~',
+            lambda: b'{BLANK ' + self.range() + b'}', lambda: b'{BLANK ' + self.range() + b'}',
+            lambda: b'{PUT ' + sep.join([self.range(), self.number(), self.number(), self.value()]) + b'}',
+            lambda: b'{PUT TABLE' + sep + sep.join([r.choice([b'0', b'1', b'1.9', b'2']), r.choice([b'0', b'2', b'3', b'-0.5'])])
+            + sep + self.value() + b'}',
+            lambda: b'{CONTENTS ' + sep.join([self.target(), self.target(), b'%d' % r.randrange(242), b'%d' % r.randrange(-1, 258)][:r.randrange(1, 6)]) + b'}',
+            lambda: b'{CONTENTS ' + sep.join([self.target(), self.target(), b'%d' % r.randrange(1, 20),
+                                              r.choice([b'117', b'118', b'2', b'114', b'255', b'113'])][:r.randrange(2, 5)]) + b'}',
+            lambda: b'{DEFINE ' + sep.join([self.target() + r.choice([b'', b':value', b':string', b':VALUE', b':val'])
+                                            for _ in range(r.choice([1, 1, 2, 2, 3]))]) + b'}',
+            lambda: b'{ONERROR ' + sep.join([self.target(), self.target(), b'A1'][:r.choice([1, 2, 2, 3])]) + b'}',
+            lambda: r.choice([b'{RECALC ', b'{RECALCCOL ']) + sep.join([self.range(), r.choice([b'A1>1', b'@TRUE', b'0', self.number()]),
+                                                                      r.choice([b'1', b'50', b'51', b'0', b'2.9', self.number()])][:r.randrange(1, 4)]) + b'}',
+            lambda: b'{' + r.choice([b'RETURN', b'QUIT', b'IF', b'LET', b'FOR', b'BLANK', b'PUT', b'DEFINE', b'BRANCH'])
+            + r.choice([b'', b' ', b' ,', b' 1,2,3,4,5,6', b' A1']) + b'}',
+            lambda: r.choice(self.BROKEN)])()
+
+    def text(self):
+        """A macro's text, sometimes by a formula."""
+        r = self.r
+        text = b''.join(any_case(r, self.word()) if r.randrange(4) == 0 else self.word() for _ in range(r.choice([1, 2, 3, 4])))
+        if r.randrange(8) == 0:
+            return r.choice([b'+E1&"{SUB}"', b'+"{LET A1,"&B1&"}"', b'@IF(A1>2,"{QUIT}","{LET A1,A1+1}")', b'+B1', b'@REPEAT("~",A1)'])
+        return (r.choice([b"'", b"'", b"'", b'^', b'"', b'\\']) + text)[:240]
+
+    def sheet(self):
+        r = self.r
+        out = [b':'] + [b'+' + span + b' ' + name for span, name in self.NAMES]
+        cells = [(cell, self.text()) for cell in (b'D1', b'D2', b'D3', b'E1') if r.randrange(8)]
+        cells += [(cell, r.choice([b'%d' % r.randrange(4), b'%.2f' % r.uniform(-5, 5), b"'D1", b"'SUB", b"'E2", b'^word', b'+A1+1', b'@ERR', b'+"x"&"D3"',
+                                   b'@NA', b'', b'"right', b'\\-=', b'31929']))
+                  for cell in (b'A1', b'A2', b'B1', b'B2', b'C3', b'F1')]
+        cells += [(cell, self.text()) for cell in (b'D4', b'E2', b'F2', b'D8192') if r.randrange(2)]
+        code = lambda: r.choice([b'-', b'-', b'-', b'127', b'130', b'242', b'245', b'246', b'2'])
+        out.append(b'x' + b'\t'.join(cell + b' ' + code() + b' ' + text for cell, text in cells))
+        if r.randrange(4) == 0:
+            out.append(b'w' + r.choice([b'A1', b'B1', b'D1']) + b' %d' % r.choice([1, 3, 12, 40, 240]))
+        if r.randrange(4) == 0:
+            out.append(b'g' + r.choice([b'2', b'34', b'117', b'118', b'114', b'112']))
+        out.append(b's' + r.choice([b'A', b'A', b'A', b'M', b'P']))
+        return out
+
+    def runs(self, count):
+        """So many runs, two of each sheet."""
+        out = []
+        while count > 0:
+            out += self.sheet()
+            out += [b'rD1 40', b'r' + self.r.choice([b'D2', b'D3', b'E1', b'E1', b'D2', b'D4', b'E2', b'D8192']) + b' 40']
+            count -= 2
+        return out
+
+
+def macros(r):
+    """The worked lines, and 3,000 runs of macros over small sheets."""
+    return worked('macros') + b''.join(line + b'\n' for line in Macros(r).runs(3000))
+
+
 def data(r):
     """The worked lines, 500 fills, sorts and distributions of small sheets, 500 queries of each kind, and 400
     extractions of all records and of those that differ."""
@@ -695,7 +809,7 @@ def generated(_r):
 
 
 CASES = {'formulas': formulas, 'words': words, 'values': values, 'adjustments': adjustments, 'sheets': sheets,
-         'data': data, 'generated': generated}
+         'data': data, 'macros': macros, 'generated': generated}
 
 
 def case(name, seed=SEED):

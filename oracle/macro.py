@@ -9,6 +9,8 @@ from .outside import Failed, file_name
 ERR_CONTENT = ('formula', ('call', 0x20, []))
 NA_CONTENT = ('formula', ('call', 0x1F, []))
 LIMIT = 999_999_999_999_999
+# command words that are none as yet; a checking program sets it
+NOT_BUILT = set()
 APOSTROPHE = ord("'")
 
 
@@ -143,7 +145,7 @@ class Engine:
                 self.go((self.cell[0], self.cell[1] + 1))
                 return ('down',)
             w = word_at(text, self.offset)
-            if w.kind == 'bad':
+            if w.kind == 'bad' or w.kind == 'command' and w.name in NOT_BUILT:
                 return ('fault', 3, self.cell)
             if w.kind == 'key':
                 self.go(self.cell, w.next)
