@@ -692,7 +692,7 @@ class Macros:
 
     def __init__(self, r):
         self.r = r
-        self.texts = Texts(r, 6, 4, False, [b'COUNT', b'CODE', b'TABLE'], without=NOT_BUILT | {b'CELLPOINTER'})
+        self.texts = Texts(r, 6, 4, False, [b'COUNT', b'CODE', b'TABLE'], without={b'CELLPOINTER'})
 
     def target(self):
         """A place, seldom none."""
