@@ -1,3 +1,4 @@
+pub mod Between
 pub mod Compared
 pub mod States
 pub mod Tests

@@ -1,23 +1,41 @@
--- How the states are kept: the latest, and each other one so that the next tells it.
+-- How the states are kept: each by what it has otherwise than another sheet, the latest than a fresh one, and each other
+-- one than the one after it.
 use Rattle.std.specs.Prelude.{List, [], ◌∷◌, Option, None, Some}
-use Rattle.sheet_undo.specs.declared.earlier.Earlier.{Earlier}
+use Rattle.range_names.specs.Names.{NameMap}
+use Rattle.sheet_undo.specs.Changes.{all_changed}
+use Rattle.sheet_undo.specs.declared.difference.Difference.{Difference}
 use Rattle.work_sheet.specs.Kept.{sheet_of}
-use Rattle.work_sheet.specs.Seen.{Sheet}
+use Rattle.work_sheet.specs.Seen.{fresh_sheet, Sheet}
 use Rattle.work_sheet.specs.declared.kept.KeptState.{KeptState}
 
--- the state before a sheet, by what is kept of it; it is kept whole
-abbrev pub before : Earlier → Sheet → Sheet
-before e s = sheet_of e.state
+-- names, or those of the next one where none are kept
+abbrev pub names_or : Option NameMap → NameMap → NameMap
+names_or None names = names
+names_or (Some own) names = own
+
+-- the state that differs so from a sheet
+abbrev pub before : Difference → Sheet → Sheet
+before d s = record {
+  grid = record {
+    cells = all_changed s.grid.cells d.changes.items;
+    widths = d.columns.widths;
+    hidden = d.columns.hidden;
+  };
+  circular = d.circular;
+  stale = d.stale;
+  names = names_or d.names s.names;
+  settings = d.settings;
+}
 
 -- a sheet, and the states before it
-abbrev pub states_from : Sheet → List Earlier → List Sheet
+abbrev pub states_from : Sheet → List Difference → List Sheet
 states_from s [] = s ∷ []
-states_from s (e ∷ es) = s ∷ states_from (before e s) es
+states_from s (d ∷ ds) = s ∷ states_from (before d s) ds
 
 -- all of them
-abbrev pub states : Option KeptState → List Earlier → List Sheet
-states None es = []
-states (Some k) es = states_from (sheet_of k) es
+abbrev pub states : Option Difference → List Difference → List Sheet
+states None ds = []
+states (Some d) ds = states_from (before d fresh_sheet) ds
 
 -- a state, if there is one
 abbrev pub told : Option KeptState → Option Sheet

@@ -1,3 +1,4 @@
+pub mod Changes
 pub mod Histories
 pub mod Keeping
 pub mod Same

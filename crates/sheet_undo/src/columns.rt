@@ -1,6 +1,6 @@
-// Whether two stores have the same columns.
+// The columns of stores.
 ghost use Rattle.std.specs.Bool.{Decides};
-ghost use Rattle.std.specs.Prelude.{◌≡◌, get_or};
+ghost use Rattle.std.specs.Prelude.{◌≡◌, get_or, set, false};
 ghost use Rattle.sheet_undo.specs.Same.{IsSameColumn, SameColumns};
 
 use sheet_store::Store;
@@ -36,4 +36,26 @@ pub fn are_same_columns(one: &Store, other: &Store) -> bool
         }
     }
     true
+}
+
+// Gives a column the width and the mark of another store's.
+fn put_column(store: &Store, into: &mut Store, col: u8)
+    ensures { into.new ≡ record into.old {
+      widths = set into.old.widths col (get_or store.now.widths col 0);
+      hidden = set into.old.hidden col (get_or store.now.hidden col false);
+    } }
+{
+    into.set_width(col, store.width(col));
+    into.set_hidden(col, store.is_hidden(col));
+}
+
+/// Gives a store the columns of another.
+pub fn put_columns(store: &Store, into: &mut Store)
+    ensures { into.new ≡ record into.old { widths = store.now.widths; hidden = store.now.hidden } }
+{
+    store.are_columns();
+    into.are_columns();
+    for col in 0..256usize {
+        put_column(store, into, col as u8);
+    }
 }

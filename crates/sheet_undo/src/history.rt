@@ -1,14 +1,16 @@
 // The history of a sheet.
 ghost use Rattle.std.specs.Prelude.{◌≡◌, ◌≤◌, drop, is_some, length, take, IfOk, OnErr, OnOk, true};
 ghost use Rattle.sheet_undo.specs.Histories.{ended, no_history, with_kept, Tells, Undoes};
-ghost use Rattle.sheet_undo.specs.Keeping.{states, states_from};
+ghost use Rattle.sheet_undo.specs.Keeping.{before, states, states_from};
 ghost use Rattle.work_sheet.specs.Kept.{sheet_of};
-ghost use Rattle.work_sheet.specs.Seen.{of_worksheet};
+ghost use Rattle.work_sheet.specs.Seen.{fresh_sheet, of_worksheet};
 
 use crate::alike::is_alike;
-use crate::earlier::Earlier;
+use crate::difference::Difference;
 use formula_eval::Means;
 use lics_text::Memory;
+use range_names::Names;
+use sheet_store::{SavedSheet, Settings, Store};
 use std::alloc::Global;
 use std::marker::Model;
 use work_sheet::{KeptState, SheetOf};
@@ -21,10 +23,11 @@ const MOST_EARLIER: usize = 19;
 /// releases).
 #[derive(Drop)]
 pub struct History {
-    // The latest kept state.
-    latest: Option<KeptState>,
-    // The kept states before it, the latest first.
-    earlier: Vec<Earlier>,
+    // The latest kept state, by what it has otherwise than a fresh sheet.
+    latest: Option<Difference>,
+    // The kept states before it, the latest first, each by what it has otherwise than the one after it.
+    earlier: Vec<Difference>,
+    // The begun state, whole until the command ends.
     begun: Option<KeptState>,
 }
 
@@ -54,28 +57,58 @@ fn state_of<E: Means>(sheet: &SheetOf<E>) -> Result<KeptState, Memory>
     })
 }
 
+// The state of a fresh sheet.
+fn fresh_state(alloc: Global) -> KeptState
+    ensures { sheet_of result ≡ fresh_sheet }
+{
+    KeptState {
+        saved: SavedSheet {
+            store: Store::new(alloc),
+            names: Names::new(alloc),
+            settings: Settings::fresh(),
+        },
+        circular: false,
+        stale: false,
+    }
+}
+
+// A state, by what it has otherwise than a fresh sheet.
+fn whole_of(state: &KeptState) -> Result<Difference, Memory>
+    ensures { IfOk result (λ d. before d fresh_sheet ≡ sheet_of state.now) }
+{
+    Difference::of(state, &fresh_state(state.saved.store.alloc()))
+}
+
+// The state that differs so from a fresh sheet.
+fn state_in(whole: &Difference, alloc: Global) -> Result<KeptState, Memory>
+    ensures { IfOk result (λ k. sheet_of k ≡ before whole.now fresh_sheet) }
+{
+    whole.before(&fresh_state(alloc))
+}
+
 // Adds the latest kept state to those before it, to stand before the begun one; past the most the last is dropped. They
 // are unchanged where there is no memory.
 fn add_latest(
-    earlier: &mut Vec<Earlier>,
-    latest: &KeptState,
+    earlier: &mut Vec<Difference>,
+    latest: &Difference,
     begun: &KeptState,
 ) -> Result<(), Memory>
     ensures ok { OnOk result (states_from (sheet_of begun.now) earlier.new.items ≡
-        with_kept (sheet_of begun.now) (states_from (sheet_of latest.now) earlier.old.items)) }
+        with_kept (sheet_of begun.now) (states_from (before latest.now fresh_sheet) earlier.old.items)) }
     ensures most { OnOk result (length earlier.new.items ≤ 19) }
     ensures err { OnErr result (earlier.new.items ≡ earlier.old.items) }
 {
-    let differing = Earlier::of(latest, begun)?;
-    earlier.insert(0, differing)?;
+    let state = state_in(latest, begun.saved.store.alloc())?;
+    let difference = Difference::of(&state, begun)?;
+    earlier.insert(0, difference)?;
     earlier.truncate(MOST_EARLIER);
     Ok(())
 }
 
 // Makes the kept states before the begun one ready for it. They are unchanged where there is no memory.
 fn make_room(
-    earlier: &mut Vec<Earlier>,
-    latest: &Option<KeptState>,
+    earlier: &mut Vec<Difference>,
+    latest: &Option<Difference>,
     begun: &KeptState,
 ) -> Result<(), Memory>
     ensures ok { OnOk result (states_from (sheet_of begun.now) earlier.new.items ≡
@@ -84,7 +117,7 @@ fn make_room(
     ensures err { OnErr result (earlier.new.items ≡ earlier.old.items) }
 {
     match latest {
-        Some(state) => add_latest(earlier, state, begun),
+        Some(whole) => add_latest(earlier, whole, begun),
         None => {
             earlier.clear();
             Ok(())
@@ -92,20 +125,21 @@ fn make_room(
     }
 }
 
-// The state before the latest one, where there is one.
-fn state_before(earlier: &[Earlier], latest: &KeptState) -> Result<Option<KeptState>, Memory>
-    ensures { IfOk result (λ k. states k (drop 1 earlier.now) ≡
+// The state before the latest one, where there is one, by what it has otherwise than a fresh sheet.
+fn whole_before(earlier: &[Difference], latest: &KeptState) -> Result<Option<Difference>, Memory>
+    ensures { IfOk result (λ d. states d (drop 1 earlier.now) ≡
         drop 1 (states_from (sheet_of latest.now) earlier.now)) }
 {
     if earlier.len() == 0 {
         return Ok(None);
     }
     let state = earlier[0].before(latest)?;
-    Ok(Some(state))
+    let whole = whole_of(&state)?;
+    Ok(Some(whole))
 }
 
 // Takes the first away, where there is one.
-fn drop_first(earlier: &mut Vec<Earlier>)
+fn drop_first(earlier: &mut Vec<Difference>)
     ensures { earlier.new.items ≡ drop 1 earlier.old.items }
 {
     if earlier.len() > 0 {
@@ -115,7 +149,7 @@ fn drop_first(earlier: &mut Vec<Earlier>)
 
 // How many states are kept.
 #[tactic(auto, using(crate::proofs::States::states_long))]
-fn count_of(latest: &Option<KeptState>, earlier: &[Earlier]) -> usize
+fn count_of(latest: &Option<Difference>, earlier: &[Difference]) -> usize
     requires { length earlier.now ≤ 19 }
     ensures count { result ≡ length (states latest.now earlier.now) }
     ensures most { result ≤ 20 }
@@ -171,8 +205,10 @@ impl History {
             self.begun = None;
             return Ok(false);
         }
+        let whole = whole_of(begun)?;
         make_room(&mut self.earlier, &self.latest, begun)?;
-        self.latest = self.begun.take();
+        self.latest = Some(whole);
+        self.begun = None;
         Ok(true)
     }
 
@@ -186,8 +222,9 @@ impl History {
         let Some(latest) = &self.latest else {
             return Ok(false);
         };
-        let before = state_before(self.earlier.as_slice(), latest)?;
-        sheet.put_back(latest)?;
+        let state = state_in(latest, sheet.alloc())?;
+        let before = whole_before(self.earlier.as_slice(), &state)?;
+        sheet.put_back(&state)?;
         drop_first(&mut self.earlier);
         self.latest = before;
         Ok(true)

@@ -3,8 +3,9 @@
 
 mod alike;
 mod cells;
+mod changes;
 mod columns;
-mod earlier;
+mod difference;
 mod history;
 mod laws;
 mod names;

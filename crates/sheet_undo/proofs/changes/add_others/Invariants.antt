@@ -1,0 +1,10 @@
+use Rattle.std.specs.Prelude.{length}
+use Rattle.sheet_undo.proofs.Between.{IsGiving}
+use Rattle.sheet_undo.specs.Changes.{all_changed}
+use Rattle.sheet_undo.proofs.changes.add_others.Given as goal
+
+abbrev pub invariant-loop-entry : goal.invariant-loop-entry
+invariant-loop-entry l = IsGiving l.kept.cells l.next.cells (all_changed l.next.cells l.changes.items) l.left
+
+abbrev pub decreases-loop-entry : goal.decreases-loop-entry
+decreases-loop-entry l = length l.left
