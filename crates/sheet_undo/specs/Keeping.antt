@@ -1,5 +1,5 @@
--- How the states are kept: each by what it has otherwise than another sheet, the latest than a fresh one, and each other
--- one than the one after it.
+-- How the states are kept: each by what it has otherwise than another sheet, which is a fresh one for the latest state,
+-- and the state after it for each other one.
 use Rattle.std.specs.Prelude.{List, [], ◌∷◌, Option, None, Some}
 use Rattle.range_names.specs.Names.{NameMap}
 use Rattle.sheet_undo.specs.Changes.{all_changed}

@@ -192,7 +192,7 @@ fn widths_names_and_formats_are_undone(rt: HostRuntime) -> Result<(), Fail> {
         .expect(&rt, "a name");
     history.begin(&sheet).expect(&rt, "memory");
     sheet.set_width(2, None);
-    sheet.set_width(255, Some(240));
+    sheet.set_width(9, Some(30));
     assert!(&rt; end(&rt, &mut history, &sheet));
     history.begin(&sheet).expect(&rt, "memory");
     sheet.delete_name(b"RENT").expect(&rt, "a name");
@@ -207,10 +207,10 @@ fn widths_names_and_formats_are_undone(rt: HostRuntime) -> Result<(), Fail> {
     assert!(&rt; undo(&rt, &mut history, &mut sheet));
     assert_eq!(&rt; sheet.names().find(b"RENT"), Some(Span::of(A1, B1)));
     assert_eq!(&rt; sheet.own_width(2), None);
-    assert_eq!(&rt; sheet.own_width(255), Some(240));
+    assert_eq!(&rt; sheet.own_width(9), Some(30));
     assert!(&rt; undo(&rt, &mut history, &mut sheet));
     assert_eq!(&rt; sheet.own_width(2), Some(20));
-    assert_eq!(&rt; sheet.own_width(255), None);
+    assert_eq!(&rt; sheet.own_width(9), None);
     assert_eq!(&rt; history.len(), 0);
     Ok(())
 }

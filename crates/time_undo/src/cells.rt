@@ -1,4 +1,4 @@
-// A sheet of so many cells, in 50 columns.
+// A sheet of so many cells, row by row.
 use fixed_value::Fixed;
 use formula_eval::{Scene, Tally};
 use formula_tree::{Content, Expr, Formula, Op, Value};
@@ -23,6 +23,12 @@ pub struct Plan {
     pub commands: u32,
 }
 
+/// How many columns they stand in.
+const COLUMNS: u32 = 50;
+
+/// The last row of a sheet.
+const LAST_ROW: u16 = 8191;
+
 /// The scene of each recalculation.
 pub const SCENE: Scene = Scene {
     cursor: Cell { row: 0, col: 0 },
@@ -35,8 +41,8 @@ pub const SCENE: Scene = Scene {
 /// The place of one of them, row by row.
 pub fn place(index: u32) -> Cell {
     Cell {
-        row: u16::try_from(index / 50).unwrap_or(0).min(8191),
-        col: (index % 50) as u8,
+        row: u16::try_from(index / COLUMNS).unwrap_or(0).min(LAST_ROW),
+        col: (index % COLUMNS) as u8,
     }
 }
 
