@@ -60,9 +60,12 @@ IsTrialOf false cell (Err f) a b = f ≡ fault.Memory
 
 -- a failed trial of one of these cells: want of memory, or the cell is protected
 abbrev pub HasFailed : OnBench → List Place → BlockFault → Type 0
-HasFailed b cells f = (f ≡ fault.Memory) ⊎ ((p : Place) × (find b.guarded cells ≡ Some p) × (f ≡ fault.Sheet (sheet_fault.Protected p)))
+HasFailed b cells f =
+    (f ≡ fault.Memory)
+    ⊎ ((p : Place) × (find b.guarded cells ≡ Some p) × (f ≡ fault.Sheet (sheet_fault.Protected p)))
 
--- why a table with these input cells fails: want of memory, or what refuses it; after any fault but want of memory all contents are as before
+-- why a table with these input cells fails: want of memory, or what refuses it; after any fault but want of memory all
+-- contents are as before
 pub data IsFaultOf (s : Extent) (inputs : List Place) (a b : OnBench) (f : BlockFault) : Type 0 where
   memory : f ≡ fault.Memory → IsFaultOf s inputs a b f
   refused : table_fault s inputs a.guarded ≡ Some f → b.contents ≡ a.contents → IsFaultOf s inputs a b f

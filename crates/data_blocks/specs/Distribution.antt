@@ -21,6 +21,7 @@ number_of (value.Str t) = []
 number_of value.Err = []
 number_of value.Na = []
 
+-- the numbers among the values of some cells
 abbrev pub numbers_in : (Place → Value) → List Place → List ℤ
 numbers_in values cells = flat_map (λ p. number_of (values p)) cells
 
@@ -37,6 +38,7 @@ abbrev pub is_above : Option ℤ → ℤ → Bool
 is_above None x = true
 is_above (Some before) x = int_lt before x
 
+-- above the bin before, and at most the bin
 abbrev pub is_in_bin : Option ℤ → ℤ → ℤ → Bool
 is_in_bin before bin x = is_above before x && not (int_lt bin x)
 
@@ -53,15 +55,22 @@ bins_of values bins = map (λ p. bin_of (values p)) (down bins.first.col (rows_o
 abbrev pub beside : Extent → List Place
 beside bins = down (bins.first.col + 1) (numbers_from bins.first.row (height_of bins + 1))
 
+-- each count for its cell
 abbrev pub counts_written : List Place → List ℕ → List Write
 counts_written cells counts = map (λ p. written p.0 (as_content (counted p.1))) (zip cells counts)
 
+-- how many of the numbers of a range lie in each bin, beside the bins
 abbrev pub distributed : Sight → Extent → Extent → List Write
-distributed sight values bins = counts_written (beside bins) (shares (numbers_in sight.values (filled sight.values values)) None (bins_of sight.values bins))
+distributed sight values bins =
+    counts_written (beside bins)
+    (shares (numbers_in sight.values (filled sight.values values)) None (bins_of sight.values bins))
 
 -- the last column and the last row leave no room for the counts
 abbrev pub has_no_room : Extent → Bool
 has_no_room bins = bins.first.col == 255 || bins.last.row == 8191
 
+-- what a distribution writes, where there is room for it
 abbrev pub distribution : Sight → Extent → Extent → Result (List Write) BlockFault
-distribution sight values bins = if has_no_room bins then Err (fault.Sheet (sheet_fault.OutOfSheet bins)) else Ok (distributed sight values bins)
+distribution sight values bins =
+    if has_no_room bins
+    then Err (fault.Sheet (sheet_fault.OutOfSheet bins)) else Ok (distributed sight values bins)

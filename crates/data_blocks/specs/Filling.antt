@@ -30,6 +30,7 @@ numbers_of start step stop count = take_while (is_reached step stop) (steps_from
 abbrev pub numbered : List Place → List ℤ → List Write
 numbered cells numbers = map (λ p. written p.0 (content.Number p.1)) (zip cells numbers)
 
+-- the numbers from a start on by a step, column by column, up to a stop
 abbrev pub filled_with : Extent → ℤ → ℤ → ℤ → List Write
 filled_with s start step stop = numbered (by_columns s) (numbers_of start step stop (length (by_columns s)))
 

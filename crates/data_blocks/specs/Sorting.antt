@@ -28,16 +28,19 @@ order_in_kind (value.Num x) (value.Num y) = int_cmp x y
 order_in_kind (value.Str s) (value.Str t) = ordering_then (order_of_texts s t) (slice_cmp nat_cmp s t)
 order_in_kind a b = Equal
 
+-- blanks, then numbers, texts, NA and ERR
 abbrev pub order_of_values : Value → Value → Ordering
 order_of_values a b = ordering_then (nat_cmp (kind_of a) (kind_of b)) (order_in_kind a b)
 
+-- the other way round, where the sort is descending
 abbrev pub turned : Bool → Ordering → Ordering
 turned descending o = if descending then ordering_reverse o else o
 
--- two rows by a key, and by several keys of which the first counts most
+-- two rows by a key
 abbrev pub order_by_key : (Place → Value) → SortKey → ℕ → ℕ → Ordering
 order_by_key values key a b = turned key.descending (order_of_values (values (at a key.col)) (values (at b key.col)))
 
+-- by several keys, of which the first counts most
 abbrev pub order_of_rows : (Place → Value) → List SortKey → ℕ → ℕ → Ordering
 order_of_rows values [] a b = Equal
 order_of_rows values (key ∷ keys) a b = ordering_then (order_by_key values key a b) (order_of_rows values keys a b)

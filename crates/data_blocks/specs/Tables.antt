@@ -51,29 +51,35 @@ or_guarded None None = None
 abbrev pub table_fault : Extent → List Place → (Place → Bool) → Option BlockFault
 table_fault s inputs guarded = or_guarded (shape_fault s inputs) (find guarded inputs)
 
--- table 1: each cell below the first of its column holds an input, and the cells beside it take the answers of the top row
+-- table 1: each cell below the first of its column holds an input, and the cells beside it take the answers of the top
+-- row
 abbrev pub row_answers : Extent → ℕ → List Answer
 row_answers s row = map (λ col. record { from = at s.first.row col; to = at row col }) (columns_behind s)
 
+-- a row's input is tried, and its answers are taken
 abbrev pub row_turn : Extent → Place → (Place → Value) → ℕ → Turn
 row_turn s input values row = record {
   trials = record { cell = input; value = values (at row s.first.col) } ∷ [];
   answers = row_answers s row;
 }
 
+-- row by row
 abbrev pub turns_one : Extent → Place → (Place → Value) → List Turn
 turns_one s input values = map (row_turn s input values) (rows_below s)
 
 -- table 2: a cell takes the answer of the corner, after its row's input and then its column's were tried
 abbrev pub cell_turn : Extent → Place → Place → (Place → Value) → ℕ → ℕ → Turn
 cell_turn s down across values row col = record {
-  trials = record { cell = down; value = values (at row s.first.col) } ∷ record { cell = across; value = values (at s.first.row col) } ∷ [];
+  trials = record { cell = down; value = values (at row s.first.col) }
+      ∷ record { cell = across; value = values (at s.first.row col) } ∷ [];
   answers = record { from = s.first; to = at row col } ∷ [];
 }
 
+-- the cells of a row, one after another
 abbrev pub row_turns : Extent → Place → Place → (Place → Value) → ℕ → List Turn
 row_turns s down across values row = map (cell_turn s down across values row) (columns_behind s)
 
+-- row by row
 abbrev pub turns_two : Extent → Place → Place → (Place → Value) → List Turn
 turns_two s down across values = flat_map (row_turns s down across values) (rows_below s)
 
