@@ -216,42 +216,6 @@ fn widths_names_and_formats_are_undone(rt: HostRuntime) -> Result<(), Fail> {
 }
 
 #[test]
-fn values_and_settings_come_back_with_their_state(rt: HostRuntime) -> Result<(), Fail> {
-    let mut sheet = Sheet::new(rt.alloc());
-    let mut history = History::new(rt.alloc());
-    let mut tally = Tally::new();
-    let formula = read(sheet.alloc(), b"+A1*2", B1, sheet.names()).expect(&rt, "a formula");
-    sheet
-        .enter(B1, Content::Formula(formula))
-        .expect(&rt, "an edit");
-    let settings = *sheet.settings();
-    for whole in 1..4u8 {
-        history.begin(&sheet).expect(&rt, "memory");
-        sheet.enter(A1, number(whole)).expect(&rt, "an edit");
-        sheet.set_settings(Settings {
-            passes: whole + 1,
-            pointer: C3,
-            ..settings
-        });
-        sheet.calc(&SCENE, &mut tally).expect(&rt, "memory");
-        assert!(&rt; end(&rt, &mut history, &sheet));
-    }
-    assert_eq!(&rt; whole_at(&sheet, B1), Some(6));
-    for whole in 1..3u8 {
-        assert!(&rt; undo(&rt, &mut history, &mut sheet));
-        assert_eq!(&rt; whole_at(&sheet, B1), Some(i64::from((3 - whole) * 2)));
-        assert_eq!(&rt; sheet.settings().passes, 4 - whole);
-        assert_eq!(&rt; sheet.settings().pointer, C3);
-    }
-    assert!(&rt; undo(&rt, &mut history, &mut sheet));
-    assert_eq!(&rt; whole_at(&sheet, A1), None);
-    assert_eq!(&rt; whole_at(&sheet, B1), Some(0));
-    assert_eq!(&rt; sheet.settings().passes, 1);
-    assert_eq!(&rt; sheet.settings().pointer, A1);
-    Ok(())
-}
-
-#[test]
 fn commands_after_an_undo_are_kept(rt: HostRuntime) -> Result<(), Fail> {
     let mut sheet = Sheet::new(rt.alloc());
     let mut history = History::new(rt.alloc());
