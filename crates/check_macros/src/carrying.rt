@@ -152,6 +152,11 @@ fn command<W: Write>(
     rowed(sheet, running, row, at.cell, out)
 }
 
+// The cell that a macro is read in.
+fn cell_of(running: &Running) -> Cell {
+    running.position.spot.cell
+}
+
 // One unit.
 fn step<W: Write>(
     alloc: Global,
@@ -176,7 +181,8 @@ fn step<W: Write>(
         Unit::Return => {
             written(out.write_all(b"return "))?;
             let row = ample(return_row(alloc, sheet, &SCENE, running))?;
-            rowed(sheet, running, row, position.spot.cell, out)
+            let cell = cell_of(running);
+            rowed(sheet, running, row, cell, out)
         }
         Unit::Command(at) => {
             written(out.write_all(b"word "))?;
