@@ -1,0 +1,177 @@
+-- How commands end, by what their call was answered.
+use Rattle.std.specs.Prelude.{◌≡◌, ℕ, Bool, true, false, refl, List, None, Some, Ok, Err}
+use Rattle.std.proofs.Common.{ap, subst, sym, ◌∙◌}
+use Rattle.std.proofs.lemmas.Bool.{false≢true, true≢false}
+use Rattle.command_desk.specs.Acting.{on_desk, Acted, DeskActed, HasActedBy, HasActedOn}
+use Rattle.command_desk.specs.Desks.{of_desk, on_sheet}
+use Rattle.command_desk.specs.declared.desk.Desk as declared
+use Rattle.command_desk.specs.declared.ending.CommandEnd.{CommandEnd}
+use Rattle.command_desk.specs.declared.ending.CommandEnd.TheVariants.{Finished, Refused}
+use Rattle.commands_file.specs.Calls.{failed, gets, loaded, puts, removes, there, written, HasAnswered, Reply, ShelfCall, ShelfView}
+use Rattle.commands_file.specs.Commands.{by_call, finished, recalculated_there, refused, retrieved_sheet, saved_as, scene_in, taken_away, with_file, written_out, HasActedOver}
+use Rattle.commands_file.specs.Steps.{end_of_put, end_of_remove, is_written, loaded_as, HasCalled}
+use Rattle.commands_file.specs.declared.loading.Loaded.{Loaded}
+use Rattle.commands_file.specs.declared.loading.Loaded.TheVariants as load
+use Rattle.desk_errors.specs.declared.error.CommandError.{CommandError}
+use Rattle.desk_errors.specs.declared.error.CommandError.TheVariants as error
+use Rattle.formula_eval.specs.Mean.{mean}
+use Rattle.formula_eval.specs.declared.look.Scene.{Scene}
+use Rattle.sheet_store.specs.declared.writes.SavedSheet.{SavedSheet}
+use Rattle.work_sheet.proofs.Done.{did_both}
+use Rattle.work_sheet.specs.Did.{Did, DidEdit}
+use Rattle.work_sheet.specs.Doing.{recalculated, Done}
+use Rattle.work_sheet.specs.Editing.{restored}
+use Rattle.work_sheet.specs.Seen.{of_worksheet, Sheet}
+use Rattle.work_sheet.specs.Sheets.{Worksheet}
+
+-- the call was answered so
+abbrev IsAnswer : ShelfCall → Reply → ShelfView → ShelfView → Type 0
+IsAnswer call reply before now = HasAnswered (record { call = call; reply = reply }) before now
+
+-- a command by its one call, whose answer is this
+over : (call : ShelfCall) (act : Reply → DeskActed) (reply : Reply) (came : CommandEnd) (v w : declared.Desk) (m n : ℕ) (before now : ShelfView) →
+    HasActedOn (act reply) came v w m n → IsAnswer call reply before now →
+    HasActedOver (λ r. by_call call r act) came v w m n before now
+over call act reply came v w m n before now acted answered = record { reply = reply; acted = acted; answered = (now, answered, refl) }
+
+-- a refused command
+refused_on : (e : CommandError) (came : CommandEnd) (v : declared.Desk) (n : ℕ) → came ≡ Refused e → HasActedOn (refused e (of_desk v)) came v v n n
+refused_on e came v n is = record { end = is; desk = refl; work = refl }
+
+module _ (v : declared.Desk) (n : ℕ) (before now : ShelfView) where
+  -- a file was taken away
+  pub erased_over : (name : List ℕ) (came : CommandEnd) → HasCalled (removes name) end_of_remove came before now →
+      HasActedOver (λ r. by_call (removes name) r (taken_away (of_desk v))) came v v n n before now
+  erased_over name came called = by called.reply called.came_so called.answered
+    where
+      act : Reply → DeskActed
+      act = taken_away (of_desk v)
+
+      by : (r : Reply) → came ≡ end_of_remove r → IsAnswer (removes name) r before now →
+          HasActedOver (λ s. by_call (removes name) s (taken_away (of_desk v))) came v v n n before now
+      by (there true) e a = over (removes name) act (there true) came v v n n before now (record { end = e; desk = refl; work = refl }) a
+      by (there false) e a = over (removes name) act (there false) came v v n n before now (refused_on error.FileNotFound came v n e) a
+      by failed e a = over (removes name) act failed came v v n n before now (refused_on error.DiskError came v n e) a
+      by (loaded f) e a = over (removes name) act (loaded f) came v v n n before now (refused_on error.DiskError came v n e) a
+      by written e a = over (removes name) act written came v v n n before now (refused_on error.DiskError came v n e) a
+
+  -- a file was written, and the desk stays
+  pub written_over : (name bytes : List ℕ) (done : Bool) (came : CommandEnd) → came ≡ end_of_put done →
+      HasCalled (puts name bytes) is_written done before now →
+      HasActedOver (λ r. by_call (puts name bytes) r (written_out (of_desk v))) came v v n n before now
+  written_over name bytes done came is called = by called.reply (is ∙ ap end_of_put called.came_so) called.answered
+    where
+      act : Reply → DeskActed
+      act = written_out (of_desk v)
+
+      by : (r : Reply) → came ≡ end_of_put (is_written r) → IsAnswer (puts name bytes) r before now →
+          HasActedOver (λ s. by_call (puts name bytes) s (written_out (of_desk v))) came v v n n before now
+      by written e a = over (puts name bytes) act written came v v n n before now (record { end = e; desk = refl; work = refl }) a
+      by failed e a = over (puts name bytes) act failed came v v n n before now (refused_on error.DiskError came v n e) a
+      by (there b) e a = over (puts name bytes) act (there b) came v v n n before now (refused_on error.DiskError came v n e) a
+      by (loaded f) e a = over (puts name bytes) act (loaded f) came v v n n before now (refused_on error.DiskError came v n e) a
+
+  -- the sheet was saved
+  pub saved_over : (name bytes : List ℕ) (w : declared.Desk) →
+      HasActedOn (saved_as name (of_desk v) written) Finished v w n n → HasCalled (puts name bytes) is_written true before now →
+      HasActedOver (λ r. by_call (puts name bytes) r (saved_as name (of_desk v))) Finished v w n n before now
+  saved_over name bytes w acted called = by called.reply called.came_so called.answered
+    where
+      act : Reply → DeskActed
+      act = saved_as name (of_desk v)
+
+      by : (r : Reply) → true ≡ is_written r → IsAnswer (puts name bytes) r before now →
+          HasActedOver (λ s. by_call (puts name bytes) s (saved_as name (of_desk v))) Finished v w n n before now
+      by written e a = over (puts name bytes) act written Finished v w n n before now acted a
+      by failed e a = absurd (true≢false e)
+      by (there b) e a = absurd (true≢false e)
+      by (loaded f) e a = absurd (true≢false e)
+
+  -- it wasn't
+  pub unsaved_over : (name bytes : List ℕ) → HasCalled (puts name bytes) is_written false before now →
+      HasActedOver (λ r. by_call (puts name bytes) r (saved_as name (of_desk v))) (Refused error.DiskError) v v n n before now
+  unsaved_over name bytes called = by called.reply called.came_so called.answered
+    where
+      act : Reply → DeskActed
+      act = saved_as name (of_desk v)
+
+      by : (r : Reply) → false ≡ is_written r → IsAnswer (puts name bytes) r before now →
+          HasActedOver (λ s. by_call (puts name bytes) s (saved_as name (of_desk v))) (Refused error.DiskError) v v n n before now
+      by written e a = absurd (false≢true e)
+      by failed e a = over (puts name bytes) act failed (Refused error.DiskError) v v n n before now (refused_on error.DiskError (Refused error.DiskError) v n refl) a
+      by (there b) e a = over (puts name bytes) act (there b) (Refused error.DiskError) v v n n before now (refused_on error.DiskError (Refused error.DiskError) v n refl) a
+      by (loaded f) e a = over (puts name bytes) act (loaded f) (Refused error.DiskError) v v n n before now (refused_on error.DiskError (Refused error.DiskError) v n refl) a
+
+-- a sheet was loaded, or none
+abbrev IsSheet : Loaded → Type 0
+IsSheet (load.Sheet s) = Unit {0}
+IsSheet (load.Refused e) = ⊥
+
+abbrev sheet_or : SavedSheet → Loaded → SavedSheet
+sheet_or other (load.Sheet s) = s
+sheet_or other (load.Refused e) = other
+
+abbrev end_or : CommandEnd → Loaded → CommandEnd
+end_or other (load.Sheet s) = other
+end_or other (load.Refused e) = Refused e
+
+module _ (make : SavedSheet → DeskActed) (name : List ℕ) (v : declared.Desk) (before now : ShelfView) where
+  -- something was made of a file's sheet
+  pub made_over : (saved : SavedSheet) (came : CommandEnd) (w : declared.Desk) (m n : ℕ) → HasActedOn (make saved) came v w m n →
+      HasCalled (gets name) loaded_as (load.Sheet saved) before now →
+      HasActedOver (λ r. by_call (gets name) r (with_file make (of_desk v))) came v w m n before now
+  made_over saved came w m n acted called = by called.reply called.came_so called.answered
+    where
+      act : Reply → DeskActed
+      act = with_file make (of_desk v)
+
+      none : {e : CommandError} → load.Sheet saved ≡ load.Refused e → ⊥
+      none e = subst IsSheet e tt
+
+      by : (r : Reply) → load.Sheet saved ≡ loaded_as r → IsAnswer (gets name) r before now →
+          HasActedOver (λ s. by_call (gets name) s (with_file make (of_desk v))) came v w m n before now
+      by (loaded (Some (Ok s))) e a = over (gets name) act (loaded (Some (Ok s))) came v w m n before now
+          (subst (λ (x : SavedSheet). HasActedOn (make x) came v w m n) (ap (sheet_or saved) e) acted) a
+      by (loaded (Some (Err f))) e a = absurd (none e)
+      by (loaded None) e a = absurd (none e)
+      by failed e a = absurd (none e)
+      by (there b) e a = absurd (none e)
+      by written e a = absurd (none e)
+
+  -- the file was refused
+  pub refused_over : (why : CommandError) (n : ℕ) → HasCalled (gets name) loaded_as (load.Refused why) before now →
+      HasActedOver (λ r. by_call (gets name) r (with_file make (of_desk v))) (Refused why) v v n n before now
+  refused_over why n called = by called.reply called.came_so called.answered
+    where
+      act : Reply → DeskActed
+      act = with_file make (of_desk v)
+
+      is : {e : CommandError} → load.Refused why ≡ load.Refused e → Refused why ≡ Refused e
+      is e = ap (end_or (Refused why)) e
+
+      by : (r : Reply) → load.Refused why ≡ loaded_as r → IsAnswer (gets name) r before now →
+          HasActedOver (λ s. by_call (gets name) s (with_file make (of_desk v))) (Refused why) v v n n before now
+      by (loaded (Some (Ok s))) e a = absurd (subst IsSheet (sym e) tt)
+      by (loaded (Some (Err f))) e a = over (gets name) act (loaded (Some (Err f))) (Refused why) v v n n before now (refused_on _ (Refused why) v n (is e)) a
+      by (loaded None) e a = over (gets name) act (loaded None) (Refused why) v v n n before now (refused_on error.FileNotFound (Refused why) v n (is e)) a
+      by failed e a = over (gets name) act failed (Refused why) v v n n before now (refused_on error.DiskError (Refused why) v n (is e)) a
+      by (there b) e a = over (gets name) act (there b) (Refused why) v v n n before now (refused_on error.DiskError (Refused why) v n (is e)) a
+      by written e a = over (gets name) act written (Refused why) v v n n before now (refused_on error.DiskError (Refused why) v n (is e)) a
+
+-- what was done to the sheet alone
+pub done_on : (done : Done) (v : declared.Desk) (new : Worksheet) (m n : ℕ) → Did done v.sheet new m n →
+    HasActedOn (finished done (of_desk v)) Finished v (record v { sheet = new }) m n
+done_on done v new m n did = record { end = refl; desk = ap (λ (s : Sheet). on_sheet (of_desk v) s) did.sheet; work = did.work }
+
+pub acted_on : (act : Sheet → Acted) (came : CommandEnd) (v : declared.Desk) (new : Worksheet) (m n : ℕ) → HasActedBy act came v.sheet new m n →
+    HasActedOn (on_desk act (of_desk v)) came v (record v { sheet = new }) m n
+acted_on act came v new m n acted =
+    record { end = acted.end; desk = ap (λ (s : Sheet). on_sheet (of_desk v) s) acted.did.sheet; work = acted.did.work }
+
+-- a file's sheet took the place of the sheet, and was recalculated
+pub retrieved_acts : (saved : SavedSheet) (scene there_seen : Scene) (v mid w : Worksheet) (m n : ℕ) →
+    DidEdit (restored saved.store saved.names saved.settings) v mid → there_seen ≡ scene_in scene (of_worksheet mid) →
+    Did (recalculated mean there_seen (of_worksheet mid)) mid w m n → Did (retrieved_sheet saved scene (of_worksheet v)) v w m n
+retrieved_acts saved scene there_seen v mid w m n edit is did =
+    did_both (restored saved.store saved.names saved.settings (of_worksheet v)) (recalculated_there scene) v mid w m m n (edit m)
+    (subst (λ (t : Scene). Did (recalculated mean t (of_worksheet mid)) mid w m n) is did)

@@ -1,0 +1,34 @@
+use Rattle.std.proofs.Common.{subst}
+use Rattle.command_desk.proofs.Edited.{if_ok}
+use Rattle.command_desk.specs.Acting.{on_desk}
+use Rattle.command_desk.specs.Desks.{of_desk}
+use Rattle.commands_file.proofs.Broken.{called_broken, on_err}
+use Rattle.commands_file.proofs.Ended.{acted_on, made_over, refused_over}
+use Rattle.commands_file.specs.Calls.{gets, shelf_view}
+use Rattle.commands_file.specs.Combined.{combined}
+use Rattle.commands_file.specs.Steps.{loaded_as, HasCalled}
+use Rattle.commands_file.specs.declared.loading.Loaded.{Loaded}
+use Rattle.commands_file.proofs.acting.combine_file.Goals as goal
+
+pub returns-in-Sheet-clause-acted : goal.returns-in-Sheet-clause-acted
+returns-in-Sheet-clause-acted g c =
+    let v = c.args.desk.now in
+    let kind = c.args.kind in
+    let scene = c.args.scene.now in
+    if_ok c.combine.result (λ end acted.
+    made_over (λ saved. on_desk (combined kind saved.store scene) (of_desk v)) c.args.name.now v _ _ c.in-Sheet.saved end _ _ _
+    (acted_on (combined kind c.in-Sheet.saved.store scene) end v c.combine.new.sheet _ _ acted)
+    (subst (λ (l : Loaded). HasCalled (gets c.args.name.now) loaded_as l
+    (shelf_view (g.S.Shelf.holds c.args.shelf.now) (g.S.Shelf.faults c.args.shelf.now))
+    (shelf_view (g.S.Shelf.holds c.load.new.shelf) (g.S.Shelf.faults c.load.new.shelf))) c.in-Sheet.is c.in_ok-loaded.ensures.loaded)) c.combine.ensures
+
+pub returns-in-Sheet-clause-memory : goal.returns-in-Sheet-clause-memory
+returns-in-Sheet-clause-memory g c = on_err c.combine.result (called_broken _ _ _ _ _ c.in_ok-loaded.ensures.loaded)
+
+pub returns-in-Refused-clause-acted : goal.returns-in-Refused-clause-acted
+returns-in-Refused-clause-acted g c =
+    let v = c.args.desk.now in
+    refused_over (λ saved. on_desk (combined c.args.kind saved.store c.args.scene.now) (of_desk v)) c.args.name.now v _ _ c.in-Refused.error _
+    (subst (λ (l : Loaded). HasCalled (gets c.args.name.now) loaded_as l
+    (shelf_view (g.S.Shelf.holds c.args.shelf.now) (g.S.Shelf.faults c.args.shelf.now))
+    (shelf_view (g.S.Shelf.holds c.load.new.shelf) (g.S.Shelf.faults c.load.new.shelf))) c.in-Refused.is c.in_ok-loaded.ensures.loaded)

@@ -1,0 +1,5 @@
+pub mod Calls
+pub mod Combined
+pub mod Commands
+pub mod Extracted
+pub mod Steps

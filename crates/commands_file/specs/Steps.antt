@@ -1,0 +1,39 @@
+-- The steps of commands: what one call came to, and what is known where memory ran out.
+use Rattle.std.specs.Prelude.{◌≡◌, Bool, true, false, None, Some, Ok, Err}
+use Rattle.command_desk.specs.declared.ending.CommandEnd.{CommandEnd}
+use Rattle.command_desk.specs.declared.ending.CommandEnd.TheVariants.{Finished, Refused}
+use Rattle.commands_file.specs.Calls.{loaded, there, written, HasAnswered, Reply, ShelfCall, ShelfView}
+use Rattle.commands_file.specs.Commands.{fault_number}
+use Rattle.commands_file.specs.declared.loading.Loaded.{Loaded}
+use Rattle.commands_file.specs.declared.loading.Loaded.TheVariants as load
+use Rattle.desk_errors.specs.declared.error.CommandError.TheVariants as error
+
+-- A call was made, and came to this.
+pub record HasCalled {A : Type 0} (call : ShelfCall) (told : Reply → A) (came : A)
+    (before now : ShelfView) : Type 0 where
+  pub reply : Reply
+  pub came_so : came ≡ told reply
+  pub answered : HasAnswered (record { call = call; reply = reply }) before now
+
+-- what a file was loaded as, or why it wasn't
+abbrev pub loaded_as : Reply → Loaded
+loaded_as (loaded (Some (Ok saved))) = load.Sheet saved
+loaded_as (loaded (Some (Err f))) = load.Refused (error.FileRefused (fault_number f))
+loaded_as (loaded None) = load.Refused error.FileNotFound
+loaded_as r = load.Refused error.DiskError
+
+-- whether a file was written
+abbrev pub is_written : Reply → Bool
+is_written written = true
+is_written r = false
+
+-- what the writing of a file comes to
+abbrev pub end_of_put : Bool → CommandEnd
+end_of_put true = Finished
+end_of_put false = Refused error.DiskError
+
+-- what taking a file away comes to
+abbrev pub end_of_remove : Reply → CommandEnd
+end_of_remove (there true) = Finished
+end_of_remove (there false) = Refused error.FileNotFound
+end_of_remove r = Refused error.DiskError

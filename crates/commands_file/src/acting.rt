@@ -1,0 +1,237 @@
+// What each command below File does.
+ghost use Rattle.std.specs.Prelude.{◌≡◌, ℕ, IfOk, OnErr, OnOk};
+ghost use Rattle.command_desk.specs.Answered.{span_at};
+ghost use Rattle.command_desk.specs.Desks.{of_desk};
+ghost use Rattle.commands_file.specs.Calls.{gets, puts, shelf_view, HasBrokenOff};
+ghost use Rattle.commands_file.specs.Commands.{act, act_named, by_call, combined_with, extracted_to, retrieved};
+ghost use Rattle.commands_file.specs.Commands.{retrieved_sheet, saved_as, saved_of, HasActedOver};
+ghost use Rattle.commands_file.specs.Extracted.{extracted};
+ghost use Rattle.commands_file.specs.Steps.{end_of_put, is_written, HasCalled};
+ghost use Rattle.wk1_file.specs.Saved.{file_bytes};
+ghost use Rattle.work_sheet.specs.Did.{Did};
+ghost use Rattle.work_sheet.specs.Seen.{of_worksheet};
+
+use crate::calling::{put_sheet, remove};
+use crate::combining::{Combining, combine, pointer_of};
+use crate::extracting::{Extracting, extracted};
+use crate::loading::{Loaded, load};
+use command_desk::{CommandEnd, Desk, line_at, span_at};
+use desk_errors::CommandError;
+use formula_eval::{Scene, Tally};
+use grid_address::Span;
+use menu_tree::FileAction;
+use outside_world::{FileName, Memory, Shelf};
+use session_rooms::Answers;
+use sheet_store::SavedSheet;
+use work_sheet::Sheet;
+
+// A file's sheet takes the place of the sheet, and is recalculated, seen from where its pointer stands.
+fn replace(
+    saved: SavedSheet,
+    sheet: &mut Sheet,
+    scene: &Scene,
+    tally: &mut Tally,
+) -> Result<(), Memory>
+    ensures { let done = retrieved_sheet saved scene.entry.now (of_worksheet sheet.old) in
+        OnOk result (Did done sheet.old sheet.new tally.old.count tally.new.count) }
+{
+    *sheet = Sheet::restore(saved)?;
+    let there = Scene {
+        cursor: pointer_of(sheet),
+        now: scene.now,
+    };
+    sheet.calc(&there, tally)
+}
+
+// A file is retrieved.
+fn retrieve<S: Shelf>(
+    name: &FileName,
+    desk: &mut Desk,
+    shelf: &mut S,
+    scene: &Scene,
+    tally: &mut Tally,
+) -> Result<CommandEnd, Memory>
+    ensures acted { IfOk result (λ end. HasActedOver
+        (λ reply. by_call (gets name.now) reply (retrieved scene.entry.now (of_desk desk.old))) end desk.old desk.new
+        tally.old.count tally.new.count
+        (shelf_view (S.holds shelf.old) (S.faults shelf.old)) (shelf_view (S.holds shelf.new) (S.faults shelf.new))) }
+    ensures memory { OnErr result (HasBrokenOff
+        (shelf_view (S.holds shelf.old) (S.faults shelf.old)) (shelf_view (S.holds shelf.new) (S.faults shelf.new))) }
+{
+    let loaded = load(name, desk.sheet.alloc(), shelf)?;
+    match loaded {
+        Loaded::Sheet(saved) => {
+            replace(saved, &mut desk.sheet, scene, tally)?;
+            Ok(CommandEnd::Finished)
+        }
+        Loaded::Refused(error) => Ok(CommandEnd::Refused(error)),
+    }
+}
+
+// A file's cells are combined with those of the sheet.
+fn combine_file<S: Shelf>(
+    kind: Combining,
+    name: &FileName,
+    desk: &mut Desk,
+    shelf: &mut S,
+    scene: &Scene,
+    tally: &mut Tally,
+) -> Result<CommandEnd, Memory>
+    ensures acted { IfOk result (λ end. HasActedOver
+        (λ reply. by_call (gets name.now) reply (combined_with kind scene.entry.now (of_desk desk.old))) end desk.old
+        desk.new tally.old.count tally.new.count
+        (shelf_view (S.holds shelf.old) (S.faults shelf.old)) (shelf_view (S.holds shelf.new) (S.faults shelf.new))) }
+    ensures memory { OnErr result (HasBrokenOff
+        (shelf_view (S.holds shelf.old) (S.faults shelf.old)) (shelf_view (S.holds shelf.new) (S.faults shelf.new))) }
+{
+    let loaded = load(name, desk.sheet.alloc(), shelf)?;
+    match loaded {
+        Loaded::Sheet(saved) => combine(kind, &saved.store, &mut desk.sheet, scene, tally),
+        Loaded::Refused(error) => Ok(CommandEnd::Refused(error)),
+    }
+}
+
+// The sheet is saved under a name, which the next save offers.
+fn save<S: Shelf>(name: FileName, desk: &mut Desk, shelf: &mut S) -> Result<CommandEnd, Memory>
+    ensures acted { IfOk result (λ end. (n : ℕ) → HasActedOver (λ reply.
+        by_call (puts name (file_bytes (saved_of (of_worksheet desk.old.sheet)))) reply
+        (saved_as name (of_desk desk.old)))
+        end desk.old desk.new n n
+        (shelf_view (S.holds shelf.old) (S.faults shelf.old)) (shelf_view (S.holds shelf.new) (S.faults shelf.new))) }
+    ensures memory { OnErr result (HasBrokenOff
+        (shelf_view (S.holds shelf.old) (S.faults shelf.old)) (shelf_view (S.holds shelf.new) (S.faults shelf.new))) }
+{
+    let saved = desk.sheet.snapshot()?;
+    let written = put_sheet(&name, &saved, shelf)?;
+    if written {
+        desk.file_name = Some(name);
+        Ok(CommandEnd::Finished)
+    } else {
+        Ok(CommandEnd::Refused(CommandError::DiskError))
+    }
+}
+
+// What is saved of a span is written; false tells that the call failed.
+fn extract_span<S: Shelf>(
+    kind: Extracting,
+    name: &FileName,
+    span: Span,
+    sheet: &Sheet,
+    shelf: &mut S,
+) -> Result<bool, Memory>
+    ensures put { IfOk result (λ done. HasCalled
+        (puts name.now (file_bytes (extracted kind span (of_worksheet sheet.now)))) is_written done
+        (shelf_view (S.holds shelf.old) (S.faults shelf.old)) (shelf_view (S.holds shelf.new) (S.faults shelf.new))) }
+    ensures memory { OnErr result (HasBrokenOff
+        (shelf_view (S.holds shelf.old) (S.faults shelf.old)) (shelf_view (S.holds shelf.new) (S.faults shelf.new))) }
+{
+    let saved = extracted(kind, span, sheet)?;
+    put_sheet(name, &saved, shelf)
+}
+
+// What the writing of a file comes to.
+fn end_of_put(written: bool) -> CommandEnd
+    ensures { result ≡ end_of_put written }
+{
+    if written {
+        CommandEnd::Finished
+    } else {
+        CommandEnd::Refused(CommandError::DiskError)
+    }
+}
+
+// What is saved of the span that the second answer is, is written.
+fn extract<S: Shelf>(
+    kind: Extracting,
+    name: &FileName,
+    answers: &Answers,
+    desk: &Desk,
+    shelf: &mut S,
+) -> Result<CommandEnd, Memory>
+    ensures acted { IfOk result (λ end. (n : ℕ) → HasActedOver
+        (extracted_to kind name.now (span_at desk.now.sheet.names answers.now 1) (of_desk desk.now)) end
+        desk.now desk.now n n
+        (shelf_view (S.holds shelf.old) (S.faults shelf.old)) (shelf_view (S.holds shelf.new) (S.faults shelf.new))) }
+    ensures memory { OnErr result (HasBrokenOff
+        (shelf_view (S.holds shelf.old) (S.faults shelf.old)) (shelf_view (S.holds shelf.new) (S.faults shelf.new))) }
+{
+    match span_at(desk.sheet.names(), answers, 1) {
+        Ok(span) => {
+            let written = extract_span(kind, name, span, &desk.sheet, shelf)?;
+            Ok(end_of_put(written))
+        }
+        Err(error) => Ok(CommandEnd::Refused(error)),
+    }
+}
+
+// A command whose first answer is this file's name.
+fn act_named<S: Shelf>(
+    action: FileAction,
+    answers: &Answers,
+    name: FileName,
+    desk: &mut Desk,
+    shelf: &mut S,
+    scene: &Scene,
+    tally: &mut Tally,
+) -> Result<CommandEnd, Memory>
+    ensures acted { IfOk result (λ end. HasActedOver
+        (act_named action answers.now name scene.entry.now (of_desk desk.old)) end desk.old desk.new
+        tally.old.count tally.new.count
+        (shelf_view (S.holds shelf.old) (S.faults shelf.old)) (shelf_view (S.holds shelf.new) (S.faults shelf.new))) }
+    ensures memory { OnErr result (HasBrokenOff
+        (shelf_view (S.holds shelf.old) (S.faults shelf.old)) (shelf_view (S.holds shelf.new) (S.faults shelf.new))) }
+{
+    match action {
+        FileAction::Retrieve => retrieve(&name, desk, shelf, scene, tally),
+        FileAction::Save => save(name, desk, shelf),
+        FileAction::Erase => remove(&name, shelf),
+        FileAction::CombineCopy => combine_file(Combining::Copy, &name, desk, shelf, scene, tally),
+        FileAction::CombineAdd => combine_file(Combining::Add, &name, desk, shelf, scene, tally),
+        FileAction::CombineSubtract => {
+            combine_file(Combining::Subtract, &name, desk, shelf, scene, tally)
+        }
+        FileAction::XtractFormulas => extract(Extracting::Formulas, &name, answers, desk, shelf),
+        FileAction::XtractValues => extract(Extracting::Values, &name, answers, desk, shelf),
+    }
+}
+
+/// Carries out a command below File, whose first answer is the name of a worksheet's file (Release 2 manual):
+/// - Retrieve reads the file, which takes the place of the sheet, and recalculates all in both modes, seen from where
+///   the pointer then stands. It keeps no file name (this project's choice).
+/// - Save writes the sheet, in the place of a file of that name, and keeps the name for the next save.
+/// - Combine reads a file and puts its A1 at the pointer. Copy writes its filled cells with their formats. Add and
+///   Subtract take its cells whose value is a number, and write onto those of the sheet that hold a number or nothing:
+///   others stay, and a sum beyond the size becomes `@ERR`. In Automatic mode a recalculation follows.
+/// - Xtract writes the cells of the range that the second answer is, moved to A1 as Move does, with the settings and
+///   without names, columns' own widths and hidden columns. Values writes them as Range Value does.
+/// - Erase takes the file away.
+///
+/// At most one call of the shelf is made: `get` for Retrieve and Combine, `put` for Save and Xtract, and `remove` for
+/// Erase.
+/// `InvalidFileName` comes exactly where the first answer is no file's name, and for Xtract then `InvalidAddress` and
+/// `NameNotFound` by its second one, all without a call. `DiskError` comes exactly where the call failed, and the
+/// shelf's count of faults rose in it; `FileNotFound` where there is no such file, and `FileRefused` where it is no
+/// worksheet file. Combine is then refused by `OutOfSheet`, with the span from A1 to the file's last used column and
+/// row, exactly where a cell that it takes would stand past the sheet, and by `Protected` with the first written cell
+/// in row order that is protected, where protection is on. A refused command leaves the desk as it was. After want of
+/// memory the sheet is open, but keeps what it keeps, and no file but the one that the command writes or takes away has
+/// changed.
+pub fn act<S: Shelf>(
+    action: FileAction,
+    answers: &Answers,
+    desk: &mut Desk,
+    shelf: &mut S,
+    scene: &Scene,
+    tally: &mut Tally,
+) -> Result<CommandEnd, Memory>
+    ensures acted { IfOk result (λ end. HasActedOver (act action answers.now scene.entry.now (of_desk desk.old)) end
+        desk.old desk.new tally.old.count tally.new.count
+        (shelf_view (S.holds shelf.old) (S.faults shelf.old)) (shelf_view (S.holds shelf.new) (S.faults shelf.new))) }
+    ensures memory { OnErr result (HasBrokenOff
+        (shelf_view (S.holds shelf.old) (S.faults shelf.old)) (shelf_view (S.holds shelf.new) (S.faults shelf.new))) }
+{
+    match FileName::of(line_at(answers, 0)) {
+        Some(name) => act_named(action, answers, name, desk, shelf, scene, tally),
+        None => Ok(CommandEnd::Refused(CommandError::InvalidFileName(0))),
+    }
+}

@@ -1,0 +1,75 @@
+// Files that are written and taken away.
+ghost use Rattle.std.specs.Prelude.{◌≡◌, IfOk, OnErr};
+ghost use Rattle.commands_file.specs.Calls.{puts, removes, shelf_view, HasBrokenOff};
+ghost use Rattle.commands_file.specs.Calls as reply;
+ghost use Rattle.commands_file.specs.Steps.{end_of_remove, is_written, HasCalled};
+ghost use Rattle.wk1_file.specs.Saved.{file_bytes};
+
+use command_desk::CommandEnd;
+use desk_errors::CommandError;
+use outside_world::{ByteList, FileName, Memory, Shelf, ShelfFault};
+use sheet_store::SavedSheet;
+use std::alloc::Global;
+use wk1_file::write;
+
+// The bytes of a sheet's file.
+fn bytes_of(alloc: Global, saved: &SavedSheet) -> Result<ByteList, Memory>
+    ensures { IfOk result (λ bytes. bytes ≡ file_bytes saved.now) }
+{
+    let bytes = write(alloc, saved)?;
+    ByteList::from_slice(alloc, bytes.as_slice())
+}
+
+// Bytes are written as a file; false tells that the call failed.
+fn put_bytes<S: Shelf>(name: &FileName, bytes: &ByteList, shelf: &mut S) -> Result<bool, Memory>
+    ensures put { IfOk result (λ done. HasCalled (puts name.now bytes.now) is_written done
+        (shelf_view (S.holds shelf.old) (S.faults shelf.old)) (shelf_view (S.holds shelf.new) (S.faults shelf.new))) }
+    ensures memory { OnErr result (HasBrokenOff
+        (shelf_view (S.holds shelf.old) (S.faults shelf.old)) (shelf_view (S.holds shelf.new) (S.faults shelf.new))) }
+{
+    match shelf.put(name, bytes) {
+        Ok(()) => Ok(true),
+        Err(ShelfFault::Failed) => Ok(false),
+        Err(ShelfFault::Memory) => Err(Memory),
+    }
+}
+
+/// A sheet is written as a file; false tells that the call failed.
+pub(crate) fn put_sheet<S: Shelf>(
+    name: &FileName,
+    saved: &SavedSheet,
+    shelf: &mut S,
+) -> Result<bool, Memory>
+    ensures put { IfOk result (λ done. HasCalled (puts name.now (file_bytes saved.now)) is_written done
+        (shelf_view (S.holds shelf.old) (S.faults shelf.old)) (shelf_view (S.holds shelf.new) (S.faults shelf.new))) }
+    ensures memory { OnErr result (HasBrokenOff
+        (shelf_view (S.holds shelf.old) (S.faults shelf.old)) (shelf_view (S.holds shelf.new) (S.faults shelf.new))) }
+{
+    let bytes = bytes_of(saved.store.alloc(), saved)?;
+    put_bytes(name, &bytes, shelf)
+}
+
+// What taking a file away comes to, by whether it was there.
+fn end_of_remove(there: bool) -> CommandEnd
+    ensures { result ≡ end_of_remove (reply.there there) }
+{
+    if there {
+        CommandEnd::Finished
+    } else {
+        CommandEnd::Refused(CommandError::FileNotFound)
+    }
+}
+
+/// A file is taken away.
+pub(crate) fn remove<S: Shelf>(name: &FileName, shelf: &mut S) -> Result<CommandEnd, Memory>
+    ensures removed { IfOk result (λ end. HasCalled (removes name.now) end_of_remove end
+        (shelf_view (S.holds shelf.old) (S.faults shelf.old)) (shelf_view (S.holds shelf.new) (S.faults shelf.new))) }
+    ensures memory { OnErr result (HasBrokenOff
+        (shelf_view (S.holds shelf.old) (S.faults shelf.old)) (shelf_view (S.holds shelf.new) (S.faults shelf.new))) }
+{
+    match shelf.remove(name) {
+        Ok(there) => Ok(end_of_remove(there)),
+        Err(ShelfFault::Failed) => Ok(CommandEnd::Refused(CommandError::DiskError)),
+        Err(ShelfFault::Memory) => Err(Memory),
+    }
+}

@@ -1,0 +1,279 @@
+// A file's cells are combined with those of the sheet.
+ghost use Rattle.std.specs.Prelude.{◌≡◌, ◌++◌, ◌∷◌, [], not, IfOk, OnOk, Some};
+ghost use Rattle.std.specs.FinMap as map;
+ghost use Rattle.std.specs.List.{list_any};
+ghost use Rattle.command_desk.specs.Acting.{HasActedBy};
+ghost use Rattle.commands_file.specs.Combined.{combined, combined_writes, is_number, is_taken, leaves_sheet};
+ghost use Rattle.commands_file.specs.Combined.{number_held, number_or_err, placed, total, totalled, used_span};
+ghost use Rattle.commands_file.specs.Combined.{write_at, write_of, written_in};
+ghost use Rattle.sheet_store.specs.Grid.{is_blank};
+ghost use Rattle.work_sheet.specs.Seen.{of_worksheet};
+
+use block_writes::{content_of, written};
+use command_desk::{CommandEnd, settled};
+use desk_errors::CommandError;
+use fixed_value::Fixed;
+use formula_eval::{Scene, Tally};
+use formula_tree::{Content, Value};
+use grid_address::{Cell, Span};
+use lics_text::Memory;
+use sheet_store::{CellState, Store, Write, Writes};
+use std::alloc::Global;
+use work_sheet::Sheet;
+
+// How many rows and columns the sheet has.
+const ROWS: u16 = 8192;
+
+const COLS: u16 = 256;
+
+/// How a file's cells are combined with those of the sheet.
+#[derive(Clone, Copy, Debug, PartialEq, Eq)]
+pub enum Combining {
+    /// They take the place of the sheet's.
+    Copy,
+    /// Their numbers are added to those of the sheet.
+    Add,
+    /// Their numbers are subtracted from those of the sheet.
+    Subtract,
+}
+
+// Whether a value is a number.
+fn is_number(value: &Value) -> bool
+    ensures { result ≡ is_number value.now }
+{
+    match value {
+        Value::Num(_) => true,
+        Value::Blank | Value::Str(_) | Value::Err | Value::Na => false,
+    }
+}
+
+// Whether a content is something.
+fn is_filled(content: &Content) -> bool
+    ensures { result ≡ not (is_blank content.now) }
+{
+    match content {
+        Content::Blank => false,
+        Content::Number(_) | Content::Label(_, _) | Content::Formula(_) => true,
+    }
+}
+
+// Whether a file's cell is taken: all that are filled, or those whose value is a number.
+fn is_taken(kind: Combining, state: &CellState) -> bool
+    ensures { result ≡ is_taken kind state.now }
+{
+    match kind {
+        Combining::Copy => is_filled(&state.content),
+        Combining::Add | Combining::Subtract => is_number(&state.value),
+    }
+}
+
+// Where a file's cell stands whose A1 stands at the pointer; none past the sheet.
+fn placed(pointer: Cell, cell: Cell) -> Option<Cell>
+    ensures { result ≡ placed pointer cell }
+{
+    let row = pointer.row + cell.row;
+    let col = u16::from(pointer.col) + u16::from(cell.col);
+    if row < ROWS && col < COLS {
+        Some(Cell {
+            row,
+            col: col as u8,
+        })
+    } else {
+        None
+    }
+}
+
+// Whether a file's cell is taken and would stand past the sheet.
+fn leaves_sheet(kind: Combining, pointer: Cell, cell: Cell, state: &CellState) -> bool
+    ensures { result ≡ leaves_sheet kind pointer (cell, state.now) }
+{
+    is_taken(kind, state) && placed(pointer, cell).is_none()
+}
+
+// Whether one of a file's cells does.
+fn one_leaves(kind: Combining, pointer: Cell, file: &Store) -> bool
+    ensures { result ≡ list_any (leaves_sheet kind pointer) (map.entries file.now.cells) }
+{
+    let mut entries = file.entries();
+    while let Some(entry) = entries.next() {
+        if leaves_sheet(kind, pointer, entry.0, entry.1) {
+            return true;
+        }
+    }
+    false
+}
+
+// The number that a cell holds; nothing is 0, and any other content is none.
+fn number_held(sheet: &Store, cell: Cell) -> Option<Fixed>
+    ensures { result ≡ number_held (map.get sheet.now.cells cell) }
+{
+    let Some(state) = sheet.get(cell) else {
+        return Some(Fixed::ZERO);
+    };
+    match &state.content {
+        Content::Blank => Some(Fixed::ZERO),
+        Content::Number(number) => Some(*number),
+        Content::Label(_, _) | Content::Formula(_) => None,
+    }
+}
+
+// A file's number is added to a cell's, or subtracted from it.
+fn total(kind: Combining, here: Fixed, number: Fixed) -> Option<Fixed>
+    ensures { result ≡ total kind here number }
+{
+    match kind {
+        Combining::Subtract => here.sub(number),
+        Combining::Copy | Combining::Add => here.add(number),
+    }
+}
+
+// A number as a content; one beyond the size is `@ERR`.
+fn number_or_err(alloc: Global, number: Option<Fixed>) -> Result<Content, Memory>
+    ensures { IfOk result (λ content. content ≡ number_or_err number) }
+{
+    match number {
+        Some(number) => Ok(Content::Number(number)),
+        None => content_of(alloc, &Value::Err),
+    }
+}
+
+// Adds a file's content and format for a cell.
+fn push_copy(writes: &mut Writes, cell: Cell, state: &CellState) -> Result<(), Memory>
+    ensures { OnOk result (writes.new ≡ writes.old
+        ++ record { cell = cell; content = state.now.content; format = Some state.now.format } ∷ []) }
+{
+    let content = state.content.copy()?;
+    writes.push(Write {
+        cell,
+        content,
+        format: Some(state.format),
+    })
+}
+
+// Adds a file's number with that of the cell, where the cell holds one.
+fn push_total(
+    writes: &mut Writes,
+    kind: Combining,
+    sheet: &Store,
+    cell: Cell,
+    state: &CellState,
+) -> Result<(), Memory>
+    ensures { OnOk result (writes.new
+        ≡ writes.old ++ totalled kind cell (number_held (map.get sheet.now.cells cell)) state.now.value) }
+{
+    let Value::Num(number) = &state.value else {
+        return Ok(());
+    };
+    let Some(here) = number_held(sheet, cell) else {
+        return Ok(());
+    };
+    let content = number_or_err(sheet.alloc(), total(kind, here, *number))?;
+    writes.push(written(cell, content))
+}
+
+// Adds what is written of a file's cell that is taken.
+fn push_taken(
+    writes: &mut Writes,
+    kind: Combining,
+    sheet: &Store,
+    cell: Cell,
+    state: &CellState,
+) -> Result<(), Memory>
+    ensures { OnOk result (writes.new ≡ writes.old ++ write_at kind sheet.now cell state.now) }
+{
+    match kind {
+        Combining::Copy => push_copy(writes, cell, state),
+        Combining::Add | Combining::Subtract => push_total(writes, kind, sheet, cell, state),
+    }
+}
+
+// Adds what is written of a file's cell.
+fn push_write(
+    writes: &mut Writes,
+    kind: Combining,
+    sheet: &Store,
+    pointer: Cell,
+    cell: Cell,
+    state: &CellState,
+) -> Result<(), Memory>
+    ensures { OnOk result (writes.new ≡ writes.old ++ write_of kind sheet.now pointer (cell, state.now)) }
+{
+    if !is_taken(kind, state) {
+        return Ok(());
+    }
+    match placed(pointer, cell) {
+        Some(to) => push_taken(writes, kind, sheet, to, state),
+        None => Ok(()),
+    }
+}
+
+// What is written of a file's cells, in row order, over the cells of the sheet.
+fn combined_writes(
+    kind: Combining,
+    file: &Store,
+    sheet: &Store,
+    pointer: Cell,
+) -> Result<Writes, Memory>
+    ensures { IfOk result (λ writes. writes ≡ combined_writes kind file.now sheet.now pointer) }
+{
+    let mut writes = Writes::new(sheet.alloc());
+    let mut entries = file.entries();
+    while let Some(entry) = entries.next() {
+        push_write(&mut writes, kind, sheet, pointer, entry.0, entry.1)?;
+    }
+    Ok(writes)
+}
+
+// The span from A1 to the last used column and row.
+fn used_span(file: &Store) -> Span
+    ensures { result ≡ used_span file.now }
+{
+    let first = Cell { row: 0, col: 0 };
+    match file.last_used() {
+        Some(last) => Span { first, last },
+        None => Span { first, last: first },
+    }
+}
+
+/// Where the pointer of a sheet stands.
+pub(crate) fn pointer_of(sheet: &Sheet) -> Cell
+    ensures { result ≡ sheet.now.settings.pointer }
+{
+    sheet.settings().pointer
+}
+
+// A file's cells are written into the sheet.
+fn written_in(
+    kind: Combining,
+    file: &Store,
+    sheet: &mut Sheet,
+    scene: &Scene,
+    tally: &mut Tally,
+) -> Result<CommandEnd, Memory>
+    ensures { IfOk result (λ end. HasActedBy (written_in kind file.now scene.entry.now)
+        end sheet.old sheet.new tally.old.count tally.new.count) }
+{
+    let pointer = pointer_of(sheet);
+    let writes = combined_writes(kind, file, sheet.cells(), pointer)?;
+    let answer = sheet.write(&writes);
+    settled(answer, sheet, scene, tally)
+}
+
+/// A file's cells are combined with those of the sheet, unless one of them would stand past it: then `OutOfSheet`
+/// carries the span from A1 to the file's last used column and row.
+pub(crate) fn combine(
+    kind: Combining,
+    file: &Store,
+    sheet: &mut Sheet,
+    scene: &Scene,
+    tally: &mut Tally,
+) -> Result<CommandEnd, Memory>
+    ensures { IfOk result (λ end. HasActedBy (combined kind file.now scene.entry.now)
+        end sheet.old sheet.new tally.old.count tally.new.count) }
+{
+    let pointer = pointer_of(sheet);
+    if one_leaves(kind, pointer, file) {
+        return Ok(CommandEnd::Refused(CommandError::OutOfSheet(used_span(file))));
+    }
+    written_in(kind, file, sheet, scene, tally)
+}

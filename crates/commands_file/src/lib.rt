@@ -1,0 +1,12 @@
+//! The commands below File, over the desk and the shelf of files.
+#![tactic(auto)]
+
+mod acting;
+mod calling;
+mod combining;
+mod extracting;
+mod loading;
+mod looking;
+
+pub use acting::act;
+pub use looking::{Looked, look};

@@ -1,0 +1,36 @@
+// Whether a file is there.
+ghost use Rattle.std.specs.Prelude.{IfOk, OnErr};
+ghost use Rattle.commands_file.specs.Calls.{shelf_view, HasBrokenOff};
+ghost use Rattle.commands_file.specs.Commands.{looked, HasLooked};
+
+use command_desk::line_at;
+use desk_errors::CommandError;
+use outside_world::{FileName, Memory, Shelf, ShelfFault};
+use session_rooms::Answers;
+
+/// What a look at the shelf comes to.
+#[derive(Clone, Copy, Debug, PartialEq, Eq)]
+pub enum Looked {
+    /// Whether the file is there.
+    There(bool),
+    /// That can't be told, for this error.
+    Unknown(CommandError),
+}
+
+/// Whether the file that the first answer names is there. `DiskError` comes exactly where the shelf fails. No file is
+/// changed.
+pub fn look<S: Shelf>(answers: &Answers, shelf: &mut S) -> Result<Looked, Memory>
+    ensures looked { IfOk result (λ came. HasLooked (looked answers.now) came
+        (shelf_view (S.holds shelf.old) (S.faults shelf.old)) (shelf_view (S.holds shelf.new) (S.faults shelf.new))) }
+    ensures memory { OnErr result (HasBrokenOff
+        (shelf_view (S.holds shelf.old) (S.faults shelf.old)) (shelf_view (S.holds shelf.new) (S.faults shelf.new))) }
+{
+    let Some(name) = FileName::of(line_at(answers, 0)) else {
+        return Ok(Looked::Unknown(CommandError::InvalidFileName(0)));
+    };
+    match shelf.has(&name) {
+        Ok(there) => Ok(Looked::There(there)),
+        Err(ShelfFault::Failed) => Ok(Looked::Unknown(CommandError::DiskError)),
+        Err(ShelfFault::Memory) => Err(Memory),
+    }
+}

@@ -1,0 +1,5 @@
+//! Tests of the commands on files.
+#![tactic(auto)]
+
+#[cfg(test)]
+mod commands;
