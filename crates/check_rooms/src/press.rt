@@ -41,7 +41,7 @@ fn fail(desk: &mut Desk, error: CommandError) {
 }
 
 fn ask(desk: &mut Desk, command: AnsweredCommand) -> Result<(), Stop> {
-    match opening(&command, desk.sheet.settings().pointer) {
+    match opening(&command, desk.sheet.settings().pointer, &None) {
         WhatFollows::Asks(answering) => {
             desk.room = Room::Asking(PromptRoom { command, answering });
             Ok(())

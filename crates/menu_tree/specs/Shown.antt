@@ -13,9 +13,6 @@ use Rattle.menu_tree.specs.declared.menu.Menu.TheVariants as menu
 
 -- the menus below which no command is built yet
 abbrev pub is_menu_built : Menu → Bool
-is_menu_built menu.File = false
-is_menu_built menu.Combine = false
-is_menu_built menu.Xtract = false
 is_menu_built menu.Print = false
 is_menu_built menu.PrintFileMenu = false
 is_menu_built menu.Options = false
@@ -38,7 +35,7 @@ abbrev pub is_built : Action → Bool
 is_built (action.Common a) = is_common_built a
 is_built (action.Worksheet a) = true
 is_built (action.Range a) = true
-is_built (action.File a) = false
+is_built (action.File a) = true
 is_built (action.Print a) = false
 is_built (action.Data a) = false
 

@@ -5,11 +5,12 @@ ghost use Rattle.menu_tree.specs.Shown.{shown};
 use crate::tables::items;
 use crate::{Action, CommonAction, Item, Menu};
 
-const MAIN: [Item; 5] = [
+const MAIN: [Item; 6] = [
     Item::Menu(Menu::Worksheet),
     Item::Menu(Menu::Range),
     Item::Action(Action::Common(CommonAction::Copy)),
     Item::Action(Action::Common(CommonAction::Move)),
+    Item::Menu(Menu::File),
     Item::Menu(Menu::Quit),
 ];
 
@@ -19,7 +20,6 @@ pub fn shown(menu: Menu) -> &'static [Item]
 {
     match menu {
         Menu::Main => &MAIN,
-        Menu::File | Menu::Combine | Menu::Xtract => &[],
         Menu::Print | Menu::PrintFileMenu | Menu::Options | Menu::Margins => &[],
         Menu::Data | Menu::Table | Menu::Sort | Menu::Query | Menu::QueryDelete => &[],
         Menu::Worksheet | Menu::Global | Menu::GlobalFormat | Menu::GlobalDate => items(menu),
@@ -27,6 +27,6 @@ pub fn shown(menu: Menu) -> &'static [Item]
         Menu::LabelPrefix | Menu::Recalculation | Menu::Protection => items(menu),
         Menu::Column | Menu::WorksheetErase => items(menu),
         Menu::Range | Menu::RangeFormat | Menu::RangeDate | Menu::Label => items(menu),
-        Menu::Name | Menu::Quit => items(menu),
+        Menu::Name | Menu::File | Menu::Combine | Menu::Xtract | Menu::Quit => items(menu),
     }
 }

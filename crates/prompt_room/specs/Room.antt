@@ -13,9 +13,9 @@ use Rattle.desk_errors.specs.declared.error.CommandError.{CommandError}
 use Rattle.desk_answers.specs.Readings.{refusal_of}
 use Rattle.menu_room.specs.Ring.{highlighted}
 use Rattle.point_room.specs.Pointing.{answer_text, steered}
-use Rattle.prompt_room.specs.Opening.{next_ask}
+use Rattle.prompt_room.specs.Opening.{line_in, next_ask}
 use Rattle.session_rooms.specs.Bytes.{dot}
-use Rattle.session_rooms.specs.Lines.{fits_line, line_of}
+use Rattle.session_rooms.specs.Lines.{line_of}
 use Rattle.session_rooms.specs.declared.answers.AnsweredCommand.{AnsweredCommand}
 use Rattle.session_rooms.specs.declared.pointed.Pointed.{Pointed}
 use Rattle.session_rooms.specs.declared.rooms.Answering.{Answering}
@@ -60,11 +60,6 @@ or_first (Some name) names = Some name
 -- the range name that comes after a text, in a circle
 abbrev pub name_behind : NameMap → List ℕ → Option (List ℕ)
 name_behind names text = or_first (next_name names text) names
-
--- the line of a name, where there is one
-abbrev pub line_in : Option (List ℕ) → Option Entry
-line_in None = None
-line_in (Some name) = if fits_line name then Some (line_of name) else None
 
 -- the name behind a text, where one can be given
 abbrev pub name_line : Option Ask → NameMap → List ℕ → Option Entry

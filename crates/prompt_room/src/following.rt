@@ -1,12 +1,13 @@
 // How a prompt begins.
-ghost use Rattle.std.specs.Prelude.{◌≡◌};
+ghost use Rattle.std.specs.Prelude.{◌≡◌, Some};
 ghost use Rattle.point_room.specs.Pointing.{anchored_at, pointed_at};
-ghost use Rattle.prompt_room.specs.Opening.{next_ask, opened_by, opening};
+ghost use Rattle.prompt_room.specs.Opening.{file_answering, kept_or_typed, line_in, next_ask, opened_by, opening};
 
 use entry_line::EntryLine;
 use grid_address::Cell;
-use menu_tree::{Ask, prompts};
-use session_rooms::{AnsweredCommand, Answering, Pointed, Signs};
+use menu_tree::{Action, Ask, FileAction, prompts};
+use outside_world::FileName;
+use session_rooms::{AnsweredCommand, Answering, Pointed, Signs, fits_line};
 
 /// What follows where a command has some answers.
 #[derive(Drop)]
@@ -48,24 +49,58 @@ fn anchored_at(cell: Cell) -> Pointed
     }
 }
 
+/// The line of a name, where there is one.
+pub(crate) fn line_in(name: &[u8]) -> Option<EntryLine>
+    ensures { result ≡ line_in (Some name.now) }
+{
+    if fits_line(name) {
+        Some(EntryLine::new(name))
+    } else {
+        None
+    }
+}
+
+// A line that is shown until the first byte is typed, or an empty one.
+fn kept_or_typed(line: Option<EntryLine>) -> Answering
+    ensures { result ≡ kept_or_typed line }
+{
+    match line {
+        Some(line) => Answering::Kept(line),
+        None => Answering::Typing(EntryLine::new(b"")),
+    }
+}
+
+// How a file's name begins to be given: a save begins with the name of the last one.
+fn file_answering(action: Action, saved: &Option<FileName>) -> Answering
+    ensures { result ≡ file_answering action saved.now }
+{
+    match (action, saved) {
+        (Action::File(FileAction::Save), Some(name)) => kept_or_typed(line_in(name.bytes())),
+        _ => Answering::Typing(EntryLine::new(b"")),
+    }
+}
+
 // How the answer to a prompt begins to be given; without a prompt the command acts.
-fn opened_by(ask: Option<Ask>, pointer: Cell) -> WhatFollows
-    ensures { result ≡ opened_by ask pointer }
+fn opened_by(ask: Option<Ask>, pointer: Cell, named: Answering) -> WhatFollows
+    ensures { result ≡ opened_by ask pointer named }
 {
     match ask {
         None => WhatFollows::Acts,
         Some(Ask::Range) => WhatFollows::Asks(Answering::Pointing(anchored_at(pointer))),
         Some(Ask::Cell) => WhatFollows::Asks(Answering::Pointing(pointed_at(pointer))),
+        Some(Ask::File) => WhatFollows::Asks(named),
         Some(Ask::Replace) => WhatFollows::Looks,
         Some(Ask::Confirm) => WhatFollows::Asks(Answering::Choosing(0)),
         Some(_) => WhatFollows::Asks(Answering::Typing(EntryLine::new(b""))),
     }
 }
 
-/// What follows where a command has some answers: its next prompt, of which a range begins anchored at the pointer and
-/// a cell there without an anchor; the question whether the file is there; or the command itself (Release 2 manual).
-pub fn opening(command: &AnsweredCommand, pointer: Cell) -> WhatFollows
-    ensures { result ≡ opening command.now pointer }
+/// What follows where a command has some answers: its next prompt, of which a range begins anchored at the pointer, a
+/// cell there without an anchor, and the name of a save with that of the last one; the question whether the file is
+/// there; or the command itself (Release 2 manual).
+pub fn opening(command: &AnsweredCommand, pointer: Cell, saved: &Option<FileName>) -> WhatFollows
+    ensures { result ≡ opening command.now pointer saved.now }
 {
-    opened_by(next_ask(command), pointer)
+    let named = file_answering(command.action, saved);
+    opened_by(next_ask(command), pointer, named)
 }

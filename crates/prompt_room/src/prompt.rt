@@ -5,11 +5,11 @@ ghost use Rattle.lics_text.specs.Bytes.{IsText};
 ghost use Rattle.menu_tree.specs.Tree.{begins};
 ghost use Rattle.desk_answers.specs.Readings.{fault_in, refusal_of};
 ghost use Rattle.prompt_room.specs.Opening.{next_ask};
-ghost use Rattle.prompt_room.specs.Room.{answered, asking, choice_names, decided, decided_or, line_answering, line_in, name_behind, name_line, press, press_choosing, press_kept, press_line, press_pointing, refusal_by, shown, steered_prompt, takes_names, typed_by, typed_byte};
+ghost use Rattle.prompt_room.specs.Room.{answered, asking, choice_names, decided, decided_or, line_answering, name_behind, name_line, press, press_choosing, press_kept, press_line, press_pointing, refusal_by, shown, steered_prompt, takes_names, typed_by, typed_byte};
 ghost use Rattle.range_names.specs.Names.{next_name};
 ghost use Rattle.work_sheet.specs.Seen.{of_worksheet};
 
-use crate::following::next_ask;
+use crate::following::{line_in, next_ask};
 use desk_answers::test_answer;
 use desk_errors::CommandError;
 use entry_line::{EntryLine, LineEvent};
@@ -20,9 +20,7 @@ use menu_room::highlighted;
 use menu_tree::Ask;
 use point_room::{answer_text, steer};
 use range_names::Names;
-use session_rooms::{
-    AnsweredCommand, Answering, Pointed, PromptRoom, Room, Turn, fits_line, line_of_byte,
-};
+use session_rooms::{AnsweredCommand, Answering, Pointed, PromptRoom, Room, Turn, line_of_byte};
 use work_sheet::Sheet;
 
 // The command goes on asking.
@@ -75,17 +73,6 @@ fn name_behind<'a>(names: &'a Names, text: &[u8]) -> Option<&'a [u8]>
     match names.after(text) {
         Some(name) => Some(name),
         None => names.after(b""),
-    }
-}
-
-// The line of a name, where there is one.
-fn line_in(name: &[u8]) -> Option<EntryLine>
-    ensures { result ≡ line_in (Some name.now) }
-{
-    if fits_line(name) {
-        Some(EntryLine::new(name))
-    } else {
-        None
     }
 }
 

@@ -1,10 +1,13 @@
 -- How the session carries out what a key comes to.
-use Rattle.std.specs.Prelude.{Bool, true, false, if◌then◌else◌}
+use Rattle.std.specs.Prelude.{Bool, true, false, List, ◌++◌, if◌then◌else◌}
 use Rattle.cell_pointer.specs.Moves.{moved}
 use Rattle.cell_pointer.specs.declared.way.Way.{Way}
-use Rattle.command_desk.specs.Acting.{DeskActed}
 use Rattle.command_desk.specs.declared.ending.CommandEnd.{CommandEnd}
 use Rattle.command_desk.specs.declared.ending.CommandEnd.TheVariants.{Finished, Quits, Refused}
+use Rattle.commands_file.specs.Calls.{Asked, Reply}
+use Rattle.commands_file.specs.Commands.{looked, FileActed, Looking}
+use Rattle.commands_file.specs.declared.looking.Looked.{Looked}
+use Rattle.commands_file.specs.declared.looking.Looked.TheVariants.{There, Unknown}
 use Rattle.desk_errors.specs.Messages.{message_of}
 use Rattle.desk_errors.specs.declared.error.CommandError.{CommandError}
 use Rattle.desk_errors.specs.declared.error.CommandError.TheVariants as error
@@ -20,6 +23,8 @@ use Rattle.prompt_room.specs.declared.following.WhatFollows.{WhatFollows}
 use Rattle.prompt_room.specs.declared.following.WhatFollows.TheVariants.{Asks, Looks, Acts}
 use Rattle.screen_layout.specs.Columns.{columns_shown}
 use Rattle.session_rooms.specs.declared.answers.AnsweredCommand.{AnsweredCommand}
+use Rattle.session_rooms.specs.declared.rooms.Answering.{Answering}
+use Rattle.session_rooms.specs.declared.rooms.Answering.TheVariants.{Choosing}
 use Rattle.session_rooms.specs.declared.rooms.Room.TheVariants as room
 use Rattle.session_rooms.specs.declared.rooms.TypingMode.TheVariants as typing
 use Rattle.session_rooms.specs.declared.turn.Turn.{Turn}
@@ -28,7 +33,8 @@ use Rattle.sheet_commands.specs.Act.{act}
 use Rattle.sheet_edits.specs.Edits.{is_protected}
 use Rattle.work_sheet.specs.Doing as doing
 use Rattle.session_core.specs.Entering.{meaning_of}
-use Rattle.session_core.specs.Machine.{and_further, in_room, pointer_of, pointing_at, quiet, sheet_of, with_done, Outcome, State}
+use Rattle.session_core.specs.Machine.{and_further, in_room, pointer_of, pointing_at, quiet, sheet_of, with_done}
+use Rattle.session_core.specs.Machine.{Outcome, Replies, State}
 use Rattle.session_core.specs.declared.entering.Meant.{Meant}
 use Rattle.session_core.specs.declared.entering.Meant.TheVariants.{Means, Faulty}
 
@@ -89,32 +95,59 @@ ends_run Quits = true
 ends_run (Refused e) = false
 
 -- the session goes on as the command ended, over the desk that it leaves
-abbrev pub behind : DeskActed → Action → State → Outcome
-behind d a s = record { state = left_by d.end a (record s { desk = d.desk }); log = d.log; ends = ends_run d.end }
+abbrev pub behind : FileActed → Action → State → Outcome
+behind d a s = record {
+  state = left_by d.acted.end a (record s { desk = d.acted.desk });
+  log = d.acted.log;
+  ends = ends_run d.acted.end;
+  calls = d.calls;
+}
 
 -- a command is carried out
-abbrev pub acted : AnsweredCommand → Scene → State → Outcome
-acted c scene s = behind (act c.action c.answers scene s.desk) c.action s
+abbrev pub acted : AnsweredCommand → Reply → Scene → State → Outcome
+acted c reply scene s = behind (act c.action c.answers scene s.desk reply) c.action s
 
--- the prompt, or the command itself; no command asks the shelf yet
-abbrev pub opened : WhatFollows → AnsweredCommand → Scene → State → Outcome
-opened (Asks how) c scene s = quiet (in_room (room.Asking (record { command = c; answering = how })) s)
-opened Looks c scene s = quiet s
-opened Acts c scene s = acted c scene s
+-- a command goes on asking
+abbrev pub asking : AnsweredCommand → Answering → State → Outcome
+asking c how s = quiet (in_room (room.Asking (record { command = c; answering = how })) s)
+
+-- a file that is there is replaced by choice, and where none is there the command is carried out
+abbrev pub looked_as : Looked → AnsweredCommand → Reply → Scene → State → Outcome
+looked_as (There true) c reply scene s = asking c (Choosing 0) s
+looked_as (There false) c reply scene s = acted c reply scene s
+looked_as (Unknown e) c reply scene s = quiet (failed e s)
+
+-- calls were made before
+abbrev pub behind_calls : List Asked → Outcome → Outcome
+behind_calls calls o = record o { calls = calls ++ o.calls }
+
+-- what a look for the file came to, and what follows it
+abbrev pub followed : Looking → AnsweredCommand → Reply → Scene → State → Outcome
+followed look c reply scene s = behind_calls look.calls (looked_as look.came c reply scene s)
+
+-- the shelf is asked whether the file is there
+abbrev pub looking : AnsweredCommand → Replies → Scene → State → Outcome
+looking c replies scene s = followed (looked c.answers replies.look) c replies.act scene s
+
+-- the prompt, the question whether a file is there, or the command itself
+abbrev pub opened : WhatFollows → AnsweredCommand → Replies → Scene → State → Outcome
+opened (Asks how) c replies scene s = asking c how s
+opened Looks c replies scene s = looking c replies scene s
+opened Acts c replies scene s = acted c replies.act scene s
 
 -- a command has these answers: its next prompt follows, or it is carried out
-abbrev pub asked : AnsweredCommand → Scene → State → Outcome
-asked c scene s = opened (opening c (pointer_of s)) c scene s
+abbrev pub asked : AnsweredCommand → Replies → Scene → State → Outcome
+asked c replies scene s = opened (opening c (pointer_of s) s.desk.file_name) c replies scene s
 
 -- what a key came to is carried out; no macro starts yet, and no command is taken back
-abbrev pub carried : Turn → Scene → State → Outcome
-carried (turn.Become r) scene s = quiet (in_room r s)
-carried (turn.Move way) scene s = quiet (going way s)
-carried turn.Mark scene s = quiet (record s { end = true })
-carried (turn.Finish way line) scene s = finished way line scene s
-carried (turn.Ask c) scene s = asked c scene s
-carried (turn.Act c) scene s = acted c scene s
-carried turn.Recalculate scene s = recalculated scene s
-carried (turn.Start letter) scene s = quiet s
-carried turn.Undo scene s = quiet s
-carried (turn.Fail e) scene s = quiet (failed e s)
+abbrev pub carried : Turn → Replies → Scene → State → Outcome
+carried (turn.Become r) replies scene s = quiet (in_room r s)
+carried (turn.Move way) replies scene s = quiet (going way s)
+carried turn.Mark replies scene s = quiet (record s { end = true })
+carried (turn.Finish way line) replies scene s = finished way line scene s
+carried (turn.Ask c) replies scene s = asked c replies scene s
+carried (turn.Act c) replies scene s = acted c replies.act scene s
+carried turn.Recalculate replies scene s = recalculated scene s
+carried (turn.Start letter) replies scene s = quiet s
+carried turn.Undo replies scene s = quiet s
+carried (turn.Fail e) replies scene s = quiet (failed e s)

@@ -2,6 +2,7 @@
 use Rattle.std.specs.Prelude.{◌≡◌, ℕ, Bool, true, false, Option, None, List, [], refl}
 use Rattle.std.specs.Coded.{Coded, code_by, coded×, coded_bool, coded_option, coded_ℕ}
 use Rattle.command_desk.specs.Desks.{coded_desk, fresh_desk, on_sheet, Desk}
+use Rattle.commands_file.specs.Calls.{Asked, HaveAnswered, Reply, ShelfView}
 use Rattle.formula_eval.specs.declared.look.Scene.{Scene}
 use Rattle.grid_address.specs.Place.{Place, coded_place}
 use Rattle.serial_date.specs.declared.moment.Moment.{Moment}
@@ -10,7 +11,7 @@ use Rattle.session_rooms.specs.declared.rooms.Room.{Room}
 use Rattle.session_rooms.specs.declared.rooms.Room.TheVariants.{Ready}
 use Rattle.work_sheet.specs.Doing.{with_pointer, Done, Happened}
 use Rattle.work_sheet.specs.Seen.{Sheet}
-use Rattle.work_sheet.specs.Work.{coded_work, no_work, HasWorked, Work}
+use Rattle.work_sheet.specs.Work.{coded_work, HasWorked, Work}
 
 -- The desk with the worksheet and its pointer, the cell at the top left of the screen, what the session is doing,
 -- whether END waits for a moving key, and the day and the second of the last step.
@@ -64,13 +65,17 @@ coded_running = code_by (State × (Work × Bool)) (coded× coded_state (coded× 
 abbrev pub home : Place
 home = record { row = 0; col = 0 }
 
+-- the state of a session that begins with a desk
+abbrev pub begun_with : Desk → State
+begun_with d = record { desk = d; corner = home; room = Ready; end = false; day = None; second = 0 }
+
 -- the state of a fresh session
 abbrev pub start : State
-start = record { desk = fresh_desk; corner = home; room = Ready; end = false; day = None; second = 0 }
+start = begun_with fresh_desk
 
--- a fresh session
-abbrev pub started : Running
-started = record { state = start; work = no_work; spent = false }
+-- a session that begins with a desk, and with the work that was done on it
+abbrev pub begun : Desk → Work → Running
+begun d w = record { state = begun_with d; work = w; spent = false }
 
 -- it wants a key, since no macro runs
 abbrev pub wants_key : State → Bool
@@ -104,19 +109,27 @@ idle s = record s { room = Ready; end = false }
 abbrev pub pointing_at : Place → State → State
 pointing_at p s = with_sheet (with_pointer p (sheet_of s)) s
 
--- what is made of a state: the next one, what happened in the sheet, and whether the run ends
+-- what is made of a state: the next one, what happened in the sheet, whether the run ends, and the calls of the shelf
+-- that were made, with their answers
 pub record Outcome : Type 0 where
   pub state : State
   pub log : List Happened
   pub ends : Bool
+  pub calls : List Asked
+
+-- what the shelf answers in a step: whether the file is there that a command may replace, and the command's own call;
+-- where no call is made any answer serves
+pub record Replies : Type 0 where
+  pub look : Reply
+  pub act : Reply
 
 -- nothing happens in the sheet
 abbrev pub quiet : State → Outcome
-quiet s = record { state = s; log = []; ends = false }
+quiet s = record { state = s; log = []; ends = false; calls = [] }
 
 -- the sheet becomes what was done to it
 abbrev pub with_done : Done → State → Outcome
-with_done d s = record { state = with_sheet d.sheet s; log = d.log; ends = false }
+with_done d s = record { state = with_sheet d.sheet s; log = d.log; ends = false; calls = [] }
 
 -- an outcome's state is changed further, and nothing more happens in the sheet
 abbrev pub and_further : Outcome → (State → State) → Outcome
@@ -131,6 +144,14 @@ pub record Leads (o : Outcome) (told : Bool) (a b : Worked) : Type 0 where
 -- it goes on to what an act makes of its state, over this moment and where the pointer stands before
 abbrev pub LeadsBy : (Scene → State → Outcome) → Moment → Bool → Worked → Worked → Type 0
 LeadsBy act now told a b = Leads (act (scene_at a.state now) a.state) told a b
+
+-- It goes on to what an act makes of its state over some answers of the shelf, which are those that what the shelf
+-- holds gives, and the calls leave the shelf so.
+pub record LeadsOver (act : Replies → Scene → State → Outcome) (now : Moment) (told : Bool) (a b : Worked)
+    (before after : ShelfView) : Type 0 where
+  pub replies : Replies
+  pub leads : Leads (act replies (scene_at a.state now) a.state) told a b
+  pub answered : HaveAnswered (act replies (scene_at a.state now) a.state).calls before after
 
 -- a session goes on to an outcome, with the work of what happened
 pub record Follows (o : Outcome) (a b : Running) : Type 0 where

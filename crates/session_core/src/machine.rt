@@ -1,13 +1,16 @@
 // The session's machine: where what a key comes to is carried out.
-ghost use Rattle.std.specs.Prelude.{◌≡◌, true, false, IfOk, IsOk, Ok, OnOk};
+ghost use Rattle.std.specs.Prelude.{◌≡◌, true, false, IfOk, IsOk, Ok, OnErr, OnOk};
+ghost use Rattle.command_desk.specs.Desks.{of_desk};
+ghost use Rattle.commands_file.specs.Calls.{shelf_view, HasBrokenOff};
 ghost use Rattle.entry_line.specs.Line.{placed};
-ghost use Rattle.session_core.specs.Carrying.{acted, asked, carried, editing, entered, failed, finished, going};
+ghost use Rattle.session_core.specs.Carrying.{acted, asked, carried, editing, entered, failed, finished, going, looking};
 ghost use Rattle.session_core.specs.Carrying.{is_pointer_protected, recalculated, settling, writing};
-ghost use Rattle.session_core.specs.Machine.{in_room, pointer_of, pointing_at, scene_at, sheet_of, start, LeadsBy};
+ghost use Rattle.session_core.specs.Machine.{begun_with, in_room, pointer_of, pointing_at, scene_at, sheet_of};
+ghost use Rattle.session_core.specs.Machine.{LeadsBy, LeadsOver};
 ghost use Rattle.session_core.specs.Moving.{IsMoved, OnlyMoves, OnlyMovesByKey};
 ghost use Rattle.session_core.specs.Screen.{panel_of, screen, Repaints};
-ghost use Rattle.session_core.specs.Step.{framed, taken};
-ghost use Rattle.work_sheet.specs.Work.{no_work};
+ghost use Rattle.session_core.specs.Step.{framed, loaded, taken, timed};
+ghost use Rattle.work_sheet.specs.Did.{work_of};
 
 use crate::entering::{Meant, meaning_of};
 use crate::pressing::{room_panel, turn_of};
@@ -23,14 +26,14 @@ use key_words::Key;
 use lics_text::Memory;
 use menu_room::menu_or_ready;
 use menu_tree::back;
+use outside_world::Shelf;
 use prompt_room::{WhatFollows, opening};
 use screen_layout::{columns_shown, corner_for, paint, paint_panel};
 use screen_show::Grid;
 use serial_date::Moment;
-use session_rooms::{AnsweredCommand, PromptRoom, Room, Turn, TypingMode, TypingRoom};
-use sheet_commands::{CommandEnd, Desk, act};
+use session_rooms::{AnsweredCommand, Answering, PromptRoom, Room, Turn, TypingMode, TypingRoom};
+use sheet_commands::{CommandEnd, Desk, Looked, act, look};
 use sheet_store::{Settings, SheetFault};
-use std::alloc::Global;
 use std::marker::Model;
 use std::mem;
 
@@ -95,13 +98,13 @@ fn touched_by(turn: &Turn) -> Touched
 }
 
 impl Machine {
-    /// The machine of a fresh session.
-    pub fn start(alloc: Global) -> Machine
-        ensures state { result.state ≡ start }
-        ensures work { result.work ≡ no_work }
+    /// The machine of a session that begins with a desk.
+    pub fn new(desk: Desk) -> Machine
+        ensures state { result.state ≡ begun_with (of_desk desk) }
+        ensures work { result.work ≡ work_of desk.sheet 0 }
     {
         Machine {
-            desk: Desk::new(alloc),
+            desk,
             tally: Tally::new(),
             corner: HOME,
             room: Room::Ready,
@@ -186,11 +189,22 @@ impl Machine {
     }
 
     // A command is carried out, and the session goes on as it ended; whether the run ends.
-    fn act(&mut self, command: AnsweredCommand, now: &Moment) -> Result<bool, Memory>
-        ensures { IfOk result (λ ends. LeadsBy (acted command) now.now ends self.old self.new) }
+    fn act<S: Shelf>(
+        &mut self,
+        command: AnsweredCommand,
+        now: &Moment,
+        shelf: &mut S,
+    ) -> Result<bool, Memory>
+        ensures acted { IfOk result (λ ends. LeadsOver (λ replies. acted command replies.act) now.now ends
+            self.old self.new
+            (shelf_view (S.holds shelf.old) (S.faults shelf.old))
+            (shelf_view (S.holds shelf.new) (S.faults shelf.new))) }
+        ensures memory { OnErr result (HasBrokenOff
+            (shelf_view (S.holds shelf.old) (S.faults shelf.old))
+            (shelf_view (S.holds shelf.new) (S.faults shelf.new))) }
     {
         let scene = self.scene(now);
-        match act(&command, &mut self.desk, &scene, &mut self.tally)? {
+        match act(&command, &mut self.desk, shelf, &scene, &mut self.tally)? {
             CommandEnd::Finished => {
                 self.enter_room(menu_or_ready(back(command.action)));
                 Ok(false)
@@ -203,17 +217,55 @@ impl Machine {
         }
     }
 
-    // A command's next prompt follows, or it is carried out; whether the run ends.
-    fn ask(&mut self, command: AnsweredCommand, now: &Moment) -> Result<bool, Memory>
-        ensures { IfOk result (λ ends. LeadsBy (asked command) now.now ends self.old self.new) }
+    // The shelf is asked whether the file is there that a command may replace; whether the run ends.
+    fn look<S: Shelf>(
+        &mut self,
+        command: AnsweredCommand,
+        now: &Moment,
+        shelf: &mut S,
+    ) -> Result<bool, Memory>
+        ensures looked { IfOk result (λ ends. LeadsOver (looking command) now.now ends self.old self.new
+            (shelf_view (S.holds shelf.old) (S.faults shelf.old))
+            (shelf_view (S.holds shelf.new) (S.faults shelf.new))) }
+        ensures memory { OnErr result (HasBrokenOff
+            (shelf_view (S.holds shelf.old) (S.faults shelf.old))
+            (shelf_view (S.holds shelf.new) (S.faults shelf.new))) }
     {
-        match opening(&command, self.pointer()) {
+        match look(&command.answers, shelf)? {
+            Looked::There(true) => {
+                let answering = Answering::Choosing(0);
+                self.enter_room(Room::Asking(PromptRoom { command, answering }));
+                Ok(false)
+            }
+            Looked::There(false) => self.act(command, now, shelf),
+            Looked::Unknown(error) => {
+                self.fail(error);
+                Ok(false)
+            }
+        }
+    }
+
+    // A command's next prompt follows, or it is carried out; whether the run ends.
+    fn ask<S: Shelf>(
+        &mut self,
+        command: AnsweredCommand,
+        now: &Moment,
+        shelf: &mut S,
+    ) -> Result<bool, Memory>
+        ensures asked { IfOk result (λ ends. LeadsOver (asked command) now.now ends self.old self.new
+            (shelf_view (S.holds shelf.old) (S.faults shelf.old))
+            (shelf_view (S.holds shelf.new) (S.faults shelf.new))) }
+        ensures memory { OnErr result (HasBrokenOff
+            (shelf_view (S.holds shelf.old) (S.faults shelf.old))
+            (shelf_view (S.holds shelf.new) (S.faults shelf.new))) }
+    {
+        match opening(&command, self.pointer(), &self.desk.file_name) {
             WhatFollows::Asks(answering) => {
                 self.enter_room(Room::Asking(PromptRoom { command, answering }));
                 Ok(false)
             }
-            WhatFollows::Looks => Ok(false),
-            WhatFollows::Acts => self.act(command, now),
+            WhatFollows::Looks => self.look(command, now, shelf),
+            WhatFollows::Acts => self.act(command, now, shelf),
         }
     }
 
@@ -300,8 +352,13 @@ impl Machine {
     }
 
     // What a key came to is carried out; whether the run ends.
-    fn carry(&mut self, turn: Turn, now: &Moment) -> Result<bool, Memory>
-        ensures ok { IfOk result (λ ends. LeadsBy (carried turn) now.now ends self.old self.new) }
+    fn carry<S: Shelf>(&mut self, turn: Turn, now: &Moment, shelf: &mut S) -> Result<bool, Memory>
+        ensures ok { IfOk result (λ ends. LeadsOver (carried turn) now.now ends self.old self.new
+            (shelf_view (S.holds shelf.old) (S.faults shelf.old))
+            (shelf_view (S.holds shelf.new) (S.faults shelf.new))) }
+        ensures memory { OnErr result (HasBrokenOff
+            (shelf_view (S.holds shelf.old) (S.faults shelf.old))
+            (shelf_view (S.holds shelf.new) (S.faults shelf.new))) }
         ensures moves { OnlyMoves turn → result ≡ Ok false }
         ensures sheet { OnlyMoves turn → IsMoved (sheet_of self.old.state) (sheet_of self.new.state) }
     {
@@ -310,10 +367,11 @@ impl Machine {
             Turn::Move(way) => self.go(way),
             Turn::Mark => self.mark(),
             Turn::Finish(way, line) => self.finish(way, line, now)?,
-            Turn::Ask(command) => return self.ask(command, now),
-            Turn::Act(command) => return self.act(command, now),
+            Turn::Ask(command) => return self.ask(command, now, shelf),
+            Turn::Act(command) => return self.act(command, now, shelf),
             Turn::Recalculate => self.calculate(now)?,
-            Turn::Start(_) | Turn::Undo => {}
+            Turn::Start(_) => {}
+            Turn::Undo => {}
             Turn::Fail(error) => self.fail(error),
         }
         Ok(false)
@@ -321,8 +379,13 @@ impl Machine {
 
     /// Takes a key, before the screen follows it. A key that only moves the pointer, types or is passed over takes no
     /// memory, leaves all of the sheet but the pointer, and doesn't end the run.
-    pub fn take(&mut self, key: Key, now: &Moment) -> Result<Taken, Memory>
-        ensures ok { IfOk result (λ t. LeadsBy (taken key) now.now t.ends self.old self.new) }
+    pub fn take<S: Shelf>(&mut self, key: Key, now: &Moment, shelf: &mut S) -> Result<Taken, Memory>
+        ensures ok { IfOk result (λ t. LeadsOver (taken key) now.now t.ends self.old self.new
+            (shelf_view (S.holds shelf.old) (S.faults shelf.old))
+            (shelf_view (S.holds shelf.new) (S.faults shelf.new))) }
+        ensures memory { OnErr result (HasBrokenOff
+            (shelf_view (S.holds shelf.old) (S.faults shelf.old))
+            (shelf_view (S.holds shelf.new) (S.faults shelf.new))) }
         ensures moves { OnlyMovesByKey key self.old.state → IsOk result }
         ensures stays { OnlyMovesByKey key self.old.state → IfOk result (λ t. t.ends ≡ false) }
         ensures sheet { OnlyMovesByKey key self.old.state →
@@ -335,8 +398,17 @@ impl Machine {
         self.end = false;
         let turn = turn_of(key, room, end, &self.desk.sheet)?;
         let touched = touched_by(&turn);
-        let ends = self.carry(turn, now)?;
+        let ends = self.carry(turn, now, shelf)?;
         Ok(Taken { touched, ends })
+    }
+
+    /// Recalculates the sheet before the first step, at this moment.
+    pub fn load(&mut self, now: &Moment) -> Result<(), Memory>
+        ensures { OnOk result (LeadsBy (λ scene s. loaded now.now s) now.now false self.old self.new) }
+    {
+        self.calculate(now)?;
+        self.moment = *now;
+        Ok(())
     }
 
     /// The screen follows the pointer, at this moment.

@@ -1,17 +1,20 @@
 // A session, step by step.
-ghost use Rattle.std.specs.Prelude.{◌≡◌, IfOk, false, true};
+ghost use Rattle.std.specs.Prelude.{◌≡◌, OnErr, OnOk, false, true};
+ghost use Rattle.command_desk.specs.Desks.{of_desk};
+ghost use Rattle.commands_file.specs.Calls.{shelf_view, HasBrokenOff};
 ghost use Rattle.screen_show.specs.Grid.{IsGrid, IsPrinted};
-ghost use Rattle.session_core.specs.Machine.{sheet_of, started, wants_key, Follows};
+ghost use Rattle.session_core.specs.Machine.{begun, sheet_of, wants_key, Follows};
 ghost use Rattle.session_core.specs.Moving.{IsMoved, OnlyMovesBy};
 ghost use Rattle.session_core.specs.Screen.{screen};
-ghost use Rattle.session_core.specs.Step.{is_key, step};
+ghost use Rattle.session_core.specs.Step.{is_key, loaded, HasTakenStep};
+ghost use Rattle.work_sheet.specs.Did.{work_of};
 
 use crate::machine::{Machine, Touched};
 use crate::{Event, Stepped};
 use outside_world::{Memory, Shelf};
 use screen_show::Grid;
 use serial_date::Moment;
-use std::alloc::Global;
+use sheet_commands::Desk;
 use std::marker::Model;
 
 /// A session: the worksheet, the pointer, and what is being typed, pointed at or asked for. It keeps its screen, and
@@ -38,17 +41,35 @@ impl Model for Session {
 }
 
 impl Session {
-    /// A fresh session: an empty worksheet, the pointer at A1.
-    pub fn start(alloc: Global) -> Result<Session, Memory>
-        ensures { IfOk result (λ s. s ≡ started) }
+    /// A session that begins with a desk, in READY, with A1 at the top left of its screen.
+    pub fn new(desk: Desk) -> Session
+        ensures { result ≡ begun (of_desk desk) (work_of desk.sheet 0) }
     {
-        let machine = Machine::start(alloc);
+        let machine = Machine::new(desk);
         let shown = machine.paint();
-        Ok(Session {
+        Session {
             machine,
             shown,
             spent: false,
-        })
+        }
+    }
+
+    /// Recalculates the sheet before the first step, in both modes. After `Memory` the session is spent.
+    pub fn load(&mut self, now: &Moment) -> Result<(), Memory>
+        requires fresh { self.old.spent ≡ false }
+        ensures loaded { OnOk result (Follows (loaded now.now self.old.state) self.old self.new) }
+        ensures memory { OnErr result (self.new.spent ≡ true) }
+    {
+        match self.machine.load(now) {
+            Ok(()) => {
+                self.shown = self.machine.paint();
+                Ok(())
+            }
+            Err(Memory) => {
+                self.spent = true;
+                Err(Memory)
+            }
+        }
     }
 
     /// Whether memory ran out in a step. A spent session makes no step.
@@ -77,24 +98,29 @@ impl Session {
 
     /// One step: a key exactly where the session wants one. `Quit` comes exactly where the menu's Quit was confirmed
     /// (Release 2 manual). After `Memory` the session is spent. A step that only moves the pointer, types, or is passed
-    /// over, takes no memory and leaves all of the sheet but the pointer.
-    pub fn step<S: Shelf>(&mut self, event: Event, now: &Moment, _shelf: &mut S) -> Stepped
+    /// over, takes no memory and leaves all of the sheet but the pointer. The shelf is called where a command of files
+    /// has all its answers, and once before, where it may replace a file.
+    pub fn step<S: Shelf>(&mut self, event: Event, now: &Moment, shelf: &mut S) -> Stepped
         requires fresh { self.old.spent ≡ false }
         requires key { is_key event ≡ wants_key self.old.state }
-        ensures more { result ≡ Stepped.More → Follows (step event now.now self.old.state) self.old self.new }
-        ensures goes_on { result ≡ Stepped.More → (step event now.now self.old.state).ends ≡ false }
-        ensures quit { result ≡ Stepped.Quit → Follows (step event now.now self.old.state) self.old self.new }
-        ensures ends { result ≡ Stepped.Quit → (step event now.now self.old.state).ends ≡ true }
+        ensures more { result ≡ Stepped.More → HasTakenStep event now.now false self.old self.new
+            (shelf_view (S.holds shelf.old) (S.faults shelf.old))
+            (shelf_view (S.holds shelf.new) (S.faults shelf.new)) }
+        ensures quit { result ≡ Stepped.Quit → HasTakenStep event now.now true self.old self.new
+            (shelf_view (S.holds shelf.old) (S.faults shelf.old))
+            (shelf_view (S.holds shelf.new) (S.faults shelf.new)) }
         ensures memory { result ≡ Stepped.Memory → self.new.spent ≡ true }
+        ensures broken { result ≡ Stepped.Memory → HasBrokenOff
+            (shelf_view (S.holds shelf.old) (S.faults shelf.old))
+            (shelf_view (S.holds shelf.new) (S.faults shelf.new)) }
         ensures moves { OnlyMovesBy event self.old.state → result ≡ Stepped.More }
         ensures sheet { OnlyMovesBy event self.old.state → IsMoved (sheet_of self.old.state) (sheet_of self.new.state) }
-        ensures shelf { _shelf.new ≡ _shelf.old }
     {
         let Event::Key(key) = event else {
             unreachable!();
         };
         let corner = self.machine.corner();
-        match self.machine.take(key, now) {
+        match self.machine.take(key, now, shelf) {
             Ok(taken) => {
                 let stepped = Stepped::of(taken.ends);
                 self.machine.follow(now);

@@ -1,8 +1,11 @@
 -- One command: which area carries it out.
 use Rattle.std.specs.Prelude.{ℕ, List}
-use Rattle.command_desk.specs.Acting.{finished, given, on_desk, quits, Acted, DeskActed}
+use Rattle.command_desk.specs.Acting.{finished, given, on_desk, quits, Acted}
 use Rattle.command_desk.specs.Answered.{cell_at}
 use Rattle.command_desk.specs.Desks.{Desk}
+use Rattle.commands_file.specs.Calls.{Reply}
+use Rattle.commands_file.specs.Commands.{left, without_call, FileActed}
+use Rattle.commands_file.specs.Commands as on_file
 use Rattle.commands_range.specs.Commands as on_range
 use Rattle.commands_worksheet.specs.Commands as on_worksheet
 use Rattle.formula_eval.specs.declared.look.Scene.{Scene}
@@ -27,15 +30,16 @@ act_common common.Move answers scene s = on_range.moved answers scene s
 act_common common.QuitYes answers scene s = quits s
 act_common common.Goto answers scene s = gone_to answers s
 
--- what a command does to the worksheet; the commands of files, reports and data aren't built yet
-abbrev pub act_on_sheet : Action → List (List ℕ) → Scene → Sheet → Acted
-act_on_sheet (action.Common a) answers scene s = act_common a answers scene s
-act_on_sheet (action.Worksheet a) answers scene s = on_worksheet.act a answers scene s
-act_on_sheet (action.Range a) answers scene s = on_range.act answers scene s a
-act_on_sheet (action.File a) answers scene s = finished (quiet s)
-act_on_sheet (action.Print a) answers scene s = finished (quiet s)
-act_on_sheet (action.Data a) answers scene s = finished (quiet s)
+-- a command that works on the worksheet alone, and makes no call of the shelf
+abbrev pub on_sheet_alone : (Sheet → Acted) → Desk → FileActed
+on_sheet_alone act d = without_call (on_desk act d)
 
--- what a command with these answers does to the desk
-abbrev pub act : Action → List (List ℕ) → Scene → Desk → DeskActed
-act a answers scene d = on_desk (act_on_sheet a answers scene) d
+-- what a command with these answers does to the desk, over what the shelf answers its call; the commands of reports and
+-- data aren't built yet
+abbrev pub act : Action → List (List ℕ) → Scene → Desk → Reply → FileActed
+act (action.Common a) answers scene d reply = on_sheet_alone (act_common a answers scene) d
+act (action.Worksheet a) answers scene d reply = on_sheet_alone (on_worksheet.act a answers scene) d
+act (action.Range a) answers scene d reply = on_sheet_alone (λ s. on_range.act answers scene s a) d
+act (action.File a) answers scene d reply = on_file.act a answers scene d reply
+act (action.Print a) answers scene d reply = without_call (left d)
+act (action.Data a) answers scene d reply = without_call (left d)

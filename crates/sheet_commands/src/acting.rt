@@ -1,13 +1,16 @@
 // The area that carries a command out.
-ghost use Rattle.std.specs.Prelude.{ℕ, IfOk};
-ghost use Rattle.command_desk.specs.Acting.{HasActedBy, HasActedOn};
+ghost use Rattle.std.specs.Prelude.{ℕ, IfOk, OnErr};
+ghost use Rattle.command_desk.specs.Acting.{HasActedBy};
 ghost use Rattle.command_desk.specs.Desks.{of_desk};
-ghost use Rattle.sheet_commands.specs.Act.{act, act_common, act_on_sheet, gone_to};
+ghost use Rattle.commands_file.specs.Calls.{shelf_view, HasBrokenOff};
+ghost use Rattle.commands_file.specs.Commands.{HasActedOver};
+ghost use Rattle.sheet_commands.specs.Act.{act, act_common, gone_to};
 
 use command_desk::{CommandEnd, Desk, cell_at};
 use formula_eval::{Scene, Tally};
 use lics_text::Memory;
 use menu_tree::{Action, CommonAction};
+use outside_world::Shelf;
 use session_rooms::{AnsweredCommand, Answers};
 use sheet_store::Settings;
 use work_sheet::Sheet;
@@ -49,38 +52,33 @@ fn act_common(
     }
 }
 
-// A command on the worksheet.
-fn act_on_sheet(
+/// Carries a command out, once it has all its answers, with the recalculation that follows it and the one call of the
+/// shelf that a command of files makes. A refused command leaves the desk as it was: its cause is the first that is
+/// found, in the order in which the areas tell them; `DiskError` comes exactly where the shelf failed. After want of
+/// memory the sheet is open, but keeps what it keeps, and no file but the command's own may have changed.
+pub fn act<S: Shelf>(
     command: &AnsweredCommand,
-    sheet: &mut Sheet,
+    desk: &mut Desk,
+    shelf: &mut S,
     scene: &Scene,
     tally: &mut Tally,
 ) -> Result<CommandEnd, Memory>
-    ensures { IfOk result (λ end. HasActedBy (act_on_sheet command.now.action command.now.answers scene.entry.now)
-        end sheet.old sheet.new tally.old.count tally.new.count) }
+    ensures acted { let acts = act command.now.action command.now.answers scene.entry.now (of_desk desk.old) in
+        IfOk result (λ end. HasActedOver acts end desk.old desk.new tally.old.count tally.new.count
+        (shelf_view (S.holds shelf.old) (S.faults shelf.old)) (shelf_view (S.holds shelf.new) (S.faults shelf.new))) }
+    ensures memory { OnErr result (HasBrokenOff
+        (shelf_view (S.holds shelf.old) (S.faults shelf.old)) (shelf_view (S.holds shelf.new) (S.faults shelf.new))) }
 {
     let answers = &command.answers;
     match command.action {
-        Action::Common(action) => act_common(action, answers, sheet, scene, tally),
+        Action::Common(action) => act_common(action, answers, &mut desk.sheet, scene, tally),
         Action::Worksheet(action) => {
-            commands_worksheet::act(action, answers, sheet, scene, tally)
+            commands_worksheet::act(action, answers, &mut desk.sheet, scene, tally)
         }
-        Action::Range(action) => commands_range::act(action, answers, sheet, scene, tally),
-        Action::File(_) | Action::Print(_) | Action::Data(_) => Ok(CommandEnd::Finished),
+        Action::Range(action) => {
+            commands_range::act(action, answers, &mut desk.sheet, scene, tally)
+        }
+        Action::File(action) => commands_file::act(action, answers, desk, shelf, scene, tally),
+        Action::Print(_) | Action::Data(_) => Ok(CommandEnd::Finished),
     }
-}
-
-/// Carries a command out, once it has all its answers, with the recalculation that follows it. A refused command leaves
-/// the desk as it was: its cause is the first that is found, in the order in which the areas tell them. After want of
-/// memory the sheet is open, but keeps what it keeps.
-pub fn act(
-    command: &AnsweredCommand,
-    desk: &mut Desk,
-    scene: &Scene,
-    tally: &mut Tally,
-) -> Result<CommandEnd, Memory>
-    ensures { let acted = act command.now.action command.now.answers scene.entry.now (of_desk desk.old) in
-        IfOk result (λ end. HasActedOn acted end desk.old desk.new tally.old.count tally.new.count) }
-{
-    act_on_sheet(command, &mut desk.sheet, scene, tally)
 }

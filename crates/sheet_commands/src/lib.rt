@@ -5,3 +5,4 @@ mod acting;
 
 pub use acting::act;
 pub use command_desk::{CommandEnd, Desk};
+pub use commands_file::{Looked, look};

@@ -1,0 +1,26 @@
+use Rattle.std.proofs.Common.{rules, refl, true, false}
+use Rattle.commands_file.specs.Calls.{failed}
+use Rattle.commands_file.specs.declared.looking.Looked.TheVariants.{There, Unknown}
+use Rattle.session_core.proofs.Alone.{err_map, looked_over, ok_map}
+use Rattle.session_core.proofs.Looking.{look_keeps}
+use Rattle.session_core.proofs.machine.Machine.look.Goals as goal
+
+pub returns-in-There-true-clause-looked : goal.returns-in-There-true-clause-looked
+returns-in-There-true-clause-looked g c =
+    let h = c.in_ok-look.ensures.looked in
+    looked_over c.args.command c.args.now.now false c.args.self.now c.enter_room.new.self _ _ _ h.reply failed (There true) (search rules) h.answered (search rules) refl
+
+pub returns-in-There-false-clause-looked : goal.returns-in-There-false-clause-looked
+returns-in-There-false-clause-looked g c =
+    let h = c.in_ok-look.ensures.looked in
+    ok_map c.act.result (λ ends l. looked_over c.args.command c.args.now.now ends c.args.self.now c.act.new.self _ _ _ h.reply l.replies.act (There false) (search rules) h.answered l.leads l.answered) c.act.ensures.acted
+
+pub returns-in-There-false-clause-memory : goal.returns-in-There-false-clause-memory
+returns-in-There-false-clause-memory g c =
+    let h = c.in_ok-look.ensures.looked in
+    err_map c.act.result (look_keeps c.args.command.answers h.reply _ _ _ h.answered) c.act.ensures.memory
+
+pub returns-in-Unknown-clause-looked : goal.returns-in-Unknown-clause-looked
+returns-in-Unknown-clause-looked g c =
+    let h = c.in_ok-look.ensures.looked in
+    looked_over c.args.command c.args.now.now false c.args.self.now c.fail.new.self _ _ _ h.reply failed (Unknown c.in-Unknown.error) (search rules) h.answered (search rules) refl
