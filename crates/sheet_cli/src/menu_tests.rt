@@ -190,13 +190,16 @@ A~/WGPE/RLR~|12|0|ERROR|A1: PR 'A | |24|Protected cell |
 
 // Menus as they are shown, ways through them, and prompts.
 const MENUS: &str =
-    r#"/|1|0|MENU |A1:  |[Worksheet] Range  Copy  Move  Quit |2|Global  Insert  Delete  Column  Erase |
-/{LEFT}|2|0|MENU |A1:  | Worksheet  Range  Copy  Move [Quit] |2|No  Yes |
+    r#"/|1|0|MENU |A1:  |[Worksheet] Range  Copy  Move  File  Quit |2|Global  Insert  Delete  Column  Erase |
+/{LEFT}|2|0|MENU |A1:  | Worksheet  Range  Copy  Move  File [Quit] |2|No  Yes |
 /wg{RIGHT 3}|6|0|MENU |A1:  | Format  Label-Prefix  Column-Width [Recalculation] Protection |2|Natural  Col|
 /r{END}|3|0|MENU |A1:  | Format  Label  Erase  Name  Protect  Unprotect  Value [Transpose] |2| |
 /WGF|4|0|MENU |A1:  |[Fixed] Currency  ,  General  Percent  Date  Text  Hidden |2| |
 /RF{END}|4|0|MENU |A1:  | Fixed  Currency  ,  General  Percent  Date  Text  Hidden [Reset] |2| |
-/FDP|4|0|MENU |A1:  |[Worksheet] Range  Copy  Move  Quit |2|Global  Insert  Delete  Column  Erase |
+/FDP|4|0|MENU |A1:  |[Retrieve] Save  Combine  Xtract  Erase |2| |
+/fx|3|0|MENU |A1:  |[Formulas] Values |2| |
+/FR|3|0|EDIT |A1:  |Retrieve |2| |
+/FCCx|5|0|EDIT |A1:  |Copy x |2| |
 /wid|4|0|MENU |A1:  |[Column] Row |2| |
 /rnvt|5|0|MENU |A1:  |[Create] Delete  Reset |2|                                                |
 /WGFD|5|0|MENU |A1:  |[1] 2  3 |2| |

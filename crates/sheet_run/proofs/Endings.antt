@@ -1,24 +1,37 @@
 -- How a run with options ends.
-use Rattle.std.proofs.Common.{◌≡◌, ℕ, zero, suc, ◌+◌, Bool, List, [], ◌∷◌, ◌++◌, length, map, Option, Err, refl, sym, ap, ◌∙◌, subst, arith, inl, inr, length-append}
+use Rattle.std.proofs.Common.{◌≡◌, ℕ, zero, suc, ◌+◌, Bool, List, [], ◌∷◌, ◌++◌, length, map, Option, Some, Err, refl, sym, ap, ◌∙◌, subst, arith, inl, inr, length-append}
 use Rattle.std.specs.Prelude.{nat_lt}
 use Rattle.std.specs.List.{filter}
 use Rattle.std.proofs.lemmas.List.{length-map}
 use Rattle.std.proofs.lemmas.Bool.{lt-ltb, le-ltb}
+use Rattle.command_desk.specs.Desks.{of_desk, Desk}
+use Rattle.command_desk.specs.declared.desk.Desk as declared
+use Rattle.commands_file.specs.Calls.{HaveAnswered, ShelfView}
+use Rattle.outside_world.specs.Clock.{TakesReading}
 use Rattle.serial_date.specs.declared.moment.Moment.{Moment}
-use Rattle.session_core.specs.Machine.{Running}
+use Rattle.session_core.specs.Machine.{begun as fresh_running, begun_with, Follows, Running, State}
+use Rattle.session_core.specs.Step.{loaded}
+use Rattle.work_sheet.proofs.OneWork.{worked_both}
+use Rattle.work_sheet.specs.Did.{work_of}
+use Rattle.work_sheet.specs.Work.{no_work, HasWorked}
 use Rattle.screen_show.specs.Display.{View}
 use Rattle.screen_show.specs.declared.display.Kind.{Kind}
 use Rattle.sheet_run.specs.Displays.{HasClosed, HasFailed, Sent, Watched, same_kind, views_of}
 use Rattle.sheet_run.specs.Driving.{HasDriven, HasEnded, IsAfter, LeavesState}
-use Rattle.sheet_run.specs.Notes.{LeavesSession, Tells, Tried, count_note, count_of, ending_note, ending_status, memory_note, ToldRefused}
+use Rattle.sheet_run.specs.Notes.{LeavesSession, Tells, Tried, count_note, count_of, ending_note, ending_status, file_note, file_status, memory_note, ToldRefused}
+use Rattle.sheet_run.specs.Beginning.{HasBegunOr, IsLoaded}
+use Rattle.sheet_run.specs.Opening.{calls_from, desk_from, log_from, name_of, opening, HasBegun, HasOpened, StartFile}
 use Rattle.sheet_run.specs.Options.{limit_of, shown_kind, words_read}
 use Rattle.sheet_run.specs.Passing.{HasClosedOne, Passed}
-use Rattle.sheet_run.specs.Run.{outside, screens, Outside, RanOutOfMemory, ShelfView, Step}
-use Rattle.sheet_run.specs.Status.{RunsWith, World, asked, finished, is_any, no_memory, no_note, refused, IsRun}
+use Rattle.sheet_run.specs.Run.{happened, outside, screens, Outside, Step}
+use Rattle.sheet_run.specs.Status.{RunsWith, World, asked, finished, is_any, no_memory, no_note, no_sheet, not_read, refused, world, IsRun}
 use Rattle.sheet_run.specs.OptionAnswers.{refused_text}
 use Rattle.sheet_run.specs.declared.options.Refused.{Refused}
 use Rattle.sheet_run.specs.declared.drive.Ending.{Ending}
 use Rattle.sheet_run.specs.declared.drive.Ending.TheVariants.{KeysEnded, Quit, BadWord, KeysFailed, Stopped, NoMemory}
+use Rattle.sheet_run.specs.declared.opening.NotBegun.{NotBegun}
+use Rattle.sheet_run.specs.declared.opening.NotBegun.TheVariants.{NotRead, Memory as NoSheet}
+use Rattle.sheet_run.specs.declared.opening.NotRead.{NotRead as NotReadWhy}
 use Rattle.sheet_run.specs.declared.options.Options.{Options}
 use Rattle.sheet_run.proofs.Shown.{Lifted, all_closed, each_left}
 
@@ -36,28 +49,73 @@ asked_is o kind bytes keys readings shelf displays displays' failed failed' is k
     ap (λ (ds : List View). outside bytes keys readings shelf ds failed') (kept ∙ ap (λ (k : Kind). filter (λ v. same_kind v.kind k) displays) is)
     ∙ ap (λ (fs : List View). outside bytes keys readings shelf (filter (λ v. same_kind v.kind (shown_kind o)) displays) fs) same
 
+-- the start file was read and then the clock, with the displays of other kinds dropped
+pub opened_is : (o : Options) (kind : Kind) (start : Option StartFile) (first : Moment) (bytes : Option (List ℕ)) (keys : ℕ) (readings readings' : Option (List Moment)) (shelf shelf' : ShelfView) (displays displays' failed failed' : List View) →
+    kind ≡ shown_kind o → displays' ≡ filter (λ v. same_kind v.kind kind) displays → failed' ≡ failed → name_of start ≡ o.file → HaveAnswered (calls_from start) shelf shelf' → TakesReading readings readings' first →
+    HasOpened o.file start first (asked o (outside bytes keys readings shelf displays failed)) (outside bytes keys readings' shelf' displays' failed')
+opened_is o kind start first bytes keys readings readings' shelf shelf' displays displays' failed failed' is kept same named answered took = record {
+  named = named;
+  shelf = shelf';
+  answered = answered;
+  readings = readings';
+  took = took;
+  now_is = asked_is o kind bytes keys readings' shelf' displays displays' failed failed' is kept same;
+}
+
+-- the start file isn't read
+pub unread_run : (o : Options) (kind : Kind) (came : NotBegun) (why : NotReadWhy) (bytes : Option (List ℕ)) (keys : ℕ) (readings : Option (List Moment)) (shelf shelf' : ShelfView) (displays displays' failed failed' : List View) (notes notes' : Option (List ℕ)) (faults faults' status : ℕ) →
+    came ≡ NotRead why → kind ≡ shown_kind o → displays' ≡ filter (λ v. same_kind v.kind kind) displays → failed' ≡ failed → HasBegunOr o.file (Err came) shelf shelf' →
+    ((name : List ℕ) → o.file ≡ Some name → Tells (file_note name why) (file_status why) notes notes' faults faults' status) →
+    RunsWith o (world (outside bytes keys readings shelf displays failed) notes faults) (world (outside bytes keys readings shelf' displays' failed') notes' faults') status
+unread_run o kind came why bytes keys readings shelf shelf' displays displays' failed failed' notes notes' faults faults' status came_is is kept same begun told =
+    let h : HasBegunOr o.file (Err (NotRead why)) shelf shelf' = subst (λ (n : NotBegun). HasBegunOr o.file (Err n) shelf shelf') came_is begun in
+    not_read h.0 why shelf' h.1 h.2 (asked_is o kind bytes keys readings shelf' displays displays' failed failed' is kept same) (told h.0 h.1)
+
+-- memory ran out before the sheet was there
+pub broken_run : (o : Options) (kind : Kind) (came : NotBegun) (bytes : Option (List ℕ)) (keys : ℕ) (readings : Option (List Moment)) (shelf shelf' : ShelfView) (displays displays' failed failed' : List View) (notes notes' : Option (List ℕ)) (faults faults' : ℕ) →
+    came ≡ NoSheet → kind ≡ shown_kind o → displays' ≡ filter (λ v. same_kind v.kind kind) displays → failed' ≡ failed → HasBegunOr o.file (Err came) shelf shelf' → Tried memory_note notes notes' faults faults' →
+    RunsWith o (world (outside bytes keys readings shelf displays failed) notes faults) (world (outside bytes keys readings shelf' displays' failed') notes' faults') 9
+broken_run o kind came bytes keys readings shelf shelf' displays displays' failed failed' notes notes' faults faults' came_is is kept same begun tried =
+    let h : HasBegunOr o.file (Err NoSheet) shelf shelf' = subst (λ (n : NotBegun). HasBegunOr o.file (Err n) shelf shelf') came_is begun in
+    no_sheet shelf' h (asked_is o kind bytes keys readings shelf' displays displays' failed failed' is kept same) tried
+
+-- a session has become what a run begins with
+pub record IsOpened (start : Option StartFile) (first : Moment) (s : Running) : Type 0 where
+  pub state : s.state ≡ (opening start first).state
+  pub work : HasWorked (opening start first).log no_work s.work
+
+pub loaded_so : (file : Option (List ℕ)) (desk : declared.Desk) (before now : ShelfView) (b : HasBegun file desk before now) (t : Running) (first : Moment) → IsLoaded desk first t → IsOpened b.start first t
+loaded_so file desk before now b t first is =
+    let from : State = begun_with (desk_from b.start) in
+    let made : Follows (loaded first from) (fresh_running (of_desk desk) (work_of desk.sheet 0)) t =
+    subst (λ (d : Desk). Follows (loaded first (begun_with d)) (fresh_running (of_desk desk) (work_of desk.sheet 0)) t) b.desk_is is.follows in
+    record {
+      state = made.state;
+      work = worked_both (log_from b.start) (loaded first from).log no_work (work_of desk.sheet 0) t.work b.worked made.work;
+    }
+
 -- what became of the displays, whatever the ending
-pub record Handled (steps : List Step) (left out : List Watched) (before now : Outside) : Type 0 where
-  pub sent : Sent before.displays (screens steps) left out
+pub record Handled (s : State) (steps : List Step) (left out : List Watched) (before now : Outside) : Type 0 where
+  pub sent : Sent before.displays (screens s steps) left out
   pub displays : now.displays ≡ views_of left
   pub failed : now.failed ≡ before.failed ++ views_of out
 
-pub handled : (limit : ℕ) (steps : List Step) (left out : List Watched) (before now : Outside) (ending : Ending) → HasEnded limit steps left out before now ending → Handled steps left out before now
-handled limit steps left out before now KeysEnded h = record { sent = h.did.sent; displays = h.did.displays; failed = h.did.failed }
-handled limit steps left out before now Quit h = record { sent = h.did.sent; displays = h.did.displays; failed = h.did.failed }
-handled limit steps left out before now (BadWord at) (inl h) = record { sent = h.did.sent; displays = h.did.displays; failed = h.did.failed }
-handled limit steps left out before now (BadWord at) (inr h) = record { sent = h.did.sent; displays = h.did.displays; failed = h.did.failed }
-handled limit steps left out before now KeysFailed h = record { sent = h.did.sent; displays = h.did.displays; failed = h.did.failed }
-handled limit steps left out before now Stopped h = record { sent = h.did.sent; displays = h.did.displays; failed = h.did.failed }
-handled limit steps left out before now NoMemory h = record { sent = h.did.sent; displays = h.did.displays; failed = h.did.failed }
+pub handled : (limit : ℕ) (s : State) (steps : List Step) (left out : List Watched) (before now : Outside) (ending : Ending) → HasEnded limit s steps left out before now ending → Handled s steps left out before now
+handled limit s steps left out before now KeysEnded h = record { sent = h.did.sent; displays = h.did.displays; failed = h.did.failed }
+handled limit s steps left out before now Quit h = record { sent = h.did.sent; displays = h.did.displays; failed = h.did.failed }
+handled limit s steps left out before now (BadWord at) (inl h) = record { sent = h.did.sent; displays = h.did.displays; failed = h.did.failed }
+handled limit s steps left out before now (BadWord at) (inr h) = record { sent = h.did.sent; displays = h.did.displays; failed = h.did.failed }
+handled limit s steps left out before now KeysFailed h = record { sent = h.did.sent; displays = h.did.displays; failed = h.did.failed }
+handled limit s steps left out before now Stopped h = record { sent = h.did.sent; displays = h.did.displays; failed = h.did.failed }
+handled limit s steps left out before now NoMemory h = record { sent = h.did.sent; displays = h.did.displays; failed = h.did.failed }
 
-state_is : (s : Running) (steps : List Step) (ending : Ending) → LeavesSession ending → LeavesState s steps ending → IsAfter s steps
-state_is s steps KeysEnded leaves is = is
-state_is s steps Quit leaves is = is
-state_is s steps (BadWord at) leaves is = is
-state_is s steps KeysFailed leaves is = is
-state_is s steps Stopped leaves is = is
-state_is s steps NoMemory leaves is = absurd leaves
+state_is : (from s : Running) (steps : List Step) (ending : Ending) → LeavesSession ending → LeavesState from s steps ending → IsAfter from s steps
+state_is from s steps KeysEnded leaves is = is
+state_is from s steps Quit leaves is = is
+state_is from s steps (BadWord at) leaves is = is
+state_is from s steps KeysFailed leaves is = is
+state_is from s steps Stopped leaves is = is
+state_is from s steps NoMemory leaves is = absurd leaves
 
 any_length : (ds : List Watched) → is_any ds ≡ nat_lt 0 (length ds)
 any_length [] = refl
@@ -73,20 +131,32 @@ any_moved before now failed' out out' first second =
     omega (arith, ap length second, ap length first, length-append now (views_of out'), length-append before (views_of out), length-append out out', length-map out (λ (d : Watched). d.now), length-map out' (λ (d : Watched). d.now)) in
     ap (nat_lt (length before)) count ∙ longer (length before) (length (out ++ out')) ∙ sym (any_length (out ++ out'))
 
-pub finish : (o : Options) (limit : ℕ) (s : Running) (ending : Ending) (begun middle : Outside) (before now : World) (displays' failed' : List View) (moved : Bool) (status : ℕ) →
-    limit ≡ limit_of o → begun ≡ asked o before.outside → LeavesSession ending → HasDriven limit s begun middle ending →
+-- the steps ended as they did, seen from what the run begins with
+ended_from : (limit limit' : ℕ) (s s' : State) (steps : List Step) (left out : List Watched) (before now : Outside) (ending : Ending) → limit ≡ limit' → s ≡ s' → HasEnded limit s steps left out before now ending → HasEnded limit' s' steps left out before now ending
+ended_from limit limit' s s' steps left out before now ending same is ended =
+    subst (λ (u : State). HasEnded limit' u steps left out before now ending) is (subst (λ (n : ℕ). HasEnded n s steps left out before now ending) same ended)
+
+pub finish : (o : Options) (limit : ℕ) (start : Option StartFile) (first : Moment) (from s : Running) (ending : Ending) (begun middle : Outside) (before now : World) (displays' failed' : List View) (moved : Bool) (status : ℕ) →
+    limit ≡ limit_of o → HasOpened o.file start first (asked o before.outside) begun → IsOpened start first from → LeavesSession ending → HasDriven limit from s begun middle ending →
     Passed HasClosedOne middle.displays displays' middle.failed failed' → now.outside ≡ record middle { displays = displays'; failed = failed' } → moved ≡ nat_lt (length before.outside.failed) (length failed') →
     Tells (count_note (count_of o s.work) ++ ending_note limit moved ending) (ending_status moved ending) before.notes now.notes before.note_faults now.note_faults status → RunsWith o before now status
-finish o limit s ending begun middle before now displays' failed' moved status limit_is begun_is leaves driven passed now_is moved_is told =
-    let ended : HasEnded (limit_of o) driven.steps driven.left driven.out (asked o before.outside) middle ending =
-    subst (λ (n : ℕ). HasEnded n driven.steps driven.left driven.out (asked o before.outside) middle ending) limit_is (subst (λ (b : Outside). HasEnded limit driven.steps driven.left driven.out b middle ending) begun_is driven.ended) in
-    let h : Handled driven.steps driven.left driven.out (asked o before.outside) middle = handled _ _ _ _ _ _ ending ended in
-    let l : Lifted (HasClosed (screens driven.steps)) (HasFailed (screens driven.steps)) driven.left displays' passed.out =
-    all_closed (screens driven.steps) driven.left middle.displays displays' passed.out passed.parts h.displays (each_left _ _ _ _ h.sent) in
+finish o limit start first from s ending begun middle before now displays' failed' moved status limit_is opened from_is leaves driven passed now_is moved_is told =
+    let state : State = (opening start first).state in
+    let ended : HasEnded (limit_of o) state driven.steps driven.left driven.out begun middle ending = ended_from limit (limit_of o) from.state state _ _ _ _ _ ending limit_is from_is.state driven.ended in
+    let h : Handled state driven.steps driven.left driven.out begun middle = handled _ _ _ _ _ _ _ ending ended in
+    let l : Lifted (HasClosed (screens state driven.steps)) (HasFailed (screens state driven.steps)) driven.left displays' passed.out =
+    all_closed (screens state driven.steps) driven.left middle.displays displays' passed.out passed.parts h.displays (each_left _ _ _ _ h.sent) in
     let gone : failed' ≡ middle.failed ++ views_of l.gone = passed.handed ∙ ap (λ (fs : List View). middle.failed ++ fs) l.gone_views in
-    let any : moved ≡ is_any (driven.out ++ l.gone) = moved_is ∙ any_moved before.outside.failed middle.failed failed' driven.out l.gone h.failed gone in
-    let state : IsAfter s driven.steps = state_is s driven.steps ending leaves driven.state in
+    let begun_failed : begun.failed ≡ before.outside.failed = ap (λ (x : Outside). x.failed) opened.now_is in
+    let middle_failed : middle.failed ≡ before.outside.failed ++ views_of driven.out = h.failed ∙ ap (λ (fs : List View). fs ++ views_of driven.out) begun_failed in
+    let any : moved ≡ is_any (driven.out ++ l.gone) = moved_is ∙ any_moved before.outside.failed middle.failed failed' driven.out l.gone middle_failed gone in
+    let after : IsAfter from s driven.steps = state_is from s driven.steps ending leaves driven.state in
+    let happened_after : HasWorked (happened state driven.steps) from.work s.work = subst (λ (u : State). HasWorked (happened u driven.steps) from.work s.work) from_is.state after.work in
     finished (ending_status moved ending) (count_note (count_of o s.work) ++ ending_note limit moved ending) (record {
+      start = start;
+      first = first;
+      begun = begun;
+      opened = opened;
       ending = ending;
       leaves = leaves;
       steps = driven.steps;
@@ -95,7 +165,7 @@ finish o limit s ending begun middle before now displays' failed' moved status l
       middle = middle;
       ended = ended;
       work = s.work;
-      worked = state.work;
+      worked = worked_both (opening start first).log (happened state driven.steps) no_work from.work s.work from_is.work happened_after;
       left_now = l.stay;
       out_now = l.gone;
       closed = l.passes;
@@ -104,11 +174,10 @@ finish o limit s ending begun middle before now displays' failed' moved status l
       text_is = ap (λ (n : ℕ). count_note (count_of o s.work) ++ ending_note n moved ending) limit_is ∙ ap (λ (m : Bool). count_note (count_of o s.work) ++ ending_note (limit_of o) m ending) any;
     }) told
 
-pub ran_out : (o : Options) (limit : ℕ) (s : Running) (begun : Outside) (before now : World) → limit ≡ limit_of o → begun ≡ asked o before.outside → HasDriven limit s begun now.outside NoMemory →
-    Tried memory_note before.notes now.notes before.note_faults now.note_faults → RunsWith o before now 9
-ran_out o limit s begun before now limit_is begun_is driven tried =
-    no_memory driven.steps driven.left driven.out
-    (subst (λ (n : ℕ). RanOutOfMemory n driven.steps driven.left driven.out (asked o before.outside) now.outside) limit_is (subst (λ (b : Outside). RanOutOfMemory limit driven.steps driven.left driven.out b now.outside) begun_is driven.ended)) tried
+pub ran_out : (o : Options) (limit : ℕ) (start : Option StartFile) (first : Moment) (from s : Running) (begun : Outside) (before now : World) → limit ≡ limit_of o → HasOpened o.file start first (asked o before.outside) begun → IsOpened start first from →
+    HasDriven limit from s begun now.outside NoMemory → Tried memory_note before.notes now.notes before.note_faults now.note_faults → RunsWith o before now 9
+ran_out o limit start first from s begun before now limit_is opened from_is driven tried =
+    no_memory start first begun driven.steps driven.left driven.out opened (ended_from limit (limit_of o) from.state (opening start first).state _ _ _ _ _ NoMemory limit_is from_is.state driven.ended) tried
 
 pub leaves_unless : (ending : Ending) → (ending ≡ NoMemory → ⊥) → LeavesSession ending
 leaves_unless KeysEnded h = tt

@@ -1,8 +1,10 @@
 -- Lists that begin others, and steps that don't all go on.
-use Rattle.std.proofs.Common.{◌≡◌, ◌≤◌, List, [], ◌∷◌, ◌++◌, length, refl, sym, ap, ◌∙◌, arith}
+use Rattle.std.proofs.Common.{◌≡◌, ◌≤◌, Option, List, [], ◌∷◌, ◌++◌, length, refl, sym, ap, ◌∙◌, arith}
 use Rattle.key_words.specs.declared.key.Key.{Key}
-use Rattle.session_core.specs.Machine.{start, State}
+use Rattle.serial_date.specs.declared.moment.Moment.{Moment}
+use Rattle.session_core.specs.Machine.{State}
 use Rattle.sheet_run.specs.Completeness.{EndTheRun}
+use Rattle.sheet_run.specs.Opening.{opening, StartFile}
 use Rattle.sheet_run.specs.Run.{keys_of, outcome, GoOn, Step}
 
 -- of two lists that begin one, the shorter begins the other
@@ -26,7 +28,7 @@ first_go_on (k ∷ ks) more (x ∷ xs) s e on =
     (x ∷ front.0, ap (λ (l : List Key). x.key ∷ l) front.1 ∙ ap (λ (z : Key). z ∷ ks) first, (on.0, front.2))
 
 -- a run whose keys begin with those by which it is quit doesn't go on
-pub must_quit : (keys more : List Key) (steps : List Step) → keys_of steps ≡ keys ++ more → EndTheRun keys → GoOn start steps → ⊥
-must_quit keys more steps e quits on =
-    let front = first_go_on keys more steps start e on in
-    quits front.0 front.1 front.2
+pub must_quit : (start : Option StartFile) (first : Moment) (keys more : List Key) (steps : List Step) → keys_of steps ≡ keys ++ more → EndTheRun start keys → GoOn (opening start first).state steps → ⊥
+must_quit start first keys more steps e quits on =
+    let front = first_go_on keys more steps (opening start first).state e on in
+    quits first front.0 front.1 front.2

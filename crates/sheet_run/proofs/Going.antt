@@ -5,10 +5,11 @@ use Rattle.outside_world.specs.Causes.{Rose}
 use Rattle.outside_world.specs.Clock.{TakesReading}
 use Rattle.serial_date.specs.declared.moment.Moment.{Moment}
 use Rattle.key_words.specs.declared.key.Key.{Key}
-use Rattle.session_core.specs.Machine.{start, started, Follows, Outcome, Running, State}
+use Rattle.session_core.specs.Machine.{Follows, Outcome, Running, State}
 use Rattle.work_sheet.proofs.OneWork.{worked_both}
 use Rattle.work_sheet.specs.Doing.{Happened}
-use Rattle.work_sheet.specs.Work.{no_work, HasWorked}
+use Rattle.work_sheet.specs.Work.{HasWorked}
+use Rattle.commands_file.specs.Calls.{Asked, HaveAnswered, ShelfView}
 use Rattle.session_core.specs.Screen.{screen}
 use Rattle.screen_show.specs.Display.{View}
 use Rattle.screen_show.specs.Grid.{empty_grid}
@@ -16,7 +17,7 @@ use Rattle.sheet_run.specs.Displays.{Screen, Sent, Watched, last_screen, no_scre
 use Rattle.sheet_run.specs.Driving.{ended_as, EndsAsTold, HasDriven, HasEnded, HasMadeStep, HasNotMadeStep, IsAfter, LeavesState}
 use Rattle.sheet_run.specs.Notation.{SpellsInto}
 use Rattle.sheet_run.specs.Reader.{HasJustPressed, HasPressed, HasPressedAll, IsFull, Reads, RestsAsTold}
-use Rattle.sheet_run.specs.Run.{after, happened, keys_of, moments_of, outcome, outside, screens, screens_from, Ended, GoOn, HasRun, Outside, RanOutOfMemory, RanToBadByte, RanToKeyFault, RanToLimit, ShelfView, Step}
+use Rattle.sheet_run.specs.Run.{after, calls_of, happened, keys_of, moments_of, outcome, outside, screens, Ended, GoOn, HasRun, Outside, RanOutOfMemory, RanToBadByte, RanToKeyFault, RanToLimit, Step}
 use Rattle.sheet_run.specs.Taking.{TakesBytes, TakesReadings}
 use Rattle.sheet_run.specs.declared.reader.KeyFeed.{KeyFeed}
 use Rattle.sheet_run.specs.declared.drive.Ending.{Ending}
@@ -36,50 +37,57 @@ happened_more : (steps : List Step) (s : State) (x : Step) → happened s (steps
 happened_more [] s x = append-nil (outcome s x).log
 happened_more (y ∷ ys) s x = ap (λ (l : List Happened). (outcome s y).log ++ l) (happened_more ys (outcome s y).state x) ∙ sym (append_assoc (outcome s y).log (happened (outcome s y).state ys) (outcome (after s (y ∷ ys)) x).log)
 
-screens_more : (steps : List Step) (s : State) (x : Step) → screens_from s (steps ++ x ∷ []) ≡ screens_from s steps ++ screen (outcome (after s steps) x).state ∷ []
+screens_more : (steps : List Step) (s : State) (x : Step) → screens s (steps ++ x ∷ []) ≡ screens s steps ++ screen (outcome (after s steps) x).state ∷ []
 screens_more [] s x = refl
 screens_more (y ∷ ys) s x = ap (λ (l : List Screen). screen (outcome s y).state ∷ l) (screens_more ys (outcome s y).state x)
+
+calls_more : (steps : List Step) (s : State) (x : Step) → calls_of s (steps ++ x ∷ []) ≡ calls_of s steps ++ (outcome (after s steps) x).calls
+calls_more [] s x = append-nil (outcome s x).calls
+calls_more (y ∷ ys) s x = ap (λ (l : List Asked). (outcome s y).calls ++ l) (calls_more ys (outcome s y).state x) ∙ sym (append_assoc (outcome s y).calls (calls_of (outcome s y).state ys) (outcome (after s (y ∷ ys)) x).calls)
+
+-- some calls were answered, and then others
+answered_both : (one other : List Asked) (a b c : ShelfView) → HaveAnswered one a b → HaveAnswered other b c → HaveAnswered (one ++ other) a c
+answered_both [] other a b c p q = subst (λ x. HaveAnswered other x c) p q
+answered_both (k ∷ ks) other a b c p q = (p.0, p.1, answered_both ks other p.0 b c p.2 q)
 
 goes_on_more : (steps : List Step) (s : State) (x : Step) → GoOn s steps → (outcome (after s steps) x).ends ≡ false → GoOn s (steps ++ x ∷ [])
 goes_on_more [] s x on more = (more, tt)
 goes_on_more (y ∷ ys) s x on more = (on.0, goes_on_more ys (outcome s y).state x on.1 more)
 
-one_more_after : (s t : Running) (steps : List Step) (x : Step) → IsAfter s steps → Follows (outcome s.state x) s t → IsAfter t (steps ++ x ∷ [])
-one_more_after s t steps x was made =
-    let now : Outcome = outcome (after start steps) x in
+one_more_after : (from s t : Running) (steps : List Step) (x : Step) → IsAfter from s steps → Follows (outcome s.state x) s t → IsAfter from t (steps ++ x ∷ [])
+one_more_after from s t steps x was made =
+    let now : Outcome = outcome (after from.state steps) x in
     let follows : Follows now s t = subst (λ (u : State). Follows (outcome u x) s t) was.state made in
     record {
-      state = follows.state ∙ sym (after_more steps start x);
-      work = subst (λ (l : List Happened). HasWorked l no_work t.work) (sym (happened_more steps start x)) (worked_both (happened start steps) now.log no_work s.work t.work was.work follows.work);
+      state = follows.state ∙ sym (after_more steps from.state x);
+      work = subst (λ (l : List Happened). HasWorked l from.work t.work) (sym (happened_more steps from.state x)) (worked_both (happened from.state steps) now.log from.work s.work t.work was.work follows.work);
     }
 
 -- these keys came from the bytes that were taken, and each made a step
-pub record Going (limit count : ℕ) (s : Running) (f : KeyFeed) (shown : Screen) (before now : Outside) : Type 0 where
+pub record Going (limit count : ℕ) (from s : Running) (f : KeyFeed) (shown : Screen) (before now : Outside) : Type 0 where
   pub taken : List ℕ
-  pub first : Moment
   pub steps : List Step
   pub left : List Watched
   pub out : List Watched
-  pub did : HasRun limit taken (first ∷ moments_of steps) steps left out before now
+  pub did : HasRun limit from.state taken (moments_of steps) steps left out before now
   pub typed : HasPressed taken (keys_of steps) f
-  pub go_on : GoOn start steps
-  pub session : IsAfter s steps
+  pub go_on : GoOn from.state steps
+  pub session : IsAfter from s steps
   pub fresh : s.spent ≡ false
   pub no_fault : now.key_faults ≡ before.key_faults
   pub made : length steps ≡ count
-  pub shows : shown ≡ last_screen empty_grid (screens steps)
+  pub shows : shown ≡ last_screen empty_grid (screens from.state steps)
 
-pub going_starts : (limit : ℕ) (bytes : Option (List ℕ)) (faults : ℕ) (told now : Option (List Moment)) (shelf : ShelfView) (displays failed : List View) (s : Running) (first : Moment) (f : KeyFeed) (shown : Screen) →
-    s ≡ started → TakesReading told now first → HasPressedAll [] [] f → shown ≡ empty_grid → Going limit 0 s f shown (outside bytes faults told shelf displays failed) (outside bytes faults now shelf displays failed)
-going_starts limit bytes faults told now shelf displays failed s first f shown is took none empty = record {
+pub going_starts : (limit : ℕ) (bytes : Option (List ℕ)) (faults : ℕ) (told : Option (List Moment)) (shelf : ShelfView) (displays failed : List View) (s : Running) (f : KeyFeed) (shown : Screen) →
+    s.spent ≡ false → HasPressedAll [] [] f → shown ≡ empty_grid → Going limit 0 s s f shown (outside bytes faults told shelf displays failed) (outside bytes faults told shelf displays failed)
+going_starts limit bytes faults told shelf displays failed s f shown fresh none empty = record {
   taken = [];
-  first = first;
   steps = [];
   left = _;
   out = [];
   did = record {
     bytes = takes_none bytes bytes refl;
-    readings = (now, took, refl);
+    readings = refl;
     shelf = refl;
     sent = no_screen;
     displays = views_start displays;
@@ -89,18 +97,18 @@ going_starts limit bytes faults told now shelf displays failed s first f shown i
   };
   typed = inl none;
   go_on = tt;
-  session = rw is (record { state = refl; work = refl });
-  fresh = rw is refl;
+  session = record { state = refl; work = refl };
+  fresh = fresh;
   no_fault = refl;
   made = refl;
   shows = empty;
 }
 
-module _ (limit count : ℕ) (s : Running) (f : KeyFeed) (shown : Screen) (before : Outside) (bytes : Option (List ℕ)) (faults : ℕ) (told : Option (List Moment)) (shelf : ShelfView) (displays failed : List View)
-    (going : Going limit count s f shown before (outside bytes faults told shelf displays failed)) where
+module _ (limit count : ℕ) (from s : Running) (f : KeyFeed) (shown : Screen) (before : Outside) (bytes : Option (List ℕ)) (faults : ℕ) (told : Option (List Moment)) (shelf : ShelfView) (displays failed : List View)
+    (going : Going limit count from s f shown before (outside bytes faults told shelf displays failed)) where
   -- what was done, when more bytes are taken
   did_take : (more : List ℕ) (bytes' : Option (List ℕ)) (faults' : ℕ) → TakesBytes bytes more bytes' → length (going.taken ++ more) ≤ 2 ^ 64 - 1 →
-      HasRun limit (going.taken ++ more) (going.first ∷ moments_of going.steps) going.steps going.left going.out before (outside bytes' faults' told shelf displays failed)
+      HasRun limit from.state (going.taken ++ more) (moments_of going.steps) going.steps going.left going.out before (outside bytes' faults' told shelf displays failed)
   did_take more bytes' faults' took few = record {
     bytes = takes_both before.bytes bytes bytes' going.taken more going.did.bytes took;
     readings = going.did.readings;
@@ -113,8 +121,8 @@ module _ (limit count : ℕ) (s : Running) (f : KeyFeed) (shown : Screen) (befor
   }
 
   did_none : (bytes' : Option (List ℕ)) (faults' : ℕ) → TakesBytes bytes [] bytes' →
-      HasRun limit going.taken (going.first ∷ moments_of going.steps) going.steps going.left going.out before (outside bytes' faults' told shelf displays failed)
-  did_none bytes' faults' none = subst (λ (t : List ℕ). HasRun limit t (going.first ∷ moments_of going.steps) going.steps going.left going.out before (outside bytes' faults' told shelf displays failed)) (append-nil going.taken) (did_take [] bytes' faults' none (omega (arith, length-append going.taken [], going.did.few)))
+      HasRun limit from.state going.taken (moments_of going.steps) going.steps going.left going.out before (outside bytes' faults' told shelf displays failed)
+  did_none bytes' faults' none = subst (λ (t : List ℕ). HasRun limit from.state t (moments_of going.steps) going.steps going.left going.out before (outside bytes' faults' told shelf displays failed)) (append-nil going.taken) (did_take [] bytes' faults' none (omega (arith, length-append going.taken [], going.did.few)))
 
   -- what reading comes to here
   abbrev ReadHere : Option (List ℕ) → KeyFeed → Read → Type 0
@@ -122,12 +130,11 @@ module _ (limit count : ℕ) (s : Running) (f : KeyFeed) (shown : Screen) (befor
 
   -- a byte that goes on
   pub going_on : (bytes' : Option (List ℕ)) (faults' : ℕ) (g : KeyFeed) → ReadHere bytes' g ReadMore → g.words.taken ≤ 2 ^ 64 - 1 → faults' ≡ faults →
-      Going limit count s g shown before (outside bytes' faults' told shelf displays failed)
+      Going limit count from s g shown before (outside bytes' faults' told shelf displays failed)
   going_on bytes' faults' g reads few same =
       let read = reads going.taken (keys_of going.steps) going.typed in
       record {
         taken = going.taken ++ read.0 ∷ [];
-        first = going.first;
         steps = going.steps;
         left = going.left;
         out = going.out;
@@ -142,10 +149,9 @@ module _ (limit count : ℕ) (s : Running) (f : KeyFeed) (shown : Screen) (befor
       }
 
   at_end : (bytes' : Option (List ℕ)) (faults' : ℕ) (g : KeyFeed) → TakesBytes bytes [] bytes' → Ended going.taken bytes' → faults' ≡ faults → HasPressedAll going.taken (keys_of going.steps) g →
-      (rests : Bool) → RestsAsTold g rests → HasEnded limit going.steps going.left going.out before (outside bytes' faults' told shelf displays failed) (ended_as rests g.words.taken)
+      (rests : Bool) → RestsAsTold g rests → HasEnded limit from.state going.steps going.left going.out before (outside bytes' faults' told shelf displays failed) (ended_as rests g.words.taken)
   at_end bytes' faults' g none ended same all true rest = record {
     taken = going.taken;
-    first = going.first;
     did = did_none bytes' faults' none;
     go_on = going.go_on;
     spelled = (all.words, rest.whole going.taken all.words all.read refl, all.keys_are);
@@ -154,7 +160,6 @@ module _ (limit count : ℕ) (s : Running) (f : KeyFeed) (shown : Screen) (befor
   }
   at_end bytes' faults' g none ended same all false rest = inl (record {
     taken = going.taken;
-    first = going.first;
     did = did_none bytes' faults' none;
     go_on = going.go_on;
     keys = has going.taken (keys_of going.steps) g all;
@@ -165,30 +170,29 @@ module _ (limit count : ℕ) (s : Running) (f : KeyFeed) (shown : Screen) (befor
   })
 
   told_end : (bytes' : Option (List ℕ)) (faults' : ℕ) (g : KeyFeed) (ending : Ending) → TakesBytes bytes [] bytes' → Ended going.taken bytes' → faults' ≡ faults → HasPressedAll going.taken (keys_of going.steps) g → EndsAsTold g ending →
-      HasEnded limit going.steps going.left going.out before (outside bytes' faults' told shelf displays failed) ending
+      HasEnded limit from.state going.steps going.left going.out before (outside bytes' faults' told shelf displays failed) ending
   told_end bytes' faults' g ending none ended same all (rests, rest, is) = rw is (at_end bytes' faults' g none ended same all rests rest)
 
   pub ran_to_end : (bytes' : Option (List ℕ)) (faults' : ℕ) (g : KeyFeed) (ending : Ending) → ReadHere bytes' g ReadEnd → faults' ≡ faults → EndsAsTold g ending →
-      HasEnded limit going.steps going.left going.out before (outside bytes' faults' told shelf displays failed) ending
+      HasEnded limit from.state going.steps going.left going.out before (outside bytes' faults' told shelf displays failed) ending
   ran_to_end bytes' faults' g ending reads same ends =
       let read = reads going.taken (keys_of going.steps) going.typed in
       told_end bytes' faults' g ending read.0 (inl read.1) same read.2 ends
 
   -- as many bytes were read as can be counted
-  pub ran_all : (ending : Ending) → IsFull f → EndsAsTold f ending → HasEnded limit going.steps going.left going.out before (outside bytes faults told shelf displays failed) ending
+  pub ran_all : (ending : Ending) → IsFull f → EndsAsTold f ending → HasEnded limit from.state going.steps going.left going.out before (outside bytes faults told shelf displays failed) ending
   ran_all ending full ends =
       let all : HasPressedAll going.taken (keys_of going.steps) f = settled going.taken (keys_of going.steps) f full.0 going.typed in
       let long : length going.taken ≡ 2 ^ 64 - 1 = sym all.read.taken ∙ full.1 in
       told_end bytes faults f ending (takes_none bytes bytes refl) (inr long) refl all ends
 
   pub ran_to_bad : (bytes' : Option (List ℕ)) (faults' : ℕ) (g : KeyFeed) (at : ℕ) → ReadHere bytes' g (ReadBad at) → faults' ≡ faults →
-      RanToBadByte limit at going.steps going.left going.out before (outside bytes' faults' told shelf displays failed)
+      RanToBadByte limit at from.state going.steps going.left going.out before (outside bytes' faults' told shelf displays failed)
   ran_to_bad bytes' faults' g at reads same =
       let read = reads going.taken (keys_of going.steps) going.typed in
       record {
         taken = going.taken;
         bad = read.0;
-        first = going.first;
         did = did_take (read.0 ∷ []) bytes' faults' read.1 (omega (arith, length-append going.taken (read.0 ∷ []), read.4, read.5));
         go_on = going.go_on;
         keys = read.2;
@@ -198,12 +202,11 @@ module _ (limit count : ℕ) (s : Running) (f : KeyFeed) (shown : Screen) (befor
       }
 
   pub ran_to_fault : (bytes' : Option (List ℕ)) (faults' : ℕ) (g : KeyFeed) → ReadHere bytes' g ReadFailed → Rose faults faults' →
-      RanToKeyFault limit going.steps going.left going.out before (outside bytes' faults' told shelf displays failed)
+      RanToKeyFault limit from.state going.steps going.left going.out before (outside bytes' faults' told shelf displays failed)
   ran_to_fault bytes' faults' g reads rose =
       let read = reads going.taken (keys_of going.steps) going.typed in
       record {
         taken = going.taken;
-        first = going.first;
         did = did_none bytes' faults' read.0;
         go_on = going.go_on;
         keys = read.1;
@@ -223,19 +226,18 @@ module _ (limit count : ℕ) (s : Running) (f : KeyFeed) (shown : Screen) (befor
     into : SpellsInto (going.taken ++ read.0) (keys_of going.steps ++ key ∷ [])
     into = record { key = g.key; left = g.left; into = just.into }
 
-    keys_more : (m : Moment) → keys_of (going.steps ++ record { key = key; moment = m } ∷ []) ≡ keys_of going.steps ++ key ∷ []
-    keys_more m = map-append (λ (x : Step). x.key) going.steps (record { key = key; moment = m } ∷ [])
+    keys_more : (x : Step) → x.key ≡ key → keys_of (going.steps ++ x ∷ []) ≡ keys_of going.steps ++ key ∷ []
+    keys_more x is = map-append (λ (x : Step). x.key) going.steps (x ∷ []) ∙ ap (λ (k : Key). keys_of going.steps ++ k ∷ []) is
 
-    moments_more : (m : Moment) → moments_of (going.steps ++ record { key = key; moment = m } ∷ []) ≡ moments_of going.steps ++ m ∷ []
-    moments_more m = map-append (λ (x : Step). x.moment) going.steps (record { key = key; moment = m } ∷ [])
+    moments_more : (x : Step) → moments_of (going.steps ++ x ∷ []) ≡ moments_of going.steps ++ x.moment ∷ []
+    moments_more x = map-append (λ (x : Step). x.moment) going.steps (x ∷ [])
 
-    readings_more : (m : Moment) (told' : Option (List Moment)) → TakesReading told told' m → TakesReadings before.readings (going.first ∷ moments_of going.steps ++ m ∷ []) told'
-    readings_more m told' took = reads_one_more (going.first ∷ moments_of going.steps) before.readings told told' m going.did.readings took
+    readings_more : (m : Moment) (told' : Option (List Moment)) → TakesReading told told' m → TakesReadings before.readings (moments_of going.steps ++ m ∷ []) told'
+    readings_more m told' took = reads_one_more (moments_of going.steps) before.readings told told' m going.did.readings took
 
-    pub ran_to_limit : limit ≤ count → RanToLimit limit going.steps going.left going.out before (outside bytes' faults' told shelf displays failed)
+    pub ran_to_limit : limit ≤ count → RanToLimit limit from.state going.steps going.left going.out before (outside bytes' faults' told shelf displays failed)
     ran_to_limit all = record {
       taken = going.taken ++ read.0;
-      first = going.first;
       last = key;
       did = did_take read.0 bytes' faults' read.1 few;
       go_on = going.go_on;
@@ -244,48 +246,55 @@ module _ (limit count : ℕ) (s : Running) (f : KeyFeed) (shown : Screen) (befor
       no_fault = same ∙ going.no_fault;
     }
 
-    pub ran_out : (told' : Option (List Moment)) (shelf' : ShelfView) (displays' failed' : List View) → shelf' ≡ shelf → count < limit → HasNotMadeStep told told' displays displays' failed failed' →
-        RanOutOfMemory limit going.steps going.left going.out before (outside bytes' faults' told' shelf' displays' failed')
-    ran_out told' shelf' displays' failed' still below not_made = record {
+    pub ran_out : (told' : Option (List Moment)) (shelf' : ShelfView) (displays' failed' : List View) → count < limit → HasNotMadeStep told told' shelf shelf' displays displays' failed failed' →
+        RanOutOfMemory limit from.state going.steps going.left going.out before (outside bytes' faults' told' shelf' displays' failed')
+    ran_out told' shelf' displays' failed' below not_made = record {
       taken = going.taken ++ read.0;
-      first = going.first;
       unfinished = key;
       reading = not_made.moment;
+      finished = shelf;
       did = record {
         bytes = takes_both before.bytes bytes bytes' going.taken read.0 going.did.bytes read.1;
         readings = readings_more not_made.moment told' not_made.took;
-        shelf = still ∙ going.did.shelf;
+        shelf = going.did.shelf;
         sent = going.did.sent;
         displays = not_made.displays_stay ∙ going.did.displays;
         failed = not_made.failed_stay ∙ going.did.failed;
         within = going.did.within;
         few = few;
       };
+      broke = not_made.broke;
       go_on = going.go_on;
       more = omega (arith, going.made);
       spelled = into;
       no_fault = same ∙ going.no_fault;
     }
 
-    module _ (told' : Option (List Moment)) (shelf' : ShelfView) (t : Running) (shown' : Screen) (displays' failed' : List View) (still : shelf' ≡ shelf) (below : count < limit) (ends : Bool)
-        (made : HasMadeStep key ends s t told told' shown shown' displays displays' failed failed') where
+    module _ (told' : Option (List Moment)) (shelf' : ShelfView) (t : Running) (shown' : Screen) (displays' failed' : List View) (below : count < limit) (ends : Bool)
+        (made : HasMadeStep key ends s t told told' shelf shelf' shown shown' displays displays' failed failed') where
       abbrev pub this : Step
-      this = record { key = key; moment = made.moment }
+      this = record { key = key; moment = made.moment; replies = made.replies }
 
-      screens_now : screens (going.steps ++ this ∷ []) ≡ screens going.steps ++ screen t.state ∷ []
+      screens_now : screens from.state (going.steps ++ this ∷ []) ≡ screens from.state going.steps ++ screen t.state ∷ []
       screens_now =
-          let now : t.state ≡ (outcome (after start going.steps) this).state = made.stepped.state ∙ ap (λ (u : State). (outcome u this).state) going.session.state in
-          screens_more going.steps start this ∙ ap (λ (u : State). screens going.steps ++ screen u ∷ []) (sym now)
+          let now : t.state ≡ (outcome (after from.state going.steps) this).state = made.stepped.state ∙ ap (λ (u : State). (outcome u this).state) going.session.state in
+          screens_more going.steps from.state this ∙ ap (λ (u : State). screens from.state going.steps ++ screen u ∷ []) (sym now)
 
-      pub sent : SentOne before.displays (screens going.steps ++ screen t.state ∷ []) displays' before.failed failed'
-      sent = sent_one before.displays (screens going.steps) shown (screen t.state) going.left going.out displays displays' before.failed failed failed' made.printed going.shows going.did.sent
-          (each_left before.displays (screens going.steps) going.left going.out going.did.sent) going.did.displays going.did.failed made.passed
+      answered_now : HaveAnswered (calls_of from.state (going.steps ++ this ∷ [])) before.shelf shelf'
+      answered_now =
+          let answered : HaveAnswered (outcome (after from.state going.steps) this).calls shelf shelf' = subst (λ (u : State). HaveAnswered (outcome u this).calls shelf shelf') going.session.state made.answered in
+          subst (λ (l : List Asked). HaveAnswered l before.shelf shelf') (sym (calls_more going.steps from.state this))
+          (answered_both (calls_of from.state going.steps) (outcome (after from.state going.steps) this).calls before.shelf shelf shelf' going.did.shelf answered)
 
-      pub did_step : HasRun limit (going.taken ++ read.0) (going.first ∷ moments_of (going.steps ++ this ∷ [])) (going.steps ++ this ∷ []) sent.left sent.out before (outside bytes' faults' told' shelf' displays' failed')
+      pub sent : SentOne before.displays (screens from.state going.steps ++ screen t.state ∷ []) displays' before.failed failed'
+      sent = sent_one before.displays (screens from.state going.steps) shown (screen t.state) going.left going.out displays displays' before.failed failed failed' made.printed going.shows going.did.sent
+          (each_left before.displays (screens from.state going.steps) going.left going.out going.did.sent) going.did.displays going.did.failed made.passed
+
+      pub did_step : HasRun limit from.state (going.taken ++ read.0) (moments_of (going.steps ++ this ∷ [])) (going.steps ++ this ∷ []) sent.left sent.out before (outside bytes' faults' told' shelf' displays' failed')
       did_step = record {
         bytes = takes_both before.bytes bytes bytes' going.taken read.0 going.did.bytes read.1;
-        readings = subst (λ (ms : List Moment). TakesReadings before.readings (going.first ∷ ms) told') (sym (moments_more made.moment)) (readings_more made.moment told' made.took);
-        shelf = still ∙ going.did.shelf;
+        readings = subst (λ (ms : List Moment). TakesReadings before.readings ms told') (sym (moments_more this)) (readings_more made.moment told' made.took);
+        shelf = answered_now;
         sent = subst (λ (ss : List Screen). Sent before.displays ss sent.left sent.out) (sym screens_now) sent.sent;
         displays = sent.displays_are;
         failed = sent.failed_are;
@@ -293,53 +302,51 @@ module _ (limit count : ℕ) (s : Running) (f : KeyFeed) (shown : Screen) (befor
         few = few;
       }
 
-      session_now : IsAfter t (going.steps ++ this ∷ [])
-      session_now = one_more_after s t going.steps this going.session made.stepped
+      session_now : IsAfter from t (going.steps ++ this ∷ [])
+      session_now = one_more_after from s t going.steps this going.session made.stepped
 
-      ends_so : (outcome (after start going.steps) this).ends ≡ ends
+      ends_so : (outcome (after from.state going.steps) this).ends ≡ ends
       ends_so = ap (λ (u : State). (outcome u this).ends) (sym going.session.state) ∙ made.ending
 
-    pub step_made : (told' : Option (List Moment)) (shelf' : ShelfView) (t : Running) (shown' : Screen) (displays' failed' : List View) → shelf' ≡ shelf → count < limit → HasMadeStep key false s t told told' shown shown' displays displays' failed failed' →
-        Going limit (count + 1) t g shown' before (outside bytes' faults' told' shelf' displays' failed')
-    step_made told' shelf' t shown' displays' failed' still below made =
-        let x : Step = this told' shelf' t shown' displays' failed' still below false made in
-        let now = sent told' shelf' t shown' displays' failed' still below false made in
+    pub step_made : (told' : Option (List Moment)) (shelf' : ShelfView) (t : Running) (shown' : Screen) (displays' failed' : List View) → count < limit → HasMadeStep key false s t told told' shelf shelf' shown shown' displays displays' failed failed' →
+        Going limit (count + 1) from t g shown' before (outside bytes' faults' told' shelf' displays' failed')
+    step_made told' shelf' t shown' displays' failed' below made =
+        let x : Step = this told' shelf' t shown' displays' failed' below false made in
+        let now = sent told' shelf' t shown' displays' failed' below false made in
         record {
           taken = going.taken ++ read.0;
-          first = going.first;
           steps = going.steps ++ x ∷ [];
           left = now.left;
           out = now.out;
-          did = did_step told' shelf' t shown' displays' failed' still below false made;
-          typed = inr (subst (λ (ks : List Key). HasJustPressed (going.taken ++ read.0) ks g) (sym (keys_more made.moment)) just);
-          go_on = goes_on_more going.steps start x going.go_on (ends_so told' shelf' t shown' displays' failed' still below false made);
-          session = session_now told' shelf' t shown' displays' failed' still below false made;
+          did = did_step told' shelf' t shown' displays' failed' below false made;
+          typed = inr (subst (λ (ks : List Key). HasJustPressed (going.taken ++ read.0) ks g) (sym (keys_more x refl)) just);
+          go_on = goes_on_more going.steps from.state x going.go_on (ends_so told' shelf' t shown' displays' failed' below false made);
+          session = session_now told' shelf' t shown' displays' failed' below false made;
           fresh = made.stepped.spent ∙ going.fresh;
           no_fault = same ∙ going.no_fault;
           made = omega (arith, length-append going.steps (x ∷ []), going.made);
-          shows = made.shows ∙ sym (last_more empty_grid (screens going.steps) (screen t.state)) ∙ ap (last_screen empty_grid) (sym (screens_now told' shelf' t shown' displays' failed' still below false made));
+          shows = made.shows ∙ sym (last_more empty_grid (screens from.state going.steps) (screen t.state)) ∙ ap (last_screen empty_grid) (sym (screens_now told' shelf' t shown' displays' failed' below false made));
         }
 
-    pub quit_made : (told' : Option (List Moment)) (shelf' : ShelfView) (t : Running) (shown' : Screen) (displays' failed' : List View) → shelf' ≡ shelf → count < limit → HasMadeStep key true s t told told' shown shown' displays displays' failed failed' →
-        HasDriven limit t before (outside bytes' faults' told' shelf' displays' failed') Quit
-    quit_made told' shelf' t shown' displays' failed' still below made =
-        let x : Step = this told' shelf' t shown' displays' failed' still below true made in
-        let now = sent told' shelf' t shown' displays' failed' still below true made in
+    pub quit_made : (told' : Option (List Moment)) (shelf' : ShelfView) (t : Running) (shown' : Screen) (displays' failed' : List View) → count < limit → HasMadeStep key true s t told told' shelf shelf' shown shown' displays displays' failed failed' →
+        HasDriven limit from t before (outside bytes' faults' told' shelf' displays' failed') Quit
+    quit_made told' shelf' t shown' displays' failed' below made =
+        let x : Step = this told' shelf' t shown' displays' failed' below true made in
+        let now = sent told' shelf' t shown' displays' failed' below true made in
         record {
           steps = going.steps ++ x ∷ [];
           left = now.left;
           out = now.out;
           ended = record {
             taken = going.taken ++ read.0;
-            first = going.first;
-            did = did_step told' shelf' t shown' displays' failed' still below true made;
-            spelled = subst (λ (ks : List Key). SpellsInto (going.taken ++ read.0) ks) (sym (keys_more made.moment)) into;
-            quit = record { front = going.steps; last = x; steps_are = refl; go_on = going.go_on; ends = ends_so told' shelf' t shown' displays' failed' still below true made };
+            did = did_step told' shelf' t shown' displays' failed' below true made;
+            spelled = subst (λ (ks : List Key). SpellsInto (going.taken ++ read.0) ks) (sym (keys_more x refl)) into;
+            quit = record { front = going.steps; last = x; steps_are = refl; go_on = going.go_on; ends = ends_so told' shelf' t shown' displays' failed' below true made };
             no_fault = same ∙ going.no_fault;
           };
-          state = session_now told' shelf' t shown' displays' failed' still below true made;
+          state = session_now told' shelf' t shown' displays' failed' below true made;
         }
 
-pub leaves : (s : Running) (steps : List Step) (f : KeyFeed) (ending : Ending) → EndsAsTold f ending → IsAfter s steps → LeavesState s steps ending
-leaves s steps f ending (true, rest, is) same = rw is same
-leaves s steps f ending (false, rest, is) same = rw is same
+pub leaves : (from s : Running) (steps : List Step) (f : KeyFeed) (ending : Ending) → EndsAsTold f ending → IsAfter from s steps → LeavesState from s steps ending
+leaves from s steps f ending (true, rest, is) same = rw is same
+leaves from s steps f ending (false, rest, is) same = rw is same

@@ -1,56 +1,80 @@
 -- When a run must end well.
-use Rattle.std.specs.Prelude.{◌≡◌, ℕ, ◌<◌, ◌≤◌, ◌-◌, ◌^◌, ◌⊎◌, List, [], ◌++◌, length, Some, Ok}
+use Rattle.std.specs.Prelude.{◌≡◌, ℕ, ◌<◌, ◌≤◌, ◌-◌, ◌^◌, ◌⊎◌, List, [], ◌∷◌, ◌++◌, length, Option, Some, None, Ok}
+use Rattle.commands_file.specs.Calls.{ShelfView}
 use Rattle.outside_world.specs.Causes.{Rose}
+use Rattle.outside_world.specs.Shelf.{failed, file_in, OnShelf, ShelfAnswer}
+use Rattle.serial_date.specs.declared.moment.Moment.{Moment}
 use Rattle.key_words.specs.declared.key.Key.{Key}
-use Rattle.session_core.specs.Machine.{start}
+use Rattle.wk1_file.specs.Files.{IsFile}
 use Rattle.sheet_run.specs.Notation.{Spells, SpellsInto}
+use Rattle.sheet_run.specs.Opening.{opening, StartFile}
 use Rattle.sheet_run.specs.Options.{limit_of, words_read}
 use Rattle.sheet_run.specs.Run.{keys_of, EndAtLast, GoOn, Outside, Step}
 use Rattle.sheet_run.specs.Status.{World}
 use Rattle.sheet_run.specs.Taking.{TakesBytes}
 use Rattle.sheet_run.specs.declared.options.Options.{Options}
 
--- at whatever moments these keys come, one of their steps ends the run
-abbrev pub EndTheRun : List Key → Type 0
-EndTheRun keys = (steps : List Step) → keys_of steps ≡ keys → GoOn start steps → ⊥
+-- at whatever moments these keys come, the first one included, and whatever the shelf answers, one of their steps ends
+-- the run
+abbrev pub EndTheRun : Option StartFile → List Key → Type 0
+EndTheRun start keys = (first : Moment) (steps : List Step) → keys_of steps ≡ keys → GoOn (opening start first).state steps → ⊥
 
 -- The bytes bring a run to its end within so many steps: they spell at most so many keys, or they begin with words that
 -- give at most so many, by which the run is quit, whatever comes behind them.
-pub data EndWithin (limit : ℕ) (bytes : List ℕ) : Type 0 where
-  at_their_end : (keys : List Key) → Spells bytes keys → length keys ≤ limit → EndWithin limit bytes
+pub data EndWithin (start : Option StartFile) (limit : ℕ) (bytes : List ℕ) : Type 0 where
+  at_their_end : (keys : List Key) → Spells bytes keys → length keys ≤ limit → EndWithin start limit bytes
   by_quitting : (front rest : List ℕ) (keys : List Key) → bytes ≡ front ++ rest → SpellsInto front keys →
-      length keys ≤ limit → EndTheRun keys → EndWithin limit bytes
+      length keys ≤ limit → EndTheRun start keys → EndWithin start limit bytes
 
--- the words are in the grammar, the bytes bring the run to its end within its limit, and nothing failed
+-- the next call of a shelf that tells its answers isn't told as failed
+abbrev pub FailsNotFirst : OnShelf → Option OnShelf → Type 0
+FailsNotFirst s now =
+    (t : OnShelf) (held : Option (List ℕ)) (more : List ShelfAnswer) → now ≡ Some t → t.answers ≡ s.answers ++ failed held ∷ more → ⊥
+
+-- the start file that the words may name reads as a sheet: the shelf tells its bytes, and doesn't fail to give them
+pub data Opens (before now : ShelfView) : Option (List ℕ) → Option StartFile → Type 0 where
+  without : Opens before now None None
+  from_file : (f : StartFile) (s : OnShelf) (bytes : List ℕ) → before.told ≡ Some s → file_in f.name s.files ≡ Some bytes →
+      IsFile bytes (Ok f.saved) → FailsNotFirst s now.told → Opens before now (Some f.name) (Some f)
+
+-- the words are in the grammar, the start file opens, the bytes bring the run to its end within its limit, and neither
+-- keys, notes nor displays failed
 pub record MustEndWell (words : List (List ℕ)) (before now : World) : Type 0 where
   pub options : Options
   pub accepted : words_read words ≡ Ok options
+  pub start : Option StartFile
+  pub opens : Opens before.outside.shelf now.outside.shelf options.file start
   pub bytes : List ℕ
   pub told : before.outside.bytes ≡ Some bytes
   pub short : length bytes < 2 ^ 64 - 1
-  pub end_within : EndWithin (limit_of options) bytes
+  pub end_within : EndWithin start (limit_of options) bytes
   pub keys_fine : Rose before.outside.key_faults now.outside.key_faults → ⊥
   pub notes_fine : Rose before.note_faults now.note_faults → ⊥
   pub displays_fine : length now.outside.failed ≡ length before.outside.failed
 
 -- the keys were read to their end, and no step ended the run
-pub record ReadToEnd (before now : Outside) : Type 0 where
+pub record ReadToEnd (start : Option StartFile) (before now : Outside) : Type 0 where
   pub taken : List ℕ
   pub took : TakesBytes before.bytes taken now.bytes
+  pub first : Moment
   pub steps : List Step
   pub spelled : Spells taken (keys_of steps)
-  pub go_on : GoOn start steps
+  pub go_on : GoOn (opening start first).state steps
   pub none_left : now.bytes ≡ Some []
 
 -- the last step ended the run, and the keys were read to the end of the word that gave it
-pub record ReadToQuit (before now : Outside) : Type 0 where
+pub record ReadToQuit (start : Option StartFile) (before now : Outside) : Type 0 where
   pub taken : List ℕ
   pub took : TakesBytes before.bytes taken now.bytes
+  pub first : Moment
   pub steps : List Step
   pub spelled : SpellsInto taken (keys_of steps)
-  pub quit : EndAtLast steps
+  pub quit : EndAtLast (opening start first).state steps
+
+-- the keys were read to their end or until the run was quit
+abbrev pub ReadWell : Option StartFile → Outside → Outside → Type 0
+ReadWell start before now = ReadToEnd start before now ⊎ ReadToQuit start before now
 
 -- with 0 the keys were read to their end or until the run was quit; with 9 memory ran out
-abbrev pub HasEndedWell : World → World → ℕ → Type 0
-HasEndedWell before now status =
-    ((status ≡ 0) × (ReadToEnd before.outside now.outside ⊎ ReadToQuit before.outside now.outside)) ⊎ (status ≡ 9)
+abbrev pub HasEndedWell : Option StartFile → World → World → ℕ → Type 0
+HasEndedWell start before now status = ((status ≡ 0) × ReadWell start before.outside now.outside) ⊎ (status ≡ 9)

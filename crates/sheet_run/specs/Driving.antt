@@ -1,17 +1,19 @@
 -- How the steps of a run end.
 use Rattle.std.specs.Prelude.{◌≡◌, ℕ, Bool, true, false, List, Option, ◌⊎◌}
+use Rattle.commands_file.specs.Calls.{HasBrokenOff, HaveAnswered, ShelfView}
 use Rattle.outside_world.specs.Clock.{TakesReading}
 use Rattle.serial_date.specs.declared.moment.Moment.{Moment}
 use Rattle.key_words.specs.declared.key.Key.{Key}
-use Rattle.session_core.specs.Machine.{start, Follows, Running}
+use Rattle.session_core.specs.Machine.{Follows, Replies, Running, State}
 use Rattle.session_core.specs.Step.{step}
 use Rattle.session_core.specs.declared.event.Event.TheVariants.{Key as KeyEvent}
 use Rattle.session_core.specs.Screen.{screen}
 use Rattle.screen_show.specs.Display.{View}
 use Rattle.screen_show.specs.Grid.{IsPrinted}
+use Rattle.work_sheet.specs.Work.{HasWorked}
 use Rattle.sheet_run.specs.Displays.{Screen, Watched}
 use Rattle.sheet_run.specs.Passing.{HasSentOne, Passed}
-use Rattle.sheet_run.specs.Run.{Outside, Step, after, IsWorkOf, RanToEnd, RanToQuit, RanIntoWord, RanToBadByte}
+use Rattle.sheet_run.specs.Run.{Outside, Step, after, happened, RanToEnd, RanToQuit, RanIntoWord, RanToBadByte}
 use Rattle.sheet_run.specs.Run.{RanToKeyFault, RanToLimit, RanOutOfMemory}
 use Rattle.sheet_run.specs.Reader.{RestsAsTold}
 use Rattle.sheet_run.specs.declared.reader.KeyFeed.{KeyFeed}
@@ -21,29 +23,35 @@ use Rattle.sheet_run.specs.declared.drive.Ending.{Ending}
 use Rattle.sheet_run.specs.declared.drive.Ending.TheVariants.{KeysEnded, Quit, BadWord, KeysFailed, Stopped, NoMemory}
 
 -- a step was made and its screen sent; the flag says whether it ends the run
-pub record HasMadeStep (key : Key) (ends : Bool) (s t : Running) (readings readings' : Option (List Moment))
+pub record HasMadeStep (key : Key) (ends : Bool) (s t : Running) (readings readings' : Option (List Moment)) (shelf shelf' : ShelfView)
     (shown shown' : Screen) (displays displays' failed failed' : List View) : Type 0 where
   pub moment : Moment
+  pub replies : Replies
   pub took : TakesReading readings readings' moment
-  pub stepped : Follows (step (KeyEvent key) moment s.state) s t
-  pub ending : (step (KeyEvent key) moment s.state).ends ≡ ends
+  pub stepped : Follows (step (KeyEvent key) moment replies s.state) s t
+  pub ending : (step (KeyEvent key) moment replies s.state).ends ≡ ends
+  pub answered : HaveAnswered (step (KeyEvent key) moment replies s.state).calls shelf shelf'
   pub passed : Passed (HasSentOne shown (screen t.state)) displays displays' failed failed'
   pub shows : shown' ≡ screen t.state
   pub printed : IsPrinted (screen t.state)
 
 -- memory ran out in a step, of which nothing is shown
-pub record HasNotMadeStep (readings readings' : Option (List Moment)) (displays displays' failed failed' : List View) : Type 0 where
+pub record HasNotMadeStep (readings readings' : Option (List Moment)) (shelf shelf' : ShelfView)
+    (displays displays' failed failed' : List View) : Type 0 where
   pub moment : Moment
   pub took : TakesReading readings readings' moment
+  pub broke : HasBrokenOff shelf shelf'
   pub displays_stay : displays' ≡ displays
   pub failed_stay : failed' ≡ failed
 
 -- a step was made, or memory ran out in it
-abbrev pub HasStepped : Key → Running → Running → Option (List Moment) → Option (List Moment) → Screen → Screen → List View → List View → List View → List View → StepEnd → Type 0
-HasStepped key s t readings readings' shown shown' displays displays' failed failed' Done = HasMadeStep key false s t readings readings' shown shown' displays displays' failed failed'
-HasStepped key s t readings readings' shown shown' displays displays' failed failed' StepQuit =
-    HasMadeStep key true s t readings readings' shown shown' displays displays' failed failed'
-HasStepped key s t readings readings' shown shown' displays displays' failed failed' StepNoMemory = HasNotMadeStep readings readings' displays displays' failed failed'
+abbrev pub HasStepped : Key → Running → Running → Option (List Moment) → Option (List Moment) → ShelfView → ShelfView → Screen → Screen → List View → List View → List View → List View → StepEnd → Type 0
+HasStepped key s t readings readings' shelf shelf' shown shown' displays displays' failed failed' Done =
+    HasMadeStep key false s t readings readings' shelf shelf' shown shown' displays displays' failed failed'
+HasStepped key s t readings readings' shelf shelf' shown shown' displays displays' failed failed' StepQuit =
+    HasMadeStep key true s t readings readings' shelf shelf' shown shown' displays displays' failed failed'
+HasStepped key s t readings readings' shelf shelf' shown shown' displays displays' failed failed' StepNoMemory =
+    HasNotMadeStep readings readings' shelf shelf' displays displays' failed failed'
 
 -- the ending where the keys are at their end, behind so many bytes
 abbrev pub ended_as : Bool → ℕ → Ending
@@ -54,33 +62,33 @@ ended_as false at = BadWord at
 abbrev pub EndsAsTold : KeyFeed → Ending → Type 0
 EndsAsTold f ending = (rests : Bool) × RestsAsTold f rests × (ending ≡ ended_as rests f.words.taken)
 
--- the steps of a run were made up to this ending
-abbrev pub HasEnded : ℕ → List Step → List Watched → List Watched → Outside → Outside → Ending → Type 0
-HasEnded limit steps left out before now KeysEnded = RanToEnd limit steps left out before now
-HasEnded limit steps left out before now Quit = RanToQuit limit steps left out before now
-HasEnded limit steps left out before now (BadWord at) = RanIntoWord limit at steps left out before now ⊎ RanToBadByte limit at steps left out before now
-HasEnded limit steps left out before now KeysFailed = RanToKeyFault limit steps left out before now
-HasEnded limit steps left out before now Stopped = RanToLimit limit steps left out before now
-HasEnded limit steps left out before now NoMemory = RanOutOfMemory limit steps left out before now
+-- the steps of a run, from a state on, were made up to this ending
+abbrev pub HasEnded : ℕ → State → List Step → List Watched → List Watched → Outside → Outside → Ending → Type 0
+HasEnded limit s steps left out before now KeysEnded = RanToEnd limit s steps left out before now
+HasEnded limit s steps left out before now Quit = RanToQuit limit s steps left out before now
+HasEnded limit s steps left out before now (BadWord at) = RanIntoWord limit at s steps left out before now ⊎ RanToBadByte limit at s steps left out before now
+HasEnded limit s steps left out before now KeysFailed = RanToKeyFault limit s steps left out before now
+HasEnded limit s steps left out before now Stopped = RanToLimit limit s steps left out before now
+HasEnded limit s steps left out before now NoMemory = RanOutOfMemory limit s steps left out before now
 
--- the session has the state and the work that the steps leave
-pub record IsAfter (s : Running) (steps : List Step) : Type 0 where
-  pub state : s.state ≡ after start steps
-  pub work : IsWorkOf steps s.work
+-- a session has become what the steps make of its state and of its work
+pub record IsAfter (from now : Running) (steps : List Step) : Type 0 where
+  pub state : now.state ≡ after from.state steps
+  pub work : HasWorked (happened from.state steps) from.work now.work
 
 -- the session after the steps, where the ending leaves it
-abbrev pub LeavesState : Running → List Step → Ending → Type 0
-LeavesState s steps KeysEnded = IsAfter s steps
-LeavesState s steps Quit = IsAfter s steps
-LeavesState s steps (BadWord at) = IsAfter s steps
-LeavesState s steps KeysFailed = IsAfter s steps
-LeavesState s steps Stopped = IsAfter s steps
-LeavesState s steps NoMemory = Unit {0}
+abbrev pub LeavesState : Running → Running → List Step → Ending → Type 0
+LeavesState from now steps KeysEnded = IsAfter from now steps
+LeavesState from now steps Quit = IsAfter from now steps
+LeavesState from now steps (BadWord at) = IsAfter from now steps
+LeavesState from now steps KeysFailed = IsAfter from now steps
+LeavesState from now steps Stopped = IsAfter from now steps
+LeavesState from now steps NoMemory = Unit {0}
 
 -- the steps of a run were made up to an ending, and the session is what they leave
-pub record HasDriven (limit : ℕ) (s : Running) (before now : Outside) (ending : Ending) : Type 0 where
+pub record HasDriven (limit : ℕ) (from now : Running) (before after : Outside) (ending : Ending) : Type 0 where
   pub steps : List Step
   pub left : List Watched
   pub out : List Watched
-  pub ended : HasEnded limit steps left out before now ending
-  pub state : LeavesState s steps ending
+  pub ended : HasEnded limit from.state steps left out before after ending
+  pub state : LeavesState from now steps ending

@@ -1,12 +1,16 @@
 -- The notes of a run.
-use Rattle.std.specs.Prelude.{◌≡◌, ℕ, ◌≤◌, ◌⊎◌, Bool, Result, Ok, Err, List, [], ◌∷◌, ◌++◌, length, take, Option, Some, None, codes, if◌then◌else◌}
+use Rattle.std.specs.Prelude.{◌≡◌, ℕ, ◌+◌, ◌/◌, ◌%◌, ◌≤◌, ◌⊎◌, nat_lt, Bool, Result, Ok, Err, List, [], ◌∷◌, ◌++◌, length, take, Option, Some, None, codes, if◌then◌else◌}
 use Rattle.grid_address.specs.Address.{decimal}
 use Rattle.outside_world.specs.Causes.{Rose}
 use Rattle.outside_world.specs.declared.faults.Failed.{Failed}
 use Rattle.work_sheet.specs.Work.{Work}
 use Rattle.sheet_run.specs.declared.drive.Ending.{Ending}
 use Rattle.sheet_run.specs.declared.drive.Ending.TheVariants.{KeysEnded, Quit, BadWord, KeysFailed, Stopped, NoMemory}
+use Rattle.sheet_run.specs.declared.opening.NotRead.{NotRead}
+use Rattle.sheet_run.specs.declared.opening.NotRead.TheVariants.{NoSuchFile, Faulty, DiskError}
 use Rattle.sheet_run.specs.declared.options.Options.{Options}
+use Rattle.wk1_records.specs.declared.fault.Wk1Fault.{Wk1Fault}
+use Rattle.wk1_records.specs.declared.fault.Wk1Fault.TheVariants as fault
 
 -- a line that begins with the program's name
 abbrev pub note : List ℕ → List ℕ
@@ -19,6 +23,51 @@ refused_note word = note (codes "bad word: " ++ word)
 -- the note where memory ran out
 abbrev pub memory_note : List ℕ
 memory_note = note (codes "memory full")
+
+-- a hexadecimal digit, as a capital
+abbrev pub hex_digit : ℕ → ℕ
+hex_digit d = if nat_lt d 10 then 48 + d else 55 + d
+
+-- a byte in two hexadecimal digits
+abbrev pub hex_pair : ℕ → List ℕ
+hex_pair byte = hex_digit (byte / 16) ∷ hex_digit (byte % 16) ∷ []
+
+-- a fault of a file with the number of its record, or the offset
+abbrev pub with_number : List ℕ → ℕ → List ℕ
+with_number front n = front ++ decimal n
+
+-- A fault of a file: its number, and the numbers that it carries, a function's code in hexadecimal digits. Want of
+-- memory is told otherwise.
+abbrev pub fault_text : Wk1Fault → List ℕ
+fault_text fault.NoBof = codes "F1"
+fault_text (fault.Truncated at) = with_number (codes "F2 ") at
+fault_text (fault.BadLength place) = with_number (codes "F3 ") place
+fault_text (fault.CellOutside place) = with_number (codes "F4 ") place
+fault_text (fault.BadText place) = with_number (codes "F5 ") place
+fault_text (fault.NumberTooLarge place) = with_number (codes "F6 ") place
+fault_text (fault.BadCode place at) = with_number (codes "F7 ") place ++ 32 ∷ decimal at
+fault_text (fault.FunctionOutside place code) = with_number (codes "F8 ") place ++ 32 ∷ hex_pair code
+fault_text (fault.BadName place) = with_number (codes "F9 ") place
+fault_text (fault.BadSpan place) = with_number (codes "F10 ") place
+fault_text fault.FileTooLarge = codes "F11"
+fault_text (fault.TooDeep place) = with_number (codes "F12 ") place
+fault_text fault.Memory = []
+
+-- why a start file isn't read
+abbrev pub reason : NotRead → List ℕ
+reason NoSuchFile = codes "no such file"
+reason (Faulty f) = fault_text f
+reason DiskError = codes "disk error"
+
+-- the note on a start file that isn't read
+abbrev pub file_note : List ℕ → NotRead → List ℕ
+file_note name why = note (name ++ codes ": " ++ reason why)
+
+-- the status where the start file isn't read
+abbrev pub file_status : NotRead → ℕ
+file_status NoSuchFile = 2
+file_status (Faulty f) = 2
+file_status DiskError = 6
 
 -- how many formulas were evaluated, where the words ask for it
 abbrev pub count_of : Options → Work → Option ℕ

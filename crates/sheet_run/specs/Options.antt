@@ -1,18 +1,20 @@
 -- The grammar of the command line's words.
 use Rattle.std.specs.Char.{is_ascii_digit}
-use Rattle.std.specs.Prelude.{ℕ, ◌+◌, ◌-◌, ◌*◌, Bool, true, false, ◌&&◌, nat_lt, nat_le, if◌then◌else◌, List, [], ◌∷◌, length, take, drop, fold, slice_index, Option, Some, None, Result, Ok, Err, codes, is_some, unwrap_or}
+use Rattle.std.specs.Prelude.{ℕ, ◌-◌, Bool, true, false, ◌&&◌, nat_lt, nat_le, if◌then◌else◌, List, [], ◌∷◌, length, take, drop, slice_index, Option, Some, None, Result, Ok, Err, codes, is_some, unwrap_or}
 use Rattle.std.specs.List.{list_all}
 use Rattle.std.specs.Str.{bytes_eq}
 use Rattle.fixed_value.specs.Decimals.{number_of}
+use Rattle.outside_world.specs.FileNames.{file_name}
+use Rattle.outside_world.specs.declared.file_name.Ext.TheVariants.{Wk1}
 use Rattle.screen_show.specs.declared.display.Kind.{Kind}
 use Rattle.screen_show.specs.declared.display.Kind.TheVariants.{Pages, Ansi, Last}
 use Rattle.sheet_run.specs.declared.options.Options.{Options}
 use Rattle.sheet_run.specs.declared.options.Wanted.{Wanted}
-use Rattle.sheet_run.specs.declared.options.Wanted.TheVariants.{Steps, Show}
+use Rattle.sheet_run.specs.declared.options.Wanted.TheVariants.{File, Steps, Show}
 
 -- nothing is asked for
 abbrev pub no_options : Options
-no_options = record { steps = None; show = None; count = false }
+no_options = record { file = None; steps = None; show = None; count = false }
 
 -- the most steps of the run, one million where the words don't say it
 abbrev pub limit_of : Options → ℕ
@@ -38,10 +40,20 @@ kind_of v = if bytes_eq v (codes "pages") then Some Pages else if bytes_eq v (co
 abbrev pub has_front : List ℕ → List ℕ → Bool
 has_front word front = bytes_eq (take (length front) word) front
 
+-- the name of a worksheet's file, which doesn't begin with `-`
+abbrev pub file_of : List ℕ → Option (List ℕ)
+file_of v = if has_front v (codes "-") then None else file_name Wk1 v
+
 -- the word of an option whose value stands in the next word
 abbrev pub option_text : Wanted → List ℕ
+option_text File = codes "--file"
 option_text Steps = codes "--steps"
 option_text Show = codes "--show"
+
+-- a file's name takes its place, and a value that is none is refused
+abbrev pub file_taken : Options → Option (List ℕ) → List ℕ → Result Options (List ℕ)
+file_taken o None value = Err value
+file_taken o (Some name) value = Ok (record o { file = Some name })
 
 -- a limit takes its place, and a value that is none is refused
 abbrev pub steps_taken : Options → Option ℕ → List ℕ → Result Options (List ℕ)
@@ -55,11 +67,13 @@ show_taken o (Some kind) value = Ok (record o { show = Some kind })
 
 -- a value takes its option's place, or is refused alone
 abbrev pub on_value : Options → Wanted → List ℕ → Result Options (List ℕ)
+on_value o File value = file_taken o (file_of value) value
 on_value o Steps value = steps_taken o (steps_of value) value
 on_value o Show value = show_taken o (kind_of value) value
 
 -- the option was given before
 abbrev pub is_given : Options → Wanted → Bool
+is_given o File = is_some o.file
 is_given o Steps = is_some o.steps
 is_given o Show = is_some o.show
 
@@ -71,7 +85,8 @@ complete (Err text) = Err text
 -- an option that was not given before, with its value behind `=`
 abbrev pub on_joined : Options → List ℕ → Result (Options × Option Wanted) (List ℕ)
 on_joined o w =
-    if has_front w (codes "--steps=") then (if is_given o Steps then Err w else complete (on_value o Steps (drop 8 w)))
+    if has_front w (codes "--file=") then (if is_given o File then Err w else complete (on_value o File (drop 7 w)))
+    else if has_front w (codes "--steps=") then (if is_given o Steps then Err w else complete (on_value o Steps (drop 8 w)))
     else if has_front w (codes "--show=") then (if is_given o Show then Err w else complete (on_value o Show (drop 7 w)))
     else Err w
 
@@ -79,6 +94,7 @@ on_joined o w =
 abbrev pub on_word : Options → List ℕ → Result (Options × Option Wanted) (List ℕ)
 on_word o w =
     if bytes_eq w (codes "--count") then (if o.count then Err w else Ok (record o { count = true }, None))
+    else if bytes_eq w (codes "--file") then (if is_given o File then Err w else Ok (o, Some File))
     else if bytes_eq w (codes "--steps") then (if is_given o Steps then Err w else Ok (o, Some Steps))
     else if bytes_eq w (codes "--show") then (if is_given o Show then Err w else Ok (o, Some Show))
     else on_joined o w

@@ -1,11 +1,11 @@
 // Drives a session by keys.
 ghost use Rattle.std.specs.Prelude.{◌≡◌, ◌≤◌, ◌+◌, false, map, vec_len, vec_capacity};
+ghost use Rattle.commands_file.specs.Calls.{shelf_view};
 ghost use Rattle.screen_show.specs.Grid.{empty_grid, IsPrinted};
-ghost use Rattle.session_core.specs.Machine.{started};
 ghost use Rattle.session_core.specs.Screen.{screen};
 ghost use Rattle.sheet_run.specs.Driving.{EndsAsTold, HasStepped, HasDriven};
 ghost use Rattle.sheet_run.specs.Passing.{HasSentOne, Passed};
-ghost use Rattle.sheet_run.specs.Run.{outside, shelf_view};
+ghost use Rattle.sheet_run.specs.Run.{outside};
 
 use crate::displays::{Work, work_on_all};
 use crate::reader::{KeyFeed, Read};
@@ -75,8 +75,10 @@ fn make_step<S: Shelf, C: Clock>(
 ) -> StepEnd
     requires fresh { session.old.spent ≡ false }
     requires room { vec_len failed.old + vec_len displays.old ≤ vec_capacity failed.old }
-    ensures stepped { HasStepped key session.old session.new (C.readings clock.old) (C.readings clock.new) shown.old shown.new (map seen displays.old.items) (map seen displays.new.items) (map seen failed.old.items) (map seen failed.new.items) result }
-    ensures shelf { shelf_view (S.holds shelf.new) (S.faults shelf.new) ≡ shelf_view (S.holds shelf.old) (S.faults shelf.old) }
+    ensures stepped { HasStepped key session.old session.new (C.readings clock.old) (C.readings clock.new)
+        (shelf_view (S.holds shelf.old) (S.faults shelf.old)) (shelf_view (S.holds shelf.new) (S.faults shelf.new))
+        shown.old shown.new (map seen displays.old.items) (map seen displays.new.items)
+        (map seen failed.old.items) (map seen failed.new.items) result }
     ensures room { vec_len failed.new + vec_len displays.new ≤ vec_capacity failed.new }
 {
     let now = clock.read();
@@ -104,8 +106,7 @@ fn ended(feed: &KeyFeed) -> Ending
     }
 }
 
-/// Reads the clock for the start, and makes steps until the keys ask to quit or end, the limit is reached or something
-/// fails.
+/// Makes steps until the keys ask to quit or end, the limit is reached or something fails.
 pub fn drive<K: Keys, S: Shelf, C: Clock>(
     limit: u32,
     keys: &mut K,
@@ -115,15 +116,16 @@ pub fn drive<K: Keys, S: Shelf, C: Clock>(
     failed: &mut Vec<Box<dyn Display>>,
     session: &mut Session,
 ) -> Ending
-    requires fresh { session.old ≡ started }
+    requires fresh { session.old.spent ≡ false }
     requires room { vec_len failed.old + vec_len displays.old ≤ vec_capacity failed.old }
-    ensures driven { HasDriven limit session.new
-        (outside (K.left keys.old) (K.faults keys.old) (C.readings clock.old) (shelf_view (S.holds shelf.old) (S.faults shelf.old)) (map seen displays.old.items) (map seen failed.old.items))
-        (outside (K.left keys.new) (K.faults keys.new) (C.readings clock.new) (shelf_view (S.holds shelf.new) (S.faults shelf.new)) (map seen displays.new.items) (map seen failed.new.items))
+    ensures driven { HasDriven limit session.old session.new
+        (outside (K.left keys.old) (K.faults keys.old) (C.readings clock.old)
+        (shelf_view (S.holds shelf.old) (S.faults shelf.old)) (map seen displays.old.items) (map seen failed.old.items))
+        (outside (K.left keys.new) (K.faults keys.new) (C.readings clock.new)
+        (shelf_view (S.holds shelf.new) (S.faults shelf.new)) (map seen displays.new.items) (map seen failed.new.items))
         result }
     ensures room { vec_len failed.new + vec_len displays.new ≤ vec_capacity failed.new }
 {
-    let _first = clock.read();
     let mut shown = Grid::empty();
     let mut feed = KeyFeed::new();
     let mut steps: u32 = 0;

@@ -5,6 +5,7 @@
 mod displays;
 mod drive;
 mod notes;
+mod opening;
 mod options;
 mod reader;
 mod runs;

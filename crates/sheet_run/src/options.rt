@@ -1,16 +1,19 @@
 // Reads the words of the command line.
 ghost use Rattle.std.specs.Prelude.{◌≡◌, ◌≤◌, ◌<◌, min, drop, length, slice_index_or, []};
 ghost use Rattle.std.specs.Str.{bytes_eq};
-ghost use Rattle.sheet_run.specs.Options.{is_number, steps_of, kind_of, on_joined, on_value, on_word, complete, taken, limit_of, shown_kind, has_front};
+ghost use Rattle.sheet_run.specs.Options.{is_number, steps_of, file_of, kind_of, on_joined, on_value, on_word, complete, taken, limit_of, shown_kind, has_front};
 ghost use Rattle.sheet_run.specs.OptionAnswers.{HasValue, HasTaken, HasReadWords};
 
 use crate::Words;
 use fixed_value::{all_digits, capped_number};
+use outside_world::FileName;
 use screen_show::Kind;
 
 /// What the words ask for: at most once each, in any order.
-#[derive(Clone, Copy, PartialEq, Eq, Debug)]
+#[derive(Drop)]
 pub struct Options {
+    /// `--file NAME`: the file whose sheet the run begins with.
+    pub file: Option<FileName>,
     /// `--steps N`: the most steps of the run, 1 to 10,000,000.
     pub steps: Option<u32>,
     /// `--show pages`, `ansi` or `last`: the kind of display that is used.
@@ -22,6 +25,7 @@ pub struct Options {
 /// An option that waits for its value, which is the next word.
 #[derive(Clone, Copy, PartialEq, Eq, Debug)]
 pub enum Wanted {
+    File,
     Steps,
     Show,
 }
@@ -100,6 +104,17 @@ fn steps_of(value: &[u8]) -> Option<u32>
     }
 }
 
+// The name of a worksheet's file.
+fn file_of(value: &[u8]) -> Option<FileName>
+    ensures { result ≡ file_of value.now }
+{
+    if has_front(value, b"-") {
+        None
+    } else {
+        FileName::of(value)
+    }
+}
+
 // The kind of display that a word names.
 fn kind_of(value: &[u8]) -> Option<Kind>
     ensures { result ≡ kind_of value.now }
@@ -119,16 +134,13 @@ fn kind_of(value: &[u8]) -> Option<Kind>
 fn on_value(options: Options, wanted: Wanted, value: &[u8]) -> Option<Options>
     ensures { HasValue value.now (on_value options wanted value.now) result }
 {
+    let mut options = options;
     match wanted {
-        Wanted::Steps => {
-            let steps = Some(steps_of(value)?);
-            Some(Options { steps, ..options })
-        }
-        Wanted::Show => {
-            let show = Some(kind_of(value)?);
-            Some(Options { show, ..options })
-        }
+        Wanted::File => options.file = Some(file_of(value)?),
+        Wanted::Steps => options.steps = Some(steps_of(value)?),
+        Wanted::Show => options.show = Some(kind_of(value)?),
     }
+    Some(options)
 }
 
 // Takes an option whose value stands behind `=`, from this byte on.
@@ -159,6 +171,13 @@ fn rest(word: &[u8], from: usize) -> &[u8]
 fn on_joined(options: Options, word: &[u8]) -> Result<(Options, Option<Wanted>), usize>
     ensures { HasTaken word.now (on_joined options word.now) result }
 {
+    if has_front(word, b"--file=") {
+        return if options.file.is_some() {
+            Err(0)
+        } else {
+            with_value(options, Wanted::File, word, 7)
+        };
+    }
     if has_front(word, b"--steps=") {
         return if options.steps.is_some() {
             Err(0)
@@ -184,13 +203,16 @@ fn on_word(options: Options, word: &[u8]) -> Result<(Options, Option<Wanted>), u
         if options.count {
             return Err(0);
         }
-        return Ok((
-            Options {
-                count: true,
-                ..options
-            },
-            None,
-        ));
+        let mut options = options;
+        options.count = true;
+        return Ok((options, None));
+    }
+    if is_same(word, b"--file") {
+        return if options.file.is_some() {
+            Err(0)
+        } else {
+            Ok((options, Some(Wanted::File)))
+        };
     }
     if is_same(word, b"--steps") {
         return if options.steps.is_some() {
@@ -240,6 +262,7 @@ pub fn read_words(words: &Words) -> Result<Options, Refused>
     ensures { HasReadWords words.now result }
 {
     let mut options = Options {
+        file: None,
         steps: None,
         show: None,
         count: false,

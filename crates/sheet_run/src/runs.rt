@@ -1,17 +1,19 @@
 // The top call.
-ghost use Rattle.std.specs.Prelude.{◌≡◌, ℕ, map, List};
+ghost use Rattle.std.specs.Prelude.{◌≡◌, ℕ, is_some, map, true, List, Some};
+ghost use Rattle.commands_file.specs.Calls.{shelf_view};
 ghost use Rattle.sheet_run.specs.Completeness.{HasEndedWell, MustEndWell};
-ghost use Rattle.sheet_run.specs.Notes.{count_of};
+ghost use Rattle.sheet_run.specs.Notes.{count_of, file_note, file_status, Tells};
 ghost use Rattle.sheet_run.specs.OptionAnswers.{refused_text, IsPart};
-ghost use Rattle.sheet_run.specs.Run.{outside, shelf_view};
+ghost use Rattle.sheet_run.specs.Run.{outside};
 ghost use Rattle.sheet_run.specs.Status.{world, IsRun, RunsWith, World};
 
 use crate::Words;
 use crate::displays::{Work, keep_kind, work_on_all};
 use crate::drive::{Ending, drive};
-use crate::notes::{tell, tell_memory, tell_refused};
+use crate::notes::{tell, tell_memory, tell_refused, tell_unread};
+use crate::opening::{NotBegun, NotRead, begin, load};
 use crate::options::{Options, Refused, Wanted, read_words, word_at};
-use outside_world::{Clock, Keys, Notes, Shelf};
+use outside_world::{Clock, FileName, Keys, Notes, Shelf};
 use screen_show::Display;
 use session_core::Session;
 use std::alloc::Global;
@@ -26,6 +28,7 @@ fn refused_text(words: &Words, refused: Refused) -> &[u8]
             let word = word_at(words, place);
             &word[from..]
         }
+        Refused::NoValue(Wanted::File) => b"--file",
         Refused::NoValue(Wanted::Steps) => b"--steps",
         Refused::NoValue(Wanted::Show) => b"--show",
     }
@@ -36,24 +39,29 @@ fn refused_text(words: &Words, refused: Refused) -> &[u8]
 ///
 /// The order of work: the words are read; room for every display is reserved in `failed`; displays of a
 /// kind that wasn't asked for are dropped, of which no clause tells that nothing is asked of them before;
-/// the clock is read once for the start; then the steps follow.
+/// the shelf is asked once for the start file, where the words name one; the clock is read once, and the
+/// file's sheet, or a fresh one, is recalculated; then the steps follow.
 /// Before each step bytes are read until a key is there or the keys end, then the limit is tested, then
 /// the clock is read, the step is made and its screen is sent to each display in order. A display whose
 /// call failed moves to the end of `failed`, and the others go on. Behind a step that asks to quit no byte more is
-/// taken. At the end each display that is left is closed.
+/// taken. At the end each display that is left is closed. With 1, 2, 6 and 9 none is closed, and with 1, 2 and 6 the
+/// clock isn't read.
 ///
 /// | Status | Comes | Note |
 /// |---|---|---|
 /// | 0 | the keys ended at a word's end, or asked to quit | none |
 /// | 1 | exactly where the words are outside the grammar | `bad word: W` |
+/// | 2 | exactly where the shelf has no start file, or the file is no worksheet file | `NAME.WK1: no such file` or `NAME.WK1: F2 6` |
 /// | 3 | exactly where as many steps as the limit were made and a key was there for one more | `stopped after N steps` |
 /// | 4 | exactly where the bytes begin no text of key notation, or end inside a word | `bad key word at byte N` |
 /// | 5 | only where the count of the keys' faults rose | `keys failed` |
+/// | 6 | only where the count of the shelf's faults rose while the start file was read | `NAME.WK1: disk error` |
 /// | 7 | exactly where status 0 would come and `failed` grew | `display failed` |
 /// | 8 | only where the count of the notes' faults rose; it takes the place of the others | none |
 /// | 9 | memory ran out | `memory full`, unless that can't be written |
 ///
-/// Every note begins with `1-2-3: ` and ends with a line feed. With `--count`, `evaluations N` comes
+/// Every note begins with `1-2-3: ` and ends with a line feed. A file's fault is told as F with its number and the numbers
+/// that it carries, a function's code in two capital hexadecimal digits. With `--count`, `evaluations N` comes
 /// first wherever a session was made and memory didn't run out. (This project's choice.)
 pub fn run<K: Keys, S: Shelf, C: Clock, N: Notes>(
     alloc: Global,
@@ -66,10 +74,6 @@ pub fn run<K: Keys, S: Shelf, C: Clock, N: Notes>(
     notes: &mut N,
 ) -> u8
     ensures ran { IsRun words.now
-        (world (outside (K.left keys.old) (K.faults keys.old) (C.readings clock.old) (shelf_view (S.holds shelf.old) (S.faults shelf.old)) (map seen displays.old.items) (map seen failed.old.items)) (N.written notes.old) (N.faults notes.old))
-        (world (outside (K.left keys.new) (K.faults keys.new) (C.readings clock.new) (shelf_view (S.holds shelf.new) (S.faults shelf.new)) (map seen displays.new.items) (map seen failed.new.items)) (N.written notes.new) (N.faults notes.new))
-        result }
-    ensures complete { MustEndWell words.now
         (world
         (outside (K.left keys.old) (K.faults keys.old) (C.readings clock.old)
         (shelf_view (S.holds shelf.old) (S.faults shelf.old)) (map seen displays.old.items) (map seen failed.old.items))
@@ -78,7 +82,17 @@ pub fn run<K: Keys, S: Shelf, C: Clock, N: Notes>(
         (outside (K.left keys.new) (K.faults keys.new) (C.readings clock.new)
         (shelf_view (S.holds shelf.new) (S.faults shelf.new)) (map seen displays.new.items) (map seen failed.new.items))
         (N.written notes.new) (N.faults notes.new))
-        → HasEndedWell
+        result }
+    ensures complete { (must : MustEndWell words.now
+        (world
+        (outside (K.left keys.old) (K.faults keys.old) (C.readings clock.old)
+        (shelf_view (S.holds shelf.old) (S.faults shelf.old)) (map seen displays.old.items) (map seen failed.old.items))
+        (N.written notes.old) (N.faults notes.old))
+        (world
+        (outside (K.left keys.new) (K.faults keys.new) (C.readings clock.new)
+        (shelf_view (S.holds shelf.new) (S.faults shelf.new)) (map seen displays.new.items) (map seen failed.new.items))
+        (N.written notes.new) (N.faults notes.new)))
+        → HasEndedWell must.start
         (world
         (outside (K.left keys.old) (K.faults keys.old) (C.readings clock.old)
         (shelf_view (S.holds shelf.old) (S.faults shelf.old)) (map seen displays.old.items) (map seen failed.old.items))
@@ -107,8 +121,14 @@ fn run_with<K: Keys, S: Shelf, C: Clock, N: Notes>(
     notes: &mut N,
 ) -> u8
     ensures { RunsWith options
-        (world (outside (K.left keys.old) (K.faults keys.old) (C.readings clock.old) (shelf_view (S.holds shelf.old) (S.faults shelf.old)) (map seen displays.old.items) (map seen failed.old.items)) (N.written notes.old) (N.faults notes.old))
-        (world (outside (K.left keys.new) (K.faults keys.new) (C.readings clock.new) (shelf_view (S.holds shelf.new) (S.faults shelf.new)) (map seen displays.new.items) (map seen failed.new.items)) (N.written notes.new) (N.faults notes.new))
+        (world
+        (outside (K.left keys.old) (K.faults keys.old) (C.readings clock.old)
+        (shelf_view (S.holds shelf.old) (S.faults shelf.old)) (map seen displays.old.items) (map seen failed.old.items))
+        (N.written notes.old) (N.faults notes.old))
+        (world
+        (outside (K.left keys.new) (K.faults keys.new) (C.readings clock.new)
+        (shelf_view (S.holds shelf.new) (S.faults shelf.new)) (map seen displays.new.items) (map seen failed.new.items))
+        (N.written notes.new) (N.faults notes.new))
         result }
 {
     let failed_before = failed.len();
@@ -116,7 +136,12 @@ fn run_with<K: Keys, S: Shelf, C: Clock, N: Notes>(
         return tell_memory(notes);
     }
     keep_kind(options.kind(), displays);
-    let Ok(mut session) = Session::start(alloc) else {
+    let desk = match begin(alloc, &options.file, shelf) {
+        Ok(desk) => desk,
+        Err(NotBegun::NotRead(why)) => return tell_start(&options.file, why, notes),
+        Err(NotBegun::Memory) => return tell_memory(notes),
+    };
+    let Ok(mut session) = load(desk, clock) else {
         return tell_memory(notes);
     };
     let limit = options.limit();
@@ -127,6 +152,19 @@ fn run_with<K: Keys, S: Shelf, C: Clock, N: Notes>(
     work_on_all(&Work::Close, displays, failed);
     let moved = failed.len() > failed_before;
     tell(notes, count_of(&options, &session), limit, moved, ending)
+}
+
+// Tells that the start file isn't read.
+fn tell_start<N: Notes>(file: &Option<FileName>, why: NotRead, notes: &mut N) -> u8
+    requires { is_some file.now ≡ true }
+    ensures { (name : List ℕ) → file.now ≡ Some name →
+        Tells (file_note name why) (file_status why)
+        (N.written notes.old) (N.written notes.new) (N.faults notes.old) (N.faults notes.new) result }
+{
+    match file {
+        Some(name) => tell_unread(notes, name, why),
+        None => unreachable!(),
+    }
 }
 
 // How many formulas were evaluated, where the words ask for it.
@@ -140,9 +178,9 @@ fn count_of(options: &Options, session: &Session) -> Option<u64>
     }
 }
 
-/// A run ends well where the words are in the grammar, nothing failed, and the bytes spell at most as many keys as the
+/// A run ends well where the words are in the grammar, the start file reads as a sheet, nothing failed, and the bytes spell at most as many keys as the
 /// limit allows or begin with words whose keys quit the run within it, unless memory ran out.
 pub fn a_run_ends_well()
     ensures { (words : List (List ℕ)) (before now : World) (status : ℕ) →
-        IsRun words before now status → MustEndWell words before now → HasEndedWell before now status }
+        IsRun words before now status → (must : MustEndWell words before now) → HasEndedWell must.start before now status }
 {}

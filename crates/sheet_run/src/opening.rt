@@ -1,0 +1,99 @@
+// The start of a run: a fresh sheet, or that of the start file.
+ghost use Rattle.std.specs.Prelude.{◌≡◌, IfOk, Option, Some};
+ghost use Rattle.commands_file.specs.Calls.{shelf_view};
+ghost use Rattle.sheet_run.specs.Beginning.{HasBegunOr, HasLoaded, HasReadFile, HasReadSheet, IsDeskOf};
+
+use command_desk::Desk;
+use outside_world::{ByteList, Clock, FileName, Memory, Shelf, ShelfFault};
+use session_core::Session;
+use sheet_store::SavedSheet;
+use std::alloc::Global;
+use wk1_file::{Wk1Fault, read};
+use work_sheet::Sheet;
+
+/// Why a start file isn't read as a sheet.
+#[derive(Clone, Copy, PartialEq, Eq, Debug)]
+pub enum NotRead {
+    /// The shelf has no such file.
+    NoSuchFile,
+    /// Its bytes are no worksheet file, for this fault.
+    Faulty(Wk1Fault),
+    /// The shelf failed.
+    DiskError,
+}
+
+/// Why a run doesn't begin.
+#[derive(Clone, Copy, PartialEq, Eq, Debug)]
+pub enum NotBegun {
+    NotRead(NotRead),
+    Memory,
+}
+
+// The sheet that bytes are read as.
+fn read_sheet(alloc: Global, bytes: &ByteList) -> Result<SavedSheet, NotBegun>
+    ensures { HasReadSheet bytes.now result }
+{
+    match read(alloc, bytes.bytes()) {
+        Ok(saved) => Ok(saved),
+        Err(Wk1Fault::Memory) => Err(NotBegun::Memory),
+        Err(fault) => Err(NotBegun::NotRead(NotRead::Faulty(fault))),
+    }
+}
+
+// The sheet that a file is read as.
+fn read_file<S: Shelf>(
+    alloc: Global,
+    name: &FileName,
+    shelf: &mut S,
+) -> Result<SavedSheet, NotBegun>
+    ensures { HasReadFile name.now result (shelf_view (S.holds shelf.old) (S.faults shelf.old))
+        (shelf_view (S.holds shelf.new) (S.faults shelf.new)) }
+{
+    match shelf.get(name) {
+        Ok(Some(bytes)) => read_sheet(alloc, &bytes),
+        Ok(None) => Err(NotBegun::NotRead(NotRead::NoSuchFile)),
+        Err(ShelfFault::Failed) => Err(NotBegun::NotRead(NotRead::DiskError)),
+        Err(ShelfFault::Memory) => Err(NotBegun::Memory),
+    }
+}
+
+// A desk with a sheet that was saved.
+fn desk_over(alloc: Global, saved: SavedSheet) -> Result<Desk, Memory>
+    ensures { IfOk result (IsDeskOf saved) }
+{
+    let mut desk = Desk::new(alloc);
+    desk.sheet = Sheet::restore(saved)?;
+    Ok(desk)
+}
+
+/// The desk that a run begins with: with the sheet of the start file, where there is one, or with a fresh sheet. The
+/// shelf is asked once for the start file, and for nothing else.
+pub fn begin<S: Shelf>(
+    alloc: Global,
+    file: &Option<FileName>,
+    shelf: &mut S,
+) -> Result<Desk, NotBegun>
+    ensures { HasBegunOr file.now result (shelf_view (S.holds shelf.old) (S.faults shelf.old))
+        (shelf_view (S.holds shelf.new) (S.faults shelf.new)) }
+{
+    let Some(name) = file else {
+        return Ok(Desk::new(alloc));
+    };
+    let saved = read_file(alloc, name, shelf)?;
+    match desk_over(alloc, saved) {
+        Ok(desk) => Ok(desk),
+        Err(Memory) => Err(NotBegun::Memory),
+    }
+}
+
+/// The session that begins with a desk, recalculated at a reading of the clock.
+pub fn load<C: Clock>(desk: Desk, clock: &mut C) -> Result<Session, Memory>
+    ensures { HasLoaded desk (C.readings clock.old) (C.readings clock.new) result }
+{
+    let first = clock.read();
+    let mut session = Session::new(desk);
+    match session.load(&first) {
+        Ok(()) => Ok(session),
+        Err(Memory) => Err(Memory),
+    }
+}
