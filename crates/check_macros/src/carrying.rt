@@ -38,6 +38,17 @@ fn settle(sheet: &mut Sheet) -> Result<(), Stop> {
     Ok(())
 }
 
+// Why an edit was refused.
+fn refused<W: Write>(fault: &SheetFault, out: &mut W) -> Result<Going, Stop> {
+    match fault {
+        SheetFault::Protected(cell) => {
+            show_protected(*cell, out)?;
+            Ok(Going::Ended)
+        }
+        _ => Err(Stop::Memory),
+    }
+}
+
 // What came of an edit.
 fn edited<W: Write>(
     answer: Result<(), SheetFault>,
@@ -49,11 +60,7 @@ fn edited<W: Write>(
             settle(sheet)?;
             Ok(Going::On)
         }
-        Err(SheetFault::Protected(cell)) => {
-            show_protected(cell, out)?;
-            Ok(Going::Ended)
-        }
-        Err(_) => Err(Stop::Memory),
+        Err(fault) => refused(&fault, out),
     }
 }
 

@@ -38,20 +38,26 @@ fn reformat(sheet: &mut Sheet, bytes: &[u8]) -> Result<(), Stop> {
     Ok(())
 }
 
-// Settings by their letters.
-fn set(sheet: &mut Sheet, letters: &[u8]) -> Result<(), Stop> {
+// A setting by its letter.
+fn set_one(sheet: &mut Sheet, letter: u8) -> Result<(), Stop> {
     let mut settings = *sheet.settings();
     settings.are_within();
-    for letter in letters {
-        match *letter {
-            b'A' => settings.automatic = true,
-            b'M' => settings.automatic = false,
-            b'P' => settings.protection = true,
-            b'Q' => settings.protection = false,
-            _ => return Err(Stop::Line),
-        }
+    match letter {
+        b'A' => settings.automatic = true,
+        b'M' => settings.automatic = false,
+        b'P' => settings.protection = true,
+        b'Q' => settings.protection = false,
+        _ => return Err(Stop::Line),
     }
     sheet.set_settings(settings);
+    Ok(())
+}
+
+// Settings by their letters.
+fn set(sheet: &mut Sheet, letters: &[u8]) -> Result<(), Stop> {
+    for letter in letters {
+        set_one(sheet, *letter)?;
+    }
     Ok(())
 }
 
