@@ -16,7 +16,6 @@ FAULTS = {1: b'Unexpected', 2: b'Ended', 3: b'UnknownFunction', 4: b'FunctionOut
           7: b'UnknownName', 8: b'TooLong'}
 # the program's menus don't show these as yet, and no letter takes them; the line of a command goes when it is built
 NOT_IN_MENUS = {
-    'f',             # File
     'p',             # Print
     'd',             # Data
 }

@@ -334,7 +334,10 @@ def main(argv):
         for n in sorted(os.listdir(a.dir)):
             path = os.path.join(a.dir, n)
             stem, _, ext = n.rpartition('.')
-            if os.path.isfile(path) and ext in ('WK1', 'PRN', 'TXT') and file_name(n.encode('latin-1'), ext) == n:
+            if ext not in ('WK1', 'PRN', 'TXT') or file_name(os.fsencode(n), ext) != n:
+                continue
+            files[n] = None                  # a folder, say
+            if os.path.isfile(path):
                 with open(path, 'rb') as f:
                     files[n] = f.read(LIMIT + 1)
     failing = {}

@@ -2,7 +2,7 @@
 import struct
 
 from . import fixed, formula, wk1
-from .address import cell_text, read_cell, read_span
+from .address import cell_text, height_of, read_cell, read_span, width_of
 from .answers import lines_of, names_of
 from .cases import TEXT_BYTES, Texts, WORDS, is_read, worked
 from .sheet import DEFAULT_FORMAT, Saved, State
@@ -156,13 +156,13 @@ def hex_of(data):
 
 
 class Built:
-    """The lines that build a random sheet."""
+    """The lines that build a random sheet, whose cells stand in these columns and rows."""
 
-    def __init__(self, r):
-        self.r = r
+    def __init__(self, r, columns=COLUMNS, rows=ROWS, without=()):
+        self.r, self.columns, self.rows, self.without = r, columns, rows, without
 
     def place(self):
-        return cell_text((self.r.choice(COLUMNS), self.r.choice(ROWS)))
+        return cell_text((self.r.choice(self.columns), self.r.choice(self.rows)))
 
     def text(self):
         r = self.r
@@ -196,7 +196,7 @@ class Built:
 
     def cell(self, names):
         r, place, code = self.r, self.place(), b'%d' % self.r.choice(FORMATS)
-        texts = Texts(r, 7, 8, True, [name for name in names if name.isalnum()])
+        texts = Texts(r, 7, 8, self.columns is COLUMNS, [name for name in names if name.isalnum()], without=self.without)
         while r.randrange(2):
             text = texts.tree(r.choice([1, 2, 3, 4]))
             if len(text) <= 240 and is_read(text, read_cell(place), names_of_lines(names)):
@@ -492,12 +492,49 @@ def in_a_formula(r, data):
     return at, 1, changed_byte(r, data[at:at + 1])[2]
 
 
+KINDS = [changed_byte, changed_byte, changed_byte, cut_short, cut_out, doubled, of_records, of_records, of_a_body,
+         of_a_body, in_a_formula, in_a_formula]
+
+
 def damage(r, data):
     """A line that tells what a damaged form of a file is read as."""
-    kinds = [changed_byte, changed_byte, changed_byte, cut_short, cut_out, doubled, of_records, of_records, of_a_body,
-             of_a_body, in_a_formula, in_a_formula]
-    at, count, put = r.choice(kinds)(r, data)
+    at, count, put = r.choice(KINDS)(r, data)
     return b'd%d %d ' % (at, count) + hex_of(put) + b' ' + outcome(data[:at] + put + data[at + count:])
+
+
+# ---------------------------------------------------------------- files that runs begin with
+
+FEW_COLUMNS, FEW_ROWS = [0, 1, 2, 3], [0, 1, 2, 3, 4, 5, 7]
+MOST_CELLS = 2000  # of a span, which the oracle walks cell by cell
+
+
+def is_quick(data):
+    """Whether runs may read the file: it asks for no moment, and no span of it is long."""
+    try:
+        saved = wk1.read(data)
+    except wk1.Wk1Fault:
+        return True
+    for cell, state in saved.cells.items():
+        if state.content[0] == 'formula':
+            tree = state.content[1]
+            if b'@NOW' in formula.print_(tree, cell, saved.names):
+                return False
+            if any(width_of(span) * height_of(span) > MOST_CELLS for span in formula.reads(tree, cell)):
+                return False
+    return True
+
+
+def file_for_runs(r):
+    """A file that is saved of a sheet, mostly of a small one, or that nobody saved, or one that is damaged."""
+    while True:
+        small = Built(r, FEW_COLUMNS, FEW_ROWS, {b'NOW'})
+        kind = r.choice(['records', 'far', 'damaged', 'damaged', 'small', 'small', 'small', 'small'])
+        data = Records(r).file() if kind == 'records' else file_of((Built(r) if kind == 'far' else small).lines())
+        if kind == 'damaged':
+            at, count, put = r.choice(KINDS)(r, data)
+            data = data[:at] + put + data[at + count:]
+        if is_quick(data):
+            return data
 
 
 def at_the_most():

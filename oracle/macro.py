@@ -78,9 +78,12 @@ def shown_cell(sheet, cell, width, byte):
     return cellformat.shown(st.content, st.value, byte, width, sheet.settings.format, text)
 
 
+MASK = bytes(b if b < 127 else ord('?') for b in range(256))
+
+
 def mask(data):
     """Bytes of 127 and above are shown as `?`."""
-    return bytes(ord('?') if b >= 127 else b for b in data)
+    return data.translate(MASK)
 
 
 class Engine:

@@ -18,6 +18,16 @@ NO_NAMES = [b'', b'SIXTEEN_LETTERS_', b' RATE', b' ', b'SIXTEENLETTERS 1']
 # formulas where these names may be there; where they aren't, the line goes to EDIT
 WITH_NAMES = [b'+RATE*2', b'@SUM(TOTAL)', b'$RATE+1', b'+$rate+$1', b'@COUNT(TOTAL)+@SUM($TAX_RATE)', b'@SUM(TOTAL,RATE)', b'+total&"x"', b'+A1+RATE',
               b'@ROWS(TOTAL)*@COLS(q)', b'-IW1', b'+EXACTLY15LETTER', b'@MAX(A1..B3,Q)', b'+$Q*$RATE']
+FILES = [b'A', b'B', b'C', b'PAY-87_2']
+SPELLED = [b'%s', b'%s', b'%s', b'%s.WK1', b'%s.wk1', b'%s.Wk1']
+NO_FILE = [b'', b'TOO_LONG9', b'A.PRN', b'A B', b'../A', b'.WK1', b'A.WK1.WK1', b'A*', b'PAY/A', b'A.', b'C:A', b'~A']
+# what is typed where the name of the last save stands in the line; an empty text takes it
+OVER_KEPT = [b'', b'', b'', b'', b'{BS 4}', b'{BS 5}B', b'{LEFT 4}2', b'{HOME}B{DEL}', b'{ESC}', b'{LEFT}{BS 9}', b'{HOME}{DEL}X', b'{ESC}C', b'{END}']
+# how a choice is taken, and how it is given up
+TAKEN = {'replace': [b'R', b'r', b'{RIGHT}~', b'{LEFT}~', b'{END}~', b'/R', b'{RIGHT 3}~', b'{DOWN}r'],
+         'confirm': [b'Y', b'y', b'{RIGHT}~', b'{LEFT}~', b'{END}~', b'zY']}
+GIVEN_UP = {'replace': [b'C', b'c', b'~', b'{ESC}', b'{BREAK}', b'{RIGHT 2}~', b'{HOME}~'],
+            'confirm': [b'N', b'~', b'{ESC}', b'{BREAK}', b'{HOME}~']}
 # keys that a menu passes over; only where a menu is surely there also those that mean something in READY once they are built
 PASSED = [b'{UP}', b'{DOWN}', b'{PGUP}', b'{PGDN}', b'{EDIT}', b'{CALC}', b'{ABS}', b'{NAME}', b'{DEL}', b'{BS}', b'{GOTO}', b'{BIGLEFT}',
           b'{BIGRIGHT}', b'{WINDOW}', b'{GRAPH}', b'z', b' ', b'5', b'/', b'.', b'[']
@@ -48,6 +58,8 @@ class MenuKeys:
         self.ways = list(ways())
         self.way_to = dict(self.ways)
         self.weights = [WEIGHTS.get(action, 2) for action, _ in self.ways]
+        # the names of files that may be there, the last one typed, and whether one was saved
+        self.there, self.named_last, self.is_kept = set(), b'', False
 
     # ------------------------------------------------------------ the way
     def taken(self, path, place):
@@ -143,10 +155,38 @@ class MenuKeys:
                   else r.randrange(low, min(high, low + 20) + 1))
         return r.choice([b'%d', b'%d', b'%d', b'+%d', b'%d.0', b'0%d', b'%d.', b'%d.000000']) % number
 
+    def asked_F(self, ext):
+        """The name of a file that may be there, or a text that is no name."""
+        r = self.r
+        if r.randrange(12) == 0:
+            return self.typist.typed(r.choice(NO_FILE))
+        self.named_last = r.choice(sorted(self.there)) if self.there and r.randrange(5) else r.choice(FILES)
+        name = self.named_last if r.randrange(3) else self.named_last.lower()
+        return r.choice(SPELLED) % name
+
+    def choice(self, ask):
+        """A choice between two, which is mostly taken."""
+        return self.r.choice((TAKEN if self.r.randrange(6) else GIVEN_UP)[ask])
+
+    def asked_confirm(self):
+        keys = self.choice('confirm')
+        if keys in TAKEN['confirm']:
+            self.there.discard(self.named_last)
+        return keys
+
+    def asked_replace(self):
+        """The choice where the file is there, so far as that is known, and mostly nothing where it isn't."""
+        is_asked = self.named_last in self.there
+        self.there.add(self.named_last)
+        if self.r.randrange(20) == 0:
+            is_asked = not is_asked
+        return self.choice('replace') if is_asked else b''
+
     def answer(self, ask):
         """An answer to a prompt of any kind that is built: a kind has its maker."""
         kind, *bounds = ask if isinstance(ask, tuple) else (ask,)
-        return self.answered(getattr(self, 'asked_' + kind.split(':')[-1])(*bounds))
+        keys = getattr(self, 'asked_' + kind.split(':')[-1])(*bounds)
+        return keys if kind in TAKEN else self.answered(keys)
 
     # ------------------------------------------------------------ commands
     def done(self, action, *answers):
@@ -301,6 +341,45 @@ class MenuKeys:
         keys += b'{BREAK}' + self.done('wgp.disable') if guarded and r.randrange(4) else b''
         return keys + self.looked([b'E1', b'E2', b'F1', b'A1', b'B2', b'C3', b'D4', b'B3'])
 
+    def saved(self):
+        """A save under a name, or under the one of the save before."""
+        r = self.r
+        keys = self.way(self.way_to['f.save'])
+        if self.is_kept and r.randrange(3):
+            keys += r.choice(OVER_KEPT) + b'~'
+        else:
+            keys += self.answer(('F', 'WK1'))
+        self.is_kept = True
+        return keys + self.asked_replace()
+
+    def combined(self):
+        """A file that is combined at a cell, some of whose cells would stand past the sheet, or under protection."""
+        r = self.r
+        guarded = r.randrange(8) == 0
+        keys = self.done('r.unprotect', r.choice([b'A1..H20', b'A1', b'B2..D4'])) + self.done('wgp.enable') if guarded else b''
+        keys += self.at(r.choice([b'A1', b'A1', b'A1', b'B2', b'C3', b'D1', b'A8', b'IV1', b'A8192', b'IT8190', b'IU8189']))
+        keys += self.done(r.choice(['fc.copy', 'fc.add', 'fc.subtract'])) + self.behind()
+        return keys + (b'{BREAK}' + self.done('wgp.disable') if guarded else b'')
+
+    def extracted(self):
+        """A part of the sheet in a file of its own."""
+        answers = [self.asked_F('WK1'), self.span()] if self.r.randrange(2) else []
+        return self.done(self.r.choice(['fx.formulas', 'fx.values']), *answers)
+
+    def filed(self):
+        """What is saved, changed, combined, brought back and erased again."""
+        r = self.r
+        keys = self.begun() + self.column(r.choice([b'A1', b'B2'])) + self.column(r.choice([b'B1', b'C2', b'A3']))
+        keys += self.marked(r.choice([b'A1..C5', b'B2..B4'])) + (b'' if self.there else b'{BREAK}' + self.saved())
+        change = lambda: self.at(r.choice([b'A1', b'B2', b'B3', b'C3', b'D4'])) + self.content() + b'~'
+        setting = lambda: self.done(r.choice(['wgc', 'wc.set', 'wgf.text', 'wgl.right', 'wgr.manual', 'wgr.columnwise', 'wc.hide', 'rn.create', 'wgr.iteration']))
+        part = [self.saved, self.saved, self.combined, self.combined, self.combined, self.extracted, self.extracted, change, change, setting,
+                lambda: self.done('f.retrieve'), lambda: self.done('f.retrieve'), lambda: self.done('f.erase'), lambda: b'{CALC}',
+                lambda: self.done('we.yes')]
+        for _ in range(r.randrange(2, 7)):
+            keys += r.choice(part)() + self.behind()
+        return keys + self.looked([b'A1', b'A2', b'B2', b'B3', b'C3', b'D4'])
+
     def order(self):
         return self.done(self.r.choice(['wgr.natural', 'wgr.columnwise', 'wgr.rowwise']))
 
@@ -338,7 +417,7 @@ class MenuKeys:
     def numbered(self):
         """Whole numbers at their bounds and beside them."""
         r = self.r
-        asking = [action for action, _ in self.ways if menu.prompts(action) and isinstance(menu.prompts(action)[0][1], tuple)]
+        asking = [action for action, _ in self.ways if menu.prompts(action) and menu.prompts(action)[0][1][0] == 'N']
         return self.begun() + b''.join(self.done(r.choice(asking)) + self.behind() for _ in range(r.randrange(1, 4)))
 
     def wandered(self):
@@ -365,7 +444,7 @@ class MenuKeys:
     def scene(self):
         """Commands that belong together."""
         return self.r.choice([self.copied, self.guarded, self.formatted, self.erased, self.labelled, self.columns, self.numbered, self.reckoned,
-                              self.ordered, self.freshened, self.named, self.named, self.valued, self.valued])()
+                              self.ordered, self.freshened, self.named, self.named, self.valued, self.valued, self.filed, self.filed, self.filed])()
 
     def part(self):
         many = [self.scene] * 16 + [self.command] * 7 + [self.wandered, self.stayed]

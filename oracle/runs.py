@@ -1,19 +1,24 @@
-"""Random key lists through the built program and through the oracle: screens, notes, statuses and counts compared.
+"""Random key lists through the built program and through the oracle: screens, notes, statuses, counts and the files left compared.
 
 python3 -B -m oracle.runs PROGRAM N [SEED]
 
-A key list is made of what the program has built; WITHOUT and the makers of Typist and MenuKeys grow with it. The moment on a screen's
-last line is left out, and no formula asks for it."""
+A key list is made of what the program has built; WITHOUT and the makers of Typist and MenuKeys grow with it. Each run has a folder of
+its own, which mostly holds a few files. The moment on a screen's last line is left out, and no formula asks for it."""
+import concurrent.futures
+import os
 import random
 import shlex
 import subprocess
 import sys
+import tempfile
 
 from .answers import leave_out
 from .cases import SEED, Texts, WORDS, is_read
 from .cli import run
-from .menu_keys import MenuKeys
+from .files import file_for_runs
+from .menu_keys import FILES, MenuKeys, SPELLED
 from .names import Names
+from .outside import file_name
 from .session import VALUE_BEGINS
 
 BLANK_MOMENT = b' ' * 15
@@ -21,13 +26,35 @@ WITHOUT = {b'NOW'}
 NO_NAMES = Names()
 
 
+# words that are refused
+BAD_WORDS = [['--show'], ['--show', 'page'], ['--steps', '0'], ['--steps=10000001'], ['--count=1'], ['keys'], ['--count', '--count'],
+             ['--steps'], ['--show=last', '--show', 'last'], ['--steps='], ['--file'], ['--file='], ['--file', '-A'], ['--file=A.PRN'],
+             ['--file', 'TOO_LONG9'], ['--file=A', '--file', 'B'], ['--file', 'A/B'], ['--file', '../A'], ['-file', 'A'], ['A.WK1'],
+             ['--file', '--count'], ['--count', '--file=a b']]
+
+
 class Typist:
-    """Makes key lists."""
+    """Makes key lists, the words before them and the folder in which they are typed."""
 
     def __init__(self, r):
         self.r = r
         self.texts = Texts(r, 3, 5, False, [], without=WITHOUT)
         self.menus = MenuKeys(self)
+        self.folder = self.some_files()
+        self.menus.there = {name[:-4].encode() for name in self.folder if is_of_shelf(name)}
+
+    def some_files(self):
+        """What the folder holds, by its names: files, and None for a folder; a file in small letters is another one."""
+        r, out = self.r, {}
+        if r.randrange(4) == 0:
+            return out
+        for name in r.sample(FILES, r.choice([1, 2, 2, 3])):
+            out[name.decode() + '.WK1'] = file_for_runs(r)
+        if r.randrange(10) == 0:
+            out[r.choice(FILES).decode() + '.WK1'] = None
+        if r.randrange(6) == 0:
+            out[r.choice(['a.wk1', 'B.wk1', 'C', 'A.TXT', 'A.WK1.old'])] = b'other'
+        return out
 
     def typed(self, text):
         """The key notation of typed bytes."""
@@ -158,21 +185,35 @@ class Typist:
             out += r.choice([b'{DO', b'{', b'A{DWN}~', b'}', b'{DOWN 0}', b'{DOWN 10000}~', b'\x07', b'{ALT 1}', b'5{ALT '])
         return out
 
+    def start(self):
+        """The word for a start file: mostly one that is there."""
+        r = self.r
+        name = r.choice(sorted(self.menus.there) if self.menus.there and r.randrange(8) else FILES)
+        spelled = (r.choice(SPELLED) % (name if r.randrange(3) else name.lower())).decode()
+        return r.choice([['--file', spelled], ['--file=' + spelled]])
+
     def words(self):
-        """The program's words: mostly good ones, each at most once."""
+        """The program's words: mostly good ones, each at most once, in any order."""
         r = self.r
         if r.randrange(20) == 0:
-            return r.choice([['--show'], ['--show', 'page'], ['--steps', '0'], ['--steps=10000001'], ['--count=1'], ['keys'],
-                             ['--count', '--count'], ['--steps'], ['--show=last', '--show', 'last'], ['--steps=']])
+            return r.choice(BAD_WORDS)
         out = []
         if r.randrange(3) == 0:
-            out += r.choice([['--show', 'last'], ['--show=pages'], ['--show', 'ansi']])
+            out.append(r.choice([['--show', 'last'], ['--show=pages'], ['--show', 'ansi']]))
         if r.randrange(4) == 0:
-            out += r.choice([['--steps', '%d'], ['--steps=%d']])
-            out[-1] %= r.choice([1, 2, 10, 50, 10000000])
+            steps = r.choice([1, 2, 10, 50, 10000000])
+            out.append(r.choice([['--steps', '%d' % steps], ['--steps=%d' % steps]]))
         if r.randrange(2):
-            out.insert(r.randrange(len(out) + 1) if '--show' not in out and '--steps' not in out else 0, '--count')
-        return out
+            out.append(['--count'])
+        if r.randrange(2 if self.menus.there else 16) == 0:
+            out.append(self.start())
+        r.shuffle(out)
+        return sum(out, [])
+
+
+def is_of_shelf(name):
+    """Whether it is a name of a worksheet's file, as the shelf spells it."""
+    return file_name(os.fsencode(name)) == name
 
 
 def kind_of(words):
@@ -201,9 +242,10 @@ def last_screen(changes):
     return without_moments(b'\n'.join(bytes(line) for line in grid))
 
 
-def expected(words, keys):
-    """The status, the screens as they are compared, and the notes."""
-    of = run(words, keys, kinds=(kind_of(words),))
+def expected(words, keys, folder):
+    """The status, the screens as they are compared, the notes, and what the folder then holds; and how many screens."""
+    files = {name: held for name, held in folder.items() if is_of_shelf(name)}
+    of = run(words, keys, files, kinds=(kind_of(words),))
     page = lambda frame: b''.join(line + b'\n' for line in frame) + b'----\n'
     if kind_of(words) == 'pages':
         screens = b''.join(page(frame) for frame in of.frames).split(b'\n')
@@ -212,12 +254,50 @@ def expected(words, keys):
         screens = [b'']
         if ended:
             screens = of.frames[-1] if kind_of(words) == 'ansi' else page(of.frames[-1]).split(b'\n')
-    return of.status, screens, of.notes, len(of.frames)
+    others = {name: held for name, held in folder.items() if name not in files}
+    return (of.status, screens, of.notes, {**others, **of.files}), len(of.frames)
 
 
-def got(words, status, out, notes):
-    """The same of what the program wrote."""
-    return status, last_screen(out) if kind_of(words) == 'ansi' else without_moments(out), notes
+def put_into(room, folder):
+    """Makes what a folder holds."""
+    for name, held in folder.items():
+        path = os.path.join(room, name)
+        if held is None:
+            os.mkdir(path)
+        else:
+            with open(path, 'wb') as file:
+                file.write(held)
+
+
+def held_in(room):
+    """What a folder holds."""
+    out = {}
+    for entry in os.scandir(room):
+        out[entry.name] = None
+        if entry.is_file():
+            with open(entry.path, 'rb') as file:
+                out[entry.name] = file.read()
+    return out
+
+
+def got(program, words, keys, folder):
+    """The same of what the program wrote and left, in a folder of its own."""
+    with tempfile.TemporaryDirectory() as room:
+        put_into(room, folder)
+        ran = subprocess.run([program, *words], input=keys, capture_output=True, timeout=120, cwd=room)
+        screens = last_screen(ran.stdout) if kind_of(words) == 'ansi' else without_moments(ran.stdout)
+        return ran.returncode, screens, ran.stderr, held_in(room)
+
+
+def files_differ(wanted, found):
+    """Why the files left aren't those that are wanted."""
+    for name in sorted({*wanted, *found}):
+        if name not in found or name not in wanted:
+            return f'{name} is {"left" if name in found else "missing"}'
+        if wanted[name] != found[name]:
+            tell = lambda held: 'a folder' if held is None else held.hex()
+            return f'{name} holds {tell(found[name])}, and {tell(wanted[name])} is wanted'
+    return None
 
 
 def difference(wanted, found):
@@ -229,33 +309,40 @@ def difference(wanted, found):
         at = next((i for i, (a, b) in enumerate(zip(wanted[1], found[1])) if a != b), min(len(wanted[1]), len(found[1])))
         line = lambda lines: lines[at] if at < len(lines) else b''
         return f'screen {at // 26 + 1}, line {at % 26} is {line(found[1])!r}, and {line(wanted[1])!r} is wanted'
-    return None
+    return files_differ(wanted[3], found[3])
 
 
-def runs(count, seed):
-    """So many runs, each its words and its keys."""
-    for number in range(count):
-        typist = Typist(random.Random(f'{seed} run {number}'))
-        yield typist.words(), typist.keys()
+def told(folder):
+    """What a folder holds, in a line."""
+    return ' '.join(f'{name}={"folder" if held is None else held.hex()}' for name, held in sorted(folder.items())) or 'nothing'
+
+
+def compared(program, seed, number):
+    """A run: how many screens and files came of it, and what differs, or none."""
+    typist = Typist(random.Random(f'{seed} run {number}'))
+    options, keys, folder = typist.words(), typist.keys(), typist.folder
+    wanted, screens = expected(options, keys, folder)
+    written = sum(folder.get(name, b'') != held for name, held in wanted[3].items())
+    why = difference(wanted, got(program, options, keys, folder))
+    return screens, written, why and f'runs: {shlex.join(options)} < {keys!r} in a folder of {told(folder)}: {why}'
+
+
+def prepare():
+    leave_out()
+    sys.setrecursionlimit(100000)
 
 
 def main(words):
-    leave_out()
-    program, count, seed = words[0], int(words[1]), words[2] if len(words) > 2 else SEED
-    screens, bad = 0, 0
-    for options, keys in runs(count, seed):
-        ran = subprocess.run([program, *options], input=keys, capture_output=True, timeout=120)
-        wanted = expected(options, keys)
-        screens += wanted[3]
-        why = difference(wanted, got(options, ran.returncode, ran.stdout, ran.stderr))
-        if why:
-            bad += 1
-            if bad <= 5:
-                print(f'runs: {shlex.join(options)} < {keys!r}: {why}')
-    print(f'runs: {count} runs of seed {seed}, {screens} screens, {bad} differ')
+    program, count, seed = os.path.abspath(words[0]), int(words[1]), words[2] if len(words) > 2 else SEED
+    with concurrent.futures.ProcessPoolExecutor(initializer=prepare) as pool:
+        runs = list(pool.map(compared, [program] * count, [seed] * count, range(count), chunksize=5))
+    bad = [why for _, _, why in runs if why]
+    for why in bad[:5]:
+        print(why)
+    screens, written = sum(run[0] for run in runs), sum(run[1] for run in runs)
+    print(f'runs: {count} runs of seed {seed}, {screens} screens, {written} files written, {len(bad)} differ')
     return 1 if bad else 0
 
 
 if __name__ == '__main__':
-    sys.setrecursionlimit(100000)
     sys.exit(main(sys.argv[1:]))

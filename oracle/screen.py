@@ -55,11 +55,9 @@ def centred(text, width):
 
 def cell_row(sheet, columns, row):
     """The cells of a row: labels and text values run on over blank cells to the right."""
-    out = b''
-    parts = []
-    for col, w in columns:
-        st = state_of(sheet, (col, row))
-        parts.append((col, w, st))
+    parts = [(col, w, state_of(sheet, (col, row))) for col, w in columns]
+    if all(st is None for _, _, st in parts):
+        return b' ' * sum(w for _, w in columns)
     i = 0
     pieces = []
     while i < len(parts):
@@ -77,7 +75,7 @@ def cell_row(sheet, columns, row):
             j += 1
         pieces.append(mask(long)[:room].ljust(room))
         i = j
-    return out + b''.join(pieces)
+    return b''.join(pieces)
 
 
 def long_text(sheet, cell, st, width):

@@ -21,28 +21,44 @@ MAY_END_AS_BEFORE = {"memory", "clock", "short-read", "short-write"}
 
 
 def page_lines(out):
-    """The lines of pages, without the moments."""
+    """The lines of pages, without the moments; in ERROR the message stands there."""
     lines = out.split(b"\n")
     for at in range(24, len(lines), 26):
-        lines[at] = b" " * 15 + lines[at][15:]
+        if lines[at - 24][73:78] != b"ERROR":
+            lines[at] = b" " * 15 + lines[at][15:]
     return lines
 
 
+def content(path):
+    with open(path, "rb") as it:
+        return it.read()
+
+
+def files_in(folder):
+    return {name: content(f"{folder}/{name}") for name in sorted(os.listdir(folder))}
+
+
 class Calls:
-    """The program over one example's keys."""
+    """The program over one example's keys, each time in a folder of its own."""
 
     def __init__(self, program, shim, keys, words):
-        self.program, self.shim, self.words = program, shim, words
-        with open(keys, "rb") as it:
-            self.keys = it.read()
+        example = keys.removesuffix(".keys")
+        self.program, self.shim, self.keys = program, shim, content(keys)
+        own_words = content(f"{example}.words").decode().split() if os.path.exists(f"{example}.words") else []
+        self.words = own_words + words
+        self.files = files_in(f"{example}.files") if os.path.exists(f"{example}.files") else {}
         self.before = self.run("", 0)
 
     def run(self, kind, number, tell=None):
         env = {"LD_PRELOAD": self.shim, "FAILING": kind, "FAIL_AT": str(number)}
         if tell:
             env["FAIL_TELL"] = tell
-        ran = subprocess.run([self.program, *self.words], input=self.keys, capture_output=True, env=env, timeout=120)
-        return ran.returncode, page_lines(ran.stdout), ran.stderr
+        with tempfile.TemporaryDirectory() as room:
+            for name, held in self.files.items():
+                with open(f"{room}/{name}", "wb") as it:
+                    it.write(held)
+            ran = subprocess.run([self.program, *self.words], input=self.keys, capture_output=True, env=env, timeout=120, cwd=room)
+            return ran.returncode, page_lines(ran.stdout), ran.stderr, files_in(room)
 
     def count(self, kind):
         """How many such calls an undisturbed run makes."""
@@ -50,14 +66,33 @@ class Calls:
             self.run(kind, 0, tell.name)
             return int(tell.read() or 0)
 
+    def are_whole(self, left):
+        """Whether each file left is one of before or one of a run without failures."""
+        return all(held in (self.files.get(name), self.before[3].get(name)) for name, held in left.items())
+
+    def file_fault(self, status, lines, notes, left):
+        """Why a run in which a file's call failed did not end as it should."""
+        if not set(left) <= set(self.before[3]) | set(self.files):
+            return f"it left {sorted(left)}"
+        if status == 6 and notes.endswith(b": disk error\n") and left == self.files:
+            return None
+        other = next((at for at, (line, old) in enumerate(zip(lines, self.before[1])) if line != old), 0) // 26
+        if not any(line.startswith(b"Disk error") for line in lines[26 * other + 24:26 * other + 25]):
+            return f"status {status}, notes {notes!r}, and the first other screen tells no disk error"
+        return None
+
     def fault(self, kind, number):
         """Why a run with this call failing did not end as it should, or whether it ended as before."""
-        status, lines, notes = self.run(kind, number)
-        if (status, lines, notes) == self.before:
+        status, lines, notes, left = self.run(kind, number)
+        if (status, lines, notes, left) == self.before:
             return "as before" if kind in MAY_END_AS_BEFORE else "it ended as if no call had failed"
+        if kind == "file":
+            return self.file_fault(status, lines, notes, left)
         last = notes.rstrip(b"\n").split(b"\n")[-1]
         if (status, last.removeprefix(b"1-2-3: ")) not in ENDINGS[kind]:
             return f"status {status}, notes {notes!r}"
+        if not self.are_whole(left):
+            return f"it left {sorted(left)}, not each of them whole"
         shown = lines[:-1]
         # a write that failed may have been of a part of a page
         if shown != self.before[1][: len(shown)]:
@@ -67,6 +102,8 @@ class Calls:
 
 def tried(calls, kind, name, pool):
     count = calls.count(kind)
+    if not count and kind == "file":
+        return True
     faults = list(pool.map(lambda number: calls.fault(kind, number), range(1, count + 1)))
     bad = [(number, why) for number, why in enumerate(faults, 1) if why and why != "as before"]
     same = faults.count("as before")

@@ -1,14 +1,17 @@
 // Loaded before the C library: makes one call of the program's own fail. FAILING names the kind (memory, read, write,
-// notes, clock, or short-read and short-write, which move one byte), FAIL_AT the number of the call, from 1, and FAIL_TELL
-// a file that gets the number of calls. Calls from elsewhere than the program's own code are not counted.
+// notes, clock, file, or short-read and short-write, which move one byte), FAIL_AT the number of the call, from 1, and
+// FAIL_TELL a file that gets the number of calls. A file's calls are those that look for it, open, read, write, sync, rename
+// and remove it. Calls from elsewhere than the program's own code are not counted.
 #define _GNU_SOURCE
 #include <errno.h>
 #include <fcntl.h>
 #include <link.h>
+#include <stdarg.h>
 #include <stdint.h>
 #include <stdio.h>
 #include <stdlib.h>
 #include <string.h>
+#include <sys/stat.h>
 #include <sys/syscall.h>
 #include <time.h>
 #include <unistd.h>
@@ -69,7 +72,7 @@ void *realloc(void *old, size_t size) {
 }
 
 ssize_t read(int file, void *into, size_t size) {
-    if (fails("read", CALLER)) return errno = EIO, -1;
+    if (fails(file == 0 ? "read" : "file", CALLER)) return errno = EIO, -1;
     if (size > 1 && fails("short-read", CALLER)) size = 1;
     return syscall(SYS_read, file, into, size);
 }
@@ -77,6 +80,7 @@ ssize_t read(int file, void *into, size_t size) {
 static ssize_t put(int file, const void *from, size_t size, void *caller) {
     if (file == 1 && fails("write", caller)) return errno = EIO, -1;
     if (file == 2 && fails("notes", caller)) return errno = EIO, -1;
+    if (file > 2 && fails("file", caller)) return errno = ENOSPC, -1;
     if (size > 1 && fails("short-write", caller)) size = 1;
     return syscall(SYS_write, file, from, size);
 }
@@ -88,4 +92,38 @@ ssize_t __write(int file, const void *from, size_t size) { return put(file, from
 int clock_gettime(clockid_t clock, struct timespec *into) {
     if (fails("clock", CALLER)) return errno = EIO, -1;
     return (int)syscall(SYS_clock_gettime, clock, into);
+}
+
+int open(const char *path, int how, ...) {
+    va_list more;
+    va_start(more, how);
+    int mode = how & O_CREAT ? va_arg(more, int) : 0;
+    va_end(more);
+    if (fails("file", CALLER)) return errno = EIO, -1;
+    return (int)syscall(SYS_openat, AT_FDCWD, path, how, mode);
+}
+
+int statx(int folder, const char *restrict path, int how, unsigned wanted, struct statx *restrict found) {
+    if (fails("file", CALLER)) return errno = EIO, -1;
+    return (int)syscall(SYS_statx, folder, path, how, wanted, found);
+}
+
+int fchmod(int file, mode_t mode) {
+    if (fails("file", CALLER)) return errno = EIO, -1;
+    return (int)syscall(SYS_fchmod, file, mode);
+}
+
+int fsync(int file) {
+    if (fails("file", CALLER)) return errno = EIO, -1;
+    return (int)syscall(SYS_fsync, file);
+}
+
+int rename(const char *from, const char *to) {
+    if (fails("file", CALLER)) return errno = EIO, -1;
+    return (int)syscall(SYS_rename, from, to);
+}
+
+int unlink(const char *path) {
+    if (fails("file", CALLER)) return errno = EIO, -1;
+    return (int)syscall(SYS_unlink, path);
 }
