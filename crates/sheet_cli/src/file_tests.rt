@@ -44,6 +44,46 @@ const CIRCLE: &[u8] = &[
     0, 0, 0, 0, 0, 0, 0, 0xF0, 0x3F, 0x0A, 0, 1, 0, 0x80, 0, 0x80, 5, 1, 0, 9, 3, 1, 0, 0, 0,
 ];
 
+// What is saved of a sheet whose A1 holds 5.
+const FIVE: &[u8] = &[
+    0, 0, 2, 0, 6, 4, 6, 0, 8, 0, 0, 0, 0, 0, 0, 0, 0, 0, 0x2F, 0, 1, 0, 1, 2, 0, 1, 0, 0xFF, 3, 0,
+    1, 0, 0, 0x24, 0, 1, 0, 0, 0x29, 0, 1, 0, 0x27, 7, 0, 0x1F, 0, 0, 0, 0, 0, 0x71, 0, 9, 0, 0, 0,
+    0, 0, 0, 0, 0, 0, 0, 0, 0, 0, 0, 0, 0, 0, 0, 0, 0, 0, 0, 0, 0, 0x0D, 0, 7, 0, 0xFF, 0, 0, 0, 0,
+    5, 0, 1, 0, 0, 0,
+];
+
+// What is saved of a sheet whose A1 holds 5 and A2 `+A1*2`, the pointer at A2.
+const DOUBLED: &[u8] = &[
+    0, 0, 2, 0, 6, 4, 6, 0, 8, 0, 0, 0, 0, 0, 0, 0, 1, 0, 0x2F, 0, 1, 0, 1, 2, 0, 1, 0, 0xFF, 3, 0,
+    1, 0, 0, 0x24, 0, 1, 0, 0, 0x29, 0, 1, 0, 0x27, 7, 0, 0x1F, 0, 0, 0, 1, 0, 0x71, 0, 9, 0, 0, 0,
+    0, 0, 0, 0, 0, 0, 0, 0, 0, 0, 0, 0, 0, 0, 0, 0, 0, 0, 0, 0, 0, 0x0D, 0, 7, 0, 0xFF, 0, 0, 0, 0,
+    5, 0, 0x10, 0, 0x19, 0, 0xFF, 0, 0, 1, 0, 0, 0, 0, 0, 0, 0, 0x24, 0x40, 0x0A, 0, 1, 0, 0x80,
+    0xFF, 0xBF, 5, 2, 0, 0x0B, 3, 1, 0, 0, 0,
+];
+
+// What is saved of a sheet whose A1 holds the number 0.1.
+const TENTH: &[u8] = &[
+    0, 0, 2, 0, 6, 4, 6, 0, 8, 0, 0, 0, 0, 0, 0, 0, 0, 0, 0x2F, 0, 1, 0, 1, 2, 0, 1, 0, 0xFF, 3, 0,
+    1, 0, 0, 0x24, 0, 1, 0, 0, 0x29, 0, 1, 0, 0x27, 7, 0, 0x1F, 0, 0, 0, 0, 0, 0x71, 0, 9, 0, 0, 0,
+    0, 0, 0, 0, 0, 0, 0, 0, 0, 0, 0, 0, 0, 0, 0, 0, 0, 0, 0, 0, 0, 0x0E, 0, 0x0D, 0, 0xFF, 0, 0, 0,
+    0, 0x9A, 0x99, 0x99, 0x99, 0x99, 0x99, 0xB9, 0x3F, 1, 0, 0, 0,
+];
+
+// The first bytes of a file whose A1 holds a formula of so many signs before a 1: what comes before the signs.
+const SIGNS_255: &[u8] = &[
+    0, 0, 2, 0, 6, 4, 0x10, 0, 0x12, 1, 0xFF, 0, 0, 0, 0, 0, 0, 0, 0, 0, 0, 0, 0, 3, 1, 5, 1, 0,
+];
+
+const SIGNS_256: &[u8] = &[
+    0, 0, 2, 0, 6, 4, 0x10, 0, 0x13, 1, 0xFF, 0, 0, 0, 0, 0, 0, 0, 0, 0, 0, 0, 0, 4, 1, 5, 1, 0,
+];
+
+// The byte of a sign in a formula's code.
+const SIGN: u8 = 8;
+
+// One byte more than a file has at most.
+const TOO_MANY: usize = 67_108_865;
+
 // A name of a file.
 fn name_of<R: Abort>(rt: &R, name: &str) -> FileName {
     FileName::of(name.as_bytes()).expect(rt, "it is a name")
@@ -83,15 +123,20 @@ fn file_is<R: Abort>(rt: &R, shelf: &mut MapShelf, name: &str, bytes: Option<&[u
     }
 }
 
-// The run of a row leaves what the row tells.
+// The run of a row over its files leaves what the row tells.
 fn check<R: AllocGlobal + Abort>(rt: &R, row: &Row) -> Result<(), Fail> {
+    let mut shelf = shelf_of(rt, row)?;
+    check_over(rt, row, &mut shelf)
+}
+
+// The run of a row over this shelf leaves what the row tells.
+fn check_over<R: AllocGlobal + Abort>(rt: &R, row: &Row, shelf: &mut MapShelf) -> Result<(), Fail> {
     let alloc = rt.alloc();
     let mut words = Words::new(alloc);
     for word in row.words {
         words.push(word)?;
     }
     let mut keys = ListKeys::new(row.keys.to_vec(alloc)?, Vec::new(alloc));
-    let mut shelf = shelf_of(rt, row)?;
     let readings = [Moment::unknown()].to_vec(alloc)?;
     assert_eq!(rt; readings.len(), 1);
     let mut clock = ListClock::new(readings);
@@ -104,7 +149,7 @@ fn check<R: AllocGlobal + Abort>(rt: &R, row: &Row) -> Result<(), Fail> {
         alloc,
         &words,
         &mut keys,
-        &mut shelf,
+        shelf,
         &mut clock,
         &mut displays,
         &mut failed,
@@ -114,7 +159,7 @@ fn check<R: AllocGlobal + Abort>(rt: &R, row: &Row) -> Result<(), Fail> {
     assert_eq!(rt; status, row.status);
     screens_are(rt, &displays, row);
     for (name, bytes) in row.left {
-        file_is(rt, &mut shelf, name, *bytes);
+        file_is(rt, shelf, name, *bytes);
     }
     Ok(())
 }
@@ -183,6 +228,20 @@ const MISSING: &[Row<'static>] = &[
         ..PLAIN
     },
 ];
+
+// A run that starts with this file.
+const PAY: Row<'static> = Row {
+    words: &["--file", "PAY"],
+    ..PLAIN
+};
+
+// It holds a formula of many signs before a 1.
+const SIGNED: Row<'static> = Row {
+    keys: b"~",
+    frames: 1,
+    shown: &[(0, 0, "A1: -----"), (4, 0, "   1      -1 ")],
+    ..PAY
+};
 
 // Bytes that are no worksheet file, and the note on the start file that holds them.
 const FAULTS: &[(&[u8], &str)] = &[
@@ -265,9 +324,37 @@ const COMMANDS: &[Row<'static>] = &[
         ..PLAIN
     },
     Row {
+        keys: b"5~/FSX~",
+        frames: 7,
+        left: &[("X", Some(FIVE))],
+        ..PLAIN
+    },
+    Row {
         keys: b"5~/FSX~/FSX~R6~/FRX~",
         frames: 20,
         shown: &[(0, 0, "A1: 5 "), (4, 0, "   1       5 ")],
+        left: &[("X", Some(FIVE))],
+        ..PLAIN
+    },
+    Row {
+        keys: b"5~{DOWN}+A1*2~/FSX~",
+        frames: 14,
+        left: &[("X", Some(DOUBLED))],
+        ..PLAIN
+    },
+    Row {
+        words: &["--file", "P"],
+        keys: b"/FSY~",
+        files: &[("P", TENTH)],
+        frames: 5,
+        shown: &[(0, 0, "A1: 0.1 "), (4, 0, "   1     0.1 ")],
+        left: &[("Y", Some(TENTH)), ("P", Some(TENTH))],
+        ..PLAIN
+    },
+    Row {
+        keys: b"/WCHB1~{RIGHT}/FSX~/WEY/FRX~",
+        frames: 22,
+        shown: &[(0, 0, "C1: "), (3, 8, "A        C ")],
         ..PLAIN
     },
     Row {
@@ -289,6 +376,37 @@ fn check_all<R: AllocGlobal + Abort>(rt: &R, rows: &[Row]) -> Result<(), Fail> {
     Ok(())
 }
 
+// A shelf with this one file.
+fn shelf_with<R: AllocGlobal + Abort>(rt: &R, bytes: &[u8]) -> Result<MapShelf, Fail> {
+    let mut shelf = MapShelf::new(Vec::new(rt.alloc()));
+    shelf.add(name_of(rt, "PAY"), ByteList::from_slice(rt.alloc(), bytes)?)?;
+    Ok(shelf)
+}
+
+// A start file of these bytes is refused with this note.
+fn check_refused<R: AllocGlobal + Abort>(rt: &R, bytes: &[u8], notes: &str) -> Result<(), Fail> {
+    let mut shelf = shelf_with(rt, bytes)?;
+    let row = Row {
+        keys: b"A",
+        status: 2,
+        notes,
+        ..PAY
+    };
+    check_over(rt, &row, &mut shelf)
+}
+
+// A file whose A1 holds a formula of so many signs before a 1, of its first bytes.
+fn signed<R: AllocGlobal>(rt: &R, first: &[u8], signs: usize) -> Result<Vec<u8>, Fail> {
+    let mut bytes = first.to_vec(rt.alloc())?;
+    for _ in 0..signs {
+        bytes.push(SIGN)?;
+    }
+    for byte in [3, 1, 0, 0, 0] {
+        bytes.push(byte)?;
+    }
+    Ok(bytes)
+}
+
 #[test]
 fn start_files_are_read_and_recalculated(rt: HostRuntime) -> Result<(), Fail> {
     check_all(&rt, STARTS)
@@ -298,18 +416,20 @@ fn start_files_are_read_and_recalculated(rt: HostRuntime) -> Result<(), Fail> {
 fn start_files_are_refused(rt: HostRuntime) -> Result<(), Fail> {
     check_all(&rt, MISSING)?;
     for (bytes, notes) in FAULTS {
-        let files: &[(&str, &[u8])] = &[("PAY", bytes)];
-        let row = Row {
-            words: &["--file", "PAY"],
-            keys: b"A",
-            files,
-            status: 2,
-            notes,
-            ..PLAIN
-        };
-        check(&rt, &row)?;
+        check_refused(&rt, bytes, notes)?;
     }
     Ok(())
+}
+
+#[test]
+fn start_files_have_bounds(rt: HostRuntime) -> Result<(), Fail> {
+    let accepted = signed(&rt, SIGNS_255, 255)?;
+    let mut shelf = shelf_with(&rt, &accepted)?;
+    check_over(&rt, &SIGNED, &mut shelf)?;
+    let refused = signed(&rt, SIGNS_256, 256)?;
+    check_refused(&rt, &refused, "1-2-3: PAY.WK1: F12 1\n")?;
+    let large = [0].repeat(rt.alloc(), TOO_MANY)?;
+    check_refused(&rt, &large, "1-2-3: PAY.WK1: F11\n")
 }
 
 #[test]
