@@ -1,5 +1,5 @@
 // Maps from cells to items.
-ghost use Rattle.std.specs.Prelude.{◌≡◌, ◌++◌, ◌∷◌, [], ◌<◌, ◌-◌, ◌^◌, suc, ℕ, cond, length, false, Some, None, option_copied, IfSome, IfNone, IsSome, IsTrue, ◌↔◌, OnOk, OnErr};
+ghost use Rattle.std.specs.Prelude.{◌≡◌, ◌++◌, ◌∷◌, [], ◌<◌, ◌≤◌, ◌-◌, ◌^◌, suc, ℕ, cond, length, Some, None, option_copied, IfSome, IfNone, IsSome, IsTrue, ◌↔◌, OnOk, OnErr};
 ghost use Rattle.std.specs.Option.{option_copied_mut};
 ghost use Rattle.std.specs.Borrow.{sem};
 ghost use Rattle.std.specs.FinMap as map;
@@ -94,11 +94,14 @@ impl<T> CellMap<T> {
         }
     }
 
-    /// Whether some cell of a cell's band of 64 rows may have an item; false tells that none has.
-    pub fn has_band(&self, cell: Cell) -> bool
-        ensures { result ≡ false → (c : Place) → InSheet c → band_of c ≡ band_of cell → map.get self.now c ≡ None }
+    /// A column from the cell's on, up to 256, before which no cell of its band of 256 rows has an item, from its own
+    /// column on.
+    pub fn next_column(&self, cell: Cell) -> u16
+        ensures within { (cell.col ≤ result) × (result ≤ 256) }
+        ensures none { (c : Place) → InSheet c → band_of c ≡ band_of cell → cell.col ≤ c.col → c.col < result →
+            map.get self.now c ≡ None }
     {
-        self.table.has_band(cell)
+        self.table.next_column(cell)
     }
 
     /// The item of a cell, to be changed in place.

@@ -1,23 +1,32 @@
 // The numbers of places.
 ghost use Rattle.std.specs.Prelude.{◌≡◌, false, ℕ, ◌<◌, ◌≤◌, ◌+◌, ◌*◌, ◌/◌, ◌%◌, cond, length, map, [], ◌∷◌, get_or, OnOk, List};
 ghost use Rattle.grid_address.specs.Place.{same_place, InSheet, Place};
-ghost use Rattle.cell_numbers.specs.Numbers.{band_of, number_at, place_of, HasRoom, items_of};
+ghost use Rattle.cell_numbers.specs.Numbers.{band_of, number_at, page_of, place_of, HasRoom, items_of};
 
 use grid_address::Cell;
 use std::alloc::{AllocError, Global};
 use std::marker::Model;
 
-/// How many rows a band has.
-const ROWS: u16 = 64;
+/// How many rows a page has.
+const ROWS: u16 = 256;
 
-/// How many places a band has.
-const PLACES: usize = 16_384;
+/// How many columns a page has.
+const COLUMNS: u8 = 4;
 
-/// A number for each place of the sheet; 0 stands for none. The places lie in bands of 64 rows, row by row, and a band
-/// without a number takes no room.
+/// How many pages lie side by side.
+const PAGES: usize = 64;
+
+/// How many places a page has.
+const PLACES: usize = 1_024;
+
+/// How many columns a sheet has.
+const ALL_COLUMNS: u16 = 256;
+
+/// A number for each place of the sheet; 0 stands for none. The places lie in pages of 256 rows and 4 columns, and a
+/// page without a number takes no room but its head's.
 #[derive(Drop)]
 pub struct PlaceTable {
-    bands: Vec<Vec<u32>>,
+    pages: Vec<Vec<u32>>,
     alloc: Global,
 }
 
@@ -27,42 +36,42 @@ impl Model for PlaceTable {
 
     ghost Value = { List (List ℕ) };
 
-    ghost view = { λ t. items_of t.bands.items };
+    ghost view = { λ t. items_of t.pages.items };
 }
 
-// The band of a cell.
-fn band_of(cell: Cell) -> usize
-    ensures { result ≡ band_of cell }
+// The page of a cell.
+fn page_of(cell: Cell) -> usize
+    ensures { result ≡ page_of cell }
 {
-    usize::from(cell.row / ROWS)
+    usize::from(cell.row / ROWS) * PAGES + usize::from(cell.col / COLUMNS)
 }
 
-// The place of a cell in its band.
+// The place of a cell in its page.
 fn place_of(cell: Cell) -> usize
     ensures place { result ≡ place_of cell }
-    ensures below { result < 16384 }
+    ensures below { result < 1024 }
 {
-    usize::from(cell.row % ROWS) * 256 + usize::from(cell.col)
+    usize::from(cell.row % ROWS) * 4 + usize::from(cell.col % COLUMNS)
 }
 
-// Adds empty bands, up to this one.
-fn add_bands(bands: &mut Vec<Vec<u32>>, alloc: Global, band: usize) -> Result<(), AllocError>
-    ensures same { (d : Place) → number_at (items_of bands.new.items) d ≡ number_at (items_of bands.old.items) d }
-    ensures long { OnOk result (band < length bands.new.items) }
+// Adds empty pages, up to this one.
+fn add_pages(pages: &mut Vec<Vec<u32>>, alloc: Global, page: usize) -> Result<(), AllocError>
+    ensures same { (d : Place) → number_at (items_of pages.new.items) d ≡ number_at (items_of pages.old.items) d }
+    ensures long { OnOk result (page < length pages.new.items) }
 {
-    while bands.len() <= band {
-        bands.push(Vec::new(alloc))?;
+    while pages.len() <= page {
+        pages.push(Vec::new(alloc))?;
     }
     Ok(())
 }
 
-// Fills a band with zeros.
-fn fill_band(band: &mut Vec<u32>) -> Result<(), AllocError>
-    ensures same { (j : ℕ) → get_or band.new.items j 0 ≡ get_or band.old.items j 0 }
-    ensures long { OnOk result (16384 ≤ length band.new.items) }
+// Fills a page with zeros.
+fn fill_page(page: &mut Vec<u32>) -> Result<(), AllocError>
+    ensures same { (j : ℕ) → get_or page.new.items j 0 ≡ get_or page.old.items j 0 }
+    ensures long { OnOk result (1024 ≤ length page.new.items) }
 {
-    if band.len() < PLACES {
-        band.resize(PLACES, 0)?;
+    if page.len() < PLACES {
+        page.resize(PLACES, 0)?;
     }
     Ok(())
 }
@@ -73,7 +82,7 @@ impl PlaceTable {
         ensures { result ≡ [] }
     {
         PlaceTable {
-            bands: Vec::new(alloc),
+            pages: Vec::new(alloc),
             alloc,
         }
     }
@@ -82,8 +91,8 @@ impl PlaceTable {
     pub fn number_at(&self, cell: Cell) -> u32
         ensures { result ≡ number_at self.now cell }
     {
-        match self.bands.get(band_of(cell)) {
-            Some(band) => match band.get(place_of(cell)) {
+        match self.pages.get(page_of(cell)) {
+            Some(page) => match page.get(place_of(cell)) {
                 Some(number) => *number,
                 None => 0,
             },
@@ -91,14 +100,35 @@ impl PlaceTable {
         }
     }
 
-    /// Whether some place of a cell's band may have a number.
-    pub fn has_band(&self, cell: Cell) -> bool
-        ensures { result ≡ false → get_or self.now (band_of cell) [] ≡ [] }
+    // Whether some place of a cell's page may have a number.
+    fn has_page(&self, cell: Cell) -> bool
+        ensures { result ≡ false → get_or self.now (page_of cell) [] ≡ [] }
     {
-        match self.bands.get(band_of(cell)) {
-            Some(band) => !band.is_empty(),
+        match self.pages.get(page_of(cell)) {
+            Some(page) => !page.is_empty(),
             None => false,
         }
+    }
+
+    /// A column from the cell's on, up to 256, before which no place of the cell's band of 256 rows has a number, from
+    /// the cell's column on.
+    pub fn next_column(&self, cell: Cell) -> u16
+        ensures within { (cell.col ≤ result) × (result ≤ 256) }
+        ensures none { (d : Place) → InSheet d → band_of d ≡ band_of cell → cell.col ≤ d.col → d.col < result →
+            number_at self.now d ≡ 0 }
+    {
+        let mut col = u16::from(cell.col);
+        while col < ALL_COLUMNS {
+            let place = Cell {
+                row: cell.row,
+                col: col as u8,
+            };
+            if self.has_page(place) {
+                return col;
+            }
+            col = col / 4 * 4 + 4;
+        }
+        col
     }
 
     /// Makes room for the number of a cell. No number changes.
@@ -107,9 +137,9 @@ impl PlaceTable {
         ensures room { OnOk result (HasRoom self.new cell) }
     {
         cell.is_on_sheet();
-        let at = band_of(cell);
-        add_bands(&mut self.bands, self.alloc, at)?;
-        fill_band(&mut self.bands[at])?;
+        let at = page_of(cell);
+        add_pages(&mut self.pages, self.alloc, at)?;
+        fill_page(&mut self.pages[at])?;
         Ok(())
     }
 
@@ -119,8 +149,8 @@ impl PlaceTable {
         ensures { (d : Place) → InSheet d → number_at self.new d ≡ cond (same_place cell d) number (number_at self.old d) }
     {
         cell.is_on_sheet();
-        let at = band_of(cell);
-        let band = &mut self.bands[at];
-        band[place_of(cell)] = number;
+        let at = page_of(cell);
+        let page = &mut self.pages[at];
+        page[place_of(cell)] = number;
     }
 }

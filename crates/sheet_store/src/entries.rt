@@ -65,6 +65,21 @@ impl Store {
 /// The last row.
 const LAST_ROW: u16 = 8191;
 
+/// How many columns a row has.
+const COLUMNS: u16 = 256;
+
+// The first place of a row, if there is such a row.
+fn row_start(row: u16) -> Option<Cell>
+    ensures some { IfSome result (λ c. (c ≡ record { row = row; col = 0 }) × InSheet c) }
+    ensures none { IfNone result (InSheet (record { row = row; col = 0 }) → ⊥) }
+{
+    if row <= LAST_ROW {
+        Some(Cell { row, col: 0 })
+    } else {
+        None
+    }
+}
+
 // The place behind another, in row order.
 fn place_after(place: Cell) -> Option<Cell>
     ensures some { IfSome result (λ c. (p : Place) → InSheet p → is_lt (place_cmp place p) ≡ is_le (place_cmp c p)) }
@@ -77,35 +92,34 @@ fn place_after(place: Cell) -> Option<Cell>
             col: place.col + 1,
         });
     }
-    if place.row < LAST_ROW {
-        return Some(Cell {
-            row: place.row + 1,
-            col: 0,
-        });
-    }
-    None
+    row_start(place.row + 1)
 }
 
-/// The rows of a band, of which a store tells whether it holds a cell there.
-const BAND: u16 = 64;
+/// The rows of a band, in which a store tells the next column that may hold a cell.
+const BAND: u16 = 256;
 
-// A place behind one without a state, and no cell with a state lies between them: the next place, or the first of the
-// next band where the store holds no cell in this one.
+// A place behind one without a state, and no cell with a state lies between them: the next place, or the first that may
+// have one in the row, or in the next row, or in the next band where the store holds no cell in this one.
 fn place_past(store: &Store, place: Cell) -> Option<Cell>
     requires { map.get store.now.cells place ≡ None }
     ensures some { IfSome result (λ c. NextHeld store.now.cells place c) }
     ensures behind { IfSome result (λ c. number_of place < number_of c) }
     ensures none { IfNone result (NoneHeldBehind store.now.cells place) }
 {
-    if store.has_band(place) {
+    let col = store.next_column(place);
+    if col <= u16::from(place.col) {
         return place_after(place);
     }
-    let row = place.row / BAND * BAND + BAND;
-    if row <= LAST_ROW {
-        Some(Cell { row, col: 0 })
-    } else {
-        None
+    if col < COLUMNS {
+        return Some(Cell {
+            row: place.row,
+            col: col as u8,
+        });
     }
+    if place.col == 0 {
+        return row_start(place.row / BAND * BAND + BAND);
+    }
+    row_start(place.row + 1)
 }
 
 // The first cell with a state from a place on.

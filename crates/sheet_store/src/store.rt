@@ -1,5 +1,5 @@
 // The cells of a sheet.
-ghost use Rattle.std.specs.Prelude.{length, ◌≡◌, ◌≤◌, ◌++◌, ◌∷◌, [], OnOk, OnErr, IfOk, IfSome, IfNone, Some, None, option_copied, replicate, true, false};
+ghost use Rattle.std.specs.Prelude.{length, ◌≡◌, ◌≤◌, ◌<◌, ◌++◌, ◌∷◌, [], OnOk, OnErr, IfOk, IfSome, IfNone, Some, None, option_copied, replicate, true, false};
 ghost use Rattle.std.specs.Option.{ForSome};
 ghost use Rattle.std.specs.FinMap as map;
 ghost use Rattle.cell_numbers.specs.Filled.{filled, with_item};
@@ -77,12 +77,14 @@ impl Store {
         are_marks(&self.hidden);
     }
 
-    // Whether some cell of a cell's band of 64 rows may have a state; false tells that none has.
-    pub(crate) fn has_band(&self, cell: Cell) -> bool
-        ensures { result ≡ false →
-            (c : Place) → InSheet c → band_of c ≡ band_of cell → map.get self.now.cells c ≡ None }
+    // A column from the cell's on, up to 256, before which no cell of its band of 256 rows has a state, from its own
+    // column on.
+    pub(crate) fn next_column(&self, cell: Cell) -> u16
+        ensures within { (cell.col ≤ result) × (result ≤ 256) }
+        ensures none { (c : Place) → InSheet c → band_of c ≡ band_of cell → cell.col ≤ c.col → c.col < result →
+            map.get self.now.cells c ≡ None }
     {
-        self.cells.has_band(cell)
+        self.cells.next_column(cell)
     }
 
     /// The state of a cell.
