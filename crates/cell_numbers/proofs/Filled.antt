@@ -14,8 +14,9 @@ use Rattle.std.proofs.lemmas.Option.{slice_get-get_or, slice_get-map, slice_get_
 use Rattle.grid_address.specs.Place.{place_cmp, same_place, InSheet, Place}
 use Rattle.grid_address.proofs.Places.{cells_exact, cells_total, get_inserted, get_removed, place_tied, same_place_is, same_place_itself, same_places}
 use Rattle.cell_numbers.specs.Numbers.{number_at}
-use Rattle.cell_numbers.specs.Filled.{cells_of, filled, with_item, AreNumbered}
+use Rattle.cell_numbers.specs.Filled.{cell_in, cells_of, filled, item_in, with_item, AreNumbered}
 use Rattle.cell_numbers.specs.declared.held.Held.{Held}
+use Rattle.cell_numbers.specs.declared.held.Held.TheVariants as held
 
 same_some : {X : Type 0} {x y : X} → Some x ≡ Some y → x ≡ y
 same_some h = cc
@@ -54,48 +55,48 @@ module _ {T : Type 0} where
 
   filled_push : (hs : List (Held T)) (h : Held T) → filled (hs ++ h ∷ []) ≡ filled hs ++ filled (h ∷ [])
   filled_push [] h = refl
-  filled_push (x ∷ hs) h = ap (with_item x.cell x.item) (filled_push hs h) ∙ with_append x.cell x.item (filled hs) (filled (h ∷ []))
+  filled_push (x ∷ hs) h = ap (with_item (cell_in x) (item_in x)) (filled_push hs h) ∙ with_append (cell_in x) (item_in x) (filled hs) (filled (h ∷ []))
 
   pub none_at : (q : Place) (hs : List (Held T)) → ((i : ℕ) → slice_get (cells_of hs) i ≡ Some q → ⊥) → find place_cmp q (filled hs) ≡ None
   none_at q [] n = refl
-  none_at q (x ∷ hs) n = skip q x.cell x.item (filled hs) (λ e. n 0 (ap Some e)) ∙ none_at q hs (λ i. n (suc i))
+  none_at q (x ∷ hs) n = skip q (cell_in x) (item_in x) (filled hs) (λ e. n 0 (ap Some e)) ∙ none_at q hs (λ i. n (suc i))
 
-  item_at : (q : Place) (hs : List (Held T)) (i : ℕ) (h : Held T) → slice_get hs i ≡ Some h → h.cell ≡ q → ((j : ℕ) → slice_get (cells_of hs) j ≡ Some q → j ≡ i) → find place_cmp q (filled hs) ≡ h.item
+  item_at : (q : Place) (hs : List (Held T)) (i : ℕ) (h : Held T) → slice_get hs i ≡ Some h → cell_in h ≡ q → ((j : ℕ) → slice_get (cells_of hs) j ≡ Some q → j ≡ i) → find place_cmp q (filled hs) ≡ item_in h
   item_at q [] i h e c u = absurd (no_some e)
   item_at q (x ∷ hs) zero h e c u =
       let is : x ≡ h = same_some e in
-      here q x.cell x.item (filled hs) (ap (λ (y : Held T). y.cell) is ∙ c) (none_at q hs (λ i k. (let z : suc i ≡ 0 = u (suc i) k in absurd (omega (arith, z))))) ∙ ap (λ (y : Held T). y.item) is
+      here q (cell_in x) (item_in x) (filled hs) (ap cell_in is ∙ c) (none_at q hs (λ i k. (let z : suc i ≡ 0 = u (suc i) k in absurd (omega (arith, z))))) ∙ ap item_in is
   item_at q (x ∷ hs) (suc i) h e c u =
-      skip q x.cell x.item (filled hs) (λ k. (let z : 0 ≡ suc i = u 0 (ap Some k) in absurd (omega (arith, z))))
+      skip q (cell_in x) (item_in x) (filled hs) (λ k. (let z : 0 ≡ suc i = u 0 (ap Some k) in absurd (omega (arith, z))))
       ∙ item_at q hs i h e c (λ j k. same_suc (u (suc j) k))
 
-  beside : (q : Place) (hs : List (Held T)) (i : ℕ) (g : Held T) → (g.cell ≡ q → ⊥) → slice_get (cells_of hs) i ≡ Some g.cell → find place_cmp q (filled (set hs i g)) ≡ find place_cmp q (filled hs)
+  beside : (q : Place) (hs : List (Held T)) (i : ℕ) (g : Held T) → (cell_in g ≡ q → ⊥) → slice_get (cells_of hs) i ≡ Some (cell_in g) → find place_cmp q (filled (set hs i g)) ≡ find place_cmp q (filled hs)
   beside q [] i g n e = refl
-  beside q (x ∷ hs) zero g n e = skip q g.cell g.item (filled hs) n ∙ sym (skip q x.cell x.item (filled hs) (λ k. n (sym (same_some e) ∙ k)))
-  beside q (x ∷ hs) (suc i) g n e = under q x.cell x.item (filled (set hs i g)) (filled hs) (beside q hs i g n e)
+  beside q (x ∷ hs) zero g n e = skip q (cell_in g) (item_in g) (filled hs) n ∙ sym (skip q (cell_in x) (item_in x) (filled hs) (λ k. n (sym (same_some e) ∙ k)))
+  beside q (x ∷ hs) (suc i) g n e = under q (cell_in x) (item_in x) (filled (set hs i g)) (filled hs) (beside q hs i g n e)
 
   set_here : (hs : List (Held T)) (i : ℕ) (g h : Held T) → slice_get hs i ≡ Some h → slice_get (set hs i g) i ≡ Some g
   set_here [] i g h e = absurd (no_some e)
   set_here (x ∷ hs) zero g h e = refl
   set_here (x ∷ hs) (suc i) g h e = set_here hs i g h e
 
-  pub same_cells : (hs : List (Held T)) (i : ℕ) (g : Held T) → slice_get (cells_of hs) i ≡ Some g.cell → cells_of (set hs i g) ≡ cells_of hs
+  pub same_cells : (hs : List (Held T)) (i : ℕ) (g : Held T) → slice_get (cells_of hs) i ≡ Some (cell_in g) → cells_of (set hs i g) ≡ cells_of hs
   same_cells [] i g e = refl
   same_cells (x ∷ hs) zero g e = ap (λ c. c ∷ cells_of hs) (sym (same_some e))
-  same_cells (x ∷ hs) (suc i) g e = ap (λ l. x.cell ∷ l) (same_cells hs i g e)
+  same_cells (x ∷ hs) (suc i) g e = ap (λ l. cell_in x ∷ l) (same_cells hs i g e)
 
   module _ (bands : List (List ℕ)) (hs : List (Held T)) (ok : AreNumbered bands (cells_of hs)) (c : Place) (inside : InSheet c) where
     only : (i : ℕ) → number_at bands c ≡ suc i → (j : ℕ) → slice_get (cells_of hs) j ≡ Some c → j ≡ i
     only i e j k = same_suc (sym (ok.told j c k) ∙ e)
 
     pub within : (i : ℕ) → number_at bands c ≡ suc i → i < length hs
-    within i e = subst (λ n. i < n) (length-map hs (λ (h : Held T). h.cell)) (slice_get_within (cells_of hs) i c (ok.found c i inside e))
+    within i e = subst (λ n. i < n) (length-map hs cell_in) (slice_get_within (cells_of hs) i c (ok.found c i inside e))
 
-    pub cell_at : (i : ℕ) (d : Held T) → number_at bands c ≡ suc i → (get_or hs i d).cell ≡ c
-    cell_at i d e = same_some (sym (slice_get-map (λ (h : Held T). h.cell) hs i ∙ ap (λ o. option_map (λ (h : Held T). h.cell) o) (slice_get-get_or hs i d (within i e))) ∙ ok.found c i inside e)
+    pub cell_at : (i : ℕ) (d : Held T) → number_at bands c ≡ suc i → cell_in (get_or hs i d) ≡ c
+    cell_at i d e = same_some (sym (slice_get-map cell_in hs i ∙ ap (λ o. option_map cell_in o) (slice_get-get_or hs i d (within i e))) ∙ ok.found c i inside e)
 
     -- a cell with a number has the item that is held there
-    pub got : (i : ℕ) (d : Held T) → number_at bands c ≡ suc i → get (from_entries {R = place_cmp} (filled hs)) c ≡ (get_or hs i d).item
+    pub got : (i : ℕ) (d : Held T) → number_at bands c ≡ suc i → get (from_entries {R = place_cmp} (filled hs)) c ≡ item_in (get_or hs i d)
     got i d e = get-from_entries cells_total (filled hs) c ∙ item_at c hs i (get_or hs i d) (slice_get-get_or hs i d (within i e)) (cell_at i d e) (only i e)
 
     unnumbered : number_at bands c ≡ 0 → (i : ℕ) → slice_get (cells_of hs) i ≡ Some c → ⊥
@@ -113,34 +114,33 @@ module _ {T : Type 0} where
         with zero e = absurd (no_item T (subst IsSome (got_none e) h))
         with (suc n) e = omega (arith, e)
 
-    pub same_numbered : (i : ℕ) (o : Option T) → number_at bands c ≡ suc i → AreNumbered bands (cells_of (set hs i (record { cell = c; item = o })))
-    same_numbered i o e = subst (AreNumbered bands) (sym (same_cells hs i (record { cell = c; item = o }) (ok.found c i inside e))) ok
+    pub same_numbered : (i : ℕ) (g : Held T) → number_at bands c ≡ suc i → cell_in g ≡ c → AreNumbered bands (cells_of (set hs i g))
+    same_numbered i g e is = subst (AreNumbered bands) (sym (same_cells hs i g (ok.found c i inside e ∙ ap Some (sym is)))) ok
 
-    found_set : (i : ℕ) (o : Option T) → number_at bands c ≡ suc i → (q : Place) → find place_cmp q (filled (set hs i (record { cell = c; item = o }))) ≡ cond (same_place q c) o (find place_cmp q (filled hs))
-    found_set i o e q =
-        let g : Held T = record { cell = c; item = o } in
-        let at = ok.found c i inside e in
+    found_set : (i : ℕ) (g : Held T) → number_at bands c ≡ suc i → cell_in g ≡ c → (q : Place) → find place_cmp q (filled (set hs i g)) ≡ cond (same_place q c) (item_in g) (find place_cmp q (filled hs))
+    found_set i g e is q =
+        let at : slice_get (cells_of hs) i ≡ Some (cell_in g) = ok.found c i inside e ∙ ap Some (sym is) in
         elim (cases_Bool (same_place q c)) [
           | inl t ↦
-              let is : q ≡ c = same_place_is q c t in
-              ap (λ x. find place_cmp x (filled (set hs i g))) is
-              ∙ item_at c (set hs i g) i g (set_here hs i g (get_or hs i g) (slice_get-get_or hs i g (within i e))) refl
+              let same : q ≡ c = same_place_is q c t in
+              ap (λ x. find place_cmp x (filled (set hs i g))) same
+              ∙ item_at c (set hs i g) i g (set_here hs i g (get_or hs i g) (slice_get-get_or hs i g (within i e))) is
               (λ j k. only i e j (subst (λ l. slice_get l j ≡ Some c) (same_cells hs i g at) k))
-              ∙ ap (λ b. cond b o (find place_cmp q (filled hs))) (sym t)
-          | inr f ↦ beside q hs i g (λ k. false_true (sym f ∙ ap (λ x. same_place x c) (sym k) ∙ same_place_itself c)) at ∙ ap (λ b. cond b o (find place_cmp q (filled hs))) (sym f)
+              ∙ ap (λ b. cond b (item_in g) (find place_cmp q (filled hs))) (sym t)
+          | inr f ↦ beside q hs i g (λ k. false_true (sym f ∙ ap (λ x. same_place x c) (sym k ∙ is) ∙ same_place_itself c)) at ∙ ap (λ b. cond b (item_in g) (find place_cmp q (filled hs))) (sym f)
         ]
       where
         false_true : false ≡ true → ⊥
         false_true h = absurd cc
 
     -- an item put in where a cell is held
-    pub put_in : (i : ℕ) (x : T) → number_at bands c ≡ suc i → from_entries {R = place_cmp} (filled (set hs i (record { cell = c; item = Some x }))) ≡ insert (from_entries (filled hs)) c x
-    put_in i x e = same_places _ _ (λ q. get-from_entries cells_total (filled (set hs i (record { cell = c; item = Some x }))) q ∙ found_set i (Some x) e q
+    pub put_in : (i : ℕ) (x : T) → number_at bands c ≡ suc i → from_entries {R = place_cmp} (filled (set hs i (held.Filled c x))) ≡ insert (from_entries (filled hs)) c x
+    put_in i x e = same_places _ _ (λ q. get-from_entries cells_total (filled (set hs i (held.Filled c x))) q ∙ found_set i (held.Filled c x) e refl q
         ∙ ap (λ o. cond (same_place q c) (Some x) o) (sym (get-from_entries cells_total (filled hs) q)) ∙ sym (get_inserted (from_entries (filled hs)) c x q))
 
     -- and taken out
-    pub taken_out : (i : ℕ) → number_at bands c ≡ suc i → from_entries {R = place_cmp} (filled (set hs i (record { cell = c; item = None }))) ≡ remove (from_entries (filled hs)) c
-    taken_out i e = same_places _ _ (λ q. get-from_entries cells_total (filled (set hs i (record { cell = c; item = None }))) q ∙ found_set i None e q
+    pub taken_out : (i : ℕ) → number_at bands c ≡ suc i → from_entries {R = place_cmp} (filled (set hs i (held.Erased c))) ≡ remove (from_entries (filled hs)) c
+    taken_out i e = same_places _ _ (λ q. get-from_entries cells_total (filled (set hs i (held.Erased c))) q ∙ found_set i (held.Erased c) e refl q
         ∙ ap (λ o. cond (same_place q c) None o) (sym (get-from_entries cells_total (filled hs) q)) ∙ sym (get_removed (from_entries (filled hs)) c q))
 
     taken_cases : (z : number_at bands c ≡ 0) (q : Place) → (same_place q c ≡ true) ⊎ (same_place q c ≡ false) → get (from_entries {R = place_cmp} (filled hs)) q ≡ cond (same_place q c) None (get (from_entries {R = place_cmp} (filled hs)) q)
@@ -151,8 +151,8 @@ module _ {T : Type 0} where
     taken_none z = same_places _ _ (λ q. taken_cases z q (cases_Bool (same_place q c)) ∙ sym (get_removed (from_entries (filled hs)) c q))
 
     -- a cell that gets its number
-    pub added : (x : T) → number_at bands c ≡ 0 → from_entries {R = place_cmp} (filled (hs ++ record { cell = c; item = Some x } ∷ [])) ≡ insert (from_entries (filled hs)) c x
-    added x z = ap (λ es. from_entries {R = place_cmp} es) (filled_push hs (record { cell = c; item = Some x })) ∙ from_entries_push cells_total cells_exact (filled hs) c x (none_at c hs (unnumbered z))
+    pub added : (x : T) → number_at bands c ≡ 0 → from_entries {R = place_cmp} (filled (hs ++ held.Filled c x ∷ [])) ≡ insert (from_entries (filled hs)) c x
+    added x z = ap (λ es. from_entries {R = place_cmp} es) (filled_push hs (held.Filled c x)) ∙ from_entries_push cells_total cells_exact (filled hs) c x (none_at c hs (unnumbered z))
 
 last_or : (xs : List Place) (x y : Place) (i : ℕ) → slice_get (xs ++ x ∷ []) i ≡ Some y → (slice_get xs i ≡ Some y) ⊎ ((i ≡ length xs) × (x ≡ y))
 last_or [] x y zero h = inr (refl, same_some h)
@@ -194,14 +194,14 @@ number_last old new cells c ok inside z h = record {
         differ (inr f) = f
         differ (inl t) = let n : 0 ≡ suc i = sym z ∙ ap (number_at old) (same_place_is c d t) ∙ ok.told i d e in absurd (omega (arith, n))
 
-cells_pushed : {T : Type 0} (hs : List (Held T)) (h : Held T) → cells_of (hs ++ h ∷ []) ≡ cells_of hs ++ h.cell ∷ []
+cells_pushed : {T : Type 0} (hs : List (Held T)) (h : Held T) → cells_of (hs ++ h ∷ []) ≡ cells_of hs ++ cell_in h ∷ []
 cells_pushed [] h = refl
-cells_pushed (x ∷ hs) h = ap (λ l. x.cell ∷ l) (cells_pushed hs h)
+cells_pushed (x ∷ hs) h = ap (λ l. cell_in x ∷ l) (cells_pushed hs h)
 
 pub added_numbered : {T : Type 0} (old new : List (List ℕ)) (hs : List (Held T)) (c : Place) (x : T) → AreNumbered old (cells_of hs) → InSheet c → number_at old c ≡ 0
-    → ((d : Place) → InSheet d → number_at new d ≡ cond (same_place c d) (suc (length hs)) (number_at old d)) → AreNumbered new (cells_of (hs ++ record { cell = c; item = Some x } ∷ []))
-added_numbered {T} old new hs c x ok inside z h = subst (AreNumbered new) (sym (cells_pushed hs (record { cell = c; item = Some x })))
-    (number_last old new (cells_of hs) c ok inside z (λ d k. h d k ∙ ap (λ n. cond (same_place c d) (suc n) (number_at old d)) (sym (length-map hs (λ (h : Held T). h.cell)))))
+    → ((d : Place) → InSheet d → number_at new d ≡ cond (same_place c d) (suc (length hs)) (number_at old d)) → AreNumbered new (cells_of (hs ++ held.Filled c x ∷ []))
+added_numbered {T} old new hs c x ok inside z h = subst (AreNumbered new) (sym (cells_pushed hs (held.Filled c x)))
+    (number_last old new (cells_of hs) c ok inside z (λ d k. h d k ∙ ap (λ n. cond (same_place c d) (suc n) (number_at old d)) (sym (length-map hs cell_in))))
 
 -- the same numbers in another table
 pub same_table : (old new : List (List ℕ)) (cells : List Place) → ((d : Place) → number_at new d ≡ number_at old d) → AreNumbered old cells → AreNumbered new cells
@@ -219,7 +219,7 @@ same_number c d hc hd e =
 
 -- no more cells have numbers than the sheet has places
 pub few : {T : Type 0} (bands : List (List ℕ)) (hs : List (Held T)) → AreNumbered bands (cells_of hs) → length hs ≤ 2097152
-few {T} bands hs ok = subst (λ n. n ≤ 2097152) (length-map cells number_of ∙ length-map hs (λ (h : Held T). h.cell)) (length-le_from_distinct_below (map number_of cells) 2097152 distinct below)
+few {T} bands hs ok = subst (λ n. n ≤ 2097152) (length-map cells number_of ∙ length-map hs cell_in) (length-le_from_distinct_below (map number_of cells) 2097152 distinct below)
   where
     cells : List Place
     cells = cells_of hs

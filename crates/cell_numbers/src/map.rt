@@ -54,17 +54,14 @@ fn add<T: Drop>(
     item: T,
 ) -> Result<(), AllocError>
     requires { length held.old.items < 2 ^ 32 - 1 }
-    ensures held { OnOk result (held.new.items ≡ held.old.items ++ record { cell = cell; item = Some item } ∷ []) }
+    ensures held { OnOk result (held.new.items ≡ held.old.items ++ Held.Filled cell item ∷ []) }
     ensures numbers { OnOk result ((d : Place) → InSheet d → number_at table.new d ≡ cond (same_place cell d) (suc (length held.old.items)) (number_at table.old d)) }
     ensures err_held { OnErr result (held.new.items ≡ held.old.items) }
     ensures err_numbers { OnErr result ((d : Place) → number_at table.new d ≡ number_at table.old d) }
 {
     table.make_room(cell)?;
     let number = held.len() as u32 + 1;
-    held.push(Held {
-        cell,
-        item: Some(item),
-    })?;
+    held.push(Held::Filled(cell, item))?;
     table.set(cell, number);
     Ok(())
 }
@@ -89,7 +86,10 @@ impl<T> CellMap<T> {
     {
         cell.is_on_sheet();
         match index_of(&self.table, cell) {
-            Some(at) => self.held[at].item.as_ref(),
+            Some(at) => match &self.held[at] {
+                Held::Filled(_, item) => Some(item),
+                Held::Erased(_) => None,
+            },
             None => None,
         }
     }
@@ -145,7 +145,7 @@ impl<T> CellMap<T> {
         cell.is_on_sheet();
         match index_of(&self.table, cell) {
             Some(at) => {
-                self.held[at].item = Some(item);
+                self.held[at] = Held::Filled(cell, item);
                 Ok(())
             }
             None => {
@@ -163,7 +163,7 @@ impl<T> CellMap<T> {
     {
         cell.is_on_sheet();
         if let Some(at) = index_of(&self.table, cell) {
-            self.held[at].item = None;
+            self.held[at] = Held::Erased(cell);
         }
     }
 

@@ -16,7 +16,7 @@ use Rattle.std.proofs.lemmas.Map.Lookups.{btree_set_from_contains}
 use Rattle.grid_address.proofs.Maps.{in_order}
 use Rattle.grid_address.proofs.Places.{cells_exact, cells_total, place_tied, same_place_is, same_place_laws}
 use Rattle.grid_address.specs.Place.{is_within, place_cmp, same_place, Extent, Place}
-use Rattle.cell_numbers.specs.Filled.{cells_of, filled, with_item, AreOnce}
+use Rattle.cell_numbers.specs.Filled.{cell_in, cells_of, filled, item_in, with_item, AreOnce}
 use Rattle.cell_numbers.specs.declared.held.Held.{Held}
 use Rattle.cell_numbers.proofs.Filled.{none_at}
 use Rattle.sheet_store.specs.Grid.{picked, Cells}
@@ -50,11 +50,11 @@ ordered_apart (e ∷ es) h = (ahead e.0 es h.0, ordered_apart es h.1)
 -- those of held cells are, where each is held once
 pub filled_apart : (hs : List (Held CellState)) → AreOnce (cells_of hs) → AreApart (filled hs)
 filled_apart [] once = tt
-filled_apart (h ∷ hs) once = with h.item (filled_apart hs (λ i j c a b. (let e : suc i ≡ suc j = once (suc i) (suc j) c a b in omega (arith, e))))
+filled_apart (h ∷ hs) once = with (item_in h) (filled_apart hs (λ i j c a b. (let e : suc i ≡ suc j = once (suc i) (suc j) c a b in omega (arith, e))))
   where
-    with : (o : Option CellState) → AreApart (filled hs) → AreApart (with_item h.cell o (filled hs))
+    with : (o : Option CellState) → AreApart (filled hs) → AreApart (with_item (cell_in h) o (filled hs))
     with None rest = rest
-    with (Some s) rest = (none_at h.cell hs (λ i k. (let e : suc i ≡ 0 = once (suc i) 0 h.cell k refl in absurd (omega (arith, e)))), rest)
+    with (Some s) rest = (none_at (cell_in h) hs (λ i k. (let e : suc i ≡ 0 = once (suc i) 0 (cell_in h) k refl in absurd (omega (arith, e)))), rest)
 
 -- lists in row order with the same members are one
 same_members : (xs ys : List Place) → Ascends xs → Ascends ys → ((q : Place) → has xs q ≡ has ys q) → xs ≡ ys

@@ -2,7 +2,7 @@
 ghost use Rattle.std.specs.Prelude.{◌≡◌, ◌<◌, ◌++◌, [], true, false, IfOk, IfSome, IfNone, OnOk};
 ghost use Rattle.std.specs.Ordering.{is_le, is_lt};
 ghost use Rattle.std.specs.FinMap as map;
-ghost use Rattle.cell_numbers.specs.Filled.{filled, with_item};
+ghost use Rattle.cell_numbers.specs.Filled.{cell_in, filled, item_in, with_item};
 ghost use Rattle.grid_address.specs.Place.{is_within, place_cmp, Place};
 ghost use Rattle.sheet_store.specs.Grid.{picked};
 ghost use Rattle.sheet_store.specs.Scan.{number_of, passed_at, wanted};
@@ -89,12 +89,15 @@ fn pick_held(
     held: &Held<CellState>,
 ) -> Result<(), Memory>
     ensures { OnOk result (list.new.items ≡
-        list.old.items ++ picked (wanted only_formulas) span (with_item held.now.cell held.now.item [])) }
+        list.old.items ++ picked (wanted only_formulas) span (with_item (cell_in held.now) (item_in held.now) [])) }
 {
-    if let Some(state) = &held.item {
-        if span.contains(held.cell) && is_wanted(state, only_formulas) {
-            list.push(held.cell)?;
+    match held {
+        Held::Filled(cell, state) => {
+            if span.contains(*cell) && is_wanted(state, only_formulas) {
+                list.push(*cell)?;
+            }
         }
+        Held::Erased(_) => {}
     }
     Ok(())
 }

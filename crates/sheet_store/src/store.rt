@@ -2,7 +2,7 @@
 ghost use Rattle.std.specs.Prelude.{length, ◌≡◌, ◌≤◌, ◌<◌, ◌++◌, ◌∷◌, [], OnOk, OnErr, IfOk, IfSome, IfNone, Some, None, option_copied, replicate, true, false};
 ghost use Rattle.std.specs.Option.{ForSome};
 ghost use Rattle.std.specs.FinMap as map;
-ghost use Rattle.cell_numbers.specs.Filled.{filled, with_item};
+ghost use Rattle.cell_numbers.specs.Filled.{cell_in, filled, item_in, with_item};
 ghost use Rattle.grid_address.specs.Place.{place_cmp, InSheet, Place};
 ghost use Rattle.cell_numbers.specs.Numbers.{band_of};
 ghost use Rattle.sheet_store.specs.Copies.{inserted_all};
@@ -288,11 +288,11 @@ fn further(last: Option<Cell>, cell: Cell) -> Option<Cell>
 
 // The same for a cell that has a state.
 fn further_held(last: Option<Cell>, held: &Held<CellState>) -> Option<Cell>
-    ensures { result ≡ last_among last (with_item held.now.cell held.now.item []) }
+    ensures { result ≡ last_among last (with_item (cell_in held.now) (item_in held.now) []) }
 {
-    match &held.item {
-        Some(_) => further(last, held.cell),
-        None => last,
+    match held {
+        Held::Filled(cell, _) => further(last, *cell),
+        Held::Erased(_) => last,
     }
 }
 
@@ -309,10 +309,11 @@ fn last_of(held: &[Held<CellState>]) -> Option<Cell>
 
 // Puts an equal state of a held cell into a map.
 fn copy_held(cells: &mut CellMap<CellState>, held: &Held<CellState>) -> Result<(), Memory>
-    ensures { OnOk result (cells.new ≡ inserted_all cells.old (with_item held.now.cell held.now.item [])) }
+    ensures { OnOk result (cells.new ≡ inserted_all cells.old (with_item (cell_in held.now) (item_in held.now) [])) }
 {
-    if let Some(state) = &held.item {
-        cells.insert(held.cell, state.copy()?)?;
+    match held {
+        Held::Filled(cell, state) => cells.insert(*cell, state.copy()?)?,
+        Held::Erased(_) => {}
     }
     Ok(())
 }

@@ -1,9 +1,10 @@
-use Rattle.std.proofs.Common.{◌≡◌, ap, sym, ◌∙◌, subst, ◌<◌, Some, set, List, Result, Ok, Err, OnErr, arith}
+use Rattle.std.proofs.Common.{refl, ap, sym, ◌∙◌, subst, ◌<◌, List, Result, Ok, Err, OnErr, arith}
 use Rattle.std.specs.FinMap.{from_entries, get, insert}
-use Rattle.grid_address.specs.Place.{place_cmp, Place}
+use Rattle.grid_address.specs.Place.{place_cmp}
 use Rattle.cell_numbers.specs.Filled.{cells_of, filled, AreNumbered}
-use Rattle.cell_numbers.proofs.Filled.{added, added_numbered, cell_at, few, got_none, put_in, same_numbered, same_table, within}
+use Rattle.cell_numbers.proofs.Filled.{added, added_numbered, few, got_none, put_in, same_numbered, same_table, within}
 use Rattle.cell_numbers.specs.declared.held.Held.{Held}
+use Rattle.cell_numbers.specs.declared.held.Held.TheVariants as held
 use Rattle.cell_numbers.proofs.map.CellMap.insert.Goals as goal
 
 on_err_always : {A B : Type 0} (r : Result A B) {P : Type 0} → P → OnErr r P
@@ -17,19 +18,10 @@ pub add-requires : goal.add-requires
 add-requires g c = (let most = few c.self.inside.table c.self.inside.held.items c.self.invariant in omega (arith, most))
 
 pub invariant_of-self : goal.invariant_of-self
-invariant_of-self g c =
-    let now = c.index_mut.result.now in
-    let at : now.cell ≡ c.args.cell = ap (λ (h : Held g.row.T.Denot). h.cell) c.index_mut.ensures.value ∙ cell_at c.self.inside.table c.self.inside.held.items c.self.invariant c.args.cell c.is_on_sheet.ensures c.in-Some.at now c.in-Some.ensures.some in
-    subst (λ (q : Place). AreNumbered c.self.inside.table (cells_of (set c.self.inside.held.items c.in-Some.at (record { cell = q; item = Some c.args.item })))) (sym at)
-    (same_numbered c.self.inside.table c.self.inside.held.items c.self.invariant c.args.cell c.is_on_sheet.ensures c.in-Some.at (Some c.args.item) c.in-Some.ensures.some)
+invariant_of-self g c = same_numbered c.self.inside.table c.self.inside.held.items c.self.invariant c.args.cell c.is_on_sheet.ensures c.in-Some.at (held.Filled c.args.cell c.args.item) c.in-Some.ensures.some refl
 
 pub returns-in-Some-clause-ok : goal.returns-in-Some-clause-ok
-returns-in-Some-clause-ok g c =
-    let now = c.index_mut.result.now in
-    let at : now.cell ≡ c.args.cell = ap (λ (h : Held g.row.T.Denot). h.cell) c.index_mut.ensures.value ∙ cell_at c.self.inside.table c.self.inside.held.items c.self.invariant c.args.cell c.is_on_sheet.ensures c.in-Some.at now c.in-Some.ensures.some in
-    ap (λ (q : Place). from_entries {R = place_cmp} (filled (set c.self.inside.held.items c.in-Some.at (record { cell = q; item = Some c.args.item })))) at
-    ∙ put_in c.self.inside.table c.self.inside.held.items c.self.invariant c.args.cell c.is_on_sheet.ensures c.in-Some.at c.args.item c.in-Some.ensures.some
-    ∙ ap (λ m. insert m c.args.cell c.args.item) c.self.view_is
+returns-in-Some-clause-ok g c = put_in c.self.inside.table c.self.inside.held.items c.self.invariant c.args.cell c.is_on_sheet.ensures c.in-Some.at c.args.item c.in-Some.ensures.some ∙ ap (λ m. insert m c.args.cell c.args.item) c.self.view_is
 
 pub invariant_of-self-in_err-add-in-None : goal.invariant_of-self-in_err-add-in-None
 invariant_of-self-in_err-add-in-None g c =
