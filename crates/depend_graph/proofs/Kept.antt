@@ -13,8 +13,8 @@ use Rattle.grid_address.proofs.Maps.{equal_of, get_entries, get_lookup, in_order
 use Rattle.grid_address.proofs.Places.{cells_exact, cells_total, same_place_is, same_places}
 use Rattle.grid_address.specs.Place.{place_cmp, same_place, Extent, Place}
 use Rattle.range_index.specs.Owners.{Owners}
-use Rattle.depend_graph.specs.Banks.{spans_at, AreOthersKept}
-use Rattle.depend_graph.specs.Slots.{filled, had, offer_in, offering, picked, placed, side, slots_of, somes, turned, turned_to, with_some, without_node, without_offer, AreRegistered, IsRegistered, Slots, Stands}
+use Rattle.depend_graph.specs.Banks.{spans_at, wide, AreOthersKept}
+use Rattle.depend_graph.specs.Slots.{filled, had, offer_in, offering, picked, placed, side, somes, turned, turned_to, with_some, without_node, without_offer, AreRegistered, IsRegistered, Slots, Stands}
 use Rattle.depend_graph.specs.declared.node.Node.{Node}
 use Rattle.depend_graph.specs.declared.slots.Slot.{Slot}
 use Rattle.depend_graph.proofs.Placed.{get_placed, placed_same}
@@ -58,8 +58,8 @@ module _ (f : Slot → Option Node) where
   pub picked_same : (m : Slots) (c : Place) (o : Option Slot) → had f o ≡ had f (get m c) → picked f (placed m c o) ≡ picked f m
   picked_same m c o e = picked_placed m c o ∙ ap (placed (picked f m) c) e ∙ placed_same (picked f m) c (had f (get m c)) (get_picked m c)
 
-pub picked_empty : (f : Slot → Option Node) (es : List (Place × Slot)) → es ≡ [] → picked f (slots_of es) ≡ empty
-picked_empty f es e = same_places _ _ (λ q. get_picked f (slots_of es) q ∙ ap (λ (o : Option Slot). had f o) (get_entries cells_total es q ∙ ap (lookup (is_at (place_cmp q))) e) ∙ sym (get-empty place_cmp q))
+pub picked_empty : (f : Slot → Option Node) (m : Slots) → m ≡ empty → picked f m ≡ empty
+picked_empty f m e = same_places _ _ (λ q. get_picked f m q ∙ ap (λ (o : Option Slot). had f o) (ap (λ (n : Slots). get n q) e ∙ get-empty place_cmp q) ∙ sym (get-empty place_cmp q))
 
 stands_at : (o : Option Node) (xs ys : List Extent) → ys ≡ xs → Stands o xs → Stands o ys
 stands_at None xs ys e h = h
@@ -75,8 +75,8 @@ some_is x y h = cc
 none_some : {X : Type 0} (x : X) → None ≡ Some x → ⊥
 none_some x h = absurd cc
 
-pub none_registered : (es : List (Place × Slot)) (even odd : Owners) → es ≡ [] → AreRegistered (slots_of es) even odd
-none_registered es even odd e c s h = absurd (none_some s (sym (get_entries cells_total es c ∙ ap (lookup (is_at (place_cmp c))) e) ∙ h))
+pub none_registered : (m : Slots) (even odd : Owners) → m ≡ empty → AreRegistered m even odd
+none_registered m even odd e c s h = absurd (none_some s (sym (ap (λ (n : Slots). get n c) e ∙ get-empty place_cmp c) ∙ h))
 
 module _ (m : Slots) (even odd even' odd' : Owners) (b : Bool) (c : Place) (kept : AreOthersKept even odd even' odd' b c) (all : AreRegistered m even odd) where
   -- what is put at c is registered, and the others stay so
@@ -138,10 +138,10 @@ module _ (m : Slots) (even odd even' odd' : Owners) (b : Bool) (c : Place) (kept
   pub turned_registered : is_some (had offer_in (get m c)) ≡ true → b ≡ side (get m c) → AreRegistered (placed m c (turned (get m c))) even' odd'
   turned_registered some own = placed_registered (turned (get m c)) (turned_here (get m c) refl some own)
 
-  offering_here : (o : Option Slot) (n : Node) → get m c ≡ o → b ≡ not (side o) → spans_at even' odd' b c ≡ n.reads → (s : Slot) → Some (offering o n) ≡ Some s → IsRegistered even' odd' c s
-  offering_here None n e other is s h = subst (λ (t : Slot). IsRegistered even' odd' c t) (some_is _ _ h) (record { node = tt; offer = subst (λ x. spans_at even' odd' x c ≡ n.reads) other is })
-  offering_here (Some x) n e other is s h = subst (λ (t : Slot). IsRegistered even' odd' c t) (some_is _ _ h) (record { node = node_stands x e other; offer = subst (λ y. spans_at even' odd' y c ≡ n.reads) other is })
+  offering_here : (o : Option Slot) (n : Node) → get m c ≡ o → b ≡ not (side o) → spans_at even' odd' b c ≡ wide n.reads → (s : Slot) → Some (offering o n) ≡ Some s → IsRegistered even' odd' c s
+  offering_here None n e other is s h = subst (λ (t : Slot). IsRegistered even' odd' c t) (some_is _ _ h) (record { node = tt; offer = subst (λ x. spans_at even' odd' x c ≡ wide n.reads) other is })
+  offering_here (Some x) n e other is s h = subst (λ (t : Slot). IsRegistered even' odd' c t) (some_is _ _ h) (record { node = node_stands x e other; offer = subst (λ y. spans_at even' odd' y c ≡ wide n.reads) other is })
 
   -- with an offer whose spans are in the other index
-  pub offering_registered : (n : Node) → b ≡ not (side (get m c)) → spans_at even' odd' b c ≡ n.reads → AreRegistered (placed m c (Some (offering (get m c) n))) even' odd'
+  pub offering_registered : (n : Node) → b ≡ not (side (get m c)) → spans_at even' odd' b c ≡ wide n.reads → AreRegistered (placed m c (Some (offering (get m c) n))) even' odd'
   offering_registered n other is = placed_registered (Some (offering (get m c) n)) (offering_here (get m c) n refl other is)

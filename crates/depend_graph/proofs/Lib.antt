@@ -1,7 +1,9 @@
 pub mod Growth
 pub mod Kept
+pub mod Listing
 pub mod Offers
 pub mod Others
 pub mod Placed
 pub mod Readable
-pub mod Viewed
+pub mod Searched
+mod Viewed

@@ -5,7 +5,7 @@ use Rattle.std.proofs.Common.{sym, ◌∙◌, ap, subst, OnErr, Result, Ok, Err}
 use Rattle.grid_address.proofs.Places.{same_place_itself}
 use Rattle.grid_address.specs.Place.{Place}
 use Rattle.range_index.specs.Owners.{Owners}
-use Rattle.depend_graph.specs.Banks.{spans_at, AreOthersKept}
+use Rattle.depend_graph.specs.Banks.{spans_at, wide, AreOthersKept}
 use Rattle.depend_graph.specs.Slots.{filled, offering, placed, side, without_offer, AreRegistered, Slots}
 use Rattle.depend_graph.specs.declared.node.Node.{Node}
 use Rattle.depend_graph.specs.declared.slots.Slot.{Slot}
@@ -24,7 +24,7 @@ module _ (m m1 : Slots) (even odd : Owners) (c : Place) (is : m1 ≡ placed m c 
   found : get m1 c ≡ without_offer (get m c)
   found = ap (λ (x : Slots). get x c) is ∙ get_placed m c (without_offer (get m c)) c ∙ ap (λ b. cond b (without_offer (get m c)) (get m c)) (same_place_itself c)
 
-  unoffered : AreRegistered m1 even odd
+  pub unoffered : AreRegistered m1 even odd
   unoffered = subst (λ (x : Slots). AreRegistered x even odd) (sym is) (unoffered_registered m even odd even odd (not (side (get m c))) c (λ b d h. refl) all refl)
 
   module _ (even' odd' : Owners) (b : Bool) (kept : AreOthersKept even odd even' odd' b c) (other : b ≡ not (side (get m1 c))) where
@@ -32,7 +32,7 @@ module _ (m m1 : Slots) (even odd : Owners) (c : Place) (is : m1 ≡ placed m c 
     refused = subst (λ (x : Slots). AreRegistered x even' odd') (ap (placed m1 c) (ap without_offer found ∙ unoffered_twice (get m c) ∙ sym found) ∙ placed_same m1 c (get m1 c) refl)
         (unoffered_registered m1 even odd even' odd' b c kept unoffered other)
 
-    pub taken_up : (n : Node) → spans_at even' odd' b c ≡ n.reads → AreRegistered (placed m1 c (Some (offering (get m1 c) n))) even' odd'
+    pub taken_up : (n : Node) → spans_at even' odd' b c ≡ wide n.reads → AreRegistered (placed m1 c (Some (offering (get m1 c) n))) even' odd'
     taken_up n reads = offering_registered m1 even odd even' odd' b c kept unoffered n other reads
 
 pub on_err : {T E : Type 0} (r : Result T E) (P : Type 0) → P → OnErr r P

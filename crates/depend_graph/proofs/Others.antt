@@ -1,11 +1,11 @@
 -- Other cells keep their spans.
-use Rattle.std.specs.Prelude.{◌≡◌, true, false, cond, List, [], ◌∷◌, ◌++◌, Option, None, Some, refl}
+use Rattle.std.specs.Prelude.{◌≡◌, true, false, cond, not, List, [], ◌∷◌, ◌++◌, Option, None, Some, refl}
 use Rattle.std.specs.FinMap.{get, remove}
-use Rattle.std.proofs.Common.{◌∙◌, ap, inl, inr}
+use Rattle.std.proofs.Common.{◌∙◌, ap, append-nil, inl, inr, sym}
 use Rattle.grid_address.proofs.Places.{get_inserted, get_removed, same_place_itself}
 use Rattle.grid_address.specs.Place.{Extent, Place}
 use Rattle.range_index.specs.Owners.{spans_in, with_span, Owners}
-use Rattle.depend_graph.specs.Banks.{AreOthers, AreOthersKept}
+use Rattle.depend_graph.specs.Banks.{is_one, wide, AreOthers, AreOthersKept}
 
 pub removed_others : (m : Owners) (c : Place) → AreOthers m (remove m c) c
 removed_others m c d h = ap (λ (s : Option (List Extent)). spans_in s) (get_removed m c d ∙ ap (λ b. cond b None (get m d)) h)
@@ -31,3 +31,20 @@ pub odd_kept : (even odd new : Owners) (c : Place) → AreOthers odd new c → A
 odd_kept even odd new c f true d (inl h) = f d h
 odd_kept even odd new c f true d (inr h) = absurd (h refl)
 odd_kept even odd new c f false d h = refl
+
+pub wide-append : (xs ys : List Extent) → wide (xs ++ ys) ≡ wide xs ++ wide ys
+wide-append [] ys = refl
+wide-append (x ∷ xs) ys = elim (is_one x) as (λ b. cond (not b) (x ∷ wide (xs ++ ys)) (wide (xs ++ ys)) ≡ cond (not b) (x ∷ wide xs) (wide xs) ++ wide ys) [
+  | true ↦ wide-append xs ys
+  | false ↦ ap (λ l. x ∷ l) (wide-append xs ys)
+]
+
+-- one span more, if it is wide
+pub wide_here : (m m' : Owners) (c : Place) (span : Extent) → is_one span ≡ false → m' ≡ with_span m c span → spans_in (get m' c) ≡ spans_in (get m c) ++ wide (span ∷ [])
+wide_here m m' c span f e = ap (λ (n : Owners). spans_in (get n c)) e ∙ more_here m c span ∙ sym (ap (λ b. spans_in (get m c) ++ cond (not b) (span ∷ []) []) f)
+
+pub one_here : (m : Owners) (c : Place) (span : Extent) → is_one span ≡ true → spans_in (get m c) ≡ spans_in (get m c) ++ wide (span ∷ [])
+one_here m c span t = sym (append-nil (spans_in (get m c))) ∙ sym (ap (λ b. spans_in (get m c) ++ cond (not b) (span ∷ []) []) t)
+
+pub same_others : (m : Owners) (c : Place) → AreOthers m m c
+same_others m c d h = refl

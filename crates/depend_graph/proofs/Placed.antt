@@ -1,14 +1,11 @@
 -- What is put at a place of a map, or taken out there.
-use Rattle.std.specs.Prelude.{◌≡◌, true, false, cond, is_some, List, Option, None, Some, refl}
-use Rattle.std.specs.BTreeMap.{is_at}
+use Rattle.std.specs.Prelude.{◌≡◌, true, false, cond, is_some, Option, None, Some, refl}
 use Rattle.std.specs.FinMap.{get, FinMap}
-use Rattle.std.specs.Map.{lookup}
 use Rattle.std.proofs.Common.{sym, ◌∙◌, ap, inl, inr}
 use Rattle.std.proofs.lemmas.Bool.{cases_Bool, true≢false}
-use Rattle.grid_address.proofs.Maps.{get_entries, inserted, removed}
-use Rattle.grid_address.proofs.Places.{cells_exact, cells_total, get_inserted, get_removed, same_place_is, same_places}
+use Rattle.grid_address.proofs.Places.{get_inserted, get_removed, same_place_is, same_places}
 use Rattle.grid_address.specs.Place.{place_cmp, same_place, Place}
-use Rattle.depend_graph.specs.Slots.{filled, had, node_in, offer_in, placed, slots_of, without_node, without_offer}
+use Rattle.depend_graph.specs.Slots.{filled, had, node_in, offer_in, placed, without_node, without_offer}
 use Rattle.depend_graph.specs.declared.node.Node.{Node}
 use Rattle.depend_graph.specs.declared.slots.Slot.{Slot}
 
@@ -21,16 +18,6 @@ placed_same m c o e = same_places _ _ (λ q. get_placed m c o q ∙ elim (cases_
   | inl t ↦ ap (λ b. cond b o (get m q)) t ∙ sym (ap (get m) (same_place_is q c t) ∙ e)
   | inr f ↦ ap (λ b. cond b o (get m q)) f
 ])
-
-module _ (es fs : List (Place × Slot)) (c : Place) where
-  pub slot_put : (s : Slot) → ((q : Place) → lookup (is_at (place_cmp q)) fs ≡ cond (is_at (place_cmp c) q) (Some s) (lookup (is_at (place_cmp q)) es)) → slots_of fs ≡ placed (slots_of es) c (Some s)
-  slot_put s h = inserted cells_total cells_exact es fs c s h
-
-  pub slot_removed : ((q : Place) → lookup (is_at (place_cmp q)) fs ≡ cond (is_at (place_cmp c) q) None (lookup (is_at (place_cmp q)) es)) → slots_of fs ≡ placed (slots_of es) c None
-  slot_removed h = removed cells_total cells_exact es fs c h
-
-pub slot_found : (es : List (Place × Slot)) (c : Place) (o : Option Slot) → o ≡ lookup (is_at (place_cmp c)) es → get (slots_of es) c ≡ o
-slot_found es c o e = get_entries cells_total es c ∙ sym e
 
 filled_some : (o : Option Node) (s : Slot) → is_some o ≡ true → filled o s ≡ Some s
 filled_some None s h = absurd (true≢false (sym h))

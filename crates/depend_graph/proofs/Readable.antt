@@ -1,29 +1,48 @@
--- A formula that reads a cell is an owner of it in the index where its spans are.
-use Rattle.std.specs.Prelude.{◌≡◌, Bool, true, false, List, Option, None, Some, refl}
+-- A formula that reads a cell stands in the cell's list, or is an owner of it in the index where its wide spans are.
+use Rattle.std.specs.Prelude.{◌≡◌, Bool, true, false, cond, not, List, [], ◌∷◌, Option, None, Some, refl}
 use Rattle.std.specs.FinMap.{get}
+use Rattle.std.specs.List.{filter}
 use Rattle.std.proofs.Common.{sym, ◌∙◌, ap, inl, inr, ◌⊎◌}
-use Rattle.std.proofs.lemmas.Bool.{true≢false}
-use Rattle.grid_address.specs.Place.{Extent, Place}
+use Rattle.std.proofs.lemmas.Bool.{true≢false, or_cases, or_left, or_right}
+use Rattle.grid_address.specs.Place.{is_within, Extent, Place}
 use Rattle.range_index.proofs.Listed.{owner_told}
 use Rattle.range_index.specs.Owners.{hold, owners_of, Owners}
-use Rattle.depend_graph.specs.Banks.{spans_at}
+use Rattle.depend_graph.specs.Banks.{is_one, spans_at, wide}
+use Rattle.depend_graph.specs.Lists.{list_at, AreInLists, IsInListsOf, Lists}
 use Rattle.depend_graph.specs.Network.{has, holds}
 use Rattle.depend_graph.specs.Slots.{had, node_in, AreRegistered, Slots, Stands}
 use Rattle.depend_graph.specs.declared.node.Node.{Node}
 use Rattle.depend_graph.specs.declared.slots.Slot.{Slot}
 
-module _ (m : Slots) (even odd : Owners) (all : AreRegistered m even odd) (cell d : Place) where
-  in_bank : (b : Bool) (n : Node) → spans_at even odd b d ≡ n.reads → hold n.reads cell ≡ true → (has (owners_of even cell) d ≡ true) ⊎ (has (owners_of odd cell) d ≡ true)
+-- a span that holds a cell is that cell or a wide one
+in_part : (cell : Place) (spans : List Extent) → hold spans cell ≡ true → (hold (filter is_one spans) cell ≡ true) ⊎ (hold (wide spans) cell ≡ true)
+in_part cell [] h = absurd (true≢false (sym h))
+in_part cell (s ∷ ss) h = elim (is_one s) as (λ b. (hold (cond b (s ∷ filter is_one ss) (filter is_one ss)) cell ≡ true) ⊎ (hold (cond (not b) (s ∷ wide ss) (wide ss)) cell ≡ true)) [
+  | true ↦ elim (or_cases (is_within s cell) (hold ss cell) h) [
+    | inl m ↦ inl (or_left _ _ m)
+    | inr m ↦ elim (in_part cell ss m) [ inl k ↦ inl (or_right (is_within s cell) _ k) | inr k ↦ inr k ]
+  ]
+  | false ↦ elim (or_cases (is_within s cell) (hold ss cell) h) [
+    | inl m ↦ inr (or_left _ _ m)
+    | inr m ↦ elim (in_part cell ss m) [ inl k ↦ inl k | inr k ↦ inr (or_right (is_within s cell) _ k) ]
+  ]
+]
+
+module _ (m : Slots) (lists : Lists) (even odd : Owners) (all : AreRegistered m even odd) (listed : AreInLists m lists) (cell d : Place) where
+  abbrev IsFound : Type 0
+  IsFound = (has (list_at lists cell) d ≡ true) ⊎ ((has (owners_of even cell) d ≡ true) ⊎ (has (owners_of odd cell) d ≡ true))
+
+  in_bank : (b : Bool) (n : Node) → spans_at even odd b d ≡ wide n.reads → hold (wide n.reads) cell ≡ true → (has (owners_of even cell) d ≡ true) ⊎ (has (owners_of odd cell) d ≡ true)
   in_bank true n e h = inr (owner_told cell odd d ∙ ap (λ (l : List Extent). hold l cell) e ∙ h)
   in_bank false n e h = inl (owner_told cell even d ∙ ap (λ (l : List Extent). hold l cell) e ∙ h)
 
-  by_node : (o : Option Node) (b : Bool) → Stands o (spans_at even odd b d) → holds o cell ≡ true → (has (owners_of even cell) d ≡ true) ⊎ (has (owners_of odd cell) d ≡ true)
-  by_node None b e h = absurd (true≢false (sym h))
-  by_node (Some n) b e h = in_bank b n e h
+  by_node : (o : Option Node) (b : Bool) → Stands o (spans_at even odd b d) → IsInListsOf lists d o → holds o cell ≡ true → IsFound
+  by_node None b e l h = absurd (true≢false (sym h))
+  by_node (Some n) b e l h = elim (in_part cell n.reads h) [ inl k ↦ inl (l cell k) | inr k ↦ inr (in_bank b n e k) ]
 
-  by_slot : (o : Option Slot) → get m d ≡ o → holds (had node_in o) cell ≡ true → (has (owners_of even cell) d ≡ true) ⊎ (has (owners_of odd cell) d ≡ true)
+  by_slot : (o : Option Slot) → get m d ≡ o → holds (had node_in o) cell ≡ true → IsFound
   by_slot None e h = absurd (true≢false (sym h))
-  by_slot (Some s) e h = by_node s.node s.is_odd (all d s e).node h
+  by_slot (Some s) e h = by_node s.node s.is_odd (all d s e).node (listed d s e).node h
 
-  pub owned : holds (had node_in (get m d)) cell ≡ true → (has (owners_of even cell) d ≡ true) ⊎ (has (owners_of odd cell) d ≡ true)
-  owned h = by_slot (get m d) refl h
+  pub found : holds (had node_in (get m d)) cell ≡ true → IsFound
+  found h = by_slot (get m d) refl h

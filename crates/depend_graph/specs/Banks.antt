@@ -1,8 +1,17 @@
 -- Two indexes of what formulas read. A formula's spans are in one of them, and the other has room for its next ones.
-use Rattle.std.specs.Prelude.{◌≡◌, Bool, cond, false, ◌⊎◌, List}
+use Rattle.std.specs.Prelude.{◌≡◌, Bool, cond, false, not, ◌⊎◌, List}
 use Rattle.std.specs.FinMap.{get}
+use Rattle.std.specs.List.{filter}
 use Rattle.grid_address.specs.Place.{same_place, Extent, Place}
 use Rattle.range_index.specs.Owners.{spans_in, Owners}
+
+-- a span is one cell
+abbrev pub is_one : Extent → Bool
+is_one s = same_place s.first s.last
+
+-- the spans of more than one cell
+abbrev pub wide : List Extent → List Extent
+wide spans = filter (λ s. not (is_one s)) spans
 
 -- the spans of a cell in one of the two
 abbrev pub spans_at : Owners → Owners → Bool → Place → List Extent

@@ -3,7 +3,7 @@ use Rattle.std.specs.Prelude.{◌≡◌, Bool, false, not, List, [], ◌∷◌, 
 use Rattle.std.specs.FinMap.{entries, from_entries, get, insert, remove, FinMap}
 use Rattle.grid_address.specs.Place.{place_cmp, Extent, Place}
 use Rattle.range_index.specs.Owners.{Owners}
-use Rattle.depend_graph.specs.Banks.{spans_at}
+use Rattle.depend_graph.specs.Banks.{spans_at, wide}
 use Rattle.depend_graph.specs.declared.node.Node.{Node}
 use Rattle.depend_graph.specs.declared.slots.Slot.{Slot}
 
@@ -12,9 +12,6 @@ Slots = FinMap place_cmp Slot
 
 abbrev pub Nodes : Type 0
 Nodes = FinMap place_cmp Node
-
-abbrev pub slots_of : List (Place × Slot) → Slots
-slots_of es = from_entries es
 
 -- what is put at a place, or taken out there
 abbrev pub placed : {X : Type 0} → FinMap place_cmp X → Place → Option X → FinMap place_cmp X
@@ -76,12 +73,12 @@ abbrev pub without_node : Option Slot → Option Slot
 without_node None = None
 without_node (Some s) = filled s.offer (record s { node = None })
 
--- the spans of a node, if there is one, are these
+-- the wide spans of a node, if there is one, are these
 abbrev pub Stands : Option Node → List Extent → Type 0
 Stands None spans = Unit {0}
-Stands (Some n) spans = spans ≡ n.reads
+Stands (Some n) spans = spans ≡ wide n.reads
 
--- a formula's spans are in its own index, and those of its offer in the other
+-- a formula's wide spans are in its own index, and those of its offer in the other
 pub record IsRegistered (even odd : Owners) (c : Place) (s : Slot) : Type 0 where
   pub node : Stands s.node (spans_at even odd s.is_odd c)
   pub offer : Stands s.offer (spans_at even odd (not s.is_odd) c)

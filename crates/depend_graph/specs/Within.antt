@@ -1,5 +1,5 @@
 -- What is found from some cells on, going back over what formulas read.
-use Rattle.std.specs.Prelude.{ℕ, ◌≡◌, true, List, ◌++◌, take}
+use Rattle.std.specs.Prelude.{◌≡◌, true, List, ◌++◌}
 use Rattle.grid_address.specs.Place.{Place}
 use Rattle.depend_graph.specs.Network.{has, reads, Network}
 
@@ -7,12 +7,6 @@ use Rattle.depend_graph.specs.Network.{has, reads, Network}
 pub data Within (g : Network) (cells : List Place) : Place → Type 0 where
   seed : {c : Place} → has cells c ≡ true → Within g cells c
   reader : {c d : Place} → Within g cells c → reads g d c ≡ true → Within g cells d
-
--- the keys, of which the first so many were gone over
-pub record Grown (g : Network) (cells keys : List Place) (count : ℕ) : Type 0 where
-  pub sound : (c : Place) → has keys c ≡ true → Within g cells c
-  pub cells_in : (c : Place) → has cells c ≡ true → has keys c ≡ true
-  pub gone : (c d : Place) → has (take count keys) c ≡ true → reads g d c ≡ true → has keys d ≡ true
 
 -- new has what old had, in the same places, and more
 pub record Extends (old new : List Place) : Type 0 where

@@ -1,11 +1,12 @@
-// Two indexes of what formulas read.
-ghost use Rattle.std.specs.Prelude.{◌≡◌, OnOk};
+// Two indexes of the wide spans that formulas read.
+ghost use Rattle.std.specs.Prelude.{◌≡◌, ◌++◌, ◌∷◌, [], OnOk};
 ghost use Rattle.std.specs.FinMap as map;
 ghost use Rattle.std.specs.FinMap.{get};
 ghost use Rattle.range_index.specs.Owners.{spans_in};
-ghost use Rattle.depend_graph.specs.Banks.{spans_at, AreOthers, AreOthersKept};
+ghost use Rattle.depend_graph.specs.Banks.{spans_at, wide, AreOthers, AreOthersKept};
 
-use grid_address::{Cell, SpanList};
+use crate::lists::is_one;
+use grid_address::{Cell, Span, SpanList};
 use lics_text::Memory;
 use range_index::RangeIndex;
 use std::alloc::Global;
@@ -17,14 +18,25 @@ pub struct Banks {
     pub odd: RangeIndex,
 }
 
-// Gives an owner these spans. The other owners keep theirs, also where there is no memory.
+// Gives an owner one span more, if it is wide.
+fn add_wide(index: &mut RangeIndex, owner: Cell, span: Span) -> Result<(), Memory>
+    ensures is { OnOk result (spans_in (get index.new owner) ≡ spans_in (get index.old owner) ++ wide (span ∷ [])) }
+    ensures others { AreOthers index.old index.new owner }
+{
+    if !is_one(span) {
+        index.add(owner, span)?;
+    }
+    Ok(())
+}
+
+// Gives an owner the wide ones of these spans. The other owners keep theirs, also where there is no memory.
 fn fill(index: &mut RangeIndex, owner: Cell, spans: &SpanList) -> Result<(), Memory>
-    ensures is { OnOk result (spans_in (get index.new owner) ≡ spans.now) }
+    ensures is { OnOk result (spans_in (get index.new owner) ≡ wide spans.now) }
     ensures others { AreOthers index.old index.new owner }
 {
     index.remove(owner);
     for span in spans.as_slice() {
-        index.add(owner, *span)?;
+        add_wide(index, owner, *span)?;
     }
     Ok(())
 }
@@ -47,9 +59,9 @@ impl Banks {
         }
     }
 
-    /// Gives a cell these spans in one of the two. All others are kept, also where there is no memory.
+    /// Gives a cell the wide ones of these spans in one of the two. All others are kept, also where there is no memory.
     pub fn fill(&mut self, is_odd: bool, cell: Cell, spans: &SpanList) -> Result<(), Memory>
-        ensures is { OnOk result (spans_at self.new.even self.new.odd is_odd cell ≡ spans.now) }
+        ensures is { OnOk result (spans_at self.new.even self.new.odd is_odd cell ≡ wide spans.now) }
         ensures others { AreOthersKept self.old.even self.old.odd self.new.even self.new.odd is_odd cell }
     {
         if is_odd {

@@ -1,67 +1,150 @@
-// What reaches cells through what formulas read.
-ghost use Rattle.std.specs.Prelude.{◌≡◌, ◌<◌, ◌^◌, ◌⊎◌, ◌↔◌, length, true, IfOk, OnOk};
-ghost use Rattle.grid_address.specs.Place.{same_place, Place};
-ghost use Rattle.indexmap.specs.IndexSet.{IsUnique};
-ghost use Rattle.depend_graph.specs.Network.{has, is_formula, IsSpread};
-ghost use Rattle.depend_graph.specs.Within.{Extends, Within};
+// What reaches cells through what formulas read, by a search that goes depth first.
+ghost use Rattle.std.specs.Prelude.{◌≡◌, ◌<◌, ◌^◌, ◌⊎◌, ◌↔◌, ◌++◌, ◌∷◌, [], List, cond, length, true, IfOk, OnOk};
+ghost use Rattle.cell_numbers.specs.Numbers.{number_at};
+ghost use Rattle.grid_address.specs.Place.{same_place, InSheet, Place};
+ghost use Rattle.depend_graph.specs.Backward.{work_left, IsDeeper, IsSearched};
+ghost use Rattle.depend_graph.specs.Network.{has, is_formula, IsSpread, Network};
+ghost use Rattle.depend_graph.specs.Within.{Within};
 
-use crate::{Graph, insert_all};
-use grid_address::Cell;
-use indexmap::IndexSet;
+use crate::{Graph, Marks};
+use grid_address::{Cell, CellList};
 use lics_text::Memory;
 use std::alloc::Global;
 
-// Puts the cells into the set, behind those that are there.
-fn grow(set: &mut IndexSet<Cell>, cells: &[Cell]) -> Result<(), Memory>
-    ensures extends { OnOk result (Extends set.old.keys set.new.keys) }
-    ensures unique { OnOk result (IsUnique same_place set.new) }
-    ensures small { OnOk result (length set.new.keys < 2 ^ 63) }
-    ensures has { OnOk result ((c : Place) → (has set.new.keys c ≡ true) ↔ ((has set.old.keys c ≡ true) ⊎ (has cells.now c ≡ true))) }
+/// The mark of a cell that was met.
+const MET: u8 = 1;
+
+/// The mark of a cell of which all readers were gone into.
+const LEFT: u8 = 2;
+
+// The cells that were met, with their marks, those of them that were left, in this order, and those that are still to
+// be gone into or left, the next one last.
+#[derive(Drop)]
+struct Search {
+    marks: Marks,
+    met: Vec<Cell>,
+    left: Vec<Cell>,
+    stack: Vec<Cell>,
+}
+
+// Adds a cell at the end.
+fn push(list: &mut Vec<Cell>, cell: Cell) -> Result<(), Memory>
+    ensures { OnOk result (list.new.items ≡ list.old.items ++ cell ∷ []) }
 {
-    insert_all(set, cells)?;
-    // `len` is called for its clauses: no cell is in the set twice, and the set isn't larger than memory.
-    let _len = set.len();
+    list.push(cell)?;
     Ok(())
 }
 
-// The cells, and the formulas that reach one of them.
-fn within(alloc: Global, graph: &Graph, cells: &[Cell]) -> Result<IndexSet<Cell>, Memory>
-    ensures { IfOk result (λ set. (c : Place) → (has set.keys c ≡ true) ↔ Within graph.now cells.now c) }
+// Adds cells at the end.
+fn push_all(list: &mut Vec<Cell>, cells: &[Cell]) -> Result<(), Memory>
+    ensures { OnOk result (list.new.items ≡ list.old.items ++ cells.now) }
 {
-    let mut set = IndexSet::new(alloc);
-    grow(&mut set, cells)?;
-    let mut next = 0;
-    'gone: while let Some(cell) = set.get_index(next) {
-        let readers = graph.readers(*cell)?;
-        grow(&mut set, readers.as_slice())?;
-        next += 1;
-    }
-    Ok(set)
+    list.extend_from_slice(cells)?;
+    Ok(())
 }
 
-// Takes a cell out if it holds no formula.
-fn keep_formula(graph: &Graph, cell: Cell, set: &mut IndexSet<Cell>)
-    ensures { (c : Place) → (has set.new.keys c ≡ true) ↔ ((has set.old.keys c ≡ true) × (same_place c cell ≡ true → is_formula graph.now cell ≡ true)) }
-{
-    if !graph.has_formula(cell) {
-        let _ = set.swap_remove(&cell);
+impl Search {
+    // Nothing is met, and the cells are to be gone into.
+    fn new(alloc: Global, cells: &[Cell]) -> Result<Search, Memory>
+        ensures { IfOk result (λ s. (g : Network) → IsSearched g cells.now s) }
+    {
+        let mut stack = Vec::new(alloc);
+        push_all(&mut stack, cells)?;
+        Ok(Search {
+            marks: Marks::new(alloc),
+            met: Vec::new(alloc),
+            left: Vec::new(alloc),
+            stack,
+        })
+    }
+
+    // Meets a cell: its readers are to be gone into before it is left.
+    fn enter(&mut self, graph: &Graph, cell: Cell) -> Result<(), Memory>
+        ensures marks { OnOk result ((d : Place) → InSheet d → number_at self.new.marks d
+            ≡ cond (same_place cell d) 1 (number_at self.old.marks d)) }
+        ensures met { OnOk result (self.new.met.items ≡ self.old.met.items ++ cell ∷ []) }
+        ensures left { OnOk result (self.new.left.items ≡ self.old.left.items) }
+        ensures stack { OnOk result (IsDeeper graph.now cell self.old.stack.items self.new.stack.items) }
+    {
+        self.marks.set(cell, MET)?;
+        push(&mut self.met, cell)?;
+        push(&mut self.stack, cell)?;
+        graph.add_readers(cell, &mut self.stack)?;
+        Ok(())
+    }
+
+    // Leaves a cell.
+    fn leave(&mut self, cell: Cell) -> Result<(), Memory>
+        ensures marks { OnOk result ((d : Place) → InSheet d → number_at self.new.marks d
+            ≡ cond (same_place cell d) 2 (number_at self.old.marks d)) }
+        ensures met { OnOk result (self.new.met.items ≡ self.old.met.items) }
+        ensures left { OnOk result (self.new.left.items ≡ self.old.left.items ++ cell ∷ []) }
+        ensures stack { OnOk result (self.new.stack.items ≡ self.old.stack.items) }
+    {
+        self.marks.set(cell, LEFT)?;
+        push(&mut self.left, cell)?;
+        Ok(())
+    }
+
+    // One step: the last cell of the stack is gone into or left.
+    fn step(&mut self, graph: &Graph) -> Result<(), Memory>
+        requires { 0 < length self.old.stack.items }
+        ensures searched { OnOk result ((cells : List Place) → IsSearched graph.now cells self.old
+            → IsSearched graph.now cells self.new) }
+        ensures less { OnOk result ((cells : List Place) → IsSearched graph.now cells self.old
+            → work_left graph.now cells self.new < work_left graph.now cells self.old) }
+    {
+        let Some(cell) = self.stack.pop() else {
+            return Ok(());
+        };
+        cell.is_on_sheet();
+        match self.marks.get(cell) {
+            0 => {
+                self.enter(graph, cell)?;
+                Ok(())
+            }
+            MET => {
+                self.leave(cell)?;
+                Ok(())
+            }
+            _ => Ok(()),
+        }
     }
 }
 
-// Takes those of the cells out that hold no formula.
-fn keep_formulas(graph: &Graph, cells: &[Cell], set: &mut IndexSet<Cell>)
-    ensures { (c : Place) → (has set.new.keys c ≡ true) ↔ ((has set.old.keys c ≡ true) × ((has cells.now c ≡ true) → is_formula graph.now c ≡ true)) }
+// The cells, and the formulas that reach one of them, each behind those that read it, as far as circles allow.
+fn within(alloc: Global, graph: &Graph, cells: &[Cell]) -> Result<Vec<Cell>, Memory>
+    ensures { IfOk result (λ l. (c : Place) → (has l.items c ≡ true) ↔ Within graph.now cells.now c) }
 {
-    for cell in cells {
-        keep_formula(graph, *cell, set);
+    let mut search = Search::new(alloc, cells)?;
+    'steps: while !search.stack.is_empty() {
+        search.step(graph)?;
     }
+    Ok(search.left)
 }
 
-/// The formulas among the cells, and those that reach one of them.
-pub fn closure(alloc: Global, graph: &Graph, cells: &[Cell]) -> Result<IndexSet<Cell>, Memory>
-    ensures { IfOk result (λ set. (c : Place) → (has set.keys c ≡ true) ↔ IsSpread graph.now cells.now c) }
+// Those of the cells that hold formulas, the last one first.
+fn formulas_backward(alloc: Global, graph: &Graph, cells: &[Cell]) -> Result<CellList, Memory>
+    ensures { IfOk result (λ l. (c : Place) → (has l c ≡ true)
+        ↔ ((has cells.now c ≡ true) × (is_formula graph.now c ≡ true))) }
 {
-    let mut set = within(alloc, graph, cells)?;
-    keep_formulas(graph, cells, &mut set);
-    Ok(set)
+    let mut list = CellList::new(alloc);
+    let mut next = cells.len();
+    'back: while next > 0 {
+        next -= 1;
+        let cell = cells[next];
+        if graph.has_formula(cell) {
+            list.push(cell)?;
+        }
+    }
+    Ok(list)
+}
+
+/// The formulas among the cells, and those that reach one of them, the last one that the search left first.
+pub fn closure(alloc: Global, graph: &Graph, cells: &[Cell]) -> Result<CellList, Memory>
+    ensures { IfOk result (λ l. (c : Place) → (has l c ≡ true) ↔ IsSpread graph.now cells.now c) }
+{
+    let left = within(alloc, graph, cells)?;
+    let list = formulas_backward(alloc, graph, left.as_slice())?;
+    Ok(list)
 }

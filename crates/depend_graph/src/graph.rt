@@ -1,5 +1,5 @@
 // The graph of what formulas read.
-ghost use Rattle.std.specs.Prelude.{◌≡◌, ◌↔◌, true, IfOk, OnOk, OnErr, option_copied};
+ghost use Rattle.std.specs.Prelude.{◌≡◌, ◌⊎◌, ◌↔◌, true, IfOk, OnOk, OnErr, option_copied};
 ghost use Rattle.std.specs.FinMap as map;
 ghost use Rattle.grid_address.specs.Place.{Place};
 ghost use Rattle.depend_graph.specs.Network.{accepted, dropped, has, is_formula, offered, put, reads, withdrawn, IsSpread};
@@ -8,35 +8,37 @@ ghost use Rattle.depend_graph.specs.declared.node.Node.{Node};
 use crate::Node;
 use crate::banks::Banks;
 use crate::closure::closure;
-use crate::readers::readers;
+use crate::lists::{Lists, add_all};
+use crate::readers::add_readers;
 use crate::slots::{Slot, drop_node, drop_offer, has_offer, node_of, put_offer, side, turn};
+use cell_numbers::CellMap;
 use grid_address::{Cell, CellList, SpanList};
-use indexmap::IndexSet;
 use lics_text::Memory;
 use std::alloc::Global;
-use std::collections::BTreeMap;
 use std::marker::Model;
 
 /// The formulas of a sheet with what they read, and formulas that are offered to take their place. All memory is taken
 /// where a formula is offered, so that an edit can make its growths first and change the graph afterwards.
 #[derive(Drop)]
 pub struct Graph {
-    slots: BTreeMap<Cell, Slot>,
+    slots: CellMap<Slot>,
+    lists: Lists,
     banks: Banks,
     alloc: Global,
 }
 
 impl Model for Graph {
+    ghost use Rattle.depend_graph.specs.Lists.{AreInLists};
     ghost use Rattle.depend_graph.specs.Network.{coded_network, Network};
-    ghost use Rattle.depend_graph.specs.Slots.{node_in, offer_in, picked, slots_of, AreRegistered};
+    ghost use Rattle.depend_graph.specs.Slots.{node_in, offer_in, picked, AreRegistered};
 
     ghost Value = { Network };
 
     ghost coded = { coded_network };
 
-    ghost view = { λ g. record { formulas = picked node_in (slots_of g.slots.entries); offers = picked offer_in (slots_of g.slots.entries) } };
+    ghost view = { λ g. record { formulas = picked node_in g.slots; offers = picked offer_in g.slots } };
 
-    ghost invariant = { λ g. AreRegistered (slots_of g.slots.entries) g.banks.even g.banks.odd };
+    ghost invariant = { λ g. AreRegistered g.slots g.banks.even g.banks.odd × AreInLists g.slots g.lists };
 }
 
 impl Graph {
@@ -46,7 +48,8 @@ impl Graph {
         ensures offers { result.offers ≡ map.empty }
     {
         Graph {
-            slots: BTreeMap::new(alloc),
+            slots: CellMap::new(alloc),
+            lists: CellMap::new(alloc),
             banks: Banks::new(alloc),
             alloc,
         }
@@ -76,6 +79,7 @@ impl Graph {
         ensures err { OnErr result (self.new ≡ withdrawn self.old cell) }
     {
         drop_offer(&mut self.slots, cell);
+        add_all(&mut self.lists, self.alloc, node.reads.as_slice(), cell)?;
         let is_odd = !side(&self.slots, cell);
         self.banks.fill(is_odd, cell, &node.reads)?;
         put_offer(&mut self.slots, cell, node)?;
@@ -123,20 +127,22 @@ impl Graph {
         Ok(())
     }
 
-    /// The formulas that read a cell, each once or twice.
-    pub fn readers(&self, cell: Cell) -> Result<CellList, Memory>
-        ensures { IfOk result (λ l. (d : Place) → (has l d ≡ true) ↔ (reads self.now d cell ≡ true)) }
+    /// Adds the formulas that read a cell, some of them more than once.
+    pub fn add_readers(&self, cell: Cell, found: &mut Vec<Cell>) -> Result<(), Memory>
+        ensures { OnOk result ((d : Place) → (has found.new.items d ≡ true)
+            ↔ ((has found.old.items d ≡ true) ⊎ (reads self.now d cell ≡ true))) }
     {
-        let list = readers(self.alloc, &self.slots, &self.banks, cell)?;
-        Ok(list)
+        add_readers(&self.slots, &self.lists, &self.banks, cell, found)?;
+        Ok(())
     }
 
-    /// The formulas among the cells, and those that reach one of them through what they read.
-    pub fn closure(&self, cells: &CellList) -> Result<IndexSet<Cell>, Memory>
-        ensures { IfOk result (λ set. (c : Place) → (has set.keys c ≡ true) ↔ IsSpread self.now cells.now c) }
+    /// The formulas among the cells, and those that reach one of them through what they read. They are meant to stand
+    /// before those that read them, as far as circles allow; no clause tells that.
+    pub fn closure(&self, cells: &CellList) -> Result<CellList, Memory>
+        ensures { IfOk result (λ l. (c : Place) → (has l c ≡ true) ↔ IsSpread self.now cells.now c) }
     {
-        let set = closure(self.alloc, self, cells.as_slice())?;
-        Ok(set)
+        let list = closure(self.alloc, self, cells.as_slice())?;
+        Ok(list)
     }
 }
 

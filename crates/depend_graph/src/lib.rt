@@ -4,11 +4,14 @@
 mod banks;
 mod closure;
 mod graph;
+mod lists;
+mod marks;
 mod node;
 mod readers;
 mod sets;
 mod slots;
 
 pub use graph::Graph;
+pub use marks::Marks;
 pub use node::Node;
 pub use sets::{cut_back, insert, insert_all};

@@ -2,20 +2,22 @@
 ghost use Rattle.std.specs.Prelude.{◌≡◌, ◌⊎◌, ◌↔◌, true, OnOk, IfOk, ◌++◌, ◌∷◌, []};
 ghost use Rattle.std.specs.FinMap as map;
 ghost use Rattle.grid_address.specs.Place.{Place};
+ghost use Rattle.range_index.specs.Owners.{owners_of};
+ghost use Rattle.depend_graph.specs.Lists.{list_at, AreInLists};
 ghost use Rattle.depend_graph.specs.Network.{has, holds, network_of, reads, IsReaderAmong};
-ghost use Rattle.depend_graph.specs.Slots.{had, node_in, slots_of, AreRegistered};
+ghost use Rattle.depend_graph.specs.Slots.{had, node_in, AreRegistered};
 
 use crate::banks::Banks;
+use crate::lists::Lists;
 use crate::slots::{Slot, node_of};
-use grid_address::{Cell, CellList};
+use cell_numbers::CellMap;
+use grid_address::Cell;
 use lics_text::Memory;
-use range_index::hold;
-use std::alloc::Global;
-use std::collections::BTreeMap;
+use range_index::{RangeIndex, hold};
 
 // Whether the formula at a cell reads another.
-fn reads(slots: &BTreeMap<Cell, Slot>, formula: Cell, cell: Cell) -> bool
-    ensures { result ≡ holds (had node_in (map.get (slots_of slots.now.entries) formula)) cell }
+fn reads(slots: &CellMap<Slot>, formula: Cell, cell: Cell) -> bool
+    ensures { result ≡ holds (had node_in (map.get slots.now formula)) cell }
 {
     match node_of(slots, formula) {
         Some(node) => hold(node.reads.as_slice(), cell),
@@ -23,37 +25,69 @@ fn reads(slots: &BTreeMap<Cell, Slot>, formula: Cell, cell: Cell) -> bool
     }
 }
 
-// Adds those that read the cell.
-fn add_readers(
-    slots: &BTreeMap<Cell, Slot>,
+// Adds those of the formulas that read the cell.
+fn add_those(
+    slots: &CellMap<Slot>,
     formulas: &[Cell],
     cell: Cell,
-    list: &mut CellList,
+    found: &mut Vec<Cell>,
 ) -> Result<(), Memory>
-    ensures { OnOk result ((d : Place) → (has list.new d ≡ true) ↔ ((has list.old d ≡ true) ⊎ IsReaderAmong (slots_of slots.now.entries) cell formulas.now d)) }
+    ensures { OnOk result ((d : Place) → (has found.new.items d ≡ true)
+        ↔ ((has found.old.items d ≡ true) ⊎ IsReaderAmong slots.now cell formulas.now d)) }
 {
     for formula in formulas {
         if reads(slots, *formula, cell) {
-            list.push(*formula)?;
+            found.push(*formula)?;
         }
     }
     Ok(())
 }
 
-/// The formulas that read the cell.
-pub fn readers(
-    alloc: Global,
-    slots: &BTreeMap<Cell, Slot>,
+// Adds those that stand in the list of the cell.
+fn add_listed(
+    slots: &CellMap<Slot>,
+    lists: &Lists,
+    cell: Cell,
+    found: &mut Vec<Cell>,
+) -> Result<(), Memory>
+    ensures { OnOk result ((d : Place) → (has found.new.items d ≡ true)
+        ↔ ((has found.old.items d ≡ true) ⊎ IsReaderAmong slots.now cell (list_at lists.now cell) d)) }
+{
+    match lists.get(cell) {
+        Some(list) => add_those(slots, list.as_slice(), cell, found),
+        None => add_those(slots, &[], cell, found),
+    }
+}
+
+// Adds those that read the cell in a wide span.
+fn add_owners(
+    slots: &CellMap<Slot>,
+    index: &RangeIndex,
+    cell: Cell,
+    found: &mut Vec<Cell>,
+) -> Result<(), Memory>
+    ensures { OnOk result ((d : Place) → (has found.new.items d ≡ true)
+        ↔ ((has found.old.items d ≡ true) ⊎ IsReaderAmong slots.now cell (owners_of index.now cell) d)) }
+{
+    let owners = index.owners_of(cell)?;
+    add_those(slots, owners.as_slice(), cell, found)
+}
+
+/// Adds the formulas that read the cell.
+pub fn add_readers(
+    slots: &CellMap<Slot>,
+    lists: &Lists,
     banks: &Banks,
     cell: Cell,
-) -> Result<CellList, Memory>
-    requires { AreRegistered (slots_of slots.now.entries) banks.now.even banks.now.odd }
-    ensures { IfOk result (λ l. (d : Place) → (has l d ≡ true) ↔ (reads (network_of (slots_of slots.now.entries)) d cell ≡ true)) }
+    found: &mut Vec<Cell>,
+) -> Result<(), Memory>
+    requires registered { AreRegistered slots.now banks.now.even banks.now.odd }
+    requires listed { AreInLists slots.now lists.now }
+    ensures { OnOk result ((d : Place) → (has found.new.items d ≡ true)
+        ↔ ((has found.old.items d ≡ true) ⊎ (reads (network_of slots.now) d cell ≡ true))) }
 {
-    let even = banks.even.owners_of(cell)?;
-    let odd = banks.odd.owners_of(cell)?;
-    let mut list = CellList::new(alloc);
-    add_readers(slots, even.as_slice(), cell, &mut list)?;
-    add_readers(slots, odd.as_slice(), cell, &mut list)?;
-    Ok(list)
+    add_listed(slots, lists, cell, found)?;
+    add_owners(slots, &banks.even, cell, found)?;
+    add_owners(slots, &banks.odd, cell, found)?;
+    Ok(())
 }

@@ -1,12 +1,12 @@
 // The formula of each cell, with the one that it will have.
 ghost use Rattle.std.specs.Prelude.{◌≡◌, OnOk, OnErr, option_copied, Some, None, is_some};
 ghost use Rattle.std.specs.FinMap as map;
-ghost use Rattle.depend_graph.specs.Slots.{had, node_in, offer_in, offering, placed, side, slots_of, turned, turned_to, without_node, without_offer};
+ghost use Rattle.depend_graph.specs.Slots.{had, node_in, offer_in, offering, placed, side, turned, turned_to, without_node, without_offer};
 
 use crate::Node;
+use cell_numbers::CellMap;
 use grid_address::Cell;
 use lics_text::Memory;
-use std::collections::BTreeMap;
 
 /// A cell's formula and its offer. `is_odd` tells in which index the formula's spans are.
 #[derive(Drop)]
@@ -17,39 +17,39 @@ pub struct Slot {
 }
 
 /// In which index the spans of the cell's formula are.
-pub fn side(slots: &BTreeMap<Cell, Slot>, cell: Cell) -> bool
-    ensures { result ≡ side (map.get (slots_of slots.now.entries) cell) }
+pub fn side(slots: &CellMap<Slot>, cell: Cell) -> bool
+    ensures { result ≡ side (map.get slots.now cell) }
 {
-    match slots.get(&cell) {
+    match slots.get(cell) {
         Some(slot) => slot.is_odd,
         None => false,
     }
 }
 
 /// The cell's formula.
-pub fn node_of(slots: &BTreeMap<Cell, Slot>, cell: Cell) -> Option<&Node>
-    ensures { option_copied result ≡ had node_in (map.get (slots_of slots.now.entries) cell) }
+pub fn node_of(slots: &CellMap<Slot>, cell: Cell) -> Option<&Node>
+    ensures { option_copied result ≡ had node_in (map.get slots.now cell) }
 {
-    match slots.get(&cell) {
+    match slots.get(cell) {
         Some(slot) => slot.node.as_ref(),
         None => None,
     }
 }
 
-fn has_node(slots: &BTreeMap<Cell, Slot>, cell: Cell) -> bool
-    ensures { result ≡ is_some (had node_in (map.get (slots_of slots.now.entries) cell)) }
+fn has_node(slots: &CellMap<Slot>, cell: Cell) -> bool
+    ensures { result ≡ is_some (had node_in (map.get slots.now cell)) }
 {
-    match slots.get(&cell) {
+    match slots.get(cell) {
         Some(slot) => slot.node.is_some(),
         None => false,
     }
 }
 
 /// Whether the cell has an offer.
-pub fn has_offer(slots: &BTreeMap<Cell, Slot>, cell: Cell) -> bool
-    ensures { result ≡ is_some (had offer_in (map.get (slots_of slots.now.entries) cell)) }
+pub fn has_offer(slots: &CellMap<Slot>, cell: Cell) -> bool
+    ensures { result ≡ is_some (had offer_in (map.get slots.now cell)) }
 {
-    match slots.get(&cell) {
+    match slots.get(cell) {
         Some(slot) => slot.offer.is_some(),
         None => false,
     }
@@ -62,11 +62,11 @@ fn write_offer(slot: &mut Slot, node: Node)
 }
 
 /// Puts an offer at the cell. The slots are as before where there is no memory.
-pub fn put_offer(slots: &mut BTreeMap<Cell, Slot>, cell: Cell, node: Node) -> Result<(), Memory>
-    ensures ok { OnOk result (slots_of slots.new.entries ≡ placed (slots_of slots.old.entries) cell (Some (offering (map.get (slots_of slots.old.entries) cell) node))) }
-    ensures err { OnErr result (slots_of slots.new.entries ≡ slots_of slots.old.entries) }
+pub fn put_offer(slots: &mut CellMap<Slot>, cell: Cell, node: Node) -> Result<(), Memory>
+    ensures ok { OnOk result (slots.new ≡ placed slots.old cell (Some (offering (map.get slots.old cell) node))) }
+    ensures err { OnErr result (slots.new ≡ slots.old) }
 {
-    match slots.get_mut(&cell) {
+    match slots.get_mut(cell) {
         Some(slot) => {
             write_offer(slot, node);
             Ok(())
@@ -93,10 +93,10 @@ fn turn_slot(slot: &mut Slot)
 }
 
 /// Makes the cell's offer its formula, where there is one. It takes no memory.
-pub fn turn(slots: &mut BTreeMap<Cell, Slot>, cell: Cell)
-    ensures { slots_of slots.new.entries ≡ placed (slots_of slots.old.entries) cell (turned (map.get (slots_of slots.old.entries) cell)) }
+pub fn turn(slots: &mut CellMap<Slot>, cell: Cell)
+    ensures { slots.new ≡ placed slots.old cell (turned (map.get slots.old cell)) }
 {
-    match slots.get_mut(&cell) {
+    match slots.get_mut(cell) {
         Some(slot) => turn_slot(slot),
         None => {}
     }
@@ -109,14 +109,14 @@ fn clear_offer(slot: &mut Slot)
 }
 
 /// Takes the cell's offer away. It takes no memory.
-pub fn drop_offer(slots: &mut BTreeMap<Cell, Slot>, cell: Cell)
-    ensures { slots_of slots.new.entries ≡ placed (slots_of slots.old.entries) cell (without_offer (map.get (slots_of slots.old.entries) cell)) }
+pub fn drop_offer(slots: &mut CellMap<Slot>, cell: Cell)
+    ensures { slots.new ≡ placed slots.old cell (without_offer (map.get slots.old cell)) }
 {
     if !has_node(slots, cell) {
-        let _ = slots.remove(&cell);
+        slots.remove(cell);
         return;
     }
-    match slots.get_mut(&cell) {
+    match slots.get_mut(cell) {
         Some(slot) => clear_offer(slot),
         None => {}
     }
@@ -129,14 +129,14 @@ fn clear_node(slot: &mut Slot)
 }
 
 /// Takes the cell's formula away. It takes no memory.
-pub fn drop_node(slots: &mut BTreeMap<Cell, Slot>, cell: Cell)
-    ensures { slots_of slots.new.entries ≡ placed (slots_of slots.old.entries) cell (without_node (map.get (slots_of slots.old.entries) cell)) }
+pub fn drop_node(slots: &mut CellMap<Slot>, cell: Cell)
+    ensures { slots.new ≡ placed slots.old cell (without_node (map.get slots.old cell)) }
 {
     if !has_offer(slots, cell) {
-        let _ = slots.remove(&cell);
+        slots.remove(cell);
         return;
     }
-    match slots.get_mut(&cell) {
+    match slots.get_mut(cell) {
         Some(slot) => clear_node(slot),
         None => {}
     }

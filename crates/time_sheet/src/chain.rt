@@ -117,7 +117,7 @@ fn edit(
         &SCENE,
         tally,
     )?;
-    let found = u64::try_from(reached.len()).unwrap_or(0);
+    let found = u64::try_from(reached.as_slice().len()).unwrap_or(0);
     Ok(last_of(store).wrapping_add(found))
 }
 

@@ -65,7 +65,7 @@ pub fn go_along(alloc: Global) -> Result<u64, Memory> {
     let mut sum = 0_u64;
     for _round in 0..10 {
         let reached = graph.closure(&CellList::one(alloc, at(0, 0))?)?;
-        sum = sum.wrapping_add(u64::try_from(reached.len()).unwrap_or(0));
+        sum = sum.wrapping_add(u64::try_from(reached.as_slice().len()).unwrap_or(0));
     }
     Ok(sum)
 }

@@ -4,8 +4,8 @@ use Rattle.std.proofs.Common.{ap, subst, sym, ◌∙◌}
 use Rattle.std.proofs.lemmas.List.{take_more}
 use Rattle.grid_address.specs.Place.{Extent}
 use Rattle.range_index.specs.Owners.{spans_in, Owners}
-use Rattle.depend_graph.proofs.Others.{more_here, more_others, removed_none, removed_others, then_others}
-use Rattle.depend_graph.specs.Banks.{AreOthers}
+use Rattle.depend_graph.proofs.Others.{removed_none, removed_others, then_others, wide-append}
+use Rattle.depend_graph.specs.Banks.{wide, AreOthers}
 use Rattle.depend_graph.proofs.banks.fill.Goals as goal
 
 pub loop-span-init : goal.loop-span-init
@@ -18,9 +18,8 @@ pub loop-span-preserved : goal.loop-span-preserved
 loop-span-preserved c =
     let span : Extent = c.span-item.result in
     record {
-      is = ap (λ (m : Owners). spans_in (get m c.args.owner)) c.in_ok-add.ensures.ok ∙ more_here c.loop-span.index c.args.owner span
-          ∙ ap (λ l. l ++ span ∷ []) c.loop-span.invariant.is ∙ ap (λ (s : Extent). take c.loop-span.span-index c.args.spans.now ++ s ∷ []) (c.span-item.is ∙ ap (λ (l : List Extent). get_or l c.loop-span.span-index span) c.as_slice-span-items.ensures)
-          ∙ sym (take_more c.args.spans.now c.loop-span.span-index span (subst (λ (l : List Extent). c.loop-span.span-index < length l) c.as_slice-span-items.ensures c.loop-span-test.true));
-      others = then_others c.args.index.now c.loop-span.index c.add.new.self c.args.owner c.loop-span.invariant.others
-          (subst (λ (m : Owners). AreOthers c.loop-span.index m c.args.owner) (sym c.in_ok-add.ensures.ok) (more_others c.loop-span.index c.args.owner span));
+      is = c.in_ok-add_wide.ensures.is ∙ ap (λ l. l ++ wide (span ∷ [])) c.loop-span.invariant.is ∙ sym (wide-append (take c.loop-span.span-index c.args.spans.now) (span ∷ []))
+          ∙ ap (λ (s : Extent). wide (take c.loop-span.span-index c.args.spans.now ++ s ∷ [])) (c.span-item.is ∙ ap (λ (l : List Extent). get_or l c.loop-span.span-index span) c.as_slice-span-items.ensures)
+          ∙ ap wide (sym (take_more c.args.spans.now c.loop-span.span-index span (subst (λ (l : List Extent). c.loop-span.span-index < length l) c.as_slice-span-items.ensures c.loop-span-test.true)));
+      others = then_others c.args.index.now c.loop-span.index c.add_wide.new.index c.args.owner c.loop-span.invariant.others c.add_wide.ensures.others;
     }

@@ -1,11 +1,14 @@
+use Rattle.std.proofs.Common.{ap, sym, ◌∙◌}
 use Rattle.depend_graph.proofs.Growth.{spread}
+use Rattle.depend_graph.specs.Network.{has}
 use Rattle.depend_graph.proofs.closure.closure.Goals as goal
 
 pub returns : goal.returns
 returns c = λ x.
-    let kept = c.keep_formulas.ensures x in
-    let all = c.in_ok-set.ensures x in
+    let left = c.in_ok-left.ensures x in
+    let list = c.in_ok-list.ensures x in
+    let same = ap (λ xs. has xs x) c.as_slice.ensures.value in
     let is = spread c.args.graph.now c.args.cells.now x in (
-      (λ h. let k = kept.0 h in is.0 (all.0 k.0, k.1)),
-      (λ h. let w = is.1 h in kept.1 (all.1 w.0, w.1)),
+      (λ h. let k = list.0 h in is.0 (left.0 (sym same ∙ k.0), λ _. k.1)),
+      (λ h. let w = is.1 h in list.1 (same ∙ left.1 w.0, h.formula)),
     )

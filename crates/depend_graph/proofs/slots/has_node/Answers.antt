@@ -1,13 +1,11 @@
 use Rattle.std.specs.Prelude.{Option, is_some}
-use Rattle.std.proofs.Common.{ap, sym, ◌∙◌}
-use Rattle.grid_address.proofs.Maps.{get_entries}
-use Rattle.grid_address.proofs.Places.{cells_total}
+use Rattle.std.proofs.Common.{ap, ◌∙◌}
 use Rattle.depend_graph.specs.Slots.{had, node_in}
 use Rattle.depend_graph.specs.declared.slots.Slot.{Slot}
 use Rattle.depend_graph.proofs.slots.has_node.Goals as goal
 
 pub returns-in-Some : goal.returns-in-Some
-returns-in-Some c = c.is_some.ensures ∙ ap (λ (o : Option Slot). is_some (had node_in o)) (c.in-Some.ensures.value ∙ sym (get_entries cells_total c.args.slots.now.entries c.args.cell))
+returns-in-Some c = c.is_some.ensures ∙ ap (λ (o : Option Slot). is_some (had node_in o)) c.in-Some.ensures
 
 pub returns-in-None : goal.returns-in-None
-returns-in-None c = ap (λ (o : Option Slot). is_some (had node_in o)) (c.in-None.ensures.value ∙ sym (get_entries cells_total c.args.slots.now.entries c.args.cell))
+returns-in-None c = ap (λ (o : Option Slot). is_some (had node_in o)) c.in-None.ensures

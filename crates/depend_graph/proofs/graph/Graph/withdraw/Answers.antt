@@ -1,14 +1,19 @@
 use Rattle.std.specs.Prelude.{not}
 use Rattle.std.proofs.Common.{ap, subst, sym, ◌∙◌}
 use Rattle.depend_graph.proofs.Kept.{unoffered_registered}
+use Rattle.depend_graph.proofs.Listing.{unoffered_listed}
 use Rattle.depend_graph.proofs.Viewed.{viewed_withdrawn}
+use Rattle.depend_graph.specs.Lists.{AreInLists}
 use Rattle.depend_graph.specs.Network.{network_of, withdrawn}
-use Rattle.depend_graph.specs.Slots.{slots_of, AreRegistered, Slots}
+use Rattle.depend_graph.specs.Slots.{AreRegistered, Slots}
 use Rattle.depend_graph.proofs.graph.Graph.withdraw.Goals as goal
 
 pub invariant_of-self : goal.invariant_of-self
-invariant_of-self c = subst (λ (m : Slots). AreRegistered m c.clear.new.self.even c.clear.new.self.odd) (sym c.drop_offer.ensures)
-    (unoffered_registered (slots_of c.self.inside.slots.entries) c.self.inside.banks.even c.self.inside.banks.odd c.clear.new.self.even c.clear.new.self.odd (not c.side-is_odd.result) c.args.cell c.clear.ensures c.self.invariant (ap not c.side-is_odd.ensures))
+invariant_of-self c = (
+  subst (λ (m : Slots). AreRegistered m c.clear.new.self.even c.clear.new.self.odd) (sym c.drop_offer.ensures)
+      (unoffered_registered c.self.inside.slots c.self.inside.banks.even c.self.inside.banks.odd c.clear.new.self.even c.clear.new.self.odd (not c.side-is_odd.result) c.args.cell c.clear.ensures c.self.invariant.0 (ap not c.side-is_odd.ensures)),
+  subst (λ (m : Slots). AreInLists m c.self.inside.lists) (sym c.drop_offer.ensures) (unoffered_listed c.self.inside.slots c.self.inside.lists c.self.invariant.1 c.args.cell),
+)
 
 pub returns : goal.returns
-returns c = ap network_of c.drop_offer.ensures ∙ viewed_withdrawn (slots_of c.self.inside.slots.entries) c.args.cell ∙ ap (λ g. withdrawn g c.args.cell) c.self.view_is
+returns c = ap network_of c.drop_offer.ensures ∙ viewed_withdrawn c.self.inside.slots c.args.cell ∙ ap (λ g. withdrawn g c.args.cell) c.self.view_is

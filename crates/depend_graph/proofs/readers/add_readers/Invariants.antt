@@ -1,9 +1,0 @@
-use Rattle.std.specs.Prelude.{◌≡◌, ◌↔◌, true, take}
-use Rattle.std.proofs.Common.{◌⊎◌}
-use Rattle.grid_address.specs.Place.{Place}
-use Rattle.depend_graph.specs.Network.{has, IsReaderAmong}
-use Rattle.depend_graph.specs.Slots.{slots_of}
-use Rattle.depend_graph.proofs.readers.add_readers.Given as goal
-
-abbrev pub invariant-loop-formula : goal.invariant-loop-formula
-invariant-loop-formula l = (d : Place) → (has l.list d ≡ true) ↔ ((has l.fn.list d ≡ true) ⊎ IsReaderAmong (slots_of l.slots.entries) l.cell (take l.formula-index l.formulas) d)
