@@ -111,7 +111,7 @@ as_many_dirty g dirty d only = length-from_same_keys same_place_laws (filter (ha
     (λ t. has-filter same_place same_place_is (has same_place dirty) q t (formulas g) ∙ has_formula g q ∙ only q t))
 
 -- where no formula is volatile and none reaches itself, none stays dirty
-none_stays : (g : Grid) → IsPlain g → {c : Place} → StaysDirty g c → ⊥
+pub none_stays : (g : Grid) → IsPlain g → {c : Place} → StaysDirty g c → ⊥
 none_stays g p (volatile {c = c} {t = t} e v) = true≢false (sym v ∙ p.steady c t e)
 none_stays g p (circle {c = c} r) = p.acyclic c r
 none_stays g p (reading {d = d} m s) = none_stays g p s

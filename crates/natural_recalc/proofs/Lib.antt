@@ -1,3 +1,4 @@
+pub mod Along
 pub mod ByColumn
 pub mod Contents
 pub mod Counts
@@ -10,6 +11,7 @@ pub mod Fresh
 pub mod Graphs
 pub mod Held
 pub mod Items
+pub mod Marked
 pub mod Members
 pub mod Rest
 pub mod RowOrder

@@ -26,9 +26,9 @@ use Rattle.natural_recalc.specs.World.{formula_at, formula_of, value_at, value_o
 
 module _ (mean : Meaning) (ctx : Context) (rest : Place → Bool) (meaning : IsMeaning mean) where
   -- the calm formulas among the seen have their meaning, and read only what was seen
-  record IsRight (seen : List Place) (g : Grid) : Type 0 where
-    value : (x : Place) (f : Tree) → has same_place seen x ≡ true → rest x ≡ false → formula_at g x ≡ Some f → value_at g x ≡ mean f x (world_at ctx g)
-    closed : (x d : Place) → has same_place seen x ≡ true → rest x ≡ false → has same_place (pre g x) d ≡ true → has same_place seen d ≡ true
+  pub record IsRight (seen : List Place) (g : Grid) : Type 0 where
+    pub value : (x : Place) (f : Tree) → has same_place seen x ≡ true → rest x ≡ false → formula_at g x ≡ Some f → value_at g x ≡ mean f x (world_at ctx g)
+    pub closed : (x d : Place) → has same_place seen x ≡ true → rest x ≡ false → has same_place (pre g x) d ≡ true → has same_place seen d ≡ true
 
   value_kept : (g : Grid) (c : Place) (o : Option Tree) (d : Place) → (is_some o ≡ true → same_place d c ≡ false) → value_at (revalued mean ctx g c o) d ≡ value_at g d
   value_kept g c None d h = refl
@@ -112,19 +112,19 @@ module _ (mean : Meaning) (ctx : Context) (rest : Place → Bool) (meaning : IsM
     acyclic = λ d e w. r.acyclic d e (subst (λ (p : Place → List Place). Reaches same_place p d d) (pre_stays mean ctx g c) w);
   }
 
-  abbrev onto : List Place → List Place → List Place
+  abbrev pub onto : List Place → List Place → List Place
   onto [] seen = seen
   onto (c ∷ cs) seen = onto cs (c ∷ seen)
 
-  onto-seen : (cs seen : List Place) (x : Place) → has same_place seen x ≡ true → has same_place (onto cs seen) x ≡ true
+  pub onto-seen : (cs seen : List Place) (x : Place) → has same_place seen x ≡ true → has same_place (onto cs seen) x ≡ true
   onto-seen [] seen x h = h
   onto-seen (c ∷ cs) seen x h = onto-seen cs (c ∷ seen) x (or_right _ _ h)
 
-  onto-has : (cs seen : List Place) (x : Place) → has same_place cs x ≡ true → has same_place (onto cs seen) x ≡ true
+  pub onto-has : (cs seen : List Place) (x : Place) → has same_place cs x ≡ true → has same_place (onto cs seen) x ≡ true
   onto-has [] seen x h = absurd (true≢false (sym h))
   onto-has (c ∷ cs) seen x h = elim (or_cases (same_place x c) (has same_place cs x) h) [ inl e ↦ onto-seen cs (c ∷ seen) x (or_left _ _ e) | inr m ↦ onto-has cs (c ∷ seen) x m ]
 
-  right_all : (cs seen : List Place) (g : Grid) → IsRest g rest → IsRight seen g → Precedes same_place (pre g) seen cs → IsRight (onto cs seen) (pass mean ctx cs g)
+  pub right_all : (cs seen : List Place) (g : Grid) → IsRest g rest → IsRight seen g → Precedes same_place (pre g) seen cs → IsRight (onto cs seen) (pass mean ctx cs g)
   right_all [] seen g r i s = i
   right_all (c ∷ cs) seen g r i s = right_all cs (c ∷ seen) (evaluated mean ctx g c) (rest_stays g c r) (right_on seen c g r i (λ e d m. elim (s.0 d m) [ inl h ↦ h | inr q ↦ absurd (r.acyclic c e q) ]))
       (subst (λ (p : Place → List Place). Precedes same_place p (c ∷ seen) cs) (sym (pre_stays mean ctx g c)) s.1)

@@ -1,3 +1,4 @@
+pub mod InOrder
 pub mod Laws
 pub mod Passes
 pub mod Reading

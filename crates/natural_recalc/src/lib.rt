@@ -4,6 +4,7 @@
 mod cells;
 mod columns;
 mod evaluate;
+mod in_order;
 mod laws;
 mod leave;
 mod missing;
@@ -14,7 +15,7 @@ mod whole;
 
 pub use cells::{content_of, format_of, value_of, width_of};
 pub use evaluate::evaluate_at;
-pub use laws::{edit_keeps_sound, pass_is_cut, recalculation_is_cut};
+pub use laws::{any_order_serves, edit_keeps_sound, pass_is_cut, recalculation_is_cut};
 pub use missing::Missing;
 pub use recalculation::{Circ, recalc};
 pub use view::View;

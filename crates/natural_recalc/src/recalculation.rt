@@ -7,6 +7,7 @@ ghost use Rattle.indexmap.specs.IndexSet.{IsUnique};
 ghost use Rattle.natural_order.specs.Walk.{has, IsSplit, Precedes};
 ghost use Rattle.sheet_store.specs.Grid.{formulas};
 ghost use Rattle.sheet_store.specs.declared.order.Order.TheVariants.{Natural};
+ghost use Rattle.natural_recalc.specs.InOrder.{GoesInOrder};
 ghost use Rattle.natural_recalc.specs.Passes as whole;
 ghost use Rattle.natural_recalc.specs.Passes.{pass, passes, raised_by, IsDirtyAfter, IsPlain, IsRight, IsSound, IsWhatStays, SameContents};
 ghost use Rattle.natural_recalc.specs.Reading.{is_formula_at, natural_order, order_in, plain_order, pre, Matches, StaysDirty};
@@ -14,6 +15,7 @@ ghost use Rattle.natural_recalc.specs.World.{context_of};
 
 use crate::columns::by_columns;
 use crate::evaluate::{further, pass_over};
+use crate::in_order::is_in_order;
 use crate::leave::leave;
 use crate::reads::{DirtyReads, add_kept};
 use depend_graph::Graph;
@@ -157,8 +159,39 @@ fn rest_of(
     Ok((rest, again))
 }
 
-// Recalculation in natural order.
-fn recalc_natural<E: Means>(
+// Recalculation in natural order, where the dirty formulas stand in an order in which each comes after all that it
+// reads.
+fn recalc_in_order<E: Means>(
+    store: &mut Store,
+    dirty: &mut IndexSet<Cell>,
+    times: u8,
+    names: &Names,
+    settings: &Settings,
+    scene: &Scene,
+    tally: &mut E,
+) -> Result<(), Memory>
+    requires sound { IsSound E.meaning (context_of names.now settings.now scene.now)
+        store.old (has same_place dirty.old.keys) }
+    requires order { GoesInOrder store.old dirty.old.keys }
+    requires times { 1 ≤ times }
+    ensures values { OnOk result (store.new
+        ≡ passes E.meaning (context_of names.now settings.now scene.entry.now) times (natural_order store.old).done store.old) }
+    ensures circular { (natural_order store.old).circular ≡ false }
+    ensures stays { OnOk result (IsWhatStays store.new (has same_place dirty.new.keys)) }
+    ensures sound { IsSound E.meaning (context_of names.now settings.now scene.entry.now)
+        store.new (has same_place dirty.new.keys) }
+    ensures contents { SameContents store.old store.new }
+    ensures err { OnErr result (dirty.new.keys ≡ dirty.old.keys) }
+    ensures none { OnOk result (dirty.new.keys ≡ []) }
+    ensures count { OnOk result (E.count tally.new ≡ raised_by (length dirty.old.keys) (E.count tally.old)) }
+{
+    pass_over(store, dirty.as_slice(), names, settings, scene, tally)?;
+    *dirty = IndexSet::new(store.alloc());
+    Ok(())
+}
+
+// Recalculation in natural order, which is found by a walk.
+fn recalc_walked<E: Means>(
     store: &mut Store,
     graph: &Graph,
     dirty: &mut IndexSet<Cell>,
@@ -169,15 +202,19 @@ fn recalc_natural<E: Means>(
     tally: &mut E,
 ) -> Result<bool, Memory>
     requires matches { Matches graph.now store.old }
-    requires sound { IsSound E.meaning (context_of names.now settings.now scene.now) store.old (has same_place dirty.old.keys) }
+    requires sound { IsSound E.meaning (context_of names.now settings.now scene.now)
+        store.old (has same_place dirty.old.keys) }
     requires times { 1 ≤ times }
-    ensures values { OnOk result (store.new ≡ passes E.meaning (context_of names.now settings.now scene.entry.now) times (natural_order store.old).done store.old) }
+    ensures values { OnOk result (store.new
+        ≡ passes E.meaning (context_of names.now settings.now scene.entry.now) times (natural_order store.old).done store.old) }
     ensures circular { IfOk result (λ c. c ≡ (natural_order store.old).circular) }
     ensures stays { OnOk result (IsWhatStays store.new (has same_place dirty.new.keys)) }
-    ensures sound { IsSound E.meaning (context_of names.now settings.now scene.entry.now) store.new (has same_place dirty.new.keys) }
+    ensures sound { IsSound E.meaning (context_of names.now settings.now scene.entry.now)
+        store.new (has same_place dirty.new.keys) }
     ensures contents { SameContents store.old store.new }
     ensures err { OnErr result (dirty.new.keys ≡ dirty.old.keys) }
-    ensures count { OnOk result (E.count tally.new ≡ raised_by (length dirty.old.keys + (times - 1) * length dirty.new.keys) (E.count tally.old)) }
+    ensures count { OnOk result (E.count tally.new
+        ≡ raised_by (length dirty.old.keys + (times - 1) * length dirty.new.keys) (E.count tally.old)) }
 {
     let order = first_pass(store, graph, dirty, names, settings, scene, tally)?;
     let circular = order.circular;
@@ -192,6 +229,40 @@ fn recalc_natural<E: Means>(
         tally,
     )?;
     *dirty = rest;
+    Ok(circular)
+}
+
+// Recalculation in natural order.
+fn recalc_natural<E: Means>(
+    store: &mut Store,
+    graph: &Graph,
+    dirty: &mut IndexSet<Cell>,
+    times: u8,
+    names: &Names,
+    settings: &Settings,
+    scene: &Scene,
+    tally: &mut E,
+) -> Result<bool, Memory>
+    requires matches { Matches graph.now store.old }
+    requires sound { IsSound E.meaning (context_of names.now settings.now scene.now)
+        store.old (has same_place dirty.old.keys) }
+    requires times { 1 ≤ times }
+    ensures values { OnOk result (store.new
+        ≡ passes E.meaning (context_of names.now settings.now scene.entry.now) times (natural_order store.old).done store.old) }
+    ensures circular { IfOk result (λ c. c ≡ (natural_order store.old).circular) }
+    ensures stays { OnOk result (IsWhatStays store.new (has same_place dirty.new.keys)) }
+    ensures sound { IsSound E.meaning (context_of names.now settings.now scene.entry.now)
+        store.new (has same_place dirty.new.keys) }
+    ensures contents { SameContents store.old store.new }
+    ensures err { OnErr result (dirty.new.keys ≡ dirty.old.keys) }
+    ensures count { OnOk result (E.count tally.new
+        ≡ raised_by (length dirty.old.keys + (times - 1) * length dirty.new.keys) (E.count tally.old)) }
+{
+    if is_in_order(store, graph, dirty.as_slice())? {
+        recalc_in_order(store, dirty, times, names, settings, scene, tally)?;
+        return Ok(false);
+    }
+    let circular = recalc_walked(store, graph, dirty, times, names, settings, scene, tally)?;
     Ok(circular)
 }
 

@@ -9,7 +9,7 @@ use Rattle.natural_recalc.proofs.Ends.{all1, as_many_rest, formulas_rest, order1
 use Rattle.natural_recalc.specs.Passes.{raised_by, IsMeaning, IsWhatStays, Meaning}
 use Rattle.natural_recalc.specs.Reading.{pre}
 use Rattle.natural_recalc.specs.World.{context_of, Context}
-use Rattle.natural_recalc.proofs.recalculation.recalc_natural.Goals as goal
+use Rattle.natural_recalc.proofs.recalculation.recalc_walked.Goals as goal
 
 pub rest_of-requires-clause-matches : goal.rest_of-requires-clause-matches
 rest_of-requires-clause-matches g c = matches_on c.args.graph.now c.args.store.now c.first_pass.new.store c.first_pass.ensures.contents c.requires.matches

@@ -1,0 +1,113 @@
+// Whether formulas stand in an order in which each comes after all of them that it reads.
+ghost use Rattle.std.specs.Prelude.{◌≡◌, ◌<◌, ◌≤◌, IfOk, true, false};
+ghost use Rattle.cell_numbers.specs.Numbers.{number_at};
+ghost use Rattle.grid_address.specs.Place.{is_within, same_place, whole, Place};
+ghost use Rattle.natural_order.specs.Walk.{has};
+ghost use Rattle.range_index.specs.Owners.{hold};
+ghost use Rattle.natural_recalc.specs.InOrder.{AreMarked, GoesInOrder, StandsFirst};
+ghost use Rattle.natural_recalc.specs.Reading.{Matches};
+
+use depend_graph::{Graph, Marks};
+use grid_address::{Cell, Span};
+use lics_text::Memory;
+use sheet_store::Store;
+
+// Whether no cell of a row, from one column to another, is marked.
+fn row_is_clear(marked: &Marks, row: u16, first: u8, last: u8) -> bool
+    requires { row ≤ whole.last.row }
+    ensures { result ≡ true → (d : Place) → d.row ≡ row → first ≤ d.col → d.col ≤ last → number_at marked.now d ≡ 0 }
+{
+    for col in u16::from(first)..u16::from(last) + 1 {
+        let cell = Cell {
+            row,
+            col: col as u8,
+        };
+        if marked.get(cell) != 0 {
+            return false;
+        }
+    }
+    true
+}
+
+// Whether no cell of a span is marked.
+fn places_are_clear(marked: &Marks, span: Span) -> bool
+    ensures { result ≡ true → (d : Place) → is_within span d ≡ true → number_at marked.now d ≡ 0 }
+{
+    span.last.is_on_sheet();
+    for row in span.first.row..span.last.row + 1 {
+        if !row_is_clear(marked, row, span.first.col, span.last.col) {
+            return false;
+        }
+    }
+    true
+}
+
+// Whether a span holds none of the cells.
+fn holds_none(span: Span, cells: &[Cell]) -> bool
+    ensures { result ≡ true → (d : Place) → has same_place cells.now d ≡ true → is_within span d ≡ false }
+{
+    for cell in cells {
+        if span.contains(*cell) {
+            return false;
+        }
+    }
+    true
+}
+
+// Whether a span holds none of the cells, which are marked: it looks at each place of the span, or at each of the
+// cells, whichever are fewer.
+fn is_clear(marked: &Marks, cells: &[Cell], span: Span) -> bool
+    requires { AreMarked marked.now cells.now }
+    ensures { result ≡ true → (d : Place) → has same_place cells.now d ≡ true → is_within span d ≡ false }
+{
+    let places = usize::from(span.width()) * usize::from(span.height());
+    if places <= cells.len() {
+        places_are_clear(marked, span)
+    } else {
+        holds_none(span, cells)
+    }
+}
+
+// Whether the spans hold none of the cells, which are marked.
+fn are_clear(marked: &Marks, cells: &[Cell], spans: &[Span]) -> bool
+    requires { AreMarked marked.now cells.now }
+    ensures { result ≡ true → (d : Place) → has same_place cells.now d ≡ true → hold spans.now d ≡ false }
+{
+    for span in spans {
+        if !is_clear(marked, cells, *span) {
+            return false;
+        }
+    }
+    true
+}
+
+// Whether the formula of a cell isn't volatile, and reads none of the cells, which are marked.
+fn stands_first(store: &Store, graph: &Graph, marked: &Marks, cells: &[Cell], cell: Cell) -> bool
+    requires matches { Matches graph.now store.now }
+    requires marked { AreMarked marked.now cells.now }
+    ensures { result ≡ true → StandsFirst store.now cells.now cell }
+{
+    match graph.get(cell) {
+        Some(node) => !node.volatile && are_clear(marked, cells, node.reads.as_slice()),
+        None => true,
+    }
+}
+
+/// Whether no formula of the cells is volatile, and none reads itself or one that stands behind it.
+pub fn is_in_order(store: &Store, graph: &Graph, cells: &[Cell]) -> Result<bool, Memory>
+    requires { Matches graph.now store.now }
+    ensures { IfOk result (λ b. b ≡ true → GoesInOrder store.now cells.now) }
+{
+    let mut marked = Marks::new(store.alloc());
+    let mut next = cells.len();
+    'back: while next > 0 {
+        next -= 1;
+        let cell = cells[next];
+        cell.is_on_sheet();
+        marked.set(cell, 1)?;
+        if !stands_first(store, graph, &marked, &cells[next..], cell) {
+            return Ok(false);
+        }
+    }
+    Ok(true)
+}
