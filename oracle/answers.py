@@ -1,7 +1,7 @@
 """What each checking program must print for its standard input. A name is that of the crate, behind `check_`."""
 import struct
 
-from . import adjust, blocks, cellformat, fixed, formula, macro, menu, query, screen
+from . import adjust, blocks, cellformat, fixed, formula, macro, menu, query, screen, session
 from .address import cell_text, cells_of, col_text, read_cell, read_span, span_at, span_text, width_of, height_of
 from .cellformat import show_number
 from .dates import Moment
@@ -14,21 +14,17 @@ from .values import BLANK, C_BLANK, first_value, num, string
 
 FAULTS = {1: b'Unexpected', 2: b'Ended', 3: b'UnknownFunction', 4: b'FunctionOutside', 5: b'ArgCount', 6: b'BadNumber',
           7: b'UnknownName', 8: b'TooLong'}
-# the program's menus don't show these as yet, and no letter takes them; the line of a command goes when it is built
-NOT_IN_MENUS = {
-    'p',             # Print
-    'd',             # Data
-}
-
-
-# command words of macros that are none as yet
+# What the program has not built as yet; a word goes when it is built. The menus don't show these paths and no letter takes
+# them, these keys are passed over, and these words are none in a macro.
+NOT_IN_MENUS = {'p'}
+NOT_IN_KEYS = {'undo'}
 NOT_IN_MACROS = {b'GET', b'GETLABEL', b'GETNUMBER', b'LOOK', b'MENUBRANCH', b'MENUCALL', b'WAIT', b'?', b'BEEP', b'INDICATE',
                  b'PANELON', b'PANELOFF', b'WINDOWSON', b'WINDOWSOFF', b'BREAKON', b'BREAKOFF', *FILE_WORDS}
 
 
 def leave_out():
     """From here on the oracle knows no more than the program has built."""
-    menu.NOT_BUILT, macro.NOT_BUILT = NOT_IN_MENUS, NOT_IN_MACROS
+    menu.NOT_BUILT, session.NOT_BUILT, macro.NOT_BUILT = NOT_IN_MENUS, NOT_IN_KEYS, NOT_IN_MACROS
 
 
 # the pointer in C2, and noon and after on 1 June 1987

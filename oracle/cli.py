@@ -324,7 +324,7 @@ def main(argv):
     p.add_argument('--as-program', action='store_true',
                    help='stdout gets exactly what the program writes for the kind of --show (pages, ansi, last)')
     p.add_argument('--state', help='a text dump of the last state goes to this file')
-    p.add_argument('--built', action='store_true', help='no more menus than the program has built')
+    p.add_argument('--built', action='store_true', help='no more menus, keys and macro words than the program has built')
     a = p.parse_args(own)
     if a.built:
         leave_out()

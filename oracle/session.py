@@ -15,6 +15,8 @@ MOVING = ('up', 'down', 'left', 'right', 'pgup', 'pgdn', 'bigleft', 'bigright', 
 PREFIXES = b"'\"^\\|"
 VALUE_BEGINS = b'0123456789+-.(@#$'
 OPERATORS = b'^*/+-=<>&#'    # the bytes that end an operator, `#` for #AND# and its kind
+# keys that READY passes over: none, or those that the program has not built
+NOT_BUILT = set()
 
 
 class ErrorE(Exception):
@@ -154,6 +156,8 @@ class Session:
     # ------------------------------------------------------------ READY
     def in_ready(self, key, mark):
         k = key[0]
+        if k in NOT_BUILT:
+            return
         if k == 'end':
             self.end_mark = not mark
         elif k in ARROWS and mark:
