@@ -155,6 +155,14 @@ class MenuKeys:
                   else r.randrange(low, min(high, low + 20) + 1))
         return r.choice([b'%d', b'%d', b'%d', b'+%d', b'%d.0', b'0%d', b'%d.', b'%d.000000']) % number
 
+    def asked_D(self):
+        """A number, mostly one that is short, or what is none."""
+        r = self.r
+        return r.choice(BESIDE_NUMBERS) if r.randrange(8) == 0 else r.choice(NUMBERS + [b'1', b'2', b'-1', b'0'])
+
+    def asked_order(self):
+        return self.r.choice([b'A', b'a', b'D', b'd', b'A', b'D', b'x', b''])
+
     def asked_F(self, ext):
         """The name of a file that may be there, or a text that is no name."""
         r = self.r
@@ -196,8 +204,10 @@ class MenuKeys:
             keys += answers[at] + b'~' if at < len(answers) else self.answer(ask)
         return keys
 
-    def behind(self):
-        """What may stand behind a command, since it may have been refused."""
+    def behind(self, action=''):
+        """What may stand behind a command, since it may have been refused, or leads back to a menu."""
+        if action in menu.BACK and self.r.randrange(12):
+            return self.r.choice([b'{BREAK}', b'{ESC 3}', b'q', b'~{BREAK}'])
         return self.r.choice([b'', b'', b'', b'{ESC}', b'{ESC}', b'~', b'{ESC 3}', b'{BREAK}'])
 
     def command(self):
@@ -206,7 +216,7 @@ class MenuKeys:
         action, way = r.choices(self.ways, self.weights)[0]
         surely = r.randrange(3) == 0
         keys = (b'{BREAK}' if surely else b'') + self.way(way, surely)
-        return keys + b''.join(self.answer(ask) for _, ask in menu.prompts(action)) + self.behind()
+        return keys + b''.join(self.answer(ask) for _, ask in menu.prompts(action)) + self.behind(action)
 
     def at(self, cell):
         return b'{GOTO}' + cell + b'~'
@@ -379,6 +389,13 @@ class MenuKeys:
         for _ in range(r.randrange(2, 7)):
             keys += r.choice(part)() + self.behind()
         return keys + self.looked([b'A1', b'A2', b'B2', b'B3', b'C3', b'D4'])
+
+    def shifted(self):
+        """Rows or columns that are inserted or deleted, or cells that are moved, near A1."""
+        r = self.r
+        if r.randrange(3) == 0:
+            return self.done('move', self.span(), r.choice([b'B2', b'F1', b'A1', b'E3']))
+        return self.done(r.choice(['wi.row', 'wi.column', 'wd.row', 'wd.column']), r.choice([b'A1', b'B2', b'D1..E2', b'C3', b'F1']))
 
     def order(self):
         return self.done(self.r.choice(['wgr.natural', 'wgr.columnwise', 'wgr.rowwise']))

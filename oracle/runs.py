@@ -15,7 +15,9 @@ import tempfile
 from .answers import leave_out
 from .cases import SEED, Texts, WORDS, is_read
 from .cli import run
+from .data_keys import DataKeys, file_of
 from .files import file_for_runs
+from .macro_keys import MacroKeys
 from .menu_keys import FILES, MenuKeys, SPELLED
 from .names import Names
 from .outside import file_name
@@ -32,6 +34,9 @@ BAD_WORDS = [['--show'], ['--show', 'page'], ['--steps', '0'], ['--steps=1000000
              ['--file', 'TOO_LONG9'], ['--file=A', '--file', 'B'], ['--file', 'A/B'], ['--file', '../A'], ['-file', 'A'], ['A.WK1'],
              ['--file', '--count'], ['--count', '--file=a b']]
 
+# files of sheets that were made for keys
+SHEETS = ['SHEET', *('SHEET%d' % number for number in range(2, 9))]
+
 
 class Typist:
     """Makes key lists, the words before them and the folder in which they are typed."""
@@ -40,8 +45,11 @@ class Typist:
         self.r = r
         self.texts = Texts(r, 3, 5, False, [], without=WITHOUT)
         self.menus = MenuKeys(self)
+        self.data, self.macros = DataKeys(self.menus), MacroKeys(self.menus)
         self.folder = self.some_files()
         self.menus.there = {name[:-4].encode() for name in self.folder if is_of_shelf(name)}
+        # the file that the run begins with, where keys were made for it, and whether a macro may run
+        self.opened, self.may_run = None, False
 
     def some_files(self):
         """What the folder holds, by its names: files, and None for a folder; a file in small letters is another one."""
@@ -162,18 +170,52 @@ class Typist:
     def other(self):
         """A key that recalculates, or is passed over somewhere."""
         r = self.r
-        return r.choice([b'{CALC}', b'{calc}', b'~', b'\n', b'{WINDOW}', b'{GRAPH}', b'{NAME}', b'{ABS}', b'{DEL}', b'{BS}', b'{ESC}', b'{BREAK}'])
+        return r.choice([b'{CALC}', b'{calc}', b'~', b'\n', b'{WINDOW}', b'{GRAPH}', b'{NAME}', b'{ABS}', b'{DEL}', b'{BS}', b'{ESC}', b'{BREAK}', b'{QUERY}', b'{TABLE}', b'{UNDO}'])
 
     def part(self):
         if self.r.randrange(5) < 2:
             return self.menus.part()
         many = [self.entry] * 4 + [self.arrow, self.moving, self.end, self.edited, self.faulty, self.pointed, self.goto, self.other]
-        return self.r.choice(many)()
+        return self.wrong() if self.r.randrange(60) == 0 else self.r.choice(many)()
+
+    def wrong(self):
+        """The key of macros where it mostly starts none."""
+        self.may_run = True
+        return self.macros.wrong()
+
+    def on_sheet(self, scene, name):
+        """A scene's keys, over the file that the run begins with, or behind those that retrieve or make its sheet."""
+        lines, keys = scene
+        if self.r.randrange(16) == 0:
+            return b'{BREAK}' + self.menus.done('we.yes') + self.data.typed_sheet(lines) + keys
+        self.folder[name + '.WK1'] = file_of(lines)
+        if self.opened is None and self.r.randrange(8):
+            self.opened = name
+            return keys
+        return b'{BREAK}' + self.menus.done('f.retrieve', name.encode()) + keys
+
+    def scenes(self):
+        """Keys of the commands below Data and of macros, over sheets of their own; a macro that may end the run comes last."""
+        r, out = self.r, b''
+        macros = r.choice([0, 1, 1, 2])
+        names = SHEETS[:r.choice([1, 3, 4, 5, 6, 8])]
+        for at, name in enumerate(names):
+            macro = r.randrange(2) < macros
+            self.may_run = self.may_run or macro
+            out += self.on_sheet(self.macros.macro(at + 1 == len(names)) if macro else self.data.scene(), name)
+        return out
+
+    def kept(self):
+        """The sheet is saved at the end, so that all of it is compared."""
+        return b'{BREAK}/FS' + self.r.choice([b'', b'{ESC}']) + b'LAST~'
 
     def keys(self):
         r = self.r
         parts = [self.part() for _ in range(r.choice([0, 1, 3, 8, 15, 30]))]
-        if r.randrange(2):
+        pick = r.randrange(9)
+        if pick < 6:
+            parts = [self.scenes()] + parts[:r.choice([0, 0, 1, 3])] + ([self.kept()] if r.randrange(3) else [])
+        elif pick == 6:
             parts.insert(0, self.menus.scene())
         if r.randrange(8) == 0:
             parts.insert(r.randrange(len(parts) + 1), self.menus.quit())
@@ -188,24 +230,31 @@ class Typist:
     def start(self):
         """The word for a start file: mostly one that is there."""
         r = self.r
-        name = r.choice(sorted(self.menus.there) if self.menus.there and r.randrange(8) else FILES)
+        name = self.opened.encode() if self.opened else r.choice(sorted(self.menus.there) if self.menus.there and r.randrange(8) else FILES)
         spelled = (r.choice(SPELLED) % (name if r.randrange(3) else name.lower())).decode()
         return r.choice([['--file', spelled], ['--file=' + spelled]])
 
-    def words(self):
-        """The program's words: mostly good ones, each at most once, in any order."""
+    def steps(self):
+        """The limit of steps, or none; a macro may run without an end."""
         r = self.r
-        if r.randrange(20) == 0:
+        if self.may_run:
+            return r.choice([r.randrange(1, 100), r.randrange(1, 800), 1500, 2000, 2000, 2500, 2500, 2500])
+        return r.choice([1, 2, 10, 50, 10000000]) if r.randrange(4 if self.opened is None else 30) == 0 else None
+
+    def words(self):
+        """The program's words for the keys that were made: mostly good ones, each at most once, in any order."""
+        r = self.r
+        if r.randrange(20 if self.opened is None else 60) == 0:
             return r.choice(BAD_WORDS)
         out = []
         if r.randrange(3) == 0:
             out.append(r.choice([['--show', 'last'], ['--show=pages'], ['--show', 'ansi']]))
-        if r.randrange(4) == 0:
-            steps = r.choice([1, 2, 10, 50, 10000000])
+        steps = self.steps()
+        if steps:
             out.append(r.choice([['--steps', '%d' % steps], ['--steps=%d' % steps]]))
         if r.randrange(2):
             out.append(['--count'])
-        if r.randrange(2 if self.menus.there else 16) == 0:
+        if self.opened or r.randrange(2 if self.menus.there else 16) == 0:
             out.append(self.start())
         r.shuffle(out)
         return sum(out, [])
@@ -320,7 +369,7 @@ def told(folder):
 def compared(program, seed, number):
     """A run: how many screens and files came of it, and what differs, or none."""
     typist = Typist(random.Random(f'{seed} run {number}'))
-    options, keys, folder = typist.words(), typist.keys(), typist.folder
+    keys, options, folder = typist.keys(), typist.words(), typist.folder
     wanted, screens = expected(options, keys, folder)
     written = sum(folder.get(name, b'') != held for name, held in wanted[3].items())
     why = difference(wanted, got(program, options, keys, folder))
