@@ -86,7 +86,8 @@ class DataKeys:
         (a, b), (c, d) = span
         if self.r.randrange(10):
             return span
-        return self.r.choice([((a, b), (c, b)), ((a, b), (a, d)), ((a, b), (min(c + 1, 255), d)), ((a, min(b + 1, d)), (c, d)), ((a, b), (c, max(b, d - 1))),
+        return self.r.choice([((a, b), (c, b)), ((a, b), (a, d)), ((a, b), (min(c + 1, 255), d)), ((a, min(b + 1, d)), (c, d)),
+                              ((a, b), (c, max(b, d - 1))),
                               ((c, b), (c, d))])
 
     # ------------------------------------------------------------ menus that come back
@@ -130,14 +131,17 @@ class DataKeys:
         """A cell of a span that gets other contents."""
         r = self.r
         cell = r.randrange(span[0][0], span[1][0] + 1), r.randrange(span[0][1], span[1][1] + 1)
-        return self.menus.at(cell_text(cell)) + self.typist.typed(r.choice([b'0', b'1', b'2', b"'fig", b"'Fig", b'@NA', b'@ERR', b'+A1', b"'f*"])) + b'~'
+        return self.menus.at(cell_text(cell)) + self.typist.typed(r.choice([b'0', b'1', b'2', b"'fig", b"'Fig", b'@NA', b'@ERR', b'+A1',
+                                                                            b"'f*"])) + b'~'
 
     # ------------------------------------------------------------ fill
     def filling(self):
         """Start, step and stop: some that belong together, and any."""
         r = self.r
-        together = [(b'1', b'1', b'8191'), (b'1', b'2', b'9'), (b'0', b'0.5', b'2.5'), (b'5', b'-1', b'0'), (b'3', b'-0.1', b'-8191'), (b'1', b'0', b'9'), (b'2', b'1', b'2'),
-                    (b'3', b'1', b'2'), (b'1', b'-1', b'2'), (b'999999999.999997', b'0.000001', b'999999999.999999'), (b'-1', b'-600000000', b'-999999999.999999')]
+        together = [(b'1', b'1', b'8191'), (b'1', b'2', b'9'), (b'0', b'0.5', b'2.5'), (b'5', b'-1', b'0'), (b'3', b'-0.1', b'-8191'),
+                    (b'1', b'0', b'9'), (b'2', b'1', b'2'),
+                    (b'3', b'1', b'2'), (b'1', b'-1', b'2'), (b'999999999.999997', b'0.000001', b'999999999.999999'),
+                    (b'-1', b'-600000000', b'-999999999.999999')]
         return [self.decimal(number) for number in r.choice(together)]
 
     def fill(self):
@@ -170,7 +174,8 @@ class DataKeys:
         cells = []
         for row in range(self.block_span[1][1] + 1):
             code = r.choice([b'-', b'-', b'2', b'113', b'130'])
-            cells += [b'A%d ' % (row + 1) + code + b' ' + r.choice(near), b'B%d - ' % (row + 1) + r.choice(near), b'C%d ' % (row + 1) + code + b' ' + r.choice([b'%d' % row, b'+A%d' % (row + 1)])]
+            cells += [b'A%d ' % (row + 1) + code + b' ' + r.choice(near), b'B%d - ' % (row + 1) + r.choice(near),
+                      b'C%d ' % (row + 1) + code + b' ' + r.choice([b'%d' % row, b'+A%d' % (row + 1)])]
         return [b':', b'x' + b'\t'.join(cell for cell in cells if not cell.endswith(b' '))]
 
     def key(self, span):
@@ -202,7 +207,8 @@ class DataKeys:
         for _ in range(r.randrange(1, 5)):
             anew = lambda: (self.chosen('ds', 'ds.reset') + self.opened('ds') + self.chosen('ds', 'ds.range', self.spelled(span))
                             + self.chosen('ds', 'ds.primary', self.key(span), self.order()))
-            again = [lambda: self.chosen('ds', 'ds.primary', self.key(span), self.order()), lambda: self.chosen('ds', 'ds.range', self.spelled(self.near(span))),
+            again = [lambda: self.chosen('ds', 'ds.primary', self.key(span), self.order()),
+                     lambda: self.chosen('ds', 'ds.range', self.spelled(self.near(span))),
                      anew, anew, anew, lambda: self.chosen('ds', 'ds.reset') + self.opened('ds'), lambda: self.sorting(self.near(span)), lambda: b'']
             keys += b'{BREAK}' + self.changed(self.block_span) + self.opened('ds') + r.choice(again)() + self.chosen('ds', 'ds.go')
         return lines, keys + self.seen(span[0], span[1])
@@ -223,7 +229,8 @@ class DataKeys:
         beside = min(bins[0][0] + 1, 255)
         keys = self.settings() + self.guarded([((beside, bins[0][1]), (beside, min(bins[1][1] + 1, 8191))), bins], 6)
         for _ in range(r.randrange(1, 4)):
-            keys += self.menus.done('d.distribution', self.spelled(values), self.spelled(bins)) + r.choice([b'', b'{ESC}', b'{ESC}' + self.changed(bins), b'{ESC}' + self.changed(values)])
+            keys += self.menus.done('d.distribution', self.spelled(values),
+                                    self.spelled(bins)) + r.choice([b'', b'{ESC}', b'{ESC}' + self.changed(bins), b'{ESC}' + self.changed(values)])
             values = self.near(self.block_span)
         return lines + [limits], keys + self.seen(bins[0], (beside, bins[0][1]), (beside, bins[1][1]))
 
@@ -261,8 +268,10 @@ class DataKeys:
         keys = self.settings() + guard + self.opened('dq') + ranges + self.taken() + b'{BREAK}'
         change = [lambda: self.changed(of.input), lambda: self.changed(of.criterion), lambda: b'{CALC}', self.menus.shifted,
                   lambda: self.opened('dq') + self.chosen('dq', 'dq.output', self.spelled(self.near(output))) + self.left(),
-                  lambda: self.opened('dq') + self.chosen('dq', 'dq.reset'), lambda: self.opened('dq') + self.chosen('dq', 'dq.reset') + self.opened('dq') + ranges + self.left()]
-        again = [lambda: self.opened('dq') + self.taken(), lambda: self.opened('dq') + self.taken(), lambda: b'{QUERY}', lambda: b'{QUERY}', lambda: b'{query}', lambda: b'{QUERY 2}',
+                  lambda: self.opened('dq') + self.chosen('dq', 'dq.reset'),
+                  lambda: self.opened('dq') + self.chosen('dq', 'dq.reset') + self.opened('dq') + ranges + self.left()]
+        again = [lambda: self.opened('dq') + self.taken(), lambda: self.opened('dq') + self.taken(), lambda: b'{QUERY}', lambda: b'{QUERY}',
+                 lambda: b'{query}', lambda: b'{QUERY 2}',
                  lambda: b'{EDIT}{QUERY}{ESC 2}', lambda: b'/{QUERY}{ESC}']
         for _ in range(r.randrange(4)):
             keys += r.choice(change)() + r.choice(again)() + r.choice([b'{ESC}', b'{BREAK}'])
@@ -274,14 +283,18 @@ class DataKeys:
         last = r.randrange(4, 10)
         values = r.choice([[b'1', b'2'], [b"'fig", b"'Fig", b'^fig'], [b'1', b"'1", b'', b'2'], [b'@NA', b'@ERR', b'+"1"', b"'1"]])
         cells = [b"A1 - 'N", b"B1 - 'W", b"D1 - 'n", b'D2 - ' + r.choice([b'', b'', b"'~x", b'1', b"'f*", b'@TRUE']), b"F1 - 'N", b"G1 - 'w"]
-        cells += [col + b'%d ' % row + r.choice([b'- ', b'- ', b'2 ', b'130 ']) + r.choice(values) for col in (b'A', b'B') for row in range(2, last + 1)]
+        cells += [col + b'%d ' % row + r.choice([b'- ', b'- ', b'2 ', b'130 ']) + r.choice(values) for col in (b'A', b'B') for row in range(2,
+                                                                                                                                            last + 1)]
         sheet = [b':', b'x' + b'\t'.join(cell for cell in cells if not cell.endswith(b' '))]
-        output = lambda: self.chosen('dq', 'dq.output', r.choice([b'F1..F%d', b'F1..F%d', b'F1..G%d']) % r.choice([2, 3, 4, 5, last - 1, last, last + 1]))
+        ends = lambda: r.choice([2, 3, 4, 5, last - 1, last, last + 1]) if r.randrange(5) else ONE_ROW
+        output = lambda: self.chosen('dq', 'dq.output', r.choice([b'F1..F%d', b'F1..F%d', b'F1..G%d']) % ends())
         asked = self.chosen('dq', 'dq.input', b'A1..B%d' % last) + self.chosen('dq', 'dq.criterion', b'D1..D2')
         keys = self.opened('dq') + asked + (output() if r.randrange(3) else b'') + self.taken()
         rows = ((0, 1), (1, last - 1))
-        part = [lambda: self.changed(rows) + b'{QUERY}', lambda: b'{QUERY}', lambda: self.opened('dq') + self.taken(), lambda: self.opened('dq') + output() + self.taken(),
-                lambda: self.opened('dq') + output() + self.chosen('dq', 'dq.unique'), lambda: self.opened('dq') + output() + self.chosen('dq', 'dq.extract')]
+        part = [lambda: self.changed(rows) + b'{QUERY}', lambda: b'{QUERY}', lambda: self.opened('dq') + self.taken(),
+                lambda: self.opened('dq') + output() + self.taken(),
+                lambda: self.opened('dq') + output() + self.chosen('dq', 'dq.unique'),
+                lambda: self.opened('dq') + output() + self.chosen('dq', 'dq.extract')]
         for _ in range(r.randrange(2, 6)):
             keys += b'{BREAK}' + self.seen((5, 1)) + r.choice(part)()
         return sheet, keys + self.seen((5, 1), (6, 2))
@@ -293,7 +306,8 @@ class DataKeys:
 
     def answer(self):
         """What a table asks for: formulas of its inputs, in circles and volatile ones too, or what is none."""
-        return self.r.choice([b'+A1*2', b'+A1+A2', b'+B1', b'@SUM(A1..B2)', b'+A1&"x"', b'@IF(A1>1,A2,@NA)', b'+C2+1', b'@@("A1")', b'@CELL("contents",A1)',
+        return self.r.choice([b'+A1*2', b'+A1+A2', b'+B1', b'@SUM(A1..B2)', b'+A1&"x"', b'@IF(A1>1,A2,@NA)', b'+C2+1', b'@@("A1")',
+                              b'@CELL("contents",A1)',
                               b'@CELLPOINTER("row")+A1', b'5', b"'label", b'', b'+B2', b'1/A1', b'@COUNT(A1..A2)', b'+E2', b'+F2+A1'])
 
     def table_sheet(self, span, two):
@@ -337,7 +351,9 @@ class DataKeys:
         r = self.r
         of = Queries(r)
         lines = of.sheet()
-        call = lambda: (b'@' + r.choice([b'DSUM', b'DCOUNT', b'DMIN', b'DMAX', b'DAVG']) + b'(' + span_text(of.input) + b',' + r.choice([b'0', b'1', b'2', b'A1', b'9'])
+        call = lambda: (b'@' + r.choice([b'DSUM', b'DCOUNT', b'DMIN', b'DMAX', b'DAVG']) + b'(' + span_text(of.input) + b',' + r.choice([b'0', b'1',
+                                                                                                                                         b'2', b'A1',
+                                                                                                                                         b'9'])
                         + b',' + span_text(of.criterion) + b')')
         cells = [(10, 0), (11, 0), (10, 1)]
         lines.append(b'x' + b'\t'.join(cell_text(cell) + b' - ' + call() for cell in cells))
@@ -353,19 +369,26 @@ class DataKeys:
         sheet = [b':', b"xA1 - 'N\tA2 - 1\tA3 - 2\tA4 - 3\tC1 - 'N\tC2 - +A2>1\tE1 - 'N\tE2 - 9\tB1 - 'X\tH8192 - 5\tG1 - 'NOBODY\tG2 - 1"]
         keys = self.guarded([((0, 0), (0, 3)), ((4, 0), (4, 1)), ((2, 0), (2, 1))], 2)
         ranges = [(b'A1..A4', b'C1..C2', b'E1..E2'), (b'A1..A4', b'C1..C2', b'G1..G2'), (b'A1..A4', b'G1..G2', b'G1'), (b'A1', b'G1..G2', b'E1..E2'),
-                  (b'A1..B4', b'C1..C2', b'E1..E3'), (b'A2..A4', b'G1..G2', b'G1'), (b'A1..A4', b'C1..C1', b'E1..E2'), (b'A1..A4', b'C1..C2', b'E1..E9'),
+                  (b'A1..B4', b'C1..C2', b'E1..E3'), (b'A2..A4', b'G1..G2', b'G1'), (b'A1..A4', b'C1..C1', b'E1..E2'),
+                  (b'A1..A4', b'C1..C2', b'E1..E9'),
                   (b'A1..A4', b'C1..C2', b'A1..A4')]
-        query = lambda given: opened('dq') + b''.join(chosen('dq', action, span) for action, span in zip(['dq.input', 'dq.criterion', 'dq.output'], given))
-        part = [('dq', lambda: query(r.choice(ranges)) + self.taken()), ('dq', lambda: query(r.choice(ranges)[:2]) + self.taken()), ('dq', lambda: b'{QUERY}'),
+        query = lambda given: opened('dq') + b''.join(chosen('dq', action, span) for action,
+                                                      span in zip(['dq.input', 'dq.criterion', 'dq.output'], given))
+        part = [('dq', lambda: query(r.choice(ranges)) + self.taken()), ('dq', lambda: query(r.choice(ranges)[:2]) + self.taken()),
+                ('dq', lambda: b'{QUERY}'),
                 ('dt', lambda: b'{TABLE}'),
-                ('dt', lambda: done('dt.1', *r.choice([(b'A1..A3', b'A1'), (b'A1..C1', b'A1'), (b'A1..B3', b'B3'), (b'E1..F3', b'A2'), (b'B2', b'B2')]))),
-                ('dt', lambda: done('dt.2', *r.choice([(b'A1..B3', b'C1', b'A2'), (b'A1..B3', b'A2', b'B1'), (b'A1..A9', b'A1', b'A1'), (b'E1..F3', b'C2', b'A1')]))),
+                ('dt', lambda: done('dt.1', *r.choice([(b'A1..A3', b'A1'), (b'A1..C1', b'A1'), (b'A1..B3', b'B3'), (b'E1..F3', b'A2'),
+                                                       (b'B2', b'B2')]))),
+                ('dt', lambda: done('dt.2', *r.choice([(b'A1..B3', b'C1', b'A2'), (b'A1..B3', b'A2', b'B1'), (b'A1..A9', b'A1', b'A1'),
+                                                       (b'E1..F3', b'C2', b'A1')]))),
                 ('ds', lambda: opened('ds') + chosen('ds', 'ds.go')),
-                ('ds', lambda: opened('ds') + chosen('ds', 'ds.range', b'A1..B4') + chosen('ds', 'ds.primary', self.key(((0, 0), (2, 0))), b'A') + chosen('ds', 'ds.go')),
+                ('ds', lambda: opened('ds') + chosen('ds', 'ds.range', b'A1..B4') + chosen('ds', 'ds.primary', self.key(((0, 0), (2, 0))),
+                                                                                           b'A') + chosen('ds', 'ds.go')),
                 ('ds', lambda: opened('ds') + chosen('ds', 'ds.primary', b'A1', b'D') + chosen('ds', 'ds.go')),
                 ('ds', lambda: opened('ds') + chosen('ds', 'ds.reset')), ('dq', lambda: opened('dq') + chosen('dq', 'dq.reset')),
                 ('d.fill', lambda: done('d.fill', b'A1..A4', b'1', r.choice([b'0', b'0', b'1']), b'9')),
-                ('d.distribution', lambda: done('d.distribution', b'A2..A4', r.choice([b'IV1..IV2', b'A8192', b'E8191..E8192', b'E1', b'E2..E2', b'IU1'])))]
+                ('d.distribution', lambda: done('d.distribution', b'A2..A4',
+                                                r.choice([b'IV1..IV2', b'A8192', b'E8191..E8192', b'E1', b'E2..E2', b'IU1'])))]
         part = [made for path, made in part if self.is_there(path)] or [lambda: b'']
         for _ in range(r.randrange(3, 9)):
             keys += r.choice(part)() + r.choice([b'{ESC 3}', b'{BREAK}', b'~{BREAK}'])
@@ -377,6 +400,7 @@ class DataKeys:
 
     def scene(self):
         """Any of these whose menus are shown."""
-        many = [('d.fill', self.fill), ('ds', self.sort), ('ds', self.sort), *[('d.distribution', self.distribution)] * 2, *[('dq', self.query)] * 3, *[('dq', self.few_records)] * 3,
+        many = [('d.fill', self.fill), ('ds', self.sort), ('ds', self.sort), *[('d.distribution', self.distribution)] * 2, *[('dq', self.query)] * 3,
+                *[('dq', self.few_records)] * 3,
                 *[('dt', self.table)] * 3, ('d', self.refused), ('d', self.refused)]
         return self.r.choice([made for path, made in many if self.is_there(path)] + [self.functions])()
