@@ -4,17 +4,21 @@ python3 -B -m oracle.make NAME [SEED [COUNT]], where `files` alone takes a count
 import random
 import sys
 
-from . import files
+from . import check_channel, check_reports, check_rooms, files
 from .answers import ANSWERS, leave_out
 from .cases import SEED, case
 
-ANSWERS = {**ANSWERS, 'files': files.answers}
+# the checking programs whose data and answers stand in modules of their own
+APART = {'channel': check_channel, 'reports': check_reports, 'rooms': check_rooms}
+ANSWERS = {**ANSWERS, 'files': files.answers, **{name: of.answers for name, of in APART.items()}}
 
 
 def made(name, seed=SEED, count=files.SHEETS):
     """The standard input of crates/check_NAME."""
     if name == 'files':
         return files.data(random.Random(f'{seed} {name}'), int(count))
+    if name in APART:
+        return APART[name].data(random.Random(f'{seed} {name}'))
     return case(name, seed)
 
 

@@ -1,0 +1,167 @@
+"""Reports of small worksheets: the data of check_reports, and what it must print. Its own text tells the lines."""
+from . import formula, report
+from .answers import lines_of, sum_of
+from .cases import TEXT_BYTES, worked
+from .dates import Moment
+from .sheet import Saved, State
+from .values import BLANK, C_BLANK, ERR, NA, num, string
+
+LAST_DAY = 73050
+
+
+# ---------------------------------------------------------------- what the program must print
+
+def bytes_of(word):
+    return bytes.fromhex(word.decode())
+
+
+class Desk:
+    """A worksheet, and what a line's words do with it."""
+
+    def __init__(self):
+        self.saved = Saved()
+
+    def clear(self, width, code):
+        self.saved = Saved()
+        self.saved.settings.width, self.saved.settings.format = int(width), int(code)
+
+    def name(self, name, *corners):
+        self.saved.names.create(bytes_of(name), span_of(corners))
+
+    def put(self, col, row, code, kind, *rest):
+        """A cell: `b` for blank, or a number, a label, or a formula with its value."""
+        cell = int(col), int(row)
+        if kind == b'b':
+            content, value = C_BLANK, BLANK
+        elif kind == b'n':
+            content, value = ('number', int(rest[0])), num(int(rest[0]))
+        elif kind == b'l':
+            text = bytes_of(rest[1])
+            content, value = ('label', int(rest[0]), text), string(text)
+        else:
+            content, value = ('formula', formula.read(bytes_of(rest[0]), cell, self.saved.names)), value_of(*rest[1:])
+        self.saved.cells[cell] = State(content, value, int(code))
+
+    def report(self, *words):
+        """The bytes of a report."""
+        day, left, right, top, bottom, length = (int(word) for word in words[4:10])
+        settings = report.PrintSettings(bytes_of(words[10]), bytes_of(words[11]), left, right, top, bottom, length)
+        return report.report(span_of(words[:4]), settings, self.saved, Moment(day or None, 0))
+
+    def told(self, is_whole, words):
+        """A report as it is printed: whole, or its length and its sum."""
+        try:
+            held = self.report(*words)
+        except report.PrintFault as fault:
+            return {'PageTooSmall': b'page too small', 'TooLong': b'too long'}[fault.kind]
+        return b'=' + held.hex().encode() if is_whole else b'%d %016x' % (len(held), sum_of(held))
+
+    def line(self, line):
+        """What a line comes to: a line of a report, or none."""
+        head, *words = line.split(b' ')
+        if head in (b'p', b'q'):
+            return self.told(head == b'q', words) + b'\n'
+        if head == b'n':
+            self.clear(*words)
+        elif head == b'w':
+            self.saved.widths[int(words[0])] = int(words[1])
+        elif head == b'h':
+            self.saved.hidden.add(int(words[0]))
+        elif head == b'm':
+            self.name(*words)
+        else:
+            self.put(*words)
+        return b''
+
+
+def span_of(corners):
+    (a, b), (c, d) = ((int(col), int(row)) for col, row in (corners[:2], corners[2:]))
+    return (min(a, c), min(b, d)), (max(a, c), max(b, d))
+
+
+def value_of(kind, held=b''):
+    """A formula's value."""
+    return {b'n': lambda: num(int(held)), b's': lambda: string(bytes_of(held)), b'e': lambda: ERR, b'a': lambda: NA}[kind]()
+
+
+def answers(data):
+    """The reports of worksheets."""
+    desk = Desk()
+    return b''.join(desk.line(line) for line in lines_of(data))
+
+
+# ---------------------------------------------------------------- the worksheets
+
+class Reports:
+    """Small worksheets, and reports of their ranges."""
+
+    CODES = [255, 255, 255, 0, 2, 34, 49, 66, 113, 114, 115, 116, 117, 118, 127, 130, 143, 241, 244]
+    FORMULAS = [b'+A1*2', b'@SUM(A1..B9)', b'+"text"', b'+TOTAL', b'@SUM(RATES)', b'+$B$2', b'@IF(A1>1,"yes",@NA)']
+
+    def __init__(self, r):
+        self.r = r
+
+    def sheet(self):
+        """A new worksheet: its width and format, names, own widths and hidden columns, and cells near one corner."""
+        r = self.r
+        self.left, self.top = r.choice([(0, 0), (0, 0), (0, 7), (3, 8180), (250, 8180)])
+        near = lambda: (self.left, self.top, min(self.left + 2, 255), min(self.top + 3, 8191))
+        out = [b'n %d %d' % (r.choice([9, 9, 9, 3, 1, 40, 155, 240]), r.choice([113, 113, 113, 2, 34, 114, 117, 118, 122])),
+               b'm %s %d %d %d %d' % (b'TOTAL'.hex().encode(), *near()[:2], *near()[:2]), b'm %s %d %d %d %d' % (b'RATES'.hex().encode(), *near())]
+        out += [b'w %d %d' % (self.col(), r.choice([1, 2, 3, 12, 20, 72, 73, 200, 240])) for _ in range(r.choice([0, 0, 1, 2, 3]))]
+        out += [b'h %d' % self.col() for _ in range(r.choice([0, 0, 1, 2]))]
+        cells = {(self.col(), min(self.top + r.randrange(12), 8191)) for _ in range(r.choice([0, 2, 6, 12, 16]))}
+        return out + [b'c %d %d %d ' % (*cell, r.choice(self.CODES)) + self.content() for cell in sorted(cells)]
+
+    def col(self):
+        return min(self.left + self.r.randrange(15), 255)
+
+    def text(self, sizes):
+        r = self.r
+        size = r.choice(sizes)
+        return bytes(r.choice(r.choice([TEXT_BYTES, b'abc ', b'abc ', b'x', b' '])) for _ in range(size))
+
+    def content(self):
+        r = self.r
+        number = lambda: r.choice([r.randrange(-9, 999) * 1000000, 500000, 1, 0, -1, r.randrange(-10 ** 15 + 1, 10 ** 15), 31929000000,
+                                   173467103265053])
+        label = lambda: b'l %d ' % r.choice(b"'\"^\\|") + self.text([0, 1, 2, 5, 12, 20, 30, 60, 240]).hex().encode()
+        value = lambda: r.choice([lambda: b'n %d' % number(), lambda: b's ' + self.text([0, 3, 9, 30]).hex().encode(), lambda: b'e', lambda: b'a'])()
+        spelled = lambda: b'f ' + r.choice(self.FORMULAS).hex().encode() + b' ' + value()
+        return r.choice([label, label, label, lambda: b'n %d' % number(), lambda: b'n %d' % number(), spelled, spelled, lambda: b'b'])()
+
+    def running(self):
+        """A header or a footer."""
+        r = self.r
+        if r.randrange(3):
+            return r.choice([b'', b'', b'#', b'|#', b'@|Report|page #', b'|@', b'a|b|c|d', b'##|@@', b'|#|', self.text([1, 20, 240])])
+        return bytes(r.choice(b'ab |#@') for _ in range(r.choice([3, 30, 100, 240])))
+
+    def asked(self, call):
+        """A report of a part of the worksheet, by its length and sum or whole: pages of few lines mostly, and seldom one too small."""
+        r = self.r
+        first = self.col(), min(self.top + r.randrange(4), 8191)
+        last = min(first[0] + r.choice([0, 1, 4, 9, 14]), 255), min(first[1] + r.choice([0, 1, 5, 11, 30]), 8191)
+        left = r.choice([0, 0, 4, 10, 76, 190])
+        right = left + r.choice([-1, 0, 1, 9, 20, 38, 72, 72, 72, 50])
+        top, bottom = r.choice([0, 0, 1, 2, 5, 10]), r.choice([0, 1, 2, 10])
+        length = r.choice([top + bottom + 6, top + bottom + 7, top + bottom + 7, top + bottom + 8, top + bottom + 12, 66, 66, 100])
+        day = r.choice([0, 1, 60, 31929, LAST_DAY])
+        words = (*first, *last, day, left, min(max(right, 0), 240), top, bottom, max(10, length))
+        return call + b''.join(b' %d' % word for word in words) + b''.join(b' ' + self.running().hex().encode() for _ in range(2))
+
+    def reports(self, count):
+        """So many reports, each of a worksheet of its own, or some of one; one in forty is printed whole."""
+        out = []
+        for number in range(count):
+            out += (self.sheet() if not out or self.r.randrange(5) else []) + [self.asked(b'p' if number % 40 else b'q')]
+        return out
+
+
+# a worksheet without cells, and reports of it that hold the most bytes that a file may, and more
+MOST = [b'n 9 113', b'p 0 0 63 8191 0 0 1 28 29 64  ', b'p 0 0 63 8191 0 0 1 28 29 64 78 ']
+
+
+def data(r):
+    """The worked lines, 1,000 reports of random worksheets, and those at the most bytes."""
+    return worked('reports') + b''.join(line + b'\n' for line in Reports(r).reports(1000) + MOST)
