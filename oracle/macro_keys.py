@@ -134,19 +134,22 @@ class Programs:
                 b'E1': r.choice([b'{LET A2,2}', b'abcd', b'{LET A1,A1+1}'])}
 
     def called(self):
-        """Calls with arguments that DEFINE puts, deep or not."""
+        """Calls with arguments that DEFINE puts, one within another, and callers that are forgotten."""
         r = self.r
         items = [b'5', b'A1+2', b'"x,y"', b'text', b'@SUM(A1,B1)', b'', b'+"a"', b'1/0', b'(1,2)', b'B1']
         many = r.randrange(1, 4)
-        given = r.choice([b',', b';']).join(r.choice(items) for _ in range(many))
-        places = b','.join(r.choice([b'B%d', b'B%d', b'C%d']) % (at + 1) + r.choice([b'', b':value', b':string', b':VALUE',
-                                                                                     b':String']) for at in range(many if r.randrange(8) else many + 1))
-        body = r.choice([b'{LET A2,B1+B2}', b'{RETURN}x', b'{RESTART}', b'{SUB2 7}', b'{QUIT}', b'', b'{IF B1<3}{SUB 9}', b'{DEFINE C3}', b'/XR',
-                         b'{LET A1,A1+1}{IF A1<' + r.choice([b'3', b'40', b'31', b'32']) + b'}{SUB ' + given + b'}'])
-        return {b'D1': r.choice([b'{SUB ' + given + b'}', b'{sub ' + given + b'}{SUB ' + given + b'}', b'{SUB}', b'/XCE1~', b'{FOR A2,1,2,1,SUB}',
-                                 b'{SUB2 ' + given + b'}']) + r.choice([b'{LET C1,"back"}', b'y~', b'']),
-                b'E1': r.choice([b'{DEFINE ' + places + b'}' + body, body, b'{LET D1,"{SUB 8,9}"}{DEFINE ' + places + b'}']),
-                b'F1': b'{DEFINE C2:value}{LET C3,C2*2}', b'E2': r.choice([b'', b'{LET B3,B3+1}'])}
+        given = b' ' + r.choice([b',', b';']).join(r.choice(items) for _ in range(many)) + b'}'
+        place = lambda at: r.choice([b'B%d', b'B%d', b'C%d']) % (at + 1) + r.choice([b'', b':value', b':string', b':VALUE', b':String'])
+        define = b'{DEFINE ' + b','.join(place(at) for at in range(many if r.randrange(8) else many + 1)) + b'}'
+        again = b'{LET A1,A1+1}{IF A1<' + r.choice([b'3', b'40', b'31', b'32']) + b'}{SUB' + given
+        body = r.choice([b'{LET A2,B1+B2}', b'{RETURN}x', b'{RESTART}', b'{SUB2 7}', b'{SUB2 7}', b'{SUB2 A1}{LET C2,1}', b'{QUIT}', b'',
+                         b'{IF B1<3}{SUB 9}', b'{DEFINE C3}', b'/XR', again])
+        start = r.choice([b'{SUB' + given, b'{SUB' + given, b'{sub' + given + b'{SUB' + given, b'{SUB}', b'/XCE1~', b'{FOR A2,1,2,1,SUB}',
+                          b'{SUB2' + given])
+        return {b'D1': start + r.choice([b'{LET C1,"back"}', b'y~', b'']),
+                b'E1': r.choice([define + body, define + body, body, b'{LET D1,"{SUB 8,9}"}' + define]), b'E2': r.choice([b'', b'{LET B3,B3+1}']),
+                b'F1': r.choice([b'{DEFINE C2:value}{LET C3,C2*2}', b'{DEFINE C2}', b'{RESTART}{LET C3,1}', b'{RESTART}x~', b'{RETURN}', b'{QUIT}',
+                                 b'{FORBREAK}'])}
 
     def failing(self):
         """Commands that fail, caught once or not, with the message put or not."""
@@ -197,7 +200,8 @@ class Programs:
     def argued(self):
         """Words with arguments of every kind that they take, and at the bounds."""
         r = self.r
-        plain = lambda: r.choice([b'A1+1', b'5', b'"a,b"', b'@NA', b'@ERR', b'1/0', b'A2', b'B1', b'foo', b'@SUM(A1,B1)', b'"x"', b'', b'1000000000', b' 5',
+        plain = lambda: r.choice([b'A1+1', b'5', b'"a,b"', b'@NA', b'@ERR', b'1/0', b'A2', b'B1', b'foo', b'@SUM(A1,B1)', b'"x"', b'', b'1000000000',
+                                  b' 5',
                                   b'(1;2)', b'7:value', b'+"t"', b'@CELLPOINTER("row")', b'@CELL("type",A1)', b'COUNT', b'$COUNT', b'-1'])
         value = lambda: plain() + r.choice([b'', b'', b'', b':value', b':VALUE', b':string', b':STRING', b':Value', b':String'])
         place = lambda: r.choice([b'A1', b'A2', b'B1', b'COUNT', b'c1', b'TABLE', b'B3', b'C3'])
@@ -218,17 +222,19 @@ class Programs:
         return {**cells, b'E1': b'{DEFINE ' + first + b',' + second + b'}', b'C9': r.choice([b'D2', b'd3', b'SUB', b'COUNT', b'NONE', b''])}
 
     def reckoned(self):
-        """Manual, circles and passes over a range."""
+        """Manual, circles, and passes over a range by rows or by columns, whose formulas read each other both ways."""
         r = self.r
-        word = r.choice([b'{RECALC ', b'{RECALCCOL ', b'{recalc '])
-        rest = r.choice([b'A1..C3', b'TABLE', b'B1', b'A2..A3', b'B1..B3']) + r.choice([b'', b'', b',B1>9', b',@TRUE', b',B1>9,3', b',0,5',
-                                                                                        b',A1>3,50', b',@NA,2', b',"x"', b',B2,2.9'])
-        return {b'D1': r.choice([b'/WGRM', b'', b'{LET A1,A1+1}']) + word + rest + b'}' + r.choice([b'', b'{LET A1,A1+1}', b'{CALC}',
-                                                                                                    word + b'B1..B3}']),
-                                                                                                    b'D2': r.choice([b'{IF B1<20}{BRANCH D1}', b'',
-                                                                                                                     b'{LET C1,B1}']),
-                b'B1': r.choice([b'+B1+1', b'+A1*2', b'+B2+1', b'+C2']), b'B2': r.choice([b'+B1+A1', b'+B3', b'1', b'@CELLPOINTER("row")']),
-                b'B3': r.choice([b'+B2+B1', b'+A1', b'@SUM(B1..B2)']), b'C2': r.choice([b'+A1+1', b'@@("B1")'])}
+        word = lambda: r.choice([b'{RECALC ', b'{RECALCCOL ', b'{recalc ', b'{RecalcCol ']) + r.choice([b'A1..C3', b'TABLE', b'B1', b'A2..A3',
+                                                                                                        b'B1..B3', b'C3.A1'])
+        until = lambda: r.choice([b'', b'', b'', b',B1>9', b',@TRUE', b',B1>9,3', b',0', b',0', b',B1<0', b',0,5', b',A1>3,50', b',@NA,2', b',"x"',
+                                  b',B2,2.9', b',0,0', b',0,0.9', b',0,51', b',0,50.9', b',0,-1'])
+        behind = r.choice([b'', b'{LET A1,A1+1}' + word() + b'}', b'{CALC}', word() + until() + b'}'])
+        return {b'D1': r.choice([b'/WGRM', b'/WGRM', b'']) + b'{LET A1,A1+1}' + word() + until() + b'}' + behind,
+                b'D2': r.choice([b'{IF B1<20}{BRANCH D1}', b'', b'{LET C1,B1}']),
+                b'A3': r.choice([b'+B2*2', b'+C1+B1', b'+A1']), b'B1': r.choice([b'+B1+1', b'+A1*2', b'+B2+1', b'+C2', b'+A3+1']),
+                b'B2': r.choice([b'+B1+A1', b'+C1*2', b'+C1+A3', b'@CELLPOINTER("row")']),
+                b'B3': r.choice([b'+B2+B1', b'+C2', b'@SUM(B1..B2)', b'+A1']),
+                b'C1': r.choice([b'+A1+1', b'+A3*2', b'+B3+1']), b'C2': r.choice([b'+A1+1', b'@@("B1")', b'+C1+B3'])}
 
     def typed(self):
         """Keys for every room, often unfinished where the macro ends."""
@@ -265,7 +271,7 @@ class Programs:
         many = [self.counted, self.looped, self.looped, self.rewritten, self.rewritten, self.formulas, self.formulas, self.called, self.called,
                 self.failing, self.failing, self.failing,
                 self.faulty, self.faulty, self.faulty, self.deep, self.deep, self.repeated, self.repeated, self.argued, self.argued, self.argued,
-                self.reckoned, self.typed, self.typed, self.moved, self.moved]
+                self.reckoned, self.reckoned, self.typed, self.typed, self.moved, self.moved]
         made = r.choice(many + [self.ended] * 2 + [self.endless] if last else many)()
         for cell in (b'A1', b'A2', b'B1', b'B2', b'C3', b'A3'):
             if cell not in made and r.randrange(2):
