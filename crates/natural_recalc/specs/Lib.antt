@@ -2,4 +2,5 @@ pub mod InOrder
 pub mod Laws
 pub mod Passes
 pub mod Reading
+pub mod Spans
 pub mod World

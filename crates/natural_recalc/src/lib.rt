@@ -10,6 +10,7 @@ mod leave;
 mod missing;
 mod reads;
 mod recalculation;
+mod span;
 mod view;
 mod whole;
 
@@ -18,5 +19,6 @@ pub use evaluate::evaluate_at;
 pub use laws::{any_order_serves, edit_keeps_sound, pass_is_cut, recalculation_is_cut};
 pub use missing::Missing;
 pub use recalculation::{Circ, recalc};
+pub use span::recalc_span;
 pub use view::View;
 pub use whole::{all_dirty, graph_of};

@@ -6,5 +6,6 @@ pub mod Kept
 pub mod Lines
 pub mod Seen
 pub mod Sheets
+pub mod Spans
 pub mod Typed
 pub mod Work

@@ -21,6 +21,7 @@ ghost use Rattle.work_sheet.specs.Doing.{context_in, put, recalculated, with_con
 ghost use Rattle.work_sheet.specs.Editing.{all_written, copied, erased, reformatted, reordered, restored, shifted, with_hidden, with_names, with_settings, with_width};
 ghost use Rattle.work_sheet.specs.Kept.{put_back, sheet_of};
 ghost use Rattle.work_sheet.specs.Seen.{fresh_sheet, of_worksheet};
+ghost use Rattle.work_sheet.specs.Spans.{span_recalculated};
 ghost use Rattle.work_sheet.specs.Sheets.{value_told, AllDirtyIn, IsFaultOf, IsRefusedBy, SameBeside, Worksheet};
 ghost use Rattle.sheet_edits.specs.Spans.{changed, rule_of, target_of, with_code, with_mark, written_cells, AreSound, Becomes, HasCode, IsAnswered};
 ghost use Rattle.work_sheet.specs.Typed.{typed};
@@ -34,7 +35,8 @@ use grid_address::{Cell, CellList, Format, Span};
 use indexmap::IndexSet;
 use lics_text::{Line, Memory};
 use natural_recalc::{
-    Missing, View, all_dirty, content_of, format_of, graph_of, recalc, value_of, width_of,
+    Missing, View, all_dirty, content_of, format_of, graph_of, recalc, recalc_span, value_of,
+    width_of,
 };
 use range_names::{NameFault, Names};
 use sheet_edits::{
@@ -576,6 +578,34 @@ impl<E: Means> SheetOf<E> {
         let _ = self.dirty.len();
         self.circular = circ.0;
         self.stale = false;
+        Ok(())
+    }
+
+    /// Evaluates each formula of a span once over the values as they then stand, by column and then by row or by row and
+    /// then by column. Formulas that aren't dirty have their meaning already, so only the dirty ones are evaluated;
+    /// these stay dirty, and the circle and the mark of a change stay. (Release 2 manual for the two orders.)
+    pub fn recalc_span(
+        &mut self,
+        span: Span,
+        by_columns: bool,
+        scene: &Scene,
+        tally: &mut E,
+    ) -> Result<(), Memory>
+        ensures did { OnOk result (Did (span_recalculated E.meaning scene.entry.now span by_columns (of_worksheet self.old)) self.old self.new (E.count tally.old) (E.count tally.new)) }
+        ensures contents { SameContents self.old.grid self.new.grid }
+        ensures err { OnErr result (self.new ≡ record self.old { grid = self.new.grid }) }
+    {
+        let settings = self.settings;
+        recalc_span(
+            &mut self.store,
+            &self.dirty,
+            span,
+            by_columns,
+            &self.names,
+            &settings,
+            scene,
+            tally,
+        )?;
         Ok(())
     }
 }
