@@ -1,8 +1,7 @@
 // Macros carried out, unit by unit.
 use crate::desk::{SCENE, Stop};
 use crate::show::{
-    show_cause, show_fault, show_handler, show_key, show_place, show_protected, show_span,
-    show_writes, written,
+    show_fault, show_handler, show_key, show_place, show_protected, show_span, show_writes, written,
 };
 use formula_eval::{Tally, glance};
 use formula_tree::Value;
@@ -139,8 +138,8 @@ fn rowed<W: Write>(
 ) -> Result<Going, Stop> {
     match row {
         Ok(deed) => carried(sheet, running, deed, out),
-        Err(cause) => {
-            show_cause(cause, cell, out)?;
+        Err(fault) => {
+            show_fault(fault, cell, out)?;
             Ok(Going::Ended)
         }
     }
@@ -196,7 +195,8 @@ fn step<W: Write>(
             command(alloc, sheet, running, at, out)
         }
         Unit::Fault(fault) => {
-            show_fault(fault, out)?;
+            let cell = cell_of(running);
+            show_fault(fault, cell, out)?;
             Ok(Going::Ended)
         }
     }

@@ -6,7 +6,7 @@ use grid_address::{Cell, Format, Span, cell_text};
 use key_words::Key;
 use lics_text::Line;
 use macro_text::{MacroFault, Spot};
-use macro_words::{Cause, Frame, Handler, Running};
+use macro_words::{Frame, Handler, Running};
 use range_names::Names;
 use sheet_store::{Write as Entry, Writes};
 use std::io::{Error, Write};
@@ -165,22 +165,13 @@ fn show_named<W: Write>(name: &str, cell: Cell, out: &mut W) -> Result<(), Stop>
     show_cell(cell, out)
 }
 
-/// Why a word in a cell is a fault.
-pub fn show_cause<W: Write>(cause: Cause, cell: Cell, out: &mut W) -> Result<(), Stop> {
-    match cause {
-        Cause::BadArgument => show_named("BadArgument", cell, out),
-        Cause::NotText => show_named("NotText", cell, out),
-        Cause::TooDeep => show_named("TooDeep", cell, out),
-    }
-}
-
-/// A fault of a unit.
-pub fn show_fault<W: Write>(fault: MacroFault, out: &mut W) -> Result<(), Stop> {
+/// Why the word in a cell is a fault.
+pub fn show_fault<W: Write>(fault: MacroFault, cell: Cell, out: &mut W) -> Result<(), Stop> {
     match fault {
-        MacroFault::NoSuchMacro => written(out.write_all(b"?NoSuchMacro")),
-        MacroFault::TooDeep(at) => show_named("TooDeep", at.cell, out),
-        MacroFault::UnknownWord(at) => show_named("UnknownWord", at.cell, out),
-        MacroFault::BadArgument(at) => show_named("BadArgument", at.cell, out),
-        MacroFault::NotText(at) => show_named("NotText", at.cell, out),
+        MacroFault::NoSuchMacro => show_named("NoSuchMacro", cell, out),
+        MacroFault::TooDeep => show_named("TooDeep", cell, out),
+        MacroFault::UnknownWord => show_named("UnknownWord", cell, out),
+        MacroFault::BadArgument => show_named("BadArgument", cell, out),
+        MacroFault::NotText => show_named("NotText", cell, out),
     }
 }

@@ -72,7 +72,7 @@ is_known _ = false
 
 -- a word that is none
 abbrev pub unknown : Position → Next
-unknown p = (unit.Fault (fault.UnknownWord p.spot), p)
+unknown p = (unit.Fault fault.UnknownWord, p)
 
 -- a command, or a call: its word stands at the place
 abbrev pub carried : ℕ → Position → Next
@@ -94,7 +94,7 @@ is_left (Some n) typed = nat_lt typed n
 
 -- A repeated key is typed once more, or passed where it was typed as often as it is to be: a number, cut toward zero.
 abbrev pub repeated_turn : Key → Option ℤ → ℕ → Position → Turn
-repeated_turn k None end p = Now (unit.Fault (fault.BadArgument p.spot)) p
+repeated_turn k None end p = Now (unit.Fault fault.BadArgument) p
 repeated_turn k (Some n) end p =
     if is_left (count_of n) p.typed then Now (unit.Key k) (record p { typed = p.typed + 1 }) else Passed (behind end p)
 

@@ -16,19 +16,19 @@ use lics_text::Memory;
 use range_names::Names;
 use std::alloc::Global;
 
-/// Why a macro stops with an error. The place is that of the word at fault.
+/// Why a macro stops with an error.
 #[derive(Clone, Copy, Debug, PartialEq, Eq)]
 pub enum MacroFault {
     /// No name is a backslash and the letter that was given with Alt.
     NoSuchMacro,
     /// A call, or a loop that calls, inside 31 others.
-    TooDeep(Spot),
+    TooDeep,
     /// A word that is neither a key nor a command nor a name of a range, or that isn't whole.
-    UnknownWord(Spot),
+    UnknownWord,
     /// An argument that isn't of its kind, or a wrong number of arguments.
-    BadArgument(Spot),
+    BadArgument,
     /// A cell that should hold a text, or a label, and doesn't.
-    NotText(Spot),
+    NotText,
 }
 
 /// What a macro does next.
@@ -42,7 +42,7 @@ pub enum Unit {
     Down,
     /// It returns to its caller, or stops where it has none.
     Return,
-    /// It stops with an error.
+    /// It stops with an error, by the word at its place.
     Fault(MacroFault),
 }
 
@@ -114,10 +114,7 @@ pub fn is_known(command: Command) -> bool
 fn unknown(position: &Position) -> Turn
     ensures { result ≡ spec.now (spec.unknown position.now) }
 {
-    Turn::Now(
-        Unit::Fault(MacroFault::UnknownWord(position.spot)),
-        *position,
-    )
+    Turn::Now(Unit::Fault(MacroFault::UnknownWord), *position)
 }
 
 // A command, or a call.
@@ -163,10 +160,7 @@ fn repeated_turn(key: Key, number: Option<Fixed>, end: usize, position: &Positio
     ensures { result ≡ spec.repeated_turn key number end position.now }
 {
     let Some(number) = number else {
-        return Turn::Now(
-            Unit::Fault(MacroFault::BadArgument(position.spot)),
-            *position,
-        );
+        return Turn::Now(Unit::Fault(MacroFault::BadArgument), *position);
     };
     if is_left(count_of(number), position.typed) {
         let next = Position {

@@ -25,8 +25,6 @@ use Rattle.macro_words.specs.Values.{as_string, as_value, ends_in, label, let_va
 use Rattle.macro_words.specs.declared.frames.Frame.{Frame}
 use Rattle.macro_words.specs.declared.frames.Frame.TheVariants as frame
 use Rattle.macro_words.specs.declared.frames.Loop.{Loop}
-use Rattle.macro_words.specs.declared.running.Cause.{Cause}
-use Rattle.macro_words.specs.declared.running.Cause.TheVariants.{BadArgument, NotText, TooDeep}
 use Rattle.macro_words.specs.declared.running.Change.TheVariants as change
 use Rattle.macro_words.specs.declared.running.Deed.{Deed}
 use Rattle.macro_words.specs.declared.running.Move.{Move}
@@ -39,10 +37,12 @@ use Rattle.macro_text.specs.Ranges.{place_of, range_of}
 use Rattle.macro_text.specs.Texts.{macro_text, part}
 use Rattle.macro_text.specs.Units.{start_of}
 use Rattle.macro_text.specs.declared.position.Spot.{Spot}
+use Rattle.macro_text.specs.declared.unit.MacroFault.{MacroFault}
+use Rattle.macro_text.specs.declared.unit.MacroFault.TheVariants.{BadArgument, NotText, TooDeep}
 
 -- what a word does, or why it is a fault
 abbrev pub Row : Type 0
-Row = Result Deed Cause
+Row = Result Deed MacroFault
 
 -- an argument isn't of its kind, or their number is wrong
 abbrev pub bad : Row

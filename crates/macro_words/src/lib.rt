@@ -15,6 +15,6 @@ mod writing;
 pub use frames::{Frame, Frames, Loop};
 pub use going::start_of;
 pub use looping::return_row;
-pub use rows::moves;
-pub use running::{Cause, Change, Deed, Handler, Move, Row, Running, Sweep};
+pub use rows::{is_true, moves};
+pub use running::{Change, Deed, Handler, Move, Row, Running, Sweep};
 pub use table::row;

@@ -9,12 +9,12 @@ ghost use Rattle.macro_words.specs.declared.frames.Frame.TheVariants as frame;
 use crate::going::start_of;
 use crate::rows::{bad, has_room, moves};
 use crate::values::{puts_one, puts_value};
-use crate::{Cause, Frame, Loop, Move, Row, Running};
+use crate::{Frame, Loop, Move, Row, Running};
 use fixed_value::Fixed;
 use formula_eval::{Look, Scene};
 use formula_tree::{Content, Op, Value};
 use lics_text::Memory;
-use macro_text::{Spot, TextList, number_of, place_of};
+use macro_text::{MacroFault, Spot, TextList, number_of, place_of};
 use std::alloc::Global;
 use value_functions::binary;
 
@@ -110,7 +110,7 @@ fn begins(alloc: Global, running: &Running, first: Fixed, begun: Loop) -> Result
         return puts_one(alloc, counter, Content::Number(first), Move::Stay);
     }
     if !has_room(running) {
-        return Ok(Err(Cause::TooDeep));
+        return Ok(Err(MacroFault::TooDeep));
     }
     puts_one(alloc, counter, Content::Number(first), Move::Begin(begun))
 }

@@ -5,12 +5,12 @@ ghost use Rattle.macro_words.specs.Moves as moving;
 ghost use Rattle.macro_words.specs.Rows as spec;
 
 use crate::going::start_of;
-use crate::{Cause, Change, Deed, Handler, Move, Row, Running};
+use crate::{Change, Deed, Handler, Move, Row, Running};
 use formula_eval::{Look, Scene};
 use formula_tree::Value;
 use grid_address::{Cell, Span};
 use lics_text::Memory;
-use macro_text::{Spot, TextList, expression_value, place_of};
+use macro_text::{MacroFault, Spot, TextList, expression_value, place_of};
 use std::alloc::Global;
 use value_functions::text_in;
 
@@ -18,7 +18,7 @@ use value_functions::text_in;
 pub fn bad() -> Row
     ensures { result ≡ spec.bad }
 {
-    Err(Cause::BadArgument)
+    Err(MacroFault::BadArgument)
 }
 
 /// The sheet stays as it is.
@@ -56,7 +56,7 @@ pub fn dispatch_row<K: Look>(look: &K, scene: &Scene, args: &TextList) -> Row
         return bad();
     };
     let Some(text) = text_in(look.value(cell)) else {
-        return Err(Cause::NotText);
+        return Err(MacroFault::NotText);
     };
     match place_of(look.names(), text.bytes()) {
         Some(cell) => goes(cell),
@@ -81,7 +81,7 @@ pub fn calls(running: &Running, at: &Spot, cell: Cell) -> Row
     if has_room(running) {
         moves(Move::Call(*at, start_of(cell)))
     } else {
-        Err(Cause::TooDeep)
+        Err(MacroFault::TooDeep)
     }
 }
 
@@ -118,8 +118,8 @@ fn below(cell: Cell) -> Spot
     }
 }
 
-// Whether a value is a number other than 0.
-fn is_true(value: &Value) -> bool
+/// Whether a value is a number other than 0.
+pub fn is_true(value: &Value) -> bool
     ensures { result ≡ spec.is_true value.now }
 {
     match value {

@@ -3,7 +3,7 @@
 use crate::{Frames, Loop};
 use formula_tree::Formula;
 use grid_address::{Cell, Span};
-use macro_text::{Position, Spot};
+use macro_text::{MacroFault, Position, Spot};
 use sheet_store::Writes;
 
 /// Where a macro goes on after an error, and the cell that takes its message.
@@ -72,16 +72,5 @@ pub struct Deed {
     pub after: Move,
 }
 
-/// Why a word is a fault, which changes nothing.
-#[derive(Clone, Copy, Debug, PartialEq, Eq)]
-pub enum Cause {
-    /// An argument isn't of its kind, or their number is wrong.
-    BadArgument,
-    /// A cell holds no text.
-    NotText,
-    /// There are 31 calls and loops already.
-    TooDeep,
-}
-
-/// What a word does, or why it is a fault.
-pub type Row = Result<Deed, Cause>;
+/// What a word does, or why it is a fault, which changes nothing.
+pub type Row = Result<Deed, MacroFault>;

@@ -1,0 +1,4 @@
+pub mod Carried
+pub mod Catching
+pub mod Changes
+pub mod Steps

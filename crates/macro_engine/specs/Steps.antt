@@ -1,0 +1,97 @@
+-- One step of a macro: its next unit, carried out over the sheet.
+use Rattle.std.specs.Prelude.{◌≡◌, ℕ, [], ◌∷◌, Option, None, Some, Ok, Err}
+use Rattle.formula_eval.specs.declared.look.Scene.{Scene}
+use Rattle.formula_text.specs.Words.{named_span}
+use Rattle.grid_address.specs.Place.{Extent, Place}
+use Rattle.macro_text.specs.Units.{next_unit, Next}
+use Rattle.macro_text.specs.declared.position.Position.{Position}
+use Rattle.macro_text.specs.declared.unit.MacroFault.{MacroFault}
+use Rattle.macro_text.specs.declared.unit.Unit.{Unit}
+use Rattle.macro_text.specs.declared.unit.Unit.TheVariants as unit
+use Rattle.macro_words.specs.Moves.{moved}
+use Rattle.macro_words.specs.Rows.{return_row, row, Row}
+use Rattle.macro_words.specs.declared.running.Deed.{Deed}
+use Rattle.macro_words.specs.declared.running.Running.{Running}
+use Rattle.range_names.specs.Names.{NameMap}
+use Rattle.work_sheet.specs.Did.{Did}
+use Rattle.work_sheet.specs.Doing.{quiet, Done}
+use Rattle.work_sheet.specs.Seen.{Sheet}
+use Rattle.work_sheet.specs.Sheets.{Worksheet}
+use Rattle.macro_engine.specs.Changes.{changed, changed_cells, first_protected, world_in}
+use Rattle.macro_engine.specs.declared.steps.StepEnd.{StepEnd}
+use Rattle.macro_engine.specs.declared.steps.StepEnd.TheVariants.{Faulty, Refused, Types, Works}
+
+-- what a step came to, the macro behind it, which stopped where there is none, and what was done to the sheet
+pub record MacroStep : Type 0 where
+  pub end : StepEnd
+  pub running : Option Running
+  pub done : Done
+
+-- a fault stops the macro, and changes nothing; its cell is that of the word
+abbrev pub faulty : MacroFault → Place → Sheet → MacroStep
+faulty f c s = record { end = Faulty f c; running = None; done = quiet s }
+
+-- the sheet stays, and so does the macro
+abbrev pub idle : StepEnd → Running → Sheet → MacroStep
+idle end r s = record { end = end; running = Some r; done = quiet s }
+
+-- a protected cell refuses what was to be written, and the macro stays
+abbrev pub unless_protected : Option Place → MacroStep → Running → Sheet → MacroStep
+unless_protected None step r s = step
+unless_protected (Some c) step r s = idle (Refused c) r s
+
+-- a word changes the sheet, and moves the macro
+abbrev pub deed_step : Scene → Running → Deed → Sheet → MacroStep
+deed_step scene r d s = unless_protected (first_protected s (changed_cells d.change))
+    (record { end = Works; running = moved d.after r; done = changed scene d.change s }) r s
+
+-- what the word in a cell does, or its fault
+abbrev pub row_step : Scene → Running → Place → Row → Sheet → MacroStep
+row_step scene r c (Ok d) s = deed_step scene r d s
+row_step scene r c (Err f) s = faulty f c s
+
+-- the cell in which a macro is read
+abbrev pub cell_of : Running → Place
+cell_of r = r.position.spot.cell
+
+-- the format of a sheet
+abbrev pub format_in : Sheet → ℕ
+format_in s = s.settings.format
+
+-- A unit of a macro, which stands behind it already. A key is typed, and changes nothing itself.
+abbrev pub unit_step : Scene → Running → Unit → Sheet → MacroStep
+unit_step scene r (unit.Key k) s = idle (Types k) r s
+unit_step scene r (unit.Command at) s = row_step scene r at.cell (row (world_in scene s) (format_in s) r at) s
+unit_step scene r unit.Down s = idle Works r s
+unit_step scene r unit.Return s = row_step scene r (cell_of r) (return_row (world_in scene s) r) s
+unit_step scene r (unit.Fault f) s = faulty f (cell_of r) s
+
+-- the macro goes on at a position
+abbrev pub placed : Running → Position → Running
+placed r p = record r { position = p }
+
+-- the next unit of a macro
+abbrev pub next_step : Scene → Running → Next → Sheet → MacroStep
+next_step scene r n s = unit_step scene (placed r n.1) n.0 s
+
+-- One step of the macro that runs, by the sheet as it now stands. Where none runs there is nothing to do.
+unfoldable pub macro_step : Scene → Option Running → Sheet → MacroStep
+macro_step scene None s = record { end = Works; running = None; done = quiet s }
+macro_step scene (Some r) s = next_step scene r (next_unit (world_in scene s) r.position) s
+
+-- A step that came to this end left this macro, made of a worksheet another, and of a count of evaluations another.
+pub record HasStepped (x : MacroStep) (came : StepEnd) (now : Option Running) (v w : Worksheet) (m n : ℕ) : Type 0 where
+  pub end : came ≡ x.end
+  pub running : now ≡ x.running
+  pub did : Did x.done v w m n
+
+-- ---- the beginning of a macro
+
+-- the first cell of a span, if there is one
+abbrev pub first_of : Option Extent → Option Place
+first_of None = None
+first_of (Some span) = Some span.first
+
+-- the macro of a letter begins at the first cell of the name that is a backslash and the letter
+abbrev pub macro_named : NameMap → ℕ → Option Place
+macro_named names letter = first_of (named_span names (92 ∷ letter ∷ []))

@@ -1,0 +1,97 @@
+// Errors that a macro catches.
+ghost use Rattle.std.specs.Prelude.{◌≡◌, IfOk, None, OnOk, Some};
+ghost use Rattle.lics_text.specs.Bytes.{IsText};
+ghost use Rattle.macro_text.specs.Units.{at_spot, start_of};
+ghost use Rattle.macro_engine.specs.Catching as spec;
+ghost use Rattle.macro_engine.specs.Catching.{HasCaught};
+ghost use Rattle.work_sheet.specs.Did.{Did};
+ghost use Rattle.work_sheet.specs.Seen.{of_worksheet};
+
+use crate::changes::carry_out;
+use block_writes::written;
+use formula_eval::{Scene, Tally};
+use formula_tree::Content;
+use grid_address::Cell;
+use lics_text::{LabelPrefix, Memory, Text};
+use macro_text::Position;
+use macro_words::{Change, Frames, Running, start_of};
+use sheet_store::Writes;
+use work_sheet::Sheet;
+
+// The message is put into a cell, unless that is protected.
+fn put_message(
+    message: &[u8],
+    cell: Cell,
+    sheet: &mut Sheet,
+    scene: &Scene,
+    tally: &mut Tally,
+) -> Result<(), Memory>
+    requires { IsText message.now }
+    ensures { let done = spec.told scene.entry.now message.now (Some cell) (of_worksheet sheet.old) in
+        OnOk result (Did done sheet.old sheet.new tally.old.count tally.new.count) }
+{
+    let alloc = sheet.alloc();
+    let text = Text::copy_of(alloc, message)?;
+    let mut writes = Writes::new(alloc);
+    writes.push(written(cell, Content::Label(LabelPrefix::Left, text)))?;
+    let change = Change::Write(writes);
+    let refused = carry_out(&change, sheet, scene, tally)?;
+    drop(change);
+    let _ = refused;
+    Ok(())
+}
+
+// The message is put into its cell, where one was given.
+fn tell(
+    message: &[u8],
+    cell: Option<Cell>,
+    sheet: &mut Sheet,
+    scene: &Scene,
+    tally: &mut Tally,
+) -> Result<(), Memory>
+    requires { IsText message.now }
+    ensures { let done = spec.told scene.entry.now message.now cell (of_worksheet sheet.old) in
+        OnOk result (Did done sheet.old sheet.new tally.old.count tally.new.count) }
+{
+    match cell {
+        Some(cell) => put_message(message, cell, sheet, scene, tally),
+        None => Ok(()),
+    }
+}
+
+// The macro goes on at its place for errors, in its calls and loops, and has none any more.
+fn gone_on(frames: Frames, place: Cell) -> Running
+    ensures { result ≡ record { position = at_spot (start_of place); frames = frames; handler = None } }
+{
+    let spot = start_of(place);
+    Running {
+        position: Position { spot, typed: 0 },
+        frames,
+        handler: None,
+    }
+}
+
+/// The macro behind an error with this message, if it goes on.
+pub fn caught(
+    running: Running,
+    message: &[u8],
+    sheet: &mut Sheet,
+    scene: &Scene,
+    tally: &mut Tally,
+) -> Result<Option<Running>, Memory>
+    requires { IsText message.now }
+    ensures { let caught = spec.caught scene.entry.now message.now (Some running) (of_worksheet sheet.old) in
+        IfOk result (λ r. HasCaught caught r sheet.old sheet.new tally.old.count tally.new.count) }
+{
+    let Running {
+        position: _,
+        frames,
+        handler,
+    } = running;
+    let Some(handler) = handler else {
+        drop(frames);
+        return Ok(None);
+    };
+    tell(message, handler.message, sheet, scene, tally)?;
+    Ok(Some(gone_on(frames, handler.place)))
+}

@@ -1,0 +1,108 @@
+// What a word does to the sheet.
+ghost use Rattle.std.specs.Prelude.{◌≡◌, IfOk, OnOk};
+ghost use Rattle.formula_eval.specs.Mean.{mean};
+ghost use Rattle.macro_words.specs.declared.running.Change.TheVariants as change;
+ghost use Rattle.work_sheet.specs.Did.{Did};
+ghost use Rattle.work_sheet.specs.Doing.{settled};
+ghost use Rattle.work_sheet.specs.Seen.{of_worksheet};
+ghost use Rattle.macro_engine.specs.Carried.{HasCarried, HasSettled, WasRefused};
+
+use crate::sweeping::sweep_span;
+use formula_eval::{Scene, Tally};
+use grid_address::{Cell, Span};
+use lics_text::Memory;
+use macro_words::Change;
+use sheet_store::{SheetFault, Writes};
+use work_sheet::Sheet;
+
+// In Automatic mode all is recalculated.
+fn settle(sheet: &mut Sheet, scene: &Scene, tally: &mut Tally) -> Result<(), Memory>
+    ensures { let done = settled mean scene.entry.now (of_worksheet sheet.old) in
+        OnOk result (Did done sheet.old sheet.new tally.old.count tally.new.count) }
+{
+    if sheet.settings().automatic {
+        sheet.calc(scene, tally)?;
+    }
+    Ok(())
+}
+
+// An edit that was refused met a protected cell, where there was memory.
+fn refused(fault: SheetFault) -> Result<Option<Cell>, Memory>
+    ensures { IfOk result (λ cell. WasRefused fault cell) }
+{
+    match fault {
+        SheetFault::Protected(cell) => Ok(Some(cell)),
+        SheetFault::PushedOff(_) => Err(Memory),
+        SheetFault::OutOfSheet(_) => Err(Memory),
+        SheetFault::Memory => Err(Memory),
+    }
+}
+
+// What comes of an edit, by its answer: where it was made, a recalculation follows in Automatic mode.
+fn settled(
+    answer: Result<(), SheetFault>,
+    sheet: &mut Sheet,
+    scene: &Scene,
+    tally: &mut Tally,
+) -> Result<Option<Cell>, Memory>
+    ensures { IfOk result
+        (λ cell. HasSettled answer scene.entry.now cell sheet.old sheet.new tally.old.count tally.new.count) }
+{
+    match answer {
+        Ok(()) => {
+            settle(sheet, scene, tally)?;
+            Ok(None)
+        }
+        Err(fault) => refused(fault),
+    }
+}
+
+// Contents are written.
+fn write(
+    writes: &Writes,
+    sheet: &mut Sheet,
+    scene: &Scene,
+    tally: &mut Tally,
+) -> Result<Option<Cell>, Memory>
+    ensures { IfOk result (λ cell. HasCarried (change.Write writes.now) scene.entry.now cell
+        sheet.old sheet.new tally.old.count tally.new.count) }
+{
+    let answer = sheet.write(writes);
+    settled(answer, sheet, scene, tally)
+}
+
+// A span is erased.
+fn erase(
+    span: Span,
+    sheet: &mut Sheet,
+    scene: &Scene,
+    tally: &mut Tally,
+) -> Result<Option<Cell>, Memory>
+    ensures { IfOk result (λ cell. HasCarried (change.Erase span) scene.entry.now cell
+        sheet.old sheet.new tally.old.count tally.new.count) }
+{
+    let answer = sheet.erase(span);
+    settled(answer, sheet, scene, tally)
+}
+
+/// Changes the sheet as a word asks; in Automatic mode a recalculation follows a change of contents. Where cells that
+/// are to be written are protected, nothing is changed, and the first of them in row order is the answer.
+pub fn carry_out(
+    change: &Change,
+    sheet: &mut Sheet,
+    scene: &Scene,
+    tally: &mut Tally,
+) -> Result<Option<Cell>, Memory>
+    ensures { IfOk result (λ cell. HasCarried change.now scene.entry.now cell
+        sheet.old sheet.new tally.old.count tally.new.count) }
+{
+    match change {
+        Change::Nothing => Ok(None),
+        Change::Write(writes) => write(writes, sheet, scene, tally),
+        Change::Erase(span) => erase(*span, sheet, scene, tally),
+        Change::Recalculate(sweep) => {
+            sweep_span(sweep, sheet, scene, tally)?;
+            Ok(None)
+        }
+    }
+}

@@ -1,0 +1,148 @@
+// The engine.
+ghost use Rattle.std.specs.Prelude.{◌≡◌, is_some, IfOk, None, OnErr, OnOk, Some};
+ghost use Rattle.lics_text.specs.Bytes.{IsText};
+ghost use Rattle.macro_engine.specs.Catching as catching;
+ghost use Rattle.macro_engine.specs.Catching.{HasCaught};
+ghost use Rattle.macro_engine.specs.Steps as spec;
+ghost use Rattle.macro_engine.specs.Steps.{HasStepped};
+ghost use Rattle.macro_words.specs.Moves.{begun_at};
+ghost use Rattle.work_sheet.specs.Seen.{of_worksheet};
+
+use crate::catching::caught;
+use crate::steps::{StepEnd, stepped};
+use formula_eval::{Scene, Tally};
+use grid_address::Cell;
+use key_words::Letter;
+use lics_text::Memory;
+use macro_text::{KeptWords, named_span};
+use macro_words::Running;
+use range_names::Names;
+use std::alloc::Global;
+use std::marker::Model;
+use work_sheet::Sheet;
+
+/// The cell at which the macro of a letter begins: the first cell of the name that is a backslash and the letter
+/// (Release 2 manual). None where there is no such name.
+pub fn macro_named(names: &Names, letter: Letter) -> Option<Cell>
+    ensures { result ≡ spec.macro_named names.now letter }
+{
+    match named_span(names, &[b'\\', letter.get()]) {
+        Some(span) => Some(span.first),
+        None => None,
+    }
+}
+
+/// The engine: the macro that runs, if one does, and words that were read from a text.
+#[derive(Drop)]
+pub struct Engine {
+    alloc: Global,
+    running: Option<Running>,
+    kept: KeptWords,
+}
+
+impl Model for Engine {
+    ghost use Rattle.std.specs.Prelude.{Option};
+    ghost use Rattle.std.specs.Coded.{coded_option};
+    ghost use Rattle.macro_words.specs.contracts.running.Running as a_macro;
+    ghost use Rattle.macro_words.specs.declared.running.Running.{Running};
+
+    ghost Value = { Option Running };
+
+    ghost coded = { coded_option (a_macro.the_row).coded };
+
+    ghost view = { λ e. e.running };
+}
+
+impl Engine {
+    /// No macro runs.
+    pub fn new(alloc: Global) -> Engine
+        ensures { result ≡ None }
+    {
+        Engine {
+            alloc,
+            running: None,
+            kept: KeptWords::new(alloc),
+        }
+    }
+
+    /// Whether a macro runs.
+    pub fn is_running(&self) -> bool
+        ensures { result ≡ is_some self.now }
+    {
+        self.running.is_some()
+    }
+
+    /// Begins a macro at a cell, in no call and no loop, and with no place for errors.
+    pub fn start(&mut self, cell: Cell)
+        ensures { self.new ≡ Some (begun_at cell) }
+    {
+        self.running = Some(Running::begun_at(self.alloc, cell));
+    }
+
+    /// Stops the macro: its calls, its loops and its place for errors are forgotten.
+    pub fn stop(&mut self)
+        ensures { self.new ≡ None }
+    {
+        self.running = None;
+    }
+
+    /// Whether a macro runs that has a place for errors.
+    pub fn handles_errors(&self) -> bool
+        ensures { result ≡ catching.handles_errors self.now }
+    {
+        match &self.running {
+            Some(running) => running.handler.is_some(),
+            None => false,
+        }
+    }
+
+    /// One step of the macro that runs: its next unit, by the text as it now stands, is carried out. A key is typed by
+    /// the caller, as by hand. In Automatic mode a recalculation follows a word that writes cells. A fault stops the
+    /// macro and leaves the sheet as it was; its place is that of the word at fault. Where a cell that is to be written
+    /// is protected, the word writes nothing, and the macro stands behind it in its calls and loops; the cell is the
+    /// first such one in row order. Where no macro runs, nothing is done. After `Memory` no macro runs, and the sheet
+    /// is open but for what it keeps. (Release 2 manual for the words; that the text is read anew at each step, the
+    /// faults and their order are this project's choice.)
+    #[tactic(auto, unfolding(crate::specs::Steps::macro_step))]
+    pub fn step(
+        &mut self,
+        sheet: &mut Sheet,
+        scene: &Scene,
+        tally: &mut Tally,
+    ) -> Result<StepEnd, Memory>
+        ensures step { let step = spec.macro_step scene.entry.now self.old (of_worksheet sheet.old) in IfOk result
+            (λ end. HasStepped step end self.new sheet.old sheet.new tally.old.count tally.new.count) }
+        ensures memory { OnErr result (self.new ≡ None) }
+    {
+        let Some(running) = self.running.take() else {
+            return Ok(StepEnd::Works);
+        };
+        let (end, next) = stepped(running, &mut self.kept, sheet, scene, tally)?;
+        self.running = next;
+        Ok(end)
+    }
+
+    /// Meets an error with this message. Where the macro has a place for errors, it goes on there, in its calls and
+    /// loops, and has that place no more; the message is put into the cell that was given for it, as a label with `'`,
+    /// unless that cell is protected, and in Automatic mode a recalculation follows. Without a place for errors the
+    /// macro stops, and the sheet stays. After `Memory` no macro runs, and the sheet is open but for what it keeps.
+    /// (Release 2 manual for ONERROR; that the protected cell is passed over is this project's choice.)
+    pub fn catch_error(
+        &mut self,
+        message: &[u8],
+        sheet: &mut Sheet,
+        scene: &Scene,
+        tally: &mut Tally,
+    ) -> Result<(), Memory>
+        requires { IsText message.now }
+        ensures caught { let caught = catching.caught scene.entry.now message.now self.old (of_worksheet sheet.old) in
+            OnOk result (HasCaught caught self.new sheet.old sheet.new tally.old.count tally.new.count) }
+        ensures memory { OnErr result (self.new ≡ None) }
+    {
+        let Some(running) = self.running.take() else {
+            return Ok(());
+        };
+        self.running = caught(running, message, sheet, scene, tally)?;
+        Ok(())
+    }
+}

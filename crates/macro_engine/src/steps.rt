@@ -1,0 +1,155 @@
+// One step of a macro that runs.
+ghost use Rattle.std.specs.Prelude.{◌≡◌, IfOk, Some};
+ghost use Rattle.macro_engine.specs.Steps as spec;
+ghost use Rattle.macro_engine.specs.Steps.{HasStepped};
+ghost use Rattle.macro_words.specs.Moves as moving;
+ghost use Rattle.work_sheet.specs.Seen.{of_worksheet};
+
+use crate::changes::carry_out;
+use formula_eval::{Scene, Tally};
+use grid_address::Cell;
+use key_words::Key;
+use lics_text::Memory;
+use macro_text::{KeptWords, MacroFault, Position, Unit, next_unit};
+use macro_words::{Deed, Move, Row, Running, return_row, row};
+use work_sheet::Sheet;
+
+/// What a step of a macro comes to.
+#[derive(Clone, Copy, Debug, PartialEq, Eq)]
+pub enum StepEnd {
+    /// A key is typed, as by hand.
+    Types(Key),
+    /// A word was carried out, the macro went to the cell below or returned, or it ended.
+    Works,
+    /// The macro stopped with a fault of the word in this cell.
+    Faulty(MacroFault, Cell),
+    /// This cell was to be written and is protected.
+    Refused(Cell),
+}
+
+// What a step comes to, and the macro behind it.
+type Stepped = (StepEnd, Option<Running>);
+
+// The macro that was moved, if it goes on.
+fn moved(mut running: Running, after: Move) -> Result<Option<Running>, Memory>
+    ensures { IfOk result (λ r. r ≡ moving.moved after running) }
+{
+    if running.make(after)? {
+        Ok(Some(running))
+    } else {
+        drop(running);
+        Ok(None)
+    }
+}
+
+// A deed of a word.
+fn deed_stepped(
+    running: Running,
+    deed: Deed,
+    sheet: &mut Sheet,
+    scene: &Scene,
+    tally: &mut Tally,
+) -> Result<Stepped, Memory>
+    ensures { let step = spec.deed_step scene.entry.now running deed (of_worksheet sheet.old) in
+        IfOk result (λ x. HasStepped step x.0 x.1 sheet.old sheet.new tally.old.count tally.new.count) }
+{
+    let Deed { change, after } = deed;
+    let refused = carry_out(&change, sheet, scene, tally)?;
+    drop(change);
+    match refused {
+        Some(cell) => Ok((StepEnd::Refused(cell), Some(running))),
+        None => Ok((StepEnd::Works, moved(running, after)?)),
+    }
+}
+
+// The row of the word in a cell.
+fn row_stepped(
+    running: Running,
+    cell: Cell,
+    row: Row,
+    sheet: &mut Sheet,
+    scene: &Scene,
+    tally: &mut Tally,
+) -> Result<Stepped, Memory>
+    ensures { let step = spec.row_step scene.entry.now running cell row (of_worksheet sheet.old) in
+        IfOk result (λ x. HasStepped step x.0 x.1 sheet.old sheet.new tally.old.count tally.new.count) }
+{
+    match row {
+        Ok(deed) => deed_stepped(running, deed, sheet, scene, tally),
+        Err(fault) => {
+            drop(running);
+            Ok((StepEnd::Faulty(fault, cell), None))
+        }
+    }
+}
+
+// The cell in which a macro is read.
+fn cell_of(running: &Running) -> Cell
+    ensures { result ≡ spec.cell_of running.now }
+{
+    running.position.spot.cell
+}
+
+// A unit of the macro, which stands behind it already.
+fn unit_stepped(
+    running: Running,
+    unit: &Unit,
+    sheet: &mut Sheet,
+    scene: &Scene,
+    tally: &mut Tally,
+) -> Result<Stepped, Memory>
+    ensures { let step = spec.unit_step scene.entry.now running unit.now (of_worksheet sheet.old) in
+        IfOk result (λ x. HasStepped step x.0 x.1 sheet.old sheet.new tally.old.count tally.new.count) }
+{
+    match unit {
+        Unit::Key(key) => Ok((StepEnd::Types(*key), Some(running))),
+        Unit::Command(at) => {
+            let global = sheet.settings().format;
+            let row = row(sheet.alloc(), sheet, scene, global, &running, at)?;
+            row_stepped(running, at.cell, row, sheet, scene, tally)
+        }
+        Unit::Down => Ok((StepEnd::Works, Some(running))),
+        Unit::Return => {
+            let cell = cell_of(&running);
+            let row = return_row(sheet.alloc(), sheet, scene, &running)?;
+            row_stepped(running, cell, row, sheet, scene, tally)
+        }
+        Unit::Fault(fault) => {
+            let cell = cell_of(&running);
+            drop(running);
+            Ok((StepEnd::Faulty(*fault, cell), None))
+        }
+    }
+}
+
+// The macro goes on at a position.
+fn placed(running: Running, position: Position) -> Running
+    ensures { result ≡ spec.placed running position }
+{
+    let Running {
+        position: _,
+        frames,
+        handler,
+    } = running;
+    Running {
+        position,
+        frames,
+        handler,
+    }
+}
+
+/// One step of a macro that runs: what it comes to, and the macro behind it.
+#[tactic(auto, unfolding(crate::specs::Steps::macro_step))]
+pub fn stepped(
+    running: Running,
+    kept: &mut KeptWords,
+    sheet: &mut Sheet,
+    scene: &Scene,
+    tally: &mut Tally,
+) -> Result<Stepped, Memory>
+    ensures { let step = spec.macro_step scene.entry.now (Some running) (of_worksheet sheet.old) in
+        IfOk result (λ x. HasStepped step x.0 x.1 sheet.old sheet.new tally.old.count tally.new.count) }
+{
+    let (unit, position) = next_unit(sheet.alloc(), sheet, scene, kept, &running.position)?;
+    unit_stepped(placed(running, position), &unit, sheet, scene, tally)
+}
