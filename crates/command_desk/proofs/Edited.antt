@@ -47,7 +47,7 @@ was_refused f e scene end v mid w m n is kept settles =
     (some_is end e (sym settles.0 ∙ is), left v w m n (settles.1 ∙ kept) settles.2)
 
 -- want of memory is told otherwise
-memory_is_none : (scene : Scene) (end : CommandEnd) (v w : Worksheet) (m n : ℕ) → HasSettled (Err fault.Memory) scene end v w m n → ⊥
+pub memory_is_none : (scene : Scene) (end : CommandEnd) (v w : Worksheet) (m n : ℕ) → HasSettled (Err fault.Memory) scene end v w m n → ⊥
 memory_is_none scene end v w m n settles = absurd (none_is_some settles.0)
   where
     is_none : Option CommandEnd → Type 0

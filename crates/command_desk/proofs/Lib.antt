@@ -1,2 +1,4 @@
 pub mod Ascending
+pub mod Earliest
 pub mod Edited
+pub mod Written

@@ -1,6 +1,6 @@
 -- What the answers of a command mean.
-use Rattle.std.specs.Prelude.{ℕ, ◌≤◌, List, [], Option, None, Some, Result, Ok, Err, slice_get}
-use Rattle.desk_answers.specs.Readings.{span_answer, whole_answer}
+use Rattle.std.specs.Prelude.{ℕ, ◌≤◌, ℤ, Bool, List, [], Option, None, Some, Result, Ok, Err, slice_get}
+use Rattle.desk_answers.specs.Readings.{decimal_answer, order_answer, span_answer, whole_answer}
 use Rattle.desk_errors.specs.declared.error.CommandError.{CommandError}
 use Rattle.desk_errors.specs.declared.error.CommandError.TheVariants as error
 use Rattle.grid_address.specs.Place.{Extent, Place}
@@ -31,6 +31,14 @@ first_of (Err e) = Err e
 -- the answer at a place as a cell
 abbrev pub cell_at : NameMap → List (List ℕ) → ℕ → Result Place CommandError
 cell_at names answers place = first_of (span_at names answers place)
+
+-- the answer at a place as a number, in millionths
+abbrev pub decimal_at : List (List ℕ) → ℕ → Result ℤ CommandError
+decimal_at answers place = decimal_answer (line_at answers place) place
+
+-- the answer at a place as the order of a sort: whether it is descending
+abbrev pub order_at : List (List ℕ) → ℕ → Result Bool CommandError
+order_at answers place = order_answer (line_at answers place) place
 
 -- a whole number within the bounds of its prompt
 abbrev pub whole_by : Option Ask → List ℕ → ℕ → Result ℕ CommandError

@@ -1,12 +1,11 @@
 -- The desk: the worksheet, what the commands on data keep, and the name of the file that was saved last.
 use Rattle.std.specs.Prelude.{ℕ, List, Option, None, refl}
 use Rattle.std.specs.Coded.{Coded, code_by, coded×, coded_list, coded_option, coded_ℕ}
+use Rattle.desk_ranges.specs.Ranges.{no_ranges}
+use Rattle.desk_ranges.specs.contracts.ranges.DeskRanges as ranges
+use Rattle.desk_ranges.specs.declared.ranges.DeskRanges.{DeskRanges}
 use Rattle.work_sheet.specs.Seen.{coded_sheet, fresh_sheet, of_worksheet, Sheet}
-use Rattle.command_desk.specs.contracts.ranges.DeskRanges as ranges
 use Rattle.command_desk.specs.declared.desk.Desk as declared
-use Rattle.command_desk.specs.declared.ranges.DeskRanges.{DeskRanges}
-use Rattle.command_desk.specs.declared.ranges.LastQuery.TheVariants as query
-use Rattle.command_desk.specs.declared.ranges.LastTable.TheVariants as table
 
 -- the worksheet as it is seen, with what is kept beside it
 pub record Desk : Type 0 where
@@ -25,19 +24,6 @@ coded_desk = code_by (Sheet × (DeskRanges × Option (List ℕ)))
 -- a desk without the dirty formulas of its worksheet
 abbrev pub of_desk : declared.Desk → Desk
 of_desk d = record { sheet = of_worksheet d.sheet; ranges = d.ranges; file_name = d.file_name }
-
--- nothing is kept for the commands on data
-abbrev pub no_ranges : DeskRanges
-no_ranges = record {
-  input = None;
-  criterion = None;
-  output = None;
-  sort = None;
-  primary = None;
-  secondary = None;
-  last_query = query.Nothing;
-  last_table = table.Nothing;
-}
 
 -- a fresh desk
 abbrev pub fresh_desk : Desk

@@ -2,3 +2,5 @@ pub mod Acting
 pub mod Answered
 pub mod Desks
 pub mod Formats
+pub mod OnDesk
+pub mod Writing

@@ -1,10 +1,11 @@
 // What the answers of a command mean.
 ghost use Rattle.std.specs.Prelude.{◌≡◌, ◌≤◌, IfOk, slice_get};
 ghost use Rattle.menu_tree.specs.Tree.{prompts};
-ghost use Rattle.command_desk.specs.Answered.{cell_at, line_at, span_at, whole_at, whole_by, IsWithin};
+ghost use Rattle.command_desk.specs.Answered.{cell_at, decimal_at, line_at, order_at, span_at, whole_at, whole_by, IsWithin};
 
-use desk_answers::{span_answer, whole_answer};
+use desk_answers::{decimal_answer, order_answer, span_answer, whole_answer};
 use desk_errors::CommandError;
+use fixed_value::Fixed;
 use grid_address::{Cell, Span};
 use menu_tree::{Action, Ask, prompts};
 use range_names::Names;
@@ -33,6 +34,20 @@ pub fn cell_at(names: &Names, answers: &Answers, place: usize) -> Result<Cell, C
 {
     let span = span_at(names, answers, place)?;
     Ok(span.first)
+}
+
+/// The number that the answer at a place is, with the error of `decimal_answer`.
+pub fn decimal_at(answers: &Answers, place: usize) -> Result<Fixed, CommandError>
+    ensures { result ≡ decimal_at answers.now place }
+{
+    decimal_answer(line_at(answers, place), place)
+}
+
+/// Whether the answer at a place asks for a descending sort, with the error of `order_answer`.
+pub fn order_at(answers: &Answers, place: usize) -> Result<bool, CommandError>
+    ensures { result ≡ order_at answers.now place }
+{
+    order_answer(line_at(answers, place), place)
 }
 
 // A whole number within the bounds of its prompt.

@@ -6,13 +6,14 @@ mod desk;
 mod ending;
 mod formats;
 mod moving;
-mod ranges;
 mod settling;
+mod writing;
 
-pub use answers::{cell_at, line_at, span_at, whole_at};
+pub use answers::{cell_at, decimal_at, line_at, order_at, span_at, whole_at};
 pub use desk::Desk;
+pub use desk_ranges::{DeskRanges, LastQuery, LastTable, SortKey};
 pub use ending::{CommandEnd, settled};
 pub use formats::FormatChoice;
 pub use moving::move_cells;
-pub use ranges::{DeskRanges, LastQuery, LastTable, SortKey};
 pub use settling::settle;
+pub use writing::make_writes;

@@ -1,15 +1,9 @@
 // What the commands on data keep.
 ghost use Rattle.std.specs.Prelude.{◌≡◌};
-ghost use Rattle.command_desk.specs.Desks.{no_ranges};
+ghost use Rattle.desk_ranges.specs.Ranges.{no_ranges};
 
+use data_blocks::SortKey;
 use grid_address::{Cell, Span};
-
-/// A column by which rows are sorted.
-#[derive(Clone, Copy, Debug, PartialEq, Eq)]
-pub struct SortKey {
-    pub col: u8,
-    pub descending: bool,
-}
 
 /// The last query that was made.
 #[derive(Clone, Copy, Debug, PartialEq, Eq)]

@@ -1,0 +1,19 @@
+-- What commands leave of the desk.
+use Rattle.std.specs.Prelude.{[]}
+use Rattle.desk_errors.specs.declared.error.CommandError.{CommandError}
+use Rattle.work_sheet.specs.Doing.{Done}
+use Rattle.command_desk.specs.Acting.{DeskActed}
+use Rattle.command_desk.specs.Desks.{on_sheet, Desk}
+use Rattle.command_desk.specs.declared.ending.CommandEnd.TheVariants.{Finished, Refused}
+
+-- the desk stays, and the command is refused
+abbrev pub refused : CommandError → Desk → DeskActed
+refused e d = record { end = Refused e; desk = d; log = [] }
+
+-- the sheet becomes what was done to it
+abbrev pub finished : Done → Desk → DeskActed
+finished done d = record { end = Finished; desk = on_sheet d done.sheet; log = done.log }
+
+-- nothing is done to the desk
+abbrev pub left : Desk → DeskActed
+left d = record { end = Finished; desk = d; log = [] }
