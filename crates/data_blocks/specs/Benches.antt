@@ -70,17 +70,19 @@ pub data IsFaultOf (s : Extent) (inputs : List Place) (a b : OnBench) (f : Block
   memory : f ≡ fault.Memory → IsFaultOf s inputs a b f
   refused : table_fault s inputs a.guarded ≡ Some f → b.contents ≡ a.contents → IsFaultOf s inputs a b f
 
-module _ {B : Type 0} (shows : B → OnBench) (tries : Trial → B → B → Type 0) where
+module _ {B : Type 0} (tries : Trial → B → B → Type 0) where
   -- inputs were tried one after another
   abbrev pub HasTried : List Trial → B → B → Type 0
   HasTried [] a z = z ≡ a
   HasTried (t ∷ ts) a z = (b : B) × tries t a b × HasTried ts b z
 
+module _ {B : Type 0} (shows : B → OnBench) (tries : Trial → B → B → Type 0) where
   -- turns were taken one after another, and the answers of each added to the writes
   abbrev pub HasTaken : List Turn → B → List Write → B → List Write → Type 0
   HasTaken [] a before z after = (z ≡ a) × (after ≡ before)
-  HasTaken (t ∷ ts) a before z after =
-      (b : B) × HasTried t.trials a b × HasTaken ts b (before ++ map (answered (values_on (shows b))) t.answers) z after
+  HasTaken (t ∷ ts) a before z after = (b : B)
+      × HasTried tries t.trials a b
+      × HasTaken ts b (before ++ map (answered (values_on (shows b))) t.answers) z after
 
   -- turns were taken from no write on, and the old contents given back
   abbrev pub IsTable : (B → B → Type 0) → List Turn → B → B → List Write → Type 0

@@ -87,7 +87,7 @@ turns_two s down across values = flat_map (row_turns s down across values) (rows
 abbrev pub answered : (Place → Value) → Answer → Write
 answered values a = written a.to (as_content (values a.from))
 
-module _ {Sheet : Type 0} (tried : Trial → Sheet → Sheet) (values : Sheet → Place → Value) where
+module _ {Sheet : Type 0} (tried : Trial → Sheet → Sheet) where
   -- a sheet after some inputs were tried, one after another
   abbrev pub after_trials : List Trial → Sheet → Sheet
   after_trials [] sheet = sheet
@@ -98,15 +98,10 @@ module _ {Sheet : Type 0} (tried : Trial → Sheet → Sheet) (values : Sheet �
   after_turns [] sheet = sheet
   after_turns (t ∷ ts) sheet = after_turns ts (after_trials t.trials sheet)
 
-  -- what some turns write
+module _ {Sheet : Type 0} (tried : Trial → Sheet → Sheet) (values : Sheet → Place → Value) where
+  -- what some turns write: the answers of each, on the sheet after its inputs were tried
   abbrev pub turns_written : List Turn → Sheet → List Write
   turns_written [] sheet = []
   turns_written (t ∷ ts) sheet =
-      map (answered (values (after_trials t.trials sheet))) t.answers ++ turns_written ts (after_trials t.trials sheet)
-
-  -- what the tables write; their inputs are read before the first is tried
-  abbrev pub table_one : Extent → Place → Sheet → List Write
-  table_one s input sheet = turns_written (turns_one s input (values sheet)) sheet
-
-  abbrev pub table_two : Extent → Place → Place → Sheet → List Write
-  table_two s down across sheet = turns_written (turns_two s down across (values sheet)) sheet
+      map (answered (values (after_trials tried t.trials sheet))) t.answers
+      ++ turns_written ts (after_trials tried t.trials sheet)

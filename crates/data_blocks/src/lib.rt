@@ -21,4 +21,5 @@ pub use key::SortKey;
 pub use one_input::{shape_one, table_one};
 pub use order::order_of_values;
 pub use sort::sort_rows;
+pub use table_cells::{cell_across, cell_down, columns_behind, rows_below};
 pub use two_inputs::{shape_two, table_two};

@@ -1,0 +1,4 @@
+pub mod Behind
+pub mod Entered
+pub mod First
+pub mod Turned

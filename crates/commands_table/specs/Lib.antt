@@ -1,0 +1,4 @@
+pub mod Benched
+pub mod Commands
+pub mod Held
+pub mod Trying
