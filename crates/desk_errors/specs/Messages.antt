@@ -1,5 +1,5 @@
 -- What ERROR tells.
-use Rattle.std.specs.Prelude.{ℕ, List, [], ◌++◌, codes}
+use Rattle.std.specs.Prelude.{ℕ, Bool, nat_le, List, [], ◌++◌, codes}
 use Rattle.grid_address.specs.Address.{decimal}
 use Rattle.desk_errors.specs.declared.error.CommandError.{CommandError}
 use Rattle.desk_errors.specs.declared.error.CommandError.TheVariants as error
@@ -40,3 +40,7 @@ number_of e = []
 -- the message of an error, with the number of a file's fault behind its words
 abbrev pub message_of : CommandError → List ℕ
 message_of e = words_of e ++ number_of e
+
+-- a byte that a text may hold
+abbrev pub is_printed : ℕ → Bool
+is_printed b = nat_le 32 b

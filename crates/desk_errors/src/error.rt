@@ -1,6 +1,8 @@
 // Why a command, an answer or a key is refused.
-ghost use Rattle.std.specs.Prelude.{◌≡◌, ◌≤◌, length};
-ghost use Rattle.desk_errors.specs.Messages.{message_of, number_of, words_of};
+ghost use Rattle.std.specs.List.{list_all};
+ghost use Rattle.std.specs.Prelude.{◌≡◌, ◌≤◌, length, true};
+ghost use Rattle.desk_errors.specs.Messages.{is_printed, message_of, number_of, words_of};
+ghost use Rattle.lics_text.specs.Bytes.{IsText};
 
 use grid_address::{Cell, Span, decimal_text};
 use lics_text::Line;
@@ -66,6 +68,7 @@ impl CommandError {
     fn words(&self) -> &'static [u8]
         ensures words { result.now ≡ words_of self.now }
         ensures short { length result.now ≤ 40 }
+        ensures printed { list_all is_printed result.now ≡ true }
     {
         match self {
             CommandError::InvalidAddress(_) => b"Invalid address",
@@ -97,8 +100,10 @@ impl CommandError {
     }
 
     /// What ERROR tells (this project's choice of words).
+    #[tactic(auto, using(crate::proofs::Printed::alone, crate::proofs::Printed::numbered))]
     pub fn message(&self) -> Line
-        ensures { result ≡ message_of self.now }
+        ensures message { result ≡ message_of self.now }
+        ensures text { IsText result }
     {
         let mut message = Line::new();
         message.put_all(self.words());
