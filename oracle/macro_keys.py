@@ -30,8 +30,12 @@ SHIFTS = [b'/WIRA1~', b'/WIRD2~', b'/WDRD2~', b'/WDRA1~', b'/WICD1~', b'/WDCC1~'
           b'/FRA~', b'/FRB~', b'/RNR', b'/RNCSUB~E1~', b'/RVD1.D3~E1~']
 UNFINISHED = [b'+A1', b'/', b'/RF', b'/WCS1', b'/C', b'{EDIT}', b'{GOTO}B', b'label', b'+{LEFT}', b'/RNC', b'1+~', b'/QN', b'/RFF', b'/D',
               b'/DQIA1.A4~', b'{END}', b'/FS']
-# each is a fault by itself, in D1 of a sheet as programs have it
-FAULTS = [b'{NOWORD}', b'{', b'}', b'{LET A1', b'/XI1', b'/XGA1', b'{BREAK}', b'{UNDO}', b'{ALT A}', b'{}', b'{LET}', b'{LET A1}', b'{LET A1,2,3}',
+# each is a fault by itself in a sheet as programs have it, or only just none
+FAULTS = [b'{RECALC A1,0,0}', b'{RECALC TABLE,0,0.9}', b'{RECALC B1,0,50.9}', b'{CONTENTS A1,B1,0}', b'{CONTENTS A1,B1,0.5}', b'{CONTENTS A1,B1,1}',
+          b'{CONTENTS A1,B1,240.9}', b'{CONTENTS A1,B1,241}', b'{CONTENTS A1,B1,9,255}', b'{CONTENTS A1,B1,9,-0.5}', b'{CONTENTS A1,B1,9,-1}',
+          b'{PUT TABLE,1.9,2.9,7}', b'{PUT TABLE,-0.5,0,7}', b'{PUT TABLE,0,3,7}', b'{FOR A1,3,1,0,F1}', b'{FOR A1,1,1,-1,F1}', b'{LET A8192,1}',
+          b'{LET TABLE,5}', b'{BRANCH IV8192}', b'{NOWORD}', b'{', b'}', b'{LET A1', b'/XI1', b'/XGA1', b'{BREAK}', b'{UNDO}', b'{ALT A}', b'{}',
+          b'{LET}', b'{LET A1}', b'{LET A1,2,3}',
           b'{BRANCH}', b'{BRANCH A1,A2}',
           b'{BRANCH NONE}', b'{BRANCH $A$1}', b'{DISPATCH B5}', b'{DISPATCH C9}', b'{FOR A1,1,3,0,E1}', b'{FOR A1,1,"x",1,E1}', b'{FOR A1,1,3,E1}',
           b'{FORBREAK}', b'{DEFINE A1}',
@@ -80,6 +84,8 @@ class Programs:
 
     def __init__(self, r):
         self.r = r
+        # the letters of the macros that are to be started, where any will do none
+        self.starts = None
 
     def number(self):
         return b'%d' % self.r.randrange(1, 8)
@@ -164,13 +170,18 @@ class Programs:
                                  b'{LET D3,"{QUIT}"}{BRANCH D1}']), b'E1': r.choice([b'{LET A1,9}', fail(), b'{ONERROR D2}' + fail()])}
 
     def faulty(self):
-        """A fault, by itself or behind words that do something, here or in what is called."""
+        """Words that are faults or just none, each in a cell of its own, here and in what is called; each is started."""
         r = self.r
-        fault = any_case(r, r.choice(FAULTS)) if r.randrange(4) == 0 else r.choice(FAULTS)
-        return {b'D1': r.choice([b'', b'', b'x~', b'{ONERROR E2,A1}', b'{LET A1,1}', b'/R', b'{SUB}', b'{SUB 1}',
-                                 b'{FOR A1,1,2,1,E1}']) + fault + r.choice([b'', b'y~']),
-                                 b'E1': r.choice([fault, b'{LET B1,2}' + fault, b'{RETURN}']),
-                b'E2': b'{LET B2,1}', b'C9': r.choice([b'D2', b'NONE', b'E2', b'd1'])}
+        self.starts = [b'A', b'D', b'E', b'B']
+        fault = lambda: any_case(r, r.choice(FAULTS)) if r.randrange(8) == 0 else r.choice(FAULTS)
+        front = lambda: r.choice([b'', b'', b'', b'x~', b'{ONERROR E2,A1}', b'{LET A1,1}', b'/R'])
+        calling = lambda: r.choice([b'{SUB}', b'{SUB 1}', b'{FOR A1,1,2,1,SUB}', b'{SUB2}', b'/XCE1~']) + b'{LET C3,C3+1}'
+        cell = lambda: front() + fault() + r.choice([b'', b'y~']) if r.randrange(3) else calling()
+        return {b'D1': cell(), b'D3': cell(), b'D5': cell(), b'E1': r.choice([fault(), b'{SUB2}{LET C1,C1+1}', b'{SUB2}{LET C1,C1+1}',
+                                                                              b'{LET B1,2}' + fault()]),
+                b'E2': r.choice([b'{LET B2,1}', b'']), b'F1': r.choice([fault(), b'{RESTART}{LET C2,1}', b'{RETURN}x', b'{FORBREAK}',
+                                                                        b'{DEFINE C2}']),
+                b'C9': r.choice([b'D2', b'NONE', b'E2', b'd1'])}
 
     def deep(self):
         """Calls and loops up to the deepest level and past it."""
@@ -272,7 +283,8 @@ class Programs:
                 self.failing, self.failing, self.failing,
                 self.faulty, self.faulty, self.faulty, self.deep, self.deep, self.repeated, self.repeated, self.argued, self.argued, self.argued,
                 self.reckoned, self.reckoned, self.typed, self.typed, self.moved, self.moved]
-        made = r.choice(many + [self.ended] * 2 + [self.endless] if last else many)()
+        self.starts = None
+        made = r.choice(many + [self.ended] * 4 + [self.endless] if last else many)()
         for cell in (b'A1', b'A2', b'B1', b'B2', b'C3', b'A3'):
             if cell not in made and r.randrange(2):
                 made[cell] = r.choice([b'0', b'1', b'2', b'3', b'-1', b'0.5', b'old', b'+A2+1', b'@NA', b'D3', b'SUB', b'+A1*2'])
@@ -312,10 +324,13 @@ class MacroKeys:
     def macro(self, last):
         """A sheet with macros, and keys that start them; the last one may end the run."""
         r = self.r
+        self.programs.starts = None
         sheet = self.soup.sheet() if r.randrange(4) == 0 else self.programs.sheet(last)
         names = [(b'D1..D3', b'\\A'), (b'E1', b'\\B'), (b'D8192', b'\\C'), (b'D3', b'\\D'), (b'D5', b'\\E')]
         sheet[1:1] = [b'+' + span + b' ' + name for span, name in names]
         keys = r.choice([b'', b'', b'', self.menus.at(r.choice([b'B1', b'C5', b'A20', b'D2', b'IV8192'])), self.menus.done('wgp.enable')])
+        if self.programs.starts:
+            return sheet, keys + b''.join(b'{ALT ' + letter + b'}' + r.choice([b'{ESC}', b'{ESC}', b'{BREAK}']) for letter in self.programs.starts)
         for _ in range(r.choice([1, 2, 3, 4])):
             keys += self.start() + self.between()
         return sheet, keys
