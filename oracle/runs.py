@@ -198,7 +198,7 @@ class Typist:
         """Keys of the commands below Data and of macros, over sheets of their own; a macro that may end the run comes last."""
         r, out = self.r, b''
         macros = r.choice([0, 1, 1, 2])
-        names = SHEETS[:r.choice([1, 3, 4, 5, 6, 8])]
+        names = SHEETS[:r.choice([2, 4, 5, 6, 8, 8])]
         for at, name in enumerate(names):
             macro = r.randrange(2) < macros
             self.may_run = self.may_run or macro
@@ -213,9 +213,9 @@ class Typist:
         r = self.r
         parts = [self.part() for _ in range(r.choice([0, 1, 3, 8, 15, 30]))]
         pick = r.randrange(9)
-        if pick < 6:
+        if pick < 7:
             parts = [self.scenes()] + parts[:r.choice([0, 0, 1, 3])] + ([self.kept()] if r.randrange(3) else [])
-        elif pick == 6:
+        elif pick == 7:
             parts.insert(0, self.menus.scene())
         if r.randrange(8) == 0:
             parts.insert(r.randrange(len(parts) + 1), self.menus.quit())
@@ -238,7 +238,7 @@ class Typist:
         """The limit of steps, or none; a macro may run without an end."""
         r = self.r
         if self.may_run:
-            return r.choice([r.randrange(1, 100), r.randrange(1, 800), 1500, 2000, 2000, 2500, 2500, 2500])
+            return r.choice([r.randrange(1, 100), r.randrange(1, 800), *[2000] * 7, *[3000] * 3])
         return r.choice([1, 2, 10, 50, 10000000]) if r.randrange(4 if self.opened is None else 30) == 0 else None
 
     def words(self):
