@@ -98,7 +98,7 @@ impl Engine {
 
     /// One step of the macro that runs: its next unit, by the text as it now stands, is carried out. A key is typed by
     /// the caller, as by hand. In Automatic mode a recalculation follows a word that writes cells. A fault stops the
-    /// macro and leaves the sheet as it was; its place is that of the word at fault. Where a cell that is to be written
+    /// macro and leaves the sheet as it was; its cell is that of the word at fault. Where a cell that is to be written
     /// is protected, the word writes nothing, and the macro stands behind it in its calls and loops; the cell is the
     /// first such one in row order. Where no macro runs, nothing is done. After `Memory` no macro runs, and the sheet
     /// is open but for what it keeps. (Release 2 manual for the words; that the text is read anew at each step, the
@@ -126,7 +126,7 @@ impl Engine {
     /// loops, and has that place no more; the message is put into the cell that was given for it, as a label with `'`,
     /// unless that cell is protected, and in Automatic mode a recalculation follows. Without a place for errors the
     /// macro stops, and the sheet stays. After `Memory` no macro runs, and the sheet is open but for what it keeps.
-    /// (Release 2 manual for ONERROR; that the protected cell is passed over is this project's choice.)
+    /// (Release 2 manual for ONERROR; that a protected cell is passed over is this project's choice.)
     pub fn catch_error(
         &mut self,
         message: &[u8],

@@ -62,15 +62,15 @@ pub fn recalc_span<E: Means>(
     scene: &Scene,
     tally: &mut E,
 ) -> Result<(), Memory>
-    requires { IsSound E.meaning (context_of names.now settings.now scene.now) store.old
-        (has same_place dirty.now.keys) }
-    ensures values { OnOk result (store.new ≡ pass E.meaning (context_of names.now settings.now scene.entry.now)
-        (span_order is_by_column span store.old) store.old) }
-    ensures sound { IsSound E.meaning (context_of names.now settings.now scene.entry.now) store.new
-        (has same_place dirty.now.keys) }
+    requires { let context = context_of names.now settings.now scene.now in
+        IsSound E.meaning context store.old (has same_place dirty.now.keys) }
+    ensures values { let context = context_of names.now settings.now scene.entry.now in
+        OnOk result (store.new ≡ pass E.meaning context (span_order is_by_column span store.old) store.old) }
+    ensures sound { let context = context_of names.now settings.now scene.entry.now in
+        IsSound E.meaning context store.new (has same_place dirty.now.keys) }
     ensures contents { SameContents store.old store.new }
-    ensures count { OnOk result (E.count tally.new ≡ raised_by
-        (length (filter (has same_place dirty.now.keys) (formulas_within store.old span))) (E.count tally.old)) }
+    ensures count { let within = filter (has same_place dirty.now.keys) (formulas_within store.old span) in
+        OnOk result (E.count tally.new ≡ raised_by (length within) (E.count tally.old)) }
 {
     let cells = dirty_ordered(store, dirty, span, is_by_column)?;
     pass_over(store, cells.as_slice(), names, settings, scene, tally)?;
