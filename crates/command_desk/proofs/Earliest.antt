@@ -55,8 +55,8 @@ module _ (x d : Place) (xs : List Place) (rest : (f : Place) → first_in_order 
   among_more None is k = itself (some_place x d k)
   among_more (Some f) is k = elim (cases_Bool (is_lt (place_cmp f x))) [
     | inl t ↦
-      let same : f ≡ d = some_place f d (sym (ap (λ b. Some (cond b f x)) t) ∙ k) in
-      or_right _ _ (rest d (is ∙ ap Some same))
+        let same : f ≡ d = some_place f d (sym (ap (λ b. Some (cond b f x)) t) ∙ k) in
+        or_right _ _ (rest d (is ∙ ap Some same))
     | inr n ↦ itself (some_place x d (sym (ap (λ b. Some (cond b f x)) n) ∙ k))
   ]
 
@@ -71,13 +71,13 @@ pub least_found : (xs : List Place) (c : Place) → has same_place xs c ≡ true
 least_found [] c m f = absurd (false≢true m)
 least_found (x ∷ xs) c m f = elim (or_cases (same_place c x) (has same_place xs c) m) [
   | inl e ↦
-    let is : c ≡ x = same_place_is c x e in
-    ap Some (stays x (first_in_order xs)
-    (λ d k l. f d (or_right _ _ (is_among xs d k)) (subst (λ (z : Place). place_cmp d z ≡ Less) (sym is) l)) ∙ sym is)
+      let is : c ≡ x = same_place_is c x e in
+      ap Some (stays x (first_in_order xs)
+      (λ d k l. f d (or_right _ _ (is_among xs d k)) (subst (λ (z : Place). place_cmp d z ≡ Less) (sym is) l)) ∙ sym is)
   | inr k ↦
-    let rest : first_in_order xs ≡ Some c = least_found xs c k (λ d a. f d (or_right _ _ a)) in
-    ap (λ (o : Option Place). Some (unless_before x o)) rest
-    ∙ ap Some (gives_way x c (f x (or_left _ _ (same_place_itself x))))
+      let rest : first_in_order xs ≡ Some c = least_found xs c k (λ d a. f d (or_right _ _ a)) in
+      ap (λ (o : Option Place). Some (unless_before x o)) rest
+      ∙ ap Some (gives_way x c (f x (or_left _ _ (same_place_itself x))))
 ]
 
 module _ (p : Place → Bool) where
