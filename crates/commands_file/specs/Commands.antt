@@ -2,10 +2,10 @@
 use Rattle.std.specs.Prelude.{◌≡◌, ℕ, true, false, List, [], ◌∷◌, Option, None, Some, Result, Ok, Err}
 use Rattle.command_desk.specs.Acting.{on_desk, DeskActed, HasActedOn}
 use Rattle.command_desk.specs.Answered.{line_at, span_at}
-use Rattle.command_desk.specs.Desks.{on_sheet, Desk}
+use Rattle.command_desk.specs.Desks.{Desk}
+pub use Rattle.command_desk.specs.OnDesk.{finished, left, refused}
 use Rattle.command_desk.specs.declared.desk.Desk as declared
 use Rattle.command_desk.specs.declared.ending.CommandEnd.{CommandEnd}
-use Rattle.command_desk.specs.declared.ending.CommandEnd.TheVariants.{Finished, Refused}
 use Rattle.commands_file.specs.Calls.{asks, gets, loaded, puts, removes, there, written, Asked, HaveAnswered, Reply, ShelfCall, ShelfView}
 use Rattle.commands_file.specs.Combined.{combined}
 use Rattle.commands_file.specs.Extracted.{extracted}
@@ -52,18 +52,6 @@ fault_number (fault.BadSpan number) = 10
 fault_number fault.FileTooLarge = 11
 fault_number (fault.TooDeep number) = 12
 fault_number fault.Memory = 0
-
--- the desk stays, and the command is refused
-abbrev pub refused : CommandError → Desk → DeskActed
-refused e d = record { end = Refused e; desk = d; log = [] }
-
--- the sheet becomes what was done to it
-abbrev pub finished : Done → Desk → DeskActed
-finished done d = record { end = Finished; desk = on_sheet d done.sheet; log = done.log }
-
--- nothing is done to the desk
-abbrev pub left : Desk → DeskActed
-left d = record { end = Finished; desk = d; log = [] }
 
 -- a call was made, and its answer taken
 abbrev pub by_call : ShelfCall → Reply → (Reply → DeskActed) → FileActed
