@@ -79,6 +79,7 @@ pub fn act<S: Shelf>(
             commands_range::act(action, answers, &mut desk.sheet, scene, tally)
         }
         Action::File(action) => commands_file::act(action, answers, desk, shelf, scene, tally),
-        Action::Print(_) | Action::Data(_) => Ok(CommandEnd::Finished),
+        Action::Data(action) => commands_data::act(action, answers, desk, scene, tally),
+        Action::Print(_) => Ok(CommandEnd::Finished),
     }
 }

@@ -13,3 +13,7 @@ returns-in-Worksheet-clause-memory g c =
 pub returns-in-Range-clause-memory : goal.returns-in-Range-clause-memory
 returns-in-Range-clause-memory g c =
     on_err c.act-in-Range.result (none_broken (g.S.Shelf.holds c.args.shelf.now) (g.S.Shelf.faults c.args.shelf.now))
+
+pub returns-in-Data-clause-memory : goal.returns-in-Data-clause-memory
+returns-in-Data-clause-memory g c =
+    on_err c.act-in-Data.result (none_broken (g.S.Shelf.holds c.args.shelf.now) (g.S.Shelf.faults c.args.shelf.now))
