@@ -4,6 +4,7 @@ use crate::desk::{Desk, Stop, Told};
 use cell_pointer::{Way, moved};
 use desk_answers::span_answer;
 use desk_errors::CommandError;
+use desk_ranges::DeskRanges;
 use grid_address::Cell;
 use key_words::Key;
 use lics_text::Memory;
@@ -15,7 +16,7 @@ use work_sheet::Sheet;
 fn turn_of(key: Key, room: Room, end: bool, sheet: &Sheet) -> Result<Turn, Memory> {
     let pointer = sheet.settings().pointer;
     match room {
-        Room::Ready => Ok(ready_room::press(key, end, sheet)),
+        Room::Ready => Ok(ready_room::press(key, end, sheet, &DeskRanges::new())),
         Room::Typing(room) => Ok(typing_room::press(key, sheet.cells(), pointer, room)),
         Room::Pointing(room) => Ok(point_room::press(key, sheet.cells(), pointer, room)),
         Room::Menu(_) => Ok(Turn::Become(Room::Ready)),

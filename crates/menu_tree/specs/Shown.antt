@@ -1,11 +1,11 @@
 -- Which items are shown: those whose commands are built.
-use Rattle.std.specs.Prelude.{Bool, true, false, List}
+use Rattle.std.specs.Prelude.{Bool, true, false, List, [], if◌then◌else◌}
 use Rattle.std.specs.List.{filter}
 use Rattle.menu_tree.specs.Tree.{items}
 use Rattle.menu_tree.specs.declared.menu.Action.{Action}
 use Rattle.menu_tree.specs.declared.menu.Action.TheVariants as action
-use Rattle.menu_tree.specs.declared.menu.CommonAction.{CommonAction}
-use Rattle.menu_tree.specs.declared.menu.CommonAction.TheVariants as common
+use Rattle.menu_tree.specs.declared.menu.DataAction.{DataAction}
+use Rattle.menu_tree.specs.declared.menu.DataAction.TheVariants as records
 use Rattle.menu_tree.specs.declared.menu.Item.{Item}
 use Rattle.menu_tree.specs.declared.menu.Item.TheVariants as item
 use Rattle.menu_tree.specs.declared.menu.Menu.{Menu}
@@ -17,33 +17,30 @@ is_menu_built menu.Print = false
 is_menu_built menu.PrintFileMenu = false
 is_menu_built menu.Options = false
 is_menu_built menu.Margins = false
-is_menu_built menu.Data = false
 is_menu_built menu.Table = false
-is_menu_built menu.Sort = false
-is_menu_built menu.Query = false
-is_menu_built menu.QueryDelete = false
 is_menu_built m = true
 
--- all but what stands in those menus alone
-abbrev pub is_common_built : CommonAction → Bool
-is_common_built common.Cancel = false
-is_common_built common.Leave = false
-is_common_built a = true
+-- all but those of tables
+abbrev pub is_data_built : DataAction → Bool
+is_data_built records.TableOne = false
+is_data_built records.TableTwo = false
+is_data_built records.TableReset = false
+is_data_built a = true
 
 -- whether a command is built
 abbrev pub is_built : Action → Bool
-is_built (action.Common a) = is_common_built a
+is_built (action.Common a) = true
 is_built (action.Worksheet a) = true
 is_built (action.Range a) = true
 is_built (action.File a) = true
 is_built (action.Print a) = false
-is_built (action.Data a) = false
+is_built (action.Data a) = is_data_built a
 
 -- whether an item leads to one
 abbrev pub is_shown : Item → Bool
 is_shown (item.Menu m) = is_menu_built m
 is_shown (item.Action a) = is_built a
 
--- the items that a menu shows
+-- the items that a menu shows; none where no command is built below it
 abbrev pub shown : Menu → List Item
-shown m = filter is_shown (items m)
+shown m = if is_menu_built m then filter is_shown (items m) else []

@@ -3,15 +3,23 @@ ghost use Rattle.std.specs.Prelude.{◌≡◌};
 ghost use Rattle.menu_tree.specs.Shown.{shown};
 
 use crate::tables::items;
-use crate::{Action, CommonAction, Item, Menu};
+use crate::{Action, CommonAction, DataAction, Item, Menu};
 
-const MAIN: [Item; 6] = [
+const MAIN: [Item; 7] = [
     Item::Menu(Menu::Worksheet),
     Item::Menu(Menu::Range),
     Item::Action(Action::Common(CommonAction::Copy)),
     Item::Action(Action::Common(CommonAction::Move)),
     Item::Menu(Menu::File),
+    Item::Menu(Menu::Data),
     Item::Menu(Menu::Quit),
+];
+
+const DATA: [Item; 4] = [
+    Item::Action(Action::Data(DataAction::Fill)),
+    Item::Menu(Menu::Sort),
+    Item::Menu(Menu::Query),
+    Item::Action(Action::Data(DataAction::Distribution)),
 ];
 
 /// The items that a menu shows, in their order: those of its items whose commands are built.
@@ -21,7 +29,9 @@ pub fn shown(menu: Menu) -> &'static [Item]
     match menu {
         Menu::Main => &MAIN,
         Menu::Print | Menu::PrintFileMenu | Menu::Options | Menu::Margins => &[],
-        Menu::Data | Menu::Table | Menu::Sort | Menu::Query | Menu::QueryDelete => &[],
+        Menu::Data => &DATA,
+        Menu::Table => &[],
+        Menu::Sort | Menu::Query | Menu::QueryDelete => items(menu),
         Menu::Worksheet | Menu::Global | Menu::GlobalFormat | Menu::GlobalDate => items(menu),
         Menu::Insert | Menu::Delete => items(menu),
         Menu::LabelPrefix | Menu::Recalculation | Menu::Protection => items(menu),

@@ -6,10 +6,15 @@ use Rattle.control_panel.specs.Panels.{plain_panel}
 use Rattle.control_panel.specs.declared.panel.Panel.{Panel}
 use Rattle.control_panel.specs.declared.panel.Mode.TheVariants as mode
 use Rattle.desk_errors.specs.declared.error.CommandError.TheVariants as error
+use Rattle.desk_ranges.specs.declared.ranges.DeskRanges.{DeskRanges}
+use Rattle.desk_ranges.specs.declared.ranges.LastQuery.{LastQuery}
+use Rattle.desk_ranges.specs.declared.ranges.LastQuery.TheVariants as query
 use Rattle.key_words.specs.declared.key.Key.{Key}
 use Rattle.key_words.specs.declared.key.Key.TheVariants as key
 use Rattle.menu_tree.specs.declared.menu.Action.TheVariants as action
 use Rattle.menu_tree.specs.declared.menu.CommonAction.TheVariants as common
+use Rattle.menu_tree.specs.declared.menu.DataAction.{DataAction}
+use Rattle.menu_tree.specs.declared.menu.DataAction.TheVariants as records
 use Rattle.menu_tree.specs.declared.menu.Menu.TheVariants as menu
 use Rattle.menu_room.specs.Room.{opened}
 use Rattle.session_rooms.specs.Bytes.{begins_value, slash}
@@ -60,14 +65,26 @@ abbrev pub way_of : Bool → Key → Option Way
 way_of true k = move_after_end k
 way_of false k = move_of k
 
--- what a key comes to, where END was pressed before it or not
-abbrev pub press : Key → Bool → Sheet → Turn
-press (key.Byte b) end s = turn.Become (begun b)
-press key.End end s = marking end
-press key.Edit end s = editing (pointed_text s)
-press key.Goto end s = turn.Ask (record { action = action.Common common.Goto; answers = [] })
-press key.Calc end s = turn.Recalculate
-press k end s = moving (way_of end k)
+-- a command on data that asks for nothing is carried out
+abbrev pub carrying_out : DataAction → Turn
+carrying_out a = turn.Act (record { action = action.Data a; answers = [] })
+
+-- the last query is made again, with the ranges that are kept now
+abbrev pub query_again : LastQuery → Turn
+query_again query.Nothing = turn.Fail error.QueryRangeMissing
+query_again query.Extract = carrying_out records.Extract
+query_again query.Unique = carrying_out records.Unique
+query_again query.Delete = carrying_out records.DeleteRecords
+
+-- what a key comes to, where END was pressed before it or not, by the sheet and what the commands on data keep
+abbrev pub press : Key → Bool → Sheet → DeskRanges → Turn
+press (key.Byte b) end s r = turn.Become (begun b)
+press key.End end s r = marking end
+press key.Edit end s r = editing (pointed_text s)
+press key.Goto end s r = turn.Ask (record { action = action.Common common.Goto; answers = [] })
+press key.Query end s r = query_again r.last_query
+press key.Calc end s r = turn.Recalculate
+press k end s r = moving (way_of end k)
 
 -- READY is shown alone
 abbrev pub panel : Panel

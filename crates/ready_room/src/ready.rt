@@ -1,21 +1,24 @@
 // What a key comes to while nothing is typed.
 ghost use Rattle.std.specs.Prelude.{◌≡◌};
-ghost use Rattle.ready_room.specs.Ready.{begun, begun_mode, editing, marking, moving, panel, pointed_text, press, way_of};
+ghost use Rattle.ready_room.specs.Ready.{begun, begun_mode, carrying_out, editing, marking, moving, panel, pointed_text};
+ghost use Rattle.ready_room.specs.Ready.{press, query_again, way_of};
 ghost use Rattle.work_sheet.specs.Seen.{of_worksheet};
 
 use cell_pointer::{Way, move_after_end, move_of};
 use control_panel::{Mode, Panel};
 use desk_errors::CommandError;
+use desk_ranges::{DeskRanges, LastQuery};
 use entry_line::EntryLine;
 use grid_address::Cell;
 use key_words::Key;
 use lics_text::{Line, TextByte};
 use menu_room::opened;
-use menu_tree::{Action, CommonAction, Menu};
+use menu_tree::{Action, CommonAction, DataAction, Menu};
 use session_rooms::{
     AnsweredCommand, Answers, Room, Turn, TypingMode, TypingRoom, begins_value, fits_line,
     line_of_byte,
 };
+use std::alloc::Global;
 use work_sheet::Sheet;
 
 // The mode that a byte begins.
@@ -110,12 +113,35 @@ fn way_of(end: bool, key: &Key) -> Option<Way>
     }
 }
 
+// A command on data that asks for nothing is carried out.
+fn carry_out(action: DataAction, alloc: Global) -> Turn
+    ensures { result ≡ carrying_out action }
+{
+    Turn::Act(AnsweredCommand {
+        action: Action::Data(action),
+        answers: Answers::new(alloc),
+    })
+}
+
+// The last query is made again.
+fn query_again(last: LastQuery, alloc: Global) -> Turn
+    ensures { result ≡ query_again last }
+{
+    match last {
+        LastQuery::Nothing => Turn::Fail(CommandError::QueryRangeMissing),
+        LastQuery::Extract => carry_out(DataAction::Extract, alloc),
+        LastQuery::Unique => carry_out(DataAction::Unique, alloc),
+        LastQuery::Delete => carry_out(DataAction::DeleteRecords, alloc),
+    }
+}
+
 /// What a key comes to in READY, where END was pressed before it or not: a slash opens the main menu, any other byte
 /// begins a line, the moving keys move the pointer, END waits for one of them, EDIT edits the pointer's cell, GOTO asks
-/// for a cell, and CALC recalculates. Any other key is passed over (Release 2 manual). `LineTooLong` comes exactly
-/// where the cell's text is no line's. It takes no memory.
-pub fn press(key: Key, end: bool, sheet: &Sheet) -> Turn
-    ensures { result ≡ press key end (of_worksheet sheet.now) }
+/// for a cell, QUERY makes the last query again with the ranges that are kept now, and CALC recalculates. Any other key
+/// is passed over (Release 2 manual). `LineTooLong` comes exactly where the cell's text is no line's, and
+/// `QueryRangeMissing` where there was no query yet. It takes no memory.
+pub fn press(key: Key, end: bool, sheet: &Sheet, ranges: &DeskRanges) -> Turn
+    ensures { result ≡ press key end (of_worksheet sheet.now) ranges.now }
 {
     match key {
         Key::Byte(byte) => Turn::Become(begun(byte)),
@@ -125,6 +151,7 @@ pub fn press(key: Key, end: bool, sheet: &Sheet) -> Turn
             action: Action::Common(CommonAction::Goto),
             answers: Answers::new(sheet.alloc()),
         }),
+        Key::Query => query_again(ranges.last_query, sheet.alloc()),
         Key::Calc => Turn::Recalculate,
         _ => moving(way_of(end, &key)),
     }

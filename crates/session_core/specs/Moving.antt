@@ -38,7 +38,7 @@ OnlyMoves t = ⊥
 
 -- a key that only moves the pointer, types or is passed over
 abbrev pub OnlyMovesByKey : Key → State → Type 0
-OnlyMovesByKey k s = TakesNoMemory k s.room × OnlyMoves (turn_of k s.room s.end (sheet_of s))
+OnlyMovesByKey k s = TakesNoMemory k s.room × OnlyMoves (turn_of k s.room s.end s.desk)
 
 -- an event that does no more
 abbrev pub OnlyMovesBy : Event → State → Type 0

@@ -1,5 +1,6 @@
 -- What a key comes to, and what the panel shows, by what the session is doing.
 use Rattle.std.specs.Prelude.{Bool}
+use Rattle.command_desk.specs.Desks.{Desk}
 use Rattle.control_panel.specs.declared.panel.Panel.{Panel}
 use Rattle.key_words.specs.declared.key.Key.{Key}
 use Rattle.key_words.specs.declared.key.Key.TheVariants as key
@@ -14,21 +15,20 @@ use Rattle.session_rooms.specs.declared.rooms.Room.{Room}
 use Rattle.session_rooms.specs.declared.rooms.Room.TheVariants as room
 use Rattle.session_rooms.specs.declared.turn.Turn.{Turn}
 use Rattle.session_rooms.specs.declared.turn.Turn.TheVariants as turn
-use Rattle.work_sheet.specs.Seen.{Sheet}
 
 -- what a key comes to in a room
-abbrev pub pressed : Room → Key → Bool → Sheet → Turn
-pressed room.Ready k end s = ready.press k end s
-pressed (room.Typing r) k end s = typing.press k s.grid s.settings.pointer r
-pressed (room.Pointing r) k end s = point.press k s.grid s.settings.pointer r
-pressed (room.Menu r) k end s = menu.press k r
-pressed (room.Asking r) k end s = prompt.press k s r
-pressed (room.Failed message) k end s = failed.press_failed k message
+abbrev pub pressed : Room → Key → Bool → Desk → Turn
+pressed room.Ready k end d = ready.press k end d.sheet d.ranges
+pressed (room.Typing r) k end d = typing.press k d.sheet.grid d.sheet.settings.pointer r
+pressed (room.Pointing r) k end d = point.press k d.sheet.grid d.sheet.settings.pointer r
+pressed (room.Menu r) k end d = menu.press k r
+pressed (room.Asking r) k end d = prompt.press k d.sheet r
+pressed (room.Failed message) k end d = failed.press_failed k message
 
 -- BREAK goes to READY from everywhere, and any other key is the room's
-abbrev pub turn_of : Key → Room → Bool → Sheet → Turn
-turn_of key.Break r end s = turn.Become room.Ready
-turn_of k r end s = pressed r k end s
+abbrev pub turn_of : Key → Room → Bool → Desk → Turn
+turn_of key.Break r end d = turn.Become room.Ready
+turn_of k r end d = pressed r k end d
 
 -- what is shown of a room
 abbrev pub room_panel : Room → Panel

@@ -13,7 +13,7 @@ use Rattle.session_core.specs.declared.event.Event.TheVariants.{Key as KeyEvent,
 
 -- what the key comes to is carried out in READY, without END's mark
 abbrev pub taken : Key → Replies → Scene → State → Outcome
-taken k replies scene s = carried (turn_of k s.room s.end (sheet_of s)) replies scene (idle s)
+taken k replies scene s = carried (turn_of k s.room s.end s.desk) replies scene (idle s)
 
 -- the moment is this one
 abbrev pub timed : Moment → State → State

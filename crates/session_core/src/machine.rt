@@ -396,7 +396,7 @@ impl Machine {
         let end = self.end;
         let room = mem::replace(&mut self.room, Room::Ready);
         self.end = false;
-        let turn = turn_of(key, room, end, &self.desk.sheet)?;
+        let turn = turn_of(key, room, end, &self.desk)?;
         let touched = touched_by(&turn);
         let ends = self.carry(turn, now, shelf)?;
         Ok(Taken { touched, ends })

@@ -1,23 +1,24 @@
 // What a key comes to, and what is shown, by what the session is doing.
 ghost use Rattle.std.specs.Prelude.{◌≡◌, IfOk, IsOk};
+ghost use Rattle.command_desk.specs.Desks.{of_desk};
 ghost use Rattle.session_core.specs.Moving.{KeepsNoAnswer, TakesNoMemory};
 ghost use Rattle.session_core.specs.Pressing.{pressed, room_panel, turn_of};
-ghost use Rattle.work_sheet.specs.Seen.{of_worksheet};
 
+use command_desk::Desk;
 use control_panel::Panel;
 use key_words::Key;
 use lics_text::Memory;
 use session_rooms::{Room, Turn};
-use work_sheet::Sheet;
 
 // What a key comes to in a room.
-fn pressed(room: Room, key: Key, end: bool, sheet: &Sheet) -> Result<Turn, Memory>
-    ensures turn { IfOk result (λ t. t ≡ pressed room key end (of_worksheet sheet.now)) }
+fn pressed(room: Room, key: Key, end: bool, desk: &Desk) -> Result<Turn, Memory>
+    ensures turn { IfOk result (λ t. t ≡ pressed room key end (of_desk desk.now)) }
     ensures sure { KeepsNoAnswer room → IsOk result }
 {
+    let sheet = &desk.sheet;
     let pointer = sheet.settings().pointer;
     match room {
-        Room::Ready => Ok(ready_room::press(key, end, sheet)),
+        Room::Ready => Ok(ready_room::press(key, end, sheet, &desk.ranges)),
         Room::Typing(room) => Ok(typing_room::press(key, sheet.cells(), pointer, room)),
         Room::Pointing(room) => Ok(point_room::press(key, sheet.cells(), pointer, room)),
         Room::Menu(room) => Ok(menu_room::press(sheet.alloc(), key, room)),
@@ -28,13 +29,13 @@ fn pressed(room: Room, key: Key, end: bool, sheet: &Sheet) -> Result<Turn, Memor
 
 /// What a key comes to: BREAK goes to READY from everywhere, and any other key is the room's (Release 2 manual). Only
 /// an answer in a prompt takes memory.
-pub(crate) fn turn_of(key: Key, room: Room, end: bool, sheet: &Sheet) -> Result<Turn, Memory>
-    ensures turn { IfOk result (λ t. t ≡ turn_of key room end (of_worksheet sheet.now)) }
+pub(crate) fn turn_of(key: Key, room: Room, end: bool, desk: &Desk) -> Result<Turn, Memory>
+    ensures turn { IfOk result (λ t. t ≡ turn_of key room end (of_desk desk.now)) }
     ensures sure { TakesNoMemory key room → IsOk result }
 {
     match key {
         Key::Break => Ok(Turn::Become(Room::Ready)),
-        _ => pressed(room, key, end, sheet),
+        _ => pressed(room, key, end, desk),
     }
 }
 
