@@ -190,8 +190,8 @@ A~/WGPE/RLR~|12|0|ERROR|A1: PR 'A | |24|Protected cell |
 
 // Menus as they are shown, ways through them, and prompts.
 const MENUS: &str =
-    r#"/|1|0|MENU |A1:  |[Worksheet] Range  Copy  Move  File  Quit |2|Global  Insert  Delete  Column  Erase |
-/{LEFT}|2|0|MENU |A1:  | Worksheet  Range  Copy  Move  File [Quit] |2|No  Yes |
+    r#"/|1|0|MENU |A1:  |[Worksheet] Range  Copy  Move  File  Data  Quit |2|Global  Insert  Delete  Column  Erase |
+/{LEFT}|2|0|MENU |A1:  | Worksheet  Range  Copy  Move  File  Data [Quit] |2|No  Yes |
 /wg{RIGHT 3}|6|0|MENU |A1:  | Format  Label-Prefix  Column-Width [Recalculation] Protection |2|Natural  Col|
 /r{END}|3|0|MENU |A1:  | Format  Label  Erase  Name  Protect  Unprotect  Value [Transpose] |2| |
 /WGF|4|0|MENU |A1:  |[Fixed] Currency  ,  General  Percent  Date  Text  Hidden |2| |
@@ -230,7 +230,7 @@ const MENUS: &str =
 "#;
 
 // The row's run shows what the row tells.
-fn shows<R: AllocGlobal + Abort>(rt: &R, row: &str) -> Result<(), Fail> {
+pub fn shows<R: AllocGlobal + Abort>(rt: &R, row: &str) -> Result<(), Fail> {
     let (keys, rest) = row.split_once('|').expect(rt, "a bar behind the keys");
     let (steps, rest) = rest.split_once('|').expect(rt, "a bar behind the steps");
     let (count, rest) = rest.split_once('|').expect(rt, "a bar behind the count");
