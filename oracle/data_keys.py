@@ -221,8 +221,9 @@ class DataKeys:
         values = self.near(self.block_span)
         first = r.choice([(6, 0), (6, 0), (6, 2), self.block_span[0], (254, 8188)])
         bins = first, (first[0], min(first[1] + r.randrange(4), 8191))
-        if r.randrange(4) == 0:
-            bins = r.choice([((255, 0), (255, 2)), ((255, 0), (255, 0)), ((6, 8190), (6, 8191)), ((6, 8189), (6, 8190)), ((254, 0), (255, 1))])
+        if r.randrange(3) == 0:
+            bins = r.choice([((255, 0), (255, 2)), ((255, 0), (255, 0)), ((255, 4), (255, 5)), ((6, 8190), (6, 8191)), ((6, 8189), (6, 8190)),
+                             ((254, 0), (255, 1))])
         cells = [cell_text((bins[0][0], row)) for row in range(bins[0][1], bins[1][1] + 1)]
         text = lambda: r.choice([b'0', b'0', b'1', b'1', b'2', b'-1', b'-1', b"'fig", b'@NA', b'0.5', b'+A1', b''])
         limits = b'x' + b'\t'.join(cell + b' - ' + text() for cell in cells)
@@ -336,7 +337,8 @@ class DataKeys:
             inputs[-1] = inputs[0] if r.randrange(4) else cell_text(r.choice([span[0], span[1]]))
         used = self.near(span)
         below = (first[0] + 1, first[1] + 1), span[1]
-        keys = self.settings() + self.guarded([below, ((0, 0), (0, 1)), ((0, 0), (0, 0))], 4)
+        free = r.choice([[below], [below], [((0, 0), (1, 1))], [below, ((0, 0), (1, 1))], [below, ((0, 0), (0, 0))]])
+        keys = self.settings() + self.guarded(free, 3)
         again = self.menus.done('dt.2' if two else 'dt.1', self.spelled(used), *inputs)
         keys += again
         for _ in range(r.randrange(4)):

@@ -281,7 +281,7 @@ class Programs:
         r = self.r
         many = [self.counted, self.looped, self.looped, self.rewritten, self.rewritten, self.formulas, self.formulas, self.called, self.called,
                 self.failing, self.failing, self.failing,
-                self.faulty, self.faulty, self.faulty, self.deep, self.deep, self.repeated, self.repeated, self.argued, self.argued, self.argued,
+                *[self.faulty] * 5, self.deep, self.deep, self.repeated, self.repeated, self.argued, self.argued, self.argued,
                 self.reckoned, self.reckoned, self.typed, self.typed, self.moved, self.moved]
         self.starts = None
         made = r.choice(many + [self.ended] * 4 + [self.endless] if last else many)()
