@@ -10,6 +10,8 @@ NUMBERS = [b'0', b'1', b'2', b'-1', b'1.5', b'10', b'0.1', b'-0.000001', b'8191'
 NO_NUMBERS = [b'', b'x', b'1/2', b'1000000000', b' 5', b'+', b'A1', b'1e3', b'5%', b'@NA']
 NO_ORDERS = [b'', b'x', b'AD', b'1', b' A', b'Ascending', b'~']
 ONE_ROW = 1
+# bins whose counts have no room, or only just
+AT_THE_EDGE = [((255, 0), (255, 2)), ((255, 4), (255, 4)), ((6, 8190), (6, 8191)), ((6, 8189), (6, 8190)), ((254, 0), (255, 1))]
 
 
 def file_of(lines):
@@ -221,17 +223,17 @@ class DataKeys:
         values = self.near(self.block_span)
         first = r.choice([(6, 0), (6, 0), (6, 2), self.block_span[0], (254, 8188)])
         bins = first, (first[0], min(first[1] + r.randrange(4), 8191))
-        if r.randrange(3) == 0:
-            bins = r.choice([((255, 0), (255, 2)), ((255, 0), (255, 0)), ((255, 4), (255, 5)), ((6, 8190), (6, 8191)), ((6, 8189), (6, 8190)),
-                             ((254, 0), (255, 1))])
+        if r.randrange(4) == 0:
+            bins = r.choice(AT_THE_EDGE)
         cells = [cell_text((bins[0][0], row)) for row in range(bins[0][1], bins[1][1] + 1)]
         text = lambda: r.choice([b'0', b'0', b'1', b'1', b'2', b'-1', b'-1', b"'fig", b'@NA', b'0.5', b'+A1', b''])
         limits = b'x' + b'\t'.join(cell + b' - ' + text() for cell in cells)
         beside = min(bins[0][0] + 1, 255)
         keys = self.settings() + self.guarded([((beside, bins[0][1]), (beside, min(bins[1][1] + 1, 8191))), bins], 6)
-        for _ in range(r.randrange(1, 4)):
-            keys += self.menus.done('d.distribution', self.spelled(values),
-                                    self.spelled(bins)) + r.choice([b'', b'{ESC}', b'{ESC}' + self.changed(bins), b'{ESC}' + self.changed(values)])
+        for _ in range(r.randrange(1, 5)):
+            asked = bins if r.randrange(3) else r.choice(AT_THE_EDGE)
+            keys += self.menus.done('d.distribution', self.spelled(values), self.spelled(asked))
+            keys += b'{ESC}' + r.choice([b'', b'', self.changed(bins), self.changed(values)])
             values = self.near(self.block_span)
         return lines + [limits], keys + self.seen(bins[0], (beside, bins[0][1]), (beside, bins[1][1]))
 
