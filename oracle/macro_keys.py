@@ -103,7 +103,7 @@ class Programs:
     def looped(self):
         """FOR, whose counter, bound and steps may change in it."""
         r = self.r
-        step = r.choice([b'1', b'1', b'2', b'-1', b'0.5', b'B1', b'-0.75'])
+        step = r.choice([b'1', b'1', b'2', b'-1', b'0.5', b'B1', b'-0.75', b'0'])
         first, last = r.choice([(b'1', self.number()), (b'3', b'1'), (b'-1', b'B2'), (b'A1', b'5')])
         body = r.choice([b'{LET A2,A2+A1}', b'{LET A2,A2+A1}{IF A2>3}{FORBREAK}', b'{LET A1,A1+1}', b'{LET B2,1}{DOWN}', b'x{DOWN}',
                          b'{FOR B3,1,2,1,F1}', b'{RETURN}x', b'{RESTART}',
