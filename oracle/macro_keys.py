@@ -146,7 +146,7 @@ class Programs:
         many = r.randrange(1, 4)
         given = b' ' + r.choice([b',', b';']).join(r.choice(items) for _ in range(many)) + b'}'
         place = lambda at: r.choice([b'B%d', b'B%d', b'C%d']) % (at + 1) + r.choice([b'', b':value', b':string', b':VALUE', b':String'])
-        define = b'{DEFINE ' + b','.join(place(at) for at in range(many if r.randrange(8) else many + 1)) + b'}'
+        define = b'{DEFINE ' + b','.join(place(at) for at in range(max(1, many + r.choice([0, 0, 0, 0, 0, 1, -1, -1])))) + b'}'
         again = b'{LET A1,A1+1}{IF A1<' + r.choice([b'3', b'40', b'31', b'32']) + b'}{SUB' + given
         body = r.choice([b'{LET A2,B1+B2}', b'{RETURN}x', b'{RESTART}', b'{SUB2 7}', b'{SUB2 7}', b'{SUB2 A1}{LET C2,1}', b'{QUIT}', b'',
                          b'{IF B1<3}{SUB 9}', b'{DEFINE C3}', b'/XR', again])
