@@ -4,3 +4,4 @@ pub mod Answered
 pub mod Kept
 pub mod Looking
 pub mod Prefixed
+pub mod Units

@@ -77,8 +77,8 @@ start = begun_with fresh_desk
 abbrev pub begun : Desk → Work → Running
 begun d w = record { state = begun_with d; work = w; spent = false }
 
--- it wants a key, since no macro runs
-abbrev pub wants_key : State → Bool
+-- Whether it wants a key. It always does, since no macro runs yet; a proof that rests on this unfolds it.
+unfoldable pub wants_key : State → Bool
 wants_key s = true
 
 -- the worksheet

@@ -80,6 +80,7 @@ impl Session {
     }
 
     /// Whether the next step takes a key.
+    #[tactic(auto, unfolding(crate::specs::Machine::wants_key))]
     pub fn wants_key(&self) -> bool
         ensures { result ≡ wants_key self.now.state }
     {
@@ -96,10 +97,10 @@ impl Session {
         self.machine.evaluations()
     }
 
-    /// One step: a key exactly where the session wants one. `Quit` comes exactly where the menu's Quit was confirmed
-    /// (Release 2 manual). After `Memory` the session is spent. A step that only moves the pointer, types, or is passed
-    /// over, takes no memory and leaves all of the sheet but the pointer. The shelf is called where a command of files
-    /// has all its answers, and once before, where it may replace a file.
+    /// One step: a key exactly where the session wants one, and else a unit, which does nothing yet. `Quit` comes
+    /// exactly where the menu's Quit was confirmed (Release 2 manual). After `Memory` the session is spent. A step that
+    /// only moves the pointer, types, or is passed over, takes no memory and leaves all of the sheet but the pointer.
+    /// The shelf is called where a command of files has all its answers, and once before, where it may replace a file.
     pub fn step<S: Shelf>(&mut self, event: Event, now: &Moment, shelf: &mut S) -> Stepped
         requires fresh { self.old.spent ≡ false }
         requires key { is_key event ≡ wants_key self.old.state }
@@ -117,7 +118,7 @@ impl Session {
         ensures sheet { OnlyMovesBy event self.old.state → IsMoved (sheet_of self.old.state) (sheet_of self.new.state) }
     {
         let Event::Key(key) = event else {
-            unreachable!();
+            return Stepped::More;
         };
         let corner = self.machine.corner();
         match self.machine.take(key, now, shelf) {
