@@ -1,10 +1,14 @@
 -- A run that must end well does.
-use Rattle.std.proofs.Common.{◌≡◌, ℕ, ◌+◌, ◌<◌, ◌≤◌, ◌-◌, ◌^◌, Bool, false, List, [], ◌∷◌, ◌++◌, length, Option, Some, None, Result, Ok, Err, refl, sym, ap, ◌∙◌, subst, arith, inl, inr, append_assoc, length-append}
+use Rattle.std.proofs.Common.{◌≡◌, ℕ, ◌+◌, ◌<◌, ◌-◌, ◌^◌, Bool, true, false, List, [], ◌∷◌, ◌++◌, length, Option, Some, None, Result, Ok, Err, refl, sym, ap, ◌∙◌, subst, arith, inl, inr, append_assoc, length-append}
 use Rattle.std.specs.Prelude.{replicate}
 use Rattle.std.proofs.lemmas.Bool.{cases_lt}
 use Rattle.std.proofs.lemmas.List.{append-nil, length-map, replicate-append-replicate}
 use Rattle.outside_world.specs.Causes.{Rose}
 use Rattle.key_words.specs.declared.key.Key.{Key}
+use Rattle.session_core.specs.Machine.{wants_key}
+use Rattle.session_core.specs.Step.{is_key}
+use Rattle.session_core.specs.declared.event.Event.{Event}
+use Rattle.session_core.specs.declared.event.Event.TheVariants.{Key as KeyEvent, Unit as UnitEvent}
 use Rattle.commands_file.specs.Calls.{HaveAnswered, ShelfView}
 use Rattle.outside_world.specs.Shelf.{answered, failed, file_in, HasRead, OnShelf}
 use Rattle.outside_world.specs.declared.faults.ShelfFault.TheVariants.{Failed}
@@ -13,27 +17,28 @@ use Rattle.sheet_store.specs.declared.writes.SavedSheet.{SavedSheet}
 use Rattle.wk1_file.proofs.OneFile.{one_file}
 use Rattle.wk1_file.specs.Files.{IsFile}
 use Rattle.wk1_records.specs.declared.fault.Wk1Fault.{Wk1Fault}
-use Rattle.sheet_run.specs.Completeness.{at_their_end, by_quitting, from_file, without, EndTheRun, EndWithin, HasEndedWell, MustEndWell, Opens, ReadWell}
+use Rattle.sheet_run.specs.Completeness.{at_their_end, by_quitting, from_file, without, EndWithin, HasEndedWell, MayMake, MustEndWell, Opens, QuitWithin, ReadWell}
 use Rattle.sheet_run.specs.Displays.{Watched, views_of}
 use Rattle.sheet_run.specs.Driving.{HasEnded}
 use Rattle.key_words.specs.Notation.{Begins, IsNoText, Spells as SpellsWords}
-use Rattle.sheet_run.specs.Notation.{pressed, HasKeys, IntoLast, SpellsInto}
+use Rattle.sheet_run.specs.Notation.{pressed, HasKeys, IntoLast, Spells, SpellsInto, SpellsUpTo}
 use Rattle.sheet_run.specs.Notes.{LeavesSession, ending_status}
 use Rattle.sheet_run.specs.Opening.{answer_of, asked_for, opening, HasOpened, StartFile}
 use Rattle.sheet_run.specs.Options.{limit_of}
-use Rattle.sheet_run.specs.Run.{keys_of, Ended, GoOn, Outside, Step}
-use Rattle.sheet_run.specs.Status.{HasFinished, IsRun, RunsWith, World, is_any, finished, no_memory, no_note, no_room, no_session, no_sheet, not_read, ran, refused}
-use Rattle.sheet_run.specs.Taking.{AtEnd, TakesBytes}
+use Rattle.sheet_run.specs.Run.{after, calls_of, key_in, keys_of, moments_of, GoOn, HasRun, Outside, Step}
+use Rattle.sheet_run.specs.Status.{HasFinished, IsRun, RunsWith, World, asked, is_any, finished, no_memory, no_note, no_room, no_session, no_sheet, not_read, ran, refused}
+use Rattle.sheet_run.specs.Taking.{AtEnd, Ended, TakesBytes, TakesReadings}
 use Rattle.sheet_run.specs.declared.drive.Ending.{Ending}
 use Rattle.sheet_run.specs.declared.drive.Ending.TheVariants.{KeysEnded, Quit, BadWord, KeysFailed, Stopped, NoMemory}
 use Rattle.sheet_run.specs.declared.opening.NotRead.{NotRead}
 use Rattle.sheet_run.specs.declared.opening.NotRead.TheVariants.{NoSuchFile, Faulty, DiskError}
 use Rattle.sheet_run.specs.declared.options.Options.{Options}
 use Rattle.sheet_run.proofs.Endings.{handled}
-use Rattle.sheet_run.proofs.Fronts.{must_quit, shorter_begins}
+use Rattle.sheet_run.proofs.Fronts.{may_begin, must_quit, quit_before, quit_by_then, shorter_begins}
+use Rattle.sheet_run.proofs.Going.{answered_both}
 use Rattle.sheet_run.proofs.WordBegun.{front_words}
 use Rattle.key_words.proofs.Scanning.{prefix_keys}
-use Rattle.sheet_run.proofs.Pressed.{into_length, into_spelled, pressed-append, pressed_more}
+use Rattle.sheet_run.proofs.Pressed.{into_spelled, pressed-append, pressed_more}
 
 -- what the keys told was taken from their bytes
 took : (bytes taken : List ℕ) (told now : Option (List ℕ)) → told ≡ Some bytes → TakesBytes told taken now → (rest : List ℕ) × (bytes ≡ taken ++ rest) × (now ≡ Some rest)
@@ -63,24 +68,84 @@ pressed_front : (all words more : List (Key × ℕ)) (keys rest : List Key) → 
 pressed_front all words more keys rest is begins =
     ap pressed is ∙ pressed-append words more ∙ ap (λ (l : List Key). l ++ pressed more) begins ∙ append_assoc keys rest (pressed more)
 
-module _ (start : Option StartFile) (first : Moment) where
-  -- a run that took the words by which it is quit, and maybe more, doesn't go on
-  took_quit : (taken front behind : List ℕ) (steps : List Step) (keys : List Key) → HasKeys taken (keys_of steps) → taken ≡ front ++ behind → SpellsInto front keys → EndTheRun start keys → GoOn (opening start first).state steps → ⊥
-  took_quit taken front behind steps keys has split into quit on =
+-- bytes that begin others spell keys that begin theirs
+keys_begin : (bytes taken rest : List ℕ) (some all : List Key) → bytes ≡ taken ++ rest → SpellsUpTo taken some → Spells bytes all → (more : List Key) × (all ≡ some ++ more)
+keys_begin bytes taken rest some all split (inl spelled) whole =
+    let i = spelled.into in
+    let words : List (Key × ℕ) = i.words ++ (spelled.key, i.done + spelled.left) ∷ [] in
+    let more = prefix_keys taken rest words whole.0 (into_spelled taken some spelled.key spelled.left i) (subst (λ (b : List ℕ). SpellsWords b whole.0) split whole.1) in
+    let keys_are : all ≡ (some ++ replicate spelled.left spelled.key) ++ pressed more.0 =
+    sym whole.2 ∙ ap pressed more.1 ∙ pressed-append words more.0 ∙ ap (λ (l : List Key). l ++ pressed more.0) (into_all taken some spelled.key spelled.left i) in
+    (replicate spelled.left spelled.key ++ pressed more.0, keys_are ∙ append_assoc some (replicate spelled.left spelled.key) (pressed more.0))
+keys_begin bytes taken rest some all split (inr none) whole = (all, ap (λ (l : List Key). l ++ all) (sym none.1))
+
+-- of two beginnings of some bytes, the keys begin all keys of one of them
+record BothBegin (one other : List Key) : Type 0 where
+  pub all : List Key
+  pub behind_one : List Key
+  pub behind_other : List Key
+  pub one_begins : all ≡ one ++ behind_one
+  pub other_begins : all ≡ other ++ behind_other
+
+both_begin : (a b c d : List ℕ) (one other : List Key) → a ++ b ≡ c ++ d → SpellsInto a one → SpellsInto c other → BothBegin one other
+both_begin a b c d one other both spelled into =
+    let words : List (Key × ℕ) = spelled.into.words ++ (spelled.key, spelled.into.done + spelled.left) ∷ [] in
+    let other_words : List (Key × ℕ) = into.into.words ++ (into.key, into.into.done + into.left) ∷ [] in
+    let whole = into_spelled a one spelled.key spelled.left spelled.into in
+    let other_whole = into_spelled c other into.key into.left into.into in
+    let all = into_all a one spelled.key spelled.left spelled.into in
+    let other_all = into_all c other into.key into.left into.into in
+    elim (cases_lt (length a) (length c)) [
+      | inl more ↦
+          let longer = shorter_begins a b c d both (omega (arith, more)) in
+          let later = prefix_keys a longer.0 words other_words whole (subst (λ (x : List ℕ). SpellsWords x other_words) longer.1 other_whole) in
+          record {
+            all = pressed other_words;
+            behind_one = replicate spelled.left spelled.key ++ pressed later.0;
+            behind_other = replicate into.left into.key;
+            one_begins = pressed_front other_words words later.0 one (replicate spelled.left spelled.key) later.1 all;
+            other_begins = other_all;
+          }
+      | inr fewer ↦
+          let longer = shorter_begins c d a b (sym both) fewer in
+          let later = prefix_keys c longer.0 other_words words other_whole (subst (λ (x : List ℕ). SpellsWords x words) longer.1 whole) in
+          record {
+            all = pressed words;
+            behind_one = replicate spelled.left spelled.key;
+            behind_other = replicate into.left into.key ++ pressed later.0;
+            one_begins = all;
+            other_begins = pressed_front words other_words later.0 other (replicate into.left into.key) later.1 other_all;
+          }
+    ]
+
+-- an event is there: a key is, or it is a unit
+no_next : (next : Event) (more : List Key) → is_key next ≡ true → key_in next ++ more ≡ [] → ⊥
+no_next (KeyEvent k) more key none = absurd cc
+no_next UnitEvent more key none = absurd cc
+
+no_front : (xs ys : List Key) → xs ++ ys ≡ [] → xs ≡ []
+no_front [] ys e = refl
+no_front (x ∷ xs) ys e = absurd cc
+
+module _ (before : Outside) (start : Option StartFile) (first : Moment) (limit : ℕ) (steps : List Step) (m : MayMake before start first (keys_of steps) [] steps) where
+  -- a run that took the words by which it is quit, and maybe more, wants no further key
+  took_quit : (taken front behind : List ℕ) (keys : List Key) → HasKeys taken (keys_of steps) → taken ≡ front ++ behind → SpellsInto front keys → QuitWithin before start limit keys →
+      wants_key (after (opening start first).state steps) ≡ true → ⊥
+  took_quit taken front behind keys has split into quit wanted =
       let words : List (Key × ℕ) = into.into.words ++ (into.key, into.into.done + into.left) ∷ [] in
       let more = front_words taken front behind has.0 words has.1 split (into_spelled front keys into.key into.left into.into) in
       let all = pressed_front has.0 words more.0 keys (replicate into.left into.key) more.1 (into_all front keys into.key into.left into.into) in
-      must_quit start first keys (replicate into.left into.key ++ pressed more.0) steps (sym has.2 ∙ all) quit on
+      must_quit before start first limit (keys_of steps) [] steps m keys quit (replicate into.left into.key ++ pressed more.0) (sym has.2 ∙ all) wanted
 
   -- the bytes don't end inside a word
-  never_inside : (limit : ℕ) (bytes : List ℕ) (steps : List Step) → GoOn (opening start first).state steps → HasKeys bytes (keys_of steps) → IsNoText bytes → EndWithin start limit bytes → ⊥
-  never_inside limit bytes steps on has none (at_their_end keys spelled within) = none spelled.0 spelled.1
-  never_inside limit bytes steps on has none (by_quitting front rest keys split into within quit) = took_quit bytes front rest steps keys has split into quit on
+  never_inside : (bytes : List ℕ) → wants_key (after (opening start first).state steps) ≡ true → HasKeys bytes (keys_of steps) → IsNoText bytes → EndWithin before start limit bytes → ⊥
+  never_inside bytes wanted has none (at_their_end keys spelled rests) = none spelled.0 spelled.1
+  never_inside bytes wanted has none (by_quitting front rest keys split into quit) = took_quit bytes front rest keys has split into quit wanted
 
   -- no byte comes with which no text goes on
-  never_bad : (limit : ℕ) (bytes taken rest : List ℕ) (bad : ℕ) (steps : List Step) → bytes ≡ (taken ++ bad ∷ []) ++ rest → GoOn (opening start first).state steps → HasKeys taken (keys_of steps) → (Begins (taken ++ bad ∷ []) → ⊥) → EndWithin start limit bytes → ⊥
-  never_bad limit bytes taken rest bad steps split on has none (at_their_end keys spelled within) = none (rest, spelled.0, subst (λ (b : List ℕ). SpellsWords b spelled.0) split spelled.1)
-  never_bad limit bytes taken rest bad steps split on has none (by_quitting front behind keys parts into within quit) =
+  never_bad : (bytes taken rest : List ℕ) (bad : ℕ) → bytes ≡ (taken ++ bad ∷ []) ++ rest → wants_key (after (opening start first).state steps) ≡ true → HasKeys taken (keys_of steps) → (Begins (taken ++ bad ∷ []) → ⊥) → EndWithin before start limit bytes → ⊥
+  never_bad bytes taken rest bad split wanted has none (at_their_end keys spelled rests) = none (rest, spelled.0, subst (λ (b : List ℕ). SpellsWords b spelled.0) split spelled.1)
+  never_bad bytes taken rest bad split wanted has none (by_quitting front behind keys parts into quit) =
       let words : List (Key × ℕ) = into.into.words ++ (into.key, into.into.done + into.left) ∷ [] in
       let both : front ++ behind ≡ (taken ++ bad ∷ []) ++ rest = sym parts ∙ split in
       elim (cases_lt (length taken) (length front)) [
@@ -89,65 +154,76 @@ module _ (start : Option StartFile) (first : Moment) where
             none (front_is.0, words, subst (λ (b : List ℕ). SpellsWords b words) front_is.1 (into_spelled front keys into.key into.left into.into))
         | inr fewer ↦
             let taken_is = shorter_begins front behind taken (bad ∷ rest) (both ∙ append_assoc taken (bad ∷ []) rest) fewer in
-            took_quit taken front taken_is.0 steps keys has taken_is.1 into quit on
+            took_quit taken front taken_is.0 keys has taken_is.1 into quit wanted
       ]
 
-  -- as many steps as the limit don't go on where a run is quit within the limit
-  within_limit : (limit : ℕ) (steps : List Step) (last : Key) (keys rest behind all : List Key) → all ≡ keys ++ rest → all ≡ (keys_of steps ++ last ∷ []) ++ behind → length keys ≤ limit → length steps ≡ limit → EndTheRun start keys → GoOn (opening start first).state steps → ⊥
-  within_limit limit steps last keys rest behind all one other within count quit on =
-      let both : keys ++ rest ≡ keys_of steps ++ last ∷ behind = sym one ∙ other ∙ append_assoc (keys_of steps) (last ∷ []) behind in
-      let begins = shorter_begins keys rest (keys_of steps) (last ∷ behind) both (omega (arith, within, count, length-map steps (λ (x : Step). x.key))) in
-      must_quit start first keys begins.0 steps begins.1 quit on
-
-  -- no key is there for one step more than the limit allows
-  never_stopped : (limit : ℕ) (bytes taken rest : List ℕ) (steps : List Step) (last : Key) → bytes ≡ taken ++ rest → GoOn (opening start first).state steps → length steps ≡ limit → SpellsInto taken (keys_of steps ++ last ∷ []) → EndWithin start limit bytes → ⊥
-  never_stopped limit bytes taken rest steps last split on count spelled (at_their_end keys all within) =
-      let i = spelled.into in
-      let words : List (Key × ℕ) = i.words ++ (spelled.key, i.done + spelled.left) ∷ [] in
-      let more = prefix_keys taken rest words all.0 (into_spelled taken (keys_of steps ++ last ∷ []) spelled.key spelled.left i) (subst (λ (b : List ℕ). SpellsWords b all.0) split all.1) in
-      let keys_are : keys ≡ pressed words ++ pressed more.0 = sym all.2 ∙ ap pressed more.1 ∙ pressed-append words more.0 in
-      let made : length (keys_of steps ++ last ∷ []) ≤ length (pressed words) = into_length taken (keys_of steps ++ last ∷ []) spelled.key spelled.left i in
-      omega (arith, within, ap length keys_are, length-append (pressed words) (pressed more.0), made, length-append (keys_of steps) (last ∷ []), length-map steps (λ (x : Step). x.key), count)
-  never_stopped limit bytes taken rest steps last split on count spelled (by_quitting front behind keys parts into within quit) =
-      let words : List (Key × ℕ) = spelled.into.words ++ (spelled.key, spelled.into.done + spelled.left) ∷ [] in
-      let quit_words : List (Key × ℕ) = into.into.words ++ (into.key, into.into.done + into.left) ∷ [] in
-      let whole = into_spelled taken (keys_of steps ++ last ∷ []) spelled.key spelled.left spelled.into in
-      let front_whole = into_spelled front keys into.key into.left into.into in
-      let all = into_all taken (keys_of steps ++ last ∷ []) spelled.key spelled.left spelled.into in
-      let front_all = into_all front keys into.key into.left into.into in
-      let both : front ++ behind ≡ taken ++ rest = sym parts ∙ split in
-      elim (cases_lt (length taken) (length front)) [
-        | inl more ↦
-            let front_is = shorter_begins taken rest front behind (sym both) (omega (arith, more)) in
-            let later = prefix_keys taken front_is.0 words quit_words whole (subst (λ (b : List ℕ). SpellsWords b quit_words) front_is.1 front_whole) in
-            within_limit limit steps last keys _ _ (pressed quit_words) front_all (pressed_front quit_words words later.0 (keys_of steps ++ last ∷ []) _ later.1 all) within count quit on
-        | inr fewer ↦
-            let taken_is = shorter_begins front behind taken rest both fewer in
-            let later = prefix_keys front taken_is.0 quit_words words front_whole (subst (λ (b : List ℕ). SpellsWords b words) taken_is.1 whole) in
-            within_limit limit steps last keys _ _ (pressed words) (pressed_front words quit_words later.0 keys _ later.1 front_all) all within count quit on
+  -- behind as many steps as the limit, none of which ends the run, it isn't one that is quit by these keys
+  within_limit : (keys rest behind all : List Key) → all ≡ keys ++ rest → all ≡ keys_of steps ++ behind → length steps ≡ limit → QuitWithin before start limit keys → ⊥
+  within_limit keys rest behind all one other count quit =
+      let both : keys ++ rest ≡ keys_of steps ++ behind = sym one ∙ other in
+      elim (cases_lt (length keys) (length (keys_of steps))) [
+        | inl fewer ↦
+            let begins = shorter_begins keys rest (keys_of steps) behind both (omega (arith, fewer)) in
+            quit_by_then before start first limit (keys_of steps) [] steps m keys quit begins.0 begins.1 count
+        | inr more ↦
+            let begins = shorter_begins (keys_of steps) behind keys rest (sym both) more in
+            quit_before before start first limit (keys_of steps) [] steps m keys quit begins.0 begins.1 count
       ]
 
-module _ (start : Option StartFile) (first : Moment) (limit : ℕ) (before now : Outside) (bytes : List ℕ) (steps : List Step) (left out : List Watched)
-    (told : before.bytes ≡ Some bytes) (short : length bytes < 2 ^ 64 - 1) (within : EndWithin start limit bytes) (fine : Rose before.key_faults now.key_faults → ⊥) where
+  -- no event is there for one step more than the limit allows
+  never_stopped : (bytes taken rest : List ℕ) (next : Event) → bytes ≡ taken ++ rest → length steps ≡ limit → is_key next ≡ wants_key (after (opening start first).state steps) → SpellsUpTo taken (keys_of steps ++ key_in next) →
+      EndWithin before start limit bytes → ⊥
+  never_stopped bytes taken rest next split count fits spelled (at_their_end keys whole rests) =
+      let begins = keys_begin bytes taken rest (keys_of steps ++ key_in next) keys split spelled whole in
+      let keys_are : keys ≡ keys_of steps ++ (key_in next ++ begins.0) = begins.1 ∙ append_assoc (keys_of steps) (key_in next) begins.0 in
+      let over = may_begin before start first (keys_of steps) [] steps steps [] m (sym (append-nil steps)) keys (key_in next ++ begins.0) keys_are in
+      let rest_now = rests first (key_in next ++ begins.0) steps over count in
+      no_next next begins.0 (fits ∙ rest_now.0) rest_now.1
+  never_stopped bytes taken rest next split count fits (inl spelled) (by_quitting front behind keys parts into quit) =
+      let b = both_begin front behind taken rest keys (keys_of steps ++ key_in next) (sym parts ∙ split) into spelled in
+      within_limit keys b.behind_one (key_in next ++ b.behind_other) b.all b.one_begins (b.other_begins ∙ append_assoc (keys_of steps) (key_in next) b.behind_other) count quit
+  never_stopped bytes taken rest next split count fits (inr none) (by_quitting front behind keys parts into quit) =
+      let empty : keys_of steps ≡ [] = no_front (keys_of steps) (key_in next) none.1 in
+      within_limit keys [] keys keys (sym (append-nil keys)) (ap (λ (l : List Key). l ++ keys) (sym empty)) count quit
+
+-- the steps of a run are such as it may make
+may_make : (o : Options) (limit : ℕ) (before : Outside) (start : Option StartFile) (first : Moment) (begun now : Outside) (taken : List ℕ) (steps : List Step) (left out : List Watched) → HasOpened o.file start first (asked o before) begun →
+    HasRun limit (opening start first).state taken (moments_of steps) steps left out begun now → GoOn (opening start first).state steps → MayMake before start first (keys_of steps) [] steps
+may_make o limit before start first begun now taken steps left out opened did on = record {
+  readings = now.readings;
+  took = (opened.readings, opened.took, subst (λ r. TakesReadings r (moments_of steps) now.readings) (ap (λ (x : Outside). x.readings) opened.now_is) did.readings);
+  shelf = now.shelf;
+  answered = answered_both (opening start first).calls (calls_of (opening start first).state steps) before.shelf opened.shelf now.shelf opened.answered
+      (subst (λ (v : ShelfView). HaveAnswered (calls_of (opening start first).state steps) v now.shelf) (ap (λ (x : Outside). x.shelf) opened.now_is) did.shelf);
+  fit = did.fit;
+  go_on = on;
+  keys_are = sym (append-nil (keys_of steps));
+}
+
+module _ (o : Options) (origin : Outside) (start : Option StartFile) (first : Moment) (limit : ℕ) (before now : Outside) (bytes : List ℕ) (steps : List Step) (left out : List Watched)
+    (opened : HasOpened o.file start first (asked o origin) before) (told : before.bytes ≡ Some bytes) (short : length bytes < 2 ^ 64 - 1) (within : EndWithin origin start limit bytes) (fine : Rose before.key_faults now.key_faults → ⊥) where
   -- of the endings that leave the session only those at the keys' end and where the run is quit are left
   pub only_well : (ending : Ending) → LeavesSession ending → HasEnded limit (opening start first).state steps left out before now ending → (ending_status false ending ≡ 0) × ReadWell start before now
   only_well KeysEnded leaves h =
       let t = took bytes h.taken before.bytes now.bytes told h.did.bytes in
       let none : t.0 ≡ [] = at_their_end_of bytes h.taken t.0 now.bytes t.1 t.2 short h.ended in
-      (refl, inl (record { taken = h.taken; took = h.did.bytes; first = first; steps = steps; spelled = h.spelled; go_on = h.go_on; none_left = t.2 ∙ ap Some none }))
-  only_well Quit leaves h = (refl, inr (record { taken = h.taken; took = h.did.bytes; first = first; steps = steps; spelled = h.spelled; quit = h.quit }))
+      (refl, inl (record { taken = h.taken; took = h.did.bytes; first = first; steps = steps; spelled = h.spelled; fit = h.did.fit; go_on = h.go_on; wanted = h.wanted; none_left = t.2 ∙ ap Some none }))
+  only_well Quit leaves h = (refl, inr (record { taken = h.taken; took = h.did.bytes; first = first; steps = steps; spelled = h.spelled; fit = h.did.fit; quit = h.quit }))
   only_well (BadWord at) leaves (inl h) =
       let t = took bytes h.taken before.bytes now.bytes told h.did.bytes in
       let none : t.0 ≡ [] = at_their_end_of bytes h.taken t.0 now.bytes t.1 t.2 short h.ended in
       let whole : bytes ≡ h.taken = t.1 ∙ ap (λ (r : List ℕ). h.taken ++ r) none ∙ append-nil h.taken in
-      absurd (never_inside start first limit h.taken steps h.go_on h.keys h.no_text (subst (EndWithin start limit) whole within))
+      let made = may_make o limit origin start first before now h.taken steps left out opened h.did h.go_on in
+      absurd (never_inside origin start first limit steps made h.taken h.wanted h.keys h.no_text (subst (EndWithin origin start limit) whole within))
   only_well (BadWord at) leaves (inr h) =
       let t = took bytes (h.taken ++ h.bad ∷ []) before.bytes now.bytes told h.did.bytes in
-      absurd (never_bad start first limit bytes h.taken t.0 h.bad steps t.1 h.go_on h.keys h.begins_none within)
+      let made = may_make o limit origin start first before now (h.taken ++ h.bad ∷ []) steps left out opened h.did h.go_on in
+      absurd (never_bad origin start first limit steps made bytes h.taken t.0 h.bad t.1 h.wanted h.keys h.begins_none within)
   only_well KeysFailed leaves h = absurd (fine h.fault)
   only_well Stopped leaves h =
       let t = took bytes h.taken before.bytes now.bytes told h.did.bytes in
-      absurd (never_stopped start first limit bytes h.taken t.0 steps h.last t.1 h.go_on h.all h.spelled within)
+      let made = may_make o limit origin start first before now h.taken steps left out opened h.did h.go_on in
+      absurd (never_stopped origin start first limit steps made bytes h.taken t.0 h.next t.1 h.all h.fits h.spelled within)
   only_well NoMemory leaves h = absurd leaves
 
 -- what was read to an end stays so where what the keys tell stays
@@ -159,7 +235,9 @@ same_read start begun middle before now first same (inl r) =
       first = r.first;
       steps = r.steps;
       spelled = r.spelled;
+      fit = r.fit;
       go_on = r.go_on;
+      wanted = r.wanted;
       none_left = same ∙ r.none_left;
     })
 same_read start begun middle before now first same (inr r) =
@@ -169,6 +247,7 @@ same_read start begun middle before now first same (inr r) =
       first = r.first;
       steps = r.steps;
       spelled = r.spelled;
+      fit = r.fit;
       quit = r.quit;
     })
 
@@ -227,10 +306,10 @@ ended_well words o before now found text must same fin =
     let f0 : fin.begun.failed ≡ before.outside.failed = ap (λ (x : Outside). x.failed) fin.opened.now_is in
     let opens : Opens before.outside.shelf now.outside.shelf o.file must.start = subst (λ (x : Options). Opens before.outside.shelf now.outside.shelf x.file must.start) same must.opens in
     let start : fin.start ≡ must.start = same_start now.outside.shelf o.file must.start fin.start fin.first _ fin.begun opens fin.opened in
-    let within : EndWithin fin.start (limit_of o) must.bytes =
-    subst (λ (f : Option StartFile). EndWithin f (limit_of o) must.bytes) (sym start) (subst (λ (x : Options). EndWithin must.start (limit_of x) must.bytes) same must.end_within) in
+    let within : EndWithin before.outside fin.start (limit_of o) must.bytes =
+    subst (λ (f : Option StartFile). EndWithin before.outside f (limit_of o) must.bytes) (sym start) (subst (λ (x : Options). EndWithin before.outside must.start (limit_of x) must.bytes) same must.end_within) in
     let fine : Rose fin.begun.key_faults fin.middle.key_faults → ⊥ = λ rose. must.keys_fine (subst (λ (n : ℕ). Rose n now.outside.key_faults) k0 (subst (λ (n : ℕ). Rose fin.begun.key_faults n) (sym k) rose)) in
-    let well = only_well fin.start fin.first (limit_of o) fin.begun fin.middle must.bytes fin.steps fin.left fin.out (b0 ∙ must.told) must.short within fine fin.ending fin.leaves fin.ended in
+    let well = only_well o before.outside fin.start fin.first (limit_of o) fin.begun fin.middle must.bytes fin.steps fin.left fin.out fin.opened (b0 ∙ must.told) must.short within fine fin.ending fin.leaves fin.ended in
     let h = handled _ _ _ _ _ _ _ fin.ending fin.ended in
     let f : now.outside.failed ≡ fin.middle.failed ++ views_of fin.out_now = ap (λ (x : Outside). x.failed) fin.now_is in
     let none : length (fin.out ++ fin.out_now) ≡ 0 =

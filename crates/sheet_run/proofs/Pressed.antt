@@ -1,7 +1,7 @@
 -- The reader of keys over whole texts.
-use Rattle.std.proofs.Common.{◌≡◌, ℕ, zero, suc, ◌+◌, ◌-◌, ◌<◌, ◌≤◌, List, [], ◌∷◌, ◌++◌, length, refl, sym, ap, ◌∙◌, subst, arith, append_assoc, inl, inr, length-append, Option, Some, None, Ok, Err}
+use Rattle.std.proofs.Common.{◌≡◌, ℕ, zero, suc, ◌+◌, ◌-◌, ◌<◌, ◌≤◌, List, [], ◌∷◌, ◌++◌, refl, sym, ap, ◌∙◌, subst, arith, append_assoc, inl, inr, Option, Some, None, Ok, Err}
 use Rattle.std.specs.Prelude.{replicate}
-use Rattle.std.proofs.lemmas.List.{append-nil, length-replicate}
+use Rattle.std.proofs.lemmas.List.{append-nil}
 use Rattle.outside_world.specs.Keys.{TakesByte}
 use Rattle.outside_world.specs.declared.faults.Failed.{Failed}
 use Rattle.key_words.specs.Notation.{Spells, SpellsWord, one_word}
@@ -13,8 +13,9 @@ use Rattle.sheet_run.proofs.LastWord.{word_ends}
 use Rattle.sheet_run.specs.Notation.{pressed, HasKeys, IntoLast}
 use Rattle.sheet_run.specs.Reader.{HasJustPressed, HasPressed, HasPressedAll, Reads, Takes}
 use Rattle.sheet_run.specs.Taking.{AtEnd, TakesBytes}
-use Rattle.sheet_run.specs.declared.reader.Read.{Read}
-use Rattle.sheet_run.specs.declared.reader.Read.TheVariants.{Key as ReadKey, More as ReadMore, Bad as ReadBad, End as ReadEnd, Failed as ReadFailed}
+use Rattle.session_core.specs.declared.event.Event.TheVariants.{Key as KeyEvent, Unit as UnitEvent}
+use Rattle.sheet_run.specs.declared.reader.Next.{Next}
+use Rattle.sheet_run.specs.declared.reader.Next.TheVariants.{Event, More, Bad, End, Failed as NextFailed}
 use Rattle.sheet_run.specs.declared.reader.KeyFeed.{KeyFeed}
 
 pub pressed-append : (xs ys : List (Key × ℕ)) → pressed (xs ++ ys) ≡ pressed xs ++ pressed ys
@@ -38,18 +39,6 @@ all_pressed : (bytes : List ℕ) (keys : List Key) (key : Key) (left : ℕ) → 
 all_pressed bytes keys key left none i =
     let times : i.done + left ≡ i.done = omega (arith, none) in
     pressed_more i.words key (i.done + left) ∙ ap (λ n. pressed i.words ++ replicate n key) times ∙ sym i.keys_are
-
--- the keys are at most all keys of the words
-pub into_length : (bytes : List ℕ) (keys : List Key) (key : Key) (left : ℕ) → (i : IntoLast bytes keys key left) → length keys ≤ length (pressed (i.words ++ (key, i.done + left) ∷ []))
-into_length bytes keys key left i = omega (
-  arith,
-  ap length i.keys_are,
-  length-append (pressed i.words) (replicate i.done key),
-  length-replicate i.done key,
-  ap length (pressed_more i.words key (i.done + left)),
-  length-append (pressed i.words) (replicate (i.done + left) key),
-  length-replicate (i.done + left) key,
-)
 
 pub settled : (bytes : List ℕ) (keys : List Key) (f : KeyFeed) → f.left ≡ 0 → HasPressed bytes keys f → HasPressedAll bytes keys f
 settled bytes keys f none (inl all) = all
@@ -108,12 +97,13 @@ pub has : (bytes : List ℕ) (keys : List Key) (f : KeyFeed) → HasPressedAll b
 has bytes keys f all = (all.words, has_keys bytes all.words f.words all.read, all.keys_are)
 
 -- a byte that was taken, and what it came to
-pub reads_taken : (bytes : List ℕ) (keys : List Key) (b : ℕ) (told told' : Option (List ℕ)) (f : KeyFeed) (r : Read) → TakesBytes told (b ∷ []) told' → Takes bytes keys b f r → Reads bytes keys told told' f r
-reads_taken bytes keys b told told' f (ReadKey k) took t = (b ∷ [], took, t)
-reads_taken bytes keys b told told' f ReadMore took t = (b, took, t)
-reads_taken bytes keys b told told' f (ReadBad at) took t = (b, took, t.0, t.1, t.2, t.3)
-reads_taken bytes keys b told told' f ReadEnd took t = absurd t
-reads_taken bytes keys b told told' f ReadFailed took t = absurd t
+pub reads_taken : (bytes : List ℕ) (keys : List Key) (b : ℕ) (told told' : Option (List ℕ)) (f : KeyFeed) (r : Next) → TakesBytes told (b ∷ []) told' → Takes bytes keys b f r → Reads bytes keys told told' f r
+reads_taken bytes keys b told told' f (Event (KeyEvent k)) took t = (b ∷ [], took, t)
+reads_taken bytes keys b told told' f (Event UnitEvent) took t = absurd t
+reads_taken bytes keys b told told' f More took t = (b, took, t)
+reads_taken bytes keys b told told' f (Bad at) took t = (b, took, t.0, t.1, t.2, t.3)
+reads_taken bytes keys b told told' f End took t = absurd t
+reads_taken bytes keys b told told' f NextFailed took t = absurd t
 
 -- no byte is left
 none_left : (told now : Option (List ℕ)) → TakesByte told now (Ok None) → TakesBytes told [] now × AtEnd now

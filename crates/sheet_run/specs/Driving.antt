@@ -6,7 +6,8 @@ use Rattle.serial_date.specs.declared.moment.Moment.{Moment}
 use Rattle.key_words.specs.declared.key.Key.{Key}
 use Rattle.session_core.specs.Machine.{Follows, Replies, Running, State}
 use Rattle.session_core.specs.Step.{step}
-use Rattle.session_core.specs.declared.event.Event.TheVariants.{Key as KeyEvent}
+use Rattle.session_core.specs.declared.event.Event.{Event}
+use Rattle.session_core.specs.declared.event.Event.TheVariants.{Unit as UnitEvent}
 use Rattle.session_core.specs.Screen.{screen}
 use Rattle.screen_show.specs.Display.{View}
 use Rattle.screen_show.specs.Grid.{IsPrinted}
@@ -15,22 +16,30 @@ use Rattle.sheet_run.specs.Displays.{Screen, Watched}
 use Rattle.sheet_run.specs.Passing.{HasSentOne, Passed}
 use Rattle.sheet_run.specs.Run.{Outside, Step, after, happened, RanToEnd, RanToQuit, RanIntoWord, RanToBadByte}
 use Rattle.sheet_run.specs.Run.{RanToKeyFault, RanToLimit, RanOutOfMemory}
-use Rattle.sheet_run.specs.Reader.{RestsAsTold}
+use Rattle.sheet_run.specs.Reader.{HasPressed, Reads, RestsAsTold}
 use Rattle.sheet_run.specs.declared.reader.KeyFeed.{KeyFeed}
+use Rattle.sheet_run.specs.declared.reader.Next.{Next}
+use Rattle.sheet_run.specs.declared.reader.Next.TheVariants.{Event as NextEvent}
 use Rattle.sheet_run.specs.declared.drive.StepEnd.{StepEnd}
 use Rattle.sheet_run.specs.declared.drive.StepEnd.TheVariants.{Done, Quit as StepQuit, NoMemory as StepNoMemory}
 use Rattle.sheet_run.specs.declared.drive.Ending.{Ending}
 use Rattle.sheet_run.specs.declared.drive.Ending.TheVariants.{KeysEnded, Quit, BadWord, KeysFailed, Stopped, NoMemory}
 
+-- what comes next behind these bytes and keys: where a key is wanted, what reading comes to, and else a unit, for which
+-- nothing is read
+abbrev pub ComesNext : Bool → List ℕ → List Key → Option (List ℕ) → Option (List ℕ) → KeyFeed → Next → Type 0
+ComesNext true bytes keys told told' f next = Reads bytes keys told told' f next
+ComesNext false bytes keys told told' f next = (next ≡ NextEvent UnitEvent) × (told' ≡ told) × HasPressed bytes keys f
+
 -- a step was made and its screen sent; the flag says whether it ends the run
-pub record HasMadeStep (key : Key) (ends : Bool) (s t : Running) (readings readings' : Option (List Moment)) (shelf shelf' : ShelfView)
+pub record HasMadeStep (event : Event) (ends : Bool) (s t : Running) (readings readings' : Option (List Moment)) (shelf shelf' : ShelfView)
     (shown shown' : Screen) (displays displays' failed failed' : List View) : Type 0 where
   pub moment : Moment
   pub replies : Replies
   pub took : TakesReading readings readings' moment
-  pub stepped : Follows (step (KeyEvent key) moment replies s.state) s t
-  pub ending : (step (KeyEvent key) moment replies s.state).ends ≡ ends
-  pub answered : HaveAnswered (step (KeyEvent key) moment replies s.state).calls shelf shelf'
+  pub stepped : Follows (step event moment replies s.state) s t
+  pub ending : (step event moment replies s.state).ends ≡ ends
+  pub answered : HaveAnswered (step event moment replies s.state).calls shelf shelf'
   pub passed : Passed (HasSentOne shown (screen t.state)) displays displays' failed failed'
   pub shows : shown' ≡ screen t.state
   pub printed : IsPrinted (screen t.state)
@@ -45,12 +54,12 @@ pub record HasNotMadeStep (readings readings' : Option (List Moment)) (shelf she
   pub failed_stay : failed' ≡ failed
 
 -- a step was made, or memory ran out in it
-abbrev pub HasStepped : Key → Running → Running → Option (List Moment) → Option (List Moment) → ShelfView → ShelfView → Screen → Screen → List View → List View → List View → List View → StepEnd → Type 0
-HasStepped key s t readings readings' shelf shelf' shown shown' displays displays' failed failed' Done =
-    HasMadeStep key false s t readings readings' shelf shelf' shown shown' displays displays' failed failed'
-HasStepped key s t readings readings' shelf shelf' shown shown' displays displays' failed failed' StepQuit =
-    HasMadeStep key true s t readings readings' shelf shelf' shown shown' displays displays' failed failed'
-HasStepped key s t readings readings' shelf shelf' shown shown' displays displays' failed failed' StepNoMemory =
+abbrev pub HasStepped : Event → Running → Running → Option (List Moment) → Option (List Moment) → ShelfView → ShelfView → Screen → Screen → List View → List View → List View → List View → StepEnd → Type 0
+HasStepped event s t readings readings' shelf shelf' shown shown' displays displays' failed failed' Done =
+    HasMadeStep event false s t readings readings' shelf shelf' shown shown' displays displays' failed failed'
+HasStepped event s t readings readings' shelf shelf' shown shown' displays displays' failed failed' StepQuit =
+    HasMadeStep event true s t readings readings' shelf shelf' shown shown' displays displays' failed failed'
+HasStepped event s t readings readings' shelf shelf' shown shown' displays displays' failed failed' StepNoMemory =
     HasNotMadeStep readings readings' shelf shelf' displays displays' failed failed'
 
 -- the ending where the keys are at their end, behind so many bytes

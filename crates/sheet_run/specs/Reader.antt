@@ -4,18 +4,11 @@ use Rattle.key_words.specs.Notation.{Begins, IsNoText, Spells}
 use Rattle.key_words.specs.Reading.{HasRead}
 use Rattle.key_words.specs.declared.key.Key.{Key}
 use Rattle.sheet_run.specs.Notation.{pressed, HasKeys, IntoLast}
-use Rattle.sheet_run.specs.Taking.{TakesBytes, AtEnd}
+use Rattle.session_core.specs.declared.event.Event.TheVariants.{Key as KeyEvent, Unit as UnitEvent}
+use Rattle.sheet_run.specs.Taking.{Ended, TakesBytes}
 use Rattle.sheet_run.specs.declared.reader.KeyFeed.{KeyFeed}
-use Rattle.sheet_run.specs.declared.reader.Read.{Read}
-use Rattle.sheet_run.specs.declared.reader.Read.TheVariants.{Key as ReadKey, More as ReadMore, Bad as ReadBad, End as ReadEnd, Failed as ReadFailed}
-
--- a key is to come, or one byte more can be counted
-abbrev pub HasRoom : KeyFeed → Type 0
-HasRoom f = f.left ≡ 0 → f.words.taken < 18446744073709551615
-
--- no key is to come, and as many bytes were read as can be counted
-abbrev pub IsFull : KeyFeed → Type 0
-IsFull f = (f.left ≡ 0) × (f.words.taken ≡ 18446744073709551615)
+use Rattle.sheet_run.specs.declared.reader.Next.{Next}
+use Rattle.sheet_run.specs.declared.reader.Next.TheVariants.{Event, More, Bad, End, Failed}
 
 -- how much may be read yet; less with each key and each byte
 abbrev pub ahead : KeyFeed → ℕ
@@ -38,20 +31,22 @@ abbrev pub HasPressed : List ℕ → List Key → KeyFeed → Type 0
 HasPressed bytes keys f = HasPressedAll bytes keys f ⊎ HasJustPressed bytes keys f
 
 -- what reading came to, behind these bytes and keys
-abbrev pub Reads : List ℕ → List Key → Option (List ℕ) → Option (List ℕ) → KeyFeed → Read → Type 0
-Reads bytes keys told told' f (ReadKey key) = (more : List ℕ) × TakesBytes told more told' × HasJustPressed (bytes ++ more) (keys ++ key ∷ []) f
-Reads bytes keys told told' f ReadMore = (b : ℕ) × TakesBytes told (b ∷ []) told' × HasPressedAll (bytes ++ b ∷ []) keys f
-Reads bytes keys told told' f (ReadBad at) = (b : ℕ) × TakesBytes told (b ∷ []) told' × HasKeys bytes keys × (Begins (bytes ++ b ∷ []) → ⊥) × (at ≡ length bytes) × (at < 18446744073709551615)
-Reads bytes keys told told' f ReadEnd = TakesBytes told [] told' × AtEnd told' × HasPressedAll bytes keys f
-Reads bytes keys told told' f ReadFailed = TakesBytes told [] told' × HasKeys bytes keys
+abbrev pub Reads : List ℕ → List Key → Option (List ℕ) → Option (List ℕ) → KeyFeed → Next → Type 0
+Reads bytes keys told told' f (Event (KeyEvent key)) = (more : List ℕ) × TakesBytes told more told' × HasJustPressed (bytes ++ more) (keys ++ key ∷ []) f
+Reads bytes keys told told' f (Event UnitEvent) = ⊥
+Reads bytes keys told told' f More = (b : ℕ) × TakesBytes told (b ∷ []) told' × HasPressedAll (bytes ++ b ∷ []) keys f
+Reads bytes keys told told' f (Bad at) = (b : ℕ) × TakesBytes told (b ∷ []) told' × HasKeys bytes keys × (Begins (bytes ++ b ∷ []) → ⊥) × (at ≡ length bytes) × (at < 18446744073709551615)
+Reads bytes keys told told' f End = TakesBytes told [] told' × Ended bytes told' × HasPressedAll bytes keys f
+Reads bytes keys told told' f Failed = TakesBytes told [] told' × HasKeys bytes keys
 
 -- what a byte came to, behind these bytes and keys
-abbrev pub Takes : List ℕ → List Key → ℕ → KeyFeed → Read → Type 0
-Takes bytes keys b f (ReadKey key) = HasJustPressed (bytes ++ b ∷ []) (keys ++ key ∷ []) f
-Takes bytes keys b f ReadMore = HasPressedAll (bytes ++ b ∷ []) keys f
-Takes bytes keys b f (ReadBad at) = HasKeys bytes keys × (Begins (bytes ++ b ∷ []) → ⊥) × (at ≡ length bytes) × (at < 18446744073709551615)
-Takes bytes keys b f ReadEnd = ⊥
-Takes bytes keys b f ReadFailed = ⊥
+abbrev pub Takes : List ℕ → List Key → ℕ → KeyFeed → Next → Type 0
+Takes bytes keys b f (Event (KeyEvent key)) = HasJustPressed (bytes ++ b ∷ []) (keys ++ key ∷ []) f
+Takes bytes keys b f (Event UnitEvent) = ⊥
+Takes bytes keys b f More = HasPressedAll (bytes ++ b ∷ []) keys f
+Takes bytes keys b f (Bad at) = HasKeys bytes keys × (Begins (bytes ++ b ∷ []) → ⊥) × (at ≡ length bytes) × (at < 18446744073709551615)
+Takes bytes keys b f End = ⊥
+Takes bytes keys b f Failed = ⊥
 
 -- the reader is at rest exactly where the bytes are whole words
 pub record RestsAsTold (f : KeyFeed) (rests : Bool) : Type 0 where

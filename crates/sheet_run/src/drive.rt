@@ -1,15 +1,21 @@
-// Drives a session by keys.
-ghost use Rattle.std.specs.Prelude.{◌≡◌, ◌≤◌, ◌+◌, false, map, vec_len, vec_capacity};
+// Drives a session by keys and by the units of its macros.
+ghost use Rattle.std.specs.Prelude.{◌≡◌, ◌<◌, ◌≤◌, ◌+◌, ℕ, false, List, map, vec_len, vec_capacity};
 ghost use Rattle.commands_file.specs.Calls.{shelf_view};
 ghost use Rattle.screen_show.specs.Grid.{empty_grid, IsPrinted};
+ghost use Rattle.key_words.specs.declared.key.Key.{Key};
+ghost use Rattle.outside_world.specs.Causes.{Rose};
+ghost use Rattle.session_core.specs.Machine.{wants_key};
 ghost use Rattle.session_core.specs.Screen.{screen};
-ghost use Rattle.sheet_run.specs.Driving.{EndsAsTold, HasStepped, HasDriven};
+ghost use Rattle.session_core.specs.Step.{is_key};
+ghost use Rattle.session_core.specs.declared.event.Event.{Event};
+ghost use Rattle.sheet_run.specs.Driving.{ComesNext, EndsAsTold, HasStepped, HasDriven};
 ghost use Rattle.sheet_run.specs.Passing.{HasSentOne, Passed};
+ghost use Rattle.sheet_run.specs.Reader.{ahead, HasPressed};
 ghost use Rattle.sheet_run.specs.Run.{outside};
+ghost use Rattle.sheet_run.specs.declared.reader.Next.TheVariants as Next;
 
 use crate::displays::{Work, work_on_all};
-use crate::reader::{KeyFeed, Read};
-use key_words::Key;
+use crate::reader::{KeyFeed, Next};
 use outside_world::{Clock, Keys, Shelf};
 use screen_show::{Display, Grid};
 use session_core::{Event, Session, Stepped};
@@ -33,7 +39,7 @@ pub enum Ending {
     /// The keys ended inside a word, or a byte came with which none goes on, behind so many bytes.
     BadWord(u64),
     KeysFailed,
-    /// A key was there for one step more than the limit allows.
+    /// A key or a macro's unit was there for one step more than the limit allows.
     Stopped,
     NoMemory,
 }
@@ -63,9 +69,27 @@ fn send_screen(
     *shown = *after;
 }
 
+// What comes next: where the session wants no key, a macro's unit, for which nothing is read.
+fn next_event<K: Keys>(session: &Session, feed: &mut KeyFeed, keys: &mut K) -> Next
+    ensures next { (bytes : List ℕ) (made : List Key) → HasPressed bytes made feed.old →
+        ComesNext (wants_key session.now.state) bytes made (K.left keys.old) (K.left keys.new) feed.new result }
+    ensures event { (event : Event) → result ≡ Next.Event event → ahead feed.new ≤ ahead feed.old }
+    ensures more { result ≡ Next.More → ahead feed.new < ahead feed.old }
+    ensures few { feed.new.words.taken ≤ 18446744073709551615 }
+    ensures fault { result ≡ Next.Failed → Rose (K.faults keys.old) (K.faults keys.new) }
+    ensures fine { (result ≡ Next.Failed → ⊥) → K.faults keys.new ≡ K.faults keys.old }
+{
+    let _taken = feed.taken();
+    if session.wants_key() {
+        feed.read(keys)
+    } else {
+        Next::Event(Event::Unit)
+    }
+}
+
 // Reads the clock, makes a step, and sends its screen.
 fn make_step<S: Shelf, C: Clock>(
-    key: Key,
+    event: Event,
     shelf: &mut S,
     clock: &mut C,
     displays: &mut Vec<Box<dyn Display>>,
@@ -74,15 +98,16 @@ fn make_step<S: Shelf, C: Clock>(
     shown: &mut Grid,
 ) -> StepEnd
     requires fresh { session.old.spent ≡ false }
+    requires wanted { is_key event ≡ wants_key session.old.state }
     requires room { vec_len failed.old + vec_len displays.old ≤ vec_capacity failed.old }
-    ensures stepped { HasStepped key session.old session.new (C.readings clock.old) (C.readings clock.new)
+    ensures stepped { HasStepped event session.old session.new (C.readings clock.old) (C.readings clock.new)
         (shelf_view (S.holds shelf.old) (S.faults shelf.old)) (shelf_view (S.holds shelf.new) (S.faults shelf.new))
         shown.old shown.new (map seen displays.old.items) (map seen displays.new.items)
         (map seen failed.old.items) (map seen failed.new.items) result }
     ensures room { vec_len failed.new + vec_len displays.new ≤ vec_capacity failed.new }
 {
     let now = clock.read();
-    match session.step(Event::Key(key), &now, shelf) {
+    match session.step(event, &now, shelf) {
         Stepped::More => {
             send_screen(session, displays, failed, shown);
             StepEnd::Done
@@ -106,7 +131,8 @@ fn ended(feed: &KeyFeed) -> Ending
     }
 }
 
-/// Makes steps until the keys ask to quit or end, the limit is reached or something fails.
+/// Makes steps, of keys and of macros' units, until one ends the run, the keys end, the limit is reached or something
+/// fails.
 pub fn drive<K: Keys, S: Shelf, C: Clock>(
     limit: u32,
     keys: &mut K,
@@ -129,22 +155,21 @@ pub fn drive<K: Keys, S: Shelf, C: Clock>(
     let mut shown = Grid::empty();
     let mut feed = KeyFeed::new();
     let mut steps: u32 = 0;
-    while !feed.is_full() {
-        let key = match feed.read(keys) {
-            Read::Key(key) => key,
-            Read::More => continue,
-            Read::End => return ended(&feed),
-            Read::Bad(at) => return Ending::BadWord(at),
-            Read::Failed => return Ending::KeysFailed,
+    loop {
+        let event = match next_event(session, &mut feed, keys) {
+            Next::Event(event) => event,
+            Next::More => continue,
+            Next::End => return ended(&feed),
+            Next::Bad(at) => return Ending::BadWord(at),
+            Next::Failed => return Ending::KeysFailed,
         };
         if steps >= limit {
             return Ending::Stopped;
         }
-        match make_step(key, shelf, clock, displays, failed, session, &mut shown) {
+        match make_step(event, shelf, clock, displays, failed, session, &mut shown) {
             StepEnd::Done => steps += 1,
             StepEnd::Quit => return Ending::Quit,
             StepEnd::NoMemory => return Ending::NoMemory,
         }
     }
-    ended(&feed)
 }

@@ -41,18 +41,18 @@ fn refused_text(words: &Words, refused: Refused) -> &[u8]
 /// kind that wasn't asked for are dropped, of which no clause tells that nothing is asked of them before;
 /// the shelf is asked once for the start file, where the words name one; the clock is read once, and the
 /// file's sheet, or a fresh one, is recalculated; then the steps follow.
-/// Before each step bytes are read until a key is there or the keys end, then the limit is tested, then
-/// the clock is read, the step is made and its screen is sent to each display in order. A display whose
-/// call failed moves to the end of `failed`, and the others go on. Behind a step that asks to quit no byte more is
-/// taken. At the end each display that is left is closed. With 1, 2, 6 and 9 none is closed, and with 1, 2 and 6 the
-/// clock isn't read.
+/// Before each step, where the session wants a key, bytes are read until a key is there or the keys end; where it wants
+/// none, the step is of a macro's unit. Then the limit is tested, then the clock is read, the step is made and its screen
+/// is sent to each display in order. A display whose call failed moves to the end of `failed`, and the others go on.
+/// Behind a step that asks to quit no byte more is taken. At the end each display that is left is closed. With 1, 2, 6
+/// and 9 none is closed, and with 1, 2 and 6 the clock isn't read.
 ///
 /// | Status | Comes | Note |
 /// |---|---|---|
 /// | 0 | the keys ended at a word's end, or asked to quit | none |
 /// | 1 | exactly where the words are outside the grammar | `bad word: W` |
 /// | 2 | exactly where the shelf has no start file, or the file is no worksheet file | `NAME.WK1: no such file` or `NAME.WK1: F2 6` |
-/// | 3 | exactly where as many steps as the limit were made and a key was there for one more | `stopped after N steps` |
+/// | 3 | exactly where as many steps as the limit were made and one more could begin: of a macro's unit, of a repeat that is left, or of a key that was read | `stopped after N steps` |
 /// | 4 | exactly where the bytes begin no text of key notation, or end inside a word | `bad key word at byte N` |
 /// | 5 | only where the count of the keys' faults rose | `keys failed` |
 /// | 6 | only where the count of the shelf's faults rose while the start file was read | `NAME.WK1: disk error` |
@@ -178,8 +178,9 @@ fn count_of(options: &Options, session: &Session) -> Option<u64>
     }
 }
 
-/// A run ends well where the words are in the grammar, the start file reads as a sheet, nothing failed, and the bytes spell at most as many keys as the
-/// limit allows or begin with words whose keys quit the run within it, unless memory ran out.
+/// A run ends well where the words are in the grammar, the start file reads as a sheet, nothing failed, and the bytes
+/// spell keys that with the macros they start come to their end within the limit of steps, or begin with words whose keys
+/// quit the run within it, unless memory ran out.
 pub fn a_run_ends_well()
     ensures { (words : List (List ℕ)) (before now : World) (status : ℕ) →
         IsRun words before now status → (must : MustEndWell words before now) → HasEndedWell must.start before now status }

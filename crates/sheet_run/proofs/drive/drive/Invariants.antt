@@ -1,12 +1,12 @@
-use Rattle.std.proofs.Common.{map, ◌≤◌, ◌+◌, vec_len, vec_capacity}
+use Rattle.std.proofs.Common.{map, ◌≤◌, ◌+◌, ◌-◌, vec_len, vec_capacity}
 use Rattle.commands_file.specs.Calls.{shelf_view}
 use Rattle.sheet_run.specs.Reader.{ahead}
 use Rattle.sheet_run.specs.Run.{outside}
 use Rattle.sheet_run.proofs.Going.{Going}
 use Rattle.sheet_run.proofs.drive.drive.Given as goal
 
-abbrev pub invariant-loop-shown : goal.invariant-loop-shown
-invariant-loop-shown g l = record {
+abbrev pub invariant-loop-event : goal.invariant-loop-event
+invariant-loop-event g l = record {
   going : Going l.limit l.steps l.fn.session l.session l.feed l.shown
       (outside (g.K.Keys.left l.fn.keys) (g.K.Keys.faults l.fn.keys) (g.C.Clock.readings l.fn.clock) (shelf_view (g.S.Shelf.holds l.fn.shelf) (g.S.Shelf.faults l.fn.shelf))
       (map (λ d. (goal.Display-dyn g (d.vtable, d.value)).seen d.value) l.fn.displays.items) (map (λ d. (goal.Display-dyn g (d.vtable, d.value)).seen d.value) l.fn.failed.items))
@@ -16,5 +16,5 @@ invariant-loop-shown g l = record {
   within : l.steps ≤ l.limit;
 }
 
-abbrev pub decreases-loop-shown : goal.decreases-loop-shown
-decreases-loop-shown g l = ahead l.feed
+abbrev pub decreases-loop-event : goal.decreases-loop-event
+decreases-loop-event g l = ahead l.feed + (l.limit - l.steps)
