@@ -1,6 +1,6 @@
 // Marks of cells.
 ghost use Rattle.std.specs.Prelude.{◌≡◌, ℕ, ◌<◌, ◌≤◌, cond, length, [], get_or, OnOk};
-ghost use Rattle.cell_numbers.specs.Numbers.{band_of, items_of, number_at, place_of, HasRoom};
+ghost use Rattle.cell_numbers.specs.Numbers.{page_of, items_of, number_at, place_of, HasRoom};
 ghost use Rattle.grid_address.specs.Place.{same_place, InSheet, Place};
 
 use grid_address::Cell;
@@ -8,17 +8,23 @@ use lics_text::Memory;
 use std::alloc::Global;
 use std::marker::Model;
 
-/// How many rows a band has.
-const ROWS: u16 = 64;
+/// How many rows a page has.
+const ROWS: u16 = 256;
 
-/// How many places a band has.
-const PLACES: usize = 16_384;
+/// How many columns a page has.
+const COLUMNS: u8 = 4;
 
-/// A small number for each place of the sheet; 0 stands for none. The places lie in bands of 64 rows, row by row, and a
-/// band without a mark takes no room.
+/// How many pages lie side by side.
+const PAGES: usize = 64;
+
+/// How many places a page has.
+const PLACES: usize = 1_024;
+
+/// A small number for each place of the sheet; 0 stands for none. The places lie in pages of 256 rows and 4 columns, and
+/// a page without a mark takes no room but its head's.
 #[derive(Drop)]
 pub struct Marks {
-    bands: Vec<Vec<u8>>,
+    pages: Vec<Vec<u8>>,
     alloc: Global,
 }
 
@@ -28,42 +34,42 @@ impl Model for Marks {
 
     ghost Value = { List (List ℕ) };
 
-    ghost view = { λ m. items_of m.bands.items };
+    ghost view = { λ m. items_of m.pages.items };
 }
 
-// The band of a cell.
-fn band_of(cell: Cell) -> usize
-    ensures { result ≡ band_of cell }
+// The page of a cell.
+fn page_of(cell: Cell) -> usize
+    ensures { result ≡ page_of cell }
 {
-    usize::from(cell.row / ROWS)
+    usize::from(cell.row / ROWS) * PAGES + usize::from(cell.col / COLUMNS)
 }
 
-// The place of a cell in its band.
+// The place of a cell in its page.
 fn place_of(cell: Cell) -> usize
     ensures place { result ≡ place_of cell }
-    ensures below { result < 16384 }
+    ensures below { result < 1024 }
 {
-    usize::from(cell.row % ROWS) * 256 + usize::from(cell.col)
+    usize::from(cell.row % ROWS) * 4 + usize::from(cell.col % COLUMNS)
 }
 
-// Adds empty bands, up to this one.
-fn add_bands(bands: &mut Vec<Vec<u8>>, alloc: Global, band: usize) -> Result<(), Memory>
-    ensures same { (d : Place) → number_at (items_of bands.new.items) d ≡ number_at (items_of bands.old.items) d }
-    ensures long { OnOk result (band < length bands.new.items) }
+// Adds empty pages, up to this one.
+fn add_pages(pages: &mut Vec<Vec<u8>>, alloc: Global, page: usize) -> Result<(), Memory>
+    ensures same { (d : Place) → number_at (items_of pages.new.items) d ≡ number_at (items_of pages.old.items) d }
+    ensures long { OnOk result (page < length pages.new.items) }
 {
-    while bands.len() <= band {
-        bands.push(Vec::new(alloc))?;
+    while pages.len() <= page {
+        pages.push(Vec::new(alloc))?;
     }
     Ok(())
 }
 
-// Fills a band with zeros.
-fn fill_band(band: &mut Vec<u8>) -> Result<(), Memory>
-    ensures same { (j : ℕ) → get_or band.new.items j 0 ≡ get_or band.old.items j 0 }
-    ensures long { OnOk result (16384 ≤ length band.new.items) }
+// Fills a page with zeros.
+fn fill_page(page: &mut Vec<u8>) -> Result<(), Memory>
+    ensures same { (j : ℕ) → get_or page.new.items j 0 ≡ get_or page.old.items j 0 }
+    ensures long { OnOk result (1024 ≤ length page.new.items) }
 {
-    if band.len() < PLACES {
-        band.resize(PLACES, 0)?;
+    if page.len() < PLACES {
+        page.resize(PLACES, 0)?;
     }
     Ok(())
 }
@@ -74,7 +80,7 @@ impl Marks {
         ensures { result ≡ [] }
     {
         Marks {
-            bands: Vec::new(alloc),
+            pages: Vec::new(alloc),
             alloc,
         }
     }
@@ -83,8 +89,8 @@ impl Marks {
     pub fn get(&self, cell: Cell) -> u8
         ensures { result ≡ number_at self.now cell }
     {
-        match self.bands.get(band_of(cell)) {
-            Some(band) => match band.get(place_of(cell)) {
+        match self.pages.get(page_of(cell)) {
+            Some(page) => match page.get(place_of(cell)) {
                 Some(mark) => *mark,
                 None => 0,
             },
@@ -98,9 +104,9 @@ impl Marks {
         ensures room { OnOk result (HasRoom self.new cell) }
     {
         cell.is_on_sheet();
-        let at = band_of(cell);
-        add_bands(&mut self.bands, self.alloc, at)?;
-        fill_band(&mut self.bands[at])?;
+        let at = page_of(cell);
+        add_pages(&mut self.pages, self.alloc, at)?;
+        fill_page(&mut self.pages[at])?;
         Ok(())
     }
 
@@ -111,9 +117,9 @@ impl Marks {
             ≡ cond (same_place cell d) mark (number_at self.old d) }
     {
         cell.is_on_sheet();
-        let at = band_of(cell);
-        let band = &mut self.bands[at];
-        band[place_of(cell)] = mark;
+        let at = page_of(cell);
+        let page = &mut self.pages[at];
+        page[place_of(cell)] = mark;
     }
 
     /// Marks a cell.
