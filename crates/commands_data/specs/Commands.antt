@@ -1,10 +1,9 @@
--- The commands below Data, but for those of tables.
+-- The commands below Data.
 use Rattle.std.specs.Prelude.{ℕ, ◌||◌, nat_lt, Bool, true, false, List, [], ◌∷◌, Option, None, Some, if◌then◌else◌}
 use Rattle.std.specs.List.{list_any}
 use Rattle.command_desk.specs.Acting.{given, on_desk, refused, Acted, DeskActed}
 use Rattle.command_desk.specs.Answered.{span_at}
 use Rattle.command_desk.specs.Desks.{Desk}
-use Rattle.command_desk.specs.OnDesk.{left}
 use Rattle.command_desk.specs.Writing.{all_made, sight_in}
 use Rattle.commands_data.specs.Answers.{filling_at, key_at}
 use Rattle.commands_data.specs.Kept.{kept, kept_by, with_key, with_last, with_range, without_query, without_sort}
@@ -14,6 +13,7 @@ use Rattle.commands_data.specs.declared.keeping.KeySetting.{KeySetting}
 use Rattle.commands_data.specs.declared.keeping.KeySetting.TheVariants.{Primary, Secondary}
 use Rattle.commands_data.specs.declared.keeping.RangeSetting.{RangeSetting}
 use Rattle.commands_data.specs.declared.keeping.RangeSetting.TheVariants as range
+use Rattle.commands_table.specs.Commands as tables
 use Rattle.data_blocks.specs.Distribution.{distribution}
 use Rattle.data_blocks.specs.Filling.{fill}
 use Rattle.data_blocks.specs.Sorting.{rows_sorted}
@@ -132,7 +132,7 @@ range_kept kind answers d = kept_by (span_at d.sheet.names answers 0) (with_rang
 abbrev pub key_kept : KeySetting → List (List ℕ) → Desk → DeskActed
 key_kept kind answers d = kept_by (key_at d.sheet.names answers) (with_key kind) d
 
--- what a command below Data does; those of tables stand elsewhere
+-- what a command below Data does
 abbrev pub act : DataAction → List (List ℕ) → Scene → Desk → DeskActed
 act records.Fill answers scene d = on_desk (filled answers scene) d
 act records.Distribution answers scene d = on_desk (distributed answers scene) d
@@ -148,6 +148,7 @@ act records.Extract answers scene d = query_made query.Extract scene d
 act records.Unique answers scene d = query_made query.Unique scene d
 act records.QueryReset answers scene d = kept without_query d
 act records.DeleteRecords answers scene d = query_made query.Delete scene d
-act records.TableOne answers scene d = left d
-act records.TableTwo answers scene d = left d
-act records.TableReset answers scene d = left d
+act records.TableOne answers scene d = tables.table_one answers scene d
+act records.TableTwo answers scene d = tables.table_two answers scene d
+act records.TableReset answers scene d = tables.forgotten d
+act records.RepeatTable answers scene d = tables.repeated scene d

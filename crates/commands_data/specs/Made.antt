@@ -1,9 +1,8 @@
 -- What a command writes, and its refusal.
 use Rattle.std.specs.Prelude.{◌≡◌, ◌⊎◌, List, Result, Ok, Err}
-use Rattle.command_desk.specs.Acting.{error_of, refused, Acted}
+use Rattle.command_desk.specs.Acting.{refused, Acted}
 use Rattle.command_desk.specs.Writing.{all_made}
-use Rattle.data_blocks.specs.declared.fault.BlockFault.{BlockFault}
-use Rattle.data_blocks.specs.declared.fault.BlockFault.TheVariants as block
+pub use Rattle.commands_table.specs.Commands.{block_error}
 use Rattle.data_query.specs.declared.fault.QueryFault.{QueryFault}
 use Rattle.data_query.specs.declared.fault.QueryFault.TheVariants as query
 use Rattle.desk_errors.specs.declared.error.CommandError.{CommandError}
@@ -11,14 +10,6 @@ use Rattle.desk_errors.specs.declared.error.CommandError.TheVariants as error
 use Rattle.formula_eval.specs.declared.look.Scene.{Scene}
 use Rattle.sheet_store.specs.declared.writes.Write.{Write}
 use Rattle.work_sheet.specs.Seen.{Sheet}
-
--- the error of a block's fault
-abbrev pub block_error : BlockFault → CommandError
-block_error block.ZeroStep = error.ZeroStep
-block_error block.NoTable = error.InvalidTable
-block_error (block.InputInTable cell) = error.InputInTable cell
-block_error (block.Sheet f) = error_of f
-block_error block.Memory = error.Memory
 
 -- the error of a query's fault; an input that names no fields is a range that is missing
 abbrev pub query_error : QueryFault → CommandError

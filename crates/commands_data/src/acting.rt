@@ -10,13 +10,13 @@ use crate::keeping::{KeySetting, RangeSetting, forget_query, forget_sort, keep_k
 use crate::querying::make_query_of;
 use crate::sorting::sort;
 use command_desk::{CommandEnd, Desk, LastQuery};
+use commands_table::{forget_table, repeat_table, table_one, table_two};
 use formula_eval::{Scene, Tally};
 use lics_text::Memory;
 use menu_tree::DataAction;
 use session_rooms::Answers;
 
-/// Carries out a command below Data with its answers, but for those of tables, which stand elsewhere and do nothing
-/// here (Release 2 manual).
+/// Carries out a command below Data with its answers (Release 2 manual).
 ///
 /// - Fill writes numbers into the span that the first answer is, column by column, from the second answer on by the
 ///   third, before the first that is past the fourth or beyond the size of a number.
@@ -28,8 +28,10 @@ use session_rooms::Answers;
 /// - Go puts the rows of the range in the order of the keys.
 /// - Extract writes the records that match into the output, Unique those of them that differ, and Delete takes them out
 ///   of the input. The query that was carried out is the last one.
+/// - Table 1, Table 2, their Reset and the key TABLE are those of commands_table, which tells what refuses them.
 ///
-/// In Automatic mode a recalculation follows each that writes; where there is no memory for it, the writes stand.
+/// In Automatic mode a recalculation follows each that writes, and tables recalculate in either mode; where there is no
+/// memory for it, the writes stand.
 ///
 /// A command is refused by the first of these, and then leaves the desk as it was: the errors of its answers, the first
 /// answer first; `QueryRangeMissing`, where a range that the query needs isn't kept, or its input has one row or a cell
@@ -63,8 +65,9 @@ pub fn act(
         DataAction::Unique => make_query_of(LastQuery::Unique, desk, scene, tally),
         DataAction::QueryReset => Ok(forget_query(desk)),
         DataAction::DeleteRecords => make_query_of(LastQuery::Delete, desk, scene, tally),
-        DataAction::TableOne | DataAction::TableTwo | DataAction::TableReset => {
-            Ok(CommandEnd::Finished)
-        }
+        DataAction::TableOne => table_one(answers, desk, scene, tally),
+        DataAction::TableTwo => table_two(answers, desk, scene, tally),
+        DataAction::TableReset => Ok(forget_table(desk)),
+        DataAction::RepeatTable => repeat_table(desk, scene, tally),
     }
 }

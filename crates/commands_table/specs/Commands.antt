@@ -5,11 +5,12 @@ use Rattle.block_writes.specs.Writing.{at, rows_below}
 use Rattle.command_desk.specs.Acting.{error_of, finished, first_protected, on_desk, refused, Acted, DeskActed}
 use Rattle.command_desk.specs.Answered.{cell_at, span_at}
 use Rattle.command_desk.specs.Desks.{Desk}
+use Rattle.command_desk.specs.OnDesk as on_the_desk
 use Rattle.command_desk.specs.declared.ending.CommandEnd.{CommandEnd}
 use Rattle.command_desk.specs.declared.ending.CommandEnd.TheVariants.{Finished, Quits, Refused}
-use Rattle.command_desk.specs.declared.ranges.DeskRanges.{DeskRanges}
-use Rattle.command_desk.specs.declared.ranges.LastTable.{LastTable}
-use Rattle.command_desk.specs.declared.ranges.LastTable.TheVariants as table
+use Rattle.desk_ranges.specs.declared.ranges.DeskRanges.{DeskRanges}
+use Rattle.desk_ranges.specs.declared.ranges.LastTable.{LastTable}
+use Rattle.desk_ranges.specs.declared.ranges.LastTable.TheVariants as table
 use Rattle.commands_table.specs.Trying as trying
 use Rattle.data_blocks.specs.Tables.{columns_behind, shape_fault}
 use Rattle.data_blocks.specs.declared.fault.BlockFault.{BlockFault}
@@ -22,12 +23,12 @@ use Rattle.work_sheet.specs.Doing.{Done}
 use Rattle.work_sheet.specs.Seen.{Sheet}
 
 -- the error of a block's fault
-abbrev pub error_of_block : BlockFault → CommandError
-error_of_block fault.ZeroStep = error.ZeroStep
-error_of_block fault.NoTable = error.InvalidTable
-error_of_block (fault.InputInTable cell) = error.InputInTable cell
-error_of_block (fault.Sheet f) = error_of f
-error_of_block fault.Memory = error.Memory
+abbrev pub block_error : BlockFault → CommandError
+block_error fault.ZeroStep = error.ZeroStep
+block_error fault.NoTable = error.InvalidTable
+block_error (fault.InputInTable cell) = error.InputInTable cell
+block_error (fault.Sheet f) = error_of f
+block_error fault.Memory = error.Memory
 
 -- the cells of a table that take answers, in row order
 abbrev pub answer_cells : Extent → List Place
@@ -44,7 +45,7 @@ protected_error (Some cell) = Some (error.Protected cell)
 
 -- a block's fault, and behind it the first protected one of the cells that are written
 abbrev pub refusal_by : Option BlockFault → List Place → Sheet → Option CommandError
-refusal_by (Some f) cells s = Some (error_of_block f)
+refusal_by (Some f) cells s = Some (block_error f)
 refusal_by None cells s = protected_error (first_protected cells s)
 
 -- why a table with these input cells is refused: by its shape, or by protection
@@ -84,7 +85,7 @@ made_on t scene d = keeping t (on_desk (made t scene) d)
 -- what a command needs of its answers, or the error of one of them
 abbrev pub given_on : {A : Type 0} → Result A CommandError → (A → DeskActed) → Desk → DeskActed
 given_on (Ok a) next d = next a
-given_on (Err e) next d = on_desk (refused e) d
+given_on (Err e) next d = on_the_desk.refused e d
 
 module _ (answers : List (List ℕ)) (scene : Scene) (d : Desk) where
   -- the span that the first answer is
@@ -110,4 +111,4 @@ repeated scene d = made_on d.ranges.last_table scene d
 
 -- no table is the last one
 abbrev pub forgotten : Desk → DeskActed
-forgotten d = record { end = Finished; desk = record d { ranges = with_last table.Nothing d.ranges }; log = [] }
+forgotten d = on_the_desk.left (record d { ranges = with_last table.Nothing d.ranges })

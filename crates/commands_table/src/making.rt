@@ -1,8 +1,8 @@
 // A table is made on a worksheet.
 ghost use Rattle.std.specs.Prelude.{◌≡◌, IfOk, OnOk};
 ghost use Rattle.command_desk.specs.Acting.{error_of, HasActedBy};
-ghost use Rattle.command_desk.specs.declared.ranges.LastTable.TheVariants as table;
-ghost use Rattle.commands_table.specs.Commands.{changed_cells, error_of_block, made, refusal_by};
+ghost use Rattle.desk_ranges.specs.declared.ranges.LastTable.TheVariants as table;
+ghost use Rattle.commands_table.specs.Commands.{changed_cells, block_error, made, refusal_by};
 ghost use Rattle.commands_table.specs.Trying.{table_one, table_two};
 ghost use Rattle.work_sheet.specs.Did.{Did};
 ghost use Rattle.work_sheet.specs.Seen.{of_worksheet};
@@ -20,7 +20,7 @@ use sheet_store::SheetFault;
 use work_sheet::Sheet;
 
 // The error of a fault of the sheet.
-fn error_of_sheet(fault: SheetFault) -> CommandError
+fn sheet_error(fault: SheetFault) -> CommandError
     ensures { result ≡ error_of fault }
 {
     match fault {
@@ -32,14 +32,14 @@ fn error_of_sheet(fault: SheetFault) -> CommandError
 }
 
 // The error of a block's fault.
-fn error_of_block(fault: BlockFault) -> CommandError
-    ensures { result ≡ error_of_block fault }
+fn block_error(fault: BlockFault) -> CommandError
+    ensures { result ≡ block_error fault }
 {
     match fault {
         BlockFault::ZeroStep => CommandError::ZeroStep,
         BlockFault::NoTable => CommandError::InvalidTable,
         BlockFault::InputInTable(cell) => CommandError::InputInTable(cell),
-        BlockFault::Sheet(fault) => error_of_sheet(fault),
+        BlockFault::Sheet(fault) => sheet_error(fault),
         BlockFault::Memory => CommandError::Memory,
     }
 }
@@ -54,7 +54,7 @@ fn refusal(
     ensures { result ≡ refusal_by shape (changed_cells span inputs.now) (of_worksheet sheet.now) }
 {
     match shape {
-        Some(fault) => Some(error_of_block(fault)),
+        Some(fault) => Some(block_error(fault)),
         None => match first_protected(sheet, span, inputs) {
             Some(cell) => Some(CommandError::Protected(cell)),
             None => None,

@@ -4,8 +4,6 @@ use Rattle.std.specs.List.{filter}
 use Rattle.menu_tree.specs.Tree.{items}
 use Rattle.menu_tree.specs.declared.menu.Action.{Action}
 use Rattle.menu_tree.specs.declared.menu.Action.TheVariants as action
-use Rattle.menu_tree.specs.declared.menu.DataAction.{DataAction}
-use Rattle.menu_tree.specs.declared.menu.DataAction.TheVariants as records
 use Rattle.menu_tree.specs.declared.menu.Item.{Item}
 use Rattle.menu_tree.specs.declared.menu.Item.TheVariants as item
 use Rattle.menu_tree.specs.declared.menu.Menu.{Menu}
@@ -17,15 +15,7 @@ is_menu_built menu.Print = false
 is_menu_built menu.PrintFileMenu = false
 is_menu_built menu.Options = false
 is_menu_built menu.Margins = false
-is_menu_built menu.Table = false
 is_menu_built m = true
-
--- all but those of tables
-abbrev pub is_data_built : DataAction → Bool
-is_data_built records.TableOne = false
-is_data_built records.TableTwo = false
-is_data_built records.TableReset = false
-is_data_built a = true
 
 -- whether a command is built
 abbrev pub is_built : Action → Bool
@@ -34,7 +24,7 @@ is_built (action.Worksheet a) = true
 is_built (action.Range a) = true
 is_built (action.File a) = true
 is_built (action.Print a) = false
-is_built (action.Data a) = is_data_built a
+is_built (action.Data a) = true
 
 -- whether an item leads to one
 abbrev pub is_shown : Item → Bool

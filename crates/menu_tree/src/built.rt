@@ -3,7 +3,7 @@ ghost use Rattle.std.specs.Prelude.{◌≡◌};
 ghost use Rattle.menu_tree.specs.Shown.{shown};
 
 use crate::tables::items;
-use crate::{Action, CommonAction, DataAction, Item, Menu};
+use crate::{Action, CommonAction, Item, Menu};
 
 const MAIN: [Item; 7] = [
     Item::Menu(Menu::Worksheet),
@@ -15,13 +15,6 @@ const MAIN: [Item; 7] = [
     Item::Menu(Menu::Quit),
 ];
 
-const DATA: [Item; 4] = [
-    Item::Action(Action::Data(DataAction::Fill)),
-    Item::Menu(Menu::Sort),
-    Item::Menu(Menu::Query),
-    Item::Action(Action::Data(DataAction::Distribution)),
-];
-
 /// The items that a menu shows, in their order: those of its items whose commands are built.
 pub fn shown(menu: Menu) -> &'static [Item]
     ensures { result.now ≡ shown menu }
@@ -29,8 +22,7 @@ pub fn shown(menu: Menu) -> &'static [Item]
     match menu {
         Menu::Main => &MAIN,
         Menu::Print | Menu::PrintFileMenu | Menu::Options | Menu::Margins => &[],
-        Menu::Data => &DATA,
-        Menu::Table => &[],
+        Menu::Data | Menu::Table => items(menu),
         Menu::Sort | Menu::Query | Menu::QueryDelete => items(menu),
         Menu::Worksheet | Menu::Global | Menu::GlobalFormat | Menu::GlobalDate => items(menu),
         Menu::Insert | Menu::Delete => items(menu),

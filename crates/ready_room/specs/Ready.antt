@@ -83,6 +83,7 @@ press key.End end s r = marking end
 press key.Edit end s r = editing (pointed_text s)
 press key.Goto end s r = turn.Ask (record { action = action.Common common.Goto; answers = [] })
 press key.Query end s r = query_again r.last_query
+press key.Table end s r = carrying_out records.RepeatTable
 press key.Calc end s r = turn.Recalculate
 press k end s r = moving (way_of end k)
 

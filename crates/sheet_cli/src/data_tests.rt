@@ -209,15 +209,15 @@ const MENUS: &str = r#"+/
 +/{LEFT}
 2|0|MENU |A1: | Worksheet  Range  Copy  Move  File  Data [Quit] |2|No  Yes |
 +/D
-2|0|MENU |A1: |[Fill] Sort  Query  Distribution |2| |
+2|0|MENU |A1: |[Fill] Table  Sort  Query  Distribution |2| |
 +/d{END}
-3|0|MENU |A1: | Fill  Sort  Query [Distribution] |2| |
+3|0|MENU |A1: | Fill  Table  Sort  Query [Distribution] |2| |
 +/D{RIGHT}
-3|0|MENU |A1: | Fill [Sort] Query  Distribution |2|Data-Range  Primary-Key  Secondary-Key  Reset  Quit  Go |
+3|0|MENU |A1: | Fill [Table] Sort  Query  Distribution |2|1  2  Reset |
 +/D{RIGHT 2}
-4|0|MENU |A1: | Fill  Sort [Query] Distribution |2|Input  Criterion  Output  Extract  Unique  Delete  Reset  Quit |
+4|0|MENU |A1: | Fill  Table [Sort] Query  Distribution |2|Data-Range  Primary-Key  Secondary-Key  Reset  Quit  Go |
 +/DT
-3|0|MENU |A1: |[Fill] Sort  Query  Distribution |2| |
+3|0|MENU |A1: |[1] 2  Reset |2| |
 +/DS
 3|0|MENU |A1: |[Data-Range] Primary-Key  Secondary-Key  Reset  Quit  Go |2| |
 +/DQ
@@ -245,7 +245,7 @@ const MENUS: &str = r#"+/
 +/DQI
 4|0|POINT|A1: |Input A1..A1 |2| |
 +/DS{ESC}
-4|0|MENU |A1: |[Fill] Sort  Query  Distribution |2| |
+4|0|MENU |A1: |[Fill] Table  Sort  Query  Distribution |2| |
 +/DQD{ESC}
 5|0|MENU |A1: |[Input] Criterion  Output  Extract  Unique  Delete  Reset  Quit |2| |
 +/DQDC

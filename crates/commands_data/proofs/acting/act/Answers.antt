@@ -24,3 +24,6 @@ returns-in-Output c = rw c.in-Output.is (c.keep_range-in-Output.ensures c.args.t
 
 pub returns-in-QueryReset : goal.returns-in-QueryReset
 returns-in-QueryReset c = rw c.in-QueryReset.is (c.forget_query.ensures c.args.tally.now.count)
+
+pub returns-in-TableReset : goal.returns-in-TableReset
+returns-in-TableReset c = rw c.in-TableReset.is (c.forget_table.ensures c.args.tally.now.count)
