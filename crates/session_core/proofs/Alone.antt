@@ -1,5 +1,5 @@
 -- What makes no call of the shelf, and what a look for a file comes to.
-use Rattle.std.proofs.Common.{◌≡◌, Bool, true, false, List, [], Result, Ok, Err, IfOk, OnErr, refl, sym, subst}
+use Rattle.std.proofs.Common.{◌≡◌, Bool, true, false, List, [], ◌++◌, Result, Ok, Err, IfOk, OnErr, refl, sym, ap, subst}
 use Rattle.std.specs.Prelude.{if◌then◌else◌}
 use Rattle.cell_pointer.specs.declared.way.Way.{Way}
 use Rattle.commands_file.specs.Calls.{failed, Asked, HaveAnswered, Reply, ShelfView}
@@ -15,6 +15,7 @@ use Rattle.session_core.specs.declared.entering.Meant.{Meant}
 use Rattle.session_core.specs.declared.entering.Meant.TheVariants.{Means, Faulty}
 use Rattle.session_rooms.specs.declared.answers.AnsweredCommand.{AnsweredCommand}
 use Rattle.session_core.proofs.Answered.{answered_then}
+use Rattle.session_core.proofs.Failing.{failed_calls}
 
 -- where no call is made any answer serves
 abbrev pub no_replies : Replies
@@ -35,7 +36,7 @@ either_calls true o p one other = one
 either_calls false o p one other = other
 
 meant_calls : (m : Meant) (way : Way) (line : Entry) (scene : Scene) (s : State) → (finished_as m way line scene s).calls ≡ []
-meant_calls (Means x) way line scene s = either_calls _ _ _ refl refl
+meant_calls (Means x) way line scene s = either_calls _ _ _ (failed_calls _ scene s) refl
 meant_calls (Faulty at) way line scene s = refl
 
 -- a line that is entered makes no call

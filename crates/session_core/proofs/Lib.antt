@@ -1,7 +1,9 @@
 pub mod Acted
 pub mod Alone
 pub mod Answered
+pub mod Failing
+pub mod Few
 pub mod Kept
 pub mod Looking
 pub mod Prefixed
-pub mod Units
+pub mod Stepping

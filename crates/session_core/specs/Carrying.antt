@@ -1,5 +1,5 @@
 -- How the session carries out what a key comes to.
-use Rattle.std.specs.Prelude.{Bool, true, false, List, ◌++◌, if◌then◌else◌}
+use Rattle.std.specs.Prelude.{ℕ, Bool, true, false, List, ◌++◌, Option, None, Some, if◌then◌else◌}
 use Rattle.cell_pointer.specs.Moves.{moved}
 use Rattle.cell_pointer.specs.declared.way.Way.{Way}
 use Rattle.command_desk.specs.declared.ending.CommandEnd.{CommandEnd}
@@ -15,6 +15,11 @@ use Rattle.entry_line.specs.Line.{placed, Entry}
 use Rattle.formula_eval.specs.Mean.{mean}
 use Rattle.formula_eval.specs.declared.look.Scene.{Scene}
 use Rattle.formula_tree.specs.declared.value.Content.{Content}
+use Rattle.grid_address.specs.Place.{Place}
+use Rattle.macro_engine.specs.Catching.{caught, handles_errors, Caught}
+use Rattle.macro_engine.specs.Steps.{macro_named}
+use Rattle.macro_text.specs.declared.unit.MacroFault.TheVariants as fault
+use Rattle.macro_words.specs.Moves.{begun_at}
 use Rattle.menu_room.specs.Room.{menu_or_ready}
 use Rattle.menu_tree.specs.Levels.{back}
 use Rattle.menu_tree.specs.declared.menu.Action.{Action}
@@ -25,6 +30,7 @@ use Rattle.screen_layout.specs.Columns.{columns_shown}
 use Rattle.session_rooms.specs.declared.answers.AnsweredCommand.{AnsweredCommand}
 use Rattle.session_rooms.specs.declared.rooms.Answering.{Answering}
 use Rattle.session_rooms.specs.declared.rooms.Answering.TheVariants.{Choosing}
+use Rattle.session_rooms.specs.declared.rooms.Room.{Room}
 use Rattle.session_rooms.specs.declared.rooms.Room.TheVariants as room
 use Rattle.session_rooms.specs.declared.rooms.TypingMode.TheVariants as typing
 use Rattle.session_rooms.specs.declared.turn.Turn.{Turn}
@@ -33,14 +39,30 @@ use Rattle.sheet_commands.specs.Act.{act}
 use Rattle.sheet_edits.specs.Edits.{is_protected}
 use Rattle.work_sheet.specs.Doing as doing
 use Rattle.session_core.specs.Entering.{meaning_of}
-use Rattle.session_core.specs.Machine.{and_further, in_room, pointer_of, pointing_at, quiet, sheet_of, with_done}
-use Rattle.session_core.specs.Machine.{Outcome, Replies, State}
+use Rattle.session_core.specs.Faults.{fault_message}
+use Rattle.session_core.specs.Machine.{and_further, followed_by, in_room, pointer_of, pointing_at, quiet, sheet_of}
+use Rattle.session_core.specs.Machine.{wants_key, with_done, with_macro, Outcome, Replies, State}
 use Rattle.session_core.specs.declared.entering.Meant.{Meant}
 use Rattle.session_core.specs.declared.entering.Meant.TheVariants.{Means, Faulty}
 
--- an error is told
-abbrev pub failed : CommandError → State → State
-failed e s = in_room (room.Failed (message_of e)) s
+-- a message is told in ERROR, and a macro that runs stops
+abbrev pub told : List ℕ → State → State
+told message s = in_room (room.Failed message) (with_macro None s)
+
+-- behind an error the session is in READY where a macro has a place for errors, and else it tells the error
+abbrev pub room_behind : Bool → CommandError → Room
+room_behind true e = room.Ready
+room_behind false e = room.Failed (message_of e)
+
+-- what a macro made of an error
+abbrev pub caught_as : Caught → Room → State → Outcome
+caught_as c r s = with_done c.done (in_room r (with_macro c.running s))
+
+-- What is typed is dropped. A macro that runs goes on at its place for errors; without one it stops, and the error is
+-- told.
+unfoldable pub failed : CommandError → Scene → State → Outcome
+failed e scene s =
+    caught_as (caught scene (message_of e) s.running (sheet_of s)) (room_behind (handles_errors s.running) e) s
 
 -- the pointer goes a way, by the columns that are shown
 abbrev pub going : Way → State → State
@@ -66,7 +88,7 @@ writing x scene s = with_done (doing.put mean scene (pointer_of s) x (sheet_of s
 abbrev pub entered : Content → Way → Scene → State → Outcome
 entered x way scene s =
     if is_pointer_protected s
-    then quiet (failed (error.Protected (pointer_of s)) s)
+    then failed (error.Protected (pointer_of s)) scene s
     else and_further (with_done (doing.with_entry mean scene (pointer_of s) x (sheet_of s)) s) (going way)
 
 -- a line is edited
@@ -82,30 +104,24 @@ finished_as (Faulty at) way line scene s = quiet (editing (placed line at) s)
 abbrev pub finished : Way → Entry → Scene → State → Outcome
 finished way line scene s = finished_as (meaning_of line.text (sheet_of s) (pointer_of s)) way line scene s
 
--- a command goes back to its menu or to READY, ends the run, or tells its error
-abbrev pub left_by : CommandEnd → Action → State → State
-left_by Finished a s = in_room (menu_or_ready (back a)) s
-left_by Quits a s = s
-left_by (Refused e) a s = failed e s
+-- a command goes back to its menu or to READY, ends the run, or fails
+abbrev pub left_by : CommandEnd → Action → Scene → State → Outcome
+left_by Finished a scene s = quiet (in_room (menu_or_ready (back a)) s)
+left_by Quits a scene s = record (quiet s) { ends = true }
+left_by (Refused e) a scene s = failed e scene s
 
--- whether the run ends
-abbrev pub ends_run : CommandEnd → Bool
-ends_run Finished = false
-ends_run Quits = true
-ends_run (Refused e) = false
+-- the desk that a command leaves, what happened in its worksheet, and the calls that it made
+abbrev pub done_by : FileActed → State → Outcome
+done_by d s =
+    record { state = record s { desk = d.acted.desk }; log = d.acted.log; ends = false; calls = d.calls }
 
 -- the session goes on as the command ended, over the desk that it leaves
-abbrev pub behind : FileActed → Action → State → Outcome
-behind d a s = record {
-  state = left_by d.acted.end a (record s { desk = d.acted.desk });
-  log = d.acted.log;
-  ends = ends_run d.acted.end;
-  calls = d.calls;
-}
+abbrev pub behind : FileActed → Action → Scene → State → Outcome
+behind d a scene s = followed_by (done_by d s) (left_by d.acted.end a scene)
 
 -- a command is carried out
 abbrev pub acted : AnsweredCommand → Reply → Scene → State → Outcome
-acted c reply scene s = behind (act c.action c.answers scene s.desk reply) c.action s
+acted c reply scene s = behind (act c.action c.answers scene s.desk reply) c.action scene s
 
 -- a command goes on asking
 abbrev pub asking : AnsweredCommand → Answering → State → Outcome
@@ -115,7 +131,7 @@ asking c how s = quiet (in_room (room.Asking (record { command = c; answering = 
 abbrev pub looked_as : Looked → AnsweredCommand → Reply → Scene → State → Outcome
 looked_as (There true) c reply scene s = asking c (Choosing 0) s
 looked_as (There false) c reply scene s = acted c reply scene s
-looked_as (Unknown e) c reply scene s = quiet (failed e s)
+looked_as (Unknown e) c reply scene s = failed e scene s
 
 -- calls were made before
 abbrev pub behind_calls : List Asked → Outcome → Outcome
@@ -139,7 +155,16 @@ opened Acts c replies scene s = acted c replies.act scene s
 abbrev pub asked : AnsweredCommand → Replies → Scene → State → Outcome
 asked c replies scene s = opened (opening c (pointer_of s) s.desk.file_name) c replies scene s
 
--- what a key came to is carried out; no macro starts yet, and no command is taken back
+-- a macro starts at its cell, or there is none
+abbrev pub started_at : Option Place → State → State
+started_at None s = told (fault_message fault.NoSuchMacro (pointer_of s)) s
+started_at (Some c) s = with_macro (Some (begun_at c)) s
+
+-- the macro of a letter starts; inside a macro the key is passed over
+abbrev pub started : ℕ → State → State
+started letter s = if wants_key s then started_at (macro_named (sheet_of s).names letter) s else s
+
+-- what a key came to is carried out; no command is taken back yet
 abbrev pub carried : Turn → Replies → Scene → State → Outcome
 carried (turn.Become r) replies scene s = quiet (in_room r s)
 carried (turn.Move way) replies scene s = quiet (going way s)
@@ -148,6 +173,6 @@ carried (turn.Finish way line) replies scene s = finished way line scene s
 carried (turn.Ask c) replies scene s = asked c replies scene s
 carried (turn.Act c) replies scene s = acted c replies.act scene s
 carried turn.Recalculate replies scene s = recalculated scene s
-carried (turn.Start letter) replies scene s = quiet s
+carried (turn.Start letter) replies scene s = quiet (started letter s)
 carried turn.Undo replies scene s = quiet s
-carried (turn.Fail e) replies scene s = quiet (failed e s)
+carried (turn.Fail e) replies scene s = failed e scene s

@@ -1,5 +1,6 @@
 pub mod Carrying
 pub mod Entering
+pub mod Faults
 pub mod Machine
 pub mod Moving
 pub mod Pressing

@@ -1,10 +1,12 @@
 -- The session as a machine over one map of cells, in which every formula is evaluated at each recalculation.
-use Rattle.std.specs.Prelude.{◌≡◌, ℕ, Bool, true, false, Option, None, List, [], refl}
+use Rattle.std.specs.Prelude.{◌≡◌, ℕ, Bool, true, false, Option, None, Some, List, [], ◌++◌, refl}
 use Rattle.std.specs.Coded.{Coded, code_by, coded×, coded_bool, coded_option, coded_ℕ}
 use Rattle.command_desk.specs.Desks.{coded_desk, fresh_desk, on_sheet, Desk}
 use Rattle.commands_file.specs.Calls.{Asked, HaveAnswered, Reply, ShelfView}
 use Rattle.formula_eval.specs.declared.look.Scene.{Scene}
 use Rattle.grid_address.specs.Place.{Place, coded_place}
+use Rattle.macro_words.specs.contracts.running.Running as macro_running
+use Rattle.macro_words.specs.declared.running.Running.{Running as RunningMacro}
 use Rattle.serial_date.specs.declared.moment.Moment.{Moment}
 use Rattle.session_rooms.specs.contracts.rooms.Room as room
 use Rattle.session_rooms.specs.declared.rooms.Room.{Room}
@@ -14,12 +16,13 @@ use Rattle.work_sheet.specs.Seen.{Sheet}
 use Rattle.work_sheet.specs.Work.{coded_work, HasWorked, Work}
 
 -- The desk with the worksheet and its pointer, the cell at the top left of the screen, what the session is doing,
--- whether END waits for a moving key, and the day and the second of the last step.
+-- whether END waits for a moving key, the macro that runs, and the day and the second of the last step.
 pub record State : Type 0 where
   pub desk : Desk
   pub corner : Place
   pub room : Room
   pub end : Bool
+  pub running : Option RunningMacro
   pub day : Option ℕ
   pub second : ℕ
 
@@ -36,18 +39,20 @@ pub record Running : Type 0 where
 
 -- a state's parts, as plain data
 abbrev pub coded_state : Coded State
-coded_state = code_by (Desk × (Place × (Room × (Bool × (Option ℕ × ℕ)))))
+coded_state = code_by (Desk × (Place × (Room × (Bool × (Option RunningMacro × (Option ℕ × ℕ))))))
     (coded× coded_desk
     (coded× coded_place
-    (coded× (room.the_row).coded (coded× coded_bool (coded× (coded_option coded_ℕ) coded_ℕ)))))
-    (λ s. (s.desk, (s.corner, (s.room, (s.end, (s.day, s.second))))))
+    (coded× (room.the_row).coded
+    (coded× coded_bool (coded× (coded_option (macro_running.the_row).coded) (coded× (coded_option coded_ℕ) coded_ℕ))))))
+    (λ s. (s.desk, (s.corner, (s.room, (s.end, (s.running, (s.day, s.second)))))))
     (λ p. record {
       desk = p.0;
       corner = p.1.0;
       room = p.1.1.0;
       end = p.1.1.1.0;
-      day = p.1.1.1.1.0;
-      second = p.1.1.1.1.1;
+      running = p.1.1.1.1.0;
+      day = p.1.1.1.1.1.0;
+      second = p.1.1.1.1.1.1;
     })
     (λ _. refl)
 
@@ -67,7 +72,8 @@ home = record { row = 0; col = 0 }
 
 -- the state of a session that begins with a desk
 abbrev pub begun_with : Desk → State
-begun_with d = record { desk = d; corner = home; room = Ready; end = false; day = None; second = 0 }
+begun_with d =
+    record { desk = d; corner = home; room = Ready; end = false; running = None; day = None; second = 0 }
 
 -- the state of a fresh session
 abbrev pub start : State
@@ -77,9 +83,14 @@ start = begun_with fresh_desk
 abbrev pub begun : Desk → Work → Running
 begun d w = record { state = begun_with d; work = w; spent = false }
 
--- Whether it wants a key. It always does, since no macro runs yet; a proof that rests on this unfolds it.
-unfoldable pub wants_key : State → Bool
-wants_key s = true
+-- no macro
+abbrev pub is_none : Option RunningMacro → Bool
+is_none None = true
+is_none (Some r) = false
+
+-- it wants a key where no macro runs
+abbrev pub wants_key : State → Bool
+wants_key s = is_none s.running
 
 -- the worksheet
 abbrev pub sheet_of : State → Sheet
@@ -104,6 +115,10 @@ in_room r s = record s { room = r }
 -- in READY, without END's mark
 abbrev pub idle : State → State
 idle s = record s { room = Ready; end = false }
+
+-- this macro runs, or none
+abbrev pub with_macro : Option RunningMacro → State → State
+with_macro r s = record s { running = r }
 
 -- the pointer stands in a cell
 abbrev pub pointing_at : Place → State → State
@@ -134,6 +149,15 @@ with_done d s = record { state = with_sheet d.sheet s; log = d.log; ends = false
 -- an outcome's state is changed further, and nothing more happens in the sheet
 abbrev pub and_further : Outcome → (State → State) → Outcome
 and_further o change = record o { state = change o.state }
+
+-- what follows an outcome, and happens behind it
+abbrev pub followed_by : Outcome → (State → Outcome) → Outcome
+followed_by o next = record {
+  state = (next o.state).state;
+  log = o.log ++ (next o.state).log;
+  ends = (next o.state).ends;
+  calls = o.calls ++ (next o.state).calls;
+}
 
 -- the machine goes on to an outcome, with the work of what happened, and is told whether the run ends
 pub record Leads (o : Outcome) (told : Bool) (a b : Worked) : Type 0 where

@@ -1,8 +1,9 @@
 -- Which steps only move the pointer, or type.
-use Rattle.std.specs.Prelude.{◌≡◌}
+use Rattle.std.specs.Prelude.{◌≡◌, Option, None}
 use Rattle.grid_address.specs.Place.{Place}
 use Rattle.key_words.specs.declared.key.Key.{Key}
 use Rattle.key_words.specs.declared.key.Key.TheVariants as key
+use Rattle.macro_words.specs.declared.running.Running.{Running as RunningMacro}
 use Rattle.session_rooms.specs.declared.rooms.Room.{Room}
 use Rattle.session_rooms.specs.declared.rooms.Room.TheVariants as room
 use Rattle.session_rooms.specs.declared.turn.Turn.{Turn}
@@ -28,17 +29,17 @@ abbrev pub TakesNoMemory : Key → Room → Type 0
 TakesNoMemory key.Break r = Unit {0}
 TakesNoMemory k r = KeepsNoAnswer r
 
--- the session does something else, the pointer moves, END is marked, or an error is told
-abbrev pub OnlyMoves : Turn → Type 0
-OnlyMoves (turn.Become r) = Unit {0}
-OnlyMoves (turn.Move way) = Unit {0}
-OnlyMoves turn.Mark = Unit {0}
-OnlyMoves (turn.Fail e) = Unit {0}
-OnlyMoves t = ⊥
+-- the session does something else, the pointer moves, END is marked, or outside a macro an error is told
+abbrev pub OnlyMoves : Turn → Option RunningMacro → Type 0
+OnlyMoves (turn.Become r) running = Unit {0}
+OnlyMoves (turn.Move way) running = Unit {0}
+OnlyMoves turn.Mark running = Unit {0}
+OnlyMoves (turn.Fail e) running = running ≡ None
+OnlyMoves t running = ⊥
 
 -- a key that only moves the pointer, types or is passed over
 abbrev pub OnlyMovesByKey : Key → State → Type 0
-OnlyMovesByKey k s = TakesNoMemory k s.room × OnlyMoves (turn_of k s.room s.end s.desk)
+OnlyMovesByKey k s = TakesNoMemory k s.room × OnlyMoves (turn_of k s.room s.end s.desk) s.running
 
 -- an event that does no more
 abbrev pub OnlyMovesBy : Event → State → Type 0

@@ -1,19 +1,47 @@
 -- One step of the session.
 use Rattle.std.specs.Prelude.{◌≡◌, Bool, true, false}
 use Rattle.commands_file.specs.Calls.{HaveAnswered, ShelfView}
+use Rattle.desk_errors.specs.declared.error.CommandError.TheVariants as error
 use Rattle.formula_eval.specs.declared.look.Scene.{Scene}
 use Rattle.key_words.specs.declared.key.Key.{Key}
+use Rattle.macro_engine.specs.Steps.{macro_step, MacroStep}
+use Rattle.macro_engine.specs.declared.steps.StepEnd.{StepEnd}
+use Rattle.macro_engine.specs.declared.steps.StepEnd.TheVariants.{Faulty, Refused, Types, Works}
 use Rattle.screen_layout.specs.Corner.{corner_for}
 use Rattle.serial_date.specs.declared.moment.Moment.{Moment}
-use Rattle.session_core.specs.Carrying.{carried, recalculated}
-use Rattle.session_core.specs.Machine.{and_further, idle, quiet, scene_at, sheet_of, Follows, Outcome, Replies, Running, State}
+use Rattle.session_core.specs.Carrying.{carried, failed, recalculated, told}
+use Rattle.session_core.specs.Faults.{fault_message}
+use Rattle.session_core.specs.Machine.{and_further, followed_by, idle, pointer_of, quiet, scene_at, sheet_of}
+use Rattle.session_core.specs.Machine.{with_done, with_macro, Follows, Outcome, Replies, Running, State}
 use Rattle.session_core.specs.Pressing.{turn_of}
 use Rattle.session_core.specs.declared.event.Event.{Event}
 use Rattle.session_core.specs.declared.event.Event.TheVariants.{Key as KeyEvent, Unit as UnitEvent}
 
--- what the key comes to is carried out in READY, without END's mark
+-- What the key comes to is carried out in READY, without END's mark, whether it is pressed or a macro types it. None is
+-- pressed while a macro runs, since none of its words waits for one yet.
 abbrev pub taken : Key → Replies → Scene → State → Outcome
 taken k replies scene s = carried (turn_of k s.room s.end s.desk) replies scene (idle s)
+
+-- seen from where the pointer now stands
+abbrev pub seen_from : Scene → State → Scene
+seen_from scene s = record scene { cursor = pointer_of s }
+
+-- What follows behind a macro's step, by what it came to: a key that the macro types is taken, a fault stops the macro
+-- and is told, and a protected cell is an error.
+abbrev pub come_to : StepEnd → Replies → Scene → State → Outcome
+come_to (Types k) replies scene s = taken k replies scene s
+come_to Works replies scene s = quiet s
+come_to (Faulty f c) replies scene s = quiet (told (fault_message f c) s)
+come_to (Refused c) replies scene s = failed (error.Protected c) scene s
+
+-- a macro's step, and what follows it, seen from where the pointer then stands
+abbrev pub stepped : MacroStep → Replies → Scene → State → Outcome
+stepped x replies scene s =
+    followed_by (with_done x.done (with_macro x.running s)) (λ t. come_to x.end replies (seen_from scene t) t)
+
+-- the macro that runs makes its next step
+abbrev pub run_on : Replies → Scene → State → Outcome
+run_on replies scene s = stepped (macro_step scene s.running (sheet_of s)) replies scene s
 
 -- the moment is this one
 abbrev pub timed : Moment → State → State
@@ -23,11 +51,14 @@ timed now s = record s { day = now.day; second = now.second }
 abbrev pub framed : Moment → State → State
 framed now s = timed now (record s { corner = corner_for (sheet_of s) s.corner })
 
--- One step, over what the shelf answers in it: what the key comes to in the room that the session is in, and then the
--- screen follows it. No macro runs yet, whose unit would do something.
+-- a key is taken in the room that the session is in, or the macro that runs makes its next step
+abbrev pub event_taken : Event → Replies → Scene → State → Outcome
+event_taken (KeyEvent k) replies scene s = taken k replies scene s
+event_taken UnitEvent replies scene s = run_on replies scene s
+
+-- One step, over what the shelf answers in it, and then the screen follows it.
 abbrev pub step : Event → Moment → Replies → State → Outcome
-step (KeyEvent k) now replies s = and_further (taken k replies (scene_at s now) s) (framed now)
-step UnitEvent now replies s = quiet s
+step event now replies s = and_further (event_taken event replies (scene_at s now) s) (framed now)
 
 -- before the first step the sheet is recalculated, at this moment
 abbrev pub loaded : Moment → State → Outcome

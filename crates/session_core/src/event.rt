@@ -3,7 +3,7 @@ ghost use Rattle.std.specs.Prelude.{◌≡◌, false, true};
 
 use key_words::Key;
 
-/// What a step takes: a key, or the next unit of a running macro. No macro runs yet.
+/// What a step takes: a key, or the next unit of a running macro.
 #[derive(Clone, Copy, PartialEq, Eq, Debug)]
 pub enum Event {
     Key(Key),

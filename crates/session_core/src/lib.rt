@@ -3,6 +3,7 @@
 
 mod entering;
 mod event;
+mod faults;
 mod machine;
 mod pressing;
 mod session;

@@ -1,18 +1,20 @@
 // The session's machine: where what a key comes to is carried out.
-ghost use Rattle.std.specs.Prelude.{◌≡◌, true, false, IfOk, IsOk, Ok, OnErr, OnOk};
+ghost use Rattle.std.specs.Prelude.{◌≡◌, true, false, not, IfOk, IsOk, None, Ok, OnErr, OnOk};
 ghost use Rattle.command_desk.specs.Desks.{of_desk};
 ghost use Rattle.commands_file.specs.Calls.{shelf_view, HasBrokenOff};
 ghost use Rattle.entry_line.specs.Line.{placed};
-ghost use Rattle.session_core.specs.Carrying.{acted, asked, carried, editing, entered, failed, finished, going, looking};
-ghost use Rattle.session_core.specs.Carrying.{is_pointer_protected, recalculated, settling, writing};
-ghost use Rattle.session_core.specs.Machine.{begun_with, in_room, pointer_of, pointing_at, scene_at, sheet_of};
-ghost use Rattle.session_core.specs.Machine.{LeadsBy, LeadsOver};
-ghost use Rattle.session_core.specs.Moving.{IsMoved, OnlyMoves, OnlyMovesByKey};
+ghost use Rattle.session_core.specs.Carrying.{acted, asked, carried, editing, entered, failed, finished, going, left_by};
+ghost use Rattle.session_core.specs.Carrying.{is_pointer_protected, looking, recalculated, settling, started, told, writing};
+ghost use Rattle.session_core.specs.Machine.{begun_with, in_room, pointer_of, pointing_at, scene_at, sheet_of, wants_key};
+ghost use Rattle.session_core.specs.Machine.{Leads, LeadsBy, LeadsOver};
+ghost use Rattle.session_core.specs.Moving.{IsMoved, OnlyMoves, OnlyMovesBy, OnlyMovesByKey};
 ghost use Rattle.session_core.specs.Screen.{panel_of, screen, Repaints};
-ghost use Rattle.session_core.specs.Step.{framed, loaded, taken, timed};
+ghost use Rattle.session_core.specs.Step.{come_to, event_taken, framed, is_key, loaded, taken, timed};
 ghost use Rattle.work_sheet.specs.Did.{work_of};
 
 use crate::entering::{Meant, meaning_of};
+use crate::event::Event;
+use crate::faults::fault_message;
 use crate::pressing::{room_panel, turn_of};
 use cell_pointer::{Way, moved};
 use command_desk::settle;
@@ -22,10 +24,12 @@ use entry_line::EntryLine;
 use formula_eval::{Look, Scene, Tally};
 use formula_tree::Content;
 use grid_address::Cell;
-use key_words::Key;
-use lics_text::Memory;
+use key_words::{Key, Letter};
+use lics_text::{Line, Memory};
+use macro_engine::{Engine, StepEnd, macro_named};
+use macro_text::MacroFault;
 use menu_room::menu_or_ready;
-use menu_tree::back;
+use menu_tree::{Action, back};
 use outside_world::Shelf;
 use prompt_room::{WhatFollows, opening};
 use screen_layout::{columns_shown, corner_for, paint, paint_panel};
@@ -48,6 +52,7 @@ pub struct Machine {
     corner: Cell,
     room: Room,
     end: bool,
+    engine: Engine,
     moment: Moment,
 }
 
@@ -65,6 +70,7 @@ impl Model for Machine {
         corner = a.corner;
         room = a.room;
         end = a.end;
+        running = a.engine;
         day = a.moment.day;
         second = a.moment.second;
       };
@@ -79,20 +85,27 @@ pub enum Touched {
     Anything,
 }
 
-/// What a key came to: what it may have changed of the sheet, and whether the run ends.
+/// What an event came to: what it may have changed of the sheet, and whether the run ends.
 #[derive(Clone, Copy, Debug, PartialEq, Eq)]
 pub struct Taken {
     pub touched: Touched,
     pub ends: bool,
 }
 
-// What a turn may change of the sheet.
-fn touched_by(turn: &Turn) -> Touched
-    ensures { result ≡ Touched.Pointer → OnlyMoves turn.now }
+// A macro's word was carried out.
+const WORKED: Taken = Taken {
+    touched: Touched::Anything,
+    ends: false,
+};
+
+// What a turn may change of the sheet, where a macro runs or doesn't.
+fn touched_by(turn: &Turn, engine: &Engine) -> Touched
+    ensures { result ≡ Touched.Pointer → OnlyMoves turn.now engine.now }
 {
     match turn {
-        Turn::Become(_) | Turn::Move(_) | Turn::Mark | Turn::Fail(_) => Touched::Pointer,
-        Turn::Finish(_, _) | Turn::Ask(_) | Turn::Act(_) => Touched::Anything,
+        Turn::Become(_) | Turn::Move(_) | Turn::Mark => Touched::Pointer,
+        Turn::Fail(_) if !engine.is_running() => Touched::Pointer,
+        Turn::Fail(_) | Turn::Finish(_, _) | Turn::Ask(_) | Turn::Act(_) => Touched::Anything,
         Turn::Recalculate | Turn::Start(_) | Turn::Undo => Touched::Anything,
     }
 }
@@ -103,14 +116,23 @@ impl Machine {
         ensures state { result.state ≡ begun_with (of_desk desk) }
         ensures work { result.work ≡ work_of desk.sheet 0 }
     {
+        let engine = Engine::new(desk.sheet.alloc());
         Machine {
             desk,
             tally: Tally::new(),
             corner: HOME,
             room: Room::Ready,
             end: false,
+            engine,
             moment: Moment::unknown(),
         }
+    }
+
+    /// Whether a macro runs, so that the next step takes no key.
+    pub fn is_running(&self) -> bool
+        ensures { result ≡ not (wants_key self.now.state) }
+    {
+        self.engine.is_running()
     }
 
     /// How many formulas were evaluated; the count stays at the last u64.
@@ -179,13 +201,54 @@ impl Machine {
         self.point_at(to);
     }
 
-    // An error is told.
-    fn fail(&mut self, error: CommandError)
-        ensures state { self.new.state ≡ failed error self.old.state }
+    // A message is told in ERROR, and a macro that runs stops.
+    fn tell(&mut self, message: Line)
+        ensures state { self.new.state ≡ told message self.old.state }
         ensures work { self.new.work ≡ self.old.work }
         ensures sheet { IsMoved (sheet_of self.old.state) (sheet_of self.new.state) }
     {
-        self.enter_room(Room::Failed(error.message()));
+        self.engine.stop();
+        self.enter_room(Room::Failed(message));
+    }
+
+    // A macro that runs goes on at its place for errors; without one it stops, and the error is told. It takes memory
+    // in a macro alone.
+    #[tactic(auto, unfolding(crate::specs::Carrying::failed), using(crate::proofs::Failing::failed_untold))]
+    fn fail(&mut self, error: CommandError, scene: &Scene) -> Result<(), Memory>
+        ensures failed { OnOk result (Leads (failed error scene.entry.now self.old.state) false self.old self.new) }
+        ensures sure { self.old.state.running ≡ None → result ≡ Ok tt }
+        ensures sheet { self.old.state.running ≡ None → IsMoved (sheet_of self.old.state) (sheet_of self.new.state) }
+    {
+        if !self.engine.handles_errors() {
+            self.tell(error.message());
+            return Ok(());
+        }
+        self.enter_room(Room::Ready);
+        let message = error.message();
+        self.engine.catch_error(
+            message.bytes(),
+            &mut self.desk.sheet,
+            scene,
+            &mut self.tally,
+        )
+    }
+
+    // A command goes back to its menu or to READY, ends the run, or fails; whether the run ends.
+    fn leave(&mut self, end: CommandEnd, action: Action, scene: &Scene) -> Result<bool, Memory>
+        ensures { IfOk result
+            (λ ends. Leads (left_by end action scene.entry.now self.old.state) ends self.old self.new) }
+    {
+        match end {
+            CommandEnd::Finished => {
+                self.enter_room(menu_or_ready(back(action)));
+                Ok(false)
+            }
+            CommandEnd::Quits => Ok(true),
+            CommandEnd::Refused(error) => {
+                self.fail(error, scene)?;
+                Ok(false)
+            }
+        }
     }
 
     // A command is carried out, and the session goes on as it ended; whether the run ends.
@@ -204,17 +267,8 @@ impl Machine {
             (shelf_view (S.holds shelf.new) (S.faults shelf.new))) }
     {
         let scene = self.scene(now);
-        match act(&command, &mut self.desk, shelf, &scene, &mut self.tally)? {
-            CommandEnd::Finished => {
-                self.enter_room(menu_or_ready(back(command.action)));
-                Ok(false)
-            }
-            CommandEnd::Quits => Ok(true),
-            CommandEnd::Refused(error) => {
-                self.fail(error);
-                Ok(false)
-            }
-        }
+        let end = act(&command, &mut self.desk, shelf, &scene, &mut self.tally)?;
+        self.leave(end, command.action, &scene)
     }
 
     // The shelf is asked whether the file is there that a command may replace; whether the run ends.
@@ -239,7 +293,8 @@ impl Machine {
             }
             Looked::There(false) => self.act(command, now, shelf),
             Looked::Unknown(error) => {
-                self.fail(error);
+                let scene = self.scene(now);
+                self.fail(error, &scene)?;
                 Ok(false)
             }
         }
@@ -329,8 +384,8 @@ impl Machine {
         ensures { OnOk result (LeadsBy (entered content way) now.now false self.old self.new) }
     {
         if self.is_protected() {
-            self.fail(CommandError::Protected(self.pointer()));
-            return Ok(());
+            let scene = self.scene(now);
+            return self.fail(CommandError::Protected(scene.cursor), &scene);
         }
         self.write(content, now)?;
         self.settle(now)?;
@@ -351,6 +406,20 @@ impl Machine {
         }
     }
 
+    // The macro of a letter starts; inside a macro the key is passed over.
+    fn start(&mut self, letter: Letter)
+        ensures state { self.new.state ≡ started letter self.old.state }
+        ensures work { self.new.work ≡ self.old.work }
+    {
+        if self.engine.is_running() {
+            return;
+        }
+        match macro_named(self.desk.sheet.names(), letter) {
+            Some(cell) => self.engine.start(cell),
+            None => self.tell(fault_message(MacroFault::NoSuchMacro, self.pointer())),
+        }
+    }
+
     // What a key came to is carried out; whether the run ends.
     fn carry<S: Shelf>(&mut self, turn: Turn, now: &Moment, shelf: &mut S) -> Result<bool, Memory>
         ensures ok { IfOk result (λ ends. LeadsOver (carried turn) now.now ends self.old self.new
@@ -359,8 +428,9 @@ impl Machine {
         ensures memory { OnErr result (HasBrokenOff
             (shelf_view (S.holds shelf.old) (S.faults shelf.old))
             (shelf_view (S.holds shelf.new) (S.faults shelf.new))) }
-        ensures moves { OnlyMoves turn → result ≡ Ok false }
-        ensures sheet { OnlyMoves turn → IsMoved (sheet_of self.old.state) (sheet_of self.new.state) }
+        ensures moves { OnlyMoves turn self.old.state.running → result ≡ Ok false }
+        ensures sheet { OnlyMoves turn self.old.state.running →
+            IsMoved (sheet_of self.old.state) (sheet_of self.new.state) }
     {
         match turn {
             Turn::Become(room) => self.enter_room(room),
@@ -370,15 +440,18 @@ impl Machine {
             Turn::Ask(command) => return self.ask(command, now, shelf),
             Turn::Act(command) => return self.act(command, now, shelf),
             Turn::Recalculate => self.calculate(now)?,
-            Turn::Start(_) => {}
+            Turn::Start(letter) => self.start(letter),
             Turn::Undo => {}
-            Turn::Fail(error) => self.fail(error),
+            Turn::Fail(error) => {
+                let scene = self.scene(now);
+                self.fail(error, &scene)?;
+            }
         }
         Ok(false)
     }
 
-    /// Takes a key, before the screen follows it. A key that only moves the pointer, types or is passed over takes no
-    /// memory, leaves all of the sheet but the pointer, and doesn't end the run.
+    /// Takes a key, pressed or typed by a macro, before the screen follows it. A key that only moves the pointer, types
+    /// or is passed over takes no memory, leaves all of the sheet but the pointer, and doesn't end the run.
     pub fn take<S: Shelf>(&mut self, key: Key, now: &Moment, shelf: &mut S) -> Result<Taken, Memory>
         ensures ok { IfOk result (λ t. LeadsOver (taken key) now.now t.ends self.old self.new
             (shelf_view (S.holds shelf.old) (S.faults shelf.old))
@@ -397,9 +470,90 @@ impl Machine {
         let room = mem::replace(&mut self.room, Room::Ready);
         self.end = false;
         let turn = turn_of(key, room, end, &self.desk)?;
-        let touched = touched_by(&turn);
+        let touched = touched_by(&turn, &self.engine);
         let ends = self.carry(turn, now, shelf)?;
         Ok(Taken { touched, ends })
+    }
+
+    // What follows behind a macro's step, by what it came to: a key that the macro types is taken, a fault stops the
+    // macro and is told, and a protected cell is an error.
+    fn come_to<S: Shelf>(
+        &mut self,
+        end: StepEnd,
+        now: &Moment,
+        shelf: &mut S,
+    ) -> Result<Taken, Memory>
+        ensures ok { IfOk result (λ t. LeadsOver (come_to end) now.now t.ends self.old self.new
+            (shelf_view (S.holds shelf.old) (S.faults shelf.old))
+            (shelf_view (S.holds shelf.new) (S.faults shelf.new))) }
+        ensures memory { OnErr result (HasBrokenOff
+            (shelf_view (S.holds shelf.old) (S.faults shelf.old))
+            (shelf_view (S.holds shelf.new) (S.faults shelf.new))) }
+        ensures touched { IfOk result (λ t. t.touched ≡ Touched.Pointer → ⊥) }
+    {
+        match end {
+            StepEnd::Types(key) => {
+                let taken = self.take(key, now, shelf)?;
+                Ok(Taken {
+                    touched: Touched::Anything,
+                    ends: taken.ends,
+                })
+            }
+            StepEnd::Works => Ok(WORKED),
+            StepEnd::Faulty(fault, cell) => {
+                self.tell(fault_message(fault, cell));
+                Ok(WORKED)
+            }
+            StepEnd::Refused(cell) => {
+                let scene = self.scene(now);
+                self.fail(CommandError::Protected(cell), &scene)?;
+                Ok(WORKED)
+            }
+        }
+    }
+
+    /// The macro that runs makes its next step, before the screen follows it.
+    pub fn run_on<S: Shelf>(&mut self, now: &Moment, shelf: &mut S) -> Result<Taken, Memory>
+        ensures ok { IfOk result (λ t. LeadsOver (event_taken Event.Unit) now.now t.ends self.old self.new
+            (shelf_view (S.holds shelf.old) (S.faults shelf.old))
+            (shelf_view (S.holds shelf.new) (S.faults shelf.new))) }
+        ensures memory { OnErr result (HasBrokenOff
+            (shelf_view (S.holds shelf.old) (S.faults shelf.old))
+            (shelf_view (S.holds shelf.new) (S.faults shelf.new))) }
+        ensures touched { IfOk result (λ t. t.touched ≡ Touched.Pointer → ⊥) }
+    {
+        let scene = self.scene(now);
+        let end = self
+            .engine
+            .step(&mut self.desk.sheet, &scene, &mut self.tally)?;
+        self.come_to(end, now, shelf)
+    }
+
+    /// Takes an event, before the screen follows it: a key, or the next unit of the macro that runs.
+    pub fn take_event<S: Shelf>(
+        &mut self,
+        event: Event,
+        now: &Moment,
+        shelf: &mut S,
+    ) -> Result<Taken, Memory>
+        requires { is_key event ≡ wants_key self.old.state }
+        ensures ok { IfOk result (λ t. LeadsOver (event_taken event) now.now t.ends self.old self.new
+            (shelf_view (S.holds shelf.old) (S.faults shelf.old))
+            (shelf_view (S.holds shelf.new) (S.faults shelf.new))) }
+        ensures memory { OnErr result (HasBrokenOff
+            (shelf_view (S.holds shelf.old) (S.faults shelf.old))
+            (shelf_view (S.holds shelf.new) (S.faults shelf.new))) }
+        ensures moves { OnlyMovesBy event self.old.state → IsOk result }
+        ensures stays { OnlyMovesBy event self.old.state → IfOk result (λ t. t.ends ≡ false) }
+        ensures sheet { OnlyMovesBy event self.old.state →
+            IsMoved (sheet_of self.old.state) (sheet_of self.new.state) }
+        ensures touched { IfOk result
+            (λ t. t.touched ≡ Touched.Pointer → IsMoved (sheet_of self.old.state) (sheet_of self.new.state)) }
+    {
+        match event {
+            Event::Key(key) => self.take(key, now, shelf),
+            Event::Unit => self.run_on(now, shelf),
+        }
     }
 
     /// Recalculates the sheet before the first step, at this moment.
@@ -426,6 +580,7 @@ impl Machine {
     {
         let mut panel = room_panel(&self.room);
         panel.end = self.end;
+        panel.running = self.engine.is_running();
         panel
     }
 

@@ -79,13 +79,11 @@ impl Session {
         self.spent
     }
 
-    /// Whether the next step takes a key.
-    #[tactic(auto, unfolding(crate::specs::Machine::wants_key))]
+    /// Whether the next step takes a key: no macro runs.
     pub fn wants_key(&self) -> bool
         ensures { result ≡ wants_key self.now.state }
     {
-        let _ = self.spent;
-        true
+        !self.machine.is_running()
     }
 
     /// How many formulas were evaluated; the count stays at the last u64. Only dirty formulas are: those that were
@@ -97,10 +95,11 @@ impl Session {
         self.machine.evaluations()
     }
 
-    /// One step: a key exactly where the session wants one, and else a unit, which does nothing yet. `Quit` comes
-    /// exactly where the menu's Quit was confirmed (Release 2 manual). After `Memory` the session is spent. A step that
-    /// only moves the pointer, types, or is passed over, takes no memory and leaves all of the sheet but the pointer.
-    /// The shelf is called where a command of files has all its answers, and once before, where it may replace a file.
+    /// One step: a key exactly where the session wants one, and else the next unit of the macro that runs. `Quit`
+    /// comes exactly where the menu's Quit was confirmed (Release 2 manual). After `Memory` the session is spent. A
+    /// step that only moves the pointer, types, or is passed over, takes no memory and leaves all of the sheet but the
+    /// pointer. The shelf is called where a command of files has all its answers, and once before, where it may replace
+    /// a file.
     pub fn step<S: Shelf>(&mut self, event: Event, now: &Moment, shelf: &mut S) -> Stepped
         requires fresh { self.old.spent ≡ false }
         requires key { is_key event ≡ wants_key self.old.state }
@@ -117,11 +116,8 @@ impl Session {
         ensures moves { OnlyMovesBy event self.old.state → result ≡ Stepped.More }
         ensures sheet { OnlyMovesBy event self.old.state → IsMoved (sheet_of self.old.state) (sheet_of self.new.state) }
     {
-        let Event::Key(key) = event else {
-            return Stepped::More;
-        };
         let corner = self.machine.corner();
-        match self.machine.take(key, now, shelf) {
+        match self.machine.take_event(event, now, shelf) {
             Ok(taken) => {
                 let stepped = Stepped::of(taken.ends);
                 self.machine.follow(now);

@@ -2,6 +2,7 @@ use Rattle.std.proofs.Common.{rules, refl}
 use Rattle.commands_file.proofs.Broken.{none_broken, on_err}
 use Rattle.session_core.specs.Machine.{scene_at}
 use Rattle.session_core.proofs.Alone.{alone, finish_calls}
+use Rattle.session_core.proofs.Failing.{failed_calls}
 use Rattle.session_core.proofs.machine.Machine.carry.Goals as goal
 
 -- no call was made of the shelf
@@ -37,5 +38,9 @@ returns-in-Start-clause-ok g c = rw c.in-Start.is (alone _ _ _ _ _ _ (search rul
 pub returns-in-Undo-clause-ok : goal.returns-in-Undo-clause-ok
 returns-in-Undo-clause-ok g c = rw c.in-Undo.is (alone _ _ _ _ _ _ (search rules) refl)
 
-pub returns-in-Fail-clause-ok : goal.returns-in-Fail-clause-ok
-returns-in-Fail-clause-ok g c = rw c.in-Fail.is (alone _ _ _ _ _ _ (search rules) refl)
+pub returns-in_ok-fail-in-Fail-clause-ok : goal.returns-in_ok-fail-in-Fail-clause-ok
+returns-in_ok-fail-in-Fail-clause-ok g c =
+    rw c.in-Fail.is (alone _ _ _ _ _ _ (search rules) (failed_calls c.in-Fail.error (scene_at c.args.self.now.state c.args.now.now) c.args.self.now.state))
+
+pub returns-in_err-fail-in-Fail-clause-memory : goal.returns-in_err-fail-in-Fail-clause-memory
+returns-in_err-fail-in-Fail-clause-memory g c = on_err _ (none_broken _ _)

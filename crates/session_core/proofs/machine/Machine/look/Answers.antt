@@ -1,7 +1,9 @@
 use Rattle.std.proofs.Common.{rules, refl, true, false}
+use Rattle.commands_file.proofs.Broken.{none_broken, on_err}
 use Rattle.commands_file.specs.Calls.{failed}
 use Rattle.commands_file.specs.declared.looking.Looked.TheVariants.{There, Unknown}
 use Rattle.session_core.proofs.Alone.{err_map, looked_over, ok_map}
+use Rattle.session_core.proofs.Failing.{failed_alone}
 use Rattle.session_core.proofs.Looking.{look_keeps}
 use Rattle.session_core.proofs.machine.Machine.look.Goals as goal
 
@@ -20,7 +22,12 @@ returns-in-There-false-clause-memory g c =
     let h = c.in_ok-look.ensures.looked in
     err_map c.act.result (look_keeps c.args.command.answers h.reply _ _ _ h.answered) c.act.ensures.memory
 
-pub returns-in-Unknown-clause-looked : goal.returns-in-Unknown-clause-looked
-returns-in-Unknown-clause-looked g c =
+pub returns-in_ok-fail-in-Unknown-clause-looked : goal.returns-in_ok-fail-in-Unknown-clause-looked
+returns-in_ok-fail-in-Unknown-clause-looked g c =
     let h = c.in_ok-look.ensures.looked in
-    looked_over c.args.command c.args.now.now false c.args.self.now c.fail.new.self _ _ _ h.reply failed (Unknown c.in-Unknown.error) (search rules) h.answered (search rules) refl
+    looked_over c.args.command c.args.now.now false c.args.self.now c.fail.new.self _ _ _ h.reply failed (Unknown c.in-Unknown.error) (search rules) h.answered (search rules) (failed_alone _ _ _ _)
+
+pub returns-in_err-fail-in-Unknown-clause-memory : goal.returns-in_err-fail-in-Unknown-clause-memory
+returns-in_err-fail-in-Unknown-clause-memory g c =
+    let h = c.in_ok-look.ensures.looked in
+    on_err _ (look_keeps c.args.command.answers h.reply _ _ _ h.answered (none_broken _ _))

@@ -1,0 +1,61 @@
+-- A command makes at most one call of the shelf, so that no file but one may have changed behind it.
+use Rattle.std.proofs.Common.{◌≡◌, ℕ, List, [], ◌∷◌, Option, None, Some, Result, Ok, Err, sym, subst}
+use Rattle.command_desk.specs.Answered.{span_at}
+use Rattle.command_desk.specs.Desks.{Desk}
+use Rattle.commands_file.specs.Calls.{Asked, HasBrokenOff, HaveAnswered, Reply, ShelfView}
+use Rattle.commands_file.specs.Commands.{act_by, act_named, extracted_to, named}
+use Rattle.commands_file.specs.declared.extracting.Extracting.{Extracting}
+use Rattle.commands_file.specs.declared.extracting.Extracting.TheVariants.{Formulas, Values}
+use Rattle.desk_errors.specs.declared.error.CommandError.{CommandError}
+use Rattle.formula_eval.specs.declared.look.Scene.{Scene}
+use Rattle.grid_address.specs.Place.{Extent}
+use Rattle.menu_tree.specs.declared.menu.Action.{Action}
+use Rattle.menu_tree.specs.declared.menu.Action.TheVariants as action
+use Rattle.menu_tree.specs.declared.menu.FileAction.{FileAction}
+use Rattle.menu_tree.specs.declared.menu.FileAction.TheVariants as file
+use Rattle.sheet_commands.specs.Act.{act}
+use Rattle.commands_file.proofs.Broken.{answered_keeps, none_broken}
+
+-- at most one call
+abbrev pub AreFew : List Asked → Type 0
+AreFew [] = Unit {0}
+AreFew (a ∷ []) = Unit {0}
+AreFew (a ∷ b ∷ more) = ⊥
+
+extracted_few : (k : Extracting) (name : List ℕ) (span : Result Extent CommandError) (d : Desk) (reply : Reply) →
+    AreFew (extracted_to k name span d reply).calls
+extracted_few k name (Ok span) d reply = tt
+extracted_few k name (Err e) d reply = tt
+
+named_few : (a : FileAction) (answers : List (List ℕ)) (name : List ℕ) (scene : Scene) (d : Desk) (reply : Reply) →
+    AreFew (act_named a answers name scene d reply).calls
+named_few file.Retrieve answers name scene d reply = tt
+named_few file.Save answers name scene d reply = tt
+named_few file.Erase answers name scene d reply = tt
+named_few file.CombineCopy answers name scene d reply = tt
+named_few file.CombineAdd answers name scene d reply = tt
+named_few file.CombineSubtract answers name scene d reply = tt
+named_few file.XtractFormulas answers name scene d reply = extracted_few Formulas name (span_at d.sheet.names answers 1) d reply
+named_few file.XtractValues answers name scene d reply = extracted_few Values name (span_at d.sheet.names answers 1) d reply
+
+by_few : (name : Option (List ℕ)) (a : FileAction) (answers : List (List ℕ)) (scene : Scene) (d : Desk) (reply : Reply) →
+    AreFew (act_by name a answers scene d reply).calls
+by_few None a answers scene d reply = tt
+by_few (Some name) a answers scene d reply = named_few a answers name scene d reply
+
+-- a command's calls are at most one
+pub few : (a : Action) (answers : List (List ℕ)) (scene : Scene) (d : Desk) (reply : Reply) →
+    AreFew (act a answers scene d reply).calls
+few (action.Common a) answers scene d reply = tt
+few (action.Worksheet a) answers scene d reply = tt
+few (action.Range a) answers scene d reply = tt
+few (action.File a) answers scene d reply = by_few (named answers) a answers scene d reply
+few (action.Print a) answers scene d reply = tt
+few (action.Data a) answers scene d reply = tt
+
+-- behind at most one call no file but one may have changed
+pub few_keep : (calls : List Asked) (a b : ShelfView) → AreFew calls → HaveAnswered calls a b → HasBrokenOff a b
+few_keep [] a b few same = subst (λ (v : ShelfView). HasBrokenOff a v) (sym same) (none_broken a.told a.faults)
+few_keep (x ∷ []) a b few (middle, was, same) =
+    subst (λ (v : ShelfView). HasBrokenOff a v) (sym same) (answered_keeps x a middle was)
+few_keep (x ∷ y ∷ more) a b few had = absurd few
