@@ -85,6 +85,7 @@ press key.Goto end s r = turn.Ask (record { action = action.Common common.Goto; 
 press key.Query end s r = query_again r.last_query
 press key.Table end s r = carrying_out records.RepeatTable
 press key.Calc end s r = turn.Recalculate
+press (key.Alt letter) end s r = turn.Start letter
 press k end s r = moving (way_of end k)
 
 -- READY is shown alone

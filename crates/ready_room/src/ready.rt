@@ -136,11 +136,11 @@ fn query_again(last: LastQuery, alloc: Global) -> Turn
 }
 
 /// What a key comes to in READY, where END was pressed before it or not: a slash opens the main menu, any other byte
-/// begins a line, the moving keys move the pointer, END waits for one of them, EDIT edits the pointer's cell, GOTO asks
-/// for a cell, QUERY makes the last query again with the ranges that are kept now, TABLE makes the last table again,
-/// and CALC recalculates. Any other key is passed over (Release 2 manual). `LineTooLong` comes exactly where the cell's
-/// text is no line's, and `QueryRangeMissing` where there was no query yet; where there was no table, the command that
-/// the key gives is refused. It takes no memory.
+/// begins a line, the moving keys move the pointer, END waits for one of them, EDIT edits the pointer's cell, GOTO
+/// asks for a cell, QUERY makes the last query again with the ranges that are kept now, TABLE makes the last table
+/// again, CALC recalculates, and ALT starts its letter's macro. Any other key is passed over (Release 2 manual).
+/// `LineTooLong` comes exactly where the cell's text is no line's, and `QueryRangeMissing` where there was no query
+/// yet; where there was no table, the command that the key gives is refused. It takes no memory.
 pub fn press(key: Key, end: bool, sheet: &Sheet, ranges: &DeskRanges) -> Turn
     ensures { result ≡ press key end (of_worksheet sheet.now) ranges.now }
 {
@@ -155,6 +155,7 @@ pub fn press(key: Key, end: bool, sheet: &Sheet, ranges: &DeskRanges) -> Turn
         Key::Query => query_again(ranges.last_query, sheet.alloc()),
         Key::Table => carry_out(DataAction::RepeatTable, sheet.alloc()),
         Key::Calc => Turn::Recalculate,
+        Key::Alt(letter) => Turn::Start(letter),
         _ => moving(way_of(end, &key)),
     }
 }

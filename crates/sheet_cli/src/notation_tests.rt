@@ -38,10 +38,10 @@ fn marks_in_braces_are_typed(rt: HostRuntime) -> Result<(), Fail> {
 fn keys_that_are_not_built_are_passed_over(rt: HostRuntime) -> Result<(), Fail> {
     keys_show(
         &rt,
-        b"{DOWN}{Graph}{ALT x}{WINDOW}{UNDO}{NAME 2}",
+        b"{DOWN}{Graph}{WINDOW}{UNDO}{NAME 2}",
         0,
         "",
-        7,
+        6,
         &[(0, 0, "A2:  "), (0, 73, "READY")],
     )?;
     keys_show(
