@@ -1,6 +1,7 @@
 -- What a reader of key notation has read.
 use Rattle.std.specs.Char.{is_ascii_alphabetic, to_ascii_uppercase}
 use Rattle.std.specs.Prelude.{◌≡◌, ℕ, true, List, [], ◌∷◌, ◌++◌, map, length, Some, None}
+use Rattle.ascii_bytes.specs.Ascii as ascii
 use Rattle.key_words.specs.declared.key.Key.{Key as AnyKey}
 use Rattle.key_words.specs.declared.name.Named.{Named}
 use Rattle.key_words.specs.declared.name.Named.TheVariants.{Repeated, Alt}
@@ -19,13 +20,13 @@ BeginsName letters = (more : List ℕ) × (meaning : Named) × (looked_up (lette
 -- the bytes of a word that was read so far
 abbrev pub Holds : List ℕ → Begun → Type 0
 Holds bytes Nothing = bytes ≡ []
-Holds bytes Opened = bytes ≡ 123 ∷ []
-Holds bytes (Mark m) = (bytes ≡ 123 ∷ m ∷ []) × (is_mark m ≡ true)
-Holds bytes (Letters l) = (first : ℕ) × (letters : List ℕ) × (bytes ≡ 123 ∷ first ∷ letters) × (map to_ascii_uppercase (first ∷ letters) ≡ l) × BeginsName l
-Holds bytes (Spaced k) = (letters : List ℕ) × (bytes ≡ 123 ∷ (letters ++ 32 ∷ [])) × (looked_up (map to_ascii_uppercase letters) ≡ Some (Repeated k))
-Holds bytes (Counted k n) = (letters : List ℕ) × (digits : List ℕ) × (bytes ≡ 123 ∷ (letters ++ 32 ∷ digits)) × (looked_up (map to_ascii_uppercase letters) ≡ Some (Repeated k)) × IsRepeat digits n
-Holds bytes AltSpaced = (letters : List ℕ) × (bytes ≡ 123 ∷ (letters ++ 32 ∷ [])) × (looked_up (map to_ascii_uppercase letters) ≡ Some Alt)
-Holds bytes (AltLetter l) = (letters : List ℕ) × (b : ℕ) × (bytes ≡ 123 ∷ (letters ++ 32 ∷ b ∷ [])) × (looked_up (map to_ascii_uppercase letters) ≡ Some Alt) × (is_ascii_alphabetic b ≡ true) × (l ≡ to_ascii_uppercase b)
+Holds bytes Opened = bytes ≡ ascii.opening_brace ∷ []
+Holds bytes (Mark m) = (bytes ≡ ascii.opening_brace ∷ m ∷ []) × (is_mark m ≡ true)
+Holds bytes (Letters l) = (first : ℕ) × (letters : List ℕ) × (bytes ≡ ascii.opening_brace ∷ first ∷ letters) × (map to_ascii_uppercase (first ∷ letters) ≡ l) × BeginsName l
+Holds bytes (Spaced k) = (letters : List ℕ) × (bytes ≡ ascii.opening_brace ∷ (letters ++ ascii.space ∷ [])) × (looked_up (map to_ascii_uppercase letters) ≡ Some (Repeated k))
+Holds bytes (Counted k n) = (letters : List ℕ) × (digits : List ℕ) × (bytes ≡ ascii.opening_brace ∷ (letters ++ ascii.space ∷ digits)) × (looked_up (map to_ascii_uppercase letters) ≡ Some (Repeated k)) × IsRepeat digits n
+Holds bytes AltSpaced = (letters : List ℕ) × (bytes ≡ ascii.opening_brace ∷ (letters ++ ascii.space ∷ [])) × (looked_up (map to_ascii_uppercase letters) ≡ Some Alt)
+Holds bytes (AltLetter l) = (letters : List ℕ) × (b : ℕ) × (bytes ≡ ascii.opening_brace ∷ (letters ++ ascii.space ∷ b ∷ [])) × (looked_up (map to_ascii_uppercase letters) ≡ Some Alt) × (is_ascii_alphabetic b ≡ true) × (l ≡ to_ascii_uppercase b)
 
 -- The reader has read these bytes, none of which it refused. The keys are whole in them, and behind these it holds the beginning of a word.
 pub record HasRead (bytes : List ℕ) (keys : List (AnyKey × ℕ)) (r : KeyReader) : Type 0 where

@@ -1,6 +1,7 @@
 // A word of key notation that is begun.
 ghost use Rattle.std.specs.Char.{to_ascii_uppercase};
 ghost use Rattle.std.specs.Prelude.{◌≡◌, ◌==◌, if◌then◌else◌};
+ghost use Rattle.ascii_bytes.specs.Ascii as ascii;
 ghost use Rattle.key_words.specs.Begun as spec;
 ghost use Rattle.key_words.specs.Names.{longer};
 ghost use Rattle.key_words.specs.Notation as notation;
@@ -43,12 +44,14 @@ pub enum Next {
     Refused,
 }
 
+/// Whether a byte is one of `~`, `{` and `}`.
 pub fn is_mark(byte: u8) -> bool
     ensures { result ≡ notation.is_mark byte }
 {
     byte == b'~' || (byte == b'{' || byte == b'}')
 }
 
+// A byte that stands for itself ends a word at once.
 fn typed(byte: u8) -> Next
     ensures { result ≡ spec.typed byte }
 {
@@ -58,6 +61,7 @@ fn typed(byte: u8) -> Next
     }
 }
 
+// A byte between words.
 fn between_words(byte: u8) -> Next
     ensures { result ≡ spec.after Begun.Nothing byte }
 {
@@ -69,6 +73,7 @@ fn between_words(byte: u8) -> Next
     }
 }
 
+// One more letter of a name, where one begins so.
 fn lettered(letters: &[u8], byte: u8) -> Next
     ensures { result ≡ spec.lettered (longer letters.now (to_ascii_uppercase byte)) }
 {
@@ -78,6 +83,7 @@ fn lettered(letters: &[u8], byte: u8) -> Next
     }
 }
 
+// A byte behind an opening brace.
 fn behind_brace(byte: u8) -> Next
     ensures { result ≡ spec.after Begun.Opened byte }
 {
@@ -87,6 +93,7 @@ fn behind_brace(byte: u8) -> Next
     }
 }
 
+// A closing brace behind a name.
 fn closed(name: Option<Named>) -> Next
     ensures { result ≡ spec.closed name }
 {
@@ -98,6 +105,7 @@ fn closed(name: Option<Named>) -> Next
     }
 }
 
+// A space behind a name.
 fn spaced(name: Option<Named>) -> Next
     ensures { result ≡ spec.spaced name }
 {
@@ -109,6 +117,7 @@ fn spaced(name: Option<Named>) -> Next
     }
 }
 
+// A byte behind letters of a name.
 fn behind_letters(letters: &Letters, byte: u8) -> Next
     ensures { result ≡ spec.after (Begun.Letters letters.now) byte }
 {
@@ -119,6 +128,7 @@ fn behind_letters(letters: &Letters, byte: u8) -> Next
     }
 }
 
+// The first digit of a number of repeats.
 fn first_digit(key: Key, byte: u8) -> Next
     ensures { result ≡ spec.after (Begun.Spaced key) byte }
 {
@@ -129,6 +139,7 @@ fn first_digit(key: Key, byte: u8) -> Next
     }
 }
 
+// A byte behind digits: the end, or one digit more.
 fn behind_digits(key: Key, times: u16, byte: u8) -> Next
     ensures { result ≡ spec.after (Begun.Counted key times) byte }
 {
@@ -145,6 +156,7 @@ fn behind_digits(key: Key, times: u16, byte: u8) -> Next
     }
 }
 
+// The letter behind ALT and its space.
 fn alt_letter(byte: u8) -> Next
     ensures { result ≡ spec.after Begun.AltSpaced byte }
 {
@@ -156,7 +168,7 @@ fn alt_letter(byte: u8) -> Next
 
 // A closing brace ends the word.
 fn ended(key: Key, byte: u8) -> Next
-    ensures { result ≡ if byte == 125 then Next.Ended key 1 else Next.Refused }
+    ensures { result ≡ if byte == ascii.closing_brace then Next.Ended key 1 else Next.Refused }
 {
     if byte == b'}' {
         Next::Ended(key, 1)

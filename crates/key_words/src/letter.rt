@@ -1,6 +1,7 @@
 // A letter, in capitals.
 ghost use Rattle.std.specs.Char.{is_ascii_alphabetic, to_ascii_uppercase};
 ghost use Rattle.std.specs.Prelude.{◌≡◌, ◌≤◌, IfNone, IfSome, false, true};
+ghost use Rattle.ascii_bytes.specs.Ascii as ascii;
 
 use std::marker::Model;
 
@@ -12,12 +13,13 @@ pub struct Letter {
 
 impl Model for Letter {
     ghost use Rattle.std.specs.Prelude.{ℕ, ◌≤◌};
+    ghost use Rattle.ascii_bytes.specs.Ascii as ascii;
 
     ghost Value = { ℕ };
 
     ghost view = { λ l. l.byte };
 
-    ghost invariant = { λ l. (65 ≤ l.byte) × (l.byte ≤ 90) };
+    ghost invariant = { λ l. (ascii.capital_a ≤ l.byte) × (l.byte ≤ ascii.capital_z) };
 
     ghost inverse = { λ n. record { byte = n } };
 }
@@ -40,8 +42,8 @@ impl Letter {
     /// The capital, 65 to 90.
     pub fn get(self) -> u8
         ensures value { result ≡ self }
-        ensures least { 65 ≤ self }
-        ensures most { self ≤ 90 }
+        ensures least { ascii.capital_a ≤ self }
+        ensures most { self ≤ ascii.capital_z }
     {
         self.byte
     }

@@ -88,6 +88,7 @@ fn place_of(wanted: u8, bytes: &[u8]) -> Option<usize>
     bytes.iter().position(|byte| *byte == wanted)
 }
 
+// How long a name is, which ends at the first space.
 fn name_length(inside: &[u8]) -> usize
     ensures value { result ≡ spec.name_length inside.now }
     ensures within { result ≤ length inside.now }
@@ -98,6 +99,7 @@ fn name_length(inside: &[u8]) -> usize
     }
 }
 
+// The arguments behind a name, where a space stands there.
 fn listed(behind: Option<Cut>) -> Arguments
     ensures { result ≡ spec.listed behind }
 {
@@ -107,6 +109,7 @@ fn listed(behind: Option<Cut>) -> Arguments
     }
 }
 
+// A key by its name, as often as an expression behind it tells.
 fn key_word(key: Key, behind: Option<Cut>) -> MacroWord
     ensures { result ≡ spec.key_word key behind }
 {
@@ -116,6 +119,7 @@ fn key_word(key: Key, behind: Option<Cut>) -> MacroWord
     }
 }
 
+// A command by its name; any other name is called as a range's.
 fn command_or_call(command: Option<Command>, name: Cut, behind: Option<Cut>) -> MacroWord
     ensures { result ≡ spec.command_or_call command name behind }
 {
@@ -263,6 +267,7 @@ fn begun_slash(text: &[u8], offset: usize) -> Option<SlashWord>
     }
 }
 
+// A slash word, or the slash as a key where none begins with it.
 fn slashed(text: &[u8], offset: usize) -> (MacroWord, usize)
     requires { offset < length text.now }
     ensures { result ≡ spec.slashed text.now offset (spec.begun_slash text.now offset) }

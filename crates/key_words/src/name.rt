@@ -84,6 +84,7 @@ pub fn look_up(name: &[u8]) -> Option<Named>
     name_in(&NAMES, name)
 }
 
+// These letters and one more, where a name of the table begins with them.
 fn longer_in(mut table: &[(&'static [u8], Named)], letters: &[u8], letter: u8) -> Option<Letters>
     ensures { result ≡ spec.longer_in (map (λ e. (e.0.now, e.1)) table.entry.now) letters.now letter }
 {
