@@ -14,6 +14,7 @@ use Rattle.formula_text.specs.declared.parse.Bracket.{Bracket}
 use Rattle.formula_text.specs.declared.parse.Bracket.TheVariants.{Plain, Call}
 use Rattle.formula_text.specs.Tokens.{Token, number, text, place, places, constant, called, opening, closing, comma, front_minus, front_not, infix_op}
 
+-- the tokens of parts, or why they are no formula
 abbrev pub Verdict : Type 0
 Verdict = Result (List Token) ParseFault
 
@@ -26,6 +27,7 @@ after front (Err f) = Err f
 abbrev pub Brackets : Type 0
 Brackets = List Bracket
 
+-- the bracket that the next closing one closes; where none is open it is as within round brackets
 abbrev pub innermost : Brackets → Bracket
 innermost [] = Plain
 innermost (b ∷ bs) = b
@@ -58,7 +60,8 @@ front_row Or at bs operand = Err (Unexpected at)
 front_row Join at bs operand = Err (Unexpected at)
 
 -- one row of the table where an operand is wanted
-abbrev pub operand_row : Kind → ℕ → Brackets → (Brackets → Verdict) → (Brackets → Verdict) → (AtFunction → Brackets → Verdict) → Verdict
+abbrev pub operand_row : Kind → ℕ → Brackets → (Brackets → Verdict) → (Brackets → Verdict)
+    → (AtFunction → Brackets → Verdict) → Verdict
 operand_row (Num v) at bs operand operator bracket = after (number v ∷ []) (operator bs)
 operand_row (Str t) at bs operand operator bracket = after (text t ∷ []) (operator bs)
 operand_row (Cell r) at bs operand operator bracket = after (place r ∷ []) (operator bs)
@@ -83,7 +86,8 @@ comma_row at (Call f n ∷ bs) operand = after (comma ∷ []) (operand (Call f (
 abbrev pub close_row : ℕ → Brackets → (Brackets → Verdict) → Verdict
 close_row at [] operator = Err (Unexpected at)
 close_row at (Plain ∷ bs) operator = after (closing ∷ []) (operator bs)
-close_row at (Call f n ∷ bs) operator = if takes (counts_of f) (n + 1) then after (closing ∷ []) (operator bs) else Err (ArgCount at)
+close_row at (Call f n ∷ bs) operator =
+    if takes (counts_of f) (n + 1) then after (closing ∷ []) (operator bs) else Err (ArgCount at)
 
 -- where an operator is wanted
 abbrev pub operator_row : Kind → ℕ → Brackets → (Brackets → Verdict) → (Brackets → Verdict) → Verdict
@@ -117,7 +121,8 @@ bracket_row Comma at operand = Err (Unexpected at)
 bracket_row Unclosed at operand = Err (Unexpected at)
 bracket_row (Bad f) at operand = Err f
 
--- the tokens, where these brackets are open and an operand, an operator or a function's bracket is wanted, or the first fault
+-- the tokens, where these brackets are open and an operand, an operator or a function's bracket is wanted, or the first
+-- fault
 abbrev mutual
   pub operand_first : List Lexeme → Brackets → Verdict
   operand_first [] bs = Err Ended
@@ -147,10 +152,12 @@ operator_in Comma = None
 operator_in Unclosed = None
 operator_in (Bad f) = None
 
+-- the binary operator that stands first, if one does
 abbrev pub operator_of : List Lexeme → Option Op
 operator_of [] = None
 operator_of (l ∷ ls) = operator_in l.kind
 
+-- how tightly an operator binds, 0 for none
 abbrev pub level_of : Option Op → ℕ
 level_of None = 0
 level_of (Some op) = level op

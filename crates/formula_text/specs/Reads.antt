@@ -21,6 +21,7 @@ abbrev pub takes_these : AtFunction → Trees → Bool
 takes_these f no_trees = true
 takes_these f (trees t ts) = takes (counts_of f) (count (trees t ts))
 
+-- whether a node, if it is a call, has as many arguments as its function takes
 abbrev pub is_called : Tree → Bool
 is_called (num v) = true
 is_called (str t) = true
@@ -134,6 +135,7 @@ pub record Completes (ls : List Lexeme) (f : AtFunction) (n : ℕ) (rest : List 
   pub taken : takes (counts_of f) (n + 1) ≡ true
   pub shorter : length rest < length ls
 
+-- whether a part is a comma
 abbrev pub is_comma : Kind → Bool
 is_comma Comma = true
 is_comma (Num v) = false
@@ -149,6 +151,7 @@ is_comma Close = false
 is_comma Unclosed = false
 is_comma (Bad f) = false
 
+-- whether a comma stands first
 abbrev pub comma_first : List Lexeme → Bool
 comma_first [] = false
 comma_first (l ∷ ls) = is_comma l.kind

@@ -1,5 +1,6 @@
 -- What a text spells.
 use Rattle.std.specs.Prelude.{ℕ, ◌≤◌, List, length}
+use Rattle.lics_text.specs.declared.TheConstants.{MAX_LEN}
 use Rattle.formula_tree.specs.Tree.{Tree}
 use Rattle.grid_address.specs.Place.{Place}
 use Rattle.range_names.specs.Names.{NameMap}
@@ -8,4 +9,4 @@ use Rattle.formula_text.specs.Reads.{Spells}
 
 -- a text of at most 240 bytes spells a tree where it stands in a cell, with these names
 abbrev pub SpelledBy : NameMap → Place → List ℕ → Tree → Type 0
-SpelledBy names cell text t = (length text ≤ 240) × Spells (lexed names cell 0 0 text) t
+SpelledBy names cell text t = (length text ≤ MAX_LEN) × Spells (lexed names cell 0 0 text) t

@@ -20,6 +20,7 @@ pub data Token : Type 0 where
   front_not : Token
   infix_op : Op → Token
 
+-- the tokens of a tree, from left to right
 abbrev mutual
   pub tokens : Tree → List Token
   tokens (num v) = number v ∷ []

@@ -9,6 +9,7 @@ use crate::operands::{function_found, number_found, number_len, text_found};
 use crate::signs::{hash_found, sign_found};
 use crate::words::{is_word_byte, word_found};
 use grid_address::Cell;
+use lics_text::MAX_LEN;
 use range_names::Names;
 use std::alloc::Global;
 
@@ -22,7 +23,7 @@ fn found_by(
     names: &Names,
 ) -> Result<Found, ParseFault>
     requires some { 0 < length bytes.now }
-    requires short { length bytes.now ≤ 240 }
+    requires short { length bytes.now ≤ MAX_LEN }
     ensures found { IfOk result (λ f. f ≡ found_by names.now cell at bytes.now (get_or bytes.now 0 0)) }
     ensures fine { IfOk result (λ f. is_fine_kind f.kind ≡ true) }
     ensures low { IfOk result (λ f. 0 < f.len) }
@@ -53,7 +54,7 @@ fn part_found(
     names: &Names,
 ) -> Result<Found, ParseFault>
     requires some { 0 < length bytes.now }
-    requires short { length bytes.now ≤ 240 }
+    requires short { length bytes.now ≤ MAX_LEN }
     ensures found { IfOk result (λ f. f ≡ part_found names.now cell at bytes.now) }
     ensures fine { IfOk result (λ f. is_fine_kind f.kind ≡ true) }
     ensures low { IfOk result (λ f. 0 < f.len) }
@@ -75,6 +76,7 @@ fn from(text: &[u8], at: usize) -> &[u8]
     &text[at..]
 }
 
+// Adds a part.
 fn add(lexemes: &mut Vec<Lexeme>, lexeme: Lexeme) -> Result<(), ParseFault>
     ensures ok { OnOk result (lexemes.new.items ≡ lexemes.old.items ++ lexeme ∷ []) }
     ensures err { IfErr result (λ f. f ≡ ParseFault.Memory) }
@@ -87,7 +89,7 @@ fn add(lexemes: &mut Vec<Lexeme>, lexeme: Lexeme) -> Result<(), ParseFault>
 
 // The parts of a text that stands in the cell.
 pub fn lex(alloc: Global, text: &[u8], cell: Cell, names: &Names) -> Result<Vec<Lexeme>, ParseFault>
-    requires { length text.now ≤ 240 }
+    requires { length text.now ≤ MAX_LEN }
     ensures ok { IfOk result (λ v. v.items ≡ lexed names.now cell 0 0 text.now) }
     ensures fine { IfOk result (λ v. are_fine v.items ≡ true) }
     ensures few { IfOk result (λ v. length v.items ≤ length text.now) }

@@ -1,5 +1,6 @@
 // Numbers, texts and functions in a formula.
 ghost use Rattle.std.specs.Prelude.{◌≡◌, ◌≤◌, ◌<◌, ◌==◌, true, IfOk, IfErr, length, position, take, Some};
+ghost use Rattle.ascii_bytes.specs.Ascii as ascii;
 ghost use Rattle.formula_tree.specs.Table.{counts_of, takes};
 ghost use Rattle.formula_text.specs.Fine.{is_fine_kind};
 ghost use Rattle.formula_text.specs.Functions.{is_among, left_out};
@@ -41,6 +42,7 @@ pub fn number_len(bytes: &[u8]) -> usize
     }
 }
 
+// A decimal that is read is a number, or a fault of this place.
 fn number_kind(bytes: &[u8], at: usize) -> Kind
     ensures { result ≡ number_kind at (decimal_of bytes.now) }
 {
@@ -67,8 +69,9 @@ pub fn number_found(bytes: &[u8], at: usize) -> Found
     }
 }
 
+// Where the next quote stands.
 fn next_quote(bytes: &[u8]) -> Option<usize>
-    ensures { result ≡ position (λ b. b == 34) bytes.now }
+    ensures { result ≡ position (λ b. b == ascii.quote) bytes.now }
 {
     bytes.iter().position(|b| *b == b'"')
 }
@@ -89,7 +92,7 @@ fn text_kind(alloc: Global, bytes: &[u8], at: usize) -> Result<Kind, ParseFault>
 // The text before the first quote.
 #[tactic(auto, using(crate::proofs::Quotes::text_is_fine))]
 fn before_quote(alloc: Global, bytes: &[u8], end: usize, at: usize) -> Result<Kind, ParseFault>
-    requires { position (λ b. b == 34) bytes.now ≡ Some end }
+    requires { position (λ b. b == ascii.quote) bytes.now ≡ Some end }
     ensures kind { IfOk result (λ k. k ≡ text_kind at (text_of (take end bytes.now))) }
     ensures fine { IfOk result (λ k. is_fine_kind k ≡ true) }
     ensures err { IfErr result (λ f. f ≡ ParseFault.Memory) }
@@ -117,12 +120,14 @@ pub fn text_found(alloc: Global, bytes: &[u8], at: usize) -> Result<Found, Parse
     Ok(Found { kind, len: end + 2 })
 }
 
+// The bytes of a function's name: letters and digits.
 fn is_name_byte(byte: u8) -> bool
     ensures { result ≡ is_name_byte byte }
 {
     byte.is_ascii_alphabetic() || byte.is_ascii_digit()
 }
 
+// How many bytes of a function's name stand first.
 fn name_len(bytes: &[u8]) -> usize
     ensures count { result ≡ name_len bytes.now }
     ensures within { result ≤ length bytes.now }
@@ -130,6 +135,7 @@ fn name_len(bytes: &[u8]) -> usize
     bytes.iter().take_while(|b| is_name_byte(**b)).count()
 }
 
+// A function that 1-2-3 has and this program leaves out, or one that neither has.
 fn outside_kind(name: &[u8], at: usize) -> Kind
     ensures kind { result ≡ outside_kind at (is_among left_out name.now) }
     ensures fine { is_fine_kind result ≡ true }

@@ -2,7 +2,7 @@
 ghost use Rattle.std.specs.Prelude.{◌≡◌};
 ghost use Rattle.formula_text.specs.Printed.{written};
 
-use lics_text::Line;
+use lics_text::{Line, MAX_LEN};
 
 // What is written of a text, and whether that is all of it.
 #[derive(Drop)]
@@ -19,7 +19,7 @@ pub fn put(out: &mut Output, bytes: &[u8])
     if !out.whole {
         return;
     }
-    let room = 240 - out.line.bytes().len();
+    let room = MAX_LEN - out.line.bytes().len();
     if bytes.len() <= room {
         out.line.put_all(bytes);
     } else {

@@ -10,7 +10,7 @@ use crate::ParseFault;
 use crate::lexeme::{Kind, Lexeme};
 use crate::rows::{behind_comma, behind_last, closing, ended, missing, opening, operator, others};
 use formula_tree::{Expr, ExprList, Function, Op, level};
-use lics_text::Text;
+use lics_text::{MAX_LEN, Text};
 use std::alloc::Global;
 
 // The innermost open bracket: a plain one or none, or a function's with so many complete arguments.
@@ -41,6 +41,7 @@ fn binary(alloc: Global, op: Op, left: Expr, right: Expr) -> Result<Expr, ParseF
     Ok(Expr::Binary(op, left, right))
 }
 
+// A copy of a text that was read.
 fn copy_of(text: &Text) -> Result<Expr, ParseFault>
     ensures ok { IfOk result (λ e. tree_of e ≡ str text.now) }
     ensures err { IfErr result (λ f. f ≡ ParseFault.Memory) }
@@ -51,6 +52,7 @@ fn copy_of(text: &Text) -> Result<Expr, ParseFault>
     }
 }
 
+// Adds an argument.
 fn add(arguments: &mut ExprList, argument: Expr) -> Result<(), ParseFault>
     ensures ok { OnOk result (trees_in arguments.new ≡ trees_in arguments.old ++ tree_of argument ∷ []) }
     ensures err { IfErr result (λ f. f ≡ ParseFault.Memory) }
@@ -71,7 +73,7 @@ fn expression(
 ) -> Result<(Expr, &[Lexeme]), ParseFault>
     requires low { 0 < least }
     requires high { least ≤ 8 }
-    requires short { length lexemes.now ≤ 240 }
+    requires short { length lexemes.now ≤ MAX_LEN }
     ensures ok { IfOk result (λ r. Reads lexemes.now least (tree_of r.0) r.1.now) }
     ensures err { IfErr result (λ f. IsFault lexemes.now inside f) }
 {
@@ -96,7 +98,7 @@ fn signed(
     lexemes: &[Lexeme],
     inside: Bracket,
 ) -> Result<(Expr, &[Lexeme]), ParseFault>
-    requires short { length lexemes.now ≤ 240 }
+    requires short { length lexemes.now ≤ MAX_LEN }
     ensures ok { IfOk result (λ r. ReadsSigned op at lexemes.now (tree_of r.0) r.1.now) }
     ensures err { IfErr result (λ f. IsSignedFault op at lexemes.now inside f) }
 {
@@ -118,7 +120,7 @@ fn call(
     function: Function,
     lexemes: &[Lexeme],
 ) -> Result<(Expr, &[Lexeme]), ParseFault>
-    requires short { length lexemes.now ≤ 240 }
+    requires short { length lexemes.now ≤ MAX_LEN }
     ensures ok { IfOk result (λ r. ReadsCall lexemes.now function (tree_of r.0) r.1.now) }
     ensures err { IfErr result (λ f. IsCallFault lexemes.now function f) }
 {
@@ -144,7 +146,7 @@ fn operand(
     lexemes: &[Lexeme],
     inside: Bracket,
 ) -> Result<(Expr, &[Lexeme]), ParseFault>
-    requires short { length lexemes.now ≤ 240 }
+    requires short { length lexemes.now ≤ MAX_LEN }
     ensures ok { IfOk result (λ r. ReadsOperand lexemes.now (tree_of r.0) r.1.now) }
     ensures err { IfErr result (λ f. IsFault lexemes.now inside f) }
 {
@@ -177,7 +179,7 @@ fn operand(
 
 // The tree that the parts spell, or the first fault.
 pub fn tree(alloc: Global, lexemes: &[Lexeme]) -> Result<Expr, ParseFault>
-    requires { length lexemes.now ≤ 240 }
+    requires { length lexemes.now ≤ MAX_LEN }
     ensures found { IfOk result (λ e. Spells lexemes.now (tree_of e)) }
     ensures called { IfOk result (λ e. every is_called (tree_of e) ≡ true) }
     ensures fault { IfErr result (λ f. (f ≡ ParseFault.Memory) ⊎ (operand_first lexemes.now [] ≡ Err f)) }

@@ -10,9 +10,10 @@ use crate::output::{Output, put};
 use fixed_value::write_short;
 use formula_tree::{Expr, ExprList, Formula, Function, Op};
 use grid_address::{Axis, Cell, Ref, Span, column_text, row_text};
-use lics_text::Line;
+use lics_text::{Line, MAX_LEN};
 use range_names::Names;
 
+// Whether a coordinate is fixed.
 fn is_fixed(axis: Axis) -> bool
     ensures { result ≡ is_fixed axis }
 {
@@ -22,6 +23,7 @@ fn is_fixed(axis: Axis) -> bool
     }
 }
 
+// Writes $ in front of a fixed coordinate.
 fn put_mark(fixed: bool, out: &mut Output)
     ensures { out.new ≡ written out.old (mark fixed) }
 {
@@ -32,6 +34,7 @@ fn put_mark(fixed: bool, out: &mut Output)
     }
 }
 
+// Writes the address of a reference.
 fn put_reference(reference: Ref, at: Cell, out: &mut Output)
     ensures { out.new ≡ written out.old (reference_text at reference) }
 {
@@ -42,6 +45,7 @@ fn put_reference(reference: Ref, at: Cell, out: &mut Output)
     put(out, row_text(cell.row).bytes());
 }
 
+// Whether both are true, or both false.
 fn same(one: bool, other: bool) -> bool
     ensures { result ≡ same one other }
 {
@@ -58,6 +62,7 @@ fn alike(one: Ref, other: Ref) -> bool
         && same(is_fixed(other.row), fixed)
 }
 
+// The name of the cell that a reference leads to, where its coordinates are alike.
 fn name_of_cell(reference: Ref, at: Cell, names: &Names) -> Option<&[u8]>
     ensures some { IfSome result (λ name. name_of_cell names.now at reference ≡ Some name.now) }
     ensures none { IfNone result (name_of_cell names.now at reference ≡ None) }
@@ -70,6 +75,7 @@ fn name_of_cell(reference: Ref, at: Cell, names: &Names) -> Option<&[u8]>
     }
 }
 
+// Writes a reference: its cell's name, or else its address.
 fn put_cell(reference: Ref, at: Cell, names: &Names, out: &mut Output)
     ensures { out.new ≡ written out.old (cell_text names.now at reference) }
 {
@@ -91,6 +97,7 @@ fn in_order(first: Cell, last: Cell) -> bool
         && !(first.row == last.row && first.col == last.col)
 }
 
+// The name of the span between two corners, where all coordinates are alike and the corners in order.
 fn name_of_corners(one: Ref, other: Ref, at: Cell, names: &Names) -> Option<&[u8]>
     ensures some { IfSome result (λ name. name_of_corners names.now at one other ≡ Some name.now) }
     ensures none { IfNone result (name_of_corners names.now at one other ≡ None) }
@@ -104,6 +111,7 @@ fn name_of_corners(one: Ref, other: Ref, at: Cell, names: &Names) -> Option<&[u8
     }
 }
 
+// Writes the addresses of two corners.
 fn put_corners(one: Ref, other: Ref, at: Cell, out: &mut Output)
     ensures { out.new ≡ written out.old (reference_text at one ++ (codes ".." ++ reference_text at other)) }
 {
@@ -112,6 +120,7 @@ fn put_corners(one: Ref, other: Ref, at: Cell, out: &mut Output)
     put_reference(other, at, out);
 }
 
+// Writes a span: its name, or else its corners.
 fn put_span(one: Ref, other: Ref, at: Cell, names: &Names, out: &mut Output)
     ensures { out.new ≡ written out.old (span_text names.now at one other) }
 {
@@ -124,6 +133,7 @@ fn put_span(one: Ref, other: Ref, at: Cell, names: &Names, out: &mut Output)
     }
 }
 
+// How an operator is written.
 fn op_text(op: Op) -> &'static [u8]
     ensures { result.now ≡ op_text op }
 {
@@ -168,6 +178,7 @@ fn put_call(function: Function, arguments: &[Expr], at: Cell, names: &Names, out
     put(out, end_of(arguments));
 }
 
+// Writes a tree.
 #[cycle(print)]
 fn put_tree(expr: &Expr, at: Cell, names: &Names, out: &mut Output)
     ensures { out.new ≡ written out.old (text_of names.now at (tree_of expr.now)) }
@@ -229,8 +240,8 @@ fn nothing() -> Output
 
 // The text of a tree.
 fn text_of(expr: &Expr, at: Cell, names: &Names) -> Output
-    ensures line { result.line ≡ take 240 (text_of names.now at (tree_of expr.now)) }
-    ensures whole { result.whole ≡ nat_le (length (text_of names.now at (tree_of expr.now))) 240 }
+    ensures line { result.line ≡ take MAX_LEN (text_of names.now at (tree_of expr.now)) }
+    ensures whole { result.whole ≡ nat_le (length (text_of names.now at (tree_of expr.now))) MAX_LEN }
 {
     let mut out = nothing();
     put_tree(expr, at, names, &mut out);
@@ -239,8 +250,8 @@ fn text_of(expr: &Expr, at: Cell, names: &Names) -> Output
 
 // A text behind its sign.
 fn signed(text: &[u8]) -> Output
-    ensures line { result.line ≡ take 240 (sign_for text.now ++ text.now) }
-    ensures whole { result.whole ≡ nat_le (length (sign_for text.now ++ text.now)) 240 }
+    ensures line { result.line ≡ take MAX_LEN (sign_for text.now ++ text.now) }
+    ensures whole { result.whole ≡ nat_le (length (sign_for text.now ++ text.now)) MAX_LEN }
 {
     let mut out = nothing();
     put(&mut out, sign_for(text));
@@ -256,8 +267,8 @@ fn signed(text: &[u8]) -> Output
 /// (Release 2 manual; the order of names is this project's choice.)
 pub fn print(formula: &Formula, at: Cell, names: &Names, into: &mut Line) -> bool
     requires { into.old ≡ [] }
-    ensures line { into.new ≡ take 240 (printed names.now at formula.now) }
-    ensures whole { result ≡ nat_le (length (printed names.now at formula.now)) 240 }
+    ensures line { into.new ≡ take MAX_LEN (printed names.now at formula.now) }
+    ensures whole { result ≡ nat_le (length (printed names.now at formula.now)) MAX_LEN }
     ensures again { result ≡ true → reading names.now at into.new ≡ Ok formula.now }
 {
     at.is_on_sheet();

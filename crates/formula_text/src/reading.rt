@@ -13,6 +13,7 @@ use crate::lex::lex;
 use crate::parse::tree;
 use formula_tree::{Expr, Formula};
 use grid_address::Cell;
+use lics_text::MAX_LEN;
 use range_names::Names;
 use std::alloc::Global;
 
@@ -37,7 +38,7 @@ pub fn read(alloc: Global, text: &[u8], at: Cell, names: &Names) -> Result<Formu
     ensures found { IfOk result (λ f. reading names.now at text.now ≡ Ok f) }
     ensures fault { IfErr result (λ f. (f ≡ ParseFault.Memory) ⊎ (reading names.now at text.now ≡ Err f)) }
 {
-    if text.len() > 240 {
+    if text.len() > MAX_LEN {
         return Err(ParseFault::TooLong);
     }
     let lexemes = lex(alloc, text, at, names)?;

@@ -8,6 +8,7 @@ use crate::ParseFault;
 use crate::lexeme::{Kind, Lexeme};
 use crate::parse::Bracket;
 use formula_tree::{Function, Op, takes};
+use lics_text::MAX_LEN;
 
 // The operator that stands first, if one does.
 pub fn operator(lexemes: &[Lexeme]) -> Option<Op>
@@ -113,7 +114,7 @@ pub fn behind_last(
 ) -> Result<&[Lexeme], ParseFault>
     requires level { next_level lexemes.now ≡ 0 }
     requires comma { comma_first lexemes.now ≡ false }
-    requires few { count < 240 }
+    requires few { count < MAX_LEN }
     ensures ok { IfOk result (λ rest. Completes lexemes.now function count rest.now) }
     ensures err { IfErr result (λ f. (bs : _) → operator_first lexemes.now (Call function count ∷ bs) ≡ Err f) }
 {

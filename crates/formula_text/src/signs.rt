@@ -7,6 +7,7 @@ use crate::ParseFault;
 use crate::lexeme::{Found, Kind};
 use formula_tree::Op;
 
+// Whether bytes begin with this word, in letters of either case.
 fn begins_with(bytes: &[u8], word: &[u8]) -> bool
     ensures { result ≡ begins_with bytes.now word.now }
 {
@@ -46,6 +47,7 @@ pub fn hash_found(bytes: &[u8], at: usize) -> Found
     }
 }
 
+// A sign of one byte; ; is read as ,.
 #[tactic(auto, unfolding(crate::specs::Signs::single_kind))]
 fn single_kind(byte: u8, at: usize) -> Kind
     ensures kind { result ≡ single_kind at byte }
@@ -68,6 +70,7 @@ fn single_kind(byte: u8, at: usize) -> Kind
     }
 }
 
+// An operator of so many bytes.
 fn infix(op: Op, len: usize) -> Found
     ensures kind { result.kind ≡ Kind.Infix op }
     ensures len { result.len ≡ len }

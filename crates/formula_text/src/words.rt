@@ -8,7 +8,7 @@ use crate::ParseFault;
 use crate::lexeme::{Found, Kind};
 use fixed_value::all_digits;
 use grid_address::{Cell, Ref, Span, count_dots, read_cell};
-use lics_text::Line;
+use lics_text::{Line, MAX_LEN};
 use range_names::Names;
 
 // Letters, digits, _ and $.
@@ -18,6 +18,7 @@ pub fn is_word_byte(byte: u8) -> bool
     byte.is_ascii_alphabetic() || byte.is_ascii_digit() || byte == b'_' || byte == b'$'
 }
 
+// How many bytes of a word stand first.
 fn word_len(bytes: &[u8]) -> usize
     ensures count { result ≡ word_len bytes.now }
     ensures within { result ≤ length bytes.now }
@@ -25,6 +26,7 @@ fn word_len(bytes: &[u8]) -> usize
     bytes.iter().take_while(|b| is_word_byte(**b)).count()
 }
 
+// How many letters stand first.
 fn letters_len(bytes: &[u8]) -> usize
     ensures count { result ≡ letters_len bytes.now }
     ensures within { result ≤ length bytes.now }
@@ -32,12 +34,14 @@ fn letters_len(bytes: &[u8]) -> usize
     bytes.iter().take_while(|b| b.is_ascii_alphabetic()).count()
 }
 
+// Whether a $ stands first.
 fn has_dollar(bytes: &[u8]) -> bool
     ensures { result ≡ has_dollar bytes.now }
 {
     0 < bytes.len() && bytes[0] == b'$'
 }
 
+// What stands behind a $ in front.
 fn without_dollar(bytes: &[u8]) -> &[u8]
     ensures bytes { result.now ≡ without_dollar bytes.now }
     ensures within { length result.now ≤ length bytes.now }
@@ -51,7 +55,7 @@ fn without_dollar(bytes: &[u8]) -> &[u8]
 
 // The cell of a column and the digits of a row.
 fn plain_address(column: &[u8], row: &[u8]) -> Option<Cell>
-    requires { length column.now + length row.now ≤ 240 }
+    requires { length column.now + length row.now ≤ MAX_LEN }
     ensures { result ≡ plain_address column.now row.now }
 {
     if !all_digits(row) {
@@ -68,7 +72,7 @@ fn plain_address(column: &[u8], row: &[u8]) -> Option<Cell>
 
 // The reference of a column without its $ and a row that may have one.
 fn reference_from(word: &[u8], cell: Cell, fixed_col: bool) -> Option<Ref>
-    requires { length word.now ≤ 240 }
+    requires { length word.now ≤ MAX_LEN }
     ensures { result ≡ reference_from cell fixed_col word.now }
 {
     let (column, behind) = word.split_at(letters_len(word));
@@ -80,7 +84,7 @@ fn reference_from(word: &[u8], cell: Cell, fixed_col: bool) -> Option<Ref>
 
 // The reference that a word is where it stands in the cell.
 fn reference_in(word: &[u8], cell: Cell) -> Option<Ref>
-    requires { length word.now ≤ 240 }
+    requires { length word.now ≤ MAX_LEN }
     ensures { result ≡ reference_in cell word.now }
 {
     reference_from(without_dollar(word), cell, has_dollar(word))
@@ -88,7 +92,7 @@ fn reference_in(word: &[u8], cell: Cell) -> Option<Ref>
 
 // The corner behind so many dots.
 fn corner_behind(dots: usize, bytes: &[u8], cell: Cell) -> Option<Ref>
-    requires { length bytes.now ≤ 240 }
+    requires { length bytes.now ≤ MAX_LEN }
     ensures { result ≡ corner_behind cell dots bytes.now }
 {
     if dots == 0 {
@@ -100,7 +104,7 @@ fn corner_behind(dots: usize, bytes: &[u8], cell: Cell) -> Option<Ref>
 
 // What an address of so many bytes is with what stands behind it.
 fn address_found(first: Ref, len: usize, behind: &[u8], cell: Cell) -> Found
-    requires short { len + length behind.now ≤ 240 }
+    requires short { len + length behind.now ≤ MAX_LEN }
     requires some { 0 < len }
     ensures found { result ≡ address_found cell first len behind.now }
     ensures fine { is_fine_kind result.kind ≡ true }
@@ -122,12 +126,14 @@ fn address_found(first: Ref, len: usize, behind: &[u8], cell: Cell) -> Found
     }
 }
 
+// The span of a name; more than 15 bytes are no name.
 fn named_span(name: &[u8], names: &Names) -> Option<Span>
     ensures { result ≡ named_span names.now name.now }
 {
     names.find(name)
 }
 
+// Whether a span is one cell.
 fn is_one_cell(span: Span) -> bool
     ensures { result ≡ same_place span.first span.last }
 {
@@ -154,7 +160,7 @@ fn span_kind(span: Option<Span>, at: usize, cell: Cell, fixed: bool) -> Kind
 
 // The word that stands first, which begins at a place of the text.
 pub fn word_found(bytes: &[u8], at: usize, cell: Cell, names: &Names) -> Found
-    requires short { length bytes.now ≤ 240 }
+    requires short { length bytes.now ≤ MAX_LEN }
     requires some { 0 < word_len bytes.now }
     ensures found { result ≡ word_found names.now cell at bytes.now }
     ensures fine { is_fine_kind result.kind ≡ true }

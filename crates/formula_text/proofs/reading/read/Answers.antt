@@ -16,8 +16,8 @@ formula-requires c =
     let s = subst (λ ls. Spells ls t) c.as_slice.ensures.value c.in_ok-expr.ensures.found in
     is_formula items t (omega (arith, c.in_ok-lexemes.ensures.few)) c.in_ok-lexemes.ensures.fine s.same s.well c.in_ok-expr.ensures.called
 
-pub returns-then-text-gt240-clause-fault : goal.returns-then-text-gt240-clause-fault
-returns-then-text-gt240-clause-fault c = inr (too_long c.args.names.now c.args.at c.args.text.now (omega arith))
+pub returns-then-text-gt-MAX_LEN-clause-fault : goal.returns-then-text-gt-MAX_LEN-clause-fault
+returns-then-text-gt-MAX_LEN-clause-fault c = inr (too_long c.args.names.now c.args.at c.args.text.now (omega arith))
 
 pub returns-in_err-expr-clause-fault : goal.returns-in_err-expr-clause-fault
 returns-in_err-expr-clause-fault c =
