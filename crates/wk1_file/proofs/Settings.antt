@@ -12,7 +12,8 @@ use Rattle.wk1_records.specs.Meanings.{is_inside, is_width, meaning, order_of, p
 use Rattle.wk1_formula.specs.Reading.{short_at}
 use Rattle.wk1_file.specs.Said.{settings_entries, AreSettings, Says}
 use Rattle.wk1_records.specs.Bodies.{made, place_bytes}
-use Rattle.wk1_file.specs.Saved.{on_byte, order_byte, settings_pieces}
+use Rattle.wk1_file.specs.Saved.{on_byte, settings_pieces}
+use Rattle.wk1_records.specs.Kinds.{order_byte}
 use Rattle.wk1_records.specs.declared.entry.Entry.TheVariants as entry
 use Rattle.wk1_records.specs.declared.kind.Kind.TheVariants as kind
 use Rattle.wk1_file.proofs.Heads.{by_type, inside_is, tested}

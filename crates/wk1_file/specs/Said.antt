@@ -15,7 +15,9 @@ use Rattle.sheet_store.specs.Grid.{is_kept, width_of, Fits, Grid}
 use Rattle.sheet_store.specs.declared.state.CellState.{CellState}
 use Rattle.range_names.specs.Names.{fault_of, key_of, name_in}
 use Rattle.wk1_file.specs.Saved.{columns}
+use Rattle.wk1_records.specs.Kinds.{number_of}
 use Rattle.wk1_records.specs.Meanings.{meaning}
+use Rattle.wk1_records.specs.declared.kind.Kind.TheVariants as kind
 use Rattle.wk1_records.specs.Records.{ended, piece, IsPiece, Piece, Records}
 use Rattle.wk1_records.specs.declared.entry.Entry.{Entry}
 use Rattle.wk1_records.specs.declared.entry.Entry.TheVariants as entry
@@ -71,7 +73,7 @@ cell_entries e = content_entries e.0 e.1 e.1.content
 -- a record that is no EOF, and whose type and length take two bytes each
 pub record IsRecord (p : Piece) : Type 0 where
   pub fits : IsPiece p
-  pub inner : p.kind ≡ 1 → ⊥
+  pub inner : p.kind ≡ number_of kind.Eof → ⊥
 
 -- the records of a file that ends with its EOF
 abbrev pub records_of : List Piece → Records

@@ -18,7 +18,10 @@ use Rattle.sheet_store.specs.declared.state.CellState.{CellState}
 use Rattle.sheet_store.specs.declared.writes.SavedSheet.{SavedSheet}
 use Rattle.wk1_formula.specs.Doubles.{bits_of}
 use Rattle.wk1_formula.specs.Written.{code_of}
+use Rattle.wk1_formula.specs.declared.write.TheConstants.{ERR_BITS, NA_BITS}
 use Rattle.wk1_records.specs.Bodies.{head, made, place_bytes}
+use Rattle.wk1_records.specs.Kinds.{order_byte}
+use Rattle.wk1_file.specs.declared.put_settings.TheConstants.{AUTOMATIC, PROTECTED}
 use Rattle.wk1_records.specs.Records.{pieces_bytes, Piece}
 use Rattle.wk1_records.specs.declared.kind.Kind.{Kind}
 use Rattle.wk1_records.specs.declared.kind.Kind.TheVariants as kind
@@ -44,19 +47,13 @@ abbrev pub value_bits : Value → ℕ
 value_bits value.Blank = 0
 value_bits (value.Num v) = bits_of v
 value_bits (value.Str t) = 0
-value_bits value.Err = 9218868437227405312
-value_bits value.Na = 18442240474082181120
+value_bits value.Err = ERR_BITS
+value_bits value.Na = NA_BITS
 
 -- a formula's value, the length of its code, and its code
 abbrev pub formula_piece : Place → CellState → List ℕ → Piece
 formula_piece p s code =
     made kind.Formula (head p s ++ (to_le_bytes w64 (value_bits s.value) ++ (to_le_bytes w16 (length code) ++ code)))
-
--- 0 is natural, 1 is by columns and 255 is by rows
-abbrev pub order_byte : Order → ℕ
-order_byte Natural = 0
-order_byte Columnwise = 1
-order_byte Rowwise = 255
 
 -- a byte for what is on, and 0 for what is off
 abbrev pub on_byte : Bool → ℕ → ℕ
@@ -93,9 +90,9 @@ window_piece c = made kind.Window (place_bytes c.pointer ++ c.format ∷ 0 ∷ (
 abbrev pub settings_pieces : Choices → List Piece
 settings_pieces c =
     made kind.CalcCount (c.passes ∷ [])
-    ∷ made kind.CalcMode (on_byte c.automatic 255 ∷ [])
+    ∷ made kind.CalcMode (on_byte c.automatic AUTOMATIC ∷ [])
     ∷ made kind.CalcOrder (order_byte c.order ∷ [])
-    ∷ made kind.Protection (on_byte c.protection 1 ∷ [])
+    ∷ made kind.Protection (on_byte c.protection PROTECTED ∷ [])
     ∷ made kind.LabelFormat (prefix_byte c.prefix ∷ [])
     ∷ window_piece c
     ∷ []

@@ -13,20 +13,26 @@ use range_names::Names;
 use sheet_store::{SavedSheet, Settings, Store};
 use std::alloc::Global;
 use wk1_formula::{bytes_from, short_at};
-use wk1_records::{Kind, Wk1Fault, entry_of, front_piece, kind_of};
+use wk1_records::{BOF, EOF, Kind, Wk1Fault, entry_of, front_piece, kind_of};
 
 /// The most bytes of a file (this project's choice).
 const MOST_BYTES: usize = 67_108_864;
+
+/// The number that the file of the first release whose files are read begins with.
+const FIRST_RELEASE: u16 = 0x0404;
+
+/// The number of the last such release, which is Release 2.
+const LAST_RELEASE: u16 = 0x0406;
 
 /// The type and the length of a BOF, and the three releases whose files are read (worksheet file format).
 fn has_bof(bytes: &[u8]) -> bool
     ensures { result ≡ has_bof bytes.now }
 {
     bytes.len() >= 6
-        && short_at(bytes, 0) == 0
+        && short_at(bytes, 0) == BOF
         && short_at(bytes, 2) >= 2
-        && short_at(bytes, 4) >= 0x0404
-        && short_at(bytes, 4) <= 0x0406
+        && short_at(bytes, 4) >= FIRST_RELEASE
+        && short_at(bytes, 4) <= LAST_RELEASE
 }
 
 // A fresh sheet.
@@ -67,14 +73,14 @@ fn take_record(
 
 // The sheet of the records, or their first fault.
 fn read_records(alloc: Global, bytes: &[u8]) -> Result<SavedSheet, Wk1Fault>
-    requires { length bytes.now ≤ 67108864 }
+    requires { length bytes.now ≤ MOST_BYTES }
     ensures { (result ≡ Err fault.Memory) ⊎ Makes bytes.now result }
 {
     let mut loading = fresh(alloc);
     let mut at = 0;
     let mut number: u32 = 0;
     while let Some((kind, body)) = front_piece(bytes_from(bytes, at)) {
-        if kind == 1 {
+        if kind == EOF {
             return Ok(loading.sheet);
         }
         match take_record(alloc, &mut loading, number, kind_of(kind), body) {

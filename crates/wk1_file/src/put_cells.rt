@@ -21,7 +21,7 @@ use grid_address::Cell;
 use lics_text::{LabelPrefix, Memory, Text};
 use sheet_store::{CellState, Store};
 use std::alloc::Global;
-use wk1_formula::{double_bits, put, put_short, write_code};
+use wk1_formula::{ERR_BITS, NA_BITS, double_bits, put, put_short, write_code};
 use wk1_records::{Kind, put_head, put_piece};
 
 // The body of a record begins with the head of its cell.
@@ -87,8 +87,8 @@ fn value_bits(value: &Value) -> u64
         Value::Blank => 0,
         Value::Num(number) => double_bits(*number),
         Value::Str(_) => 0,
-        Value::Err => 0x7FF0_0000_0000_0000,
-        Value::Na => 0xFFF0_0000_0000_0000,
+        Value::Err => ERR_BITS,
+        Value::Na => NA_BITS,
     }
 }
 

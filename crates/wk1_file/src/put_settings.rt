@@ -9,13 +9,20 @@ ghost use Rattle.sheet_store.specs.Grid.{last_used, width_of};
 ghost use Rattle.wk1_records.specs.Records.{piece_bytes, pieces_bytes};
 ghost use Rattle.wk1_records.specs.declared.kind.Kind.TheVariants as kind;
 ghost use Rattle.wk1_records.specs.Bodies.{made};
-ghost use Rattle.wk1_file.specs.Saved.{bits_byte, bits_bytes, hidden_pieces, on_byte, order_byte, range_piece, settings_pieces, width_piece, width_pieces, window_piece};
+ghost use Rattle.wk1_records.specs.Kinds.{order_byte};
+ghost use Rattle.wk1_file.specs.Saved.{bits_byte, bits_bytes, hidden_pieces, on_byte, range_piece, settings_pieces, width_piece, width_pieces, window_piece};
 
 use grid_address::Cell;
 use lics_text::{LabelPrefix, Memory};
-use sheet_store::{Order, Settings, Store};
+use sheet_store::{Settings, Store};
 use wk1_formula::{put, put_short};
-use wk1_records::{Kind, put_piece, put_place};
+use wk1_records::{Kind, order_byte, put_piece, put_place};
+
+// The byte of a sheet that recalculates by itself.
+const AUTOMATIC: u8 = 255;
+
+// The byte of a protected sheet.
+const PROTECTED: u8 = 1;
 
 // A byte for what is on, and 0 for what is off.
 fn on_byte(on: bool, byte: u8) -> u8
@@ -23,17 +30,6 @@ fn on_byte(on: bool, byte: u8) -> u8
     ensures most { result ≤ byte }
 {
     if on { byte } else { 0 }
-}
-
-// The byte of an order.
-fn order_byte(order: Order) -> u8
-    ensures { result ≡ order_byte order }
-{
-    match order {
-        Order::Natural => 0,
-        Order::Columnwise => 1,
-        Order::Rowwise => 255,
-    }
 }
 
 // Adds the record of the pointer, the global format and the global width.
@@ -58,12 +54,20 @@ fn put_prefix(prefix: LabelPrefix, into: &mut Vec<u8>) -> Result<(), Memory>
 
 // Adds the records of the other settings, one byte each.
 fn put_choices(settings: Settings, into: &mut Vec<u8>) -> Result<(), Memory>
-    ensures { OnOk result (into.new.items ≡ into.old.items ++ pieces_bytes (made kind.CalcCount (settings.passes ∷ []) ∷ made kind.CalcMode (on_byte settings.automatic 255 ∷ []) ∷ made kind.CalcOrder (order_byte settings.order ∷ []) ∷ made kind.Protection (on_byte settings.protection 1 ∷ []) ∷ made kind.LabelFormat (prefix_byte settings.prefix ∷ []) ∷ [])) }
+    ensures { OnOk result (into.new.items ≡ into.old.items ++ pieces_bytes (made kind.CalcCount (settings.passes ∷ []) ∷ made kind.CalcMode (on_byte settings.automatic AUTOMATIC ∷ []) ∷ made kind.CalcOrder (order_byte settings.order ∷ []) ∷ made kind.Protection (on_byte settings.protection PROTECTED ∷ []) ∷ made kind.LabelFormat (prefix_byte settings.prefix ∷ []) ∷ [])) }
 {
     put_piece(Kind::CalcCount, &[settings.passes], into)?;
-    put_piece(Kind::CalcMode, &[on_byte(settings.automatic, 255)], into)?;
+    put_piece(
+        Kind::CalcMode,
+        &[on_byte(settings.automatic, AUTOMATIC)],
+        into,
+    )?;
     put_piece(Kind::CalcOrder, &[order_byte(settings.order)], into)?;
-    put_piece(Kind::Protection, &[on_byte(settings.protection, 1)], into)?;
+    put_piece(
+        Kind::Protection,
+        &[on_byte(settings.protection, PROTECTED)],
+        into,
+    )?;
     put_prefix(settings.prefix, into)
 }
 

@@ -5,65 +5,68 @@ use Rattle.formula_tree.specs.declared.function.Function.{Function}
 use Rattle.function_codes.specs.Codes.{function_of}
 use Rattle.formula_tree.specs.declared.ast.Op.{Op}
 use Rattle.formula_tree.specs.declared.ast.Op.TheVariants.{Pow, Mul, Div, Add, Sub, Eq, Ne, Lt, Gt, Le, Ge, And, Or, Join}
+use Rattle.wk1_formula.specs.declared.opcodes.TheConstants as opcode
 use Rattle.wk1_formula.specs.declared.kind.Kind.{Kind}
 use Rattle.wk1_formula.specs.declared.kind.Kind.TheVariants as kind
 
 -- the code of an operator
 abbrev pub op_code : Op → ℕ
-op_code Add = 9
-op_code Sub = 10
-op_code Mul = 11
-op_code Div = 12
-op_code Pow = 13
-op_code Eq = 14
-op_code Ne = 15
-op_code Le = 16
-op_code Ge = 17
-op_code Lt = 18
-op_code Gt = 19
-op_code And = 20
-op_code Or = 21
-op_code Join = 24
+op_code Add = opcode.ADD
+op_code Sub = opcode.SUBTRACT
+op_code Mul = opcode.MULTIPLY
+op_code Div = opcode.DIVIDE
+op_code Pow = opcode.POWER
+op_code Eq = opcode.EQUAL
+op_code Ne = opcode.UNEQUAL
+op_code Le = opcode.AT_MOST
+op_code Ge = opcode.AT_LEAST
+op_code Lt = opcode.LESS
+op_code Gt = opcode.GREATER
+op_code And = opcode.AND
+op_code Or = opcode.OR
+op_code Join = opcode.JOIN
 
 -- the operator of a code
 unfoldable pub operator_of : ℕ → Option Op
 operator_of code =
-    if code == 9 then Some Add
-    else if code == 10 then Some Sub
-    else if code == 11 then Some Mul
-    else if code == 12 then Some Div
-    else if code == 13 then Some Pow
-    else if code == 14 then Some Eq
-    else if code == 15 then Some Ne
-    else if code == 16 then Some Le
-    else if code == 17 then Some Ge
-    else if code == 18 then Some Lt
-    else if code == 19 then Some Gt
-    else if code == 20 then Some And
-    else if code == 21 then Some Or
-    else if code == 24 then Some Join
+    if code == op_code Add then Some Add
+    else if code == op_code Sub then Some Sub
+    else if code == op_code Mul then Some Mul
+    else if code == op_code Div then Some Div
+    else if code == op_code Pow then Some Pow
+    else if code == op_code Eq then Some Eq
+    else if code == op_code Ne then Some Ne
+    else if code == op_code Le then Some Le
+    else if code == op_code Ge then Some Ge
+    else if code == op_code Lt then Some Lt
+    else if code == op_code Gt then Some Gt
+    else if code == op_code And then Some And
+    else if code == op_code Or then Some Or
+    else if code == op_code Join then Some Join
     else None
 
 -- a double, a cell, a range, the end, brackets, a short number, a text, minus, NOT and plus
 unfoldable pub front_kind : ℕ → Kind
 front_kind code =
-    if code == 0 then kind.Double
-    else if code == 1 then kind.Reference
-    else if code == 2 then kind.Range
-    else if code == 3 then kind.Finish
-    else if code == 4 then kind.Brackets
-    else if code == 5 then kind.Short
-    else if code == 6 then kind.Text
-    else if code == 8 then kind.Minus
-    else if code == 22 then kind.Not
-    else if code == 23 then kind.Plus
+    if code == opcode.DOUBLE then kind.Double
+    else if code == opcode.REFERENCE then kind.Reference
+    else if code == opcode.RANGE then kind.Range
+    else if code == opcode.FINISH then kind.Finish
+    else if code == opcode.BRACKETS then kind.Brackets
+    else if code == opcode.SHORT then kind.Short
+    else if code == opcode.TEXT then kind.Text
+    else if code == opcode.MINUS then kind.Minus
+    else if code == opcode.NOT then kind.Not
+    else if code == opcode.PLUS then kind.Plus
     else kind.Unknown
 
 -- the functions of 1-2-3 that this program leaves out
 abbrev pub left_out : List ℕ
 left_out =
-    35 ∷ 36 ∷ 37 ∷ 38 ∷ 39 ∷ 40 ∷ 41 ∷ 42 ∷ 43 ∷ 44 ∷ 45 ∷ 46 ∷ 53 ∷ 56 ∷ 57 ∷ 58 ∷ 86 ∷ 87 ∷ 88 ∷ 89
-    ∷ 96 ∷ 97 ∷ 111 ∷ 112 ∷ 114 ∷ 116 ∷ 117 ∷ 118 ∷ 119 ∷ 120 ∷ 121 ∷ []
+    opcode.SQRT ∷ opcode.LOG ∷ opcode.LN ∷ opcode.PI ∷ opcode.SIN ∷ opcode.COS ∷ opcode.TAN ∷ opcode.ATAN2
+    ∷ opcode.ATAN ∷ opcode.ASIN ∷ opcode.ACOS ∷ opcode.EXP ∷ opcode.RAND ∷ opcode.PMT ∷ opcode.PV ∷ opcode.FV
+    ∷ opcode.NPV ∷ opcode.VAR ∷ opcode.STD ∷ opcode.IRR ∷ opcode.DVAR ∷ opcode.DSTD ∷ opcode.S ∷ opcode.N
+    ∷ opcode.ADD_IN ∷ opcode.RATE ∷ opcode.TERM ∷ opcode.CTERM ∷ opcode.SLN ∷ opcode.SYD ∷ opcode.DDB ∷ []
 
 -- whether a code is one of them
 abbrev pub is_left_out : ℕ → Bool

@@ -13,6 +13,8 @@ use Rattle.function_codes.specs.Codes as table
 use Rattle.wk1_formula.specs.Codes.{Code, number, error, missing, reference, range, text, brackets, minus, plus, negation, operator, function, postfix}
 use Rattle.wk1_formula.specs.Doubles.{bits_of}
 use Rattle.wk1_formula.specs.Kinds.{op_code}
+use Rattle.wk1_formula.specs.declared.opcodes.TheConstants as opcode
+use Rattle.wk1_formula.specs.declared.write.TheConstants.{ERR_BITS, NA_BITS}
 
 -- a coordinate: an absolute number, or bit 15 with 14 bits of how far the target lies from its own place, among so many
 abbrev pub coordinate : Axis → ℕ → ℕ → ℕ
@@ -25,7 +27,9 @@ reference_bytes r at = to_le_bytes w16 (coordinate r.col at.col 256) ++ to_le_by
 
 -- a whole number of at most 32767 takes two bytes, any other the eight of a double
 abbrev pub number_bytes : ℤ → List ℕ
-number_bytes v = if is_short v then 5 ∷ to_le_bytes w16 (nat_abs v / 1000000) else 0 ∷ to_le_bytes w64 (bits_of v)
+number_bytes v =
+    if is_short v then opcode.SHORT ∷ to_le_bytes w16 (nat_abs v / 1000000)
+    else opcode.DOUBLE ∷ to_le_bytes w64 (bits_of v)
 
 -- a function whose arguments are free in number is followed by their count
 abbrev pub function_bytes : Function → ℕ → List ℕ
@@ -34,15 +38,15 @@ function_bytes f n = if call_size f == 2 then table.code_of f ∷ n ∷ [] else 
 -- the bytes of a code that stands in a cell
 abbrev pub bytes_of : Place → Code → List ℕ
 bytes_of at (number v) = number_bytes v
-bytes_of at error = 0 ∷ to_le_bytes w64 9218868437227405312
-bytes_of at missing = 0 ∷ to_le_bytes w64 18442240474082181120
-bytes_of at (reference r) = 1 ∷ reference_bytes r at
-bytes_of at (range a b) = 2 ∷ (reference_bytes a at ++ reference_bytes b at)
-bytes_of at (text t) = 6 ∷ (t ++ 0 ∷ [])
-bytes_of at brackets = 4 ∷ []
-bytes_of at minus = 8 ∷ []
-bytes_of at plus = 23 ∷ []
-bytes_of at negation = 22 ∷ []
+bytes_of at error = opcode.DOUBLE ∷ to_le_bytes w64 ERR_BITS
+bytes_of at missing = opcode.DOUBLE ∷ to_le_bytes w64 NA_BITS
+bytes_of at (reference r) = opcode.REFERENCE ∷ reference_bytes r at
+bytes_of at (range a b) = opcode.RANGE ∷ (reference_bytes a at ++ reference_bytes b at)
+bytes_of at (text t) = opcode.TEXT ∷ (t ++ 0 ∷ [])
+bytes_of at brackets = opcode.BRACKETS ∷ []
+bytes_of at minus = opcode.MINUS ∷ []
+bytes_of at plus = opcode.PLUS ∷ []
+bytes_of at negation = opcode.NOT ∷ []
 bytes_of at (operator op) = op_code op ∷ []
 bytes_of at (function f n) = function_bytes f n
 
@@ -52,4 +56,4 @@ spelled at cs = flat_map (bytes_of at) cs
 
 -- the code of a formula in a cell: its codes, and 03
 abbrev pub code_of : Tree → Place → List ℕ
-code_of t at = spelled at (postfix t) ++ 3 ∷ []
+code_of t at = spelled at (postfix t) ++ opcode.FINISH ∷ []

@@ -2,6 +2,7 @@
 ghost use Rattle.std.specs.Prelude.{◌≡◌};
 ghost use Rattle.wk1_formula.specs.Kinds.{front_kind, is_left_out, kind_of, op_code, operator_of};
 
+use crate::opcodes;
 use formula_tree::{Function, Op};
 use function_codes::function_of;
 
@@ -24,11 +25,39 @@ pub enum Kind {
     Unknown,
 }
 
-// SQRT, LOG, LN, PI, SIN, COS, TAN, ATAN2, ATAN, ASIN, ACOS, EXP, RAND, PMT, PV, FV, NPV, VAR, STD, IRR, DVAR, DSTD, S,
-// N, the add-in call, RATE, TERM, CTERM, SLN, SYD and DDB.
+// The functions of 1-2-3 that this program leaves out.
 const LEFT_OUT: [u8; 31] = [
-    0x23, 0x24, 0x25, 0x26, 0x27, 0x28, 0x29, 0x2A, 0x2B, 0x2C, 0x2D, 0x2E, 0x35, 0x38, 0x39, 0x3A,
-    0x56, 0x57, 0x58, 0x59, 0x60, 0x61, 0x6F, 0x70, 0x72, 0x74, 0x75, 0x76, 0x77, 0x78, 0x79,
+    opcodes::SQRT,
+    opcodes::LOG,
+    opcodes::LN,
+    opcodes::PI,
+    opcodes::SIN,
+    opcodes::COS,
+    opcodes::TAN,
+    opcodes::ATAN2,
+    opcodes::ATAN,
+    opcodes::ASIN,
+    opcodes::ACOS,
+    opcodes::EXP,
+    opcodes::RAND,
+    opcodes::PMT,
+    opcodes::PV,
+    opcodes::FV,
+    opcodes::NPV,
+    opcodes::VAR,
+    opcodes::STD,
+    opcodes::IRR,
+    opcodes::DVAR,
+    opcodes::DSTD,
+    opcodes::S,
+    opcodes::N,
+    opcodes::ADD_IN,
+    opcodes::RATE,
+    opcodes::TERM,
+    opcodes::CTERM,
+    opcodes::SLN,
+    opcodes::SYD,
+    opcodes::DDB,
 ];
 
 // The operator of a code.
@@ -36,33 +65,33 @@ const LEFT_OUT: [u8; 31] = [
 fn operator_of(code: u8) -> Option<Op>
     ensures { result ≡ operator_of code }
 {
-    if code == 0x09 {
+    if code == opcodes::ADD {
         Some(Op::Add)
-    } else if code == 0x0A {
+    } else if code == opcodes::SUBTRACT {
         Some(Op::Sub)
-    } else if code == 0x0B {
+    } else if code == opcodes::MULTIPLY {
         Some(Op::Mul)
-    } else if code == 0x0C {
+    } else if code == opcodes::DIVIDE {
         Some(Op::Div)
-    } else if code == 0x0D {
+    } else if code == opcodes::POWER {
         Some(Op::Pow)
-    } else if code == 0x0E {
+    } else if code == opcodes::EQUAL {
         Some(Op::Eq)
-    } else if code == 0x0F {
+    } else if code == opcodes::UNEQUAL {
         Some(Op::Ne)
-    } else if code == 0x10 {
+    } else if code == opcodes::AT_MOST {
         Some(Op::Le)
-    } else if code == 0x11 {
+    } else if code == opcodes::AT_LEAST {
         Some(Op::Ge)
-    } else if code == 0x12 {
+    } else if code == opcodes::LESS {
         Some(Op::Lt)
-    } else if code == 0x13 {
+    } else if code == opcodes::GREATER {
         Some(Op::Gt)
-    } else if code == 0x14 {
+    } else if code == opcodes::AND {
         Some(Op::And)
-    } else if code == 0x15 {
+    } else if code == opcodes::OR {
         Some(Op::Or)
-    } else if code == 0x18 {
+    } else if code == opcodes::JOIN {
         Some(Op::Join)
     } else {
         None
@@ -74,20 +103,20 @@ pub fn op_code(op: Op) -> u8
     ensures { result ≡ op_code op }
 {
     match op {
-        Op::Add => 0x09,
-        Op::Sub => 0x0A,
-        Op::Mul => 0x0B,
-        Op::Div => 0x0C,
-        Op::Pow => 0x0D,
-        Op::Eq => 0x0E,
-        Op::Ne => 0x0F,
-        Op::Le => 0x10,
-        Op::Ge => 0x11,
-        Op::Lt => 0x12,
-        Op::Gt => 0x13,
-        Op::And => 0x14,
-        Op::Or => 0x15,
-        Op::Join => 0x18,
+        Op::Add => opcodes::ADD,
+        Op::Sub => opcodes::SUBTRACT,
+        Op::Mul => opcodes::MULTIPLY,
+        Op::Div => opcodes::DIVIDE,
+        Op::Pow => opcodes::POWER,
+        Op::Eq => opcodes::EQUAL,
+        Op::Ne => opcodes::UNEQUAL,
+        Op::Le => opcodes::AT_MOST,
+        Op::Ge => opcodes::AT_LEAST,
+        Op::Lt => opcodes::LESS,
+        Op::Gt => opcodes::GREATER,
+        Op::And => opcodes::AND,
+        Op::Or => opcodes::OR,
+        Op::Join => opcodes::JOIN,
     }
 }
 
@@ -103,25 +132,25 @@ fn is_left_out(code: u8) -> bool
 fn front_kind(code: u8) -> Kind
     ensures { result ≡ front_kind code }
 {
-    if code == 0x00 {
+    if code == opcodes::DOUBLE {
         Kind::Double
-    } else if code == 0x01 {
+    } else if code == opcodes::REFERENCE {
         Kind::Reference
-    } else if code == 0x02 {
+    } else if code == opcodes::RANGE {
         Kind::Range
-    } else if code == 0x03 {
+    } else if code == opcodes::FINISH {
         Kind::Finish
-    } else if code == 0x04 {
+    } else if code == opcodes::BRACKETS {
         Kind::Brackets
-    } else if code == 0x05 {
+    } else if code == opcodes::SHORT {
         Kind::Short
-    } else if code == 0x06 {
+    } else if code == opcodes::TEXT {
         Kind::Text
-    } else if code == 0x08 {
+    } else if code == opcodes::MINUS {
         Kind::Minus
-    } else if code == 0x16 {
+    } else if code == opcodes::NOT {
         Kind::Not
-    } else if code == 0x17 {
+    } else if code == opcodes::PLUS {
         Kind::Plus
     } else {
         Kind::Unknown

@@ -7,15 +7,23 @@ ghost use Rattle.formula_tree.specs.Shape.{every, is_counted, is_short};
 ghost use Rattle.formula_tree.specs.View.{tree_of};
 ghost use Rattle.wk1_formula.specs.Codes.{brackets, function, minus, negation, number, operator, postfix, range, reference, text};
 ghost use Rattle.wk1_formula.specs.Doubles.{bits_of};
+ghost use Rattle.wk1_formula.specs.declared.opcodes.TheConstants as opcodes;
 ghost use Rattle.wk1_formula.specs.Written.{bytes_of, code_of, coordinate, function_bytes, number_bytes, reference_bytes, spelled};
 
 use crate::bytes::{put, put_short};
 use crate::front::{COLUMNS, ROWS};
 use crate::kind::op_code;
+use crate::opcodes;
 use fixed_value::{Fixed, to_double_bits};
 use formula_tree::{Expr, Formula, Function, call_size};
 use grid_address::{Axis, Cell, Ref};
 use lics_text::{Memory, Text};
+
+/// The bits of a double that stand for ERR.
+pub const ERR_BITS: u64 = 0x7FF0_0000_0000_0000;
+
+/// The bits of a double that stand for NA.
+pub const NA_BITS: u64 = 0xFFF0_0000_0000_0000;
 
 /// The bits of the nearest double, ties to even.
 pub fn double_bits(value: Fixed) -> u64
@@ -54,19 +62,19 @@ fn put_number(number: Fixed, into: &mut Vec<u8>) -> Result<(), Memory>
     ensures { OnOk result (into.new.items ≡ into.old.items ++ number_bytes number) }
 {
     if is_short(number) {
-        put_byte(0x05, into)?;
+        put_byte(opcodes::SHORT, into)?;
         put_short(short_size(number), into)
     } else {
-        put_byte(0x00, into)?;
+        put_byte(opcodes::DOUBLE, into)?;
         put(&double_bits(number).to_le_bytes(), into)
     }
 }
 
 // Adds a text and its 00.
 fn put_text(text: &Text, into: &mut Vec<u8>) -> Result<(), Memory>
-    ensures { OnOk result (into.new.items ≡ into.old.items ++ 6 ∷ (text.now ++ 0 ∷ [])) }
+    ensures { OnOk result (into.new.items ≡ into.old.items ++ opcodes.TEXT ∷ (text.now ++ 0 ∷ [])) }
 {
-    put_byte(0x06, into)?;
+    put_byte(opcodes::TEXT, into)?;
     put(text.bytes(), into)?;
     put_byte(0x00, into)
 }
@@ -113,25 +121,25 @@ fn put_tree(expr: &Expr, at: Cell, into: &mut Vec<u8>) -> Result<(), Memory>
         Expr::Num(value) => put_number(*value, into),
         Expr::Str(text) => put_text(text, into),
         Expr::Cell(place) => {
-            put_byte(0x01, into)?;
+            put_byte(opcodes::REFERENCE, into)?;
             put_reference(*place, at, into)
         }
         Expr::Span(first, last) => {
-            put_byte(0x02, into)?;
+            put_byte(opcodes::RANGE, into)?;
             put_reference(*first, at, into)?;
             put_reference(*last, at, into)
         }
         Expr::Group(inner) => {
             put_tree(inner, at, into)?;
-            put_byte(0x04, into)
+            put_byte(opcodes::BRACKETS, into)
         }
         Expr::Neg(inner) => {
             put_tree(inner, at, into)?;
-            put_byte(0x08, into)
+            put_byte(opcodes::MINUS, into)
         }
         Expr::Not(inner) => {
             put_tree(inner, at, into)?;
-            put_byte(0x16, into)
+            put_byte(opcodes::NOT, into)
         }
         Expr::Binary(op, left, right) => {
             put_tree(left, at, into)?;
@@ -162,5 +170,5 @@ pub fn write_code(formula: &Formula, at: Cell, into: &mut Vec<u8>) -> Result<(),
     ensures { OnOk result (into.new.items ≡ into.old.items ++ code_of formula.now at) }
 {
     put_tree(formula.expr(), at, into)?;
-    put_byte(0x03, into)
+    put_byte(opcodes::FINISH, into)
 }

@@ -3,51 +3,55 @@ use Rattle.std.specs.Prelude.{ℕ, ◌+◌, Bool, true, false, ◌==◌, List, i
 use Rattle.wk1_formula.specs.Reading.{short_at}
 use Rattle.wk1_records.specs.declared.kind.Kind.{Kind}
 use Rattle.wk1_records.specs.declared.kind.Kind.TheVariants.{Bof, Eof, CalcMode, CalcOrder, Range, Window, ColumnWidth, Name, Blank, Integer, Number, Label, Formula, Protection, LabelFormat, CalcCount, Str, HiddenColumns, Other}
+use Rattle.sheet_store.specs.declared.order.Order.{Order}
+use Rattle.sheet_store.specs.declared.order.Order.TheVariants.{Natural, Columnwise, Rowwise}
+use Rattle.wk1_records.specs.declared.order.TheConstants.{NATURAL, COLUMNWISE, ROWWISE}
+use Rattle.wk1_records.specs.declared.numbers.TheConstants as number
+
+-- the number of a type
+abbrev pub number_of : Kind → ℕ
+number_of Bof = number.BOF
+number_of Eof = number.EOF
+number_of CalcMode = number.CALC_MODE
+number_of CalcOrder = number.CALC_ORDER
+number_of Range = number.RANGE
+number_of Window = number.WINDOW
+number_of ColumnWidth = number.COLUMN_WIDTH
+number_of Name = number.NAME
+number_of Blank = number.BLANK
+number_of Integer = number.INTEGER
+number_of Number = number.NUMBER
+number_of Label = number.LABEL
+number_of Formula = number.FORMULA
+number_of Protection = number.PROTECTION
+number_of LabelFormat = number.LABEL_FORMAT
+number_of CalcCount = number.CALC_COUNT
+number_of Str = number.STR
+number_of HiddenColumns = number.HIDDEN_COLUMNS
+number_of Other = number.OTHER
 
 -- the type of a record by its number
 unfoldable pub kind_of : ℕ → Kind
 kind_of n =
-    if n == 0 then Bof
-    else if n == 1 then Eof
-    else if n == 2 then CalcMode
-    else if n == 3 then CalcOrder
-    else if n == 6 then Range
-    else if n == 7 then Window
-    else if n == 8 then ColumnWidth
-    else if n == 11 then Name
-    else if n == 12 then Blank
-    else if n == 13 then Integer
-    else if n == 14 then Number
-    else if n == 15 then Label
-    else if n == 16 then Formula
-    else if n == 36 then Protection
-    else if n == 41 then LabelFormat
-    else if n == 47 then CalcCount
-    else if n == 51 then Str
-    else if n == 100 then HiddenColumns
+    if n == number_of Bof then Bof
+    else if n == number_of Eof then Eof
+    else if n == number_of CalcMode then CalcMode
+    else if n == number_of CalcOrder then CalcOrder
+    else if n == number_of Range then Range
+    else if n == number_of Window then Window
+    else if n == number_of ColumnWidth then ColumnWidth
+    else if n == number_of Name then Name
+    else if n == number_of Blank then Blank
+    else if n == number_of Integer then Integer
+    else if n == number_of Number then Number
+    else if n == number_of Label then Label
+    else if n == number_of Formula then Formula
+    else if n == number_of Protection then Protection
+    else if n == number_of LabelFormat then LabelFormat
+    else if n == number_of CalcCount then CalcCount
+    else if n == number_of Str then Str
+    else if n == number_of HiddenColumns then HiddenColumns
     else Other
-
--- the number of a type
-abbrev pub number_of : Kind → ℕ
-number_of Bof = 0
-number_of Eof = 1
-number_of CalcMode = 2
-number_of CalcOrder = 3
-number_of Range = 6
-number_of Window = 7
-number_of ColumnWidth = 8
-number_of Name = 11
-number_of Blank = 12
-number_of Integer = 13
-number_of Number = 14
-number_of Label = 15
-number_of Formula = 16
-number_of Protection = 36
-number_of LabelFormat = 41
-number_of CalcCount = 47
-number_of Str = 51
-number_of HiddenColumns = 100
-number_of Other = 65535
 
 -- the least length of a body; that of a formula says how long its code is
 abbrev pub least_length : Kind → List ℕ → ℕ
@@ -92,3 +96,9 @@ has_head CalcCount = false
 has_head Str = true
 has_head HiddenColumns = false
 has_head Other = false
+
+-- the byte of an order of recalculation
+abbrev pub order_byte : Order → ℕ
+order_byte Natural = NATURAL
+order_byte Columnwise = COLUMNWISE
+order_byte Rowwise = ROWWISE

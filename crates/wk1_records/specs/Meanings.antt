@@ -22,7 +22,7 @@ use Rattle.wk1_formula.specs.Reading.{before_zero, short_at, short_value}
 use Rattle.wk1_formula.specs.Stack.{tree_in}
 use Rattle.wk1_formula.specs.declared.fault.CodeFault.{CodeFault}
 use Rattle.wk1_formula.specs.declared.fault.CodeFault.TheVariants as code
-use Rattle.wk1_records.specs.Kinds.{has_head, kind_of, least_length}
+use Rattle.wk1_records.specs.Kinds.{has_head, kind_of, least_length, order_byte}
 use Rattle.wk1_records.specs.Records.{Piece}
 use Rattle.wk1_records.specs.declared.entry.Entry.{Entry}
 use Rattle.wk1_records.specs.declared.entry.Entry.TheVariants as entry
@@ -123,9 +123,10 @@ abbrev pub text_entry : ℕ → List ℕ → Option (List ℕ) → Result Entry 
 text_entry n body None = Err (fault.BadText n)
 text_entry n body (Some t) = if is_text t then Ok (entry.Text (cell_of body) t) else Err (fault.BadText n)
 
--- 1 is by columns and 255 is by rows; any other is natural
+-- the order of a byte; any that is no other order's is the natural one's
 abbrev pub order_of : ℕ → Order
-order_of b = if b == 1 then Columnwise else (if b == 255 then Rowwise else Natural)
+order_of b =
+    if b == order_byte Columnwise then Columnwise else (if b == order_byte Rowwise then Rowwise else Natural)
 
 -- a pointer outside the sheet is A1
 abbrev pub pointer_of : Place → Place

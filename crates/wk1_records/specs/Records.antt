@@ -1,6 +1,7 @@
 -- Records and their bytes (worksheet file format).
 use Rattle.std.specs.Int.{to_le_bytes, w16}
 use Rattle.std.specs.Prelude.{ℕ, ◌≡◌, ◌<◌, ◌+◌, List, ◌++◌, length, drop, get_or, flat_map}
+use Rattle.wk1_records.specs.declared.numbers.TheConstants.{EOF}
 
 -- each is below 256
 abbrev pub IsBytes : List ℕ → Type 0
@@ -29,12 +30,12 @@ pub data Records : Type 0 where
   cut : ℕ → Records
   piece : Piece → Records → Records
 
--- The bytes from an offset on are these records. Of type 1 is EOF, and bytes behind it belong to none.
+-- The bytes from an offset on are these records. Bytes behind EOF belong to none.
 pub data Splits : ℕ → List ℕ → Records → Type 0 where
-  at_end : {at : ℕ} (p : Piece) (rest : List ℕ) → p.kind ≡ 1 → IsPiece p → Splits at (piece_bytes p ++ rest) ended
+  at_end : {at : ℕ} (p : Piece) (rest : List ℕ) → p.kind ≡ EOF → IsPiece p → Splits at (piece_bytes p ++ rest) ended
   at_cut : {at : ℕ} {bytes : List ℕ} → ((p : Piece) (rest : List ℕ) → IsPiece p → bytes ≡ piece_bytes p ++ rest → ⊥)
       → Splits at bytes (cut at)
-  at_piece : {at : ℕ} {rs : Records} (p : Piece) (rest : List ℕ) → (p.kind ≡ 1 → ⊥) → IsPiece p
+  at_piece : {at : ℕ} {rs : Records} (p : Piece) (rest : List ℕ) → (p.kind ≡ EOF → ⊥) → IsPiece p
       → Splits (at + (4 + length p.body)) rest rs → Splits at (piece_bytes p ++ rest) (piece p rs)
 
 -- a record of this type and body is at the front of bytes

@@ -2,6 +2,8 @@
 ghost use Rattle.std.specs.Prelude.{◌≡◌};
 ghost use Rattle.wk1_records.specs.Kinds.{kind_of};
 
+use crate::numbers;
+
 /// The type of a record (worksheet file format).
 #[derive(Clone, Copy, Debug, PartialEq, Eq)]
 pub enum Kind {
@@ -31,41 +33,41 @@ pub enum Kind {
 pub fn kind_of(number: u16) -> Kind
     ensures { result ≡ kind_of number }
 {
-    if number == 0x00 {
+    if number == numbers::BOF {
         Kind::Bof
-    } else if number == 0x01 {
+    } else if number == numbers::EOF {
         Kind::Eof
-    } else if number == 0x02 {
+    } else if number == numbers::CALC_MODE {
         Kind::CalcMode
-    } else if number == 0x03 {
+    } else if number == numbers::CALC_ORDER {
         Kind::CalcOrder
-    } else if number == 0x06 {
+    } else if number == numbers::RANGE {
         Kind::Range
-    } else if number == 0x07 {
+    } else if number == numbers::WINDOW {
         Kind::Window
-    } else if number == 0x08 {
+    } else if number == numbers::COLUMN_WIDTH {
         Kind::ColumnWidth
-    } else if number == 0x0B {
+    } else if number == numbers::NAME {
         Kind::Name
-    } else if number == 0x0C {
+    } else if number == numbers::BLANK {
         Kind::Blank
-    } else if number == 0x0D {
+    } else if number == numbers::INTEGER {
         Kind::Integer
-    } else if number == 0x0E {
+    } else if number == numbers::NUMBER {
         Kind::Number
-    } else if number == 0x0F {
+    } else if number == numbers::LABEL {
         Kind::Label
-    } else if number == 0x10 {
+    } else if number == numbers::FORMULA {
         Kind::Formula
-    } else if number == 0x24 {
+    } else if number == numbers::PROTECTION {
         Kind::Protection
-    } else if number == 0x29 {
+    } else if number == numbers::LABEL_FORMAT {
         Kind::LabelFormat
-    } else if number == 0x2F {
+    } else if number == numbers::CALC_COUNT {
         Kind::CalcCount
-    } else if number == 0x33 {
+    } else if number == numbers::STR {
         Kind::Str
-    } else if number == 0x64 {
+    } else if number == numbers::HIDDEN_COLUMNS {
         Kind::HiddenColumns
     } else {
         Kind::Other

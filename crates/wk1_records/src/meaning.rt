@@ -6,9 +6,10 @@ ghost use Rattle.wk1_records.specs.Kinds.{has_head, least_length};
 ghost use Rattle.wk1_records.specs.Meanings.{cell_of, is_inside, meaning_by, said};
 
 use crate::name_said::{bits_in, name_in};
+use crate::order::order_of;
 use crate::said::{
-    blank_in, cell_at, column_width, formula_in, integer_in, label_in, number_in, order_of,
-    prefix_of, text_in, window,
+    blank_in, cell_at, column_width, formula_in, integer_in, label_in, number_in, prefix_of,
+    text_in, window,
 };
 use crate::{Entry, Kind, Wk1Fault};
 use grid_address::Cell;

@@ -8,7 +8,7 @@ ghost use Rattle.wk1_records.specs.Kinds.{number_of};
 ghost use Rattle.wk1_records.specs.Records.{piece_bytes};
 ghost use Rattle.wk1_records.specs.Bodies.{head, made, place_bytes};
 
-use crate::Kind;
+use crate::{Kind, numbers};
 use grid_address::Cell;
 use lics_text::Memory;
 use sheet_store::CellState;
@@ -19,25 +19,25 @@ pub fn number_of(kind: Kind) -> u16
     ensures { result ≡ number_of kind }
 {
     match kind {
-        Kind::Bof => 0x00,
-        Kind::Eof => 0x01,
-        Kind::CalcMode => 0x02,
-        Kind::CalcOrder => 0x03,
-        Kind::Range => 0x06,
-        Kind::Window => 0x07,
-        Kind::ColumnWidth => 0x08,
-        Kind::Name => 0x0B,
-        Kind::Blank => 0x0C,
-        Kind::Integer => 0x0D,
-        Kind::Number => 0x0E,
-        Kind::Label => 0x0F,
-        Kind::Formula => 0x10,
-        Kind::Protection => 0x24,
-        Kind::LabelFormat => 0x29,
-        Kind::CalcCount => 0x2F,
-        Kind::Str => 0x33,
-        Kind::HiddenColumns => 0x64,
-        Kind::Other => 0xFFFF,
+        Kind::Bof => numbers::BOF,
+        Kind::Eof => numbers::EOF,
+        Kind::CalcMode => numbers::CALC_MODE,
+        Kind::CalcOrder => numbers::CALC_ORDER,
+        Kind::Range => numbers::RANGE,
+        Kind::Window => numbers::WINDOW,
+        Kind::ColumnWidth => numbers::COLUMN_WIDTH,
+        Kind::Name => numbers::NAME,
+        Kind::Blank => numbers::BLANK,
+        Kind::Integer => numbers::INTEGER,
+        Kind::Number => numbers::NUMBER,
+        Kind::Label => numbers::LABEL,
+        Kind::Formula => numbers::FORMULA,
+        Kind::Protection => numbers::PROTECTION,
+        Kind::LabelFormat => numbers::LABEL_FORMAT,
+        Kind::CalcCount => numbers::CALC_COUNT,
+        Kind::Str => numbers::STR,
+        Kind::HiddenColumns => numbers::HIDDEN_COLUMNS,
+        Kind::Other => numbers::OTHER,
     }
 }
 

@@ -11,7 +11,7 @@ ghost use Rattle.wk1_formula.specs.Reading.{before_zero, short_at, short_value};
 ghost use Rattle.lics_text.specs.Prefixes.{prefix_of};
 ghost use Rattle.sheet_store.specs.Choices.{is_global_prefix};
 ghost use Rattle.wk1_records.specs.Answers.{Gives};
-ghost use Rattle.wk1_records.specs.Meanings.{byte_at, cell_of, code_in, double_at, formula_state, constant, global_prefix, is_inside, is_span, number_state, stored_value, is_width, label_of, label_state, numbered, order_of, place_at, pointer_of, state_of, text_entry, width_entry, window_entry};
+ghost use Rattle.wk1_records.specs.Meanings.{byte_at, cell_of, code_in, double_at, formula_state, constant, global_prefix, is_inside, is_span, number_state, stored_value, is_width, label_of, label_state, numbered, place_at, pointer_of, state_of, text_entry, width_entry, window_entry};
 ghost use Rattle.wk1_records.specs.declared.entry.Entry.TheVariants as entry;
 
 use crate::{Entry, Wk1Fault};
@@ -19,19 +19,23 @@ use fixed_value::{DoubleRead, Fixed, from_double_bits};
 use formula_tree::{Content, Expr, ExprList, Formula, Function, Value};
 use grid_address::{Cell, Format, Span};
 use lics_text::{LabelPrefix, Memory, Text};
-use sheet_store::{CellState, Order};
+use sheet_store::CellState;
 use std::alloc::Global;
 use wk1_formula::{
     CodeFault, before_zero, bytes_from, first_long, is_text, read_code, short_at, short_value,
 };
 
-/// How many columns and rows the sheet has.
+/// How many columns the sheet has.
 const COLUMNS: u16 = 256;
 
+/// How many rows it has.
 const ROWS: u16 = 8192;
 
 /// The widest that a column may be.
 const MOST_WIDTH: u16 = 240;
+
+/// The width of the columns where a file tells none.
+const DEFAULT_WIDTH: u8 = 9;
 
 // The place at an offset, where it is in the sheet.
 pub fn cell_at(body: &[u8], at: usize) -> Option<Cell>
@@ -48,19 +52,6 @@ pub fn cell_at(body: &[u8], at: usize) -> Option<Cell>
         })
     } else {
         None
-    }
-}
-
-// The order of a byte.
-pub fn order_of(byte: u8) -> Order
-    ensures { result ≡ order_of byte }
-{
-    if byte == 1 {
-        Order::Columnwise
-    } else if byte == 255 {
-        Order::Rowwise
-    } else {
-        Order::Natural
     }
 }
 
@@ -118,7 +109,7 @@ pub fn window(body: &[u8]) -> Entry
     if is_width(width) {
         Entry::Window(pointer, Format(body[4]), width as u8)
     } else {
-        Entry::Window(pointer, Format(body[4]), 9)
+        Entry::Window(pointer, Format(body[4]), DEFAULT_WIDTH)
     }
 }
 
@@ -128,7 +119,7 @@ pub fn column_width(body: &[u8]) -> Entry
     ensures { result ≡ width_entry body.now }
 {
     let col = short_at(body, 0);
-    if col < 256 && is_width(u16::from(body[2])) {
+    if col < COLUMNS && is_width(u16::from(body[2])) {
         Entry::Width(col as u8, body[2])
     } else {
         Entry::Nothing

@@ -6,12 +6,12 @@ use Rattle.wk1_file.specs.Takes.{as_progress, Ahead, IsMinded}
 use Rattle.wk1_file.proofs.Loads.{fits, goes_on, is_cut, is_end, is_fault}
 use Rattle.wk1_file.proofs.load.read_records.Goals as goal
 
-pub returns-then-kind-eq1 : goal.returns-then-kind-eq1
-returns-then-kind-eq1 c =
+pub returns-then-kind-eq-EOF : goal.returns-then-kind-eq-EOF
+returns-then-kind-eq-EOF c =
     let body = c.in-Some.body.now in
     let g = c.loop-kind.invariant in
     let front = subst (λ l. IsFront l c.in-Some.kind body) c.bytes_from.ensures.rest c.in-Some.ensures.some in
-    inr (is_end c.args.bytes.now c.loop-kind.at c.loop-kind.number (as_progress c.loop-kind.loading) c.in-Some.kind body g.ahead front (omega (arith, c.if-kind-eq1.true)))
+    inr (is_end c.args.bytes.now c.loop-kind.at c.loop-kind.number (as_progress c.loop-kind.loading) c.in-Some.kind body g.ahead front (omega (arith, c.if-kind-eq-EOF.true)))
 
 pub returns-in-Err : goal.returns-in-Err
 returns-in-Err c =
@@ -21,7 +21,7 @@ returns-in-Err c =
     elim c.in-Err.ensures.fault [
       | inl e ↦ inl (ap Err e)
       | inr m ↦ inr (is_fault c.args.bytes.now c.loop-kind.at c.loop-kind.number (as_progress c.loop-kind.loading) c.in-Some.kind body g.ahead front c.in-Err.fault
-          (λ i. omega (arith, c.type_inv.bytes i)) (λ e. absurd (omega (arith, e, c.if-kind-eq1.false))) (ap (meaning_by c.loop-kind.number body) (sym c.kind_of.ensures) ∙ m))
+          (λ i. omega (arith, c.type_inv.bytes i)) (λ e. absurd (omega (arith, e, c.if-kind-eq-EOF.false))) (ap (meaning_by c.loop-kind.number body) (sym c.kind_of.ensures) ∙ m))
     ]
 
 pub loop-kind-preserved : goal.loop-kind-preserved
@@ -38,7 +38,7 @@ loop-kind-preserved c =
       counted = omega (arith, g.counted);
       minded = c.in-Ok.ensures.minded;
       ahead = subst (Ahead bytes (at + (4 + length body)) (n + 1)) (sym x.2)
-          (goes_on bytes at n r c.in-Some.kind body g.ahead front x.0 (λ e. absurd (omega (arith, e, c.if-kind-eq1.false))) (ap (meaning_by n body) (sym c.kind_of.ensures) ∙ x.1));
+          (goes_on bytes at n r c.in-Some.kind body g.ahead front x.0 (λ e. absurd (omega (arith, e, c.if-kind-eq-EOF.false))) (ap (meaning_by n body) (sym c.kind_of.ensures) ∙ x.1));
     }
 
 pub returns : goal.returns
