@@ -18,6 +18,7 @@ special detail =
     else if detail == 15 then Default
     else Unnamed
 
+-- what a format's kind and its decimals or detail ask for
 abbrev pub shape_by : ℕ → ℕ → Shape
 shape_by kind detail =
     if kind == 0 then Fixed detail
@@ -28,6 +29,7 @@ shape_by kind detail =
     else if kind == 7 then special detail
     else Unnamed
 
+-- what a format byte asks for
 unfoldable pub shape_of : ℕ → Shape
 shape_of format = shape_by (kind_of format) (places_of format)
 

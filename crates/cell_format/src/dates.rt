@@ -7,12 +7,12 @@ ghost use Rattle.serial_date.specs.Fractions.{whole_day};
 use crate::DateForm;
 use crate::push::push;
 use fixed_value::Fixed;
-use lics_text::Line;
+use lics_text::{Line, MAX_LEN};
 use serial_date::{Civil, civil_of, whole_day};
 
 // Adds the last two digits.
 fn push_two_digits(into: &mut Line, number: u16)
-    requires { length into.old + 2 ≤ 240 }
+    requires { length into.old + 2 ≤ MAX_LEN }
     ensures { into.new ≡ into.old ++ two_digits number }
 {
     push(into, b'0' + (number / 10 % 10) as u8);

@@ -1,10 +1,11 @@
 // Labels as they are shown.
 ghost use Rattle.std.specs.Prelude.{◌≡◌, ◌≤◌, ◌<◌, ◌+◌, ◌++◌, get_or, length, map, ◌%◌};
+ghost use Rattle.ascii_bytes.specs.Ascii as ascii;
 ghost use Rattle.cell_format.specs.Labels.{at_left, centred, masked, repeated, shown_label};
 ghost use Rattle.cell_format.specs.Numbers.{at_right};
 
 use crate::push::{fill, push};
-use lics_text::{LabelPrefix, Line};
+use lics_text::{LabelPrefix, Line, MAX_LEN};
 
 // Bytes from 127 on are shown as a question mark.
 fn mask(byte: u8) -> u8
@@ -15,7 +16,7 @@ fn mask(byte: u8) -> u8
 
 // Adds the bytes, masked.
 fn push_masked(into: &mut Line, bytes: &[u8])
-    requires { length into.old + length bytes.now ≤ 240 }
+    requires { length into.old + length bytes.now ≤ MAX_LEN }
     ensures { into.new ≡ into.old ++ map masked bytes.now }
 {
     for byte in bytes {
@@ -25,7 +26,7 @@ fn push_masked(into: &mut Line, bytes: &[u8])
 
 // Adds a text at the left, cut at the width.
 fn put_left(bytes: &[u8], width: usize, into: &mut Line)
-    requires { length into.old + width ≤ 240 }
+    requires { length into.old + width ≤ MAX_LEN }
     ensures { into.new ≡ into.old ++ at_left (map masked bytes.now) width }
 {
     let len = bytes.len().min(width);
@@ -35,7 +36,7 @@ fn put_left(bytes: &[u8], width: usize, into: &mut Line)
 
 // Adds a text that ends one byte before the right edge.
 fn put_right(bytes: &[u8], width: usize, into: &mut Line)
-    requires room { length into.old + width ≤ 240 }
+    requires room { length into.old + width ≤ MAX_LEN }
     requires fits { length bytes.now < width }
     ensures { into.new ≡ into.old ++ at_right (map masked bytes.now) width }
 {
@@ -46,7 +47,7 @@ fn put_right(bytes: &[u8], width: usize, into: &mut Line)
 
 // Adds a text in the middle, with the larger half of the free bytes on its right.
 fn put_centred(bytes: &[u8], width: usize, into: &mut Line)
-    requires room { length into.old + width ≤ 240 }
+    requires room { length into.old + width ≤ MAX_LEN }
     requires fits { length bytes.now ≤ width }
     ensures { into.new ≡ into.old ++ centred (map masked bytes.now) width }
 {
@@ -59,7 +60,7 @@ fn put_centred(bytes: &[u8], width: usize, into: &mut Line)
 
 // The byte of a text that is repeated, and a space where it is empty.
 fn repeated_byte(bytes: &[u8], at: usize) -> u8
-    ensures { result ≡ get_or (map masked bytes.now) (at % length (map masked bytes.now)) 32 }
+    ensures { result ≡ get_or (map masked bytes.now) (at % length (map masked bytes.now)) ascii.space }
 {
     if bytes.len() == 0 {
         b' '
@@ -70,7 +71,7 @@ fn repeated_byte(bytes: &[u8], at: usize) -> u8
 
 // Adds a text again and again.
 fn put_repeated(bytes: &[u8], width: usize, into: &mut Line)
-    requires { length into.old + width ≤ 240 }
+    requires { length into.old + width ≤ MAX_LEN }
     ensures { into.new ≡ into.old ++ repeated (map masked bytes.now) width }
 {
     for at in 0..width {
@@ -81,7 +82,7 @@ fn put_repeated(bytes: &[u8], width: usize, into: &mut Line)
 /// Adds a label in a cell of that width, by its prefix: `\` repeats it, `"` puts it at the right and `^` in the
 /// middle, and any other, or a label that is too long for these, puts it at the left, cut at the width.
 pub fn show_label(prefix: LabelPrefix, bytes: &[u8], width: u8, into: &mut Line)
-    requires { length into.old + width ≤ 240 }
+    requires { length into.old + width ≤ MAX_LEN }
     ensures text { into.new ≡ into.old ++ shown_label prefix bytes.now width }
     ensures size { length into.new ≡ length into.old + width }
 {
@@ -91,7 +92,7 @@ pub fn show_label(prefix: LabelPrefix, bytes: &[u8], width: u8, into: &mut Line)
 // Adds a label by its prefix.
 #[tactic(auto, unfolding(crate::specs::Labels::shown_label))]
 fn put_label(prefix: LabelPrefix, bytes: &[u8], width: usize, into: &mut Line)
-    requires { length into.old + width ≤ 240 }
+    requires { length into.old + width ≤ MAX_LEN }
     ensures { into.new ≡ into.old ++ shown_label prefix bytes.now width }
 {
     match prefix {

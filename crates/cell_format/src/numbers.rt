@@ -1,6 +1,7 @@
 // Numbers as they are shown.
 ghost use Rattle.std.specs.Int.RustNames.{int_lt};
 ghost use Rattle.std.specs.Prelude.{◌≡◌, ◌≤◌, ◌<◌, ◌+◌, ◌-◌, ◌*◌, ◌++◌, ◌∷◌, ◌&&◌, ◌==◌, not, [], length, Some, ℕ};
+ghost use Rattle.ascii_bytes.specs.Ascii as ascii;
 ghost use Rattle.cell_format.specs.Format.{shape_of, HasFewPlaces};
 ghost use Rattle.cell_format.specs.Numbers.{at_right, bracketed, dated, fitting, grouped, number_text, placed, shown_number, size_text};
 ghost use Rattle.fixed_value.specs.Written.{hundredfold, scaled, written};
@@ -15,11 +16,11 @@ use fixed_value::{
     write_fitting, write_hundredfold, write_short,
 };
 use grid_address::Format;
-use lics_text::Line;
+use lics_text::{Line, MAX_LEN};
 
 // A line of these bytes.
 fn line_of(bytes: &[u8]) -> Line
-    requires { length bytes.now ≤ 240 }
+    requires { length bytes.now ≤ MAX_LEN }
     ensures { result ≡ bytes.now }
 {
     let mut line = Line::new();
@@ -29,7 +30,7 @@ fn line_of(bytes: &[u8]) -> Line
 
 // Adds digits in groups of three.
 fn push_grouped(into: &mut Line, digits: &[u8])
-    requires { length into.old + 2 * length digits.now ≤ 240 }
+    requires { length into.old + 2 * length digits.now ≤ MAX_LEN }
     ensures lines { into.new ≡ into.old ++ grouped digits.now }
     ensures size { length into.new ≤ length into.old + 2 * length digits.now }
 {
@@ -78,7 +79,7 @@ fn grouped_text(value: Fixed, places: u8, mark: &[u8]) -> Line
 // A hundred times the number and the percent sign.
 fn percent_text(value: Fixed, places: u8) -> Line
     requires { places ≤ 15 }
-    ensures { result ≡ hundredfold value places ++ 37 ∷ [] }
+    ensures { result ≡ hundredfold value places ++ ascii.percent ∷ [] }
 {
     let digits = write_hundredfold(value, places);
     let mut text = line_of(digits.bytes());
@@ -98,7 +99,7 @@ fn most_places(value: Fixed, front: u8, room: usize) -> u8
 /// Adds a number in a cell of that width, by the format byte. A number that is too long is shown as stars;
 /// default, text and formats that the file format doesn't name are shown as general.
 pub fn show_number(value: Fixed, format: Format, width: u8, into: &mut Line)
-    requires { length into.old + width ≤ 240 }
+    requires { length into.old + width ≤ MAX_LEN }
     ensures text { into.new ≡ into.old ++ shown_number value format.0 width }
     ensures size { length into.new ≡ length into.old + width }
 {
@@ -108,7 +109,7 @@ pub fn show_number(value: Fixed, format: Format, width: u8, into: &mut Line)
 // Adds a number by its format.
 #[tactic(auto, unfolding(crate::specs::Numbers::shown_number))]
 fn put_number(value: Fixed, format: Format, width: usize, into: &mut Line)
-    requires { length into.old + width ≤ 240 }
+    requires { length into.old + width ≤ MAX_LEN }
     ensures { into.new ≡ into.old ++ shown_number value format.0 width }
 {
     match shape_of(format) {
@@ -131,7 +132,7 @@ fn put_number(value: Fixed, format: Format, width: usize, into: &mut Line)
 #[inline(never)]
 fn put_decimal(value: Fixed, places: u8, width: usize, into: &mut Line)
     requires places { places ≤ 15 }
-    requires room { length into.old + width ≤ 240 }
+    requires room { length into.old + width ≤ MAX_LEN }
     ensures { into.new ≡ into.old ++ placed (Some (written value places)) width }
 {
     put_right(write_decimal(value, places).bytes(), width, into);
@@ -141,7 +142,7 @@ fn put_decimal(value: Fixed, places: u8, width: usize, into: &mut Line)
 fn put_grouped(value: Fixed, places: u8, mark: &[u8], width: usize, into: &mut Line)
     requires places { places ≤ 15 }
     requires mark { length mark.now ≤ 1 }
-    requires room { length into.old + width ≤ 240 }
+    requires room { length into.old + width ≤ MAX_LEN }
     ensures { into.new ≡ into.old ++ placed (Some (bracketed value places (mark.now ++ size_text value places))) width }
 {
     put_right(grouped_text(value, places, mark).bytes(), width, into);
@@ -151,8 +152,8 @@ fn put_grouped(value: Fixed, places: u8, mark: &[u8], width: usize, into: &mut L
 #[inline(never)]
 fn put_percent(value: Fixed, places: u8, width: usize, into: &mut Line)
     requires places { places ≤ 15 }
-    requires room { length into.old + width ≤ 240 }
-    ensures { into.new ≡ into.old ++ placed (Some (hundredfold value places ++ 37 ∷ [])) width }
+    requires room { length into.old + width ≤ MAX_LEN }
+    ensures { into.new ≡ into.old ++ placed (Some (hundredfold value places ++ ascii.percent ∷ [])) width }
 {
     put_right(percent_text(value, places).bytes(), width, into);
 }
@@ -160,7 +161,7 @@ fn put_percent(value: Fixed, places: u8, width: usize, into: &mut Line)
 // Adds a day, or stars.
 #[inline(never)]
 fn put_day(form: DateForm, value: Fixed, width: usize, into: &mut Line)
-    requires { length into.old + width ≤ 240 }
+    requires { length into.old + width ≤ MAX_LEN }
     ensures { into.new ≡ into.old ++ placed (dated form (date_of (whole_day value))) width }
 {
     match day_text(form, value) {
@@ -171,7 +172,7 @@ fn put_day(form: DateForm, value: Fixed, width: usize, into: &mut Line)
 
 // Adds a number with as many decimals as fit, at most six, or stars.
 fn put_general(value: Fixed, width: usize, into: &mut Line)
-    requires { length into.old + width ≤ 240 }
+    requires { length into.old + width ≤ MAX_LEN }
     ensures { into.new ≡ into.old ++ placed (fitting 6 value (width - 1)) width }
 {
     let room = width.saturating_sub(1);
@@ -190,7 +191,7 @@ fn put_general(value: Fixed, width: usize, into: &mut Line)
 // Adds a number with as many decimals as fit, at most so many, or stars.
 fn put_rounded(value: Fixed, most: u8, width: usize, into: &mut Line)
     requires most { most ≤ 6 }
-    requires room { length into.old + width ≤ 240 }
+    requires room { length into.old + width ≤ MAX_LEN }
     ensures { into.new ≡ into.old ++ placed (fitting most value (width - 1)) width }
 {
     match write_fitting(value, most, width.saturating_sub(1)) {
@@ -204,7 +205,7 @@ fn put_rounded(value: Fixed, most: u8, width: usize, into: &mut Line)
 #[cold]
 fn put_fewer(value: Fixed, most: u8, width: usize, into: &mut Line)
     requires most { most ≤ 6 }
-    requires room { length into.old + width ≤ 240 }
+    requires room { length into.old + width ≤ MAX_LEN }
     ensures { into.new ≡ into.old ++ placed (fitting most value (width - 1)) width }
 {
     let room = width.saturating_sub(1);
@@ -219,7 +220,7 @@ fn put_fewer(value: Fixed, most: u8, width: usize, into: &mut Line)
 
 // Adds a text that ends one byte before the right edge, or stars.
 fn put_right(text: &[u8], width: usize, into: &mut Line)
-    requires { length into.old + width ≤ 240 }
+    requires { length into.old + width ≤ MAX_LEN }
     ensures { into.new ≡ into.old ++ placed (Some text.now) width }
 {
     if text.len() < width {
