@@ -1,20 +1,24 @@
 -- The arguments that stand behind a word's name.
 use Rattle.std.specs.Prelude.{ℕ, ◌+◌, ◌-◌, ◌==◌, ◌||◌, ◌&&◌, not, Bool, true, false, Option, None, Some, List, [], ◌∷◌, if◌then◌else◌}
+use Rattle.ascii_bytes.specs.Ascii as ascii
 use Rattle.key_words.specs.declared.macro_word.Arguments.{Arguments}
 use Rattle.key_words.specs.declared.macro_word.Arguments.TheVariants as arguments
 use Rattle.macro_text.specs.Texts.{part}
 
 -- a comma or a semicolon
 abbrev pub is_separator : ℕ → Bool
-is_separator b = b == 44 || b == 59
+is_separator b = b == ascii.comma || b == ascii.semicolon
 
 -- a quote
 abbrev pub is_quote : ℕ → Bool
-is_quote b = b == 34
+is_quote b = b == ascii.quote
 
 -- how many round brackets are open behind a byte; one that closes none is passed over
 abbrev pub depth_behind : ℕ → ℕ → ℕ
-depth_behind depth b = if b == 40 then depth + 1 else if b == 41 then depth - 1 else depth
+depth_behind depth b =
+    if b == ascii.opening_parenthesis then depth + 1
+    else if b == ascii.closing_parenthesis then depth - 1
+    else depth
 
 -- a byte in front of the first argument
 abbrev pub onto : ℕ → List (List ℕ) → List (List ℕ)

@@ -1,5 +1,6 @@
 -- Places and ranges as arguments spell them.
 use Rattle.std.specs.Prelude.{ℕ, nat_eq, List, drop, take, position, Option, None, Some}
+use Rattle.ascii_bytes.specs.Ascii as ascii
 use Rattle.formula_text.specs.Words.{named_span}
 use Rattle.grid_address.specs.Place.{spanned, Extent, Place}
 use Rattle.grid_address.specs.Progress.{address_in, count_dots}
@@ -32,7 +33,7 @@ parted_at (Some at) bytes = both_corners (address_in (take at bytes)) (address_i
 
 -- an address, or two in any order with one or two dots between them
 abbrev pub span_in : List ℕ → Option Extent
-span_in bytes = parted_at (position (nat_eq 46) bytes) bytes
+span_in bytes = parted_at (position (nat_eq ascii.dot) bytes) bytes
 
 -- a span, or else that of a name
 abbrev pub span_or_named : Option Extent → Option Extent → Option Extent

@@ -1,5 +1,6 @@
 // Arguments that are places or ranges.
 ghost use Rattle.std.specs.Prelude.{◌≡◌, ◌<◌, length, nat_eq, position, IfSome};
+ghost use Rattle.ascii_bytes.specs.Ascii as ascii;
 ghost use Rattle.formula_text.specs.Words as words;
 ghost use Rattle.grid_address.specs.Progress.{address_in};
 ghost use Rattle.macro_text.specs.Ranges as spec;
@@ -62,7 +63,7 @@ fn behind_dots(bytes: &[u8]) -> &[u8]
 
 // Where the first dot stands.
 fn first_dot(bytes: &[u8]) -> Option<usize>
-    ensures place { result ≡ position (nat_eq 46) bytes.now }
+    ensures place { result ≡ position (nat_eq ascii.dot) bytes.now }
     ensures within { IfSome result (λ at. at < length bytes.now) }
 {
     bytes.iter().position(|byte| b'.' == *byte)
