@@ -1,4 +1,5 @@
-"""What each checking program must print for its standard input. A name is that of the crate, behind `check_`."""
+"""What each checking program must answer to the lines of its data: the lines of each one's answer. A name is that of the
+crate, behind `check_`."""
 import struct
 
 from . import adjust, blocks, cellformat, fixed, formula, macro, menu, query, screen, session
@@ -36,51 +37,16 @@ def fault_text(fault):
     return b'!' + FAULTS[fault.number] + at
 
 
-def lines_of(data):
-    """The lines as the programs part them: none behind the last line end."""
-    lines = data.split(b'\n')
-    return lines[:-1] if lines[-1] == b'' else lines
-
-
 # ---------------------------------------------------------------- numbers
 
-class Numbers:
-    """The generator of crates/check_numbers."""
-
-    def __init__(self):
-        self.state = 1
-        self.digits = 0
-
-    def step(self):
-        self.state = (self.state * 6364136223846793005 + 1442695040888963407) % 2 ** 64
-
-    def next(self):
-        self.step()
-        self.digits = self.digits % 15 + 1
-        size = (self.state >> 12) % 10 ** self.digits
-        return size if self.state % 4096 < 2048 else -size
-
-    def pick(self, count):
-        self.step()
-        return (self.state >> 33) % count
-
-
-def numbers(_data):
-    """The sums of the host's double bits of 100 blocks of 200 numbers, and 5,000 shown numbers."""
-    out = []
-    of = Numbers()
-    for _ in range(100):
-        bits = [struct.unpack('<Q', struct.pack('<d', of.next() / 1_000_000))[0] for _ in range(200)]
-        out.append(b'%d\n' % (sum(bits) % 2 ** 64))
-    of = Numbers()
-    for row in range(5000):
-        value = of.next()
-        if row % 2:
-            value = abs(value) % 100_000_000_000 * (-1 if value < 0 else 1)
-        kind, detail, width = of.pick(8), of.pick(16), of.pick(25)
-        byte = 0x72 + detail % 3 if kind == 5 else kind * 16 + detail
-        out.append(b'|' + show_number(value, byte, width) + b'|\n')
-    return b''.join(out)
+def numbers(lines):
+    """The host's double bits of a number in millionths, or how a cell shows it."""
+    for line in lines:
+        words = [int(word) for word in line[1:].split(b' ')]
+        if line[:1] == b'd':
+            yield b'%d\n' % struct.unpack('<Q', struct.pack('<d', words[0] / 1_000_000))
+        else:
+            yield b'|' + show_number(*words) + b'|\n'
 
 
 # ---------------------------------------------------------------- formula texts
@@ -98,18 +64,16 @@ def names_of(pairs):
     return names
 
 
-def formulas(data):
+def formulas(lines):
     """The printed form of each text, or its fault."""
     names = names_of(FORMULA_NAMES)
-    out = []
-    for row, text in enumerate(lines_of(data)):
+    for row, text in enumerate(lines):
         at = FORMULA_CELLS[row % 3]
         try:
             whole = formula.print_(formula.read(text, at, names), at, names)
-            out.append((b'=' if len(whole) <= 240 else b'<') + whole[:240])
+            yield (b'=' if len(whole) <= 240 else b'<') + whole[:240] + b'\n'
         except formula.ParseFault as fault:
-            out.append(fault_text(fault))
-    return b''.join(line + b'\n' for line in out)
+            yield fault_text(fault) + b'\n'
 
 
 # ---------------------------------------------------------------- words
@@ -183,16 +147,14 @@ def words_line(text, offset):
     return b' '.join(out + [word_text(text, offset, word) + b'>%d' % word.next])
 
 
-def words(data):
+def words(lines):
     """The keys of key notation, and the words of macro texts."""
-    out = []
-    for row in lines_of(data):
+    for row in lines:
         if row[:1] == b'k':
-            out.append(keys_line(bytes.fromhex(row[1:].decode())))
+            yield keys_line(bytes.fromhex(row[1:].decode())) + b'\n'
         else:
             text, _, offset = row[1:].partition(b' ')
-            out.append(words_line(bytes.fromhex(text.decode()), int(offset)))
-    return b''.join(line + b'\n' for line in out)
+            yield words_line(bytes.fromhex(text.decode()), int(offset)) + b'\n'
 
 
 # ---------------------------------------------------------------- values
@@ -248,32 +210,39 @@ def value_text(value):
     return value[0].upper().encode()
 
 
-def values(data):
+def put(block, line):
+    """Gives the next cell of a block what a line tells."""
+    if line == b':B':
+        block.put(C_BLANK, BLANK)
+    elif line[:2] == b':N':
+        number = fixed.read_decimal(line[2:])
+        block.put(*((('number', number), num(number)) if isinstance(number, int) else (C_BLANK, BLANK)))
+    elif line[:2] == b':L':
+        block.put(('label', line[2], line[3:]), string(line[3:]))
+    else:
+        try:
+            tree = formula.read(line[2:], VALUE_CELL, block.names)
+            block.put(('formula', tree), glance(tree, VALUE_CELL, block, SCENE))
+        except formula.ParseFault:
+            block.put(C_BLANK, BLANK)
+
+
+def values(lines):
     """The values of formulas over small blocks of cells."""
-    block, out = Block(), []
-    for line in lines_of(data):
+    block = Block()
+    for line in lines:
         if line == b':':
             block = Block()
-        elif line == b':B':
-            block.put(C_BLANK, BLANK)
-        elif line[:2] == b':N':
-            number = fixed.read_decimal(line[2:])
-            block.put(*((('number', number), num(number)) if isinstance(number, int) else (C_BLANK, BLANK)))
-        elif line[:2] == b':L':
-            block.put(('label', line[2], line[3:]), string(line[3:]))
-        elif line[:2] == b':V':
-            try:
-                tree = formula.read(line[2:], VALUE_CELL, block.names)
-                block.put(('formula', tree), glance(tree, VALUE_CELL, block, SCENE))
-            except formula.ParseFault:
-                block.put(C_BLANK, BLANK)
+            yield b''
+        elif line[:1] == b':':
+            put(block, line)
+            yield b''
         else:
             try:
                 tree = formula.read(line, VALUE_CELL, block.names)
-                out.append(value_text(glance(tree, VALUE_CELL, block, SCENE)))
+                yield value_text(glance(tree, VALUE_CELL, block, SCENE)) + b'\n'
             except formula.ParseFault as fault:
-                out.append(fault_text(fault))
-    return b''.join(line + b'\n' for line in out)
+                yield fault_text(fault) + b'\n'
 
 
 # ---------------------------------------------------------------- adjustments
@@ -300,9 +269,10 @@ def adjusted(line):
     return (b'-' if span is None else span_text(span)) + b' ' + whole
 
 
-def adjustments(data):
+def adjustments(lines):
     """Spans and formulas after moves, inserts and deletes."""
-    return b''.join(adjusted(line) + b'\n' for line in lines_of(data))
+    for line in lines:
+        yield adjusted(line) + b'\n'
 
 
 # ---------------------------------------------------------------- sheets
@@ -496,16 +466,15 @@ class Desk:
         return before + self.shown() + b'\n'
 
 
-def sheets(data):
+def sheets(lines):
     """The values and evaluations after each edit of small sheets, and whole screens."""
-    desk, out = Desk(), []
-    for line in lines_of(data):
+    desk = Desk()
+    for line in lines:
         if line == b':':
             desk = Desk()
-            out.append(b':\n')
+            yield b''
         else:
-            out.append(desk.line(line))
-    return b''.join(out)
+            yield desk.line(line)
 
 
 # ---------------------------------------------------------------- data commands
@@ -583,17 +552,18 @@ def asked_data(sheet, line):
         return query_fault_text(fault)
 
 
-def data(data):
+def data(lines):
     """What data commands write over small sheets."""
-    desk, out = Desk(), []
-    for line in lines_of(data):
+    desk = Desk()
+    for line in lines:
         if line == b':':
             desk = Desk()
+            yield b''
         elif line[:1] == b'x':
             desk.edit(line)
+            yield b''
         else:
-            out.append(asked_data(desk.sheet, line))
-    return b''.join(line + b'\n' for line in out)
+            yield asked_data(desk.sheet, line) + b'\n'
 
 
 # ---------------------------------------------------------------- macros
@@ -712,15 +682,15 @@ def macro_line(desk, line):
     return b''
 
 
-def macros(data):
+def macros(lines):
     """The units of macros over small sheets, and what they do."""
-    desk, out = Desk(), []
-    for line in lines_of(data):
+    desk = Desk()
+    for line in lines:
         if line == b':':
             desk = Desk()
+            yield b''
         else:
-            out.append(macro_line(desk, line))
-    return b''.join(out)
+            yield macro_line(desk, line)
 
 
 # ---------------------------------------------------------------- generated
@@ -740,18 +710,15 @@ def sum_of(text):
     return total
 
 
-def generated(data):
+def generated(lines):
     """The cells of generated sheets, or how many they are and the sum of their lines."""
-    out = []
-    for line in lines_of(data):
+    for line in lines:
         rows = int(line.lstrip(b'='))
         saved = generate(rows)
         cells = [cell_text(cell) + b' %d ' % state.format + generated_text(state.content, cell, saved.names) + b' '
                  + value_text(state.value) + b'\n' for cell, state in sorted(saved.cells.items(), key=row_order)]
-        if line[:1] == b'=':
-            out += cells
-        out.append(b'%d %d %016x\n' % (rows, len(cells), sum_of(b''.join(cells))))
-    return b''.join(out)
+        whole = b''.join(cells)
+        yield (whole if line[:1] == b'=' else b'') + b'%d %d %016x\n' % (rows, len(cells), sum_of(whole))
 
 
 def row_order(item):

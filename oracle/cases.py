@@ -39,6 +39,21 @@ def quoted(r, words=WORDS):
     return b'"' + text.replace(b'"', b"'") + b'"'
 
 
+def number(r):
+    """A number in millionths, whose size has 1 to 15 digits."""
+    return r.randrange(10 ** r.randrange(1, 16)) * r.choice([1, -1])
+
+
+def numbers(r):
+    """20,000 numbers as doubles, and 5,000 as cells show them: in any format, an eighth of them dates, in widths of 0 to 24."""
+    out = [b'd%d' % number(r) for _ in range(20000)]
+    for row in range(5000):
+        value = number(r) if row % 2 else abs(number(r)) % 100_000_000_000
+        kind, detail = r.randrange(8), r.randrange(16)
+        out.append(b's%d %d %d' % (value, 0x72 + detail % 3 if kind == 5 else kind * 16 + detail, r.randrange(25)))
+    return b''.join(line + b'\n' for line in out)
+
+
 class Texts:
     """Formula texts over cells of a block, far cells and names."""
 
@@ -808,10 +823,10 @@ def generated(_r):
     return b'=1\n=2\n=3\n=19\n100\n1000\n8000\n'
 
 
-CASES = {'formulas': formulas, 'words': words, 'values': values, 'adjustments': adjustments, 'sheets': sheets,
+CASES = {'numbers': numbers, 'formulas': formulas, 'words': words, 'values': values, 'adjustments': adjustments, 'sheets': sheets,
          'data': data, 'macros': macros, 'generated': generated}
 
 
 def case(name, seed=SEED):
-    """The standard input of crates/check_NAME; check_numbers makes its own numbers."""
-    return CASES[name](random.Random(f'{seed} {name}')) if name in CASES else b''
+    """The lines that crates/check_NAME answers."""
+    return CASES[name](random.Random(f'{seed} {name}'))

@@ -1,5 +1,4 @@
-"""Calls of a channel over a shelf in memory: the data of check_channel, and what it must print. Its own text tells the lines."""
-from .answers import lines_of
+"""Calls of a channel over a shelf in memory: the data of check_channel, and what it must answer. Its own text tells the lines."""
 from .cases import worked
 from .channel import Channel
 from .outside import Failed, MapShelf, file_name
@@ -8,7 +7,7 @@ NAMES = [b'LOG', b'A', b'b_2', b'X-1', b'log', b'Log.txt']
 MOST_READ = 240
 
 
-# ---------------------------------------------------------------- what the program must print
+# ---------------------------------------------------------------- what the program must answer
 
 def bytes_of(word):
     return bytes.fromhex(word.decode())
@@ -46,15 +45,14 @@ def told(answer):
     return b'%d' % answer if isinstance(answer, int) else b'=' + bytes(answer).hex().encode()
 
 
-def answers(data):
+def answers(lines):
     """The answers of calls of a channel and of the shelf below it."""
-    desk, out = Desk([]), []
-    for line in lines_of(data):
+    desk = Desk([])
+    for line in lines:
         try:
-            out.append(told(desk.call(line)))
+            yield told(desk.call(line)) + b'\n'
         except Failed:
-            out.append(b'failed')
-    return b''.join(line + b'\n' for line in out)
+            yield b'failed\n'
 
 
 # ---------------------------------------------------------------- the calls
@@ -114,4 +112,4 @@ class Calls:
 def data(r):
     """3,000 calls: the worked ones, and random ones."""
     first = worked('channel')
-    return first + b''.join(line + b'\n' for line in Calls(r).calls(3000 - len(lines_of(first))))
+    return first + b''.join(line + b'\n' for line in Calls(r).calls(3000 - first.count(b'\n')))

@@ -1,6 +1,6 @@
-"""Reports of small worksheets: the data of check_reports, and what it must print. Its own text tells the lines."""
+"""Reports of small worksheets: the data of check_reports, and what it must answer. Its own text tells the lines."""
 from . import formula, report
-from .answers import lines_of, sum_of
+from .answers import sum_of
 from .cases import TEXT_BYTES, worked
 from .dates import Moment
 from .sheet import Saved, State
@@ -9,7 +9,7 @@ from .values import BLANK, C_BLANK, ERR, NA, num, string
 LAST_DAY = 73050
 
 
-# ---------------------------------------------------------------- what the program must print
+# ---------------------------------------------------------------- what the program must answer
 
 def bytes_of(word):
     return bytes.fromhex(word.decode())
@@ -84,10 +84,11 @@ def value_of(kind, held=b''):
     return {b'n': lambda: num(int(held)), b's': lambda: string(bytes_of(held)), b'e': lambda: ERR, b'a': lambda: NA}[kind]()
 
 
-def answers(data):
+def answers(lines):
     """The reports of worksheets."""
     desk = Desk()
-    return b''.join(desk.line(line) for line in lines_of(data))
+    for line in lines:
+        yield desk.line(line)
 
 
 # ---------------------------------------------------------------- the worksheets

@@ -1,6 +1,5 @@
-"""Keys from room to room: the data of check_rooms, and what it must print. Its own text tells the lines."""
+"""Keys from room to room: the data of check_rooms, and what it must answer. Its own text tells the lines."""
 from .address import cell_text, read_cell, read_span
-from .answers import lines_of
 from .cases import worked
 from .commands import Desk as CommandDesk
 from .keys import KeyReader
@@ -13,7 +12,7 @@ WAYS = {'enter': b'Stay', 'up': b'Step(Up)', 'down': b'Step(Down)', 'left': b'St
 LABEL = ord("'")
 
 
-# ---------------------------------------------------------------- what the program must print
+# ---------------------------------------------------------------- what the program must answer
 
 class Rooms(Session):
     """A session that tells of a finished line and of a recalculation in place of making them, and that leaves a menu by any key."""
@@ -103,9 +102,10 @@ def answered(line):
     return rooms.panel() if rooms.told is None else rooms.told
 
 
-def answers(data):
+def answers(lines):
     """What the session does behind the words of each line."""
-    return b''.join(answered(line) + b'\n' for line in lines_of(data))
+    for line in lines:
+        yield answered(line) + b'\n'
 
 
 # ---------------------------------------------------------------- the lines

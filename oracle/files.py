@@ -1,9 +1,9 @@
-"""Worksheet files: the data of check_files, and what it must print for them. Its own text tells what the lines say."""
+"""Worksheet files: the data of check_files, and what it must answer. Its own text tells what the lines say."""
 import struct
 
 from . import fixed, formula, wk1
 from .address import cell_text, height_of, read_cell, read_span, width_of
-from .answers import lines_of, names_of
+from .answers import names_of
 from .cases import TEXT_BYTES, Texts, WORDS, is_read, worked
 from .sheet import DEFAULT_FORMAT, Saved, State
 from .values import BLANK, C_BLANK, ERR, NA, num, string
@@ -17,7 +17,7 @@ HEAD, VALUE = 5, 8  # the bytes of a cell's head, and of a formula's value
 EMPTY = bytes.fromhex('00000200060401000000')
 
 
-# ---------------------------------------------------------------- what the program must print
+# ---------------------------------------------------------------- what the program must answer
 
 def rewritten(data):
     """What reading bytes comes to: the fault, or the bytes that are written of the sheet."""
@@ -27,13 +27,15 @@ def rewritten(data):
         return fault, None
 
 
-def answer(fault, again):
-    return fault.text().encode() if fault else again.hex().encode()
+def told(data):
+    """What is told of a file that a sheet was written to."""
+    return data.hex().encode() + (b'' if rewritten(data) == (None, data) else b', which is not read back') + b'\n'
 
 
 def outcome(data):
-    """What a line tells of bytes."""
-    return answer(*rewritten(data))
+    """What is told of a file that is read."""
+    fault, again = rewritten(data)
+    return fault.text().encode() + b'\n' if fault else told(again)
 
 
 def bytes_of(word):
@@ -41,13 +43,11 @@ def bytes_of(word):
 
 
 class Desk:
-    """A sheet, a file, and what came of the files so far."""
+    """A sheet and a file."""
 
     def __init__(self):
         self.saved = Saved()
         self.file = b''
-        self.written = self.read = self.differ = 0
-        self.faults = [0] * 13
 
     def put(self, cell, state):
         if state.content == C_BLANK and state.format == DEFAULT_FORMAT:
@@ -87,31 +87,17 @@ class Desk:
         settings.format, settings.width, settings.protection = int(code), int(width), protection == b'P'
         settings.order, settings.pointer = ORDERS[order], read_cell(pointer)
 
-    def count(self, data, wanted):
-        """Counts what reading comes to, and whether that is what the line tells."""
-        fault, again = rewritten(data)
-        if fault:
-            self.faults[fault.number] += 1
-        else:
-            self.read += 1
-        self.differ += answer(fault, again) != wanted or (fault is None and rewritten(again) != (None, again))
-
-    def follow(self, line):
-        head, rest = line[:1], line[1:]
+    def build(self, head, rest):
+        """Does what a line says of the sheet and the file."""
         if head == b'b':
             self.file = bytes_of(rest)
         elif head == b'c':
             self.cell(rest)
-        elif head == b'd':
-            at, count, put, wanted = rest.split(b' ', 3)
-            self.count(self.file[:int(at)] + bytes_of(put) + self.file[int(at) + int(count):], wanted)
         elif head == b'h':
             self.saved.hidden.add(read_cell(rest)[0])
         elif head == b'm':
             span, name = rest.split(b' ', 1)
             self.saved.names.create(name, read_span(span))
-        elif head == b'r':
-            self.count(self.file, rest)
         elif head == b's':
             self.settings(rest)
         elif head == b'v':
@@ -119,30 +105,33 @@ class Desk:
         elif head == b'w':
             cell, width = rest.split(b' ')
             self.saved.widths[read_cell(cell)[0]] = int(width)
-        elif head == b'z':
-            count, wanted = rest.split(b' ', 1)
-            self.count(self.file + bytes(int(count)), wanted)
-        elif head == b'=':
-            self.file = bytes_of(rest)
-            self.written += 1
-            self.differ += wk1.write(self.saved) != self.file or rewritten(self.file) != (None, self.file)
         elif head == b':':
             self.saved = Saved()
         elif head != b'#':
-            raise ValueError(line)
+            raise ValueError(head + rest)
 
-    def told(self):
-        out = [b'%d sheets written' % self.written, b'%d files read' % self.read]
-        out += [b'%d files with F%d' % (self.faults[number], number) for number in range(1, 13)]
-        return out + [b'%d differ' % self.differ]
+    def line(self, line):
+        """What a line comes to: what its file holds or is read as, or nothing."""
+        head, rest = line[:1], line[1:]
+        if head == b'f':
+            self.file = wk1.write(self.saved)
+            return told(self.file)
+        if head == b'r':
+            return outcome(self.file)
+        if head == b'd':
+            at, count, put = rest.split(b' ')
+            return outcome(self.file[:int(at)] + bytes_of(put) + self.file[int(at) + int(count):])
+        if head == b'z':
+            return outcome(self.file + bytes(int(rest)))
+        self.build(head, rest)
+        return b''
 
 
-def answers(data):
-    """How many sheets were written, what came of the files, and how many differ from what their lines tell."""
+def answers(lines):
+    """What is written of the sheets, and what the files are read as."""
     desk = Desk()
-    for line in lines_of(data):
-        desk.follow(line)
-    return b''.join(line + b'\n' for line in desk.told())
+    for line in lines:
+        yield desk.line(line)
 
 
 # ---------------------------------------------------------------- sheets that are built
@@ -230,7 +219,7 @@ def file_of(lines):
     """The bytes of the sheet that lines build."""
     desk = Desk()
     for line in lines:
-        desk.follow(line)
+        desk.line(line)
     return wk1.write(desk.saved)
 
 
@@ -499,7 +488,7 @@ KINDS = [changed_byte, changed_byte, changed_byte, cut_short, cut_out, doubled, 
 def damage(r, data):
     """A line that tells what a damaged form of a file is read as."""
     at, count, put = r.choice(KINDS)(r, data)
-    return b'd%d %d ' % (at, count) + hex_of(put) + b' ' + outcome(data[:at] + put + data[at + count:])
+    return b'd%d %d ' % (at, count) + hex_of(put)
 
 
 # ---------------------------------------------------------------- files that runs begin with
@@ -549,10 +538,10 @@ def at_the_most():
     body = b'\xff' + bytes(4) + bytes(VALUE) + wk1._u16s(len(code)) + code
     long = EMPTY[:-4] + wk1._record(wk1.FORMULA, body) + EMPTY[-4:]
     at = long.index(bracketed)
-    return [b'b' + long.hex().encode(), b'r' + outcome(long),
-            b'd%d %d ' % (at, len(bare)) + bare.hex().encode() + b' F7 1 65519',
-            b'b' + EMPTY.hex().encode(), b'z%d ' % (wk1.MOST - len(EMPTY)) + outcome(EMPTY),
-            b'z%d F11' % (wk1.MOST - len(EMPTY) + 1), b'b-', b'z%d F11' % (wk1.MOST + 1)]
+    return [b'b' + long.hex().encode(), b'r',
+            b'd%d %d ' % (at, len(bare)) + bare.hex().encode(),
+            b'b' + EMPTY.hex().encode(), b'z%d' % (wk1.MOST - len(EMPTY)),
+            b'z%d' % (wk1.MOST - len(EMPTY) + 1), b'b-', b'z%d' % (wk1.MOST + 1)]
 
 
 SHEETS, DAMAGES = 500, 3  # and as many files besides; damaged forms of each file
@@ -564,7 +553,7 @@ def data(r, count):
     for _ in range(count):
         lines = built.lines()
         saved = file_of(lines)
-        out += lines + [b'=' + saved.hex().encode()] + [damage(r, saved) for _ in range(DAMAGES)]
+        out += lines + [b'f'] + [damage(r, saved) for _ in range(DAMAGES)]
         found = records.file()
-        out += [b'b' + found.hex().encode(), b'r' + outcome(found)] + [damage(r, found) for _ in range(DAMAGES)]
+        out += [b'b' + found.hex().encode(), b'r'] + [damage(r, found) for _ in range(DAMAGES)]
     return worked('files') + b''.join(line + b'\n' for line in out)

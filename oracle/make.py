@@ -1,6 +1,7 @@
-"""The data of a checking program, or with --answers what it must print for the data on standard input.
+"""The data of a checking program: each line that it answers, and below it the lines of the answer that is wanted.
 
-python3 -B -m oracle.make NAME [SEED [COUNT]], where `files` alone takes a count: of its sheets."""
+python3 -B -m oracle.make NAME [SEED [COUNT]], where `files` alone takes a count: of its sheets. A line that begins a case
+stands behind `>`, a further one of the case behind `+`, and an answer's line behind `=`."""
 import random
 import sys
 
@@ -11,10 +12,12 @@ from .cases import SEED, case
 # the checking programs whose data and answers stand in modules of their own
 APART = {'channel': check_channel, 'reports': check_reports, 'rooms': check_rooms}
 ANSWERS = {**ANSWERS, 'files': files.answers, **{name: of.answers for name, of in APART.items()}}
+# how a line begins that makes a fresh sheet, or a fresh shelf; each line of the other programs is a case of its own
+BEGINS = {'values': b':', 'sheets': b':', 'data': b':', 'macros': b':', 'channel': b'n', 'reports': b'n', 'files': b':'}
 
 
-def made(name, seed=SEED, count=files.SHEETS):
-    """The standard input of crates/check_NAME."""
+def asked(name, seed=SEED, count=files.SHEETS):
+    """The lines that crates/check_NAME answers."""
     if name == 'files':
         return files.data(random.Random(f'{seed} {name}'), int(count))
     if name in APART:
@@ -22,18 +25,28 @@ def made(name, seed=SEED, count=files.SHEETS):
     return case(name, seed)
 
 
+def begins(name, line):
+    """Whether a line begins a case."""
+    if name == 'values':
+        return line == b':'
+    return name not in BEGINS or line[:1] == BEGINS[name]
+
+
+def made(name, *words):
+    """The standard input of crates/check_NAME."""
+    lines = asked(name, *words).split(b'\n')[:-1]
+    for line, answer in zip(lines, ANSWERS[name](lines)):
+        yield (b'>' if begins(name, line) else b'+') + line + b'\n'
+        yield from (b'=' + told + b'\n' for told in answer.split(b'\n')[:-1])
+
+
 def main(words):
     leave_out()
-    answers = '--answers' in words
-    words = [word for word in words if word != '--answers']
     if not words or words[0] not in ANSWERS or len(words) > 3:
         print('oracle.make takes one of', *ANSWERS, 'and a seed', file=sys.stderr)
         return 2
-    if answers:
-        out = ANSWERS[words[0]](sys.stdin.buffer.read())
-    else:
-        out = made(*words)
-    sys.stdout.buffer.write(out)
+    for line in made(*words):
+        sys.stdout.buffer.write(line)
     return 0
 
 

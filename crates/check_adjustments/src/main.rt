@@ -1,35 +1,26 @@
-//! Reads each line of standard input as an edit, a span and a formula, and prints the span and the formula after the
-//! edit, the span as `-` where a corner is lost. The stored run compares 300 lines with another program's answers.
+//! Reads an edit, a span and a formula in each line of its data, and answers the span and the formula after the edit,
+//! the span as `-` where a corner is lost. The stored run compares 300 lines with another program's answers.
 //!
 //! A line's words are a letter for the edit, the formula's old and new cell, the span of the edit, the cell that its
-//! first corner moves to, the span that is adjusted, and the formula's text. The letters are `M` for a move, `r` and `c`
-//! for rows and columns inserted in front of the span, as many as it has, and `R` and `C` for its rows and columns
-//! deleted.
+//! first corner moves to, the span that is adjusted, and the formula's text. The letters are `M` for a move, `r` and
+//! `c` for rows and columns inserted in front of the span, as many as it has, and `R` and `C` for its rows and
+//! columns deleted.
 #![tactic(auto)]
 
 ghost use Rattle.std.specs.Prelude.{◌≡◌, true, IfSome};
 ghost use Rattle.ref_adjust.specs.Lines.{IsChange};
 ghost use Rattle.ref_adjust.specs.Moves.{FitsAt};
 
+use check_cases::{Stop, Subject, Words, check};
 use formula_text::{print, read};
 use formula_tree::Formula;
-use grid_address::{Cell, Span, cell_text, read_cell, read_span};
+use grid_address::{Cell, Span, cell_text};
 use lics_text::Line;
 use range_names::Names;
 use ref_adjust::{Change, moved, shifted, span_moved, span_shifted};
 use std::alloc::Global;
-use std::io::{BufRead, Error, Write};
+use std::io::{Error, Write};
 use std::process::ExitCode;
-
-// The first word of a line, and what stands behind the blank after it.
-fn first_word(line: &[u8]) -> (&[u8], &[u8]) {
-    for at in 0..line.len() {
-        if line[at] == b' ' {
-            return (&line[..at], &line[at + 1..]);
-        }
-    }
-    (line, &line[line.len()..])
-}
 
 // An edit, by its letter, its span and the cell that the span's first corner moves to.
 #[derive(Drop)]
@@ -39,11 +30,14 @@ struct Edit {
     to: Cell,
 }
 
+// How many rows a sheet has.
+const ROWS: u16 = 8192;
+
 // Whether a span moved there lies in the sheet.
 fn fits(from: Span, to: Cell) -> bool
     ensures { result ≡ true → FitsAt from to }
 {
-    from.last.row - from.first.row < 8192 - to.row
+    from.last.row - from.first.row < ROWS - to.row
         && u16::from(from.last.col - from.first.col) < 256 - u16::from(to.col)
 }
 
@@ -61,6 +55,7 @@ fn change_of(edit: &Edit) -> Option<Change>
     }
 }
 
+// The formula after an edit.
 fn formula_after(edit: &Edit, formula: Formula, old_at: Cell, new_at: Cell) -> Formula {
     match change_of(edit) {
         Some(change) => shifted(formula, old_at, new_at, change),
@@ -76,6 +71,7 @@ fn formula_after(edit: &Edit, formula: Formula, old_at: Cell, new_at: Cell) -> F
     }
 }
 
+// The span after an edit; none where a corner is lost.
 fn span_after(edit: &Edit, span: Span) -> Option<Span> {
     match change_of(edit) {
         Some(change) => span_shifted(span, change),
@@ -91,6 +87,7 @@ fn span_after(edit: &Edit, span: Span) -> Option<Span> {
     }
 }
 
+// Writes a span by its corners, or `-` for none.
 fn write_span<W: Write>(span: Option<Span>, out: &mut W) -> Result<(), Error> {
     match span {
         Some(span) => {
@@ -103,6 +100,7 @@ fn write_span<W: Write>(span: Option<Span>, out: &mut W) -> Result<(), Error> {
     out.write_all(b" ")
 }
 
+// Writes the text of a formula that stands in a cell.
 fn write_formula<W: Write>(
     formula: &Formula,
     at: Cell,
@@ -124,64 +122,53 @@ struct Row {
     span: Span,
 }
 
-// The words of a line, and the formula's text behind them; none where a word isn't what it should be.
-fn row_of(line: &[u8]) -> Option<(Row, &[u8])> {
-    let (letter, rest) = first_word(line);
-    let (old_at, rest) = first_word(rest);
-    let (new_at, rest) = first_word(rest);
-    let (from, rest) = first_word(rest);
-    let (to, rest) = first_word(rest);
-    let (span, text) = first_word(rest);
+// The words of a line in front of the formula's text.
+fn row_of(words: &mut Words) -> Result<Row, Stop> {
+    let Some(letter) = words.next().first() else {
+        return Err(Stop::Line);
+    };
+    let old_at = words.cell()?;
+    let new_at = words.cell()?;
     let edit = Edit {
-        letter: *letter.first()?,
-        from: read_span(from).ok()?,
-        to: read_cell(to).ok()?,
+        letter: *letter,
+        from: words.span()?,
+        to: words.cell()?,
     };
-    let row = Row {
+    let span = words.span()?;
+    Ok(Row {
         edit,
-        old_at: read_cell(old_at).ok()?,
-        new_at: read_cell(new_at).ok()?,
-        span: read_span(span).ok()?,
-    };
-    Some((row, text))
+        old_at,
+        new_at,
+        span,
+    })
 }
 
-fn write_row<W: Write>(
-    alloc: Global,
-    line: &[u8],
-    names: &Names,
-    out: &mut W,
-) -> Result<(), Error> {
-    let Some((row, text)) = row_of(line) else {
-        return out.write_all(b"!\n");
-    };
-    match read(alloc, text, row.old_at, names) {
-        Ok(formula) => {
-            let formula = formula_after(&row.edit, formula, row.old_at, row.new_at);
-            write_span(span_after(&row.edit, row.span), out)?;
-            write_formula(&formula, row.new_at, names, out)
+// The names that the formulas may use, which are none.
+#[derive(Drop)]
+struct Adjustments {
+    names: Names,
+}
+
+impl Subject for Adjustments {
+    fn answer(&mut self, alloc: Global, line: &[u8], answer: &mut Vec<u8>) -> Result<(), Stop> {
+        let mut words = Words::of(line);
+        let row = row_of(&mut words)?;
+        match read(alloc, words.rest(), row.old_at, &self.names) {
+            Ok(formula) => {
+                let formula = formula_after(&row.edit, formula, row.old_at, row.new_at);
+                write_span(span_after(&row.edit, row.span), answer)?;
+                write_formula(&formula, row.new_at, &self.names, answer)?;
+            }
+            Err(fault) => writeln!(answer, "!{fault:?}")?,
         }
-        Err(fault) => writeln!(out, "!{fault:?}"),
+        Ok(())
     }
-}
-
-fn write_rows<R: BufRead + Drop, W: Write>(
-    alloc: Global,
-    input: R,
-    out: &mut W,
-) -> Result<(), Error> {
-    let names = Names::new(alloc);
-    for line in input.split(alloc, b'\n') {
-        write_row(alloc, line?.as_slice(), &names, out)?;
-    }
-    Ok(())
 }
 
 fn main(rt: HostRuntime) -> ExitCode {
     let alloc = rt.alloc();
-    let mut out = rt.stdout();
-    match write_rows(alloc, rt.reader(), &mut out) {
-        Ok(()) => ExitCode::SUCCESS,
-        Err(_) => ExitCode::from(2),
-    }
+    let mut adjustments = Adjustments {
+        names: Names::new(alloc),
+    };
+    check(alloc, &mut adjustments, rt.reader(), &mut rt.stdout())
 }

@@ -1,12 +1,19 @@
 // A shelf, a channel over it, and what the lines ask of them.
-use crate::words::{bytes, first_word, number, numbers};
+
+use check_cases::{Stop, Subject, Words, bytes_of, whole_of};
 use lics_text::{Memory, Text};
 use outside_world::{ByteList, Ext, FileName, MapShelf, Shelf, ShelfFault};
 use std::alloc::Global;
 use std::io::{Error, Write};
 use text_channel::{Access, Channel, ChannelFault};
 
-// What is written for a line.
+// The most bytes of one read.
+const MOST_READ: usize = 240;
+
+// The farthest position that a call can name.
+const FARTHEST: usize = 4_294_967_295;
+
+/// What is answered to a line.
 #[derive(Drop)]
 pub enum Answer {
     Done(bool),
@@ -14,8 +21,6 @@ pub enum Answer {
     Text(Option<Text>),
     File(Option<ByteList>),
     Failed,
-    Memory,
-    Unread,
 }
 
 // Writes bytes in hexadecimal digits.
@@ -28,7 +33,7 @@ fn write_bytes<W: Write>(bytes: &[u8], out: &mut W) -> Result<(), Error> {
 }
 
 impl Answer {
-    // Writes an answer.
+    /// Writes an answer.
     pub fn write<W: Write>(&self, out: &mut W) -> Result<(), Error> {
         match self {
             Answer::Done(true) => out.write_all(b"yes"),
@@ -40,24 +45,25 @@ impl Answer {
                 out.write_all(b"none")
             }
             Answer::Failed => out.write_all(b"failed"),
-            Answer::Memory => out.write_all(b"memory"),
-            Answer::Unread => out.write_all(b"no row"),
         }
     }
 
     // The answer of a call that may fail.
-    fn of(call: Result<bool, ChannelFault>) -> Answer {
+    fn of(call: Result<bool, ChannelFault>) -> Result<Answer, Stop> {
         match call {
-            Ok(done) => Answer::Done(done),
-            Err(ChannelFault::Failed) => Answer::Failed,
-            Err(ChannelFault::Memory) => Answer::Memory,
+            Ok(done) => Ok(Answer::Done(done)),
+            Err(ChannelFault::Failed) => Ok(Answer::Failed),
+            Err(ChannelFault::Memory) => Err(Stop::Memory),
         }
     }
 }
 
 // The name of a text file.
-fn name_in(word: &[u8]) -> Option<FileName> {
-    FileName::with(word, Ext::Txt)
+fn name_in(words: &mut Words) -> Result<FileName, Stop> {
+    match FileName::with(words.next(), Ext::Txt) {
+        Some(name) => Ok(name),
+        None => Err(Stop::Line),
+    }
 }
 
 // What may be done with a file.
@@ -69,12 +75,18 @@ fn access_of(word: &[u8]) -> Access {
     }
 }
 
-// The bytes doubled so many times, with as many more at the end.
-fn doubled(alloc: Global, words: &[u8]) -> Result<ByteList, Memory> {
-    let (count, word) = first_word(words);
-    let more = bytes(alloc, word)?;
+// Bytes in hexadecimal digits.
+fn bytes_in(alloc: Global, words: &mut Words) -> Result<ByteList, Stop> {
+    let bytes = bytes_of(alloc, words.next())?;
+    Ok(ByteList::from_slice(alloc, bytes.as_slice())?)
+}
+
+// A byte that is doubled so many times, with some bytes behind.
+fn doubled(alloc: Global, words: &mut Words) -> Result<ByteList, Stop> {
+    let count = words.count()?;
+    let more = bytes_in(alloc, words)?;
     let mut list = ByteList::from_slice(alloc, b"x")?;
-    for _ in 0..number(count) {
+    for _ in 0..count {
         let copy = list.copy()?;
         list.put_at(list.len(), copy.bytes())?;
     }
@@ -82,7 +94,16 @@ fn doubled(alloc: Global, words: &[u8]) -> Result<ByteList, Memory> {
     Ok(list)
 }
 
-// A shelf and a channel.
+// Numbers up to the end of the line.
+fn numbers_in(alloc: Global, words: &mut Words) -> Result<Vec<u64>, Stop> {
+    let mut list = Vec::new(alloc);
+    for word in words.rest().split(|byte| *byte == b' ') {
+        list.push(whole_of(word).unsigned_abs())?;
+    }
+    Ok(list)
+}
+
+/// A shelf and a channel.
 #[derive(Drop)]
 pub struct Desk {
     channel: Channel,
@@ -90,7 +111,7 @@ pub struct Desk {
 }
 
 impl Desk {
-    // An empty shelf, of which these calls fail, and nothing attached.
+    /// An empty shelf, of which these calls fail, and nothing attached.
     pub fn new(failing: Vec<u64>) -> Desk {
         Desk {
             channel: Channel::new(),
@@ -99,84 +120,79 @@ impl Desk {
     }
 
     // Puts a file on the shelf.
-    fn put(&mut self, word: &[u8], file: ByteList) -> Result<Answer, Memory> {
-        match name_in(word) {
-            Some(name) => {
-                self.shelf.add(name, file)?;
-                Ok(Answer::Done(true))
-            }
-            None => Ok(Answer::Unread),
-        }
+    fn put(&mut self, name: FileName, file: ByteList) -> Result<Answer, Stop> {
+        self.shelf.add(name, file)?;
+        Ok(Answer::Done(true))
     }
 
     // Attaches a file.
-    fn attach(&mut self, alloc: Global, words: &[u8]) -> Answer {
-        let (word, access) = first_word(words);
-        match name_in(word) {
-            Some(name) => {
-                let access = access_of(access);
-                Answer::of(self.channel.attach(alloc, name, access, &mut self.shelf))
-            }
-            None => Answer::Unread,
-        }
+    fn attach(&mut self, alloc: Global, words: &mut Words) -> Result<Answer, Stop> {
+        let name = name_in(words)?;
+        let access = access_of(words.next());
+        Answer::of(self.channel.attach(alloc, name, access, &mut self.shelf))
     }
 
     // What the shelf holds under a name.
-    fn held(&mut self, word: &[u8]) -> Answer {
-        let Some(name) = name_in(word) else {
-            return Answer::Unread;
-        };
+    fn held(&mut self, words: &mut Words) -> Result<Answer, Stop> {
+        let name = name_in(words)?;
         match self.shelf.get(&name) {
-            Ok(file) => Answer::File(file),
-            Err(ShelfFault::Failed) => Answer::Failed,
-            Err(ShelfFault::Memory) => Answer::Memory,
+            Ok(file) => Ok(Answer::File(file)),
+            Err(ShelfFault::Failed) => Ok(Answer::Failed),
+            Err(ShelfFault::Memory) => Err(Stop::Memory),
         }
     }
 
     // Reads so many bytes.
-    fn read(&mut self, alloc: Global, word: &[u8]) -> Result<Answer, Memory> {
-        let count = number(word).min(240) as u8;
+    fn read(&mut self, alloc: Global, words: &mut Words) -> Result<Answer, Stop> {
+        let count = words.count()?.min(MOST_READ) as u8;
         Ok(Answer::Text(self.channel.read(alloc, count)?))
     }
 
     // Writes bytes.
-    fn write(&mut self, alloc: Global, word: &[u8]) -> Result<Answer, Memory> {
-        let list = bytes(alloc, word)?;
+    fn write(&mut self, alloc: Global, words: &mut Words) -> Result<Answer, Stop> {
+        let list = bytes_in(alloc, words)?;
         Ok(Answer::Done(self.channel.write(list.bytes())?))
     }
 
     // Sets the position.
-    fn set_position(&mut self, word: &[u8]) -> Answer {
-        let at = number(word).min(4_294_967_295) as u32;
-        Answer::Done(self.channel.set_position(at))
+    fn set_position(&mut self, words: &mut Words) -> Result<Answer, Stop> {
+        let at = words.count()?.min(FARTHEST) as u32;
+        Ok(Answer::Done(self.channel.set_position(at)))
     }
 
     // Makes the call of a line.
-    pub fn answer(&mut self, alloc: Global, line: &[u8]) -> Result<Answer, Memory> {
-        let (call, words) = first_word(line);
-        match call {
+    fn call(&mut self, alloc: Global, words: &mut Words) -> Result<Answer, Stop> {
+        match words.next() {
             b"n" => {
-                *self = Desk::new(numbers(alloc, words)?);
+                *self = Desk::new(numbers_in(alloc, words)?);
                 Ok(Answer::Done(true))
             }
             b"p" => {
-                let (name, digits) = first_word(words);
-                self.put(name, bytes(alloc, digits)?)
+                let name = name_in(words)?;
+                self.put(name, bytes_in(alloc, words)?)
             }
             b"d" => {
-                let (name, rest) = first_word(words);
-                self.put(name, doubled(alloc, rest)?)
+                let name = name_in(words)?;
+                self.put(name, doubled(alloc, words)?)
             }
-            b"a" => Ok(self.attach(alloc, words)),
-            b"f" => Ok(Answer::of(self.channel.finish(&mut self.shelf))),
+            b"a" => self.attach(alloc, words),
+            b"f" => Answer::of(self.channel.finish(&mut self.shelf)),
             b"r" => self.read(alloc, words),
             b"l" => Ok(Answer::Text(self.channel.read_line(alloc)?)),
             b"w" => self.write(alloc, words),
             b"s" => Ok(Answer::Number(self.channel.size())),
             b"c" => Ok(Answer::Number(self.channel.position())),
-            b"t" => Ok(self.set_position(words)),
-            b"g" => Ok(self.held(words)),
-            _ => Ok(Answer::Unread),
+            b"t" => self.set_position(words),
+            b"g" => self.held(words),
+            _ => Err(Stop::Line),
         }
+    }
+}
+
+impl Subject for Desk {
+    fn answer(&mut self, alloc: Global, line: &[u8], answer: &mut Vec<u8>) -> Result<(), Stop> {
+        self.call(alloc, &mut Words::of(line))?.write(answer)?;
+        answer.push(b'\n')?;
+        Ok(())
     }
 }

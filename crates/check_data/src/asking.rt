@@ -1,30 +1,28 @@
 // What a line asks for.
-use crate::desk::{SCENE, Stop, cell_of, number_of, parts, span_of};
+
+use check_cases::{Stop, Words};
+use check_entries::{SCENE, number_of};
 use data_blocks::{BlockFault, SortKey, distribution, fill, sort_rows};
 use data_query::{Match, QueryFault, deletion, extract, matches, select};
 use grid_address::{CellList, Span};
-use lics_text::Memory;
 use sheet_store::Writes;
 use std::alloc::Global;
 use work_sheet::Sheet;
 
 /// A fill: a range, a start, a step and a stop.
-pub fn asked_fill(alloc: Global, bytes: &[u8]) -> Result<Result<Writes, BlockFault>, Stop> {
-    let (span, rest) = parts(bytes)?;
-    let (start, rest) = parts(rest)?;
-    let (step, stop) = parts(rest)?;
-    let span = span_of(span)?;
-    let start = number_of(start)?;
-    let step = number_of(step)?;
-    Ok(fill(alloc, span, start, step, number_of(stop)?))
+pub fn asked_fill(alloc: Global, mut words: Words) -> Result<Result<Writes, BlockFault>, Stop> {
+    let span = words.span()?;
+    let start = number_of(words.next())?;
+    let step = number_of(words.next())?;
+    Ok(fill(alloc, span, start, step, number_of(words.next())?))
 }
 
 // A column to sort by, behind its sign.
-fn key_of(bytes: &[u8]) -> Result<SortKey, Stop> {
-    let Some((sign, cell)) = bytes.split_first() else {
+fn key_of(word: &[u8]) -> Result<SortKey, Stop> {
+    let Some((sign, cell)) = word.split_first() else {
         return Err(Stop::Line);
     };
-    let cell = cell_of(cell)?;
+    let cell = Words::of(cell).cell()?;
     Ok(SortKey {
         col: cell.col,
         descending: *sign == b'-',
@@ -36,9 +34,7 @@ fn keys_of(alloc: Global, bytes: &[u8]) -> Result<Vec<SortKey>, Stop> {
     let mut keys = Vec::new(alloc);
     for word in bytes.split(|byte| *byte == b' ') {
         let key = key_of(word)?;
-        if keys.push(key).is_err() {
-            return Err(Stop::Memory);
-        }
+        keys.push(key)?;
     }
     Ok(keys)
 }
@@ -47,11 +43,10 @@ fn keys_of(alloc: Global, bytes: &[u8]) -> Result<Vec<SortKey>, Stop> {
 pub fn asked_sort(
     alloc: Global,
     sheet: &Sheet,
-    bytes: &[u8],
+    mut words: Words,
 ) -> Result<Result<Writes, BlockFault>, Stop> {
-    let (span, keys) = parts(bytes)?;
-    let span = span_of(span)?;
-    let keys = keys_of(alloc, keys)?;
+    let span = words.span()?;
+    let keys = keys_of(alloc, words.rest())?;
     Ok(sort_rows(alloc, span, keys.as_slice(), sheet))
 }
 
@@ -59,41 +54,35 @@ pub fn asked_sort(
 pub fn asked_distribution(
     alloc: Global,
     sheet: &Sheet,
-    bytes: &[u8],
+    mut words: Words,
 ) -> Result<Result<Writes, BlockFault>, Stop> {
-    let (values, bins) = parts(bytes)?;
-    let values = span_of(values)?;
-    Ok(distribution(alloc, values, span_of(bins)?, sheet))
+    let values = words.span()?;
+    Ok(distribution(alloc, values, words.span()?, sheet))
 }
 
 // An input and a criterion.
-fn query_of(bytes: &[u8]) -> Result<(Span, Span), Stop> {
-    let (input, criterion) = parts(bytes)?;
-    let input = span_of(input)?;
-    Ok((input, span_of(criterion)?))
+fn query_in(words: &mut Words) -> Result<(Span, Span), Stop> {
+    let input = words.span()?;
+    Ok((input, words.span()?))
 }
 
 /// Whether a record matches: its cell, an input and a criterion.
-pub fn asked_match(alloc: Global, sheet: &Sheet, bytes: &[u8]) -> Result<Match, Stop> {
-    let (cell, rest) = parts(bytes)?;
-    let (input, criterion) = query_of(rest)?;
-    let cell = cell_of(cell)?;
+pub fn asked_match(alloc: Global, sheet: &Sheet, mut words: Words) -> Result<Match, Stop> {
+    let cell = words.cell()?;
+    let (input, criterion) = query_in(&mut words)?;
     if !input.contains(cell) {
         return Err(Stop::Line);
     }
-    match matches(alloc, input, criterion, cell.row, sheet, &SCENE) {
-        Ok(answer) => Ok(answer),
-        Err(Memory) => Err(Stop::Memory),
-    }
+    Ok(matches(alloc, input, criterion, cell.row, sheet, &SCENE)?)
 }
 
 /// The records that match.
 pub fn asked_selection(
     alloc: Global,
     sheet: &Sheet,
-    bytes: &[u8],
+    mut words: Words,
 ) -> Result<Result<CellList, QueryFault>, Stop> {
-    let (input, criterion) = query_of(bytes)?;
+    let (input, criterion) = query_in(&mut words)?;
     Ok(select(alloc, input, criterion, sheet, &SCENE))
 }
 
@@ -101,9 +90,9 @@ pub fn asked_selection(
 pub fn asked_deletion(
     alloc: Global,
     sheet: &Sheet,
-    bytes: &[u8],
+    mut words: Words,
 ) -> Result<Result<Writes, QueryFault>, Stop> {
-    let (input, criterion) = query_of(bytes)?;
+    let (input, criterion) = query_in(&mut words)?;
     Ok(deletion(alloc, input, criterion, sheet, &SCENE))
 }
 
@@ -111,11 +100,10 @@ pub fn asked_deletion(
 pub fn asked_extraction(
     alloc: Global,
     sheet: &Sheet,
-    bytes: &[u8],
+    mut words: Words,
     unique: bool,
 ) -> Result<Result<Writes, QueryFault>, Stop> {
-    let (output, rest) = parts(bytes)?;
-    let output = span_of(output)?;
-    let (input, criterion) = query_of(rest)?;
+    let output = words.span()?;
+    let (input, criterion) = query_in(&mut words)?;
     Ok(extract(alloc, input, criterion, output, unique, sheet, &SCENE))
 }

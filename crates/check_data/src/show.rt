@@ -1,53 +1,13 @@
 // How answers are printed.
-use crate::desk::Stop;
+
+use check_cases::Stop;
+use check_entries::write_content;
 use data_blocks::BlockFault;
 use data_query::{Match, QueryFault};
-use formula_text::print;
-use formula_tree::{Content, Formula};
 use grid_address::{Cell, CellList, Format, Span, cell_text};
-use lics_text::Line;
 use range_names::Names;
 use sheet_store::{SheetFault, Write as Entry, Writes};
 use std::io::{Error, Write};
-
-/// What came of writing to the output.
-pub fn written(answer: Result<(), Error>) -> Result<(), Stop> {
-    match answer {
-        Ok(()) => Ok(()),
-        Err(_) => Err(Stop::Stream),
-    }
-}
-
-// A formula as it would be typed in its cell.
-fn show_formula<W: Write>(
-    formula: &Formula,
-    cell: Cell,
-    names: &Names,
-    out: &mut W,
-) -> Result<(), Error> {
-    let mut line = Line::new();
-    print(formula, cell, names, &mut line);
-    out.write_all(b"=")?;
-    out.write_all(line.bytes())
-}
-
-// A content.
-fn show_content<W: Write>(
-    content: &Content,
-    cell: Cell,
-    names: &Names,
-    out: &mut W,
-) -> Result<(), Error> {
-    match content {
-        Content::Blank => Ok(()),
-        Content::Number(number) => write!(out, "#{}", number.millionths()),
-        Content::Label(prefix, text) => {
-            out.write_all(&[prefix.byte()])?;
-            out.write_all(text.bytes())
-        }
-        Content::Formula(formula) => show_formula(formula, cell, names, out),
-    }
-}
 
 // A format byte, or `-` for the cell's own.
 fn show_format<W: Write>(format: Option<Format>, out: &mut W) -> Result<(), Error> {
@@ -58,23 +18,24 @@ fn show_format<W: Write>(format: Option<Format>, out: &mut W) -> Result<(), Erro
 }
 
 // What is written to a cell.
-fn show_entry<W: Write>(entry: &Entry, names: &Names, out: &mut W) -> Result<(), Error> {
+fn show_entry<W: Write>(entry: &Entry, names: &Names, out: &mut W) -> Result<(), Stop> {
     out.write_all(cell_text(entry.cell).bytes())?;
     show_format(entry.format, out)?;
-    show_content(&entry.content, entry.cell, names, out)
+    write_content(&entry.content, entry.cell, names, out)
 }
 
 /// What is written, parted by tabs.
 pub fn show_writes<W: Write>(writes: &Writes, names: &Names, out: &mut W) -> Result<(), Stop> {
     for place in 0..writes.len() {
         if place > 0 {
-            written(out.write_all(b"\t"))?;
+            out.write_all(b"\t")?;
         }
         if let Some(entry) = writes.get(place) {
-            written(show_entry(entry, names, out))?;
+            show_entry(entry, names, out)?;
         }
     }
-    written(out.write_all(b"\n"))
+    out.write_all(b"\n")?;
+    Ok(())
 }
 
 // The corners of a range, behind what it is the fault of.
@@ -95,50 +56,55 @@ fn show_cell<W: Write>(name: &[u8], cell: Cell, out: &mut W) -> Result<(), Error
 
 // What the sheet refuses, with the cell or the range that it carries.
 fn show_sheet_fault<W: Write>(fault: SheetFault, out: &mut W) -> Result<(), Stop> {
-    written(match fault {
-        SheetFault::OutOfSheet(span) => show_span(b"!OutOfSheet ", span, out),
-        SheetFault::Protected(cell) => show_cell(b"!Protected ", cell, out),
-        SheetFault::PushedOff(cell) => show_cell(b"!PushedOff ", cell, out),
+    match fault {
+        SheetFault::OutOfSheet(span) => show_span(b"!OutOfSheet ", span, out)?,
+        SheetFault::Protected(cell) => show_cell(b"!Protected ", cell, out)?,
+        SheetFault::PushedOff(cell) => show_cell(b"!PushedOff ", cell, out)?,
         SheetFault::Memory => return Err(Stop::Memory),
-    })
+    }
+    Ok(())
 }
 
 /// A fault by its name and what it carries.
 pub fn show_block_fault<W: Write>(fault: BlockFault, out: &mut W) -> Result<(), Stop> {
-    written(match fault {
-        BlockFault::ZeroStep => out.write_all(b"!ZeroStep\n"),
-        BlockFault::NoTable => out.write_all(b"!NoTable\n"),
-        BlockFault::InputInTable(cell) => show_cell(b"!InputInTable ", cell, out),
+    match fault {
+        BlockFault::ZeroStep => out.write_all(b"!ZeroStep\n")?,
+        BlockFault::NoTable => out.write_all(b"!NoTable\n")?,
+        BlockFault::InputInTable(cell) => show_cell(b"!InputInTable ", cell, out)?,
         BlockFault::Sheet(fault) => return show_sheet_fault(fault, out),
         BlockFault::Memory => return Err(Stop::Memory),
-    })
+    }
+    Ok(())
 }
 
 /// Whether a record matches.
 pub fn show_match<W: Write>(answer: Match, out: &mut W) -> Result<(), Stop> {
-    written(match answer {
-        Match::Yes => out.write_all(b"Yes\n"),
-        Match::No => out.write_all(b"No\n"),
-        Match::NoFieldRow => out.write_all(b"NoFieldRow\n"),
-        Match::FieldAbsent(cell) => show_cell(b"FieldAbsent ", cell, out),
-    })
+    match answer {
+        Match::Yes => out.write_all(b"Yes\n")?,
+        Match::No => out.write_all(b"No\n")?,
+        Match::NoFieldRow => out.write_all(b"NoFieldRow\n")?,
+        Match::FieldAbsent(cell) => show_cell(b"FieldAbsent ", cell, out)?,
+    }
+    Ok(())
 }
 
 /// Cells, parted by spaces.
 pub fn show_cells<W: Write>(cells: &CellList, out: &mut W) -> Result<(), Stop> {
     for cell in cells.as_slice() {
-        written(out.write_all(cell_text(*cell).bytes()))?;
-        written(out.write_all(b" "))?;
+        out.write_all(cell_text(*cell).bytes())?;
+        out.write_all(b" ")?;
     }
-    written(out.write_all(b"\n"))
+    out.write_all(b"\n")?;
+    Ok(())
 }
 
 /// A fault by its name and the cell or the number that it carries.
 pub fn show_query_fault<W: Write>(fault: QueryFault, out: &mut W) -> Result<(), Stop> {
-    written(match fault {
-        QueryFault::NoFieldRow => out.write_all(b"!NoFieldRow\n"),
-        QueryFault::FieldAbsent(cell) => show_cell(b"!FieldAbsent ", cell, out),
-        QueryFault::OutputFull(count) => writeln!(out, "!OutputFull {count}"),
+    match fault {
+        QueryFault::NoFieldRow => out.write_all(b"!NoFieldRow\n")?,
+        QueryFault::FieldAbsent(cell) => show_cell(b"!FieldAbsent ", cell, out)?,
+        QueryFault::OutputFull(count) => writeln!(out, "!OutputFull {count}")?,
         QueryFault::Memory => return Err(Stop::Memory),
-    })
+    }
+    Ok(())
 }

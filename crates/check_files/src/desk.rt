@@ -1,25 +1,20 @@
 // A sheet and a file, and what the lines do with them.
 ghost use Rattle.sheet_store.specs.Grid.{IsSound};
 
-use crate::files::{
-    Outcome, is_read_back, rewritten, spliced, with_zeros, write_bytes, write_outcome,
-};
+use crate::files::{spliced, with_zeros, write_own, write_read};
 use crate::states::{MOST_WIDTH, formula_of, settings_of, state_of};
-use crate::tally::Tally;
-use crate::words::{Stop, Words, bytes_of};
+use check_cases::{Stop, Subject, Words, bytes_of};
 use grid_address::{Cell, Format};
 use range_names::Names;
 use sheet_store::{CellState, SavedSheet, Settings, Store};
 use std::alloc::Global;
-use std::io::Write;
 use wk1_file::write;
 
-/// A sheet, the file at hand, and what came of the lines so far.
+/// A sheet, and the file at hand.
 #[derive(Drop)]
 pub struct Desk {
     saved: SavedSheet,
     file: Vec<u8>,
-    tally: Tally,
     alloc: Global,
 }
 
@@ -32,21 +27,12 @@ fn fresh(alloc: Global) -> SavedSheet {
     }
 }
 
-// Notes where a sheet's own file isn't read as that sheet.
-fn note(is_sound: bool, found: &mut Vec<u8>) -> Result<(), Stop> {
-    if !is_sound {
-        found.extend_from_slice(b", which is not read back")?;
-    }
-    Ok(())
-}
-
 impl Desk {
     /// A fresh sheet, and an empty file.
     pub fn new(alloc: Global) -> Desk {
         Desk {
             saved: fresh(alloc),
             file: Vec::new(alloc),
-            tally: Tally::new(),
             alloc,
         }
     }
@@ -102,62 +88,26 @@ impl Desk {
         Ok(())
     }
 
-    // Writes the sheet's file, and tells it where it isn't the line's, or isn't read back.
-    fn save(&mut self, words: Words) -> Result<Option<Vec<u8>>, Stop> {
-        self.file = bytes_of(self.alloc, words.rest())?;
-        self.tally.add_written();
-        let written = write(self.alloc, &self.saved)?;
-        let is_sound = is_read_back(self.alloc, written.as_slice())?;
-        if is_sound && written.as_slice() == self.file.as_slice() {
-            return Ok(None);
-        }
-        let mut found = Vec::new(self.alloc);
-        write_bytes(written.as_slice(), &mut found)?;
-        note(is_sound, &mut found)?;
-        Ok(Some(found))
-    }
-
-    // Counts what reading a file came to, and whether its sheet's own file is read back.
-    fn count(&mut self, outcome: &Outcome) -> Result<bool, Stop> {
-        match outcome {
-            Outcome::Fault(fault) => {
-                self.tally.add_fault(*fault);
-                Ok(true)
-            }
-            Outcome::Rewritten(bytes) => {
-                self.tally.add_read();
-                Ok(is_read_back(self.alloc, bytes.as_slice())?)
-            }
-        }
-    }
-
-    // Reads a file, and tells what that comes to where it isn't the answer.
-    fn compare(&mut self, file: &[u8], answer: &[u8]) -> Result<Option<Vec<u8>>, Stop> {
-        let outcome = rewritten(self.alloc, file)?;
-        let is_sound = self.count(&outcome)?;
-        let mut found = Vec::new(self.alloc);
-        write_outcome(&outcome, &mut found)?;
-        if is_sound && found.as_slice() == answer {
-            return Ok(None);
-        }
-        note(is_sound, &mut found)?;
-        Ok(Some(found))
+    // Writes the sheet's file, which is at hand then.
+    fn save(&mut self, answer: &mut Vec<u8>) -> Result<(), Stop> {
+        self.file = write(self.alloc, &self.saved)?;
+        write_own(self.alloc, self.file.as_slice(), answer)
     }
 
     // Reads the file at hand with some bytes replaced by others.
-    fn read_damaged(&mut self, words: &mut Words) -> Result<Option<Vec<u8>>, Stop> {
+    fn read_damaged(&self, words: &mut Words, answer: &mut Vec<u8>) -> Result<(), Stop> {
         let at = words.count()?;
         let count = words.count()?;
         let put = bytes_of(self.alloc, words.next())?;
         let file = spliced(self.alloc, self.file.as_slice(), at, count, put.as_slice())?;
-        self.compare(file.as_slice(), words.rest())
+        write_read(self.alloc, file.as_slice(), answer)
     }
 
     // Reads the file at hand with so many bytes of 0 behind it.
-    fn read_long(&mut self, words: &mut Words) -> Result<Option<Vec<u8>>, Stop> {
+    fn read_long(&self, words: &mut Words, answer: &mut Vec<u8>) -> Result<(), Stop> {
         let count = words.count()?;
         let file = with_zeros(self.alloc, self.file.as_slice(), count)?;
-        self.compare(file.as_slice(), words.rest())
+        write_read(self.alloc, file.as_slice(), answer)
     }
 
     // Does what a line says of the sheet and the file, behind its letter.
@@ -176,56 +126,20 @@ impl Desk {
         }
         Ok(())
     }
+}
 
-    // Does what a line says, behind its letter; what is found instead, where it differs.
-    fn work(&mut self, letter: u8, mut words: Words) -> Result<Option<Vec<u8>>, Stop> {
-        match letter {
-            b'=' => self.save(words),
-            b'r' => {
-                let file = with_zeros(self.alloc, self.file.as_slice(), 0)?;
-                self.compare(file.as_slice(), words.rest())
-            }
-            b'd' => self.read_damaged(&mut words),
-            b'z' => self.read_long(&mut words),
-            _ => {
-                self.build(letter, &mut words)?;
-                Ok(None)
-            }
-        }
-    }
-
-    // Prints a line that differs, among the first of them, with the file at hand and what was found.
-    fn tell_different<W: Write>(
-        &mut self,
-        line: &[u8],
-        found: &[u8],
-        out: &mut W,
-    ) -> Result<(), Stop> {
-        if !self.tally.add_different() {
-            return Ok(());
-        }
-        out.write_all(line)?;
-        out.write_all(b"\n  file at hand: ")?;
-        write_bytes(self.file.as_slice(), out)?;
-        out.write_all(b"\n  found: ")?;
-        out.write_all(found)?;
-        out.write_all(b"\n")?;
-        Ok(())
-    }
-
-    /// Does what a line says.
-    pub fn follow<W: Write>(&mut self, line: &[u8], out: &mut W) -> Result<(), Stop> {
+impl Subject for Desk {
+    fn answer(&mut self, alloc: Global, line: &[u8], answer: &mut Vec<u8>) -> Result<(), Stop> {
         let Some((letter, rest)) = line.split_first() else {
             return Err(Stop::Line);
         };
-        match self.work(*letter, Words::of(rest))? {
-            Some(found) => self.tell_different(line, found.as_slice(), out),
-            None => Ok(()),
+        let mut words = Words::of(rest);
+        match *letter {
+            b'f' => self.save(answer),
+            b'r' => write_read(alloc, self.file.as_slice(), answer),
+            b'd' => self.read_damaged(&mut words, answer),
+            b'z' => self.read_long(&mut words, answer),
+            letter => self.build(letter, &mut words),
         }
-    }
-
-    /// Prints what came of the lines.
-    pub fn tell<W: Write>(&self, out: &mut W) -> Result<(), Stop> {
-        self.tally.write(out)
     }
 }

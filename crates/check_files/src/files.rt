@@ -1,32 +1,19 @@
 // Files read and written, and damaged.
 
-use crate::words::Stop;
-use lics_text::Memory;
+use check_cases::Stop;
 use std::alloc::Global;
 use std::io::Write;
 use wk1_file::{Wk1Fault, read, write};
 
-/// What reading a file comes to: the fault, or the bytes that are written of its sheet.
-#[derive(Drop)]
-pub enum Outcome {
-    Fault(Wk1Fault),
-    Rewritten(Vec<u8>),
-}
-
-/// Reads a file, and writes its sheet again.
-pub fn rewritten(alloc: Global, file: &[u8]) -> Result<Outcome, Memory> {
+// Whether a file is read as the sheet whose own file it is.
+fn is_read_back(alloc: Global, file: &[u8]) -> Result<bool, Stop> {
     match read(alloc, file) {
-        Ok(sheet) => Ok(Outcome::Rewritten(write(alloc, &sheet)?)),
-        Err(Wk1Fault::Memory) => Err(Memory),
-        Err(fault) => Ok(Outcome::Fault(fault)),
-    }
-}
-
-/// Whether a file is read as the sheet whose own file it is.
-pub fn is_read_back(alloc: Global, file: &[u8]) -> Result<bool, Memory> {
-    match rewritten(alloc, file)? {
-        Outcome::Rewritten(bytes) => Ok(bytes.as_slice() == file),
-        Outcome::Fault(_) => Ok(false),
+        Ok(sheet) => {
+            let again = write(alloc, &sheet)?;
+            Ok(again.as_slice() == file)
+        }
+        Err(Wk1Fault::Memory) => Err(Stop::Memory),
+        Err(_) => Ok(false),
     }
 }
 
@@ -58,8 +45,8 @@ pub fn with_zeros(alloc: Global, file: &[u8], count: usize) -> Result<Vec<u8>, S
     Ok(bytes)
 }
 
-/// Writes bytes in hexadecimal digits.
-pub fn write_bytes<W: Write>(bytes: &[u8], out: &mut W) -> Result<(), Stop> {
+// Writes bytes in hexadecimal digits.
+fn write_bytes<W: Write>(bytes: &[u8], out: &mut W) -> Result<(), Stop> {
     for byte in bytes {
         write!(out, "{byte:02x}")?;
     }
@@ -86,10 +73,27 @@ fn write_fault<W: Write>(fault: Wk1Fault, out: &mut W) -> Result<(), Stop> {
     Ok(())
 }
 
-/// Writes an outcome as the lines tell it.
-pub fn write_outcome<W: Write>(outcome: &Outcome, out: &mut W) -> Result<(), Stop> {
-    match outcome {
-        Outcome::Fault(fault) => write_fault(*fault, out),
-        Outcome::Rewritten(bytes) => write_bytes(bytes.as_slice(), out),
+/// Writes a sheet's own file, and says so where it isn't read back.
+pub fn write_own<W: Write>(alloc: Global, file: &[u8], out: &mut W) -> Result<(), Stop> {
+    write_bytes(file, out)?;
+    if !is_read_back(alloc, file)? {
+        out.write_all(b", which is not read back")?;
+    }
+    out.write_all(b"\n")?;
+    Ok(())
+}
+
+/// Writes what a file is read as: the bytes of the sheet's own file, or the fault.
+pub fn write_read<W: Write>(alloc: Global, file: &[u8], out: &mut W) -> Result<(), Stop> {
+    match read(alloc, file) {
+        Ok(sheet) => {
+            let own = write(alloc, &sheet)?;
+            write_own(alloc, own.as_slice(), out)
+        }
+        Err(fault) => {
+            write_fault(fault, out)?;
+            out.write_all(b"\n")?;
+            Ok(())
+        }
     }
 }

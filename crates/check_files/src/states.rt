@@ -4,7 +4,7 @@ ghost use Rattle.formula_tree.specs.Values.{is_filled};
 ghost use Rattle.sheet_store.specs.Choices.{is_global_prefix};
 ghost use Rattle.sheet_store.specs.Grid.{IsSound};
 
-use crate::words::{Stop, Words, bytes_of, text_of, whole_of};
+use check_cases::{Stop, Words, bytes_of, text_of, whole_of};
 use fixed_value::{Decimal, Fixed, read_decimal};
 use formula_text::read;
 use formula_tree::{Content, Formula, Value};

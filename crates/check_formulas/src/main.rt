@@ -1,16 +1,18 @@
-//! Reads each line of standard input as the text of a formula and prints the formula's text behind `=`, or behind `<`
+//! Reads the text of a formula in each line of its data and answers the formula's text behind `=`, or behind `<`
 //! where only its front was printed, or the fault behind `!`. The lines stand in the cells F6, A1 and IV8192 in turn.
 //! The stored run compares 5,000 texts with another program's answers.
 #![tactic(auto)]
 
+use check_cases::{Stop, Subject, check};
 use formula_text::{print, read};
 use grid_address::{Cell, Span};
 use lics_text::Line;
 use range_names::{NameFault, Names};
 use std::alloc::Global;
-use std::io::{BufRead, Error, Write};
+use std::io::Write;
 use std::process::ExitCode;
 
+// Where the texts stand in turn.
 const CELLS: [Cell; 3] = [
     Cell { row: 5, col: 5 },
     Cell { row: 0, col: 0 },
@@ -52,6 +54,7 @@ const NAMES: [(&[u8], Cell, Cell); 10] = [
     ),
 ];
 
+// The names that the texts may use, with their spans.
 fn names_in(alloc: Global) -> Result<Names, NameFault> {
     let mut names = Names::new(alloc);
     for (name, first, last) in NAMES {
@@ -60,37 +63,29 @@ fn names_in(alloc: Global) -> Result<Names, NameFault> {
     Ok(names)
 }
 
-fn write_row<W: Write>(
-    alloc: Global,
-    text: &[u8],
-    at: Cell,
-    names: &Names,
-    out: &mut W,
-) -> Result<(), Error> {
-    match read(alloc, text, at, names) {
-        Ok(formula) => {
-            let mut line = Line::new();
-            let whole = print(&formula, at, names, &mut line);
-            out.write_all(if whole { b"=" } else { b"<" })?;
-            out.write_all(line.bytes())?;
-            out.write_all(b"\n")
-        }
-        Err(fault) => writeln!(out, "!{fault:?}"),
-    }
+// Formula texts, of which the next stands in the cell of that place in turn.
+#[derive(Drop)]
+struct Texts {
+    names: Names,
+    turn: usize,
 }
 
-fn write_rows<R: BufRead + Drop, W: Write>(
-    alloc: Global,
-    input: R,
-    names: &Names,
-    out: &mut W,
-) -> Result<(), Error> {
-    let mut row: usize = 0;
-    for text in input.split(alloc, b'\n') {
-        write_row(alloc, text?.as_slice(), CELLS[row % 3], names, out)?;
-        row = row.wrapping_add(1);
+impl Subject for Texts {
+    fn answer(&mut self, alloc: Global, line: &[u8], answer: &mut Vec<u8>) -> Result<(), Stop> {
+        let at = CELLS[self.turn % 3];
+        self.turn = self.turn.wrapping_add(1);
+        match read(alloc, line, at, &self.names) {
+            Ok(formula) => {
+                let mut line = Line::new();
+                let whole = print(&formula, at, &self.names, &mut line);
+                answer.write_all(if whole { b"=" } else { b"<" })?;
+                answer.write_all(line.bytes())?;
+                answer.write_all(b"\n")?;
+            }
+            Err(fault) => writeln!(answer, "!{fault:?}")?,
+        }
+        Ok(())
     }
-    Ok(())
 }
 
 fn main(rt: HostRuntime) -> ExitCode {
@@ -98,9 +93,6 @@ fn main(rt: HostRuntime) -> ExitCode {
     let Ok(names) = names_in(alloc) else {
         return ExitCode::from(1);
     };
-    let mut out = rt.stdout();
-    match write_rows(alloc, rt.reader(), &names, &mut out) {
-        Ok(()) => ExitCode::SUCCESS,
-        Err(_) => ExitCode::from(2),
-    }
+    let mut texts = Texts { names, turn: 0 };
+    check(alloc, &mut texts, rt.reader(), &mut rt.stdout())
 }

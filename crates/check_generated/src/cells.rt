@@ -1,5 +1,6 @@
 // The cells of a worksheet as lines.
 
+use check_cases::Stop;
 use fixed_value::{Decimal, read_decimal};
 use formula_text::print;
 use formula_tree::{Content, Value};
@@ -71,10 +72,8 @@ fn write_state<W: Write>(
 }
 
 /// The lines of all used cells, row by row.
-pub fn write_cells<W: Write>(saved: &SavedSheet, out: &mut W) -> Result<(), Error> {
-    let Ok(cells) = saved.store.cells_in(Span::whole()) else {
-        return out.write_all(b"memory\n");
-    };
+pub fn write_cells<W: Write>(saved: &SavedSheet, out: &mut W) -> Result<(), Stop> {
+    let cells = saved.store.cells_in(Span::whole())?;
     for cell in cells.as_slice() {
         if let Some(state) = saved.store.get(*cell) {
             write_state(state, *cell, &saved.names, out)?;

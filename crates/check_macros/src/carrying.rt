@@ -1,12 +1,13 @@
 // Macros carried out, unit by unit.
-use crate::desk::{SCENE, Stop};
+
 use crate::show::{
-    show_fault, show_handler, show_key, show_place, show_protected, show_span, show_writes, written,
+    show_fault, show_handler, show_key, show_place, show_protected, show_span, show_writes,
 };
+use check_cases::Stop;
+use check_entries::SCENE;
 use formula_eval::{Tally, glance};
 use formula_tree::Value;
 use grid_address::Cell;
-use lics_text::Memory;
 use macro_text::{KeptWords, Spot, Unit, next_unit};
 use macro_words::{Change, Deed, Row, Running, Sweep, return_row, row};
 use sheet_store::SheetFault;
@@ -21,18 +22,10 @@ enum Going {
     Ended,
 }
 
-// What there was memory for.
-fn ample<T>(answer: Result<T, Memory>) -> Result<T, Stop> {
-    match answer {
-        Ok(value) => Ok(value),
-        Err(_) => Err(Stop::Memory),
-    }
-}
-
 // The recalculation behind an edit.
 fn settle(sheet: &mut Sheet) -> Result<(), Stop> {
     if sheet.settings().automatic {
-        return ample(sheet.calc(&SCENE, &mut Tally::new()));
+        sheet.calc(&SCENE, &mut Tally::new())?;
     }
     Ok(())
 }
@@ -67,7 +60,7 @@ fn edited<W: Write>(
 fn passes(sheet: &Sheet, sweep: &Sweep) -> Result<u8, Stop> {
     match &sweep.until {
         None => Ok(sweep.most),
-        Some(formula) => match ample(glance(formula, sweep.at, sheet, &SCENE))? {
+        Some(formula) => match glance(formula, sweep.at, sheet, &SCENE)? {
             Value::Num(number) if number.millionths() != 0 => Ok(1),
             _ => Ok(sweep.most),
         },
@@ -79,7 +72,8 @@ fn swept<W: Write>(sheet: &Sheet, sweep: &Sweep, out: &mut W) -> Result<(), Stop
     let passes = passes(sheet, sweep)?;
     let way = if sweep.by_columns { "columns" } else { "rows" };
     show_span(sweep.span, out)?;
-    written(write!(out, " {way} {passes} "))
+    write!(out, " {way} {passes} ")?;
+    Ok(())
 }
 
 // A change of the sheet.
@@ -92,9 +86,9 @@ fn change<W: Write>(sheet: &mut Sheet, change: &Change, out: &mut W) -> Result<G
             edited(answer, sheet, out)
         }
         Change::Erase(span) => {
-            written(out.write_all(b"-"))?;
+            out.write_all(b"-")?;
             show_span(*span, out)?;
-            written(out.write_all(b" "))?;
+            out.write_all(b" ")?;
             let answer = sheet.erase(*span);
             edited(answer, sheet, out)
         }
@@ -119,11 +113,11 @@ fn carried<W: Write>(
     if change(sheet, &what, out)? == Going::Ended {
         return Ok(Going::Ended);
     }
-    if ample(running.make(after))? {
+    if running.make(after)? {
         show_place(running, out)?;
         Ok(Going::On)
     } else {
-        written(out.write_all(b"stop "))?;
+        out.write_all(b"stop ")?;
         Ok(Going::Ended)
     }
 }
@@ -154,7 +148,7 @@ fn command<W: Write>(
     out: &mut W,
 ) -> Result<Going, Stop> {
     let global = sheet.settings().format;
-    let row = ample(row(alloc, sheet, &SCENE, global, running, &at))?;
+    let row = row(alloc, sheet, &SCENE, global, running, &at)?;
     rowed(sheet, running, row, at.cell, out)
 }
 
@@ -171,7 +165,7 @@ fn step<W: Write>(
     running: &mut Running,
     out: &mut W,
 ) -> Result<Going, Stop> {
-    let (unit, position) = ample(next_unit(alloc, sheet, &SCENE, kept, &running.position))?;
+    let (unit, position) = next_unit(alloc, sheet, &SCENE, kept, &running.position)?;
     running.position = position;
     match unit {
         Unit::Key(key) => {
@@ -180,18 +174,18 @@ fn step<W: Write>(
             Ok(Going::On)
         }
         Unit::Down => {
-            written(out.write_all(b"down "))?;
+            out.write_all(b"down ")?;
             show_place(running, out)?;
             Ok(Going::On)
         }
         Unit::Return => {
-            written(out.write_all(b"return "))?;
-            let row = ample(return_row(alloc, sheet, &SCENE, running))?;
+            out.write_all(b"return ")?;
+            let row = return_row(alloc, sheet, &SCENE, running)?;
             let cell = cell_of(running);
             rowed(sheet, running, row, cell, out)
         }
         Unit::Command(at) => {
-            written(out.write_all(b"word "))?;
+            out.write_all(b"word ")?;
             command(alloc, sheet, running, at, out)
         }
         Unit::Fault(fault) => {
@@ -214,9 +208,11 @@ pub fn run<W: Write>(
     let mut running = Running::begun_at(alloc, cell);
     for _ in 0..most {
         if step(alloc, sheet, &mut kept, &mut running, out)? == Going::Ended {
-            return written(out.write_all(b"\n"));
+            out.write_all(b"\n")?;
+            return Ok(());
         }
     }
     show_handler(running.handler, out)?;
-    written(out.write_all(b"\n"))
+    out.write_all(b"\n")?;
+    Ok(())
 }

@@ -1,15 +1,27 @@
 // What each line does.
+
 use crate::carrying::run;
-use crate::desk::{Stop, byte_of, cell_of, enter, parts, span_of};
+use check_cases::{Stop, Subject, Words};
+use check_entries::{SCENE, writes_of};
+use formula_eval::Tally;
 use grid_address::Format;
 use std::alloc::Global;
-use std::io::{BufRead, Write};
 use work_sheet::Sheet;
 
+// Enters what texts spell, and recalculates.
+fn enter(alloc: Global, sheet: &mut Sheet, bytes: &[u8]) -> Result<(), Stop> {
+    let writes = writes_of(alloc, sheet.names(), bytes)?;
+    if sheet.write(&writes).is_err() {
+        return Err(Stop::Memory);
+    }
+    sheet.calc(&SCENE, &mut Tally::new())?;
+    Ok(())
+}
+
 // A name for a span.
-fn name(sheet: &mut Sheet, bytes: &[u8]) -> Result<(), Stop> {
-    let (span, name) = parts(bytes)?;
-    match sheet.create_name(name, span_of(span)?) {
+fn name(sheet: &mut Sheet, mut words: Words) -> Result<(), Stop> {
+    let span = words.span()?;
+    match sheet.create_name(words.rest(), span) {
         Ok(()) => Ok(()),
         Err(_) => Err(Stop::Line),
     }
@@ -19,21 +31,21 @@ fn name(sheet: &mut Sheet, bytes: &[u8]) -> Result<(), Stop> {
 const MOST_WIDTH: u8 = 240;
 
 // A width for a column.
-fn widen(sheet: &mut Sheet, bytes: &[u8]) -> Result<(), Stop> {
-    let (cell, width) = parts(bytes)?;
-    let width = byte_of(width)?;
+fn widen(sheet: &mut Sheet, mut words: Words) -> Result<(), Stop> {
+    let cell = words.cell()?;
+    let width = words.byte()?;
     if width < 1 || width > MOST_WIDTH {
         return Err(Stop::Line);
     }
-    sheet.set_width(cell_of(cell)?.col, Some(width));
+    sheet.set_width(cell.col, Some(width));
     Ok(())
 }
 
 // A format for the sheet.
-fn reformat(sheet: &mut Sheet, bytes: &[u8]) -> Result<(), Stop> {
+fn reformat(sheet: &mut Sheet, mut words: Words) -> Result<(), Stop> {
     let mut settings = *sheet.settings();
     settings.are_within();
-    settings.format = Format(byte_of(bytes)?);
+    settings.format = Format(words.byte()?);
     sheet.set_settings(settings);
     Ok(())
 }
@@ -61,38 +73,40 @@ fn set(sheet: &mut Sheet, letters: &[u8]) -> Result<(), Stop> {
     Ok(())
 }
 
-// Does what a line says.
-fn work<W: Write>(alloc: Global, sheet: &mut Sheet, line: &[u8], out: &mut W) -> Result<(), Stop> {
-    match line {
-        [b':'] => {
-            *sheet = Sheet::new(alloc);
-            Ok(())
+/// A sheet, whose macros are run.
+#[derive(Drop)]
+pub struct Desk {
+    sheet: Sheet,
+}
+
+impl Desk {
+    /// A fresh sheet.
+    pub fn new(alloc: Global) -> Desk {
+        Desk {
+            sheet: Sheet::new(alloc),
         }
-        [b'x', rest @ ..] => enter(alloc, sheet, rest),
-        [b'+', rest @ ..] => name(sheet, rest),
-        [b'w', rest @ ..] => widen(sheet, rest),
-        [b'g', rest @ ..] => reformat(sheet, rest),
-        [b's', rest @ ..] => set(sheet, rest),
-        [b'r', rest @ ..] => {
-            let (cell, most) = parts(rest)?;
-            run(alloc, sheet, cell_of(cell)?, byte_of(most)?, out)
-        }
-        _ => Err(Stop::Line),
     }
 }
 
-/// Works through the lines.
-pub fn work_through<R: BufRead + Drop, W: Write>(
-    alloc: Global,
-    input: R,
-    out: &mut W,
-) -> Result<(), Stop> {
-    let mut sheet = Sheet::new(alloc);
-    for line in input.split(alloc, b'\n') {
+impl Subject for Desk {
+    fn answer(&mut self, alloc: Global, line: &[u8], answer: &mut Vec<u8>) -> Result<(), Stop> {
+        let sheet = &mut self.sheet;
         match line {
-            Ok(line) => work(alloc, &mut sheet, line.as_slice(), out)?,
-            Err(_) => return Err(Stop::Stream),
+            [b':'] => {
+                *self = Desk::new(alloc);
+                Ok(())
+            }
+            [b'x', rest @ ..] => enter(alloc, sheet, rest),
+            [b'+', rest @ ..] => name(sheet, Words::of(rest)),
+            [b'w', rest @ ..] => widen(sheet, Words::of(rest)),
+            [b'g', rest @ ..] => reformat(sheet, Words::of(rest)),
+            [b's', rest @ ..] => set(sheet, rest),
+            [b'r', rest @ ..] => {
+                let mut words = Words::of(rest);
+                let cell = words.cell()?;
+                run(alloc, sheet, cell, words.byte()?, answer)
+            }
+            _ => Err(Stop::Line),
         }
     }
-    Ok(())
 }

@@ -1,76 +1,31 @@
 // How a run is printed.
-use crate::desk::Stop;
-use formula_text::print;
-use formula_tree::{Content, Formula};
-use grid_address::{Cell, Format, Span, cell_text};
+
+use check_cases::Stop;
+use check_entries::write_content;
+use grid_address::{Cell, Span, cell_text};
 use key_words::Key;
-use lics_text::Line;
 use macro_text::{MacroFault, Spot};
 use macro_words::{Frame, Handler, Running};
 use range_names::Names;
 use sheet_store::{Write as Entry, Writes};
-use std::io::{Error, Write};
-
-/// What came of writing to the output.
-pub fn written(answer: Result<(), Error>) -> Result<(), Stop> {
-    match answer {
-        Ok(()) => Ok(()),
-        Err(_) => Err(Stop::Stream),
-    }
-}
-
-// A formula as it would be typed in its cell.
-fn show_formula<W: Write>(
-    formula: &Formula,
-    cell: Cell,
-    names: &Names,
-    out: &mut W,
-) -> Result<(), Error> {
-    let mut line = Line::new();
-    print(formula, cell, names, &mut line);
-    out.write_all(b"=")?;
-    out.write_all(line.bytes())
-}
-
-// A content.
-fn show_content<W: Write>(
-    content: &Content,
-    cell: Cell,
-    names: &Names,
-    out: &mut W,
-) -> Result<(), Error> {
-    match content {
-        Content::Blank => Ok(()),
-        Content::Number(number) => write!(out, "#{}", number.millionths()),
-        Content::Label(prefix, text) => {
-            out.write_all(&[prefix.byte()])?;
-            out.write_all(text.bytes())
-        }
-        Content::Formula(formula) => show_formula(formula, cell, names, out),
-    }
-}
-
-// A format byte, or nothing for the cell's own.
-fn show_format<W: Write>(format: Option<Format>, out: &mut W) -> Result<(), Error> {
-    match format {
-        Some(format) => write!(out, "({})", format.0),
-        None => Ok(()),
-    }
-}
+use std::io::Write;
 
 // What is written to a cell.
-fn show_entry<W: Write>(entry: &Entry, names: &Names, out: &mut W) -> Result<(), Error> {
+fn show_entry<W: Write>(entry: &Entry, names: &Names, out: &mut W) -> Result<(), Stop> {
     out.write_all(cell_text(entry.cell).bytes())?;
-    show_format(entry.format, out)?;
-    show_content(&entry.content, entry.cell, names, out)?;
-    out.write_all(b"\t")
+    if let Some(format) = entry.format {
+        write!(out, "({})", format.0)?;
+    }
+    write_content(&entry.content, entry.cell, names, out)?;
+    out.write_all(b"\t")?;
+    Ok(())
 }
 
 /// What is written, a tab behind each.
 pub fn show_writes<W: Write>(writes: &Writes, names: &Names, out: &mut W) -> Result<(), Stop> {
     for place in 0..writes.len() {
         if let Some(entry) = writes.get(place) {
-            written(show_entry(entry, names, out))?;
+            show_entry(entry, names, out)?;
         }
     }
     Ok(())
@@ -78,49 +33,53 @@ pub fn show_writes<W: Write>(writes: &Writes, names: &Names, out: &mut W) -> Res
 
 // A cell.
 fn show_cell<W: Write>(cell: Cell, out: &mut W) -> Result<(), Stop> {
-    written(out.write_all(cell_text(cell).bytes()))
+    out.write_all(cell_text(cell).bytes())?;
+    Ok(())
 }
 
 /// The corners of a range.
 pub fn show_span<W: Write>(span: Span, out: &mut W) -> Result<(), Stop> {
     show_cell(span.first, out)?;
-    written(out.write_all(b".."))?;
+    out.write_all(b"..")?;
     show_cell(span.last, out)
 }
 
 /// A key: a byte by its number, Alt with that of its letter, and any other by its name.
 pub fn show_key<W: Write>(key: Key, out: &mut W) -> Result<(), Stop> {
-    written(match key {
-        Key::Byte(byte) => write!(out, "{} ", byte.get()),
-        Key::Alt(letter) => write!(out, "Alt{} ", letter.get()),
-        _ => write!(out, "{key:?} "),
-    })
+    match key {
+        Key::Byte(byte) => write!(out, "{} ", byte.get())?,
+        Key::Alt(letter) => write!(out, "Alt{} ", letter.get())?,
+        _ => write!(out, "{key:?} ")?,
+    }
+    Ok(())
 }
 
 // A cell and an offset.
 fn show_spot<W: Write>(spot: Spot, out: &mut W) -> Result<(), Stop> {
     show_cell(spot.cell, out)?;
-    written(write!(out, "+{}", spot.offset))
+    write!(out, "+{}", spot.offset)?;
+    Ok(())
 }
 
 // A call or a loop.
 fn show_frame<W: Write>(frame: &Frame, out: &mut W) -> Result<(), Stop> {
     match frame {
         Frame::Call(word, back) => {
-            written(out.write_all(b"<"))?;
+            out.write_all(b"<")?;
             show_spot(*word, out)?;
-            written(out.write_all(b","))?;
+            out.write_all(b",")?;
             show_spot(*back, out)
         }
         Frame::Loop(repeated) => {
-            written(out.write_all(b"["))?;
+            out.write_all(b"[")?;
             show_spot(repeated.behind, out)?;
-            written(out.write_all(b","))?;
+            out.write_all(b",")?;
             show_cell(repeated.counter, out)?;
-            written(out.write_all(b","))?;
+            out.write_all(b",")?;
             show_cell(repeated.routine, out)?;
             let (bound, step) = (repeated.bound.millionths(), repeated.step.millionths());
-            written(write!(out, ",{bound},{step}"))
+            write!(out, ",{bound},{step}")?;
+            Ok(())
         }
     }
 }
@@ -129,12 +88,13 @@ fn show_frame<W: Write>(frame: &Frame, out: &mut W) -> Result<(), Stop> {
 pub fn show_place<W: Write>(running: &Running, out: &mut W) -> Result<(), Stop> {
     let position = running.position;
     show_spot(position.spot, out)?;
-    written(write!(out, "*{}", position.typed))?;
+    write!(out, "*{}", position.typed)?;
     if let Some(frame) = running.frames.innermost() {
-        written(write!(out, " {}", running.frames.len()))?;
+        write!(out, " {}", running.frames.len())?;
         show_frame(&frame, out)?;
     }
-    written(out.write_all(b"; "))
+    out.write_all(b"; ")?;
+    Ok(())
 }
 
 /// Where a macro goes on after an error.
@@ -142,11 +102,11 @@ pub fn show_handler<W: Write>(handler: Option<Handler>, out: &mut W) -> Result<(
     let Some(handler) = handler else {
         return Ok(());
     };
-    written(out.write_all(b"error "))?;
+    out.write_all(b"error ")?;
     show_cell(handler.place, out)?;
     match handler.message {
         Some(cell) => {
-            written(out.write_all(b","))?;
+            out.write_all(b",")?;
             show_cell(cell, out)
         }
         None => Ok(()),
@@ -155,13 +115,13 @@ pub fn show_handler<W: Write>(handler: Option<Handler>, out: &mut W) -> Result<(
 
 /// A protected cell.
 pub fn show_protected<W: Write>(cell: Cell, out: &mut W) -> Result<(), Stop> {
-    written(out.write_all(b"Protected "))?;
+    out.write_all(b"Protected ")?;
     show_cell(cell, out)
 }
 
 // A fault by its name and the cell of its word.
 fn show_named<W: Write>(name: &str, cell: Cell, out: &mut W) -> Result<(), Stop> {
-    written(write!(out, "?{name} "))?;
+    write!(out, "?{name} ")?;
     show_cell(cell, out)
 }
 

@@ -1,77 +1,80 @@
-//! Works through numbers of the whole range. Without a word it prints, for each block of 200 of 20,000
-//! numbers, the sum of their double bits, which the stored run compares with sums of the host's doubles, and
-//! then 5,000 numbers as cells show them, which it compares with another program's.
-//! With the word `mul` or `div` it does a million of these and prints the sum of the results, for bench/numbers. With
-//! the word `tenths`, `whole`, `rounded`, `fixed` or `hidden` it shows 10,000 numbers of that kind, for bench/digits.
+//! Works with numbers of the whole range, which the lines of its data tell in millionths. To `d-1500000` it answers
+//! the bits of the number's double as a decimal number, and to `s-1500000 113 9` the number as a cell of that format
+//! byte and that width shows it, between bars. The stored run compares 20,000 doubles with the host's, and 5,000
+//! shown numbers with another program's. With the word `tenths`, `whole`, `rounded`, `fixed` or `hidden` it shows
+//! 10,000 numbers of that kind, for bench/digits.
 #![tactic(auto)]
 
-mod numbers;
-mod shown;
 mod timed;
 
-use fixed_value::to_double_bits;
-use numbers::Numbers;
-use shown::print_shown;
+use cell_format::show_number;
+use check_cases::{Stop, Subject, Words, check, whole_of};
+use fixed_value::{Fixed, to_double_bits};
+use grid_address::Format;
+use lics_text::Line;
+use std::alloc::Global;
 use std::env;
 use std::io::Write;
 use std::process::ExitCode;
 use timed::{kind_of, shown_sum};
 
-const BLOCKS: u32 = 100;
+// What shows numbers.
+#[derive(Drop)]
+struct Numbers {}
 
-const IN_BLOCK: u32 = 200;
-
-const OPERATIONS: u32 = 1_000_000;
-
-// The sum of the double bits of the next numbers.
-fn block_sum(numbers: &mut Numbers) -> u64 {
-    let mut sum: u64 = 0;
-    for _ in 0..IN_BLOCK {
-        sum = sum.wrapping_add(to_double_bits(numbers.next()));
+// The next word as a number in millionths.
+fn number_in(words: &mut Words) -> Result<Fixed, Stop> {
+    match Fixed::of(whole_of(words.next())) {
+        Some(number) => Ok(number),
+        None => Err(Stop::Line),
     }
-    sum
 }
 
-fn print_blocks<W: Write>(out: &mut W) -> Result<(), std::io::Error> {
-    let mut numbers = Numbers::new();
-    for _ in 0..BLOCKS {
-        writeln!(out, "{}", block_sum(&mut numbers))?;
-    }
-    print_shown(out)
+// Writes a number as a cell shows it.
+fn write_shown<W: Write>(words: &mut Words, out: &mut W) -> Result<(), Stop> {
+    let number = number_in(words)?;
+    let format = Format(words.byte()?);
+    let width = words.byte()?;
+    let mut line = Line::new();
+    show_number(number, format, width, &mut line);
+    out.write_all(b"|")?;
+    out.write_all(line.bytes())?;
+    out.write_all(b"|\n")?;
+    Ok(())
 }
 
-// The sum of the results of a million products, or quotients.
-fn operations_sum(divides: bool) -> i64 {
-    let mut numbers = Numbers::new();
-    let mut sum: i64 = 0;
-    for _ in 0..OPERATIONS {
-        let x = numbers.next();
-        let y = numbers.next();
-        let result = if divides { x.div(y) } else { x.mul(y) };
-        if let Some(value) = result {
-            sum = sum.wrapping_add(value.millionths());
+impl Subject for Numbers {
+    fn answer(&mut self, _alloc: Global, line: &[u8], answer: &mut Vec<u8>) -> Result<(), Stop> {
+        match line {
+            [b'd', rest @ ..] => {
+                let number = number_in(&mut Words::of(rest))?;
+                writeln!(answer, "{}", to_double_bits(number))?;
+                Ok(())
+            }
+            [b's', rest @ ..] => write_shown(&mut Words::of(rest), answer),
+            _ => Err(Stop::Line),
         }
     }
-    sum
+}
+
+// The work that a word names, for the bench.
+fn tell_sum<W: Write>(word: &str, out: &mut W) -> ExitCode {
+    let Some(kind) = kind_of(word) else {
+        return ExitCode::from(3);
+    };
+    match writeln!(out, "{}", shown_sum(kind)) {
+        Ok(()) => ExitCode::SUCCESS,
+        Err(_) => ExitCode::from(2),
+    }
 }
 
 fn main(rt: HostRuntime) -> ExitCode {
     let mut out = rt.stdout();
-    let printed = match env::args(&rt) {
+    match env::args(&rt) {
         Ok(args) => match args.skip(1).next() {
-            Some(word) if word.as_str() == "mul" => writeln!(out, "{}", operations_sum(false)),
-            Some(word) if word.as_str() == "div" => writeln!(out, "{}", operations_sum(true)),
-            Some(word) => match kind_of(word.as_str()) {
-                Some(kind) => writeln!(out, "{}", shown_sum(kind)),
-                None => return ExitCode::from(1),
-            },
-            None => print_blocks(&mut out),
+            Some(word) => tell_sum(word.as_str(), &mut out),
+            None => check(rt.alloc(), &mut Numbers {}, rt.reader(), &mut out),
         },
-        Err(_) => return ExitCode::from(1),
-    };
-    if printed.is_ok() {
-        ExitCode::SUCCESS
-    } else {
-        ExitCode::from(2)
+        Err(_) => ExitCode::from(1),
     }
 }

@@ -6,10 +6,13 @@ use fixed_value::Fixed;
 use grid_address::Format;
 use lics_text::Line;
 
+// How many numbers are shown.
 const CELLS: u32 = 10_000;
 
+// The width of their cells.
 const WIDTH: u8 = 9;
 
+// Two decimals, without separators.
 const TWO_DECIMALS: Format = Format(0x02);
 
 /// Numbers in steps of one, and how they are shown.

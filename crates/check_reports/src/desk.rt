@@ -1,8 +1,8 @@
 // A worksheet, and what the lines do with it.
-ghost use Rattle.std.specs.Prelude.{◌≡◌, ◌≤◌, IfSome};
+ghost use Rattle.std.specs.Prelude.{◌≤◌, IfOk};
 
 use crate::states::{state_in, text_in};
-use crate::words::Words;
+use check_cases::{Stop, Subject, Words, bytes_of};
 use grid_address::{Cell, Format, Span};
 use outside_world::ByteList;
 use print_report::{PrintFault, PrintSettings, report};
@@ -12,54 +12,77 @@ use sheet_store::{SavedSheet, Settings, Store};
 use std::alloc::Global;
 use std::io::{Error, Write};
 
+/// A worksheet.
 #[derive(Drop)]
 pub struct Desk {
     saved: SavedSheet,
 }
 
+// How many rows a sheet has.
+const ROWS: usize = 8192;
+
+// The widest that a column may be.
+const MOST_WIDTH: u8 = 240;
+
+// The last day of the calendar.
+const LAST_DAY: usize = 73_050;
+
 // A column and a row.
-fn cell_in(words: &mut Words) -> Cell {
-    let col = words.byte();
-    let row = (words.number().unsigned_abs() % 8192) as u16;
-    Cell { row, col }
+fn cell_in(words: &mut Words) -> Result<Cell, Stop> {
+    let col = words.byte()?;
+    let row = words.count()?;
+    if row >= ROWS {
+        return Err(Stop::Line);
+    }
+    Ok(Cell {
+        row: row as u16,
+        col,
+    })
 }
 
 // Two cells as corners.
-fn span_in(words: &mut Words) -> Span {
-    let first = cell_in(words);
-    Span::of(first, cell_in(words))
+fn span_in(words: &mut Words) -> Result<Span, Stop> {
+    let first = cell_in(words)?;
+    Ok(Span::of(first, cell_in(words)?))
 }
 
 // A width of 1 to 240.
-fn width_in(words: &mut Words) -> u8
-    ensures some { 1 ≤ result }
-    ensures most { result ≤ 240 }
+fn width_in(words: &mut Words) -> Result<u8, Stop>
+    ensures some { IfOk result (λ w. 1 ≤ w) }
+    ensures most { IfOk result (λ w. w ≤ 240) }
 {
-    words.byte().clamp(1, 240)
+    let width = words.byte()?;
+    if width < 1 || width > MOST_WIDTH {
+        return Err(Stop::Line);
+    }
+    Ok(width)
 }
 
-// A day, and none outside the calendar.
-fn moment_in(words: &mut Words) -> Moment {
-    let day = words.number().unsigned_abs();
-    if day < 1 || day > 73_050 {
-        return Moment::unknown();
+// A day; 0 stands for none.
+fn moment_in(words: &mut Words) -> Result<Moment, Stop> {
+    let day = words.count()?;
+    if day < 1 {
+        return Ok(Moment::unknown());
     }
-    Moment {
+    if day > LAST_DAY {
+        return Err(Stop::Line);
+    }
+    Ok(Moment {
         day: Some(day as u32),
         second: 0,
-    }
+    })
 }
 
 // Margins, lines and texts.
-fn settings_in(alloc: Global, words: &mut Words) -> Option<PrintSettings> {
-    let left = words.byte();
-    let right = words.byte();
-    let top = words.byte();
-    let bottom = words.byte();
-    let length = words.byte();
+fn settings_in(alloc: Global, words: &mut Words) -> Result<PrintSettings, Stop> {
+    let left = words.byte()?;
+    let right = words.byte()?;
+    let top = words.byte()?;
+    let bottom = words.byte()?;
+    let length = words.byte()?;
     let header = text_in(alloc, words)?;
     let footer = text_in(alloc, words)?;
-    Some(PrintSettings {
+    Ok(PrintSettings {
         header,
         footer,
         left,
@@ -93,18 +116,19 @@ fn write_report<W: Write>(
     made: Result<ByteList, PrintFault>,
     is_whole: bool,
     out: &mut W,
-) -> Result<(), Error> {
+) -> Result<(), Stop> {
     match made {
-        Ok(list) if is_whole => write_whole(list.bytes(), out),
-        Ok(list) => writeln!(out, "{} {:016x}", list.len(), sum_of(list.bytes())),
-        Err(PrintFault::PageTooSmall) => out.write_all(b"page too small\n"),
-        Err(PrintFault::TooLong) => out.write_all(b"too long\n"),
-        Err(PrintFault::Memory) => out.write_all(b"memory\n"),
+        Ok(list) if is_whole => write_whole(list.bytes(), out)?,
+        Ok(list) => writeln!(out, "{} {:016x}", list.len(), sum_of(list.bytes()))?,
+        Err(PrintFault::PageTooSmall) => out.write_all(b"page too small\n")?,
+        Err(PrintFault::TooLong) => out.write_all(b"too long\n")?,
+        Err(PrintFault::Memory) => return Err(Stop::Memory),
     }
+    Ok(())
 }
 
 impl Desk {
-    // An empty worksheet.
+    /// An empty worksheet.
     pub fn new(alloc: Global) -> Desk {
         Desk {
             saved: SavedSheet {
@@ -116,10 +140,10 @@ impl Desk {
     }
 
     // Begins a worksheet of this width and format.
-    fn clear(&mut self, alloc: Global, words: &mut Words) {
+    fn clear(&mut self, alloc: Global, words: &mut Words) -> Result<(), Stop> {
         *self = Desk::new(alloc);
-        let width = width_in(words);
-        let format = Format(words.byte());
+        let width = width_in(words)?;
+        let format = Format(words.byte()?);
         let fresh = Settings::fresh();
         self.saved.settings = Settings {
             automatic: fresh.automatic,
@@ -131,32 +155,31 @@ impl Desk {
             pointer: fresh.pointer,
             order: fresh.order,
         };
+        Ok(())
     }
 
-    // Puts a cell; a line that says none is told.
-    fn put<W: Write>(
-        &mut self,
-        alloc: Global,
-        words: &mut Words,
-        out: &mut W,
-    ) -> Result<(), Error> {
-        let cell = cell_in(words);
-        let Some(state) = state_in(alloc, words, cell, &self.saved.names) else {
-            return out.write_all(b"no cell\n");
-        };
-        match self.saved.store.put(cell, state) {
-            Ok(()) => Ok(()),
-            Err(_) => out.write_all(b"memory\n"),
-        }
+    // Puts a cell.
+    fn put(&mut self, alloc: Global, words: &mut Words) -> Result<(), Stop> {
+        let cell = cell_in(words)?;
+        let state = state_in(alloc, words, cell, &self.saved.names)?;
+        self.saved.store.put(cell, state)?;
+        Ok(())
     }
 
     // Names a span.
-    fn name<W: Write>(&mut self, words: &mut Words, out: &mut W) -> Result<(), Error> {
-        let name = words.bytes();
-        match self.saved.names.create(name.bytes(), span_in(words)) {
+    fn name(&mut self, alloc: Global, words: &mut Words) -> Result<(), Stop> {
+        let name = bytes_of(alloc, words.next())?;
+        match self.saved.names.create(name.as_slice(), span_in(words)?) {
             Ok(()) => Ok(()),
-            Err(_) => out.write_all(b"no name\n"),
+            Err(_) => Err(Stop::Line),
         }
+    }
+
+    // Gives a column a width of its own.
+    fn widen(&mut self, words: &mut Words) -> Result<(), Stop> {
+        let col = words.byte()?;
+        self.saved.store.set_width(col, Some(width_in(words)?));
+        Ok(())
     }
 
     // Prints a report of a range.
@@ -166,42 +189,29 @@ impl Desk {
         words: &mut Words,
         is_whole: bool,
         out: &mut W,
-    ) -> Result<(), Error> {
-        let range = span_in(words);
-        let now = moment_in(words);
-        let Some(set) = settings_in(alloc, words) else {
-            return out.write_all(b"no text\n");
-        };
+    ) -> Result<(), Stop> {
+        let range = span_in(words)?;
+        let now = moment_in(words)?;
+        let set = settings_in(alloc, words)?;
         write_report(report(alloc, range, &set, &self.saved, &now), is_whole, out)
     }
+}
 
-    // Does what a line says.
-    pub fn follow<W: Write>(
-        &mut self,
-        alloc: Global,
-        line: &[u8],
-        out: &mut W,
-    ) -> Result<(), Error> {
+impl Subject for Desk {
+    fn answer(&mut self, alloc: Global, line: &[u8], answer: &mut Vec<u8>) -> Result<(), Stop> {
         let mut words = Words::of(line);
         match words.next() {
-            b"n" => {
-                self.clear(alloc, &mut words);
-                Ok(())
-            }
-            b"w" => {
-                let col = words.byte();
-                self.saved.store.set_width(col, Some(width_in(&mut words)));
-                Ok(())
-            }
+            b"n" => self.clear(alloc, &mut words),
+            b"w" => self.widen(&mut words),
             b"h" => {
-                self.saved.store.set_hidden(words.byte(), true);
+                self.saved.store.set_hidden(words.byte()?, true);
                 Ok(())
             }
-            b"m" => self.name(&mut words, out),
-            b"c" => self.put(alloc, &mut words, out),
-            b"p" => self.print(alloc, &mut words, false, out),
-            b"q" => self.print(alloc, &mut words, true, out),
-            _ => out.write_all(b"no row\n"),
+            b"m" => self.name(alloc, &mut words),
+            b"c" => self.put(alloc, &mut words),
+            b"p" => self.print(alloc, &mut words, false, answer),
+            b"q" => self.print(alloc, &mut words, true, answer),
+            _ => Err(Stop::Line),
         }
     }
 }

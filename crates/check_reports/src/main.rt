@@ -1,5 +1,6 @@
-//! Reads lines that make worksheets and prints reports of them. The stored run compares 1,000 reports of random
-//! worksheets with another program's, by their length and their sum, some others whole, and one of the most bytes.
+//! Makes worksheets as the lines of its data tell, and answers reports of them. The stored run compares 1,000 reports
+//! of random worksheets with another program's, by their length and their sum, some others whole, and one of the most
+//! bytes.
 //!
 //! A line's words are what is done and what it takes, bytes in hexadecimal digits: `n WIDTH FORMAT` for a new
 //! worksheet, `w COLUMN WIDTH` for a column's own width, `h COLUMN` to hide one, `m NAME COLUMN ROW COLUMN ROW` for a
@@ -10,31 +11,13 @@
 
 mod desk;
 mod states;
-mod words;
 
+use check_cases::check;
 use desk::Desk;
-use std::alloc::Global;
-use std::io::{BufRead, Error, Write};
 use std::process::ExitCode;
 
-// Writes what each line asks for.
-fn write_rows<R: BufRead + Drop, W: Write>(
-    alloc: Global,
-    rows: R,
-    out: &mut W,
-) -> Result<(), Error> {
-    let mut desk = Desk::new(alloc);
-    for row in rows.split(alloc, b'\n') {
-        let row = row?;
-        desk.follow(alloc, row.as_slice(), out)?;
-    }
-    Ok(())
-}
-
 fn main(rt: HostRuntime) -> ExitCode {
-    let mut out = rt.stdout();
-    match write_rows(rt.alloc(), rt.reader(), &mut out) {
-        Ok(()) => ExitCode::SUCCESS,
-        Err(_) => ExitCode::from(2),
-    }
+    let alloc = rt.alloc();
+    let mut desk = Desk::new(alloc);
+    check(alloc, &mut desk, rt.reader(), &mut rt.stdout())
 }

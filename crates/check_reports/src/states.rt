@@ -1,9 +1,9 @@
 // The state of a cell, by the words of its line.
-ghost use Rattle.std.specs.Prelude.{◌≡◌, true, IfOk, IfSome};
+ghost use Rattle.std.specs.Prelude.{◌≡◌, true, IfOk};
 ghost use Rattle.formula_tree.specs.Values.{is_filled};
 ghost use Rattle.sheet_store.specs.Grid.{IsSound};
 
-use crate::words::Words;
+use check_cases::{Stop, Words, bytes_of, text_of, whole_of};
 use fixed_value::Fixed;
 use formula_text::read;
 use formula_tree::{Content, Formula, Value};
@@ -14,20 +14,17 @@ use sheet_store::CellState;
 use std::alloc::Global;
 
 // A number in millionths.
-fn fixed_in(words: &mut Words) -> Fixed {
-    match Fixed::of(words.number()) {
-        Some(value) => value,
-        None => Fixed::ZERO,
+fn fixed_in(words: &mut Words) -> Result<Fixed, Stop> {
+    match Fixed::of(whole_of(words.next())) {
+        Some(value) => Ok(value),
+        None => Err(Stop::Line),
     }
 }
 
-// A text, in hexadecimal digits.
-pub fn text_in(alloc: Global, words: &mut Words) -> Option<Text> {
-    let line = words.bytes();
-    match Text::from_bytes(alloc, line.bytes()) {
-        Ok(text) => Some(text),
-        Err(_) => None,
-    }
+/// A text, in hexadecimal digits.
+pub fn text_in(alloc: Global, words: &mut Words) -> Result<Text, Stop> {
+    let bytes = bytes_of(alloc, words.next())?;
+    text_of(alloc, bytes.as_slice())
 }
 
 // A number's state.
@@ -66,28 +63,27 @@ fn formula_state(formula: Formula, value: Value, format: Format) -> CellState
 }
 
 // A formula's value.
-fn value_in(alloc: Global, words: &mut Words) -> Value {
+fn value_in(alloc: Global, words: &mut Words) -> Result<Value, Stop>
+    ensures { IfOk result (λ v. is_filled v ≡ true) }
+{
     match words.next() {
-        b"n" => Value::Num(fixed_in(words)),
-        b"s" => match text_in(alloc, words) {
-            Some(text) => Value::Str(text),
-            None => Value::Err,
-        },
-        b"a" => Value::Na,
-        _ => Value::Err,
+        b"n" => Ok(Value::Num(fixed_in(words)?)),
+        b"s" => Ok(Value::Str(text_in(alloc, words)?)),
+        b"e" => Ok(Value::Err),
+        b"a" => Ok(Value::Na),
+        _ => Err(Stop::Line),
     }
 }
 
 // A label, by its prefix byte and text.
-fn label_in(alloc: Global, words: &mut Words, format: Format) -> Option<CellState>
-    ensures { IfSome result IsSound }
+fn label_in(alloc: Global, words: &mut Words, format: Format) -> Result<CellState, Stop>
+    ensures { IfOk result IsSound }
 {
-    let prefix = LabelPrefix::of(words.byte())?;
+    let Some(prefix) = LabelPrefix::of(words.byte()?) else {
+        return Err(Stop::Line);
+    };
     let text = text_in(alloc, words)?;
-    match label_state(prefix, text, format) {
-        Ok(state) => Some(state),
-        Err(_) => None,
-    }
+    Ok(label_state(prefix, text, format)?)
 }
 
 // A formula, by its text and value.
@@ -97,30 +93,32 @@ fn formula_in(
     cell: Cell,
     names: &Names,
     format: Format,
-) -> Option<CellState>
-    ensures { IfSome result IsSound }
+) -> Result<CellState, Stop>
+    ensures { IfOk result IsSound }
 {
-    let text = words.bytes();
-    let Ok(formula) = read(alloc, text.bytes(), cell, names) else {
-        return None;
+    let text = bytes_of(alloc, words.next())?;
+    let Ok(formula) = read(alloc, text.as_slice(), cell, names) else {
+        return Err(Stop::Line);
     };
-    let value = value_in(alloc, words);
-    if !value.is_filled() {
-        return None;
-    }
-    Some(formula_state(formula, value, format))
+    let value = value_in(alloc, words)?;
+    Ok(formula_state(formula, value, format))
 }
 
-// The state in the words; none where they say something else.
-pub fn state_in(alloc: Global, words: &mut Words, cell: Cell, names: &Names) -> Option<CellState>
-    ensures { IfSome result IsSound }
+/// The state in the words.
+pub fn state_in(
+    alloc: Global,
+    words: &mut Words,
+    cell: Cell,
+    names: &Names,
+) -> Result<CellState, Stop>
+    ensures { IfOk result IsSound }
 {
-    let format = Format(words.byte());
+    let format = Format(words.byte()?);
     match words.next() {
-        b"b" => Some(CellState::blank(format)),
-        b"n" => Some(number_state(fixed_in(words), format)),
+        b"b" => Ok(CellState::blank(format)),
+        b"n" => Ok(number_state(fixed_in(words)?, format)),
         b"l" => label_in(alloc, words, format),
         b"f" => formula_in(alloc, words, cell, names, format),
-        _ => None,
+        _ => Err(Stop::Line),
     }
 }

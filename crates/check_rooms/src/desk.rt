@@ -3,26 +3,10 @@
 use cell_pointer::Way;
 use entry_line::EntryLine;
 use grid_address::Cell;
-use lics_text::Memory;
 use session_rooms::Room;
 use sheet_store::Settings;
 use std::alloc::Global;
 use work_sheet::Sheet;
-
-/// Why a run ends.
-#[derive(Clone, Copy)]
-pub enum Stop {
-    Memory,
-    Stream,
-    /// A row isn't as it should be.
-    Row,
-}
-
-impl From<Memory> for Stop {
-    fn from(_fault: Memory) -> Stop {
-        Stop::Memory
-    }
-}
 
 /// What a key came to that does more than to change the room or the pointer.
 #[derive(Drop)]
@@ -43,6 +27,7 @@ pub struct Desk {
 }
 
 impl Desk {
+    /// A fresh sheet in READY, with eight columns shown.
     pub fn new(alloc: Global) -> Desk {
         Desk {
             sheet: Sheet::new(alloc),
@@ -53,6 +38,7 @@ impl Desk {
         }
     }
 
+    /// Puts the pointer.
     pub fn point_at(&mut self, pointer: Cell) {
         let settings = *self.sheet.settings();
         self.sheet.set_settings(Settings {

@@ -1,7 +1,8 @@
 // A key from room to room.
 
-use crate::desk::{Desk, Stop, Told};
+use crate::desk::{Desk, Told};
 use cell_pointer::{Way, moved};
+use check_cases::Stop;
 use desk_answers::span_answer;
 use desk_errors::CommandError;
 use desk_ranges::DeskRanges;
@@ -28,7 +29,7 @@ fn turn_of(key: Key, room: Room, end: bool, sheet: &Sheet) -> Result<Turn, Memor
 // The pointer goes to the cell of the answer.
 fn go_to(desk: &mut Desk, command: AnsweredCommand) -> Result<(), Stop> {
     let Some(line) = command.answers.get(0) else {
-        return Err(Stop::Row);
+        return Err(Stop::Line);
     };
     match span_answer(desk.sheet.names(), line.bytes(), 0) {
         Ok(span) => desk.point_at(span.first),
@@ -37,17 +38,19 @@ fn go_to(desk: &mut Desk, command: AnsweredCommand) -> Result<(), Stop> {
     Ok(())
 }
 
+// The session tells an error.
 fn fail(desk: &mut Desk, error: CommandError) {
     desk.room = Room::Failed(error.message());
 }
 
+// The first question of a command that was chosen, or its work where it asks nothing.
 fn ask(desk: &mut Desk, command: AnsweredCommand) -> Result<(), Stop> {
     match opening(&command, desk.sheet.settings().pointer, &None) {
         WhatFollows::Asks(answering) => {
             desk.room = Room::Asking(PromptRoom { command, answering });
             Ok(())
         }
-        WhatFollows::Looks => Err(Stop::Row),
+        WhatFollows::Looks => Err(Stop::Line),
         WhatFollows::Acts => go_to(desk, command),
     }
 }
@@ -58,6 +61,7 @@ fn led_to(desk: &Desk, way: Way) -> Cell {
     moved(way, desk.shown, desk.sheet.cells(), pointer)
 }
 
+// What the key comes to is done.
 fn carry(desk: &mut Desk, turn: Turn) -> Result<(), Stop> {
     match turn {
         Turn::Become(room) => desk.room = room,
@@ -67,7 +71,7 @@ fn carry(desk: &mut Desk, turn: Turn) -> Result<(), Stop> {
         Turn::Ask(command) => return ask(desk, command),
         Turn::Recalculate => desk.told = Told::Calculate,
         Turn::Fail(error) => fail(desk, error),
-        Turn::Act(_) | Turn::Start(_) | Turn::Undo => return Err(Stop::Row),
+        Turn::Act(_) | Turn::Start(_) | Turn::Undo => return Err(Stop::Line),
     }
     Ok(())
 }

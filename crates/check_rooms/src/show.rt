@@ -1,12 +1,13 @@
 // What the session does.
 
-use crate::desk::{Desk, Stop, Told};
+use crate::desk::{Desk, Told};
 use control_panel::{Mode, Panel};
 use grid_address::cell_text;
 use lics_text::Line;
 use session_rooms::Room;
 use std::io::{Error, Write};
 
+// What a room tells on the screen.
 fn panel_of(room: &Room) -> Panel {
     match room {
         Room::Ready => ready_room::panel(),
@@ -18,11 +19,13 @@ fn panel_of(room: &Room) -> Panel {
     }
 }
 
+// Writes a text and a bar behind it.
 fn write_text<W: Write>(text: &Line, out: &mut W) -> Result<(), Error> {
     out.write_all(text.bytes())?;
     out.write_all(b"|")
 }
 
+// Writes what the room tells, the pointer, and whether END waits for a key.
 fn write_panel<W: Write>(desk: &Desk, out: &mut W) -> Result<(), Error> {
     let panel = panel_of(&desk.room);
     write!(out, "{:?}|", panel.mode)?;
@@ -34,7 +37,8 @@ fn write_panel<W: Write>(desk: &Desk, out: &mut W) -> Result<(), Error> {
     out.write_all(if desk.end { b"|end\n" } else { b"|\n" })
 }
 
-fn write_told<W: Write>(desk: &Desk, out: &mut W) -> Result<(), Error> {
+/// Writes what the session does.
+pub fn show<W: Write>(desk: &Desk, out: &mut W) -> Result<(), Error> {
     match &desk.told {
         Told::Nothing => write_panel(desk, out),
         Told::Finish(way, line) => {
@@ -43,13 +47,5 @@ fn write_told<W: Write>(desk: &Desk, out: &mut W) -> Result<(), Error> {
             writeln!(out, "|{}", line.cursor())
         }
         Told::Calculate => out.write_all(b"CALC\n"),
-    }
-}
-
-/// Prints what the session does.
-pub fn show<W: Write>(desk: &Desk, out: &mut W) -> Result<(), Stop> {
-    match write_told(desk, out) {
-        Ok(()) => Ok(()),
-        Err(_) => Err(Stop::Stream),
     }
 }

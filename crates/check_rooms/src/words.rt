@@ -1,60 +1,24 @@
 // The words of a row.
 
-use crate::desk::{Desk, Stop};
+use crate::desk::Desk;
 use crate::press::press;
 use crate::show::show;
+use check_cases::{Stop, Subject, Words, bytes_of};
 use formula_tree::Content;
-use grid_address::{Cell, Span, read_cell, read_span};
+use grid_address::Cell;
 use key_words::{Fed, Key, KeyReader};
-use lics_text::{LabelPrefix, Line, Text};
+use lics_text::{LabelPrefix, Text};
 use std::alloc::Global;
-use std::io::Write;
-
-fn digit(byte: u8) -> Result<u8, Stop> {
-    match byte {
-        b'0'..=b'9' => Ok(byte - b'0'),
-        b'a'..=b'f' => Ok(byte - b'a' + 10),
-        _ => Err(Stop::Row),
-    }
-}
-
-// The byte of a pair of digits.
-fn pair(high: u8, low: u8) -> Result<u8, Stop> {
-    Ok(digit(high)?.wrapping_mul(16).wrapping_add(digit(low)?))
-}
-
-// The bytes of pairs of digits.
-fn read_bytes(mut digits: &[u8]) -> Result<Line, Stop> {
-    let mut line = Line::new();
-    while let [high, low, rest @ ..] = digits {
-        let _ = line.put(pair(*high, *low)?);
-        digits = rest;
-    }
-    Ok(line)
-}
-
-fn cell_of(bytes: &[u8]) -> Result<Cell, Stop> {
-    match read_cell(bytes) {
-        Ok(cell) => Ok(cell),
-        Err(_) => Err(Stop::Row),
-    }
-}
-
-fn span_of(bytes: &[u8]) -> Result<Span, Stop> {
-    match read_span(bytes) {
-        Ok(span) => Ok(span),
-        Err(_) => Err(Stop::Row),
-    }
-}
 
 // What stands before the first `=`, and what stands behind it.
 fn parts(bytes: &[u8]) -> Result<(&[u8], &[u8]), Stop> {
     match bytes.iter().position(|byte| *byte == b'=') {
         Some(at) => Ok((&bytes[..at], &bytes[at + 1..])),
-        None => Err(Stop::Row),
+        None => Err(Stop::Line),
     }
 }
 
+// Fills a cell with a label.
 fn fill(desk: &mut Desk, cell: Cell, bytes: &[u8]) -> Result<(), Stop> {
     match Text::from_bytes(desk.sheet.alloc(), bytes) {
         Ok(text) => match desk
@@ -64,24 +28,28 @@ fn fill(desk: &mut Desk, cell: Cell, bytes: &[u8]) -> Result<(), Stop> {
             Ok(()) => Ok(()),
             Err(_) => Err(Stop::Memory),
         },
-        Err(_) => Err(Stop::Row),
+        Err(_) => Err(Stop::Line),
     }
 }
 
+// Names a span.
 fn name(desk: &mut Desk, bytes: &[u8]) -> Result<(), Stop> {
     let (name, span) = parts(bytes)?;
-    match desk.sheet.create_name(name, span_of(span)?) {
+    let span = Words::of(span).span()?;
+    match desk.sheet.create_name(name, span) {
         Ok(()) => Ok(()),
-        Err(_) => Err(Stop::Row),
+        Err(_) => Err(Stop::Line),
     }
 }
 
+// Fills a cell with a label of bytes in hexadecimal digits.
 fn fill_text(desk: &mut Desk, bytes: &[u8]) -> Result<(), Stop> {
     let (cell, text) = parts(bytes)?;
-    let text = read_bytes(text)?;
-    fill(desk, cell_of(cell)?, text.bytes())
+    let text = bytes_of(desk.sheet.alloc(), text)?;
+    fill(desk, Words::of(cell).cell()?, text.as_slice())
 }
 
+// Presses a key so many times.
 fn press_times(desk: &mut Desk, key: &Key, times: u16) -> Result<(), Stop> {
     for _time in 0..times {
         press(desk, *key)?;
@@ -92,71 +60,60 @@ fn press_times(desk: &mut Desk, key: &Key, times: u16) -> Result<(), Stop> {
 // A byte of key notation, which may end a key's word.
 fn press_byte(desk: &mut Desk, reader: &mut KeyReader, byte: u8) -> Result<(), Stop> {
     if reader.taken() == u64::MAX {
-        return Err(Stop::Row);
+        return Err(Stop::Line);
     }
     match reader.feed(byte) {
         Fed::Key(key, times) => press_times(desk, &key, times),
         Fed::More => Ok(()),
-        Fed::Bad(_) => Err(Stop::Row),
+        Fed::Bad(_) => Err(Stop::Line),
     }
 }
 
 // The keys of key notation, one by one.
-fn press_keys(desk: &mut Desk, mut digits: &[u8]) -> Result<(), Stop> {
+fn press_keys(desk: &mut Desk, digits: &[u8]) -> Result<(), Stop> {
+    let bytes = bytes_of(desk.sheet.alloc(), digits)?;
     let mut reader = KeyReader::new();
-    while let [high, low, rest @ ..] = digits {
-        press_byte(desk, &mut reader, pair(*high, *low)?)?;
-        digits = rest;
+    for byte in bytes.as_slice() {
+        press_byte(desk, &mut reader, *byte)?;
     }
     Ok(())
 }
 
-fn shown_of(digits: &[u8]) -> Result<u8, Stop> {
-    let mut shown: u8 = 0;
-    for byte in digits {
-        shown = shown.wrapping_mul(10).wrapping_add(digit(*byte)?);
-    }
-    Ok(shown)
-}
-
+// Does what a word says.
 fn take(desk: &mut Desk, word: &[u8]) -> Result<(), Stop> {
     match word {
         [b'h', rest @ ..] => {
-            let col = cell_of(rest)?.col;
+            let col = Words::of(rest).cell()?.col;
             desk.sheet.set_hidden(col, true);
             Ok(())
         }
-        [b'f', rest @ ..] => fill(desk, cell_of(rest)?, b"x"),
+        [b'f', rest @ ..] => fill(desk, Words::of(rest).cell()?, b"x"),
         [b'l', rest @ ..] => fill_text(desk, rest),
         [b'n', rest @ ..] => name(desk, rest),
         [b'p', rest @ ..] => {
-            desk.point_at(cell_of(rest)?);
+            desk.point_at(Words::of(rest).cell()?);
             Ok(())
         }
         [b's', rest @ ..] => {
-            desk.shown = shown_of(rest)?;
+            desk.shown = Words::of(rest).byte()?;
             Ok(())
         }
         [b'k', rest @ ..] => press_keys(desk, rest),
-        _ => Err(Stop::Row),
+        _ => Err(Stop::Line),
     }
 }
 
-/// Does what the words of a row say, and prints what the session then does.
-pub fn work<W: Write>(alloc: Global, row: &[u8], out: &mut W) -> Result<(), Stop> {
-    let mut desk = Desk::new(alloc);
-    let mut rest = row;
-    while !rest.is_empty() {
-        let end = match rest.iter().position(|byte| *byte == b' ') {
-            Some(at) => at,
-            None => rest.len(),
-        };
-        take(&mut desk, &rest[..end])?;
-        rest = if end < rest.len() {
-            &rest[end + 1..]
-        } else {
-            b""
-        };
+/// What presses the keys of a line.
+#[derive(Drop)]
+pub struct Rooms {}
+
+impl Subject for Rooms {
+    fn answer(&mut self, alloc: Global, line: &[u8], answer: &mut Vec<u8>) -> Result<(), Stop> {
+        let mut desk = Desk::new(alloc);
+        for word in line.split(|byte| *byte == b' ') {
+            take(&mut desk, word)?;
+        }
+        show(&desk, answer)?;
+        Ok(())
     }
-    show(&desk, out)
 }

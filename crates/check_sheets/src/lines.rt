@@ -1,12 +1,13 @@
 // What each line does.
 
-use crate::edits::{Desk, Stop, calculate, copy, enter, erase, format, protect, set, write};
+use crate::edits::{Desk, calculate, copy, enter, erase, format, protect, set, write};
 use crate::screens::work_screen;
 use crate::shifts::{delete, insert, move_span, name};
-use crate::show::{show, show_fault, show_states, written};
+use crate::show::{show, show_fault, show_states};
+use check_cases::{Stop, Subject};
 use sheet_store::SheetFault;
 use std::alloc::Global;
-use std::io::{BufRead, Write};
+use std::io::Write;
 
 // An edit of contents, which a recalculation follows in Automatic mode.
 fn edited<W: Write>(
@@ -59,26 +60,12 @@ fn work<W: Write>(desk: &mut Desk, line: &[u8], out: &mut W) -> Result<(), Stop>
     show(desk, out)
 }
 
-fn next<W: Write>(alloc: Global, desk: &mut Desk, line: &[u8], out: &mut W) -> Result<(), Stop> {
-    if line == b":".as_slice() {
-        *desk = Desk::new(alloc);
-        return written(out.write_all(b":\n"));
-    }
-    work(desk, line, out)
-}
-
-/// Works through the lines.
-pub fn work_through<R: BufRead + Drop, W: Write>(
-    alloc: Global,
-    input: R,
-    out: &mut W,
-) -> Result<(), Stop> {
-    let mut desk = Desk::new(alloc);
-    for line in input.split(alloc, b'\n') {
-        match line {
-            Ok(line) => next(alloc, &mut desk, line.as_slice(), out)?,
-            Err(_) => return Err(Stop::Stream),
+impl Subject for Desk {
+    fn answer(&mut self, alloc: Global, line: &[u8], answer: &mut Vec<u8>) -> Result<(), Stop> {
+        if line == b":".as_slice() {
+            *self = Desk::new(alloc);
+            return Ok(());
         }
+        work(self, line, answer)
     }
-    Ok(())
 }

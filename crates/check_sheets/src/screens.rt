@@ -1,7 +1,7 @@
 // The screen of a sheet, and what is told beside it.
 
-use crate::edits::{Desk, Stop, byte_of, cell_of, number_of, parts};
-use crate::show::written;
+use crate::edits::Desk;
+use check_cases::{Stop, Words};
 use control_panel::{Mode, Panel};
 use grid_address::{Cell, Format};
 use lics_text::Line;
@@ -10,12 +10,23 @@ use serial_date::Moment;
 use sheet_store::Settings;
 use std::io::Write;
 
+// The widest that a column may be.
+const MOST_WIDTH: u8 = 240;
+
+// The last day of the calendar, and how many seconds a day has.
+const LAST_DAY: usize = 73_050;
+
+const DAY_SECONDS: usize = 86_400;
+
+// How many lines a screen has.
+const LINES: u8 = 25;
+
 // The column of a cell gets a width of its own, or loses it at 0.
 fn set_width(desk: &mut Desk, bytes: &[u8]) -> Result<(), Stop> {
-    let (cell, width) = parts(bytes)?;
-    let cell = cell_of(cell)?;
-    let width = byte_of(width)?;
-    if width > 240 {
+    let mut words = Words::of(bytes);
+    let cell = words.cell()?;
+    let width = words.byte()?;
+    if width > MOST_WIDTH {
         return Err(Stop::Line);
     }
     let own = if width == 0 { None } else { Some(width) };
@@ -23,18 +34,19 @@ fn set_width(desk: &mut Desk, bytes: &[u8]) -> Result<(), Stop> {
     Ok(())
 }
 
+// Hides the column of a cell, or shows it.
 fn set_hidden(desk: &mut Desk, bytes: &[u8], hidden: bool) -> Result<(), Stop> {
-    let cell = cell_of(bytes)?;
+    let cell = Words::of(bytes).cell()?;
     desk.sheet.set_hidden(cell.col, hidden);
     Ok(())
 }
 
 // The sheet's format byte and width.
 fn set_global(desk: &mut Desk, bytes: &[u8]) -> Result<(), Stop> {
-    let (format, width) = parts(bytes)?;
-    let format = Format(byte_of(format)?);
-    let width = byte_of(width)?;
-    if width == 0 || width > 240 {
+    let mut words = Words::of(bytes);
+    let format = Format(words.byte()?);
+    let width = words.byte()?;
+    if width == 0 || width > MOST_WIDTH {
         return Err(Stop::Line);
     }
     let settings = *desk.sheet.settings();
@@ -46,8 +58,9 @@ fn set_global(desk: &mut Desk, bytes: &[u8]) -> Result<(), Stop> {
     Ok(())
 }
 
+// Puts the pointer.
 fn set_pointer(desk: &mut Desk, bytes: &[u8]) -> Result<(), Stop> {
-    let pointer = cell_of(bytes)?;
+    let pointer = Words::of(bytes).cell()?;
     let settings = *desk.sheet.settings();
     desk.sheet.set_settings(Settings {
         pointer,
@@ -56,6 +69,7 @@ fn set_pointer(desk: &mut Desk, bytes: &[u8]) -> Result<(), Stop> {
     Ok(())
 }
 
+// A mode by its digit.
 fn mode_of(digit: u8) -> Result<Mode, Stop> {
     match digit {
         b'0' => Ok(Mode::Ready),
@@ -71,19 +85,20 @@ fn mode_of(digit: u8) -> Result<Mode, Stop> {
 
 // A fresh panel: the digit of its mode, the cursor's place, and E and C for END and a running macro.
 fn set_panel(desk: &mut Desk, bytes: &[u8]) -> Result<(), Stop> {
-    let (mode, rest) = parts(bytes)?;
-    let (cursor, flags) = parts(rest)?;
-    let [digit] = mode else {
+    let mut words = Words::of(bytes);
+    let [digit] = words.next() else {
         return Err(Stop::Line);
     };
     let mut panel = Panel::of(mode_of(*digit)?);
-    panel.cursor = byte_of(cursor)?;
+    panel.cursor = words.byte()?;
+    let flags = words.rest();
     panel.end = flags.contains(&b'E');
     panel.running = flags.contains(&b'C');
     desk.panel = panel;
     Ok(())
 }
 
+// A text of the panel, as far as a line holds it.
 fn line_of(bytes: &[u8]) -> Line {
     let mut line = Line::new();
     for byte in bytes {
@@ -109,17 +124,18 @@ fn set_text(desk: &mut Desk, field: u8, bytes: &[u8]) -> Result<(), Stop> {
 
 // A day and a second, or no day.
 fn set_moment(desk: &mut Desk, bytes: &[u8]) -> Result<(), Stop> {
-    let (day, second) = parts(bytes)?;
-    let day = number_of(day);
-    let second = number_of(second);
-    if day > 73_050 || second >= 86_400 {
+    let mut words = Words::of(bytes);
+    let day = words.count()?;
+    let second = words.count()?;
+    if day > LAST_DAY || second >= DAY_SECONDS {
         return Err(Stop::Line);
     }
+    let second = second as u32;
     desk.moment = if day == 0 {
         Moment { day: None, second }
     } else {
         Moment {
-            day: Some(day),
+            day: Some(day as u32),
             second,
         }
     };
@@ -129,15 +145,15 @@ fn set_moment(desk: &mut Desk, bytes: &[u8]) -> Result<(), Stop> {
 // The lines of the screen without the blanks at their ends.
 fn show_screen<W: Write>(desk: &Desk, out: &mut W) -> Result<(), Stop> {
     let grid = paint(&desk.sheet, &desk.panel, desk.corner, &desk.moment);
-    for row in 0..25u8 {
+    for row in 0..LINES {
         let line = grid.line(row);
         let len = line.iter().rposition(|byte| *byte != b' ');
         let len = match len {
             Some(last) => last + 1,
             None => 0,
         };
-        written(out.write_all(&line[..len]))?;
-        written(out.write_all(b"\n"))?;
+        out.write_all(&line[..len])?;
+        out.write_all(b"\n")?;
     }
     Ok(())
 }
@@ -159,7 +175,7 @@ pub fn work_screen<W: Write>(desk: &mut Desk, line: &[u8], out: &mut W) -> Resul
             Ok(())
         }
         [b'k', rest @ ..] => {
-            desk.corner = cell_of(rest)?;
+            desk.corner = Words::of(rest).cell()?;
             Ok(())
         }
         _ => Err(Stop::Line),

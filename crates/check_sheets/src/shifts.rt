@@ -2,7 +2,8 @@
 ghost use Rattle.std.specs.Prelude.{IfOk};
 ghost use Rattle.ref_adjust.specs.Lines.{IsChange};
 
-use crate::edits::{Desk, Stop, cell_of, parts, span_of};
+use crate::edits::Desk;
+use check_cases::{Stop, Words};
 use ref_adjust::Change;
 use sheet_shifts::Shift;
 use sheet_store::SheetFault;
@@ -13,11 +14,11 @@ fn inserted(bytes: &[u8]) -> Result<Change, Stop>
 {
     match bytes {
         [b'r', span @ ..] => {
-            let span = span_of(span)?;
+            let span = Words::of(span).span()?;
             Ok(Change::InsertRows(span.first.row, span.height()))
         }
         [b'c', span @ ..] => {
-            let span = span_of(span)?;
+            let span = Words::of(span).span()?;
             Ok(Change::InsertColumns(u16::from(span.first.col), span.width()))
         }
         _ => Err(Stop::Line),
@@ -30,11 +31,11 @@ fn deleted(bytes: &[u8]) -> Result<Change, Stop>
 {
     match bytes {
         [b'r', span @ ..] => {
-            let span = span_of(span)?;
+            let span = Words::of(span).span()?;
             Ok(Change::DeleteRows(span.first.row, span.height()))
         }
         [b'c', span @ ..] => {
-            let span = span_of(span)?;
+            let span = Words::of(span).span()?;
             Ok(Change::DeleteColumns(u16::from(span.first.col), span.width()))
         }
         _ => Err(Stop::Line),
@@ -55,17 +56,17 @@ pub fn delete(desk: &mut Desk, bytes: &[u8]) -> Result<Result<(), SheetFault>, S
 
 /// Moves a span so that its first corner comes to a cell.
 pub fn move_span(desk: &mut Desk, bytes: &[u8]) -> Result<Result<(), SheetFault>, Stop> {
-    let (from, to) = parts(bytes)?;
-    let from = span_of(from)?;
-    let to = cell_of(to)?;
+    let mut words = Words::of(bytes);
+    let from = words.span()?;
+    let to = words.cell()?;
     Ok(desk.sheet.shift(&Shift::Block(from, to)))
 }
 
 /// Gives a span a name.
 pub fn name(desk: &mut Desk, bytes: &[u8]) -> Result<(), Stop> {
-    let (span, name) = parts(bytes)?;
-    let span = span_of(span)?;
-    match desk.sheet.create_name(name, span) {
+    let mut words = Words::of(bytes);
+    let span = words.span()?;
+    match desk.sheet.create_name(words.rest(), span) {
         Ok(()) => Ok(()),
         Err(_) => Err(Stop::Line),
     }

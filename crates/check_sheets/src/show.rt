@@ -1,26 +1,21 @@
 // What is printed of a sheet.
 
-use crate::edits::{Desk, Stop};
+use crate::edits::Desk;
+use check_cases::Stop;
 use formula_tree::Value;
 use grid_address::{Cell, Span, cell_text, column_text};
 use lics_text::Line;
 use range_names::{Names, name_in};
 use sheet_store::{SheetFault, Store};
-use std::io::{Error, Write};
+use std::io::Write;
 
+// How many rows and columns of values are shown.
 const ROWS: u16 = 4;
 
 const COLUMNS: u8 = 3;
 
 // The columns of a sheet.
 const COLS: u16 = 256;
-
-pub fn written(answer: Result<(), Error>) -> Result<(), Stop> {
-    match answer {
-        Ok(()) => Ok(()),
-        Err(_) => Err(Stop::Stream),
-    }
-}
 
 /// A fault by its name and the cell or the first cell that it carries.
 pub fn show_fault<W: Write>(out: &mut W, fault: SheetFault) -> Result<(), Stop> {
@@ -30,40 +25,44 @@ pub fn show_fault<W: Write>(out: &mut W, fault: SheetFault) -> Result<(), Stop> 
         SheetFault::OutOfSheet(span) => (b"OutOfSheet ".as_slice(), span.first),
         SheetFault::Memory => return Err(Stop::Memory),
     };
-    written(out.write_all(name))?;
-    written(out.write_all(cell_text(cell).bytes()))?;
-    written(out.write_all(b" "))
+    out.write_all(name)?;
+    out.write_all(cell_text(cell).bytes())?;
+    out.write_all(b" ")?;
+    Ok(())
 }
 
+// A value, behind a blank; no cell is a point.
 fn show_value<W: Write>(out: &mut W, value: Option<&Value>) -> Result<(), Stop> {
     match value {
-        None => written(out.write_all(b" .")),
-        Some(Value::Num(number)) => written(write!(out, " {}", number.millionths())),
+        None => out.write_all(b" .")?,
+        Some(Value::Num(number)) => write!(out, " {}", number.millionths())?,
         Some(Value::Str(text)) => {
-            written(out.write_all(b" '"))?;
-            written(out.write_all(text.bytes()))
+            out.write_all(b" '")?;
+            out.write_all(text.bytes())?;
         }
-        Some(Value::Err) => written(out.write_all(b" ERR")),
-        Some(Value::Na) => written(out.write_all(b" NA")),
-        Some(Value::Blank) => written(out.write_all(b" _")),
+        Some(Value::Err) => out.write_all(b" ERR")?,
+        Some(Value::Na) => out.write_all(b" NA")?,
+        Some(Value::Blank) => out.write_all(b" _")?,
     }
+    Ok(())
 }
 
 /// The count of evaluations, the marks, and the values of the cells.
 pub fn show<W: Write>(desk: &Desk, out: &mut W) -> Result<(), Stop> {
-    written(write!(out, "{}", desk.tally.count()))?;
+    write!(out, "{}", desk.tally.count())?;
     if desk.sheet.is_circular() {
-        written(out.write_all(b" CIRC"))?;
+        out.write_all(b" CIRC")?;
     }
     if desk.sheet.is_stale() {
-        written(out.write_all(b" CALC"))?;
+        out.write_all(b" CALC")?;
     }
     for row in 0..ROWS {
         for col in 0..COLUMNS {
             show_value(out, desk.sheet.value_of(Cell { row, col }))?;
         }
     }
-    written(out.write_all(b"\n"))
+    out.write_all(b"\n")?;
+    Ok(())
 }
 
 // A cell's format, text and value.
@@ -73,18 +72,16 @@ fn show_state<W: Write>(desk: &Desk, store: &Store, cell: Cell, out: &mut W) -> 
     };
     let mut line = Line::new();
     let _ = desk.sheet.text_of(cell, &mut line);
-    written(write!(out, " {} ", state.format.0))?;
-    written(out.write_all(cell_text(cell).bytes()))?;
-    written(out.write_all(b"="))?;
-    written(out.write_all(line.bytes()))?;
+    write!(out, " {} ", state.format.0)?;
+    out.write_all(cell_text(cell).bytes())?;
+    out.write_all(b"=")?;
+    out.write_all(line.bytes())?;
     show_value(out, Some(&state.value))
 }
 
 // The cells of a sheet in row order.
 fn show_cells<W: Write>(desk: &Desk, store: &Store, out: &mut W) -> Result<(), Stop> {
-    let Ok(cells) = store.cells_in(Span::whole()) else {
-        return Err(Stop::Memory);
-    };
+    let cells = store.cells_in(Span::whole())?;
     for cell in cells.as_slice() {
         show_state(desk, store, *cell, out)?;
     }
@@ -94,13 +91,13 @@ fn show_cells<W: Write>(desk: &Desk, store: &Store, out: &mut W) -> Result<(), S
 // A column's own width, and whether it is hidden, where it has or is so.
 fn show_column<W: Write>(store: &Store, col: u8, out: &mut W) -> Result<(), Stop> {
     if let Some(width) = store.width(col) {
-        written(out.write_all(b" w"))?;
-        written(out.write_all(column_text(col).bytes()))?;
-        written(write!(out, " {width}"))?;
+        out.write_all(b" w")?;
+        out.write_all(column_text(col).bytes())?;
+        write!(out, " {width}")?;
     }
     if store.is_hidden(col) {
-        written(out.write_all(b" h"))?;
-        written(out.write_all(column_text(col).bytes()))?;
+        out.write_all(b" h")?;
+        out.write_all(column_text(col).bytes())?;
     }
     Ok(())
 }
@@ -116,24 +113,23 @@ fn show_columns<W: Write>(store: &Store, out: &mut W) -> Result<(), Stop> {
 // The names in byte order, each with its span.
 fn show_names<W: Write>(names: &Names, out: &mut W) -> Result<(), Stop> {
     for (key, span) in names.entries() {
-        written(out.write_all(b" +"))?;
-        written(out.write_all(name_in(key)))?;
-        written(out.write_all(b" "))?;
-        written(out.write_all(cell_text(span.first).bytes()))?;
-        written(out.write_all(b".."))?;
-        written(out.write_all(cell_text(span.last).bytes()))?;
+        out.write_all(b" +")?;
+        out.write_all(name_in(key))?;
+        out.write_all(b" ")?;
+        out.write_all(cell_text(span.first).bytes())?;
+        out.write_all(b"..")?;
+        out.write_all(cell_text(span.last).bytes())?;
     }
     Ok(())
 }
 
 /// What a file holds of the sheet: its cells, what its columns have of their own, and its names.
 pub fn show_states<W: Write>(desk: &Desk, out: &mut W) -> Result<(), Stop> {
-    let Ok(saved) = desk.sheet.snapshot() else {
-        return Err(Stop::Memory);
-    };
-    written(out.write_all(b"?"))?;
+    let saved = desk.sheet.snapshot()?;
+    out.write_all(b"?")?;
     show_cells(desk, &saved.store, out)?;
     show_columns(&saved.store, out)?;
     show_names(&saved.names, out)?;
-    written(out.write_all(b"\n"))
+    out.write_all(b"\n")?;
+    Ok(())
 }

@@ -13,6 +13,7 @@ use lics_text::Memory;
 use range_names::Names;
 use std::alloc::Global;
 
+/// The cells that are held, the names, and what a cell shows that is not held.
 #[derive(Drop)]
 pub struct Block {
     pub held: Vec<Held>,
@@ -21,6 +22,7 @@ pub struct Block {
     pub alloc: Global,
 }
 
+// The place of a cell among those that are held; none beside the columns.
 fn index_of(cell: Cell) -> Option<usize>
     ensures { result ≡ index_of cell }
 {
@@ -31,6 +33,7 @@ fn index_of(cell: Cell) -> Option<usize>
     }
 }
 
+// What is held of a cell.
 fn held_at(held: &[Held], cell: Cell) -> Option<&Held>
     ensures some { IfSome result (λ h. held_at held.now cell ≡ Some h.now) }
     ensures none { IfNone result (held_at held.now cell ≡ None) }
@@ -41,6 +44,7 @@ fn held_at(held: &[Held], cell: Cell) -> Option<&Held>
     }
 }
 
+// The value of a cell.
 fn value_at<'a>(held: &'a [Held], blank: &'a Value, cell: Cell) -> &'a Value
     ensures { result.now ≡ value_of blank.now (held_at held.now cell) }
 {

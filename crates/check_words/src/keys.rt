@@ -12,6 +12,7 @@ pub fn write_key<W: Write>(key: Key, out: &mut W) -> Result<(), Error> {
     }
 }
 
+// What a byte of key notation came to.
 fn write_fed<W: Write>(fed: Fed, out: &mut W) -> Result<(), Error> {
     match fed {
         Fed::Key(key, 1) => {

@@ -1,14 +1,17 @@
 // The words of a macro's text.
 
-use crate::bytes::{read_bytes, read_number};
 use crate::keys::write_key;
+use check_cases::{Stop, Words, bytes_of};
 use key_words::{Arguments, Cut, MacroWord, unit_at};
+use std::alloc::Global;
 use std::io::{Error, Write};
 
+// Where a part of a text begins and ends.
 fn write_cut<W: Write>(cut: Cut, out: &mut W) -> Result<(), Error> {
     write!(out, " {}..{}", cut.from, cut.to)
 }
 
+// The places of arguments, and the form that they have.
 fn write_arguments<W: Write>(arguments: Arguments, out: &mut W) -> Result<(), Error> {
     match arguments {
         Arguments::Nothing => Ok(()),
@@ -25,6 +28,7 @@ fn write_arguments<W: Write>(arguments: Arguments, out: &mut W) -> Result<(), Er
     }
 }
 
+// A word, with the places of its parts.
 fn write_word<W: Write>(word: MacroWord, out: &mut W) -> Result<(), Error> {
     match word {
         MacroWord::Key(key) => write_key(key, out),
@@ -68,10 +72,10 @@ fn write_from<W: Write>(text: &[u8], mut offset: usize, out: &mut W) -> Result<(
 }
 
 /// The words of a macro's text, from the offset behind the space.
-pub fn write_words<W: Write>(row: &[u8], out: &mut W) -> Result<(), Error> {
-    let Some(space) = row.iter().position(|byte| *byte == b' ') else {
-        return out.write_all(b"no offset\n");
-    };
-    let text = read_bytes(&row[..space]);
-    write_from(text.bytes(), read_number(&row[space..]), out)
+pub fn write_words<W: Write>(alloc: Global, row: &[u8], out: &mut W) -> Result<(), Stop> {
+    let mut words = Words::of(row);
+    let text = bytes_of(alloc, words.next())?;
+    let offset = words.count()?;
+    write_from(text.as_slice(), offset, out)?;
+    Ok(())
 }

@@ -1,41 +1,9 @@
 // The words of a line.
 
+use crate::Stop;
 use grid_address::{Cell, Span, read_cell, read_span};
-use lics_text::{Memory, Text};
-use std::alloc::{AllocError, AllocFailed, Global};
-use std::io::Error;
-
-/// Why the work stopped. `Line` is a line that doesn't say what it should.
-#[derive(Clone, Copy)]
-pub enum Stop {
-    Memory,
-    Stream,
-    Line,
-}
-
-impl From<Memory> for Stop {
-    fn from(_fault: Memory) -> Stop {
-        Stop::Memory
-    }
-}
-
-impl From<AllocError> for Stop {
-    fn from(_fault: AllocError) -> Stop {
-        Stop::Memory
-    }
-}
-
-impl<T: Drop> From<AllocFailed<T>> for Stop {
-    fn from(_fault: AllocFailed<T>) -> Stop {
-        Stop::Memory
-    }
-}
-
-impl From<Error> for Stop {
-    fn from(_fault: Error) -> Stop {
-        Stop::Stream
-    }
-}
+use lics_text::Text;
+use std::alloc::Global;
 
 // The value of a hexadecimal digit.
 fn digit(byte: u8) -> Result<u8, Stop> {
