@@ -1,8 +1,6 @@
 // Edits of a cell that nothing reads, in sheets of different lengths.
-ghost use Rattle.std.specs.Prelude.{◌≡◌};
 
-use crate::chain::{SCENE, link};
-use crate::graphs::at;
+use crate::chain::{SCENE, chain, enter};
 use fixed_value::Fixed;
 use formula_eval::Tally;
 use formula_tree::{Content, Value};
@@ -11,29 +9,15 @@ use lics_text::Memory;
 use std::alloc::Global;
 use work_sheet::Sheet;
 
+// The cell that nothing reads.
 const APART: Cell = Cell { row: 4, col: 7 };
 
+// A number of so many millionths.
 fn number(number: u32) -> Content {
     Content::Number(Fixed::of(i64::from(number)).unwrap_or(Fixed::ZERO))
 }
 
-fn enter(sheet: &mut Sheet, cell: Cell, content: Content) -> Result<(), Memory> {
-    match sheet.enter(cell, content) {
-        Ok(()) => Ok(()),
-        Err(_) => Err(Memory),
-    }
-}
-
-/// A chain of so many formulas.
-pub fn chain(alloc: Global, tally: &mut Tally, rows: u16) -> Result<Sheet, Memory> {
-    let mut sheet = Sheet::new(alloc);
-    for row in 0..rows {
-        enter(&mut sheet, at(row, 0), Content::Formula(link(alloc)?))?;
-    }
-    sheet.calc(&SCENE, tally)?;
-    Ok(sheet)
-}
-
+// The size of that cell's number.
 fn millionths(sheet: &Sheet) -> u64 {
     match sheet.value_of(APART) {
         Some(Value::Num(number)) => number.millionths().unsigned_abs(),

@@ -1,24 +1,15 @@
-//! The work that bench/store, bench/recalculate, bench/edits and bench/shifts measure. With the word `cells` it puts
-//! 100,000 formulas, and reads each of them and sets its value ten times; with `owners` it asks ten times for the
-//! owners of each of 8,000 cells, of which each has one owner; with `spans` for those of 8,000 cells among 1,000
-//! owners of long spans; with `closure` it goes ten times along a chain of 8,000 formulas; with `chain` it writes ten
-//! times the head of such a chain, finds what reaches it, and recalculates; with `short` and `long` it makes a
-//! million entries beside chains of 10 and of 8,000 formulas. With `insert`, `delete` or `move`, and 1000 or 8000
-//! right behind it, it inserts or deletes the first row of a chain of so many formulas, or moves its first hundred to
-//! the next column or back, ten times; with `rows` and such a number it makes the chain alone. It prints a sum by
-//! which the work can be compared, and without a word the sums of all.
+//! The work that bench/edits and bench/shifts measure. With the word `short` or `long` it makes a million entries
+//! beside chains of 10 and of 8,000 formulas. With `insert`, `delete` or `move`, and 1000 or 8000 right behind it, it
+//! inserts or deletes the first row of a chain of so many formulas, or moves its first hundred to the next column or
+//! back, ten times; with `rows` and such a number it makes the chain alone. It prints a sum by which the work can be
+//! compared, and without a word the sums of all.
 #![tactic(auto)]
 
-mod cells;
 mod chain;
 mod edits;
-mod graphs;
 mod shifts;
 
-use cells::touch_cells;
-use chain::edit_head;
 use edits::edit_apart;
-use graphs::{ask_owners, ask_spans, go_along};
 use lics_text::Memory;
 use shifts::{Edit, ROUNDS, shift_rows};
 use std::alloc::Global;
@@ -26,31 +17,24 @@ use std::env;
 use std::io::Write;
 use std::process::ExitCode;
 
+// What is measured.
 #[derive(Clone, Copy)]
 enum Work {
-    Cells,
-    Owners,
-    Spans,
-    Closure,
-    Chain,
     Short,
     Long,
     Rows(u16),
     Shifts(Edit, u16),
 }
 
+// Why the work stopped.
 enum Stop {
     Memory,
     Stream,
 }
 
+// The work of a word.
 fn work_of(word: &str) -> Option<Work> {
     match word {
-        "cells" => Some(Work::Cells),
-        "owners" => Some(Work::Owners),
-        "spans" => Some(Work::Spans),
-        "closure" => Some(Work::Closure),
-        "chain" => Some(Work::Chain),
         "short" => Some(Work::Short),
         "long" => Some(Work::Long),
         _ => rows_of(word),
@@ -72,13 +56,9 @@ fn rows_of(word: &str) -> Option<Work> {
     }
 }
 
+// Does a work, and gives its sum.
 fn sum_of(alloc: Global, work: Work) -> Result<u64, Memory> {
     match work {
-        Work::Cells => touch_cells(alloc),
-        Work::Owners => ask_owners(alloc),
-        Work::Spans => ask_spans(alloc),
-        Work::Closure => go_along(alloc),
-        Work::Chain => edit_head(alloc),
         Work::Short => edit_apart(alloc, 10),
         Work::Long => edit_apart(alloc, 8000),
         Work::Rows(rows) => shift_rows(alloc, Edit::Insert, rows, 0),
@@ -86,6 +66,7 @@ fn sum_of(alloc: Global, work: Work) -> Result<u64, Memory> {
     }
 }
 
+// Does a work, and prints its sum.
 fn print<W: Write>(alloc: Global, work: Work, out: &mut W) -> Result<(), Stop> {
     let Ok(sum) = sum_of(alloc, work) else {
         return Err(Stop::Memory);
@@ -96,13 +77,9 @@ fn print<W: Write>(alloc: Global, work: Work, out: &mut W) -> Result<(), Stop> {
     }
 }
 
+// Does all works.
 fn print_all<W: Write>(alloc: Global, out: &mut W) -> Result<(), Stop> {
     for work in [
-        Work::Cells,
-        Work::Owners,
-        Work::Spans,
-        Work::Closure,
-        Work::Chain,
         Work::Short,
         Work::Long,
         Work::Shifts(Edit::Insert, 1000),

@@ -2,7 +2,7 @@
 ghost use Rattle.std.specs.Prelude.{◌≡◌, ◌≤◌};
 ghost use Rattle.sheet_shifts.specs.Refusals.{AreInSheet};
 
-use crate::edits::chain;
+use crate::chain::chain;
 use formula_eval::Tally;
 use grid_address::{Cell, Span};
 use lics_text::Memory;
