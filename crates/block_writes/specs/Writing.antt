@@ -18,6 +18,7 @@ pub use Rattle.range_lines.specs.Rows.{at, columns_of, numbers_from, rows_below,
 abbrev pub down : ℕ → List ℕ → List Place
 down col rows = map (λ row. at row col) rows
 
+-- the cells of a row in these columns
 abbrev pub across : ℕ → List ℕ → List Place
 across row columns = map (λ col. at row col) columns
 
@@ -46,6 +47,7 @@ abbrev pub content_or_blank : Option Content → Content
 content_or_blank None = content.Blank
 content_or_blank (Some c) = c
 
+-- the format that a cell is seen with
 abbrev pub format_at : Sight → Place → Format
 format_at sight p = record { 0 = sight.formats p }
 

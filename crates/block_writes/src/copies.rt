@@ -23,6 +23,7 @@ pub fn written(cell: Cell, content: Content) -> Write
     }
 }
 
+// A copy of what a cell holds; nothing where it holds nothing.
 fn content_or_blank<K: Look>(look: &K, cell: Cell) -> Result<Content, Memory>
     ensures { IfOk result (λ c. c ≡ content_or_blank ((K.sight look.now).contents cell)) }
 {

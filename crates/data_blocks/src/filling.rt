@@ -21,6 +21,7 @@ pub fn is_less(a: Fixed, b: Fixed) -> bool
     a.millionths() < b.millionths()
 }
 
+// Whether a number is zero.
 fn is_zero(number: Fixed) -> bool
     ensures { result ≡ (nat_abs number == 0) }
 {

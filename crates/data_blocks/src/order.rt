@@ -10,6 +10,7 @@ use formula_tree::Value;
 use lics_text::Text;
 use std::cmp::Ordering;
 
+// The rank of a value's kind in a sort.
 fn kind_of(value: &Value) -> u8
     ensures { result ≡ kind_of value.now }
 {
@@ -22,6 +23,7 @@ fn kind_of(value: &Value) -> u8
     }
 }
 
+// The order of two numbers.
 fn order_of_numbers(a: Fixed, b: Fixed) -> Ordering
     ensures { result ≡ int_cmp a b }
 {
@@ -35,6 +37,7 @@ fn order_of_labels(a: &Text, b: &Text) -> Ordering
     a.fold_cmp(b).then(a.bytes().cmp(b.bytes()))
 }
 
+// The order of two values of one kind: of numbers by size, of labels by their texts, of others none.
 fn order_in_kind(a: &Value, b: &Value) -> Ordering
     ensures { result ≡ order_in_kind a.now b.now }
 {

@@ -6,6 +6,7 @@ use Rattle.indexmap.specs.IndexSet.{IndexSet}
 use Rattle.natural_order.specs.Walk.{Walked, appended, walk, has}
 use Rattle.natural_order.specs.declared.walker.Frame.{Frame}
 
+-- what a set of done cells says of a walk: these in the order in which they were done, and whether it met a circle
 abbrev pub walked : {S : Type 0} → IndexSet Place S → Bool → Walked Place
 walked set circular = record { done = set.keys; circular = circular }
 
@@ -17,6 +18,7 @@ left f = drop f.next f.reads.items
 abbrev pub fuel : List Place → ℕ
 fuel all = suc (length all)
 
+-- a walk that goes on at a cell behind a path, with as many steps less as the path has cells
 abbrev pub walk_on : (Place → List Place) → ℕ → List Place → Walked Place → Place → Walked Place
 walk_on pre n path = walk same_place pre (n - length path) path
 
@@ -25,6 +27,7 @@ abbrev pub finish : (Place → List Place) → ℕ → List Place → List Frame
 finish pre n path [] s = s
 finish pre n path (f ∷ fs) s = appended same_place f.cell (fold (walk_on pre n (f.cell ∷ path)) (finish pre n (f.cell ∷ path) fs s) (left f))
 
+-- each frame of the stack has a property
 abbrev pub EachFrame : (Frame → Type 0) → List Frame → Type 0
 EachFrame P [] = Unit {0}
 EachFrame P (f ∷ fs) = P f × EachFrame P fs
@@ -34,6 +37,7 @@ abbrev pub trail : List Place → List Frame → List Place
 trail path [] = path
 trail path (f ∷ fs) = trail (f.cell ∷ path) fs
 
+-- the stack holds the path: its cells and what each reads; none of them is done yet, and none stands there twice
 pub record IsOnPath (pre : Place → List Place) (all done path : List Place) (stack : List Frame) : Type 0 where
   pub cells : path ≡ map (λ (f : Frame). f.cell) stack
   pub known : (c : Place) → has same_place path c ≡ true → has same_place all c ≡ true

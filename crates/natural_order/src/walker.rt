@@ -35,12 +35,14 @@ pub struct FormulaOrder {
     pub circular: bool,
 }
 
+// Whether a cell was visited.
 fn is_in(set: &IndexSet<Cell>, cell: Cell) -> bool
     ensures { result ≡ has same_place set.now.keys cell }
 {
     set.contains(&cell)
 }
 
+// Notes a cell as visited.
 fn insert(set: &mut IndexSet<Cell>, cell: Cell) -> Result<(), Memory>
     ensures keys { OnOk result (set.new.keys ≡ insert_key same_place set.old.keys cell) }
     ensures unique { IsUnique same_place set.new }
@@ -49,6 +51,7 @@ fn insert(set: &mut IndexSet<Cell>, cell: Cell) -> Result<(), Memory>
     Ok(())
 }
 
+// Puts a frame on the stack.
 fn push(stack: &mut Vec<Frame>, frame: Frame) -> Result<(), Memory>
     ensures { OnOk result (stack.new.items ≡ stack.old.items ++ frame ∷ []) }
 {

@@ -4,6 +4,7 @@ use Rattle.grid_address.specs.Place.{Extent, Place}
 use Rattle.range_index.specs.Powers.{Powers}
 use Rattle.range_index.specs.declared.block.Block.{Block}
 
+-- the least power of two, from one on and within so many steps, that divides both numbers to the same number
 abbrev pub power_from : ℕ → ℕ → ℕ → ℕ → ℕ
 power_from zero k a b = k
 power_from (suc n) k a b = cond (nat_eq (a / 2 ^ k) (b / 2 ^ k)) k (power_from n (suc k) a b)

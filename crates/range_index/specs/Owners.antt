@@ -9,16 +9,20 @@ use Rattle.grid_address.specs.Place.{coded_extent, coded_place, is_within, place
 abbrev pub Owners : Type 0
 Owners = FinMap place_cmp (List Extent)
 
+-- how a map of owners is coded, by the codes of cells and of lists of spans
 abbrev pub coded_owners : Coded Owners
 coded_owners = code coded_place (coded_list coded_extent)
 
+-- the spans of an owner that may have none
 abbrev pub spans_in : Option (List Extent) → List Extent
 spans_in None = []
 spans_in (Some spans) = spans
 
+-- the owners with one more span for one of them
 abbrev pub with_span : Owners → Place → Extent → Owners
 with_span m owner span = insert m owner (spans_in (get m owner) ++ span ∷ [])
 
+-- whether one of the spans holds a cell
 abbrev pub hold : List Extent → Place → Bool
 hold spans p = list_any (λ s. is_within s p) spans
 

@@ -12,12 +12,15 @@ use Rattle.range_index.specs.Powers.{powers_cmp, Powers}
 use Rattle.range_index.specs.declared.block.Block.{Block}
 use Rattle.range_index.specs.declared.register.Registration.{Registration}
 
+-- the order of blocks: by their size, then by row, then by column
 abbrev pub block_cmp : Block → Block → Ordering
 block_cmp a b = ordering_then (powers_cmp a.size b.size) (ordering_then (nat_cmp a.row b.row) (nat_cmp a.col b.col))
 
+-- the order of entries of the index: by their block, then by their owner
 abbrev pub registration_cmp : Registration → Registration → Ordering
 registration_cmp a b = ordering_then (block_cmp a.block b.block) (place_cmp a.owner b.owner)
 
+-- the entry of an owner at a block
 abbrev pub owned : Block → Place → Registration
 owned b o = record { block = b; owner = o }
 
@@ -25,9 +28,11 @@ owned b o = record { block = b; owner = o }
 abbrev pub registered : Place → Extent → Registration
 registered o s = owned (block_at (size_of s) s.first) o
 
+-- whether a size is among these
 abbrev pub has_size : List Powers → Powers → Bool
 has_size sizes z = list_any (is_at (powers_cmp z)) sizes
 
+-- whether an entry is among these
 abbrev pub has_registration : List Registration → Registration → Bool
 has_registration rs r = list_any (is_at (registration_cmp r)) rs
 
@@ -43,6 +48,7 @@ StaysRegistered sizes rs sizes' rs' = (o : Place) (s : Extent) → is_registered
 abbrev pub AreRegistered : Owners → List Powers → List Registration → Type 0
 AreRegistered m sizes rs = (o : Place) → list_all (is_registered sizes rs o) (spans_in (get m o)) ≡ true
 
+-- whether a cell is among those that were found
 abbrev pub has_place : List Place → Place → Bool
 has_place found o = list_any (is_at (place_cmp o)) found
 

@@ -29,6 +29,7 @@ pub fn put(
     }
 }
 
+// Adds a span.
 fn push(spans: &mut SpanList, span: Span) -> Result<(), Memory>
     ensures ok { OnOk result (spans.new ≡ spans.old ++ span ∷ []) }
     ensures err { OnErr result (spans.new ≡ spans.old) }
@@ -37,6 +38,7 @@ fn push(spans: &mut SpanList, span: Span) -> Result<(), Memory>
     Ok(())
 }
 
+// A list of one span.
 fn one_span(alloc: Global, span: Span) -> Result<SpanList, Memory>
     ensures { IfOk result (λ l. l ≡ span ∷ []) }
 {

@@ -18,6 +18,7 @@ pub struct Registration {
     pub owner: Cell,
 }
 
+// The entry of an owner at the block of a span.
 fn place_of(owner: Cell, span: Span) -> Registration
     ensures { result ≡ registered owner span }
 {

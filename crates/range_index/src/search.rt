@@ -13,6 +13,7 @@ use lics_text::Memory;
 use std::alloc::Global;
 use std::collections::{BTreeMap, BTreeSet};
 
+// Adds an owner to those that were found.
 fn add(found: &mut BTreeSet<Cell>, owner: Cell) -> Result<(), Memory>
     ensures kept { OnOk result (AreAmong found.old.keys found.new.keys) }
     ensures has { OnOk result (has_place found.new.keys owner ≡ true) }
@@ -22,6 +23,7 @@ fn add(found: &mut BTreeSet<Cell>, owner: Cell) -> Result<(), Memory>
     Ok(())
 }
 
+// The least entry that a block can have.
 fn first_in(block: &Block) -> Registration
     ensures { result ≡ owned block.now whole.first }
 {
@@ -31,6 +33,7 @@ fn first_in(block: &Block) -> Registration
     }
 }
 
+// The greatest entry that a block can have.
 fn last_in(block: &Block) -> Registration
     ensures { result ≡ owned block.now whole.last }
 {
@@ -88,6 +91,7 @@ fn gather_all(
     Ok(found)
 }
 
+// The owners that were found, in a list.
 fn listed(alloc: Global, found: &BTreeSet<Cell>) -> Result<CellList, Memory>
     ensures { IfOk result (λ l. l ≡ found.now.keys) }
 {

@@ -54,6 +54,7 @@ impl Look for TwoValues {
     }
 }
 
+// A sheet whose first row holds 1 in each cell, and all others NA.
 fn sheet_of(alloc: Global) -> TwoValues {
     TwoValues {
         first: Value::Num(Fixed::ONE),
@@ -70,10 +71,12 @@ const SCENE: Scene = Scene {
     },
 };
 
+// A number of so many millionths.
 fn number<R: Abort>(rt: &R, millionths: i64) -> Expr {
     Expr::Num(Fixed::of(millionths).expect(rt, "a number within the size"))
 }
 
+// An operator between two operands.
 fn binary<R: Abort>(rt: &R, alloc: Global, op: Op, left: Expr, right: Expr) -> Expr {
     Expr::Binary(
         op,
@@ -82,6 +85,7 @@ fn binary<R: Abort>(rt: &R, alloc: Global, op: Op, left: Expr, right: Expr) -> E
     )
 }
 
+// The call of a function with three arguments.
 fn call<R: Abort>(rt: &R, alloc: Global, function: Function, arguments: [Expr; 3]) -> Expr {
     let mut list = ExprList::new(alloc);
     for argument in arguments {
@@ -100,6 +104,7 @@ enum Seen {
     Other,
 }
 
+// What a test looks at in a value.
 fn what_is(value: &Value) -> Seen {
     match value {
         Value::Num(number) => Seen::Millionths(number.millionths()),
@@ -113,6 +118,7 @@ fn what_is(value: &Value) -> Seen {
     }
 }
 
+// What an expression comes to over that sheet.
 fn meaning<R: Abort, E: Means>(rt: &R, alloc: Global, expr: Expr, means: &mut E) -> Seen {
     let formula = Formula::of(alloc, expr).expect(rt, "a formula");
     let sheet = sheet_of(alloc);

@@ -49,6 +49,7 @@ fn faults_are_the_leftmost(rt: HostRuntime) -> Result<(), Fail> {
     Ok(())
 }
 
+// The operator that a formula does last, where that is one between operands.
 fn top_of(formula: &Formula) -> Option<Op> {
     match formula.expr() {
         Expr::Binary(op, _, _) => Some(*op),

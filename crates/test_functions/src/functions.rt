@@ -9,18 +9,22 @@ use std::alloc::Global;
 use std::process::Abort;
 use std::test::Fail;
 
+// A number of so many millionths.
 fn number<R: Abort>(rt: &R, millionths: i64) -> Fixed {
     Fixed::of(millionths).expect(rt, "a number within the size")
 }
 
+// A whole number.
 fn whole<R: Abort>(rt: &R, units: i64) -> Fixed {
     number(rt, units.wrapping_mul(1_000_000))
 }
 
+// The millionths of a result, where there is one.
 fn size_of(value: Option<Fixed>) -> Option<i64> {
     value.map(|fixed| fixed.millionths())
 }
 
+// A text of these bytes.
 fn text<R: Abort>(rt: &R, alloc: Global, bytes: &[u8]) -> Text {
     Text::from_bytes(alloc, bytes).expect(rt, "a text")
 }

@@ -29,10 +29,12 @@ const SCENE: Scene = Scene {
     },
 };
 
+// A whole number.
 fn of(whole: i64) -> Fixed {
     Fixed::of(whole.saturating_mul(1_000_000)).unwrap_or(Fixed::ZERO)
 }
 
+// The state of a cell with a whole number.
 fn number(whole: i64) -> CellState
     ensures { IsSound result }
 {
@@ -64,6 +66,7 @@ fn sum<R: Abort>(rt: &R, alloc: Global, cell: Cell, whole: i64) -> CellState
     }
 }
 
+// The whole part of a cell's number; none where it shows no number.
 fn whole_at(store: &Store, cell: Cell) -> Option<i64> {
     match store.get(cell) {
         Some(state) => match &state.value {

@@ -25,30 +25,36 @@ const SCENE: Scene = Scene {
     },
 };
 
+// A cell by its row and column.
 fn at(row: u16, col: u8) -> Cell
     requires { row < 8192 }
 {
     Cell { row, col }
 }
 
+// Enters a content.
 fn write<R: Abort, E: Means>(rt: &R, sheet: &mut SheetOf<E>, cell: Cell, content: Content) {
     sheet.enter(cell, content).expect(rt, "an edit");
 }
 
+// Enters a whole number.
 fn enter_number<R: Abort, E: Means>(rt: &R, sheet: &mut SheetOf<E>, cell: Cell, whole: u16) {
     let number = Fixed::of(i64::from(whole) * 1_000_000).unwrap_or(Fixed::ZERO);
     write(rt, sheet, cell, Content::Number(number));
 }
 
+// Enters the formula of a text.
 fn enter_formula<R: Abort, E: Means>(rt: &R, sheet: &mut SheetOf<E>, cell: Cell, text: &[u8]) {
     let formula = read(sheet.alloc(), text, cell, sheet.names()).expect(rt, "a formula");
     write(rt, sheet, cell, Content::Formula(formula));
 }
 
+// Recalculates.
 fn calculate<R: Abort, E: Means>(rt: &R, sheet: &mut SheetOf<E>, tally: &mut E) {
     sheet.calc(&SCENE, tally).expect(rt, "memory");
 }
 
+// The whole part of a cell's number; none where it shows no number.
 fn whole_at<E: Means>(sheet: &SheetOf<E>, cell: Cell) -> Option<i64> {
     match sheet.value_of(cell) {
         Some(Value::Num(number)) => Some(number.millionths() / 1_000_000),
@@ -62,6 +68,7 @@ fn enter_two<R: Abort, E: Means>(rt: &R, sheet: &mut SheetOf<E>) {
     enter_formula(rt, sheet, A1, b"+B1+1");
 }
 
+// The sheet that is made of a sheet's own snapshot.
 fn saved_and_restored<R: Abort, E: Means>(rt: &R, sheet: &SheetOf<E>) -> SheetOf<E> {
     let saved = sheet.snapshot().expect(rt, "memory");
     SheetOf::restore(saved).expect(rt, "memory")

@@ -6,6 +6,7 @@ use std::alloc::Global;
 use std::process::Abort;
 use std::test::Fail;
 
+// A cell of the first column.
 fn a(row: u16) -> Cell {
     Cell {
         row: row.min(8191),
@@ -13,6 +14,7 @@ fn a(row: u16) -> Cell {
     }
 }
 
+// A list of these spans.
 fn spans(rt: &impl Abort, alloc: Global, list: &[Span]) -> SpanList {
     let mut spans = SpanList::new(alloc);
     for span in list {
@@ -21,6 +23,7 @@ fn spans(rt: &impl Abort, alloc: Global, list: &[Span]) -> SpanList {
     spans
 }
 
+// A list of these cells.
 fn cells(rt: &impl Abort, alloc: Global, list: &[Cell]) -> CellList {
     let mut cells = CellList::new(alloc);
     for cell in list {
@@ -68,6 +71,7 @@ fn count(rt: &impl Abort, alloc: Global, graph: &Graph, cell: Cell) -> usize {
         .len()
 }
 
+// A formula that reads one span.
 fn node(rt: &impl Abort, alloc: Global, first: Cell, last: Cell) -> Node {
     Node {
         reads: spans(rt, alloc, &[Span::of(first, last)]),
@@ -105,6 +109,7 @@ fn an_offer_that_is_withdrawn_leaves_the_formula(rt: HostRuntime) -> Result<(), 
     Ok(())
 }
 
+// The next random cell of a small block, and the state of the generator behind it.
 fn any(state: u32) -> (Cell, u32) {
     cell_below(state, 16, 1)
 }
@@ -139,6 +144,7 @@ fn plain(pairs: &[(Cell, Span)], seed: Cell) -> [bool; 16] {
     marked
 }
 
+// Whether a cell is among the formulas.
 fn has_formula(pairs: &[(Cell, Span)], cell: Cell) -> bool {
     for (formula, _) in pairs {
         if *formula == cell {

@@ -17,6 +17,7 @@ const C1: Cell = Cell { row: 0, col: 2 };
 
 const B5: Cell = Cell { row: 4, col: 1 };
 
+// The state of a cell with a number.
 fn number(millionths: i64) -> CellState
     ensures { IsSound result }
 {
@@ -28,6 +29,7 @@ fn number(millionths: i64) -> CellState
     }
 }
 
+// The state of a cell with a label.
 fn label<R: Abort>(rt: &R, alloc: Global, bytes: &[u8]) -> CellState
     ensures { IsSound result }
 {
@@ -52,6 +54,7 @@ fn formula<R: Abort>(rt: &R, alloc: Global) -> CellState
     }
 }
 
+// A store with a formula, a label and a number.
 fn filled<R: Abort>(rt: &R, alloc: Global) -> Store {
     let mut store = Store::new(alloc);
     store.put(B5, formula(rt, alloc)).expect(rt, "memory");
@@ -60,6 +63,7 @@ fn filled<R: Abort>(rt: &R, alloc: Global) -> Store {
     store
 }
 
+// The millionths of a cell's number; none where it shows no number.
 fn millionths(store: &Store, cell: Cell) -> Option<i64> {
     match store.get(cell) {
         Some(state) => match &state.value {
@@ -139,6 +143,7 @@ fn a_fresh_sheet_has_these_settings(rt: HostRuntime) -> Result<(), Fail> {
     Ok(())
 }
 
+// The next random cell of a small block, and the state of the generator behind it.
 fn any(state: u32) -> (Cell, u32) {
     cell_below(state, 9, 7)
 }
