@@ -11,10 +11,12 @@ whole v = int_div v (pos 1000000)
 abbrev pub units : ℕ → ℤ
 units n = pos (n * 1000000)
 
+-- a count as a number; none where there is no count
 abbrev pub in_units : Option ℕ → Option ℤ
 in_units None = None
 in_units (Some n) = Some (units n)
 
+-- a whole number as a count; none below zero
 abbrev pub not_negative : ℤ → Option ℕ
 not_negative (pos n) = Some n
 not_negative (negsuc n) = None

@@ -7,6 +7,7 @@ use Rattle.fixed_value.specs.Decimals.{decimal_of}
 use Rattle.lics_text.specs.Texts.{trimmed}
 use Rattle.at_functions.specs.Dates.{date_by, time_of}
 
+-- the number that a text spells; none where it spells none, or one that is too large
 abbrev pub number_in : Decimal → Option ℤ
 number_in (Num v) = Some v
 number_in TooLarge = None
@@ -26,10 +27,12 @@ abbrev pub before : ℕ → List ℕ → List ℕ
 before sep [] = []
 before sep (b ∷ bs) = if b == sep then [] else b ∷ before sep bs
 
+-- the bytes behind the first byte that separates; none where no byte does
 abbrev pub behind : ℕ → List ℕ → Option (List ℕ)
 behind sep [] = None
 behind sep (b ∷ bs) = if b == sep then Some bs else behind sep bs
 
+-- the byte at a place, 0 past the end
 abbrev pub byte_at : List ℕ → ℕ → ℕ
 byte_at bytes at = get_or bytes at 0
 
@@ -77,10 +80,12 @@ abbrev pub with_third : List ℕ → List ℕ → Option (List ℕ) → Option (
 with_third first second None = None
 with_third first second (Some third) = Some (first, second, third)
 
+-- a first part, with the two that a second separator parts in the bytes behind the first one
 abbrev pub with_rest : ℕ → List ℕ → Option (List ℕ) → Option (List ℕ × List ℕ × List ℕ)
 with_rest sep first None = None
 with_rest sep first (Some rest) = with_third first (before sep rest) (behind sep rest)
 
+-- the three parts that two separators make of bytes; none where there are fewer separators
 abbrev pub three : ℕ → List ℕ → Option (List ℕ × List ℕ × List ℕ)
 three sep bytes = with_rest sep (before sep bytes) (behind sep bytes)
 
@@ -92,11 +97,13 @@ dashed (d, m, y) = date_by (short_number y) (month_number m) (short_number d)
 abbrev pub slashed : List ℕ × List ℕ × List ℕ → Option ℤ
 slashed (m, d, y) = date_by (short_number y) (short_number m) (short_number d)
 
+-- the date of three parts between dashes, or else of three between slashes
 abbrev pub date_in : Option (List ℕ × List ℕ × List ℕ) → Option (List ℕ × List ℕ × List ℕ) → Option ℤ
 date_in None None = None
 date_in None (Some parts) = slashed parts
 date_in (Some parts) other = dashed parts
 
+-- the answer of @DATEVALUE: the serial number of a date such as 1-Jun-87 or 6/1/87; none for another text
 abbrev pub datevalue : List ℕ → Option ℤ
 datevalue bytes = date_in (three 45 bytes) (three 47 bytes)
 
@@ -107,10 +114,12 @@ clock (Some h) None s = None
 clock (Some h) (Some m) None = None
 clock (Some h) (Some m) (Some s) = time_of (pos h) (pos m) (pos s)
 
+-- the time of hours and minutes with the seconds behind them, 0 where none are written
 abbrev pub with_seconds : List ℕ → List ℕ → Option (List ℕ) → Option ℤ
 with_seconds h m None = clock (short_number h) (two_digits m) (Some 0)
 with_seconds h m (Some s) = clock (short_number h) (two_digits m) (two_digits s)
 
+-- the time of hours with what stands behind the first colon; none without a colon
 abbrev pub with_minutes : List ℕ → Option (List ℕ) → Option ℤ
 with_minutes h None = None
 with_minutes h (Some rest) = with_seconds h (before 58 rest) (behind 58 rest)

@@ -3,6 +3,7 @@ use Rattle.std.specs.Prelude.{ℕ, zero, suc, ◌+◌, ◌-◌, ◌*◌, ◌==�
 use Rattle.fixed_value.specs.Written.{written}
 use Rattle.at_functions.specs.Numbers.{count_of, in_units, units, whole, within}
 
+-- a number in a text with so many decimals; none where the decimals are no count
 abbrev pub string_by : ℤ → Option ℕ → Option (List ℕ)
 string_by v None = None
 string_by v (Some places) = Some (written v places)
@@ -17,9 +18,11 @@ mid_by text None count = None
 mid_by text (Some start) None = None
 mid_by text (Some start) (Some count) = Some (take count (drop start text))
 
+-- the answer of @MID: so many bytes of a text from a place on, which counts from 0
 abbrev pub mid : List ℕ → ℤ → ℤ → Option (List ℕ)
 mid text start count = mid_by text (count_of start) (count_of count)
 
+-- the first bytes of a text, as many as are asked for; none where that is no count
 abbrev pub left_by : List ℕ → Option ℕ → Option (List ℕ)
 left_by text None = None
 left_by text (Some count) = Some (take count text)
@@ -28,6 +31,7 @@ left_by text (Some count) = Some (take count text)
 abbrev pub left : List ℕ → ℤ → Option (List ℕ)
 left text count = left_by text (count_of count)
 
+-- the last bytes of a text, as many as are asked for; none where that is no count
 abbrev pub right_by : List ℕ → Option ℕ → Option (List ℕ)
 right_by text None = None
 right_by text (Some count) = Some (drop (length text - count) text)
@@ -51,13 +55,16 @@ replace_by text None count new = None
 replace_by text (Some start) None new = None
 replace_by text (Some start) (Some count) new = if_short (take start text ++ (new ++ drop (start + count) text))
 
+-- the answer of @REPLACE: a text with so many bytes from a place on replaced by others
 abbrev pub replace : List ℕ → ℤ → ℤ → List ℕ → Option (List ℕ)
 replace text start count new = replace_by text (count_of start) (count_of count) new
 
+-- a text so many times, one behind the other
 abbrev pub again : ℕ → List ℕ → List ℕ
 again zero text = []
 again (suc n) text = text ++ again n text
 
+-- the answer of @REPEAT by a count: none where that is no count, or where the text would be too long
 abbrev pub repeat_by : List ℕ → Option ℕ → Option (List ℕ)
 repeat_by text None = None
 repeat_by text (Some count) = if nat_le (length text * count) 240 then Some (again count text) else None
@@ -66,6 +73,7 @@ repeat_by text (Some count) = if nat_le (length text * count) 240 then Some (aga
 abbrev pub repeat : List ℕ → ℤ → Option (List ℕ)
 repeat text count = repeat_by text (count_of count)
 
+-- the text of the byte with a code; none where there is no such code
 abbrev pub char_by : Option ℕ → Option (List ℕ)
 char_by None = None
 char_by (Some code) = Some (code ∷ [])
@@ -85,6 +93,7 @@ abbrev pub first_place : List ℕ → List ℕ → ℕ → Option ℕ
 first_place what [] at = if starts what [] then Some at else None
 first_place what (b ∷ bs) at = if starts what (b ∷ bs) then Some at else first_place what bs (at + 1)
 
+-- the answer of @FIND: the first place, from one on, where a text begins in another; none where it begins nowhere
 abbrev pub found : List ℕ → List ℕ → ℕ → Option ℕ
 found what text from = if nat_le from (length text) then first_place what (drop from text) from else None
 

@@ -5,6 +5,7 @@ ghost use Rattle.at_functions.specs.Numbers.{round};
 use crate::counts::whole;
 use fixed_value::Fixed;
 
+// Decimals in a small type.
 fn narrow(places: i64) -> i8
     requires low { negsuc 14 ≤ℤ places }
     requires high { places ≤ℤ pos 15 }

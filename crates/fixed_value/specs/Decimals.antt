@@ -6,6 +6,7 @@ use Rattle.fixed_value.specs.declared.decimal.Decimal.{Decimal}
 use Rattle.fixed_value.specs.declared.decimal.Decimal.TheVariants.{Num, TooLarge, NotNumber}
 use Rattle.fixed_value.specs.Numbers.{nearest, signed}
 
+-- a number with one more decimal digit behind it, by the digit's byte
 abbrev pub digit_more : ℕ → ℕ → ℕ
 digit_more n b = n * 10 + (b - 48)
 
@@ -13,10 +14,12 @@ digit_more n b = n * 10 + (b - 48)
 abbrev pub number_of : List ℕ → ℕ
 number_of digits = fold digit_more 0 digits
 
+-- whether a text begins with a minus
 abbrev pub is_minus : List ℕ → Bool
 is_minus [] = false
 is_minus (b ∷ bs) = b == 45
 
+-- a text without the plus or the minus in front of it
 abbrev pub without_sign : List ℕ → List ℕ
 without_sign [] = []
 without_sign (b ∷ bs) = if b == 43 || b == 45 then bs else b ∷ bs
@@ -26,6 +29,7 @@ abbrev pub whole_digits : List ℕ → List ℕ
 whole_digits [] = []
 whole_digits (b ∷ bs) = if is_ascii_digit b then b ∷ whole_digits bs else []
 
+-- what stands behind the digits at a text's front
 abbrev pub behind_digits : List ℕ → List ℕ
 behind_digits [] = []
 behind_digits (b ∷ bs) = if is_ascii_digit b then behind_digits bs else b ∷ bs
@@ -49,6 +53,7 @@ decimal_from minus [] (Some []) = NotNumber
 decimal_from minus [] (Some (p ∷ ps)) = fraction_of minus [] (p ∷ ps)
 decimal_from minus (w ∷ ws) (Some places) = fraction_of minus (w ∷ ws) places
 
+-- what a text spells as a decimal: a number, one that is too large, or none
 abbrev pub decimal_of : List ℕ → Decimal
 decimal_of bytes =
     decimal_from (is_minus bytes) (whole_digits (without_sign bytes)) (places_of (behind_digits (without_sign bytes)))

@@ -5,12 +5,15 @@ use Rattle.fixed_value.specs.declared.doubles.DoubleRead.{DoubleRead}
 use Rattle.fixed_value.specs.declared.doubles.DoubleRead.TheVariants.{Num, Na, Err, TooLarge}
 use Rattle.fixed_value.specs.Numbers.{nearest, signed}
 
+-- the exponent in the bits of a double, as it is stored
 abbrev pub exponent_of : ℕ → ℕ
 exponent_of bits = bits / 4503599627370496 % 2048
 
+-- the fraction in the bits of a double
 abbrev pub fraction_bits : ℕ → ℕ
 fraction_bits bits = bits % 4503599627370496
 
+-- whether the bits of a double have the sign of a number below zero
 abbrev pub has_minus : ℕ → Bool
 has_minus bits = nat_le 9223372036854775808 bits
 
@@ -23,9 +26,11 @@ mantissa_of exponent fraction = if exponent == 0 then fraction else 450359962737
 abbrev pub size_by : ℕ → ℕ → ℕ
 size_by mantissa exponent = nearest (mantissa * 1000000 * 2 ^ (exponent - 1075)) (2 ^ (1075 - exponent))
 
+-- the size of a double in millionths, rounded
 abbrev pub double_size : ℕ → ℕ
 double_size bits = size_by (mantissa_of (exponent_of bits) (fraction_bits bits)) (max (exponent_of bits) 1)
 
+-- the number of a sign and a size in millionths, or that it is too large
 abbrev pub sized : Bool → ℕ → DoubleRead
 sized minus size = if nat_le size 999999999999999 then Num (signed minus size) else TooLarge
 
@@ -40,6 +45,7 @@ double_of bits =
 abbrev pub nearest_even : ℕ → ℕ → ℕ
 nearest_even n d = if nat_lt d (2 * (n % d) + n / d % 2) then n / d + 1 else n / d
 
+-- the sign of a number as the highest bit of its double
 abbrev pub sign_bit : ℤ → ℕ
 sign_bit v = if int_lt v (pos 0) then 9223372036854775808 else 0
 

@@ -10,6 +10,7 @@ within z = if nat_le (nat_abs z) 999999999999999 then Some z else None
 abbrev pub nearest : ℕ → ℕ → ℕ
 nearest n d = (2 * n + d) / (2 * d)
 
+-- whether two signs differ
 abbrev pub unlike : Bool → Bool → Bool
 unlike true b = not b
 unlike false b = b

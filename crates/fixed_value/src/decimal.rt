@@ -15,12 +15,14 @@ pub enum Decimal {
     NotNumber,
 }
 
+// Whether a text begins with a minus.
 fn is_minus(bytes: &[u8]) -> bool
     ensures { result ≡ is_minus bytes.now }
 {
     0 < bytes.len() && bytes[0] == b'-'
 }
 
+// A text without the plus or the minus in front of it.
 fn without_sign(bytes: &[u8]) -> &[u8]
     ensures { result.now ≡ without_sign bytes.now }
 {

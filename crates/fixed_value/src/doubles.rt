@@ -19,6 +19,7 @@ pub enum DoubleRead {
     TooLarge,
 }
 
+// The mantissa of a double, with the bit that isn't stored where there is one.
 fn mantissa_of(exponent: u64, fraction: u64) -> u64
     requires { fraction < 4503599627370496 }
     ensures value { result ≡ mantissa_of exponent fraction }
@@ -115,6 +116,7 @@ fn nearest_even(count: u128) -> u64
     }
 }
 
+// The sign of a number as the highest bit of its double.
 fn sign_bit(value: Fixed) -> u64
     ensures value { result ≡ sign_bit value }
     ensures size { result ≤ 9223372036854775808 }

@@ -32,24 +32,28 @@ pub fn ratio(num: i128, den: i128) -> Option<Fixed>
     Fixed::of(with_sign(minus, size as u64))
 }
 
+/// A number in 128 bits, where products have room.
 pub fn wide(z: i64) -> i128
     ensures { result ≡ z }
 {
     i128::from(z)
 }
 
+/// The size of a number without its sign.
 pub fn size_of(z: i128) -> u128
     ensures { result ≡ nat_abs z }
 {
     z.unsigned_abs()
 }
 
+/// Whether a number is below zero.
 pub fn is_negative(z: i128) -> bool
     ensures { result ≡ int_lt z (pos 0) }
 {
     z < 0
 }
 
+// Whether two signs differ.
 fn unlike(a: bool, b: bool) -> bool
     ensures { result ≡ unlike a b }
 {

@@ -331,10 +331,12 @@ const POWERS: &[[i64; 3]] = &[
     [4_535_577, 5_000_000, 1_919_387_781],
 ];
 
+// A number of so many millionths.
 fn number<R: Abort>(rt: &R, millionths: i64) -> Fixed {
     Fixed::of(millionths).expect(rt, "a number within the size")
 }
 
+// The millionths of a result, or the mark for none.
 fn size_of(value: Option<Fixed>) -> i64 {
     match value {
         Some(fixed) => fixed.millionths(),

@@ -3,10 +3,12 @@ use crate::{Decimal, Fixed, read_decimal, write_decimal, write_hundredfold, writ
 use std::process::Abort;
 use std::test::Fail;
 
+// A number of so many millionths.
 fn number<R: Abort>(rt: &R, millionths: i64) -> Fixed {
     Fixed::of(millionths).expect(rt, "a number within the size")
 }
 
+// The millionths of a result, where there is one.
 fn size_of(value: Option<Fixed>) -> Option<i64> {
     value.map(|fixed| fixed.millionths())
 }

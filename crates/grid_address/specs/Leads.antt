@@ -3,6 +3,7 @@ use Rattle.std.specs.Prelude.{Bool}
 use Rattle.grid_address.specs.Place.{Place}
 use Rattle.grid_address.specs.Axes.{axis_to, resolved, Reference}
 
+-- the cell that a reference of a formula in a cell leads to; offsets go round at the sheet's edge
 abbrev pub resolve : Reference → Place → Place
 resolve r at = record { row = resolved r.row at.row 8192; col = resolved r.col at.col 256 }
 

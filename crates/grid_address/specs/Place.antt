@@ -4,6 +4,7 @@ use Rattle.std.specs.declared.cmp.Ordering.{Ordering}
 use Rattle.std.specs.Ordering.{nat_cmp, ordering_then}
 use Rattle.std.specs.Coded.{Coded, code_by, coded×, coded_ℕ}
 
+-- a cell of the sheet, by its row and its column from 0 on
 pub record Place : Type 0 where
   pub row : ℕ
   pub col : ℕ
@@ -16,9 +17,11 @@ coded_place = code_by (ℕ × ℕ) (coded× coded_ℕ coded_ℕ) (λ s. (s.row, 
 abbrev pub InSheet : Place → Type 0
 InSheet p = (p.row < 8192) × (p.col < 256)
 
+-- the order of cells row by row, and within a row by columns
 abbrev pub place_cmp : Place → Place → Ordering
 place_cmp a b = ordering_then (nat_cmp a.row b.row) (nat_cmp a.col b.col)
 
+-- whether two cells are the same
 abbrev pub same_place : Place → Place → Bool
 same_place a b = nat_eq a.row b.row && nat_eq a.col b.col
 
@@ -31,6 +34,7 @@ pub record Extent : Type 0 where
 abbrev pub coded_extent : Coded Extent
 coded_extent = code_by (Place × Place) (coded× coded_place coded_place) (λ s. (s.first, s.last)) (λ p. record { first = p.0; last = p.1 }) (λ _. refl)
 
+-- whether a cell lies in a span
 abbrev pub is_within : Extent → Place → Bool
 is_within s p = (nat_le s.first.row p.row && nat_le p.row s.last.row) && (nat_le s.first.col p.col && nat_le p.col s.last.col)
 

@@ -17,9 +17,11 @@ IsRead (Row c n) bytes = (map to_ascii_uppercase bytes ≡ column_name c ++ deci
 abbrev pub first_digit : ℕ → ℕ → Option Progress
 first_digit c b = if nat_le 49 b && nat_le b 57 then Some (Row c (b - 48)) else None
 
+-- a column behind its second letter; none past the last column
 abbrev pub second_letter : ℕ → ℕ → Option Progress
 second_letter c b = if nat_lt ((c + 1) * 26 + (b - 65)) 256 then Some (Column ((c + 1) * 26 + (b - 65))) else None
 
+-- a row behind a further digit; none past the last row
 abbrev pub later_digit : ℕ → ℕ → Option Progress
 later_digit c n = if nat_le n 8192 then Some (Row c n) else None
 
@@ -56,10 +58,12 @@ abbrev pub count_dots : List ℕ → ℕ
 count_dots [] = 0
 count_dots (x ∷ rest) = if x == 46 then (if get_or rest 0 0 == 46 then 2 else 1) else 0
 
+-- how far an address is read behind one more byte; none where it can be none any more
 abbrev pub step_on : Option Progress → ℕ → Option Progress
 step_on None b = None
 step_on (Some s) b = next_of s b
 
+-- the cell of what was read; none where it is no whole address
 abbrev pub end_of : Option Progress → Option Place
 end_of None = None
 end_of (Some s) = whole_cell s

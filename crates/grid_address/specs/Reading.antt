@@ -31,12 +31,15 @@ pub record IsTwoCells (bytes : List ℕ) (s : Extent) : Type 0 where
   pub spelled_right : SpellsCell right other
   pub is : s ≡ spanned one other
 
+-- bytes spell a span: one cell, or two cells with points between them
 abbrev pub SpellsSpan : List ℕ → Extent → Type 0
 SpellsSpan bytes s = IsOneCell bytes s ⊎ IsTwoCells bytes s
 
+-- bytes spell some cell
 abbrev pub IsAddress : List ℕ → Type 0
 IsAddress bytes = (p : Place) × SpellsCell bytes p
 
+-- bytes spell some span
 abbrev pub IsSpan : List ℕ → Type 0
 IsSpan bytes = (s : Extent) × SpellsSpan bytes s
 

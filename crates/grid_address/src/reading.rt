@@ -139,6 +139,7 @@ pub fn count_dots(bytes: &[u8]) -> usize
     }
 }
 
+// How many points stand at a place.
 fn dots_at(bytes: &[u8], at: usize) -> usize
     requires { at ≤ length bytes.now }
     ensures { result ≡ count_dots (drop at bytes.now) }

@@ -12,6 +12,7 @@ dotted Wk1 = 46 ∷ 87 ∷ 75 ∷ 49 ∷ []
 dotted Prn = 46 ∷ 80 ∷ 82 ∷ 78 ∷ []
 dotted Txt = 46 ∷ 84 ∷ 88 ∷ 84 ∷ []
 
+-- bytes in capitals, as names of files are compared
 abbrev pub folded : List ℕ → List ℕ
 folded bytes = map to_ascii_uppercase bytes
 
@@ -27,6 +28,7 @@ stem_in ext bytes = if has_ending ext bytes then take (length bytes - 4) bytes e
 abbrev pub is_name_byte : ℕ → Bool
 is_name_byte b = is_ascii_alphanumeric b || ((b == 95) || (b == 45))
 
+-- whether bytes can be a file's name without its ending: one to eight, each allowed in names
 abbrev pub is_stem : List ℕ → Bool
 is_stem stem = nat_le 1 (length stem) && (nat_le (length stem) 8 && list_all is_name_byte stem)
 

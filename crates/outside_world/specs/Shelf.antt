@@ -27,12 +27,15 @@ pub record OnShelf : Type 0 where
   pub files : Files
   pub answers : List ShelfAnswer
 
+-- a shelf as it is seen: what its files hold, and what its calls answered
 abbrev pub on_shelf : Files → List ShelfAnswer → OnShelf
 on_shelf files answers = record { files = files; answers = answers }
 
+-- what the file of a name holds; none where there is no such file
 abbrev pub file_in : List ℕ → Files → Option (List ℕ)
 file_in name files = map.get files name
 
+-- whether there is a file of a name
 abbrev pub has_file : List ℕ → Files → Bool
 has_file name files = is_some (file_in name files)
 
@@ -41,6 +44,7 @@ abbrev pub held_as : List ℕ → Option (List ℕ) → Files → Files
 held_as name None files = map.remove files name
 held_as name (Some bytes) files = map.insert files name bytes
 
+-- a shelf with what a name's file holds replaced, or with the file removed
 abbrev pub holding : List ℕ → Option (List ℕ) → OnShelf → OnShelf
 holding name held s = on_shelf (held_as name held s.files) s.answers
 

@@ -12,6 +12,7 @@ use Rattle.outside_world.specs.Shelf.{OnShelf}
 abbrev pub keys_left : ListKeys → List ℕ
 keys_left k = drop k.at k.bytes.items
 
+-- how many calls of keys in memory failed
 abbrev pub keys_faults : ListKeys → ℕ
 keys_faults k = k.faults
 
@@ -23,6 +24,7 @@ clock_readings c = drop c.at c.readings.items
 abbrev pub notes_written : ListNotes → List ℕ
 notes_written n = n.bytes.items
 
+-- how many calls of notes in memory failed
 abbrev pub notes_faults : ListNotes → ℕ
 notes_faults n = n.faults
 
@@ -30,5 +32,6 @@ notes_faults n = n.faults
 abbrev pub shelf_told : MapShelf → OnShelf
 shelf_told s = told_by s.journal.items
 
+-- how many calls of a shelf in memory failed
 abbrev pub shelf_faults : MapShelf → ℕ
 shelf_faults s = s.faults

@@ -103,6 +103,7 @@ impl FileName {
     }
 }
 
+// Whether a name ends with a point and an ending, in letters of either case.
 fn has_ending(ext: Ext, bytes: &[u8]) -> bool
     ensures { result ≡ has_ending ext bytes.now }
 {
@@ -128,18 +129,21 @@ fn stem_in(ext: Ext, bytes: &[u8]) -> &[u8]
     }
 }
 
+// Whether a byte may stand in a file's name: a letter, a digit, `_` or `-`.
 fn is_name_byte(byte: u8) -> bool
     ensures { result ≡ is_name_byte byte }
 {
     byte.is_ascii_alphanumeric() || byte == b'_' || byte == b'-'
 }
 
+// Whether each byte may stand in a file's name.
 fn are_name_bytes(bytes: &[u8]) -> bool
     ensures { result ≡ list_all is_name_byte bytes.now }
 {
     bytes.iter().all(|byte| is_name_byte(*byte))
 }
 
+// Whether bytes can be a file's name without its ending: one to eight, each allowed in names.
 fn is_stem(stem: &[u8]) -> bool
     ensures { result ≡ is_stem stem.now }
 {

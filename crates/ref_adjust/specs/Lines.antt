@@ -18,16 +18,19 @@ abbrev pub with_row : Place → Option ℕ → Option Place
 with_row p (Some row) = Some (record { row = row; col = p.col })
 with_row p None = None
 
+-- a cell in another column; none where there is no column
 abbrev pub with_col : Place → Option ℕ → Option Place
 with_col p (Some col) = Some (record { row = p.row; col = col })
 with_col p None = None
 
+-- where a cell comes to by inserted or deleted rows or columns; none where it is deleted or pushed off the sheet
 abbrev pub place_shifted : Change → Place → Option Place
 place_shifted (InsertRows first count) p = with_row p (line_inserted 8192 first count p.row)
 place_shifted (InsertColumns first count) p = with_col p (line_inserted 256 first count p.col)
 place_shifted (DeleteRows first count) p = with_row p (line_deleted first count p.row)
 place_shifted (DeleteColumns first count) p = with_col p (line_deleted first count p.col)
 
+-- where a span comes to by its two corners; none where one of them is lost
 abbrev pub span_shifted : Change → Extent → Option Extent
 span_shifted change s = span_of_corners (place_shifted change s.first) (place_shifted change s.last)
 
@@ -42,17 +45,20 @@ first_of (InsertColumns first count) = first
 first_of (DeleteRows first count) = first
 first_of (DeleteColumns first count) = first
 
+-- how many rows or columns are inserted or deleted
 abbrev pub count_of : Change → ℕ
 count_of (InsertRows first count) = count
 count_of (InsertColumns first count) = count
 count_of (DeleteRows first count) = count
 count_of (DeleteColumns first count) = count
 
+-- how many rows or columns a sheet has, as the change is one of rows or of columns
 abbrev pub lines_of : Change → ℕ
 lines_of (InsertRows first count) = 8192
 lines_of (InsertColumns first count) = 256
 lines_of (DeleteRows first count) = 8192
 lines_of (DeleteColumns first count) = 256
 
+-- a change that a sheet has room for: its lines lie on the sheet
 abbrev pub IsChange : Change → Type 0
 IsChange change = AreLines (lines_of change) (first_of change) (count_of change)

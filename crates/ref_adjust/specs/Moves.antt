@@ -24,5 +24,6 @@ span_of_corners (Some a) (Some b) = Some (spanned a b)
 span_of_corners (Some a) None = None
 span_of_corners None b = None
 
+-- where a span comes to when a block is moved, by its two corners; none where one of them is lost
 abbrev pub span_moved : Extent → Place → Extent → Option Extent
 span_moved from to s = span_of_corners (place_moved from to s.first) (place_moved from to s.last)

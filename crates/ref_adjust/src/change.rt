@@ -50,6 +50,7 @@ fn line_deleted(lines: u16, first: u16, count: u16, line: u16) -> Option<u16>
     }
 }
 
+// A cell in another row; none where there is no row.
 fn with_row(cell: Cell, row: Option<u16>) -> Option<Cell>
     requires { IfSome row (λ r. r < 8192) }
     ensures { result ≡ with_row cell row }
@@ -60,6 +61,7 @@ fn with_row(cell: Cell, row: Option<u16>) -> Option<Cell>
     }
 }
 
+// A cell in another column; none where there is no column.
 fn with_col(cell: Cell, col: Option<u16>) -> Option<Cell>
     requires { IfSome col (λ c. c < 256) }
     ensures { result ≡ with_col cell col }

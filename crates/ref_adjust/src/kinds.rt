@@ -6,6 +6,7 @@ ghost use Rattle.ref_adjust.specs.Moves.{span_of_corners};
 
 use grid_address::{Axis, Cell, Ref, Span};
 
+// Whether a part of a reference names a row or a column itself, as `$` tells.
 fn is_fixed(axis: Axis) -> bool
     ensures { result ≡ is_fixed axis }
 {

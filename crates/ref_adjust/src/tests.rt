@@ -48,6 +48,7 @@ fn named(formula: &Formula, at: Cell) -> Option<Cell> {
     }
 }
 
+// Whether an expression is the call of @ERR.
 fn is_error(expr: &Expr) -> bool {
     match expr {
         Expr::Call(function, args) => *function == Function::Err && args.items().len() == 0,

@@ -6,6 +6,7 @@ use Rattle.serial_date.specs.declared.calendar.Civil.{Civil}
 abbrev pub is_leap : ℕ → Bool
 is_leap y = y % 4 == 0
 
+-- the days of a year
 unfoldable pub days_in_year : ℕ → ℕ
 days_in_year y = if is_leap y then 366 else 365
 
@@ -25,6 +26,7 @@ unfoldable pub piece_of : (ℕ → ℕ) → ℕ → ℕ → ℕ → ℕ × ℕ
 piece_of length zero first n = (first, n)
 piece_of length (suc count) first n = if nat_le n (length first) then (first, n) else piece_of length count (first + 1) (n - length first)
 
+-- whether a whole number lies between two others, or is one of them
 abbrev pub is_between : ℕ → ℕ → ℤ → Bool
 is_between low high z = not (int_lt z (pos low)) && not (int_lt (pos high) z)
 
@@ -36,9 +38,11 @@ is_date y m d = is_between 1900 2099 y && (is_between 1 12 m && is_between 1 (da
 abbrev pub number_of : ℕ → ℕ → ℕ → ℕ
 number_of y m d = total days_in_year 1900 (y - 1900) + (total (days_in_month y) 1 (m - 1) + d)
 
+-- the serial number of a date; none where the calendar has no such date
 abbrev pub day_number : ℤ → ℤ → ℤ → Option ℕ
 day_number y m d = if is_date y m d then Some (number_of (unsigned_abs y) (unsigned_abs m) (unsigned_abs d)) else None
 
+-- the date of a year, a month and a day
 abbrev pub date_at : ℕ → ℕ → ℕ → Civil
 date_at y m d = record { year = pos y; month = pos m; day = pos d }
 

@@ -25,6 +25,7 @@ pub struct Civil {
     pub day: i8,
 }
 
+// Whether a date is the 29 February 1900, which the calendar has and that year had not.
 fn is_leap_day_1900(year: i16, month: i8, day: i8) -> bool
     ensures yes { result ≡ true → (year ≡ pos 1900) × (month ≡ pos 2) × (day ≡ pos 29) }
     ensures no { result ≡ false → (year ≡ pos 1900) × (month ≡ pos 2) × (day ≡ pos 29) → ⊥ }

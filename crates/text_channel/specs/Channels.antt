@@ -14,19 +14,23 @@ use Rattle.text_channel.specs.Lines.{Piece}
 abbrev pub limit : ℕ
 limit = 67108864
 
+-- whether a file that is opened so can be read
 abbrev pub reads : Access → Bool
 reads Read = true
 reads Write = false
 reads Modify = true
 
+-- whether a file that is opened so can be written
 abbrev pub writes : Access → Bool
 writes Read = false
 writes Write = true
 writes Modify = true
 
+-- a file that is open: its name, what may be done with it, its bytes, and the position in them
 abbrev pub attached : List ℕ → Access → List ℕ → ℕ → Attached
 attached name access bytes at = record { name = name; access = access; bytes = bytes; at = at }
 
+-- an open file is within its bounds: its position in its bytes, and these within the most that a file may hold
 abbrev pub IsWithin : Option Attached → Type 0
 IsWithin None = Unit {0}
 IsWithin (Some a) = (a.at ≤ length a.bytes) × (length a.bytes ≤ limit)
@@ -40,6 +44,7 @@ left_to_read (Some a) = if reads a.access && not (nat_le (length a.bytes) a.at) 
 abbrev pub given : (List ℕ → Piece) → Option Attached → Option (List ℕ)
 given next c = option_map (λ left. (next left).text) (left_to_read c)
 
+-- the open file behind what was read, so many bytes further; nothing changes where nothing was read
 abbrev pub moved : Option ℕ → Option Attached → Option Attached
 moved None c = c
 moved (Some n) None = None
@@ -59,23 +64,29 @@ abbrev pub with_bytes : List ℕ → Option Attached → Option Attached
 with_bytes bytes None = None
 with_bytes bytes (Some a) = Some (attached a.name a.access (take a.at a.bytes ++ bytes ++ drop (a.at + length bytes) a.bytes) (a.at + length bytes))
 
+-- the open file with bytes written at its position, as it was where they can't be
 abbrev pub written : List ℕ → Option Attached → Option Attached
 written bytes c = if can_write bytes c then with_bytes bytes c else c
 
+-- how many bytes the open file holds; none where none is open
 abbrev pub size_of : Option Attached → Option ℕ
 size_of c = option_map (λ a. length a.bytes) c
 
+-- the position in the open file; none where none is open
 abbrev pub position_of : Option Attached → Option ℕ
 position_of c = option_map (λ a. a.at) c
 
+-- whether the open file has a place: none lies past its end
 abbrev pub can_stand : ℕ → Option Attached → Bool
 can_stand place None = false
 can_stand place (Some a) = nat_le place (length a.bytes)
 
+-- the open file at another position, as it was where it has no such place
 abbrev pub stood : ℕ → Option Attached → Option Attached
 stood place None = None
 stood place (Some a) = if nat_le place (length a.bytes) then Some (attached a.name a.access a.bytes place) else Some a
 
+-- a fault of a channel, in the shelf's words
 abbrev pub of_shelf : ChannelFault → ShelfFault
 of_shelf fault.Failed = shelf.Failed
 of_shelf fault.Memory = shelf.Memory
@@ -94,6 +105,7 @@ abbrev pub HasPutAway : Attached → Option OnShelf → Option OnShelf → Optio
 HasPutAway a before after now (Ok done) = (done ≡ true) × (now ≡ None) × HasPut a.name a.bytes before after (Ok tt)
 HasPutAway a before after now (Err e) = (now ≡ Some a) × HasPut a.name a.bytes before after (Err (of_shelf e))
 
+-- what closing a file did: one that was opened to be read leaves the shelf, and any other is put there
 abbrev pub HasFinishedBy : Access → Attached → Option OnShelf → Option OnShelf → Option Attached → Result Bool ChannelFault → Type 0
 HasFinishedBy Read a before after now result = (result ≡ Ok true) × (now ≡ None) × (after ≡ before)
 HasFinishedBy Write a before after now result = HasPutAway a before after now result

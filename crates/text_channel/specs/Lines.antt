@@ -5,6 +5,7 @@ use Rattle.std.specs.Prelude.{ℕ, ◌+◌, ◌==◌, ◌&&◌, nat_lt, Bool, fa
 abbrev pub shown_byte : ℕ → ℕ
 shown_byte b = if nat_lt b 32 then 32 else b
 
+-- whether bytes begin with the end of a line
 abbrev pub starts_with_lf : List ℕ → Bool
 starts_with_lf [] = false
 starts_with_lf (b ∷ rest) = b == 10
@@ -24,6 +25,7 @@ pub record Piece : Type 0 where
   pub text : List ℕ
   pub passed : ℕ
 
+-- what was read: the bytes as they are shown, and how many were passed
 abbrev pub piece : List ℕ → ℕ → Piece
 piece bytes passed = record { text = map shown_byte bytes; passed = passed }
 
