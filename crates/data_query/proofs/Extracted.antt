@@ -1,11 +1,10 @@
 -- What an extraction writes, one value and one record at a time, and when it is refused.
 use Rattle.std.proofs.Common.{◌≡◌, ℕ, ◌+◌, ◌<◌, ◌≤◌, List, [], ◌∷◌, ◌++◌, map, length, drop, get_or, cond, sym, ap, ◌∙◌, append_assoc, subst}
-use Rattle.std.specs.Prelude.{◌⊎◌, Bool, true, false, Result, Ok, Err, IfOk, IfErr}
-use Rattle.std.specs.List.{list_any}
+use Rattle.std.specs.Prelude.{◌⊎◌, Bool, Result, Ok, Err, IfOk, IfErr}
 use Rattle.std.specs.Result.{result_and}
 use Rattle.std.proofs.lemmas.Bool.{le-ltb, lt-ltb}
 use Rattle.std.proofs.lemmas.List.{append-nil, drop_all, drop_more}
-use Rattle.grid_address.specs.Place.{Extent, Place}
+use Rattle.grid_address.specs.Place.{Extent}
 use Rattle.formula_eval.specs.World.{Sight, World}
 use Rattle.sheet_store.specs.declared.writes.Write.{Write}
 use Rattle.data_query.specs.Extraction.{extraction, fields_extracted, labelled, output_written, room_of, rows_extracted, taken_fields}
@@ -24,13 +23,6 @@ module _ {X W : Type 0} (f : X → W) (xs : List X) where
   -- none is left
   pub made_all : (i : ℕ) (now all : List W) → length xs ≤ i → now ++ map f (drop i xs) ≡ all → now ≡ all
   made_all i now all past so_far = sym (append-nil now) ∙ ap (λ l. now ++ map f l) (sym (drop_all i xs past)) ∙ so_far
-
--- a cell that is among others stays out of them, and another one joins them
-pub stays_out : (test : Place → Bool) (kept slice : List Place) (cell : Place) (b : Bool) → b ≡ list_any test slice → slice ≡ kept → b ≡ true → kept ≡ cond (list_any test kept) kept (kept ++ cell ∷ [])
-stays_out test kept slice cell b is same found = ap (λ c. cond c kept (kept ++ cell ∷ [])) (sym found ∙ is ∙ ap (list_any test) same)
-
-pub joins : (test : Place → Bool) (kept slice new : List Place) (cell : Place) (b : Bool) → b ≡ list_any test slice → slice ≡ kept → b ≡ false → new ≡ kept ++ cell ∷ [] → new ≡ cond (list_any test kept) kept (kept ++ cell ∷ [])
-joins test kept slice new cell b is same missed more = more ∙ ap (λ c. cond c kept (kept ++ cell ∷ [])) (sym missed ∙ is ∙ ap (list_any test) same)
 
 -- an answer by one definition is an answer by an equal one
 pub found_as : (r e f : Result (List Write) QueryFault) → e ≡ f → IfOk r (λ (l : List Write). e ≡ Ok l) → IfOk r (λ (l : List Write). f ≡ Ok l)

@@ -1,3 +1,4 @@
 pub mod Extraction
+pub mod Keys
 pub mod Plans
 pub mod Selection

@@ -4,83 +4,106 @@ ghost use Rattle.std.specs.List.{list_any};
 ghost use Rattle.grid_address.specs.Place.{Place};
 ghost use Rattle.formula_eval.specs.World.{Sight};
 ghost use Rattle.block_writes.specs.Writing.{at};
-ghost use Rattle.data_query.specs.Extraction.{same_record, same_value, without_repeats};
+ghost use Rattle.data_query.specs.Extraction.{same_record, without_repeats};
+ghost use Rattle.data_query.specs.Keys.{all_keyed, keyed, record_values, same_values};
 
 use crate::output::OutputField;
 use formula_eval::Look;
 use formula_tree::Value;
 use grid_address::{Cell, CellList};
+use indexmap::IndexSet;
 use lics_text::Memory;
 use std::alloc::Global;
-use value_conditions::is_same;
 
-// Whether two values are equal; letters are not folded.
-fn same_value(a: &Value, b: &Value) -> bool
-    ensures { result ≡ same_value a.now b.now }
+/// What a value is looked up by: a number by its millionths, and a text by its bytes. Keys are equal exactly where their
+/// values are.
+#[derive(PartialEq, Eq, Hash, Drop)]
+pub enum ValueKey {
+    Blank,
+    Number(i64),
+    Text(Vec<u8>),
+    Err,
+    Na,
+}
+
+// The key of a value.
+fn value_key(alloc: Global, value: &Value) -> Result<ValueKey, Memory>
+    ensures { IfOk result (λ k. keyed k ≡ value.now) }
 {
-    match a {
-        Value::Blank => matches!(b, Value::Blank),
-        Value::Num(number) => match b {
-            Value::Num(other) => is_same(*number, *other),
-            Value::Blank | Value::Str(_) | Value::Err | Value::Na => false,
-        },
-        Value::Str(text) => match b {
-            Value::Str(other) => text.bytes() == other.bytes(),
-            Value::Blank | Value::Num(_) | Value::Err | Value::Na => false,
-        },
-        Value::Err => matches!(b, Value::Err),
-        Value::Na => matches!(b, Value::Na),
+    match value {
+        Value::Blank => Ok(ValueKey::Blank),
+        Value::Num(number) => Ok(ValueKey::Number(number.millionths())),
+        Value::Str(text) => Ok(ValueKey::Text(Vec::from_slice(alloc, text.bytes())?)),
+        Value::Err => Ok(ValueKey::Err),
+        Value::Na => Ok(ValueKey::Na),
     }
 }
 
-// Whether two records have equal values in a field.
-fn same_field<K: Look>(look: &K, field: OutputField, a: Cell, b: Cell) -> bool
+// The key of a record's value in a field.
+fn field_key<K: Look>(
+    alloc: Global,
+    look: &K,
+    field: OutputField,
+    cell: Cell,
+) -> Result<ValueKey, Memory>
     ensures { let values = (K.sight look.now).values in
-        result ≡ same_value (values (at a.row field.field)) (values (at b.row field.field)) }
+        IfOk result (λ k. keyed k ≡ values (at cell.row field.field)) }
 {
-    let col = field.field;
-    same_value(
-        look.value(Cell { row: a.row, col }),
-        look.value(Cell { row: b.row, col }),
-    )
+    let source = Cell {
+        row: cell.row,
+        col: field.field,
+    };
+    value_key(alloc, look.value(source))
 }
 
-// Whether two records have equal values in all fields that the output takes.
-fn same_record<K: Look>(look: &K, fields: &[OutputField], a: Cell, b: Cell) -> bool
-    ensures { result ≡ same_record (K.sight look.now) fields.now a.row b.row }
+// The keys of a record's values in the fields that the output takes.
+fn record_key<K: Look>(
+    alloc: Global,
+    look: &K,
+    fields: &[OutputField],
+    cell: Cell,
+) -> Result<Vec<ValueKey>, Memory>
+    ensures { IfOk result (λ k. all_keyed k.items ≡ record_values (K.sight look.now) fields.now cell.row) }
 {
+    let mut key = Vec::new(alloc);
     for field in fields {
-        if !same_field(look, *field, a, b) {
-            return false;
-        }
+        let value = field_key(alloc, look, *field, cell)?;
+        key.push(value)?;
     }
-    true
+    Ok(key)
 }
 
-// Whether a record is the same as one of these.
-fn is_repeated<K: Look>(look: &K, fields: &[OutputField], kept: &[Cell], cell: Cell) -> bool
-    ensures { result ≡ list_any (λ (p : Place). same_record (K.sight look.now) fields.now p.row cell.row) kept.now }
+// Adds a record's key behind the others, unless one of them is equal to it. Tells whether one is.
+fn insert(keys: &mut IndexSet<Vec<ValueKey>>, key: Vec<ValueKey>) -> Result<bool, Memory>
+    ensures told { let repeated = list_any (λ k. same_values (all_keyed k.items) (all_keyed key.items)) keys.old.keys in
+        IfOk result (λ b. b ≡ repeated) }
+    ensures keys { let repeated = list_any (λ k. same_values (all_keyed k.items) (all_keyed key.items)) keys.old.keys in
+        OnOk result (keys.new.keys ≡ (if repeated then keys.old.keys else keys.old.keys ++ key ∷ [])) }
 {
-    for earlier in kept {
-        if same_record(look, fields, *earlier, cell) {
-            return true;
-        }
-    }
-    false
+    let is_new = keys.insert(key)?;
+    Ok(!is_new)
 }
 
-// Keeps a record, unless it is the same as one that is kept.
+// Keeps a record, unless it is the same as one that is kept. The keys are those of the kept records.
 fn keep<K: Look>(
     kept: &mut CellList,
+    keys: &mut IndexSet<Vec<ValueKey>>,
+    alloc: Global,
     look: &K,
     fields: &[OutputField],
     cell: Cell,
 ) -> Result<(), Memory>
-    ensures { let same = same_record (K.sight look.now) fields.now in
+    requires { map (λ k. all_keyed k.items) keys.old.keys
+        ≡ map (λ (p : Place). record_values (K.sight look.now) fields.now p.row) kept.old }
+    ensures records { let same = same_record (K.sight look.now) fields.now in
         let repeated = list_any (λ (p : Place). same p.row cell.row) kept.old in
         OnOk result (kept.new ≡ (if repeated then kept.old else kept.old ++ cell ∷ [])) }
+    ensures keys { OnOk result (map (λ k. all_keyed k.items) keys.new.keys
+        ≡ map (λ (p : Place). record_values (K.sight look.now) fields.now p.row) kept.new) }
 {
-    if is_repeated(look, fields, kept.as_slice(), cell) {
+    let key = record_key(alloc, look, fields, cell)?;
+    let is_repeated = insert(keys, key)?;
+    if is_repeated {
         return Ok(());
     }
     kept.push(cell)?;
@@ -98,8 +121,9 @@ pub fn without_repeats<K: Look>(
         IfOk result (λ l. map row l ≡ without_repeats same (map row cells.now)) }
 {
     let mut kept = CellList::new(alloc);
+    let mut keys = IndexSet::new(alloc);
     for cell in cells {
-        keep(&mut kept, look, fields, *cell)?;
+        keep(&mut kept, &mut keys, alloc, look, fields, *cell)?;
     }
     Ok(kept)
 }
