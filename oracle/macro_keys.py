@@ -183,6 +183,39 @@ class Programs:
                                                                         b'{DEFINE C2}']),
                 b'C9': r.choice([b'D2', b'NONE', b'E2', b'd1'])}
 
+    def slashes(self):
+        """The forms with /X: a loop by them, calls and returns, and an end."""
+        r, n = self.r, self.number()
+        test = lambda: r.choice([b'/XIA1<', b'/xia1<', b'/XIA1>', b'/XiA2<']) + n + b'~'
+        after = lambda: r.choice([b'/XGD1~', b'/XGD3~', b'/xgSUB2~', b'/XQ', b'/xq', b'/XCE1~/XGD3~', b'/XCSUB~', b'/XR'])
+        return {b'D1': r.choice([b'{LET A1,A1+1}', b'/XCE1~', b'/XCSUB~', b'/xcsub~']) + test() + after(),
+                b'D2': r.choice([b'', b'/XCF1~', b'/XGD3~x~']) + r.choice([b'{LET C1,C1+1}', b'y{DOWN}']) + r.choice([b'', b'/XQ{LET C2,9}', b'/XGD3~']),
+                b'D3': r.choice([b'{LET B2,A1}', b'/XIA1~{LET B2,2}/XQ', b'/XCF1~{LET B2,B2+1}']) + r.choice([b'', b'/XR', b'/XQx~']),
+                b'E1': b'{LET A1,A1+1}' + r.choice([b'/XR', b'/XR{LET C2,C2+9}', b'/XIA1>1~/XR', b'/XCF1~/XR', b'/XQ', b'']),
+                b'E2': r.choice([b'{LET B3,B3+1}', b'{LET B3,B3+1}/XR', b'/XQ']), b'F1': r.choice([b'{LET A2,A2+1}/XR', b'/XR', b'{LET C3,1}', b'/XGE2~'])}
+
+    def broken_off(self):
+        """Loops, one within another, that FORBREAK leaves, and FORBREAK where no loop is the innermost."""
+        r, n = self.r, self.number()
+        inner = r.choice([b'{FOR B1,1,3,1,F1}', b'{FOR B1,1,3,1,F1}{LET C3,C3+1}', b'{SUB2}', b'{LET A2,A2+A1}'])
+        leave = lambda: r.choice([b'{IF A1=2}{FORBREAK}', b'{IF A2>1}{FORBREAK}', b'{FORBREAK}{LET C1,9}', b'{forbreak}', b'{LET B2,A1}{FORBREAK}'])
+        return {b'D1': b'{FOR A1,1,' + n + b',1,SUB}' + r.choice([b'{LET C1,"behind"}', b'{FORBREAK}', b'{FOR A2,1,2,1,F1}', b'x~']),
+                b'E1': inner + r.choice([b'', leave()]), b'E2': r.choice([leave(), leave(), b'{LET C2,C2+1}', b'']),
+                b'F1': r.choice([b'{IF B1=2}{FORBREAK}', b'{FORBREAK}', b'{LET B2,B2+B1}', b'{LET B3,B3+1}{IF B3>2}{FORBREAK}', b'{RESTART}{FORBREAK}']),
+                b'D2': r.choice([b'', b'{LET C3,"next"}'])}
+
+    def dispatched(self):
+        """Places that a cell names, which change while the macro goes along them."""
+        r = self.r
+        place = lambda: r.choice([b'D3', b'd3', b'SUB', b'E2', b'F1', b'D2', b'AGAIN']) if r.randrange(8) else r.choice([b'$D$3', b'NONE'])
+        by = r.choice([b'B1', b'C9', b'B2'])
+        go = lambda: b'{' + r.choice([b'DISPATCH ', b'DISPATCH ', b'dispatch ', b'Dispatch ']) + (by if r.randrange(8) else b'A1') + b'}'
+        named = r.choice([place(), place(), b'+"D"&@STRING(A1+2,0)', b'@IF(A1>1,"E1","D3")', b'@CHOOSE(A1,"D3","SUB","F1")', b'+C3', b'3'])
+        return {b'D1': r.choice([b'', b'{LET A1,1}', b'x~']) + go(), b'D2': b'{LET A2,A2+1}' + r.choice([b'', go()]),
+                b'D3': b'{LET A1,A1+1}' + r.choice([b'', b'{IF A1<4}' + go(), b'{LET ' + by + b',"' + place() + b'"}' + go()]),
+                b'E1': b'{LET B3,B3+1}' + r.choice([b'', b'{LET ' + by + b',' + place() + b'}' + go(), b'{IF B3<3}' + go()]),
+                b'E2': r.choice([b'{LET C2,2}', b'{DOWN}y~']), b'F1': r.choice([b'{LET C1,C1+1}', b'{QUIT}', b'{BLANK ' + by + b'}' + go()]), by: named}
+
     def deep(self):
         """Calls and loops up to the deepest level and past it."""
         r = self.r
@@ -282,7 +315,8 @@ class Programs:
         many = [self.counted, self.looped, self.looped, self.rewritten, self.rewritten, self.formulas, self.formulas, self.called, self.called,
                 self.failing, self.failing, self.failing,
                 *[self.faulty] * 5, self.deep, self.deep, self.repeated, self.repeated, self.argued, self.argued, self.argued,
-                self.reckoned, self.reckoned, self.typed, self.typed, self.moved, self.moved]
+                *[self.called] * 2, *[self.rewritten] * 3, *[self.slashes] * 3, *[self.broken_off] * 3, *[self.dispatched] * 3,
+                *[self.reckoned] * 4, self.typed, self.typed, self.moved, self.moved]
         self.starts = None
         made = r.choice(many + [self.ended] * 4 + [self.endless] if last else many)()
         for cell in (b'A1', b'A2', b'B1', b'B2', b'C3', b'A3'):

@@ -1,10 +1,15 @@
 """Random key lists through the built program and through the oracle: screens, notes, statuses, counts and the files left compared.
 
-python3 -B -m oracle.runs PROGRAM N [SEED]
+python3 -B -m oracle.runs PROGRAM N [SEED] [--macros] [--processes P]
+
+With --macros each list types two to four sheets of macros, and none of data commands; P processes share the lists, as many as the machine
+has processors where P isn't given.
 
 A key list is made of what the program has built; WITHOUT and the makers of Typist and MenuKeys grow with it. Each run has a folder of
 its own, which mostly holds a few files. The moment on a screen's last line is left out, and no formula asks for it."""
+import argparse
 import concurrent.futures
+import functools
 import os
 import random
 import shlex
@@ -41,8 +46,8 @@ SHEETS = ['SHEET', *('SHEET%d' % number for number in range(2, 9))]
 class Typist:
     """Makes key lists, the words before them and the folder in which they are typed."""
 
-    def __init__(self, r):
-        self.r = r
+    def __init__(self, r, macros_alone=False):
+        self.r, self.macros_alone = r, macros_alone
         self.texts = Texts(r, 3, 5, False, [], without=WITHOUT)
         self.menus = MenuKeys(self)
         self.data, self.macros = DataKeys(self.menus), MacroKeys(self.menus)
@@ -197,8 +202,8 @@ class Typist:
     def scenes(self):
         """Keys of the commands below Data and of macros, over sheets of their own; a macro that may end the run comes last."""
         r, out = self.r, b''
-        macros = r.choice([0, 1, 1, 2])
-        names = SHEETS[:r.choice([2, 4, 5, 6, 8, 8])]
+        macros = 2 if self.macros_alone else r.choice([0, 1, 1, 2])
+        names = SHEETS[:r.choice([2, 2, 3, 4] if self.macros_alone else [2, 4, 5, 6, 8, 8])]
         for at, name in enumerate(names):
             macro = r.randrange(2) < macros
             self.may_run = self.may_run or macro
@@ -212,7 +217,7 @@ class Typist:
     def keys(self):
         r = self.r
         parts = [self.part() for _ in range(r.choice([0, 1, 3, 8, 15, 30]))]
-        pick = r.randrange(9)
+        pick = 0 if self.macros_alone else r.randrange(9)
         if pick < 7:
             parts = [self.scenes()] + parts[:r.choice([0, 0, 1, 3])] + ([self.kept()] if r.randrange(3) else [])
         elif pick == 7:
@@ -366,9 +371,9 @@ def told(folder):
     return ' '.join(f'{name}={"folder" if held is None else held.hex()}' for name, held in sorted(folder.items())) or 'nothing'
 
 
-def compared(program, seed, number):
+def compared(program, seed, macros_alone, number):
     """A run: how many screens and files came of it, and what differs, or none."""
-    typist = Typist(random.Random(f'{seed} run {number}'))
+    typist = Typist(random.Random(f'{seed} run {number}'), macros_alone)
     keys, options, folder = typist.keys(), typist.words(), typist.folder
     wanted, screens = expected(options, keys, folder)
     written = sum(folder.get(name, b'') != held for name, held in wanted[3].items())
@@ -382,9 +387,17 @@ def prepare():
 
 
 def main(words):
-    program, count, seed = os.path.abspath(words[0]), int(words[1]), words[2] if len(words) > 2 else SEED
-    with concurrent.futures.ProcessPoolExecutor(initializer=prepare) as pool:
-        runs = list(pool.map(compared, [program] * count, [seed] * count, range(count), chunksize=5))
+    asked = argparse.ArgumentParser(prog='python3 -B -m oracle.runs')
+    asked.add_argument('program', type=os.path.abspath)
+    asked.add_argument('count', type=int)
+    asked.add_argument('seed', nargs='?', default=SEED)
+    asked.add_argument('--macros', action='store_true')
+    asked.add_argument('--processes', type=int)
+    asked = asked.parse_args(words)
+    count, seed = asked.count, asked.seed
+    one = functools.partial(compared, asked.program, seed, asked.macros)
+    with concurrent.futures.ProcessPoolExecutor(asked.processes, initializer=prepare) as pool:
+        runs = list(pool.map(one, range(count), chunksize=5))
     bad = [why for _, _, why in runs if why]
     for why in bad[:5]:
         print(why)
