@@ -375,7 +375,7 @@ const REFUSALS: &str = r#"+/DFA1.A3~1~0~9~
 "#;
 
 // The keys of each row come to what the row tells.
-fn rows_show<R: AllocGlobal + Abort>(rt: &R, rows: &str) -> Result<(), Fail> {
+pub fn rows_show<R: AllocGlobal + Abort>(rt: &R, rows: &str) -> Result<(), Fail> {
     let mut keys = String::new(rt.alloc());
     let mut is_told = false;
     for line in rows.lines() {
