@@ -154,7 +154,7 @@ module _ {T : Type 0} where
     pub added : (x : T) → number_at bands c ≡ 0 → from_entries {R = place_cmp} (filled (hs ++ held.Filled c x ∷ [])) ≡ insert (from_entries (filled hs)) c x
     added x z = ap (λ es. from_entries {R = place_cmp} es) (filled_push hs (held.Filled c x)) ∙ from_entries_push cells_total cells_exact (filled hs) c x (none_at c hs (unnumbered z))
 
-last_or : (xs : List Place) (x y : Place) (i : ℕ) → slice_get (xs ++ x ∷ []) i ≡ Some y → (slice_get xs i ≡ Some y) ⊎ ((i ≡ length xs) × (x ≡ y))
+pub last_or : (xs : List Place) (x y : Place) (i : ℕ) → slice_get (xs ++ x ∷ []) i ≡ Some y → (slice_get xs i ≡ Some y) ⊎ ((i ≡ length xs) × (x ≡ y))
 last_or [] x y zero h = inr (refl, same_some h)
 last_or [] x y (suc i) h = absurd (no_some h)
 last_or (z ∷ xs) x y zero h = inl h
@@ -164,16 +164,17 @@ last_or (z ∷ xs) x y (suc i) h = with (last_or xs x y i h)
     with (inl k) = inl k
     with (inr k) = inr (ap suc k.0, k.1)
 
-longer : (xs zs : List Place) (y : Place) (i : ℕ) → slice_get xs i ≡ Some y → slice_get (xs ++ zs) i ≡ Some y
+pub longer : (xs zs : List Place) (y : Place) (i : ℕ) → slice_get xs i ≡ Some y → slice_get (xs ++ zs) i ≡ Some y
 longer [] zs y i h = absurd (no_some h)
 longer (x ∷ xs) zs y zero h = h
 longer (x ∷ xs) zs y (suc i) h = longer xs zs y i h
 
-last_is : (xs : List Place) (x : Place) → slice_get (xs ++ x ∷ []) (length xs) ≡ Some x
+pub last_is : (xs : List Place) (x : Place) → slice_get (xs ++ x ∷ []) (length xs) ≡ Some x
 last_is [] x = refl
 last_is (y ∷ xs) x = last_is xs x
 
-number_last : (old new : List (List ℕ)) (cells : List Place) (c : Place) → AreNumbered old cells → InSheet c → number_at old c ≡ 0
+-- one cell more, which gets the next number
+pub number_last : (old new : List (List ℕ)) (cells : List Place) (c : Place) → AreNumbered old cells → InSheet c → number_at old c ≡ 0
     → ((d : Place) → InSheet d → number_at new d ≡ cond (same_place c d) (suc (length cells)) (number_at old d)) → AreNumbered new (cells ++ c ∷ [])
 number_last old new cells c ok inside z h = record {
   inside = λ i d k. elim (last_or cells c d i k) [ inl e ↦ ok.inside i d e | inr e ↦ subst InSheet e.1 inside ];
@@ -217,41 +218,48 @@ same_number c d hc hd e =
     let s : c.col ≡ d.col = omega (arith, e, hc.1, hd.1) in
     λ i. record { row = r i; col = s i }
 
--- no more cells have numbers than the sheet has places
+-- the cells of a table are told apart by their places
+module _ (bands : List (List ℕ)) (cells : List Place) (ok : AreNumbered bands cells) where
+  at : (i : ℕ) (d : Place) → i < length cells → slice_get cells i ≡ Some (get_or cells i d)
+  at i d h = slice_get-get_or cells i d h
+
+  inside : (i : ℕ) (d : Place) → i < length cells → InSheet (get_or cells i d)
+  inside i d h = ok.inside i (get_or cells i d) (at i d h)
+
+  first : Place
+  first = record { row = 0; col = 0 }
+
+  number : (i d : ℕ) → i < length cells → get_or (map number_of cells) i d ≡ number_of (get_or cells i first)
+  number i d h = get_or-map number_of cells i first d h
+
+  long : length (map number_of cells) ≡ length cells
+  long = length-map cells number_of
+
+  once : (i j : ℕ) → i < j → j < length cells → get_or cells i first ≡ get_or cells j first → ⊥
+  once i j h kj same =
+      let ki : i < length cells = omega (arith, h, kj) in
+      let twice : suc i ≡ suc j = sym (ok.told i (get_or cells i first) (at i first ki)) ∙ ap (number_at bands) same ∙ ok.told j (get_or cells j first) (at j first kj) in
+      absurd (omega (arith, twice, h))
+
+  distinct : IsDistinct nat_eq (map number_of cells)
+  distinct = IsDistinct-from_apart nat_eq (map number_of cells) (λ i j d h k. (
+      let kj : j < length cells = subst (λ n. j < n) long k in
+      let ki : i < length cells = omega (arith, h, kj) in
+      ne_eqb (get_or (map number_of cells) i d) (get_or (map number_of cells) j d) (λ e. once i j h kj
+      (same_number (get_or cells i first) (get_or cells j first) (inside i first ki) (inside j first kj) (sym (number i d ki) ∙ e ∙ number j d kj)))))
+
+  below : (q : ℕ) → list_any (nat_eq q) (map number_of cells) ≡ true → q < 2097152
+  below q h =
+      let c : Contains (map number_of cells) q = Contains-from_any (λ x y e. eqb-true x y e) q (map number_of cells) h in
+      let k : c.0 < length cells = subst (λ n. c.0 < n) long c.1 in
+      let is : q ≡ number_of (get_or cells c.0 first) = sym c.2 ∙ number c.0 q k in
+      let there = inside c.0 first k in
+      omega (arith, is, there.0, there.1)
+
+  -- no more cells have numbers than the sheet has places
+  pub few_places : length cells ≤ 2097152
+  few_places = subst (λ n. n ≤ 2097152) long (length-le_from_distinct_below (map number_of cells) 2097152 distinct below)
+
+-- the same of held cells
 pub few : {T : Type 0} (bands : List (List ℕ)) (hs : List (Held T)) → AreNumbered bands (cells_of hs) → length hs ≤ 2097152
-few {T} bands hs ok = subst (λ n. n ≤ 2097152) (length-map cells number_of ∙ length-map hs cell_in) (length-le_from_distinct_below (map number_of cells) 2097152 distinct below)
-  where
-    cells : List Place
-    cells = cells_of hs
-
-    at : (i : ℕ) (d : Place) → i < length cells → slice_get cells i ≡ Some (get_or cells i d)
-    at i d h = slice_get-get_or cells i d h
-
-    inside : (i : ℕ) (d : Place) → i < length cells → InSheet (get_or cells i d)
-    inside i d h = ok.inside i (get_or cells i d) (at i d h)
-
-    first : Place
-    first = record { row = 0; col = 0 }
-
-    number : (i d : ℕ) → i < length cells → get_or (map number_of cells) i d ≡ number_of (get_or cells i first)
-    number i d h = get_or-map number_of cells i first d h
-
-    long : length (map number_of cells) ≡ length cells
-    long = length-map cells number_of
-
-    distinct : IsDistinct nat_eq (map number_of cells)
-    distinct = IsDistinct-from_apart nat_eq (map number_of cells) (λ i j d h k. (
-        let kj : j < length cells = subst (λ n. j < n) long k in
-        let ki : i < length cells = omega (arith, h, kj) in
-        ne_eqb (get_or (map number_of cells) i d) (get_or (map number_of cells) j d) (λ e. (
-        let same : get_or cells i first ≡ get_or cells j first = same_number (get_or cells i first) (get_or cells j first) (inside i first ki) (inside j first kj) (sym (number i d ki) ∙ e ∙ number j d kj) in
-        let twice : suc i ≡ suc j = sym (ok.told i (get_or cells i first) (at i first ki)) ∙ ap (number_at bands) same ∙ ok.told j (get_or cells j first) (at j first kj) in
-        omega (arith, twice, h)))))
-
-    below : (q : ℕ) → list_any (nat_eq q) (map number_of cells) ≡ true → q < 2097152
-    below q h =
-        let c : Contains (map number_of cells) q = Contains-from_any (λ x y e. eqb-true x y e) q (map number_of cells) h in
-        let k : c.0 < length cells = subst (λ n. c.0 < n) long c.1 in
-        let is : q ≡ number_of (get_or cells c.0 first) = sym c.2 ∙ number c.0 q k in
-        let there = inside c.0 first k in
-        omega (arith, is, there.0, there.1)
+few {T} bands hs ok = subst (λ n. n ≤ 2097152) (length-map hs cell_in) (few_places bands (cells_of hs) ok)

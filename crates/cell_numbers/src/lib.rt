@@ -1,10 +1,12 @@
-//! Cells told apart by dense numbers, and maps from cells to items by them.
+//! Cells told apart by dense numbers, and maps from cells to items and sets of cells by them.
 #![tactic(auto)]
 
 mod held;
 mod map;
+mod set;
 mod table;
 
 pub use held::Held;
 pub use map::CellMap;
+pub use set::CellSet;
 pub use table::PlaceTable;

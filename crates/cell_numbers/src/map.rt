@@ -36,7 +36,7 @@ impl<T> Model for CellMap<T> {
 }
 
 // Where a cell is held, if it has a number.
-fn index_of(table: &PlaceTable, cell: Cell) -> Option<usize>
+pub(crate) fn index_of(table: &PlaceTable, cell: Cell) -> Option<usize>
     ensures none { IfNone result (number_at table.now cell ≡ 0) }
     ensures some { IfSome result (λ i. number_at table.now cell ≡ suc i) }
 {

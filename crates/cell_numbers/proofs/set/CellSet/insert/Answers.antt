@@ -1,0 +1,18 @@
+use Rattle.std.proofs.Common.{ap, arith, subst, sym, ◌∙◌}
+use Rattle.cell_numbers.specs.Filled.{AreNumbered}
+use Rattle.cell_numbers.specs.Sets.{has, Cells}
+use Rattle.cell_numbers.proofs.Filled.{few_places, number_last}
+use Rattle.cell_numbers.proofs.Sets.{no_number}
+use Rattle.cell_numbers.proofs.set.CellSet.insert.Goals as goal
+
+pub add-requires : goal.add-requires
+add-requires c = let most = few_places c.self.inside.table c.self.inside.cells.items c.self.invariant in omega (arith, most)
+
+pub invariant_of-self-2 : goal.invariant_of-self-2
+invariant_of-self-2 c =
+    let old = c.self.inside.table in
+    let cells = c.self.inside.cells.items in
+    let inside = c.is_on_sheet.ensures in
+    let absent = ap (λ (s : Cells). has s.keys c.args.cell) c.self.view_is ∙ sym c.contains.ensures ∙ c.if-contains.false in
+    subst (AreNumbered c.add.new.table) (sym c.in_ok-add.ensures.cells)
+    (number_last old c.add.new.table cells c.args.cell c.self.invariant inside (no_number old cells c.self.invariant c.args.cell inside absent) c.in_ok-add.ensures.numbers)

@@ -1,0 +1,10 @@
+use Rattle.std.specs.List.{IsDistinct}
+use Rattle.std.specs.Prelude.{List}
+use Rattle.std.proofs.Common.{ap, subst}
+use Rattle.grid_address.specs.Place.{same_place, Place}
+use Rattle.cell_numbers.specs.Sets.{Cells}
+use Rattle.cell_numbers.proofs.Sets.{distinct}
+use Rattle.cell_numbers.proofs.set.CellSet.len.Goals as goal
+
+pub returns-clause-unique : goal.returns-clause-unique
+returns-clause-unique c = subst (λ (s : Cells). IsDistinct same_place s.keys) c.self.view_is (distinct c.self.inside.table c.self.inside.cells.items c.self.invariant)

@@ -1,0 +1,21 @@
+-- Sets of cells, seen as lists in which no cell stands twice.
+use Rattle.std.specs.Prelude.{Bool, List, ◌∷◌, ◌++◌, [], if◌then◌else◌, refl}
+use Rattle.std.specs.Coded.{Coded, code_by, coded_list}
+use Rattle.std.specs.List.{list_any}
+use Rattle.grid_address.specs.Place.{coded_place, same_place, Place}
+
+-- the cells of a set, in its order
+pub record Cells : Type 0 where
+  pub keys : List Place
+
+-- it is coded as its list
+abbrev pub coded_cells : Coded Cells
+coded_cells = code_by (List Place) (coded_list coded_place) (λ s. s.keys) (λ ks. record { keys = ks }) (λ _. refl)
+
+-- whether a cell is one of these
+abbrev pub has : List Place → Place → Bool
+has cells c = list_any (same_place c) cells
+
+-- the cells after one is added behind them, unless it is there by the given equality
+abbrev pub insert_key : (Place → Place → Bool) → List Place → Place → List Place
+insert_key same cells c = if list_any (same c) cells then cells else cells ++ c ∷ []
