@@ -1,5 +1,5 @@
 // The index of spans by their owners.
-ghost use Rattle.std.specs.Prelude.{◌≡◌, IfOk, OnOk, OnErr};
+ghost use Rattle.std.specs.Prelude.{◌≡◌, IfOk, OnOk, OnErr, true};
 ghost use Rattle.std.specs.FinMap as map;
 ghost use Rattle.range_index.specs.Owners.{owners_of, with_span};
 
@@ -49,6 +49,13 @@ impl RangeIndex {
             registrations: BTreeSet::new(alloc),
             alloc,
         }
+    }
+
+    /// Whether no owner is there.
+    pub fn is_empty(&self) -> bool
+        ensures { result ≡ true → self.now ≡ map.empty }
+    {
+        self.owners.is_empty()
     }
 
     /// Gives an owner one more span. The index is as before where there is no memory.
