@@ -168,8 +168,8 @@ fn fields_extracted<K: Look>(
 ) -> Result<Writes, QueryFault>
     ensures found { let w = world_of (K.sight look.now) scene.entry.now in
         IfOk result (λ l. fields_extracted w input criterion output unique fields.now ≡ Ok l) }
-    ensures fault { let w = world_of (K.sight look.now) scene.entry.now in let fields = fields.now in
-        IfErr result (λ f. (f ≡ QueryFault.Memory) ⊎ (fields_extracted w input criterion output unique fields ≡ Err f)) }
+    ensures fault { let w = world_of (K.sight look.now) scene.entry.now in IfErr result (λ f.
+        (f ≡ QueryFault.Memory) ⊎ (fields_extracted w input criterion output unique fields.now ≡ Err f)) }
 {
     match extracted_cells(alloc, input, criterion, unique, fields, look, scene) {
         Ok(cells) => rows_extracted(alloc, look, output, fields, cells.as_slice()),

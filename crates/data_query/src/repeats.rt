@@ -15,8 +15,8 @@ use indexmap::IndexSet;
 use lics_text::Memory;
 use std::alloc::Global;
 
-/// What a value is looked up by: a number by its millionths, and a text by its bytes. Keys are equal exactly where their
-/// values are.
+/// What a value is looked up by: a number by its millionths, and a text by its bytes. Keys are equal exactly where
+/// their values are.
 #[derive(PartialEq, Eq, Hash, Drop)]
 pub enum ValueKey {
     Blank,
