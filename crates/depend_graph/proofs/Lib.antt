@@ -7,3 +7,5 @@ pub mod Placed
 pub mod Readable
 pub mod Searched
 mod Viewed
+pub mod Marked
+pub mod Spreads

@@ -1,16 +1,19 @@
 // The graph of what formulas read.
-ghost use Rattle.std.specs.Prelude.{◌≡◌, ◌⊎◌, ◌↔◌, true, IfOk, OnOk, OnErr, option_copied};
+ghost use Rattle.std.specs.Prelude.{◌≡◌, ◌⊎◌, ◌↔◌, ◌∷◌, [], true, IfOk, OnOk, OnErr, option_copied};
 ghost use Rattle.std.specs.FinMap as map;
 ghost use Rattle.grid_address.specs.Place.{Place};
+ghost use Rattle.depend_graph.specs.InOrder.{GoesInOrder};
 ghost use Rattle.depend_graph.specs.Network.{accepted, dropped, has, is_formula, offered, put, reads, withdrawn, IsSpread};
 ghost use Rattle.depend_graph.specs.declared.node.Node.{Node};
 
 use crate::Node;
 use crate::banks::Banks;
 use crate::closure::closure;
+use crate::in_order::is_in_order;
 use crate::lists::{Lists, add_all};
 use crate::readers::add_readers;
 use crate::slots::{Slot, drop_node, drop_offer, has_offer, node_of, put_offer, side, turn};
+use crate::spread::{Spread, are_same, is_of, list_of, spread_of};
 use cell_numbers::CellMap;
 use grid_address::{Cell, CellList, SpanList};
 use lics_text::Memory;
@@ -24,13 +27,15 @@ pub struct Graph {
     slots: CellMap<Slot>,
     lists: Lists,
     banks: Banks,
+    spread: Option<Spread>,
     alloc: Global,
 }
 
 impl Model for Graph {
     ghost use Rattle.depend_graph.specs.Lists.{AreInLists};
-    ghost use Rattle.depend_graph.specs.Network.{coded_network, Network};
+    ghost use Rattle.depend_graph.specs.Network.{coded_network, network_of, Network};
     ghost use Rattle.depend_graph.specs.Slots.{node_in, offer_in, picked, AreRegistered};
+    ghost use Rattle.depend_graph.specs.Spreads.{IsKept};
 
     ghost Value = { Network };
 
@@ -38,7 +43,8 @@ impl Model for Graph {
 
     ghost view = { λ g. record { formulas = picked node_in g.slots; offers = picked offer_in g.slots } };
 
-    ghost invariant = { λ g. AreRegistered g.slots g.banks.even g.banks.odd × AreInLists g.slots g.lists };
+    ghost invariant = { λ g. AreRegistered g.slots g.banks.even g.banks.odd × (AreInLists g.slots g.lists
+        × IsKept (network_of g.slots) g.spread) };
 }
 
 impl Graph {
@@ -51,6 +57,7 @@ impl Graph {
             slots: CellMap::new(alloc),
             lists: CellMap::new(alloc),
             banks: Banks::new(alloc),
+            spread: None,
             alloc,
         }
     }
@@ -78,6 +85,7 @@ impl Graph {
         ensures ok { OnOk result (self.new ≡ offered self.old cell node) }
         ensures err { OnErr result (self.new ≡ withdrawn self.old cell) }
     {
+        self.spread = None;
         drop_offer(&mut self.slots, cell);
         add_all(&mut self.lists, self.alloc, node.reads.as_slice(), cell)?;
         let is_odd = !side(&self.slots, cell);
@@ -91,6 +99,7 @@ impl Graph {
         ensures { self.new ≡ accepted self.old cell }
     {
         if has_offer(&self.slots, cell) {
+            self.spread = None;
             let is_odd = side(&self.slots, cell);
             turn(&mut self.slots, cell);
             self.banks.clear(is_odd, cell);
@@ -110,6 +119,10 @@ impl Graph {
     pub fn drop_cell(&mut self, cell: Cell)
         ensures { self.new ≡ dropped self.old cell }
     {
+        if !self.has_formula(cell) {
+            return;
+        }
+        self.spread = None;
         let is_odd = side(&self.slots, cell);
         drop_node(&mut self.slots, cell);
         self.banks.clear(is_odd, cell);
@@ -143,6 +156,36 @@ impl Graph {
     {
         let list = closure(self.alloc, self, cells.as_slice())?;
         Ok(list)
+    }
+
+    /// The formulas among a cell and those that reach it, as `closure` tells them. They are kept for the next time
+    /// while no formula changes, and so is whether they stand in order.
+    pub fn spread_of(&mut self, cell: Cell) -> Result<CellList, Memory>
+        ensures same { self.new ≡ self.old }
+        ensures list { IfOk result (λ l. (c : Place) → (has l c ≡ true) ↔ IsSpread self.old (cell ∷ []) c) }
+    {
+        if is_of(&self.spread, cell) {
+            let list = list_of(self.alloc, &self.spread)?;
+            return Ok(list);
+        }
+        let spread = spread_of(self.alloc, self, cell)?;
+        let list = spread.list.copy(self.alloc)?;
+        self.spread = Some(spread);
+        Ok(list)
+    }
+
+    /// Whether no formula of the cells is volatile, and none reads itself or one that stands behind it. What was kept
+    /// of `spread_of` is known at once.
+    pub fn is_in_order(&self, cells: &[Cell]) -> Result<bool, Memory>
+        ensures { IfOk result (λ b. b ≡ true → GoesInOrder self.now cells.now) }
+    {
+        if let Some(spread) = &self.spread {
+            if are_same(spread.list.as_slice(), cells) {
+                return Ok(spread.is_in_order);
+            }
+        }
+        let is = is_in_order(self.alloc, self, cells)?;
+        Ok(is)
     }
 }
 

@@ -4,12 +4,14 @@
 mod banks;
 mod closure;
 mod graph;
+mod in_order;
 mod lists;
 mod marks;
 mod node;
 mod readers;
 mod sets;
 mod slots;
+mod spread;
 
 pub use graph::Graph;
 pub use marks::Marks;

@@ -69,6 +69,9 @@ fn add_owners(
     ensures { OnOk result ((d : Place) → (has found.new.items d ≡ true)
         ↔ ((has found.old.items d ≡ true) ⊎ IsReaderAmong slots.now cell (owners_of index.now cell) d)) }
 {
+    if index.is_empty() {
+        return Ok(());
+    }
     let owners = index.owners_of(cell)?;
     add_those(slots, owners.as_slice(), cell, found)
 }

@@ -1,16 +1,16 @@
 // Sets of cells that grow, and are cut back where a later growth fails.
 ghost use Rattle.std.specs.Prelude.{◌≡◌, ◌||◌, take, OnOk};
 ghost use Rattle.grid_address.specs.Place.{same_place, Place};
-ghost use Rattle.indexmap.specs.IndexSet.{insert_key};
+ghost use Rattle.cell_numbers.specs.Sets.{insert_key};
 ghost use Rattle.depend_graph.specs.Network.{has};
 ghost use Rattle.depend_graph.specs.Within.{Extends};
 
+use cell_numbers::CellSet;
 use grid_address::Cell;
-use indexmap::IndexSet;
 use lics_text::Memory;
 
 /// Adds a cell behind the others, unless it is in the set.
-pub fn insert(set: &mut IndexSet<Cell>, cell: Cell) -> Result<(), Memory>
+pub fn insert(set: &mut CellSet, cell: Cell) -> Result<(), Memory>
     ensures keys { OnOk result (set.new.keys ≡ insert_key same_place set.old.keys cell) }
     ensures extends { Extends set.old.keys set.new.keys }
 {
@@ -19,7 +19,7 @@ pub fn insert(set: &mut IndexSet<Cell>, cell: Cell) -> Result<(), Memory>
 }
 
 /// Adds cells behind the others. Where there is no memory some may have been added.
-pub fn insert_all(set: &mut IndexSet<Cell>, cells: &[Cell]) -> Result<(), Memory>
+pub fn insert_all(set: &mut CellSet, cells: &[Cell]) -> Result<(), Memory>
     ensures members { OnOk result ((c : Place) → has set.new.keys c ≡ (has set.old.keys c || has cells.now c)) }
     ensures extends { Extends set.old.keys set.new.keys }
 {
@@ -30,10 +30,8 @@ pub fn insert_all(set: &mut IndexSet<Cell>, cells: &[Cell]) -> Result<(), Memory
 }
 
 /// Takes out all cells but the first ones.
-pub fn cut_back(set: &mut IndexSet<Cell>, count: usize)
+pub fn cut_back(set: &mut CellSet, count: usize)
     ensures { set.new.keys ≡ take count set.old.keys }
 {
-    while set.len() > count {
-        let _ = set.pop();
-    }
+    set.truncate(count);
 }

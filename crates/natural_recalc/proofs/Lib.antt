@@ -11,8 +11,8 @@ pub mod Fresh
 pub mod Graphs
 pub mod Held
 pub mod Items
-pub mod Marked
 pub mod Members
 pub mod Rest
 pub mod RowOrder
 pub mod Valued
+pub mod Ordered

@@ -1,7 +1,6 @@
 -- Formulas in an order in which each comes after all of them that it reads.
-use Rattle.std.specs.Prelude.{ℕ, ◌≡◌, true, false, List, [], ◌∷◌}
-use Rattle.cell_numbers.specs.Numbers.{number_at}
-use Rattle.grid_address.specs.Place.{same_place, InSheet, Place}
+use Rattle.std.specs.Prelude.{◌≡◌, true, false, List, [], ◌∷◌}
+use Rattle.grid_address.specs.Place.{same_place, Place}
 use Rattle.natural_order.specs.Walk.{has}
 use Rattle.range_index.specs.Owners.{hold}
 use Rattle.sheet_store.specs.Grid.{Grid}
@@ -18,10 +17,6 @@ pub record StandsFirst (g : Grid) (cells : List Place) (c : Place) : Type 0 wher
 abbrev pub GoesInOrder : Grid → List Place → Type 0
 GoesInOrder g [] = Unit {0}
 GoesInOrder g (c ∷ cs) = StandsFirst g (c ∷ cs) c × GoesInOrder g cs
-
--- each of the cells lies on the sheet and is marked
-abbrev pub AreMarked : List (List ℕ) → List Place → Type 0
-AreMarked marked cells = (d : Place) → has same_place cells d ≡ true → InSheet d × (number_at marked d ≡ 1)
 
 -- where all dirty formulas go in an order, a pass along it is a pass along all formulas in their natural order, and
 -- there is no circle

@@ -7,14 +7,14 @@ ghost use Rattle.natural_recalc.specs.Passes.{is_held, IsWhatStays};
 ghost use Rattle.natural_recalc.specs.Reading.{pre, Matches, StaysDirty};
 
 use crate::reads::any_dirty;
+use cell_numbers::CellSet;
 use depend_graph::Graph;
 use grid_address::Cell;
-use indexmap::IndexSet;
 use lics_text::Memory;
 use sheet_store::Store;
 
 // Whether a cell is volatile, or reads a dirty formula.
-fn is_held(store: &Store, graph: &Graph, dirty: &IndexSet<Cell>, cell: Cell) -> Result<bool, Memory>
+fn is_held(store: &Store, graph: &Graph, dirty: &CellSet, cell: Cell) -> Result<bool, Memory>
     requires { Matches graph.now store.now }
     ensures { IfOk result (λ b. b ≡ is_held store.now (has same_place dirty.now.keys) cell) }
 {
@@ -35,7 +35,7 @@ pub fn leave(
     store: &Store,
     graph: &Graph,
     order: &[Cell],
-    dirty: &mut IndexSet<Cell>,
+    dirty: &mut CellSet,
 ) -> Result<(), Memory>
     requires matches { Matches graph.now store.now }
     requires order { Precedes same_place (λ c. filter (has same_place dirty.old.keys) (pre store.now c)) [] order.now }
@@ -46,7 +46,7 @@ pub fn leave(
     for cell in order {
         let held = is_held(store, graph, dirty, *cell)?;
         if !held {
-            let _ = dirty.swap_remove(cell);
+            dirty.remove(*cell);
         }
     }
     Ok(())

@@ -4,7 +4,6 @@
 mod cells;
 mod columns;
 mod evaluate;
-mod in_order;
 mod laws;
 mod leave;
 mod missing;

@@ -8,20 +8,20 @@ ghost use Rattle.sheet_store.specs.Grid.{formulas, formulas_within};
 ghost use Rattle.natural_recalc.specs.Laws.{told_formulas};
 ghost use Rattle.natural_recalc.specs.Reading.{formulas_in, spans_told};
 
+use cell_numbers::CellSet;
 use depend_graph::Graph;
 use grid_address::{Cell, Span};
-use indexmap::IndexSet;
 use lics_text::Memory;
 use natural_order::Precedents;
 use sheet_store::Store;
 use std::alloc::Global;
 
 // Adds those of the cells that are in the set.
-pub fn add_kept(list: &mut Vec<Cell>, set: &IndexSet<Cell>, cells: &[Cell]) -> Result<(), Memory>
+pub fn add_kept(list: &mut Vec<Cell>, set: &CellSet, cells: &[Cell]) -> Result<(), Memory>
     ensures { OnOk result (list.new.items ≡ list.old.items ++ filter (has same_place set.now.keys) cells.now) }
 {
     for cell in cells {
-        if set.contains(cell) {
+        if set.contains(*cell) {
             list.push(*cell)?;
         }
     }
@@ -29,12 +29,7 @@ pub fn add_kept(list: &mut Vec<Cell>, set: &IndexSet<Cell>, cells: &[Cell]) -> R
 }
 
 // Adds the dirty formulas of a span.
-fn add_dirty(
-    list: &mut Vec<Cell>,
-    store: &Store,
-    dirty: &IndexSet<Cell>,
-    span: Span,
-) -> Result<(), Memory>
+fn add_dirty(list: &mut Vec<Cell>, store: &Store, dirty: &CellSet, span: Span) -> Result<(), Memory>
     ensures { OnOk result (list.new.items ≡ list.old.items ++ filter (has same_place dirty.now.keys) (formulas_within store.now span)) }
 {
     let cells = store.formulas_in(span)?;
@@ -43,7 +38,7 @@ fn add_dirty(
 }
 
 // The dirty formulas of the spans, span by span.
-fn dirty_in(store: &Store, dirty: &IndexSet<Cell>, spans: &[Span]) -> Result<Vec<Cell>, Memory>
+fn dirty_in(store: &Store, dirty: &CellSet, spans: &[Span]) -> Result<Vec<Cell>, Memory>
     ensures { IfOk result (λ l. l.items ≡ filter (has same_place dirty.now.keys) (formulas_in store.now spans.now)) }
 {
     let mut list = Vec::new(store.alloc());
@@ -54,11 +49,11 @@ fn dirty_in(store: &Store, dirty: &IndexSet<Cell>, spans: &[Span]) -> Result<Vec
 }
 
 // Whether one of the cells is in the set.
-fn any_kept(set: &IndexSet<Cell>, cells: &[Cell]) -> bool
+fn any_kept(set: &CellSet, cells: &[Cell]) -> bool
     ensures { result ≡ list_any (has same_place set.now.keys) cells.now }
 {
     for cell in cells {
-        if set.contains(cell) {
+        if set.contains(*cell) {
             return true;
         }
     }
@@ -66,7 +61,7 @@ fn any_kept(set: &IndexSet<Cell>, cells: &[Cell]) -> bool
 }
 
 // Whether one of the formulas of a span is dirty.
-fn any_within(store: &Store, dirty: &IndexSet<Cell>, span: Span) -> Result<bool, Memory>
+fn any_within(store: &Store, dirty: &CellSet, span: Span) -> Result<bool, Memory>
     ensures { IfOk result (λ b. b ≡ list_any (has same_place dirty.now.keys) (formulas_within store.now span)) }
 {
     let cells = store.formulas_in(span)?;
@@ -74,7 +69,7 @@ fn any_within(store: &Store, dirty: &IndexSet<Cell>, span: Span) -> Result<bool,
 }
 
 // Whether one of the formulas of the spans is dirty.
-pub fn any_dirty(store: &Store, dirty: &IndexSet<Cell>, spans: &[Span]) -> Result<bool, Memory>
+pub fn any_dirty(store: &Store, dirty: &CellSet, spans: &[Span]) -> Result<bool, Memory>
     ensures { IfOk result (λ b. b ≡ list_any (has same_place dirty.now.keys) (formulas_in store.now spans.now)) }
 {
     for span in spans {
@@ -90,7 +85,7 @@ pub fn any_dirty(store: &Store, dirty: &IndexSet<Cell>, spans: &[Span]) -> Resul
 pub struct DirtyReads<'a> {
     pub store: &'a Store,
     pub graph: &'a Graph,
-    pub dirty: &'a IndexSet<Cell>,
+    pub dirty: &'a CellSet,
 }
 
 impl<'a> Precedents for DirtyReads<'a> {

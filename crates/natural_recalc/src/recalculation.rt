@@ -1,6 +1,6 @@
 // Recalculation over the dirty formulas.
 ghost use Rattle.std.specs.Prelude.{◌≡◌, ◌+◌, ◌-◌, ◌*◌, ◌≤◌, [], length, Bool, IfOk, OnErr, OnOk, true, false};
-ghost use Rattle.std.specs.List.{filter};
+ghost use Rattle.std.specs.List.{filter, IsDistinct};
 ghost use Rattle.std.specs.List.Sorted.{IsStrictlySortedBy};
 ghost use Rattle.grid_address.specs.Place.{place_cmp, same_place, Place};
 ghost use Rattle.indexmap.specs.IndexSet.{IsUnique};
@@ -15,13 +15,12 @@ ghost use Rattle.natural_recalc.specs.World.{context_of};
 
 use crate::columns::by_columns;
 use crate::evaluate::{further, pass_over};
-use crate::in_order::is_in_order;
 use crate::leave::leave;
 use crate::reads::{DirtyReads, add_kept};
+use cell_numbers::CellSet;
 use depend_graph::Graph;
 use formula_eval::{Means, Scene};
 use grid_address::Cell;
-use indexmap::IndexSet;
 use lics_text::Memory;
 use natural_order::{FormulaOrder, order_of};
 use range_names::Names;
@@ -33,7 +32,7 @@ use std::alloc::Global;
 pub struct Circ(pub bool);
 
 // Those of the cells that are in the set.
-fn kept(alloc: Global, set: &IndexSet<Cell>, cells: &[Cell]) -> Result<Vec<Cell>, Memory>
+fn kept(alloc: Global, set: &CellSet, cells: &[Cell]) -> Result<Vec<Cell>, Memory>
     ensures { IfOk result (λ list. list.items ≡ filter (has same_place set.now.keys) cells.now) }
 {
     let mut list = Vec::new(alloc);
@@ -49,7 +48,7 @@ fn copied(alloc: Global, cells: &[Cell]) -> Result<Vec<Cell>, Memory>
 }
 
 // The cells of a set, in row order.
-fn in_row_order(alloc: Global, set: &IndexSet<Cell>) -> Result<Vec<Cell>, Memory>
+fn in_row_order(alloc: Global, set: &CellSet) -> Result<Vec<Cell>, Memory>
     ensures ascends { IfOk result (λ list. IsStrictlySortedBy place_cmp list.items) }
     ensures members { IfOk result (λ list. (c : Place) → has same_place list.items c ≡ has same_place set.now.keys c) }
 {
@@ -61,7 +60,7 @@ fn in_row_order(alloc: Global, set: &IndexSet<Cell>) -> Result<Vec<Cell>, Memory
 }
 
 // The dirty formulas, in row order.
-fn dirty_formulas(store: &Store, dirty: &IndexSet<Cell>) -> Result<Vec<Cell>, Memory>
+fn dirty_formulas(store: &Store, dirty: &CellSet) -> Result<Vec<Cell>, Memory>
     requires { (c : Place) → has same_place dirty.now.keys c ≡ true → is_formula_at store.now c ≡ true }
     ensures { IfOk result (λ list. list.items ≡ filter (has same_place dirty.now.keys) (formulas store.now)) }
 {
@@ -70,11 +69,7 @@ fn dirty_formulas(store: &Store, dirty: &IndexSet<Cell>) -> Result<Vec<Cell>, Me
 }
 
 // The dirty formulas by column and then by row, or by row and then by column.
-fn plain_dirty(
-    store: &Store,
-    dirty: &IndexSet<Cell>,
-    is_by_column: bool,
-) -> Result<Vec<Cell>, Memory>
+fn plain_dirty(store: &Store, dirty: &CellSet, is_by_column: bool) -> Result<Vec<Cell>, Memory>
     requires { (c : Place) → has same_place dirty.now.keys c ≡ true → is_formula_at store.now c ≡ true }
     ensures list { IfOk result (λ l. l.items ≡ filter (has same_place dirty.now.keys) (plain_order is_by_column store.now)) }
     ensures length { IfOk result (λ l. length l.items ≡ length (filter (has same_place dirty.now.keys) (formulas store.now))) }
@@ -88,7 +83,7 @@ fn plain_dirty(
 }
 
 // The natural order of the dirty formulas.
-fn dirty_order(store: &Store, graph: &Graph, dirty: &IndexSet<Cell>) -> Result<FormulaOrder, Memory>
+fn dirty_order(store: &Store, graph: &Graph, dirty: &CellSet) -> Result<FormulaOrder, Memory>
     requires matches { Matches graph.now store.now }
     requires split { IsSplit same_place (pre store.now) (has same_place dirty.now.keys) }
     requires only { (c : Place) → has same_place dirty.now.keys c ≡ true → is_formula_at store.now c ≡ true }
@@ -112,7 +107,7 @@ fn dirty_order(store: &Store, graph: &Graph, dirty: &IndexSet<Cell>) -> Result<F
 fn first_pass<E: Means>(
     store: &mut Store,
     graph: &Graph,
-    dirty: &IndexSet<Cell>,
+    dirty: &CellSet,
     names: &Names,
     settings: &Settings,
     scene: &Scene,
@@ -142,18 +137,18 @@ fn rest_of(
     store: &Store,
     graph: &Graph,
     order: FormulaOrder,
-) -> Result<(IndexSet<Cell>, Vec<Cell>), Memory>
+) -> Result<(CellSet, Vec<Cell>), Memory>
     requires matches { Matches graph.now store.now }
     requires order { Precedes same_place (λ c. filter (has same_place order.done.keys) (pre store.now c)) [] order.done.keys }
     requires all { (c : Place) → StaysDirty store.now c → has same_place order.done.keys c ≡ true }
     ensures stays { IfOk result (λ r. IsWhatStays store.now (has same_place r.0.keys)) }
-    ensures unique { IfOk result (λ r. IsUnique same_place r.0) }
+    ensures unique { IfOk result (λ r. IsDistinct same_place r.0.keys) }
     ensures cells { IfOk result (λ r. r.1.items ≡ filter (has same_place r.0.keys) order.done.keys) }
 {
-    let cells = copied(store.alloc(), order.done.as_slice())?;
-    let mut rest = order.done;
-    leave(store, graph, cells.as_slice(), &mut rest)?;
-    let again = kept(store.alloc(), &rest, cells.as_slice())?;
+    let cells = order.done.as_slice();
+    let mut rest = CellSet::of(store.alloc(), cells)?;
+    leave(store, graph, cells, &mut rest)?;
+    let again = kept(store.alloc(), &rest, cells)?;
     // `len` is called for its clause that no cell is in the set twice.
     let _len = rest.len();
     Ok((rest, again))
@@ -163,7 +158,7 @@ fn rest_of(
 // reads.
 fn recalc_in_order<E: Means>(
     store: &mut Store,
-    dirty: &mut IndexSet<Cell>,
+    dirty: &mut CellSet,
     times: u8,
     names: &Names,
     settings: &Settings,
@@ -186,7 +181,7 @@ fn recalc_in_order<E: Means>(
     ensures count { OnOk result (E.count tally.new ≡ raised_by (length dirty.old.keys) (E.count tally.old)) }
 {
     pass_over(store, dirty.as_slice(), names, settings, scene, tally)?;
-    *dirty = IndexSet::new(store.alloc());
+    *dirty = CellSet::new(store.alloc());
     Ok(())
 }
 
@@ -194,7 +189,7 @@ fn recalc_in_order<E: Means>(
 fn recalc_walked<E: Means>(
     store: &mut Store,
     graph: &Graph,
-    dirty: &mut IndexSet<Cell>,
+    dirty: &mut CellSet,
     times: u8,
     names: &Names,
     settings: &Settings,
@@ -236,7 +231,7 @@ fn recalc_walked<E: Means>(
 fn recalc_natural<E: Means>(
     store: &mut Store,
     graph: &Graph,
-    dirty: &mut IndexSet<Cell>,
+    dirty: &mut CellSet,
     times: u8,
     names: &Names,
     settings: &Settings,
@@ -258,7 +253,8 @@ fn recalc_natural<E: Means>(
     ensures count { OnOk result (E.count tally.new
         ≡ raised_by (length dirty.old.keys + (times - 1) * length dirty.new.keys) (E.count tally.old)) }
 {
-    if is_in_order(store, graph, dirty.as_slice())? {
+    let is_in_order = graph.is_in_order(dirty.as_slice())?;
+    if is_in_order {
         recalc_in_order(store, dirty, times, names, settings, scene, tally)?;
         return Ok(false);
     }
@@ -269,7 +265,7 @@ fn recalc_natural<E: Means>(
 // Recalculation along the dirty formulas by row and then by column, or by column and then by row.
 fn recalc_plain<E: Means>(
     store: &mut Store,
-    dirty: &IndexSet<Cell>,
+    dirty: &CellSet,
     is_by_column: bool,
     times: u8,
     names: &Names,
@@ -307,7 +303,7 @@ fn recalc_plain<E: Means>(
 pub fn recalc<E: Means>(
     store: &mut Store,
     graph: &Graph,
-    dirty: &mut IndexSet<Cell>,
+    dirty: &mut CellSet,
     passes: u8,
     names: &Names,
     settings: &Settings,

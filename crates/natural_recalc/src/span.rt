@@ -11,15 +11,15 @@ ghost use Rattle.natural_recalc.specs.World.{context_of};
 use crate::columns::by_columns;
 use crate::evaluate::pass_over;
 use crate::reads::add_kept;
+use cell_numbers::CellSet;
 use formula_eval::{Means, Scene};
 use grid_address::{Cell, Span};
-use indexmap::IndexSet;
 use lics_text::Memory;
 use range_names::Names;
 use sheet_store::{Settings, Store};
 
 // The dirty formulas of a span, by row and then by column.
-fn dirty_within(store: &Store, dirty: &IndexSet<Cell>, span: Span) -> Result<Vec<Cell>, Memory>
+fn dirty_within(store: &Store, dirty: &CellSet, span: Span) -> Result<Vec<Cell>, Memory>
     ensures { IfOk result (λ l. l.items ≡ filter (has same_place dirty.now.keys) (formulas_within store.now span)) }
 {
     let cells = store.formulas_in(span)?;
@@ -31,7 +31,7 @@ fn dirty_within(store: &Store, dirty: &IndexSet<Cell>, span: Span) -> Result<Vec
 // The dirty formulas of a span, in the order of their evaluation.
 fn dirty_ordered(
     store: &Store,
-    dirty: &IndexSet<Cell>,
+    dirty: &CellSet,
     span: Span,
     is_by_column: bool,
 ) -> Result<Vec<Cell>, Memory>
@@ -54,7 +54,7 @@ fn dirty_ordered(
 /// holds.
 pub fn recalc_span<E: Means>(
     store: &mut Store,
-    dirty: &IndexSet<Cell>,
+    dirty: &CellSet,
     span: Span,
     is_by_column: bool,
     names: &Names,

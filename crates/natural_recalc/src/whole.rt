@@ -7,20 +7,20 @@ ghost use Rattle.natural_recalc.specs.Passes.{IsSound, Meaning};
 ghost use Rattle.natural_recalc.specs.Reading.{is_formula_at, node_of, with_formula, Matches};
 ghost use Rattle.natural_recalc.specs.World.{formula_at, Context};
 
+use cell_numbers::CellSet;
 use depend_graph::{Graph, insert_all};
 use formula_tree::Content;
 use grid_address::Cell;
-use indexmap::IndexSet;
 use lics_text::Memory;
 use sheet_store::Store;
 
 /// Every formula of a store, as a dirty set, whatever their values are.
-pub fn all_dirty(store: &Store) -> Result<IndexSet<Cell>, Memory>
+pub fn all_dirty(store: &Store) -> Result<CellSet, Memory>
     ensures members { IfOk result (λ set. (c : Place) → has same_place set.keys c ≡ is_formula_at store.now c) }
     ensures sound { IfOk result (λ set. (mean : Meaning) (x : Context) → IsSound mean x store.now (has same_place set.keys)) }
 {
     let cells = store.formulas()?;
-    let mut set = IndexSet::new(store.alloc());
+    let mut set = CellSet::new(store.alloc());
     insert_all(&mut set, cells.as_slice())?;
     Ok(set)
 }

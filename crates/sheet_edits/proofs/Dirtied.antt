@@ -8,9 +8,9 @@ use Rattle.grid_address.proofs.Places.{same_place_is, same_place_laws}
 use Rattle.grid_address.specs.Place.{same_place, Place}
 use Rattle.formula_tree.specs.Tree.{Tree}
 use Rattle.depend_graph.specs.Network as network
-use Rattle.depend_graph.specs.Network.{IsSpread, Network, Reaches}
-use Rattle.depend_graph.specs.Network.Reaches.{at_once, through}
-use Rattle.indexmap.specs.IndexSet.{insert_key}
+use Rattle.depend_graph.proofs.Spreads.{spread_along}
+use Rattle.depend_graph.specs.Network.{IsSpread, Network}
+use Rattle.cell_numbers.specs.Sets.{insert_key}
 use Rattle.natural_order.specs.Walk.{has}
 use Rattle.sheet_store.specs.Grid.{is_formula, is_kept, put_state, Grid}
 use Rattle.sheet_store.specs.declared.state.CellState.{CellState}
@@ -79,20 +79,6 @@ module _ (g h : Grid) (cells : List Place) (written changed given : Place → Bo
         | inl e ↦ (x c).1 ((w c).1 (inr (inl (gave c e d.formula))), λ _. d.formula)
         | inr f ↦ (x c).1 (member f d, λ _. d.formula)
       ]
-
--- which cells a formula reaches hangs on the formulas alone
-reaches_along : (a b : Network) → a.formulas ≡ b.formulas → {c d : Place} → Reaches a c d → Reaches b c d
-reaches_along a b e {c} {d} (at_once r) = at_once (sym (ap (λ f. network.holds (get f c) d) e) ∙ r)
-reaches_along a b e {c} {d} (through {e = x} r q) = through (sym (ap (λ f. network.holds (get f c) x) e) ∙ r) (reaches_along a b e q)
-
-pub spread_along : (a b : Network) → a.formulas ≡ b.formulas → (cells : List Place) (c : Place) → IsSpread a cells c → IsSpread b cells c
-spread_along a b e cells c p = record {
-  formula = sym (ap (λ f. is_some (get f c)) e) ∙ p.formula;
-  way = elim p.way [
-    | inl h ↦ inl h
-    | inr q ↦ inr (record { cell = q.cell; among = q.among; reached = reaches_along a b e q.reached })
-  ];
-}
 
 pub inserted_members : (keys : List Place) (k c : Place) → (has same_place (insert_key same_place keys k) c ≡ true) ↔ ((has same_place keys c ≡ true) ⊎ (same_place c k ≡ true))
 inserted_members keys k c = elim (has same_place keys k) as (λ b. has same_place keys k ≡ b → (has same_place (cond b keys (keys ++ k ∷ [])) c ≡ true) ↔ ((has same_place keys c ≡ true) ⊎ (same_place c k ≡ true))) [

@@ -17,7 +17,8 @@ use Rattle.natural_recalc.specs.Reading.{is_formula_at, node_of, Matches}
 use Rattle.natural_recalc.specs.World.{formula_at, formula_in, formula_of}
 use Rattle.sheet_store.specs.Grid.{is_kept, put_state, Cells, Grid}
 use Rattle.sheet_store.specs.declared.state.CellState.{CellState}
-use Rattle.sheet_edits.proofs.Dirtied.{dirtied, spread_along}
+use Rattle.depend_graph.proofs.Spreads.{spread_along}
+use Rattle.sheet_edits.proofs.Dirtied.{dirtied}
 use Rattle.sheet_edits.proofs.Listed.{is_among, more_seen, seen_beside}
 use Rattle.sheet_edits.proofs.Reaching.{formula_in_is}
 use Rattle.sheet_edits.specs.Edits.{settled, AreDirtied, WithReached}

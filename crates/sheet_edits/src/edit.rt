@@ -1,7 +1,8 @@
 // A cell is written into the store, the graph and the dirty set. What takes memory comes first.
-ghost use Rattle.std.specs.Prelude.{◌≡◌, ◌∷◌, [], ◌||◌, IfOk, OnOk, OnErr, false, true};
+ghost use Rattle.std.specs.Prelude.{◌≡◌, ◌↔◌, ◌∷◌, [], ◌||◌, IfOk, OnOk, OnErr, false, true};
 ghost use Rattle.std.specs.FinMap as map;
 ghost use Rattle.grid_address.specs.Place.{same_place, Place};
+ghost use Rattle.depend_graph.specs.Network.{IsSpread};
 ghost use Rattle.depend_graph.specs.Within.{Extends};
 ghost use Rattle.natural_order.specs.Walk.{has};
 ghost use Rattle.natural_recalc.specs.Reading.{is_formula_at, node_of, Matches};
@@ -9,12 +10,13 @@ ghost use Rattle.natural_recalc.specs.World.{formula_in};
 ghost use Rattle.sheet_store.specs.Grid.{is_formula, is_kept, put_state, IsSound};
 ghost use Rattle.sheet_edits.specs.Edits.{just, kept_at, settled, AreDirtied, WithReached};
 
+use cell_numbers::CellSet;
 use depend_graph::{Graph, Node, cut_back, insert, insert_all};
 use formula_tree::Content;
 use grid_address::{Cell, CellList};
-use indexmap::IndexSet;
 use lics_text::Memory;
 use sheet_store::{CellState, Store, is_formula};
+use std::alloc::Global;
 
 // What the formula of a content reads, where the content is a formula.
 pub fn node_of(cell: Cell, content: &Content) -> Result<Option<Node>, Memory>
@@ -47,11 +49,30 @@ pub fn offer(graph: &mut Graph, cell: Cell, node: Option<Node>) -> Result<(), Me
     }
 }
 
+// The formulas among a cell and those that reach it. They are kept where no formula changes.
+fn reached_from(
+    alloc: Global,
+    graph: &mut Graph,
+    cell: Cell,
+    is_formula: bool,
+) -> Result<CellList, Memory>
+    ensures same { graph.new ≡ graph.old }
+    ensures list { IfOk result (λ l. (c : Place) → (has same_place l c ≡ true) ↔ IsSpread graph.old (cell ∷ []) c) }
+{
+    if is_formula {
+        let cells = CellList::one(alloc, cell)?;
+        let list = graph.closure(&cells)?;
+        return Ok(list);
+    }
+    let list = graph.spread_of(cell)?;
+    Ok(list)
+}
+
 // All that takes memory: the formula is offered, what it will make dirty is added, and the state is put.
 pub fn prepare(
     store: &mut Store,
     graph: &mut Graph,
-    dirty: &mut IndexSet<Cell>,
+    dirty: &mut CellSet,
     cell: Cell,
     state: CellState,
 ) -> Result<(), Memory>
@@ -64,7 +85,7 @@ pub fn prepare(
     ensures dirty { OnOk result (WithReached graph.old (cell ∷ []) (just cell) dirty.old.keys dirty.new.keys) }
 {
     offer(graph, cell, node_of(cell, &state.content)?)?;
-    let reached = graph.closure(&CellList::one(store.alloc(), cell)?)?;
+    let reached = reached_from(store.alloc(), graph, cell, is_formula(&state.content))?;
     insert_all(dirty, reached.as_slice())?;
     insert(dirty, cell)?;
     store.put(cell, state)?;
@@ -72,7 +93,7 @@ pub fn prepare(
 }
 
 // The graph and the dirty set take what was prepared. It takes no memory.
-pub fn settle(graph: &mut Graph, dirty: &mut IndexSet<Cell>, cell: Cell, holds_formula: bool)
+pub fn settle(graph: &mut Graph, dirty: &mut CellSet, cell: Cell, holds_formula: bool)
     ensures graph { graph.new ≡ settled holds_formula graph.old cell }
     ensures dirty { (c : Place) → has same_place dirty.new.keys c ≡ kept_at holds_formula cell c (has same_place dirty.old.keys c) }
 {
@@ -80,7 +101,7 @@ pub fn settle(graph: &mut Graph, dirty: &mut IndexSet<Cell>, cell: Cell, holds_f
         graph.accept(cell);
     } else {
         graph.drop_cell(cell);
-        let _ = dirty.swap_remove(&cell);
+        dirty.remove(cell);
     }
 }
 
@@ -89,7 +110,7 @@ pub fn settle(graph: &mut Graph, dirty: &mut IndexSet<Cell>, cell: Cell, holds_f
 pub fn write_cell(
     store: &mut Store,
     graph: &mut Graph,
-    dirty: &mut IndexSet<Cell>,
+    dirty: &mut CellSet,
     cell: Cell,
     state: CellState,
 ) -> Result<(), Memory>

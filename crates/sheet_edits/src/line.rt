@@ -11,10 +11,10 @@ ghost use Rattle.sheet_store.specs.Grid.{is_formula, is_kept, put_state, IsSound
 ghost use Rattle.sheet_edits.specs.Edits.{just, put_back, AreDirtied, IsOldState};
 
 use crate::edit::{prepare, settle};
+use cell_numbers::CellSet;
 use depend_graph::{Graph, cut_back};
 use formula_eval::{Means, Scene};
 use grid_address::Cell;
-use indexmap::IndexSet;
 use lics_text::Memory;
 use natural_recalc::evaluate_at;
 use range_names::Names;
@@ -52,7 +52,7 @@ fn put_back(store: &mut Store, cell: Cell, old: Option<CellState>)
 pub fn write_evaluated<E: Means>(
     store: &mut Store,
     graph: &mut Graph,
-    dirty: &mut IndexSet<Cell>,
+    dirty: &mut CellSet,
     cell: Cell,
     state: CellState,
     names: &Names,

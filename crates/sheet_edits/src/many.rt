@@ -13,9 +13,9 @@ ghost use Rattle.sheet_edits.specs.Spans.{changed, gives_formula, node_given, pu
 
 use crate::changes::Changes;
 use crate::edit::{node_of, offer, settle};
+use cell_numbers::CellSet;
 use depend_graph::{Graph, cut_back, insert, insert_all};
 use grid_address::{Cell, CellList, Format};
-use indexmap::IndexSet;
 use lics_text::Memory;
 use sheet_store::{CellState, Store, is_formula};
 
@@ -54,7 +54,7 @@ fn is_given(changes: &Changes, cell: Cell) -> bool
 }
 
 // Adds the cells that are given a formula.
-fn insert_given(dirty: &mut IndexSet<Cell>, cells: &[Cell], changes: &Changes) -> Result<(), Memory>
+fn insert_given(dirty: &mut CellSet, cells: &[Cell], changes: &Changes) -> Result<(), Memory>
     ensures members { OnOk result ((c : Place) → has same_place dirty.new.keys c ≡ (has same_place dirty.old.keys c || (has same_place cells.now c && gives_formula (map.get changes.now c)))) }
     ensures extends { Extends dirty.old.keys dirty.new.keys }
 {
@@ -184,7 +184,7 @@ fn holds_formula(store: &Store, cell: Cell) -> bool
     }
 }
 
-fn settle_at(store: &Store, graph: &mut Graph, dirty: &mut IndexSet<Cell>, cell: Cell)
+fn settle_at(store: &Store, graph: &mut Graph, dirty: &mut CellSet, cell: Cell)
     requires { IsOffered graph.old store.now cell }
     ensures here { map.get graph.new.formulas cell ≡ node_of (formula_at store.now cell) cell }
     ensures offer { (map.get graph.new.offers cell ≡ None) ⊎ (map.get graph.new.offers cell ≡ map.get graph.old.offers cell) }
@@ -197,7 +197,7 @@ fn settle_at(store: &Store, graph: &mut Graph, dirty: &mut IndexSet<Cell>, cell:
 }
 
 // The graph and the dirty set take what was prepared for cells that have their states. It takes no memory.
-fn settle_all(store: &Store, graph: &mut Graph, dirty: &mut IndexSet<Cell>, cells: &[Cell])
+fn settle_all(store: &Store, graph: &mut Graph, dirty: &mut CellSet, cells: &[Cell])
     requires offered { (c : Place) → has same_place cells.now c ≡ true → IsOffered graph.old store.now c }
     requires others { (c : Place) → has same_place cells.now c ≡ false → map.get graph.old.formulas c ≡ node_of (formula_at store.now c) c }
     ensures matches { Matches graph.new store.now }
@@ -212,7 +212,7 @@ fn settle_all(store: &Store, graph: &mut Graph, dirty: &mut IndexSet<Cell>, cell
 fn prepare_all(
     store: &mut Store,
     graph: &mut Graph,
-    dirty: &mut IndexSet<Cell>,
+    dirty: &mut CellSet,
     cells: &CellList,
     changes: &Changes,
 ) -> Result<(), Memory>
@@ -237,7 +237,7 @@ fn prepare_all(
 pub fn write_cells(
     store: &mut Store,
     graph: &mut Graph,
-    dirty: &mut IndexSet<Cell>,
+    dirty: &mut CellSet,
     cells: &CellList,
     mut changes: Changes,
 ) -> Result<(), Memory>

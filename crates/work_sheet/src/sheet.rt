@@ -28,11 +28,11 @@ ghost use Rattle.work_sheet.specs.Typed.{typed};
 
 use crate::KeptState;
 use crate::typed::text_of;
+use cell_numbers::CellSet;
 use depend_graph::Graph;
 use formula_eval::{Look, Means, Scene, Tally};
 use formula_tree::{Content, Value};
 use grid_address::{Cell, CellList, Format, Span};
-use indexmap::IndexSet;
 use lics_text::{Line, Memory};
 use natural_recalc::{
     Missing, View, all_dirty, content_of, format_of, graph_of, recalc, recalc_span, value_of,
@@ -54,7 +54,7 @@ use std::marker::{Model, PhantomData};
 pub struct SheetOf<E: Means> {
     store: Store,
     graph: Graph,
-    dirty: IndexSet<Cell>,
+    dirty: CellSet,
     circular: bool,
     stale: bool,
     names: Names,
@@ -87,7 +87,7 @@ impl<E: Means> SheetOf<E> {
         SheetOf {
             store: Store::new(alloc),
             graph: Graph::new(alloc),
-            dirty: IndexSet::new(alloc),
+            dirty: CellSet::new(alloc),
             circular: false,
             stale: false,
             names: Names::new(alloc),

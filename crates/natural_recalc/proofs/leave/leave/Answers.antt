@@ -22,8 +22,8 @@ loop-cell-preserved c =
     let more : take (c.loop-cell.cell-index + 1) order ≡ seen ++ x ∷ [] = take_more order c.loop-cell.cell-index x lt ∙ ap (λ y. seen ++ y ∷ []) (sym c.cell-item.is) in
     elim c.if-not-held.branch [
       | then-not-held w ↦
-          let after : Place → Bool = has same_place w.swap_remove.new.self.keys in
-          let done : LeftSoFar g old (seen ++ x ∷ []) after = left_removed g old now after seen x c.loop-cell.invariant (sym c.in_ok-held.ensures ∙ w.if-not-held.true) w.swap_remove.ensures.updates.0 in
+          let after : Place → Bool = has same_place w.remove.new.self.keys in
+          let done : LeftSoFar g old (seen ++ x ∷ []) after = left_removed g old now after seen x c.loop-cell.invariant (sym c.in_ok-held.ensures ∙ w.if-not-held.true) w.remove.ensures in
           subst (λ s. LeftSoFar g old s (has same_place c.if-not-held.dirty.keys)) (sym more)
           (subst (λ ks. LeftSoFar g old (seen ++ x ∷ []) (has same_place ks)) (sym (ap (λ h. h.keys) w.dirty-is)) done)
       | else-not-held w ↦

@@ -14,4 +14,4 @@ returns-clause-dirty c =
     subst (λ (ks : List Place). WithReached c.args.graph.now (c.args.cell ∷ []) (just c.args.cell) old ks) (sym c.in_ok-insert.ensures.keys)
     (with_reached c.args.graph.now c.offer.new.graph c.offer.ensures.formulas c.args.cell old mid c.in_ok-reached.reached
     (λ x. c.in_ok-insert_all.ensures.members x ∙ ap (λ ks. has same_place old x || has same_place ks x) c.as_slice.ensures)
-    (subst (λ (ks : List Place). (x : Place) → (has same_place c.in_ok-reached.reached x ≡ true) ↔ IsSpread c.offer.new.graph ks x) c.in_ok-one.ensures c.in_ok-reached.ensures))
+    c.in_ok-reached.ensures.list)

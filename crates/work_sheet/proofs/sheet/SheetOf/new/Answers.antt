@@ -6,4 +6,4 @@ pub invariant_of-result : goal.invariant_of-result
 invariant_of-result g c =
     let mean : Meaning = g.E.Means.meaning in
     let meaning : IsMeaning mean = record { reads = g.met.E.Means.reads_alone } in
-    kept_empty mean meaning c.new.result c.new.ensures.cells c.new-2.result c.new-3.result.keys c.fresh.result.order c.new-2.ensures.formulas c.new-3.ensures.empty
+    kept_empty mean meaning c.new.result c.new.ensures.cells c.new-2.result c.new-3.result.keys c.fresh.result.order c.new-2.ensures.formulas c.new-3.ensures

@@ -1,12 +1,12 @@
 use Rattle.std.specs.Prelude.{◌≤◌, drop, length}
-use Rattle.natural_recalc.specs.InOrder.{AreMarked, GoesInOrder}
-use Rattle.natural_recalc.proofs.in_order.is_in_order.Given as goal
+use Rattle.depend_graph.specs.InOrder.{AreMarked, GoesInOrder}
+use Rattle.depend_graph.proofs.in_order.is_in_order.Given as goal
 
 abbrev pub invariant-back : goal.invariant-back
 invariant-back l = record {
   within : l.next ≤ length l.fn.cells;
   marked : AreMarked l.marked (drop l.next l.fn.cells);
-  goes : GoesInOrder l.fn.store (drop l.next l.fn.cells);
+  goes : GoesInOrder l.fn.graph (drop l.next l.fn.cells);
 }
 
 abbrev pub decreases-back : goal.decreases-back

@@ -6,9 +6,8 @@ use Rattle.std.proofs.lemmas.List.{length-drop, take_all}
 use Rattle.cell_numbers.specs.Numbers.{number_at}
 use Rattle.grid_address.proofs.Places.{same_place_is, same_place_itself}
 use Rattle.grid_address.specs.Place.{same_place, InSheet, Place}
-use Rattle.natural_order.specs.Walk.{has}
-use Rattle.sheet_store.specs.Grid.{Grid}
-use Rattle.natural_recalc.specs.InOrder.{AreMarked, GoesInOrder, StandsFirst}
+use Rattle.depend_graph.specs.Network.{has, Network}
+use Rattle.depend_graph.specs.InOrder.{AreMarked, GoesInOrder, StandsFirst}
 
 pub whole_rest : (cells : List Place) (n : ℕ) → take (length cells - n) (drop n cells) ≡ drop n cells
 whole_rest cells n = take_all (length cells - n) (drop n cells) (let h = length-drop n cells in omega (arith, h))
@@ -18,7 +17,7 @@ front cells i n x e le is = drop-cons cells n x (let h = le in let k = e in omeg
 
 pub marked_more : (cells : List Place) (i n : ℕ) (x : Place) (old new : List (List ℕ)) → i ≡ suc n → i ≤ length cells → x ≡ get_or cells n x → InSheet x → AreMarked old (drop i cells)
     → ((d : Place) → InSheet d → number_at new d ≡ cond (same_place x d) 1 (number_at old d)) → AreMarked new (drop n cells)
-marked_more cells i n x old new e le is inside all set d m = elim (or_cases (same_place d x) (has same_place (drop i cells) d) (sym (ap (λ l. has same_place l d) (front cells i n x e le is)) ∙ m)) [
+marked_more cells i n x old new e le is inside all set d m = elim (or_cases (same_place d x) (has (drop i cells) d) (sym (ap (λ l. has l d) (front cells i n x e le is)) ∙ m)) [
   | inl q ↦
       let here : x ≡ d = sym (same_place_is d x q) in
       (subst InSheet here inside, set d (subst InSheet here inside) ∙ ap (λ b. cond b 1 (number_at old d)) (ap (same_place x) (sym here) ∙ same_place_itself x))
@@ -31,7 +30,7 @@ marked_more cells i n x old new e le is inside all set d m = elim (or_cases (sam
     either true k h = refl
     either false k h = h
 
-pub goes_more : (g : Grid) (cells : List Place) (i n : ℕ) (x : Place) → i ≡ suc n → i ≤ length cells → x ≡ get_or cells n x → StandsFirst g (drop n cells) x → GoesInOrder g (drop i cells) → GoesInOrder g (drop n cells)
+pub goes_more : (g : Network) (cells : List Place) (i n : ℕ) (x : Place) → i ≡ suc n → i ≤ length cells → x ≡ get_or cells n x → StandsFirst g (drop n cells) x → GoesInOrder g (drop i cells) → GoesInOrder g (drop n cells)
 goes_more g cells i n x e le is first rest =
     let f = front cells i n x e le is in
     subst (GoesInOrder g) (sym f) (subst (λ l. StandsFirst g l x) f first, rest)

@@ -1,12 +1,12 @@
 use Rattle.std.specs.Prelude.{ℕ, suc, ◌≡◌, ◌≤◌, ◌-◌, true, List, length}
 use Rattle.std.proofs.Common.{arith, rules, subst, sym}
 use Rattle.grid_address.specs.Place.{Place}
-use Rattle.natural_recalc.proofs.Marked.{goes_more, marked_more, whole_rest}
-use Rattle.natural_recalc.specs.InOrder.{AreMarked, StandsFirst}
-use Rattle.natural_recalc.proofs.in_order.is_in_order.Goals as goal
+use Rattle.depend_graph.proofs.Marked.{goes_more, marked_more, whole_rest}
+use Rattle.depend_graph.specs.InOrder.{AreMarked, StandsFirst}
+use Rattle.depend_graph.proofs.in_order.is_in_order.Goals as goal
 
-pub stands_first-requires-clause-marked : goal.stands_first-requires-clause-marked
-stands_first-requires-clause-marked c =
+pub stands_first-requires : goal.stands_first-requires
+stands_first-requires c =
     let cells : List Place = c.args.cells.now in
     let n : ℕ = c.back.next - 1 in
     let e : c.back.next ≡ suc n = let h = c.back-test.true in omega (arith, h) in
@@ -23,6 +23,6 @@ back-preserved c =
     record {
       within = within;
       marked = marked_more cells c.back.next n c.index-cells-next.result c.back.marked c.set.new.self e c.back.invariant.within c.index-cells-next.is c.is_on_sheet.ensures c.back.invariant.marked c.in_ok-set.ensures;
-      goes = goes_more c.args.store.now cells c.back.next n c.index-cells-next.result e c.back.invariant.within c.index-cells-next.is
-          (subst (λ (l : List Place). StandsFirst c.args.store.now l c.index-cells-next.result) (whole_rest cells n) (c.stands_first.ensures yes)) c.back.invariant.goes;
+      goes = goes_more c.args.graph.now cells c.back.next n c.index-cells-next.result e c.back.invariant.within c.index-cells-next.is
+          (subst (λ (l : List Place). StandsFirst c.args.graph.now l c.index-cells-next.result) (whole_rest cells n) (c.stands_first.ensures yes)) c.back.invariant.goes;
     }

@@ -1,16 +1,17 @@
 // Whether formulas stand in an order in which each comes after all of them that it reads.
 ghost use Rattle.std.specs.Prelude.{◌≡◌, ◌<◌, ◌≤◌, IfOk, true, false};
 ghost use Rattle.cell_numbers.specs.Numbers.{number_at};
-ghost use Rattle.grid_address.specs.Place.{is_within, same_place, whole, Place};
-ghost use Rattle.natural_order.specs.Walk.{has};
+ghost use Rattle.grid_address.specs.Place.{is_within, whole, Place};
 ghost use Rattle.range_index.specs.Owners.{hold};
-ghost use Rattle.natural_recalc.specs.InOrder.{AreMarked, GoesInOrder, StandsFirst};
-ghost use Rattle.natural_recalc.specs.Reading.{Matches};
+ghost use Rattle.depend_graph.specs.Banks.{is_one};
+ghost use Rattle.depend_graph.specs.InOrder.{AreMarked, GoesInOrder, StandsFirst};
+ghost use Rattle.depend_graph.specs.Network.{has};
 
-use depend_graph::{Graph, Marks};
+use crate::lists::is_one;
+use crate::{Graph, Marks};
 use grid_address::{Cell, Span};
 use lics_text::Memory;
-use sheet_store::Store;
+use std::alloc::Global;
 
 // Whether no cell of a row, from one column to another, is marked.
 fn row_is_clear(marked: &Marks, row: u16, first: u8, last: u8) -> bool
@@ -42,9 +43,17 @@ fn places_are_clear(marked: &Marks, span: Span) -> bool
     true
 }
 
+// Whether the one cell of a span isn't marked.
+fn is_unmarked(marked: &Marks, span: Span) -> bool
+    requires { is_one span ≡ true }
+    ensures { result ≡ true → (d : Place) → is_within span d ≡ true → number_at marked.now d ≡ 0 }
+{
+    marked.get(span.first) == 0
+}
+
 // Whether a span holds none of the cells.
 fn holds_none(span: Span, cells: &[Cell]) -> bool
-    ensures { result ≡ true → (d : Place) → has same_place cells.now d ≡ true → is_within span d ≡ false }
+    ensures { result ≡ true → (d : Place) → has cells.now d ≡ true → is_within span d ≡ false }
 {
     for cell in cells {
         if span.contains(*cell) {
@@ -58,8 +67,11 @@ fn holds_none(span: Span, cells: &[Cell]) -> bool
 // cells, whichever are fewer.
 fn is_clear(marked: &Marks, cells: &[Cell], span: Span) -> bool
     requires { AreMarked marked.now cells.now }
-    ensures { result ≡ true → (d : Place) → has same_place cells.now d ≡ true → is_within span d ≡ false }
+    ensures { result ≡ true → (d : Place) → has cells.now d ≡ true → is_within span d ≡ false }
 {
+    if is_one(span) {
+        return is_unmarked(marked, span);
+    }
     let places = usize::from(span.width()) * usize::from(span.height());
     if places <= cells.len() {
         places_are_clear(marked, span)
@@ -71,7 +83,7 @@ fn is_clear(marked: &Marks, cells: &[Cell], span: Span) -> bool
 // Whether the spans hold none of the cells, which are marked.
 fn are_clear(marked: &Marks, cells: &[Cell], spans: &[Span]) -> bool
     requires { AreMarked marked.now cells.now }
-    ensures { result ≡ true → (d : Place) → has same_place cells.now d ≡ true → hold spans.now d ≡ false }
+    ensures { result ≡ true → (d : Place) → has cells.now d ≡ true → hold spans.now d ≡ false }
 {
     for span in spans {
         if !is_clear(marked, cells, *span) {
@@ -82,10 +94,9 @@ fn are_clear(marked: &Marks, cells: &[Cell], spans: &[Span]) -> bool
 }
 
 // Whether the formula of a cell isn't volatile, and reads none of the cells, which are marked.
-fn stands_first(store: &Store, graph: &Graph, marked: &Marks, cells: &[Cell], cell: Cell) -> bool
-    requires matches { Matches graph.now store.now }
-    requires marked { AreMarked marked.now cells.now }
-    ensures { result ≡ true → StandsFirst store.now cells.now cell }
+fn stands_first(graph: &Graph, marked: &Marks, cells: &[Cell], cell: Cell) -> bool
+    requires { AreMarked marked.now cells.now }
+    ensures { result ≡ true → StandsFirst graph.now cells.now cell }
 {
     match graph.get(cell) {
         Some(node) => !node.volatile && are_clear(marked, cells, node.reads.as_slice()),
@@ -94,18 +105,17 @@ fn stands_first(store: &Store, graph: &Graph, marked: &Marks, cells: &[Cell], ce
 }
 
 /// Whether no formula of the cells is volatile, and none reads itself or one that stands behind it.
-pub fn is_in_order(store: &Store, graph: &Graph, cells: &[Cell]) -> Result<bool, Memory>
-    requires { Matches graph.now store.now }
-    ensures { IfOk result (λ b. b ≡ true → GoesInOrder store.now cells.now) }
+pub fn is_in_order(alloc: Global, graph: &Graph, cells: &[Cell]) -> Result<bool, Memory>
+    ensures { IfOk result (λ b. b ≡ true → GoesInOrder graph.now cells.now) }
 {
-    let mut marked = Marks::new(store.alloc());
+    let mut marked = Marks::new(alloc);
     let mut next = cells.len();
     'back: while next > 0 {
         next -= 1;
         let cell = cells[next];
         cell.is_on_sheet();
         marked.set(cell, 1)?;
-        if !stands_first(store, graph, &marked, &cells[next..], cell) {
+        if !stands_first(graph, &marked, &cells[next..], cell) {
             return Ok(false);
         }
     }

@@ -1,0 +1,71 @@
+// What an edit of a cell makes dirty, kept for the next edit of the same cell.
+ghost use Rattle.std.specs.Prelude.{◌≡◌, IfOk, true};
+ghost use Rattle.depend_graph.specs.Spreads.{is_of, list_of, IsSpreadOf};
+
+use crate::Graph;
+use crate::closure::closure;
+use crate::in_order::is_in_order;
+use grid_address::{Cell, CellList};
+use lics_text::Memory;
+use std::alloc::Global;
+
+/// A cell, the formulas among it and those that reach it, and whether these are known to stand in an order in which
+/// each comes after all of them that it reads.
+#[derive(Drop)]
+pub struct Spread {
+    pub cell: Cell,
+    pub list: CellList,
+    pub is_in_order: bool,
+}
+
+/// Finds what a cell spreads to.
+pub fn spread_of(alloc: Global, graph: &Graph, cell: Cell) -> Result<Spread, Memory>
+    ensures cell { IfOk result (λ s. s.cell ≡ cell) }
+    ensures is { IfOk result (λ s. IsSpreadOf graph.now s) }
+{
+    let cells = CellList::one(alloc, cell)?;
+    let list = closure(alloc, graph, cells.as_slice())?;
+    let is_in_order = is_in_order(alloc, graph, list.as_slice())?;
+    Ok(Spread {
+        cell,
+        list,
+        is_in_order,
+    })
+}
+
+/// Whether what is kept is of this cell.
+pub fn is_of(kept: &Option<Spread>, cell: Cell) -> bool
+    ensures { result ≡ is_of kept.now cell }
+{
+    match kept {
+        Some(spread) => spread.cell == cell,
+        None => false,
+    }
+}
+
+/// A copy of the list that is kept, empty where none is.
+pub fn list_of(alloc: Global, kept: &Option<Spread>) -> Result<CellList, Memory>
+    ensures { IfOk result (λ l. l ≡ list_of kept.now) }
+{
+    match kept {
+        Some(spread) => Ok(spread.list.copy(alloc)?),
+        None => Ok(CellList::new(alloc)),
+    }
+}
+
+/// Whether two lists are the same.
+pub fn are_same(cells: &[Cell], others: &[Cell]) -> bool
+    ensures { result ≡ true → cells.now ≡ others.now }
+{
+    if cells.len() != others.len() {
+        return false;
+    }
+    let mut next = 0;
+    'cells: while next < cells.len() {
+        if cells[next] != others[next] {
+            return false;
+        }
+        next += 1;
+    }
+    true
+}
