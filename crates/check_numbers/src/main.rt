@@ -11,7 +11,7 @@ use cell_format::show_number;
 use check_cases::{Stop, Subject, Words, check, whole_of};
 use fixed_value::{Fixed, to_double_bits};
 use grid_address::Format;
-use lics_text::Line;
+use lics_text::{Line, MAX_LEN};
 use std::alloc::Global;
 use std::env;
 use std::io::Write;
@@ -35,6 +35,9 @@ fn write_shown<W: Write>(words: &mut Words, out: &mut W) -> Result<(), Stop> {
     let number = number_in(words)?;
     let format = Format(words.byte()?);
     let width = words.byte()?;
+    if usize::from(width) > MAX_LEN {
+        return Err(Stop::Line);
+    }
     let mut line = Line::new();
     show_number(number, format, width, &mut line);
     out.write_all(b"|")?;
