@@ -1,4 +1,7 @@
 -- A tree is told from another by its code. Nothing else reads it.
+--
+-- What the codes lead back to, and that each leads back to what it is of, stands here and not among the proofs: the
+-- record of the code holds the proof that no two trees have one code, and the view of a formula names the record.
 use Rattle.std.specs.Prelude.{◌≡◌, ℕ, zero, suc, ℤ, pos, negsuc, List, [], ◌∷◌, get_or, refl}
 use Rattle.std.specs.Coded.{Coded}
 use mathlib.Core.Path.{sym, ◌∙◌, ap}
@@ -13,54 +16,67 @@ use Rattle.formula_tree.specs.declared.function.Function.TheVariants as function
 use Rattle.formula_tree.specs.Table.{functions}
 use Rattle.formula_tree.specs.Tree.{Tree, num, str, cell, span, group, neg, not, binary, call, Trees, no_trees, trees}
 
+-- a number by its sign, and by how far it lies from 0, or from -1 where it is negative
 abbrev z_code : ℤ → Gv
 z_code (pos n) = gcons (gnum 0) (gnum n)
 z_code (negsuc n) = gcons (gnum 1) (gnum n)
 
+-- the number of a code; 0 where it is no number's
 abbrev z_of : Gv → ℤ
 z_of (gcons (gnum zero) (gnum n)) = pos n
 z_of (gcons (gnum (suc k)) (gnum n)) = negsuc n
 z_of _ = pos 0
 
+-- a number's code is of that number alone
 z_back : (z : ℤ) → z_of (z_code z) ≡ z
 z_back (pos n) = refl
 z_back (negsuc n) = refl
 
+-- a text byte by byte, with an end behind the last
 abbrev bytes_code : List ℕ → Gv
 bytes_code [] = gnil
 bytes_code (b ∷ bs) = gcons (gnum b) (bytes_code bs)
 
+-- the text of a code, as far as the code is a text's
 abbrev bytes_of : Gv → List ℕ
 bytes_of (gcons (gnum b) g) = b ∷ bytes_of g
 bytes_of _ = []
 
+-- a text's code is of that text alone
 bytes_back : (bs : List ℕ) → bytes_of (bytes_code bs) ≡ bs
 bytes_back [] = refl
 bytes_back (b ∷ bs) = ap (λ l. b ∷ l) (bytes_back bs)
 
+-- a coordinate by whether it moves with its formula, and by its number
 abbrev axis_code : Axis → Gv
 axis_code (Fixed n) = gcons (gnum 0) (gnum n)
 axis_code (Offset n) = gcons (gnum 1) (gnum n)
 
+-- the coordinate of a code; the first column or row where it is none's
 abbrev axis_of : Gv → Axis
 axis_of (gcons (gnum zero) (gnum n)) = Fixed n
 axis_of (gcons (gnum (suc k)) (gnum n)) = Offset n
 axis_of _ = Fixed 0
 
+-- a coordinate's code is of that coordinate alone
 axis_back : (a : Axis) → axis_of (axis_code a) ≡ a
 axis_back (Fixed n) = refl
 axis_back (Offset n) = refl
 
+-- a reference by its column, then its row
 abbrev ref_code : Reference → Gv
 ref_code r = gcons (axis_code r.col) (axis_code r.row)
 
+-- the reference of a code; $A$1 where it is none's
 abbrev ref_of : Gv → Reference
 ref_of (gcons a b) = record { col = axis_of a; row = axis_of b }
 ref_of _ = record { col = Fixed 0; row = Fixed 0 }
 
+-- a reference's code is of that reference alone
 ref_back : (r : Reference) → ref_of (ref_code r) ≡ r
 ref_back r = λ i. record { col = axis_back r.col i; row = axis_back r.row i }
 
+-- an operator by its place among all
 abbrev op_code : Op → ℕ
 op_code Pow = 0
 op_code Mul = 1
@@ -77,6 +93,7 @@ op_code And = 11
 op_code Or = 12
 op_code Join = 13
 
+-- the operator at a place; the last of them for each place behind
 abbrev op_of : Gv → Op
 op_of (gnum zero) = Pow
 op_of (gnum (suc zero)) = Mul
@@ -93,6 +110,7 @@ op_of (gnum (suc (suc (suc (suc (suc (suc (suc (suc (suc (suc (suc zero)))))))))
 op_of (gnum (suc (suc (suc (suc (suc (suc (suc (suc (suc (suc (suc (suc zero))))))))))))) = Or
 op_of _ = Join
 
+-- an operator's place is its alone
 op_back : (o : Op) → op_of (gnum (op_code o)) ≡ o
 op_back Pow = refl
 op_back Mul = refl
@@ -172,9 +190,11 @@ function_code function.Clean = 57
 function_code function.Exact = 58
 function_code function.Pointed = 59
 
+-- the function at a place; @NA for each place behind the last
 abbrev function_from : ℕ → Function
 function_from n = get_or functions n function.Na
 
+-- a function's place is its alone
 function_back : (f : Function) → function_from (function_code f) ≡ f
 function_back function.Na = refl
 function_back function.Err = refl
@@ -237,6 +257,7 @@ function_back function.Clean = refl
 function_back function.Exact = refl
 function_back function.Pointed = refl
 
+-- a tree by what stands at its top, then its parts; operators and functions stand apart from all other tops
 abbrev mutual
   pub tree_code : Tree → Gv
   tree_code (num z) = gcons (gnum 0) (z_code z)
@@ -253,6 +274,7 @@ abbrev mutual
   trees_code no_trees = gnil
   trees_code (trees a ts) = gcons (tree_code a) (trees_code ts)
 
+-- the tree of a code; 0 where it is no tree's
 abbrev mutual
   pub tree_from : Gv → Tree
   tree_from (gcons (gnum zero) g) = num (z_of g)
@@ -270,6 +292,7 @@ abbrev mutual
   trees_from (gcons a ts) = trees (tree_from a) (trees_from ts)
   trees_from _ = no_trees
 
+-- a tree's code is of that tree alone
 mutual
   pub tree_back : (t : Tree) → tree_from (tree_code t) ≡ t
   tree_back (num z) = ap num (z_back z)
@@ -286,5 +309,6 @@ mutual
   trees_back no_trees = refl
   trees_back (trees a ts) = λ i. trees (tree_back a i) (trees_back ts i)
 
+-- trees by their codes
 abbrev pub coded_tree : Coded Tree
 coded_tree = record { code = tree_code; inj = λ x y e. sym (tree_back x) ∙ ap tree_from e ∙ tree_back y }

@@ -5,6 +5,7 @@ use Rattle.formula_tree.specs.declared.formula.TreeFault.{TreeFault}
 use Rattle.formula_tree.specs.declared.formula.TreeFault.TheVariants.{TooDeep, BadShape, Memory}
 use Rattle.formula_tree.specs.Shape.{depth, has_shape}
 
+-- the tree itself where a formula may have it, or else its fault; a bad shape comes before too much depth
 abbrev pub formula_of : Tree → Result Tree TreeFault
 formula_of t = if not (has_shape t) then Err BadShape else (if nat_lt 256 (depth t) then Err TooDeep else Ok t)
 

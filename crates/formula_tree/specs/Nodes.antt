@@ -2,10 +2,12 @@
 use Rattle.std.specs.Prelude.{ℕ, ◌+◌, List, [], ◌∷◌}
 use Rattle.formula_tree.specs.Tree.{Tree, num, str, cell, span, group, neg, not, binary, call, Trees, no_trees, trees}
 
+-- the arguments of a call as a list
 abbrev pub listed_parts : Trees → List Tree
 listed_parts no_trees = []
 listed_parts (trees t ts) = t ∷ listed_parts ts
 
+-- the trees right below the top, from left to right
 abbrev pub parts : Tree → List Tree
 parts (num v) = []
 parts (str t) = []

@@ -4,9 +4,11 @@ use Rattle.std.specs.List.{list_all}
 use Rattle.grid_address.specs.Axes.{number_of, Reference}
 use Rattle.formula_tree.specs.Tree.{Tree, num, str, cell, span, group, neg, not, binary, call}
 
+-- what a text keeps: it isn't too long, and no byte of it is below a space
 abbrev pub is_text : List ℕ → Bool
 is_text t = nat_le (length t) 240 && list_all (λ b. nat_le 32 b) t
 
+-- what a reference keeps: its numbers are those of a column and a row of the sheet, or offsets as small
 abbrev pub is_reference : Reference → Bool
 is_reference r = nat_lt (number_of r.col) 256 && nat_lt (number_of r.row) 8192
 

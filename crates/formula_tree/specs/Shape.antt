@@ -76,6 +76,7 @@ is_bracketed (negation a) = nat_lt 2 (top a)
 is_bracketed (binary op a b) = nat_le (level op) (lowest a) && nat_lt (level op) (top b)
 is_bracketed (call f ts) = true
 
+-- how many arguments a call has
 abbrev pub count : Trees → ℕ
 count no_trees = 0
 count (trees t ts) = 1 + count ts
@@ -92,10 +93,12 @@ is_counted (negation a) = true
 is_counted (binary op a b) = true
 is_counted (call f ts) = takes (counts_of f) (count ts)
 
+-- a number that needs no minus: a minus is an operator of the tree
 abbrev pub not_negative : ℤ → Bool
 not_negative (pos n) = true
 not_negative (negsuc n) = false
 
+-- a text that can stand between two quotes as it is
 abbrev pub has_no_quote : List ℕ → Bool
 has_no_quote t = not (list_any (λ b. b == 34) t)
 
@@ -111,6 +114,7 @@ is_plain (negation a) = true
 is_plain (binary op a b) = true
 is_plain (call f ts) = true
 
+-- a node that fits what stands beside and below it
 abbrev pub is_fine : Tree → Bool
 is_fine t = is_bracketed t && (is_counted t && is_plain t)
 
@@ -168,6 +172,7 @@ abbrev mutual
 abbrev pub code_size : Tree → ℕ
 code_size t = 1 + nodes_size t
 
+-- each node is fine, and a cell's record has room for the code (worksheet file format)
 abbrev pub has_shape : Tree → Bool
 has_shape t = every is_fine t && nat_le (code_size t) 65520
 

@@ -100,6 +100,7 @@ is_volatile_function function.DMin = true
 is_volatile_function function.DMax = true
 is_volatile_function f = false
 
+-- a byte for the function, and one more where the count of arguments is free
 abbrev pub counts_size : Counts → ℕ
 counts_size (Exactly wanted) = 1
 counts_size (AtLeast least) = 2

@@ -5,6 +5,7 @@ use Rattle.formula_tree.specs.declared.ast.Expr.{Expr, Row_of-Expr, end_of-Expr,
 use Rattle.formula_tree.specs.declared.ast.Expr.TheVariants.{Num, Str, Cell, Span, Group', Neg', Not', Binary', Call'}
 use Rattle.formula_tree.specs.Tree.{Tree, num, str, cell, span, group, neg, not, binary, call, Trees, no_trees, trees}
 
+-- the tree without the boxes of operands and the lists of arguments
 abbrev mutual
   pub tree_of : Expr → Tree
   tree_of (Num v) = num v

@@ -31,6 +31,7 @@ pub fn copy_expr(alloc: Global, expr: &Expr) -> Result<Expr, Memory>
     }
 }
 
+// An equal tree behind a box of its own.
 #[cycle(copy)]
 fn copy_box(alloc: Global, expr: &Expr) -> Result<Box<Expr>, Memory>
     ensures { IfOk result (λ e. tree_of e.value ≡ tree_of expr.now) }
@@ -40,6 +41,7 @@ fn copy_box(alloc: Global, expr: &Expr) -> Result<Box<Expr>, Memory>
     Ok(boxed)
 }
 
+// Equal trees in the same order; where memory runs out, the copies that were made are dropped.
 #[cycle(copy)]
 fn copy_all(alloc: Global, args: &[Expr]) -> Result<Vec<Expr>, Memory>
     ensures { IfOk result (λ v. map tree_of v.items ≡ map tree_of args.now) }

@@ -24,6 +24,7 @@ pub fn depth_within(expr: &Expr, limit: u32) -> bool
     }
 }
 
+// Whether each argument of a call is at most so deep.
 #[cycle(depth_within)]
 fn are_within(args: &[Expr], limit: u32) -> bool
     ensures { result ≡ list_all (λ e. nat_le (depth (tree_of e)) limit) args.now }

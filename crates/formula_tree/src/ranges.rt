@@ -9,12 +9,14 @@ use fixed_value::Fixed;
 use grid_address::Ref;
 use lics_text::Text;
 
+// A number lies between -999,999,999.999999 and 999,999,999.999999.
 fn number_is_ranged(number: Fixed)
     ensures { nat_abs number ≤ 999999999999999 }
 {
     let _ = number.millionths();
 }
 
+// A text has at most 240 bytes, and none of them is below a space.
 #[tactic(auto, using(crate::proofs::Ranged::as_text))]
 fn text_is_ranged(text: &Text)
     ensures { is_text text.now ≡ true }

@@ -34,6 +34,7 @@ pub fn collect(expr: &Expr, at: Cell, into: &mut SpanList) -> Result<(), Memory>
     }
 }
 
+// Adds the spans that the arguments of a call read, the first argument's first.
 #[cycle(collect)]
 fn collect_all(args: &[Expr], at: Cell, into: &mut SpanList) -> Result<(), Memory>
     ensures { OnOk result (into.new ≡ into.old ++ flat_map (λ e. spans_of (tree_of e) at) args.now) }
@@ -57,6 +58,7 @@ pub fn is_volatile(expr: &Expr) -> bool
     }
 }
 
+// Whether an argument calls a function whose value changes by itself.
 #[cycle(is_volatile)]
 fn any_volatile(args: &[Expr]) -> bool
     ensures { result ≡ list_any (λ e. is_volatile (tree_of e)) args.now }

@@ -95,10 +95,13 @@ pub fn redirect_tree<R: Redirect>(alloc: Global, expr: &mut Expr, by: &R)
     }
 }
 
+// Redirects each reference in the arguments of a call, which stay in their order.
 #[cycle(redirect_tree)]
 fn redirect_all<R: Redirect>(alloc: Global, args: &mut ExprList, by: &R)
-    ensures trees { trees_in args.new ≡ map (λ e. redirected (R.new_reference by.now) (tree_of e)) args.old.items.items }
-    ensures ranged { list_all (λ e. every is_ranged (tree_of e)) args.old.items.items ≡ true → list_all (λ e. every is_ranged (tree_of e)) args.new.items.items ≡ true }
+    ensures trees { trees_in args.new
+        ≡ map (λ e. redirected (R.new_reference by.now) (tree_of e)) args.old.items.items }
+    ensures ranged { list_all (λ e. every is_ranged (tree_of e)) args.old.items.items ≡ true
+        → list_all (λ e. every is_ranged (tree_of e)) args.new.items.items ≡ true }
 {
     for i in 0..args.items.len() {
         redirect_tree(alloc, &mut args.items[i], by);

@@ -88,12 +88,14 @@ fn is_counted(expr: &Expr) -> bool
     }
 }
 
+// Whether a number needs no minus: a minus is an operator of the tree, and no part of a number.
 fn is_not_negative(number: Fixed) -> bool
     ensures { result ≡ not_negative number }
 {
     number.millionths() >= 0
 }
 
+// Whether a text can stand between two quotes as it is.
 fn has_no_quote(text: &Text) -> bool
     ensures { result ≡ has_no_quote text.now }
 {

@@ -2,29 +2,34 @@
 use crate::{Content, Expr, ExprList, Formula, Function, Op, TreeFault, Value};
 use fixed_value::Fixed;
 use grid_address::{Cell, Ref, Span};
-use lics_text::{LabelPrefix, Text};
+use lics_text::{LabelPrefix, MAX_LEN, Text};
 use std::alloc::Global;
 use std::process::Abort;
 use std::test::Fail;
 
 const HOME: Cell = Cell { row: 0, col: 0 };
 
+// A number by its millionths.
 fn number<R: Abort>(rt: &R, millionths: i64) -> Expr {
     Expr::Num(Fixed::of(millionths).expect(rt, "a number within the size"))
 }
 
+// A text as a tree of its own.
 fn text<R: Abort>(rt: &R, alloc: Global, bytes: &[u8]) -> Expr {
     Expr::Str(Text::from_bytes(alloc, bytes).expect(rt, "a text"))
 }
 
+// A tree as an operand of another.
 fn boxed<R: Abort>(rt: &R, alloc: Global, expr: Expr) -> Box<Expr> {
     Box::new(alloc, expr).expect(rt, "memory")
 }
 
+// An operator between two operands.
 fn binary<R: Abort>(rt: &R, alloc: Global, op: Op, left: Expr, right: Expr) -> Expr {
     Expr::Binary(op, boxed(rt, alloc, left), boxed(rt, alloc, right))
 }
 
+// A call with so many arguments, each of them 1.
 fn call<R: Abort>(rt: &R, alloc: Global, function: Function, count: u32) -> Expr {
     let mut args = ExprList::new(alloc);
     for _ in 0..count {
@@ -33,6 +38,7 @@ fn call<R: Abort>(rt: &R, alloc: Global, function: Function, count: u32) -> Expr
     Expr::Call(function, args)
 }
 
+// Why a tree was refused; none where a formula was made of it.
 fn fault(answer: Result<Formula, TreeFault>) -> Option<TreeFault> {
     match answer {
         Ok(_) => None,
@@ -139,6 +145,7 @@ fn leaves_are_plain(rt: HostRuntime) -> Result<(), Fail> {
     Ok(())
 }
 
+// A tree in so many pairs of brackets.
 fn groups<R: Abort>(rt: &R, alloc: Global, count: u32, inner: Expr) -> Expr {
     let mut tree = inner;
     for _ in 0..count {
@@ -163,10 +170,11 @@ fn trees_are_at_most_256_deep(rt: HostRuntime) -> Result<(), Fail> {
     Ok(())
 }
 
+// A sum of so many texts, each as long as a text may be.
 fn texts<R: Abort>(rt: &R, alloc: Global, count: u32) -> Expr {
     let mut args = ExprList::new(alloc);
     for _ in 0..count {
-        args.push(text(rt, alloc, &[b'x'; 240]))
+        args.push(text(rt, alloc, &[b'x'; MAX_LEN]))
             .expect(rt, "memory");
     }
     Expr::Call(Function::Sum, args)

@@ -35,7 +35,8 @@ pub fn has_shape(alloc: Global, expr: &Expr) -> Result<bool, Memory>
 
 // Puts the parts of a tree on the stack.
 fn spread<'a>(stack: &mut Vec<&'a Expr>, expr: &'a Expr) -> Result<(), Memory>
-    ensures { OnOk result (map (λ e. tree_of e.now) stack.new.items ≡ map (λ e. tree_of e.now) stack.old.items ++ parts (tree_of expr.now)) }
+    ensures { OnOk result (map (λ e. tree_of e.now) stack.new.items
+        ≡ map (λ e. tree_of e.now) stack.old.items ++ parts (tree_of expr.now)) }
 {
     match expr {
         Expr::Group(inner) | Expr::Neg(inner) | Expr::Not(inner) => put(stack, inner),
@@ -53,8 +54,10 @@ fn spread<'a>(stack: &mut Vec<&'a Expr>, expr: &'a Expr) -> Result<(), Memory>
     }
 }
 
+// Puts a tree on the stack, to be the next that is seen.
 fn put<'a>(stack: &mut Vec<&'a Expr>, expr: &'a Expr) -> Result<(), Memory>
-    ensures { OnOk result (map (λ e. tree_of e.now) stack.new.items ≡ map (λ e. tree_of e.now) stack.old.items ++ tree_of expr.now ∷ []) }
+    ensures { OnOk result (map (λ e. tree_of e.now) stack.new.items
+        ≡ map (λ e. tree_of e.now) stack.old.items ++ tree_of expr.now ∷ []) }
 {
     stack.push(expr)?;
     Ok(())
