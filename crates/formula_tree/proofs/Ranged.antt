@@ -1,5 +1,5 @@
 -- A text by a test.
-use Rattle.std.proofs.Common.{◌≡◌, ◌≤◌, ℕ, suc, true, nat_le, List, [], ◌∷◌, length, refl, arith}
+use Rattle.std.proofs.Common.{◌≡◌, ◌≤◌, ℕ, suc, true, ◌&&◌, nat_le, List, [], ◌∷◌, length, refl, arith}
 use Rattle.std.specs.List.{list_all, All}
 use Rattle.std.proofs.lemmas.Bool.Decides.{nat_tests}
 use Rattle.lics_text.specs.Bytes.{IsText}
@@ -13,4 +13,4 @@ each (b ∷ bs) h =
     rw first (each bs (λ k d less. h (suc k) d (omega (arith, less))))
 
 pub as_text : (t : List ℕ) → IsText t → is_text t ≡ true
-as_text t h = (let short : nat_le (length t) 240 ≡ true = grind (arith, nat_tests, h.0) in rw (short, each t h.1) refl)
+as_text t h = (let short : nat_le (length t) 240 ≡ true = grind (arith, nat_tests, h.0) in λ i. short i && each t h.1 i)

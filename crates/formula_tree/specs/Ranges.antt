@@ -1,12 +1,14 @@
 -- What the leaves of a tree keep, since numbers, texts and references keep it.
 use Rattle.std.specs.Prelude.{ℕ, Bool, true, nat_abs, ◌&&◌, nat_le, nat_lt, List, length}
 use Rattle.std.specs.List.{list_all}
+use Rattle.lics_text.specs.declared.TheConstants.{MAX_LEN}
+use Rattle.ascii_bytes.specs.Ascii as ascii
 use Rattle.grid_address.specs.Axes.{number_of, Reference}
 use Rattle.formula_tree.specs.Tree.{Tree, num, str, cell, span, group, neg, not, binary, call}
 
 -- what a text keeps: it isn't too long, and no byte of it is below a space
 abbrev pub is_text : List ℕ → Bool
-is_text t = nat_le (length t) 240 && list_all (λ b. nat_le 32 b) t
+is_text t = nat_le (length t) MAX_LEN && list_all (λ b. nat_le ascii.space b) t
 
 -- what a reference keeps: its numbers are those of a column and a row of the sheet, or offsets as small
 abbrev pub is_reference : Reference → Bool

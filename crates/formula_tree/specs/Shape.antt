@@ -1,6 +1,7 @@
 -- The shape of a tree.
 use Rattle.std.specs.Prelude.{ℕ, ◌+◌, ◌≤◌, ◌≡◌, max, min, ℤ, pos, negsuc, nat_abs, ◌%◌, ◌==◌, Bool, true, false, not, ◌&&◌, nat_le, nat_lt, List, length, if◌then◌else◌}
 use Rattle.std.specs.List.{list_any}
+use Rattle.ascii_bytes.specs.Ascii as ascii
 use Rattle.formula_tree.specs.declared.ast.Op.{Op}
 use Rattle.formula_tree.specs.declared.ast.Op.TheVariants.{Pow, Mul, Div, Add, Sub, Eq, Ne, Lt, Gt, Le, Ge, And, Or, Join}
 use Rattle.formula_tree.specs.Table.{call_size, counts_of, takes}
@@ -100,7 +101,7 @@ not_negative (negsuc n) = false
 
 -- a text that can stand between two quotes as it is
 abbrev pub has_no_quote : List ℕ → Bool
-has_no_quote t = not (list_any (λ b. b == 34) t)
+has_no_quote t = not (list_any (λ b. b == ascii.quote) t)
 
 -- whether a number isn't negative, and a text holds no quote
 abbrev pub is_plain : Tree → Bool
