@@ -29,7 +29,8 @@ is_fine_kind (Bad f) = true
 abbrev pub are_fine : List Lexeme → Bool
 are_fine ls = list_all (λ l. is_fine_kind l.kind) ls
 
--- a token that can stand in a formula: no number below zero, no text with a quote or too many bytes, no constant that wants arguments
+-- a token that can stand in a formula: no number below zero, no text with a quote or too many bytes, no constant that
+-- wants arguments
 abbrev pub is_fine_token : Token → Bool
 is_fine_token (number v) = not_negative v
 is_fine_token (text t) = has_no_quote t && nat_le (length t) MAX_LEN

@@ -73,10 +73,10 @@ name_of function.Pointed = codes "@"
 -- functions of Release 2 that no formula may call
 abbrev pub left_out : List (List ℕ)
 left_out =
-    codes "SQRT" ∷ codes "LOG" ∷ codes "LN" ∷ codes "PI" ∷ codes "SIN" ∷ codes "COS" ∷ codes "TAN" ∷ codes "ATAN2" ∷ codes "ATAN"
-    ∷ codes "ASIN" ∷ codes "ACOS" ∷ codes "EXP" ∷ codes "RAND" ∷ codes "PMT" ∷ codes "PV" ∷ codes "FV" ∷ codes "NPV" ∷ codes "VAR"
-    ∷ codes "STD" ∷ codes "IRR" ∷ codes "DVAR" ∷ codes "DSTD" ∷ codes "S" ∷ codes "N" ∷ codes "RATE" ∷ codes "TERM" ∷ codes "CTERM"
-    ∷ codes "SLN" ∷ codes "SYD" ∷ codes "DDB" ∷ []
+    codes "SQRT" ∷ codes "LOG" ∷ codes "LN" ∷ codes "PI" ∷ codes "SIN" ∷ codes "COS" ∷ codes "TAN" ∷ codes "ATAN2"
+    ∷ codes "ATAN" ∷ codes "ASIN" ∷ codes "ACOS" ∷ codes "EXP" ∷ codes "RAND" ∷ codes "PMT" ∷ codes "PV" ∷ codes "FV"
+    ∷ codes "NPV" ∷ codes "VAR" ∷ codes "STD" ∷ codes "IRR" ∷ codes "DVAR" ∷ codes "DSTD" ∷ codes "S" ∷ codes "N"
+    ∷ codes "RATE" ∷ codes "TERM" ∷ codes "CTERM" ∷ codes "SLN" ∷ codes "SYD" ∷ codes "DDB" ∷ []
 
 -- each name with its function
 abbrev pub names : List (List ℕ × Function)

@@ -65,8 +65,8 @@ abbrev pub told_tree : Verdict → Result Tree ParseFault
 told_tree (Ok ts) = Ok (tree_of_tokens ts)
 told_tree (Err f) = Err f
 
--- what a text spells where it stands in a cell, with these names: past 240 bytes it is too long, else its first fault is
--- told, else its tree
+-- what a text spells where it stands in a cell, with these names: past 240 bytes it is too long, else its first fault
+-- is told, else its tree
 unfoldable pub reading : NameMap → Place → List ℕ → Result Tree ParseFault
 reading names at bytes =
     if nat_lt MAX_LEN (length bytes) then Err TooLong

@@ -63,7 +63,8 @@ pub record Grown (ls : List Lexeme) (least : ℕ) (t : Tree) (rest : List Lexeme
 
 -- a function's arguments are read, from its opening bracket on
 pub record ReadsCall (ls : List Lexeme) (f : AtFunction) (t : Tree) (rest : List Lexeme) : Type 0 where
-  pub spelled : (bs : Brackets) → after (called f ∷ []) (bracket_first ls f bs) ≡ after (tokens t) (operator_first rest bs)
+  pub spelled :
+      (bs : Brackets) → after (called f ∷ []) (bracket_first ls f bs) ≡ after (tokens t) (operator_first rest bs)
   pub well : every is_bracketed t ≡ true
   pub counted : every is_called t ≡ true
   pub tight : top t ≡ 8
@@ -108,7 +109,8 @@ IsCallFault ls function f = (f ≡ Memory) ⊎ ((bs : Brackets) → bracket_firs
 
 -- the same from an operator in front on
 abbrev pub IsSignedFault : Op → ℕ → List Lexeme → Bracket → ParseFault → Type 0
-IsSignedFault op at ls inside f = (f ≡ Memory) ⊎ ((bs : Brackets) → innermost bs ≡ inside → front_row op at bs (operand_first ls) ≡ Err f)
+IsSignedFault op at ls inside f =
+    (f ≡ Memory) ⊎ ((bs : Brackets) → innermost bs ≡ inside → front_row op at bs (operand_first ls) ≡ Err f)
 
 -- a function's bracket opens, and the rest follows it
 pub record Opens (ls : List Lexeme) (f : AtFunction) (rest : List Lexeme) : Type 0 where
@@ -126,7 +128,9 @@ NoOperator ls f = (bs : Brackets) → operator_first ls (Plain ∷ bs) ≡ Err f
 
 -- another argument follows
 pub record Continues (ls rest : List Lexeme) : Type 0 where
-  pub spelled : (f : AtFunction) (n : ℕ) (bs : Brackets) → operator_first ls (Call f n ∷ bs) ≡ after (comma ∷ []) (operand_first rest (Call f (n + 1) ∷ bs))
+  pub spelled :
+      (f : AtFunction) (n : ℕ) (bs : Brackets)
+      → operator_first ls (Call f n ∷ bs) ≡ after (comma ∷ []) (operand_first rest (Call f (n + 1) ∷ bs))
   pub shorter : length rest < length ls
 
 -- the last argument, behind so many, is followed by the closing bracket

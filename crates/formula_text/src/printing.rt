@@ -263,8 +263,8 @@ fn signed(text: &[u8]) -> Output
 /// capitals, two dots in spans, `,` between arguments, and numbers with as many decimals as they need. A cell or a
 /// span whose coordinates are all relative or all absolute is written as the first of its names that is a word and no
 /// address. A `+` stands in front where the text would begin with a letter or a quote. The first 240 bytes are written
-/// into the line, which is empty before, and the answer tells whether that is all; then the text is read as the formula.
-/// (Release 2 manual; the order of names is this project's choice.)
+/// into the line, which is empty before, and the answer tells whether that is all; then the text is read as the
+/// formula. (Release 2 manual; the order of names is this project's choice.)
 pub fn print(formula: &Formula, at: Cell, names: &Names, into: &mut Line) -> bool
     requires { into.old ≡ [] }
     ensures line { into.new ≡ take MAX_LEN (printed names.now at formula.now) }

@@ -49,5 +49,6 @@ pub fn read(alloc: Global, text: &[u8], at: Cell, names: &Names) -> Result<Formu
 /// What is read of a text is the tree that it spells: the tree is spelled by the text wherever it is read of it, and a
 /// text spells no other. So a text spells one tree where it has no fault, and else none.
 pub fn a_text_is_read_as_it_spells()
-    ensures { (names : NameMap) (at : Place) (text : List ℕ) (t : Tree) → (reading names at text ≡ Ok t) ↔ SpelledBy names at text t }
+    ensures { (names : NameMap) (at : Place) (text : List ℕ) (t : Tree)
+        → (reading names at text ≡ Ok t) ↔ SpelledBy names at text t }
 {}
