@@ -1,6 +1,7 @@
 -- When a value fits a label that stands as a condition.
 use Rattle.std.specs.Char.{to_ascii_uppercase}
 use Rattle.std.specs.Prelude.{ℕ, ◌==◌, ◌||◌, ◌&&◌, drop, not, Bool, true, false, List, [], ◌∷◌, if◌then◌else◌}
+use Rattle.ascii_bytes.specs.Ascii as ascii
 use Rattle.formula_tree.specs.declared.value.Value.{Value}
 use Rattle.formula_tree.specs.declared.value.Value.TheVariants as value
 
@@ -12,8 +13,8 @@ same_letter a b = to_ascii_uppercase a == to_ascii_uppercase b
 abbrev pub is_like : List ℕ → List ℕ → Bool
 is_like [] [] = true
 is_like [] (b ∷ bs) = false
-is_like (p ∷ ps) [] = p == 42
-is_like (p ∷ ps) (b ∷ bs) = p == 42 || ((p == 63 || same_letter p b) && is_like ps bs)
+is_like (p ∷ ps) [] = p == ascii.star
+is_like (p ∷ ps) (b ∷ bs) = p == ascii.star || ((p == ascii.question_mark || same_letter p b) && is_like ps bs)
 
 -- only a text is like a pattern
 abbrev pub value_is_like : List ℕ → Value → Bool
@@ -26,7 +27,7 @@ value_is_like pattern value.Na = false
 -- a leading ~ negates
 abbrev pub is_negated : List ℕ → Bool
 is_negated [] = false
-is_negated (p ∷ ps) = p == 126
+is_negated (p ∷ ps) = p == ascii.tilde
 
 -- a value is like the pattern, or with ~ is not like the rest of it
 abbrev pub fits : List ℕ → Value → Bool

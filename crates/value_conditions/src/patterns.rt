@@ -1,5 +1,6 @@
 // When a value fits a label that stands as a condition.
 ghost use Rattle.std.specs.Prelude.{◌≡◌, ◌≤◌, ◌==◌, ◌||◌, length, true};
+ghost use Rattle.ascii_bytes.specs.Ascii as ascii;
 ghost use Rattle.value_conditions.specs.Patterns.{fits, is_like, is_negated, same_letter, value_is_like};
 
 use formula_tree::Value;
@@ -7,14 +8,14 @@ use lics_text::Text;
 
 // Whether a byte of a pattern takes the rest of a text.
 fn is_rest(byte: u8) -> bool
-    ensures { result ≡ (byte == 42) }
+    ensures { result ≡ (byte == ascii.star) }
 {
     byte == b'*'
 }
 
 // Whether a byte of a pattern takes a byte of a text.
 fn takes(byte: u8, other: u8) -> bool
-    ensures { result ≡ ((byte == 63) || same_letter byte other) }
+    ensures { result ≡ ((byte == ascii.question_mark) || same_letter byte other) }
 {
     byte == b'?' || byte.to_ascii_uppercase() == other.to_ascii_uppercase()
 }
