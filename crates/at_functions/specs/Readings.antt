@@ -45,7 +45,10 @@ two_digits bytes =
 
 -- one digit, or two
 abbrev pub short_number : List ℕ → Option ℕ
-short_number bytes = if (length bytes == 1) && is_ascii_digit (byte_at bytes 0) then Some (byte_at bytes 0 - 48) else two_digits bytes
+short_number bytes =
+    if (length bytes == 1) && is_ascii_digit (byte_at bytes 0)
+    then Some (byte_at bytes 0 - 48)
+    else two_digits bytes
 
 -- three letters of a month's name
 abbrev pub is_name : ℕ → ℕ → ℕ → ℕ → ℕ → ℕ → Bool
@@ -72,7 +75,8 @@ month_named a b c =
 abbrev pub month_number : List ℕ → Option ℕ
 month_number bytes =
     if length bytes == 3
-    then Some (month_named (to_ascii_uppercase (byte_at bytes 0)) (to_ascii_uppercase (byte_at bytes 1)) (to_ascii_uppercase (byte_at bytes 2)))
+    then Some (month_named (to_ascii_uppercase (byte_at bytes 0)) (to_ascii_uppercase (byte_at bytes 1))
+    (to_ascii_uppercase (byte_at bytes 2)))
     else None
 
 -- what stands between two such bytes, before and behind them

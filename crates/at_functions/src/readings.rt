@@ -26,7 +26,8 @@ pub fn value(text: &Text) -> Option<Fixed>
 
 // Where a byte first stands.
 fn place_of(bytes: &[u8], sep: u8) -> Option<usize>
-    ensures some { IfSome result (λ at. (at < length bytes.now) × (take at bytes.now ≡ before sep bytes.now) × (behind sep bytes.now ≡ Some (drop (at + 1) bytes.now))) }
+    ensures some { IfSome result (λ at. (at < length bytes.now) × (take at bytes.now ≡ before sep bytes.now)
+        × (behind sep bytes.now ≡ Some (drop (at + 1) bytes.now))) }
     ensures none { IfNone result ((before sep bytes.now ≡ bytes.now) × (behind sep bytes.now ≡ None)) }
 {
     for at in 0..bytes.len() {

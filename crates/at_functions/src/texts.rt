@@ -5,7 +5,7 @@ ghost use Rattle.at_functions.specs.Texts.{again, char_of, code, find_in, found,
 
 use crate::counts::{count_of, units, whole, within};
 use fixed_value::{Fixed, write_decimal};
-use lics_text::{Line, Memory, Text};
+use lics_text::{Line, MAX_LEN, Memory, Text};
 use std::alloc::Global;
 
 /// A number with so many decimals, 0 to 15.
@@ -96,7 +96,7 @@ pub fn replace(text: &Text, start: Fixed, count: Fixed, new: &Text) -> Result<Op
     let bytes = text.bytes();
     let front = part(bytes, 0, start as usize);
     let back = part(bytes, start as usize + count as usize, bytes.len());
-    if front.len() + new.bytes().len() + back.len() > 240 {
+    if front.len() + new.bytes().len() + back.len() > MAX_LEN {
         return Ok(None);
     }
     let mut line = Line::new();
@@ -108,7 +108,7 @@ pub fn replace(text: &Text, start: Fixed, count: Fixed, new: &Text) -> Result<Op
 
 // The bytes so many times.
 fn again(bytes: &[u8], count: usize) -> Line
-    requires { length bytes.now * count ≤ 240 }
+    requires { length bytes.now * count ≤ MAX_LEN }
     ensures { result ≡ again count bytes.now }
 {
     let mut line = Line::new();
@@ -128,7 +128,7 @@ pub fn repeat(text: &Text, count: Fixed) -> Result<Option<Text>, Memory>
         return Ok(None);
     };
     let bytes = text.bytes();
-    if bytes.len() * count as usize > 240 {
+    if bytes.len() * count as usize > MAX_LEN {
         return Ok(None);
     }
     let line = again(bytes, count as usize);
