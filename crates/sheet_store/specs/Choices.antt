@@ -7,6 +7,9 @@ use Rattle.grid_address.specs.Place.{Place}
 use Rattle.sheet_store.specs.declared.order.Order.{Order}
 use Rattle.sheet_store.specs.declared.order.Order.TheVariants.{Natural}
 
+-- a sheet's settings: whether it recalculates by itself, and by how many passes; the prefix of new labels; the format
+-- and the width where a cell or a column has none of its own; whether it is protected; the cell that the pointer is on;
+-- and the order of recalculation
 pub record Choices : Type 0 where
   pub automatic : Bool
   pub passes : ℕ

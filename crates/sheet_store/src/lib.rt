@@ -12,6 +12,7 @@ mod writes;
 
 pub use entries::Entries;
 pub use order::Order;
+pub use own_width::MOST_WIDTH;
 pub use settings::Settings;
 pub use state::{CellState, is_formula};
 pub use store::Store;

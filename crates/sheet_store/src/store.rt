@@ -9,7 +9,7 @@ ghost use Rattle.sheet_store.specs.Copies.{inserted_all};
 ghost use Rattle.sheet_store.specs.Grid.{any_state, cells_within, clear_cell, formatted, formulas, formulas_within, further, holds_formula, is_hidden, last_among, last_used, picked, put_state, set_format_of, set_hidden_of, set_value_at, set_width_of, width_of, AreHeld, HasContent, HasFormula, IsBlankAt, IsSound};
 
 use crate::CellState;
-use crate::own_width::OwnWidth;
+use crate::own_width::{MOST_WIDTH, OwnWidth};
 use crate::scan::scan;
 use crate::state::is_blank;
 use cell_numbers::{CellMap, Held};
@@ -154,14 +154,14 @@ impl Store {
     /// A column's own width, where it has one.
     pub fn width(&self, col: u8) -> Option<u8>
         ensures width { result ≡ width_of self.now col }
-        ensures within { ForSome result (λ n. (1 ≤ n) × (n ≤ 240)) }
+        ensures within { ForSome result (λ n. (1 ≤ n) × (n ≤ MOST_WIDTH)) }
     {
         self.widths[usize::from(col)].told()
     }
 
     /// Gives a column a width of its own, or takes it away.
     pub fn set_width(&mut self, col: u8, width: Option<u8>)
-        requires { ForSome width (λ n. (1 ≤ n) × (n ≤ 240)) }
+        requires { ForSome width (λ n. (1 ≤ n) × (n ≤ MOST_WIDTH)) }
         ensures { self.new ≡ set_width_of self.old col width }
     {
         self.widths[usize::from(col)] = OwnWidth::of(width);
