@@ -17,4 +17,5 @@ unfoldable pub bits_of : ℤ → ℕ
 bits_of v =
     if nat_abs v == 0
     then 0
-    else sign_bit v + ((1075 - scale_of (nat_abs v)) * 4503599627370496 + (nearest_even (nat_abs v * 2 ^ scale_of (nat_abs v)) 1000000 - 4503599627370496))
+    else sign_bit v + ((1075 - scale_of (nat_abs v)) * 4503599627370496
+    + (nearest_even (nat_abs v * 2 ^ scale_of (nat_abs v)) 1000000 - 4503599627370496))

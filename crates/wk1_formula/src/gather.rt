@@ -32,7 +32,8 @@ pub fn nothing(alloc: Global) -> Gathered
 
 // One argument more.
 fn with(gathered: Gathered, item: Item) -> Result<Gathered, Memory>
-    ensures { IfOk result (λ g. (ts : List Tree) (t : Tree) → IsGathered gathered ts → IsItem item t → IsGathered g (ts ++ t ∷ [])) }
+    ensures { IfOk result (λ g. (ts : List Tree) (t : Tree)
+        → IsGathered gathered ts → IsItem item t → IsGathered g (ts ++ t ∷ [])) }
 {
     let depth = gathered.depth.max(item.depth);
     let size = larger(gathered.size, item.size);
@@ -89,7 +90,8 @@ pub fn gather(alloc: Global, mut args: Vec<Item>) -> Result<Gathered, Memory>
 
 // The call of a function with what was gathered.
 pub fn called(function: Function, gathered: Gathered) -> Item
-    ensures { (ts : List Tree) → IsGathered gathered ts → takes (counts_of function) (length ts) ≡ true → IsItem result (call function (listed ts)) }
+    ensures { (ts : List Tree) → IsGathered gathered ts → takes (counts_of function) (length ts) ≡ true
+        → IsItem result (call function (listed ts)) }
 {
     let depth = deeper(gathered.depth);
     let size = larger(gathered.size, call_size(function) as u32);

@@ -166,7 +166,8 @@ pub fn right_operand(alloc: Global, op: Op, item: Item) -> Result<Item, Memory>
 
 /// Puts an operator between two trees that fit beside it.
 pub fn between(alloc: Global, op: Op, left: Item, right: Item) -> Result<Item, Memory>
-    ensures { IfOk result (λ i. (a b : Tree) → IsItem left a → IsItem right b → nat_le (level op) (lowest a) ≡ true → nat_lt (level op) (top b) ≡ true → IsItem i (binary op a b)) }
+    ensures { IfOk result (λ i. (a b : Tree) → IsItem left a → IsItem right b
+        → nat_le (level op) (lowest a) ≡ true → nat_lt (level op) (top b) ≡ true → IsItem i (binary op a b)) }
 {
     let depth = deeper(left.depth.max(right.depth));
     let size = larger(larger(left.size, right.size), 1);

@@ -10,7 +10,8 @@ ghost use Rattle.wk1_formula.specs.Written.{code_of};
 /// The code that is written of a formula in any cell is read as that formula. Nothing is done here: the contract says
 /// it.
 pub fn code_is_read()
-    ensures { (t : Tree) (at : Place) → IsFormula t → every is_ranged t ≡ true → InSheet at → tree_in (code_of t at) ≡ Ok t }
+    ensures { (t : Tree) (at : Place) → IsFormula t → every is_ranged t ≡ true → InSheet at
+        → tree_in (code_of t at) ≡ Ok t }
 {}
 
 /// The code of a tree has as many bytes as are counted of it. Nothing is done here: the contract says it.

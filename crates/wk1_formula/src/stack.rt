@@ -110,7 +110,8 @@ fn held_over(alloc: Global, one: One, item: Item) -> Result<Item, Memory>
 // An operator between two operands with the brackets that they need.
 #[tactic(auto, using(crate::proofs::Numbers::left_fits, crate::proofs::Numbers::right_fits))]
 fn held_between(alloc: Global, op: Op, left: Item, right: Item) -> Result<Item, Memory>
-    ensures { IfOk result (λ i. (a b : Tree) → IsItem left a → IsItem right b → IsItem i (binary op (left_operand op a) (right_operand op b))) }
+    ensures { IfOk result (λ i. (a b : Tree) → IsItem left a → IsItem right b
+        → IsItem i (binary op (left_operand op a) (right_operand op b))) }
 {
     let left = left_operand(alloc, op, left)?;
     let right = right_operand(alloc, op, right)?;
@@ -119,7 +120,8 @@ fn held_between(alloc: Global, op: Op, left: Item, right: Item) -> Result<Item, 
 
 // Goes on with a bracket, a minus or a NOT.
 fn over_one(alloc: Global, stack: &mut Vec<Item>, one: One) -> Result<bool, Memory>
-    ensures { IfOk result (λ went. (ts : List Tree) → AreItems (reverse stack.old.items) ts → HasStepped (code_over one) went (reverse stack.new.items) ts) }
+    ensures { IfOk result (λ went. (ts : List Tree) → AreItems (reverse stack.old.items) ts
+        → HasStepped (code_over one) went (reverse stack.new.items) ts) }
 {
     match pop(stack) {
         Some(item) => {
@@ -133,7 +135,8 @@ fn over_one(alloc: Global, stack: &mut Vec<Item>, one: One) -> Result<bool, Memo
 
 // Goes on with an operator.
 fn over_two(alloc: Global, stack: &mut Vec<Item>, op: Op) -> Result<bool, Memory>
-    ensures { IfOk result (λ went. (ts : List Tree) → AreItems (reverse stack.old.items) ts → HasStepped (codes.operator op) went (reverse stack.new.items) ts) }
+    ensures { IfOk result (λ went. (ts : List Tree) → AreItems (reverse stack.old.items) ts
+        → HasStepped (codes.operator op) went (reverse stack.new.items) ts) }
 {
     match pop(stack) {
         Some(right) => match pop(stack) {
@@ -151,7 +154,8 @@ fn over_two(alloc: Global, stack: &mut Vec<Item>, op: Op) -> Result<bool, Memory
 // Goes on with a function.
 fn call(alloc: Global, stack: &mut Vec<Item>, function: Function, count: u8) -> Result<bool, Memory>
     requires { takes (counts_of function) count ≡ true }
-    ensures { IfOk result (λ went. (ts : List Tree) → AreItems (reverse stack.old.items) ts → HasStepped (codes.function function count) went (reverse stack.new.items) ts) }
+    ensures { IfOk result (λ went. (ts : List Tree) → AreItems (reverse stack.old.items) ts
+        → HasStepped (codes.function function count) went (reverse stack.new.items) ts) }
 {
     if stack.len() < usize::from(count) {
         return Ok(false);
@@ -181,7 +185,8 @@ fn text_item(text: Text) -> Item
 /// Goes on with a code; false where operands are lacking.
 pub fn step(alloc: Global, stack: &mut Vec<Item>, code: Code) -> Result<bool, Memory>
     requires { is_sound (seen_code code) ≡ true }
-    ensures { IfOk result (λ went. (ts : List Tree) → AreItems (reverse stack.old.items) ts → HasStepped (seen_code code) went (reverse stack.new.items) ts) }
+    ensures { IfOk result (λ went. (ts : List Tree) → AreItems (reverse stack.old.items) ts
+        → HasStepped (seen_code code) went (reverse stack.new.items) ts) }
 {
     match code {
         Code::Number(number) => {

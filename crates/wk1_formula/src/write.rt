@@ -82,7 +82,7 @@ fn put_text(text: &Text, into: &mut Vec<u8>) -> Result<(), Memory>
 // A coordinate as two bytes hold it.
 fn coordinate(axis: Axis, own: u16, count: u16) -> u16
     requires own_in { own < count }
-    requires count_in { count ≤ 8192 }
+    requires count_in { count ≤ ROWS }
     requires axis_in { number_of axis < count }
     ensures { result ≡ coordinate axis own count }
 {
@@ -157,7 +157,8 @@ fn put_tree(expr: &Expr, at: Cell, into: &mut Vec<u8>) -> Result<(), Memory>
 #[cycle(put_tree)]
 fn put_trees(args: &[Expr], at: Cell, into: &mut Vec<u8>) -> Result<(), Memory>
     requires { list_all (λ e. every is_counted (tree_of e)) args.now ≡ true }
-    ensures { OnOk result (into.new.items ≡ into.old.items ++ flat_map (λ e. spelled at (postfix (tree_of e))) args.now) }
+    ensures { OnOk result (into.new.items
+        ≡ into.old.items ++ flat_map (λ e. spelled at (postfix (tree_of e))) args.now) }
 {
     for arg in args {
         put_tree(arg, at, into)?;
