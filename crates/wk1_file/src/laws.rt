@@ -25,34 +25,44 @@ pub fn cells_are_read()
 /// Records, of which each says something, and an EOF are read in their order, whatever stands before them. Nothing is
 /// done here: the contract says it.
 pub fn records_are_split()
-    ensures split { (at : ℕ) (ps : List Piece) → AllByRecursion IsRecord ps → Splits at (pieces_bytes (ps ++ eof ∷ [])) (records_of ps) }
+    ensures split { (at : ℕ) (ps : List Piece) → AllByRecursion IsRecord ps
+        → Splits at (pieces_bytes (ps ++ eof ∷ [])) (records_of ps) }
     ensures sound { (ps : List Piece) (es : List Entry) (n : ℕ) → Says ps es → first_fault n (records_of ps) ≡ None }
     ensures said { (ps : List Piece) (es : List Entry) (n : ℕ) → Says ps es → entries_in n (records_of ps) ≡ es }
 {}
 
-/// The records of settings say the settings, and put into a sheet they give them. Nothing is done here: the contract says
-/// it.
+/// The records of settings say the settings, and put into a sheet they give them. Nothing is done here: the contract
+/// says it.
 pub fn settings_are_read()
     ensures said { (c : Choices) → AreSettings c → Says (settings_pieces c) (settings_entries c) }
-    ensures taken { (c : Choices) (s : SavedSheet) (f : Option Place) → fold taken (record { sheet = s; formula = f }) (settings_entries c) ≡ record { sheet = record s { settings = c }; formula = None } }
+    ensures taken { (c : Choices) (s : SavedSheet) (f : Option Place)
+        → fold taken (record { sheet = s; formula = f }) (settings_entries c)
+        ≡ record { sheet = record s { settings = c }; formula = None } }
 {}
 
 /// What the records of cells say makes the sheet's cells. Nothing is done here: the contract says it.
 pub fn cells_are_filled()
-    ensures { (s : SavedSheet) (m : Cells) (f : Option Place) → AllByRecursion IsSavedCell (finite.entries m) → (g : Option Place) × (fold taken (with_cells s finite.empty f) (flat_map cell_entries (finite.entries m)) ≡ with_cells s m g) }
+    ensures { (s : SavedSheet) (m : Cells) (f : Option Place) → AllByRecursion IsSavedCell (finite.entries m)
+        → (g : Option Place)
+        × (fold taken (with_cells s finite.empty f) (flat_map cell_entries (finite.entries m)) ≡ with_cells s m g) }
 {}
 
 /// The records of own widths say the widths, and put into a sheet they give them. Nothing is done here: the contract
 /// says it.
 pub fn widths_are_read()
     ensures said { (g : Grid) → AreWidths g.widths → Says (width_pieces g) (widths_entries g) }
-    ensures taken { (s : SavedSheet) (g : Grid) (f : Option Place) → AreWidths g.widths → (h : Option Place) × (fold taken (with_widths s (replicate 256 0) f) (widths_entries g) ≡ with_widths s g.widths h) }
+    ensures taken { (s : SavedSheet) (g : Grid) (f : Option Place) → AreWidths g.widths
+        → (h : Option Place)
+        × (fold taken (with_widths s (replicate 256 0) f) (widths_entries g) ≡ with_widths s g.widths h) }
 {}
 
 /// The records of names say the names, and put into a sheet they give them. Nothing is done here: the contract says it.
 pub fn names_are_read()
-    ensures said { (es : List (List ℕ × Extent)) → AllByRecursion IsSavedName es → Says (map (λ e. name_piece (name_in e.0) e.1) es) (map name_entry_of es) }
-    ensures taken { (s : SavedSheet) (ns : NameMap) (f : Option Place) → AllByRecursion IsSavedName (finite.entries ns) → (h : Option Place) × (fold taken (with_names s finite.empty f) (map name_entry_of (finite.entries ns)) ≡ with_names s ns h) }
+    ensures said { (es : List (List ℕ × Extent)) → AllByRecursion IsSavedName es
+        → Says (map (λ e. name_piece (name_in e.0) e.1) es) (map name_entry_of es) }
+    ensures taken { (s : SavedSheet) (ns : NameMap) (f : Option Place) → AllByRecursion IsSavedName (finite.entries ns)
+        → (h : Option Place)
+        × (fold taken (with_names s finite.empty f) (map name_entry_of (finite.entries ns)) ≡ with_names s ns h) }
 {}
 
 /// What is saved of a sheet is read as the sheet, where it has at most 67,108,864 bytes. Nothing is
@@ -74,5 +84,6 @@ pub fn bytes_are_a_file()
 /// What is read of the bytes of a sheet's file is the sheet, unless memory ran out: the premises are what `write` and
 /// `read` ensure. Nothing is done here: the contract says it.
 pub fn written_is_read()
-    ensures { (bytes : List ℕ) (s : SavedSheet) (x : Result SavedSheet Wk1Fault) → IsFile bytes (Ok s) → (x ≡ Err fault.Memory) ⊎ IsFile bytes x → (x ≡ Err fault.Memory) ⊎ (x ≡ Ok s) }
+    ensures { (bytes : List ℕ) (s : SavedSheet) (x : Result SavedSheet Wk1Fault)
+        → IsFile bytes (Ok s) → (x ≡ Err fault.Memory) ⊎ IsFile bytes x → (x ≡ Err fault.Memory) ⊎ (x ≡ Ok s) }
 {}

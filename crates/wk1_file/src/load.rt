@@ -58,7 +58,8 @@ fn take_record(
     body: &[u8],
 ) -> Result<(), Wk1Fault>
     requires { IsMinded (as_progress loading.old) }
-    ensures taken { OnOk result ((e : Entry) × (meaning_by number body.now kind ≡ Ok e) × (as_progress loading.new ≡ taken (as_progress loading.old) e)) }
+    ensures taken { OnOk result ((e : Entry) × (meaning_by number body.now kind ≡ Ok e)
+        × (as_progress loading.new ≡ taken (as_progress loading.old) e)) }
     ensures minded { OnOk result (IsMinded (as_progress loading.new)) }
     ensures fault { IfErr result (λ f. (f ≡ fault.Memory) ⊎ (meaning_by number body.now kind ≡ Err f)) }
 {

@@ -54,7 +54,8 @@ pub fn put_label(
     body: &mut Vec<u8>,
     into: &mut Vec<u8>,
 ) -> Result<(), Memory>
-    ensures { OnOk result (into.new.items ≡ into.old.items ++ piece_bytes (made kind.Label (head cell state.now ++ prefix_byte prefix ∷ (text.now ++ 0 ∷ [])))) }
+    ensures { OnOk result (into.new.items ≡ into.old.items
+        ++ piece_bytes (made kind.Label (head cell state.now ++ prefix_byte prefix ∷ (text.now ++ 0 ∷ [])))) }
 {
     begin(cell, state, body)?;
     put(&[prefix.byte()], body)?;
@@ -71,7 +72,8 @@ pub fn put_text(
     body: &mut Vec<u8>,
     into: &mut Vec<u8>,
 ) -> Result<(), Memory>
-    ensures { OnOk result (into.new.items ≡ into.old.items ++ piece_bytes (made kind.Str (head cell state.now ++ (text.now ++ 0 ∷ [])))) }
+    ensures { OnOk result (into.new.items
+        ≡ into.old.items ++ piece_bytes (made kind.Str (head cell state.now ++ (text.now ++ 0 ∷ [])))) }
 {
     begin(cell, state, body)?;
     put(text.bytes(), body)?;
@@ -111,7 +113,8 @@ pub fn put_formula(
     body: &mut Vec<u8>,
     into: &mut Vec<u8>,
 ) -> Result<(), Memory>
-    ensures { OnOk result (into.new.items ≡ into.old.items ++ piece_bytes (formula_piece cell state.now (code_of formula.now cell))) }
+    ensures { OnOk result (into.new.items
+        ≡ into.old.items ++ piece_bytes (formula_piece cell state.now (code_of formula.now cell))) }
 {
     code_alone(formula, cell, code)?;
     begin(cell, state, body)?;
@@ -153,7 +156,8 @@ fn put_integer(
     into: &mut Vec<u8>,
 ) -> Result<(), Memory>
     requires { is_integer number ≡ true }
-    ensures { OnOk result (into.new.items ≡ into.old.items ++ piece_bytes (made kind.Integer (head cell state.now ++ integer_bytes number))) }
+    ensures { OnOk result (into.new.items
+        ≡ into.old.items ++ piece_bytes (made kind.Integer (head cell state.now ++ integer_bytes number))) }
 {
     begin(cell, state, body)?;
     put_short(whole_of(number), body)?;
@@ -168,7 +172,8 @@ fn put_double(
     body: &mut Vec<u8>,
     into: &mut Vec<u8>,
 ) -> Result<(), Memory>
-    ensures { OnOk result (into.new.items ≡ into.old.items ++ piece_bytes (made kind.Number (head cell state.now ++ to_le_bytes w64 (bits_of number)))) }
+    ensures { OnOk result (into.new.items
+        ≡ into.old.items ++ piece_bytes (made kind.Number (head cell state.now ++ to_le_bytes w64 (bits_of number)))) }
 {
     begin(cell, state, body)?;
     put(&double_bits(number).to_le_bytes(), body)?;
@@ -199,7 +204,8 @@ fn put_value(
     body: &mut Vec<u8>,
     into: &mut Vec<u8>,
 ) -> Result<(), Memory>
-    ensures { OnOk result (into.new.items ≡ into.old.items ++ pieces_bytes (text_pieces cell state.now state.now.value)) }
+    ensures { OnOk result (into.new.items
+        ≡ into.old.items ++ pieces_bytes (text_pieces cell state.now state.now.value)) }
 {
     match &state.value {
         Value::Str(text) => put_text(cell, state, text, body, into),
@@ -216,7 +222,9 @@ fn put_formula_value(
     body: &mut Vec<u8>,
     into: &mut Vec<u8>,
 ) -> Result<(), Memory>
-    ensures { OnOk result (into.new.items ≡ into.old.items ++ pieces_bytes (formula_piece cell state.now (code_of formula.now cell) ∷ text_pieces cell state.now state.now.value)) }
+    ensures { OnOk result (into.new.items ≡ into.old.items
+        ++ pieces_bytes (formula_piece cell state.now (code_of formula.now cell)
+        ∷ text_pieces cell state.now state.now.value)) }
 {
     put_formula(cell, state, formula, code, body, into)?;
     put_value(cell, state, body, into)
@@ -230,7 +238,8 @@ pub fn put_cell(
     body: &mut Vec<u8>,
     into: &mut Vec<u8>,
 ) -> Result<(), Memory>
-    ensures { OnOk result (into.new.items ≡ into.old.items ++ pieces_bytes (content_pieces cell state.now state.now.content)) }
+    ensures { OnOk result (into.new.items
+        ≡ into.old.items ++ pieces_bytes (content_pieces cell state.now state.now.content)) }
 {
     match &state.content {
         Content::Blank => put_blank(cell, state, body, into),
@@ -287,8 +296,10 @@ pub fn put_cells(
     body: &mut Vec<u8>,
     into: &mut Vec<u8>,
 ) -> Result<(), Memory>
-    ensures bytes { OnOk result (into.new.items ≡ into.old.items ++ pieces_bytes (flat_map cell_pieces (finite.entries store.now.cells))) }
-    ensures ranged { OnOk result (AllByRecursion (λ e. IsContent e.1.content × IsValue e.1.value) (finite.entries store.now.cells)) }
+    ensures bytes { OnOk result (into.new.items
+        ≡ into.old.items ++ pieces_bytes (flat_map cell_pieces (finite.entries store.now.cells))) }
+    ensures ranged { OnOk result (AllByRecursion (λ e. IsContent e.1.content × IsValue e.1.value)
+        (finite.entries store.now.cells)) }
 {
     let mut code = Vec::new(alloc);
     let mut entries = store.entries();

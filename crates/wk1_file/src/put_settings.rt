@@ -14,7 +14,7 @@ ghost use Rattle.wk1_file.specs.Saved.{bits_byte, bits_bytes, hidden_pieces, on_
 
 use grid_address::Cell;
 use lics_text::{LabelPrefix, Memory};
-use sheet_store::{Settings, Store};
+use sheet_store::{MOST_WIDTH, Settings, Store};
 use wk1_formula::{put, put_short};
 use wk1_records::{Kind, order_byte, put_piece, put_place};
 
@@ -46,7 +46,8 @@ fn put_window(settings: Settings, body: &mut Vec<u8>, into: &mut Vec<u8>) -> Res
 
 // Adds the record of the label prefix.
 fn put_prefix(prefix: LabelPrefix, into: &mut Vec<u8>) -> Result<(), Memory>
-    ensures { OnOk result (into.new.items ≡ into.old.items ++ piece_bytes (made kind.LabelFormat (prefix_byte prefix ∷ []))) }
+    ensures { OnOk result (into.new.items
+        ≡ into.old.items ++ piece_bytes (made kind.LabelFormat (prefix_byte prefix ∷ []))) }
 {
     let byte = prefix.byte();
     put_piece(Kind::LabelFormat, &[byte], into)
@@ -54,7 +55,12 @@ fn put_prefix(prefix: LabelPrefix, into: &mut Vec<u8>) -> Result<(), Memory>
 
 // Adds the records of the other settings, one byte each.
 fn put_choices(settings: Settings, into: &mut Vec<u8>) -> Result<(), Memory>
-    ensures { OnOk result (into.new.items ≡ into.old.items ++ pieces_bytes (made kind.CalcCount (settings.passes ∷ []) ∷ made kind.CalcMode (on_byte settings.automatic AUTOMATIC ∷ []) ∷ made kind.CalcOrder (order_byte settings.order ∷ []) ∷ made kind.Protection (on_byte settings.protection PROTECTED ∷ []) ∷ made kind.LabelFormat (prefix_byte settings.prefix ∷ []) ∷ [])) }
+    ensures { OnOk result (into.new.items ≡ into.old.items
+        ++ pieces_bytes (made kind.CalcCount (settings.passes ∷ [])
+        ∷ made kind.CalcMode (on_byte settings.automatic AUTOMATIC ∷ [])
+        ∷ made kind.CalcOrder (order_byte settings.order ∷ [])
+        ∷ made kind.Protection (on_byte settings.protection PROTECTED ∷ [])
+        ∷ made kind.LabelFormat (prefix_byte settings.prefix ∷ []) ∷ [])) }
 {
     put_piece(Kind::CalcCount, &[settings.passes], into)?;
     put_piece(
@@ -112,7 +118,7 @@ fn put_width(col: u16, width: Option<u8>, into: &mut Vec<u8>) -> Result<(), Memo
 /// Adds the records of own widths.
 pub fn put_widths(store: &Store, into: &mut Vec<u8>) -> Result<(), Memory>
     ensures bytes { OnOk result (into.new.items ≡ into.old.items ++ pieces_bytes (width_pieces store.now)) }
-    ensures most { OnOk result ((k : ℕ) → get_or store.now.widths k 0 ≤ 240) }
+    ensures most { OnOk result ((k : ℕ) → get_or store.now.widths k 0 ≤ MOST_WIDTH) }
 {
     store.are_columns();
     for col in 0..256usize {

@@ -16,7 +16,8 @@ use wk1_records::{Kind, put_piece};
 
 // Adds BOF, the used span and the settings.
 fn put_front(sheet: &SavedSheet, body: &mut Vec<u8>, into: &mut Vec<u8>) -> Result<(), Memory>
-    ensures { OnOk result (into.new.items ≡ into.old.items ++ pieces_bytes (bof ∷ range_piece (last_used sheet.now.store) ∷ settings_pieces sheet.now.settings)) }
+    ensures { OnOk result (into.new.items ≡ into.old.items
+        ++ pieces_bytes (bof ∷ range_piece (last_used sheet.now.store) ∷ settings_pieces sheet.now.settings)) }
 {
     put_piece(Kind::Bof, &[6, 4], into)?;
     put_range(sheet.store.last_used(), body, into)?;

@@ -12,7 +12,7 @@ ghost use Rattle.wk1_records.specs.declared.entry.Entry.TheVariants as entry;
 use formula_tree::Value;
 use grid_address::{Cell, Format, Span};
 use lics_text::{LabelPrefix, Memory, Text};
-use sheet_store::{CellState, Order, SavedSheet, Settings};
+use sheet_store::{CellState, MOST_WIDTH, Order, SavedSheet, Settings};
 use wk1_records::Entry;
 
 // The settings with another recalculation.
@@ -69,8 +69,9 @@ fn protection(sheet: &mut SavedSheet, protection: bool)
 
 // The settings with another pointer, format and width.
 fn window(sheet: &mut SavedSheet, pointer: Cell, format: Format, width: u8)
-    requires { (1 ≤ width) × (width ≤ 240) }
-    ensures { sheet.new ≡ record sheet.old { settings = record sheet.old.settings { pointer = pointer; format = format.0; width = width } } }
+    requires { (1 ≤ width) × (width ≤ MOST_WIDTH) }
+    ensures { sheet.new
+        ≡ record sheet.old { settings = record sheet.old.settings { pointer = pointer; format = format.0; width = width } } }
 {
     sheet.settings = Settings {
         pointer,
@@ -90,7 +91,7 @@ fn state(sheet: &mut SavedSheet, cell: Cell, state: CellState) -> Result<(), Mem
 
 // A column with a width of its own.
 fn width(sheet: &mut SavedSheet, col: u8, width: u8)
-    requires { (1 ≤ width) × (width ≤ 240) }
+    requires { (1 ≤ width) × (width ≤ MOST_WIDTH) }
     ensures { sheet.new ≡ record sheet.old { store = set_width_of sheet.old.store col (Some width) } }
 {
     sheet.store.set_width(col, Some(width));
@@ -121,7 +122,8 @@ fn text(sheet: &mut SavedSheet, formula: Option<Cell>, cell: Cell, text: Text)
 
 // The names with one more.
 fn name(sheet: &mut SavedSheet, name: &[u8], span: Span) -> Result<(), Memory>
-    ensures { OnOk result (sheet.new ≡ record sheet.old { names = finite.insert sheet.old.names (key_of name.now) span }) }
+    ensures { OnOk result (sheet.new
+        ≡ record sheet.old { names = finite.insert sheet.old.names (key_of name.now) span }) }
 {
     match sheet.names.create(name, span) {
         Ok(()) => Ok(()),

@@ -281,7 +281,8 @@ pub fn formula_in(alloc: Global, body: &[u8], number: u32, cell: Cell) -> Result
 // The span at two places, where both are in the sheet and in order.
 pub fn span_at(body: &[u8]) -> Option<Span>
     requires { 24 ≤ length body.now }
-    ensures some { IfSome result (λ s. (is_span (place_at 16 body.now) (place_at 20 body.now) ≡ true) × (s ≡ record { first = place_at 16 body.now; last = place_at 20 body.now })) }
+    ensures some { IfSome result (λ s. (is_span (place_at 16 body.now) (place_at 20 body.now) ≡ true)
+        × (s ≡ record { first = place_at 16 body.now; last = place_at 20 body.now })) }
     ensures none { IfNone result (is_span (place_at 16 body.now) (place_at 20 body.now) ≡ false) }
 {
     let Some(first) = cell_at(body, 16) else {
