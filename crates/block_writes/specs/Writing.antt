@@ -53,11 +53,13 @@ format_at sight p = record { 0 = sight.formats p }
 
 -- the content and the format of one cell, for another
 abbrev pub copied : Sight → Place → Place → Write
-copied sight from to = record { cell = to; content = content_or_blank (sight.contents from); format = Some (format_at sight from) }
+copied sight from to =
+    record { cell = to; content = content_or_blank (sight.contents from); format = Some (format_at sight from) }
 
 -- the value and the format of one cell, for another
 abbrev pub value_copied : Sight → Place → Place → Write
-value_copied sight from to = record { cell = to; content = as_content (sight.values from); format = Some (format_at sight from) }
+value_copied sight from to =
+    record { cell = to; content = as_content (sight.values from); format = Some (format_at sight from) }
 
 -- some columns of one row, for another row
 abbrev pub row_copied : Sight → List ℕ → ℕ → ℕ → List Write

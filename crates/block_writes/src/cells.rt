@@ -6,12 +6,12 @@ ghost use Rattle.block_writes.specs.Writing.{by_columns, down, numbers_from, row
 
 use grid_address::{Cell, CellList, Span};
 use lics_text::Memory;
-use range_lines::column_at;
+use range_lines::{LAST_ROW, column_at};
 use std::alloc::Global;
 
 /// Adds so many cells of a column, from a row on.
 pub fn push_down(cells: &mut CellList, col: u8, first: u16, count: u16) -> Result<(), Memory>
-    requires { first + count ≤ 8192 }
+    requires { first + count ≤ LAST_ROW + 1 }
     ensures { OnOk result (cells.new ≡ cells.old ++ down col (numbers_from first count)) }
 {
     for row in 0..count {
