@@ -12,12 +12,15 @@ use std::alloc::Global;
 use std::io::Write;
 use std::process::ExitCode;
 
+// The last row of a sheet.
+const LAST_ROW: u16 = 8191;
+
 // Where the texts stand in turn.
 const CELLS: [Cell; 3] = [
     Cell { row: 5, col: 5 },
     Cell { row: 0, col: 0 },
     Cell {
-        row: 8191,
+        row: LAST_ROW,
         col: 255,
     },
 ];
@@ -39,11 +42,11 @@ const NAMES: [(&[u8], Cell, Cell); 10] = [
     (
         b"Q",
         Cell {
-            row: 8191,
+            row: LAST_ROW,
             col: 255,
         },
         Cell {
-            row: 8191,
+            row: LAST_ROW,
             col: 255,
         },
     ),

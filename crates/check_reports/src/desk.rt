@@ -49,7 +49,7 @@ fn span_in(words: &mut Words) -> Result<Span, Stop> {
 // A width of 1 to 240.
 fn width_in(words: &mut Words) -> Result<u8, Stop>
     ensures some { IfOk result (λ w. 1 ≤ w) }
-    ensures most { IfOk result (λ w. w ≤ 240) }
+    ensures most { IfOk result (λ w. w ≤ MOST_WIDTH) }
 {
     let width = words.byte()?;
     if width < 1 || width > MOST_WIDTH {

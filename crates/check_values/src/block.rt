@@ -22,6 +22,9 @@ pub struct Block {
     pub alloc: Global,
 }
 
+// How many rows a sheet has.
+const ROWS: u16 = 8192;
+
 // The place of a cell among those that are held; none beside the columns.
 fn index_of(cell: Cell) -> Option<usize>
     ensures { result ≡ index_of cell }
@@ -56,7 +59,7 @@ fn value_at<'a>(held: &'a [Held], blank: &'a Value, cell: Cell) -> &'a Value
 
 // The cell so many columns behind another in a row.
 fn cell_in(row: u16, first: u8, place: u16) -> Cell
-    requires row { row < 8192 }
+    requires row { row < ROWS }
     requires col { first + place < 256 }
     ensures row { result.row ≡ row }
     ensures col { result.col ≡ first + place }
@@ -76,9 +79,10 @@ fn put_row(
     first: u8,
     count: u16,
 ) -> Result<(), Memory>
-    requires row { row < 8192 }
+    requires row { row < ROWS }
     requires count { first + count ≤ 256 }
-    ensures { OnOk result (cells.new ≡ cells.old ++ filter (λ p. is_filled (value_of blank.now (held_at held.now p))) (row_cells row first count)) }
+    ensures { OnOk result (cells.new ≡ cells.old
+        ++ filter (λ p. is_filled (value_of blank.now (held_at held.now p))) (row_cells row first count)) }
 {
     for place in 0..count {
         let cell = cell_in(row, first, place);
@@ -104,7 +108,13 @@ fn filled(alloc: Global, held: &[Held], blank: &Value, span: Span) -> Result<Cel
 }
 
 impl Look for Block {
-    ghost sight = { λ b. record { values = λ p. value_of b.blank (held_at b.held.items p); contents = λ p. content_of (held_at b.held.items p); formats = λ p. format_of (held_at b.held.items p); widths = λ col. col % 4 + 5; names = b.names } };
+    ghost sight = { λ b. record {
+      values = λ p. value_of b.blank (held_at b.held.items p);
+      contents = λ p. content_of (held_at b.held.items p);
+      formats = λ p. format_of (held_at b.held.items p);
+      widths = λ col. col % 4 + 5;
+      names = b.names;
+    } };
 
     fn value(&self, cell: Cell) -> &Value {
         value_at(self.held.as_slice(), &self.blank, cell)
