@@ -70,8 +70,9 @@ fn protection(sheet: &mut SavedSheet, protection: bool)
 // The settings with another pointer, format and width.
 fn window(sheet: &mut SavedSheet, pointer: Cell, format: Format, width: u8)
     requires { (1 ≤ width) × (width ≤ MOST_WIDTH) }
-    ensures { sheet.new
-        ≡ record sheet.old { settings = record sheet.old.settings { pointer = pointer; format = format.0; width = width } } }
+    ensures { sheet.new ≡ record sheet.old {
+      settings = record sheet.old.settings { pointer = pointer; format = format.0; width = width };
+    } }
 {
     sheet.settings = Settings {
         pointer,
