@@ -2,6 +2,7 @@
 ghost use Rattle.std.specs.Int.{from_le_bytes, w64};
 ghost use Rattle.std.specs.List.{list_all};
 ghost use Rattle.std.specs.Prelude.{◌≡◌, nat_le, ◌≤◌, ◌<◌, ◌+◌, ◌*◌, drop, take, length, true, false, pos, IfOk, IfSome, IfNone, Some, None};
+ghost use Rattle.ascii_bytes.specs.Ascii as ascii;
 ghost use Rattle.grid_address.specs.Axes.{number_of};
 ghost use Rattle.formula_tree.specs.Ranges.{is_text};
 ghost use Rattle.formula_tree.specs.Shape.{has_no_quote};
@@ -169,7 +170,7 @@ pub fn before_zero(bytes: &[u8]) -> Option<&[u8]>
 
 // Whether each byte is at least 32.
 fn are_text_bytes(bytes: &[u8]) -> bool
-    ensures { result ≡ list_all (λ b. nat_le 32 b) bytes.now }
+    ensures { result ≡ list_all (λ b. nat_le ascii.space b) bytes.now }
 {
     bytes.iter().all(|byte| *byte >= 32)
 }
