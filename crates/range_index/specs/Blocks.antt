@@ -23,4 +23,5 @@ block_at size p = record { size = size; row = p.row / 2 ^ size.rows; col = p.col
 
 -- one block of that size holds both corners
 abbrev pub are_one : Extent → Bool
-are_one s = nat_eq (s.first.row / 2 ^ (size_of s).rows) (s.last.row / 2 ^ (size_of s).rows) && nat_eq (s.first.col / 2 ^ (size_of s).cols) (s.last.col / 2 ^ (size_of s).cols)
+are_one s = nat_eq (s.first.row / 2 ^ (size_of s).rows) (s.last.row / 2 ^ (size_of s).rows)
+    && nat_eq (s.first.col / 2 ^ (size_of s).cols) (s.last.col / 2 ^ (size_of s).cols)

@@ -11,7 +11,8 @@ pub record Powers : Type 0 where
 
 -- how two powers are coded: as their pair
 abbrev pub coded_powers : Coded Powers
-coded_powers = code_by (ℕ × ℕ) (coded× coded_ℕ coded_ℕ) (λ s. (s.rows, s.cols)) (λ p. record { rows = p.0; cols = p.1 }) (λ _. refl)
+coded_powers = code_by (ℕ × ℕ) (coded× coded_ℕ coded_ℕ) (λ s. (s.rows, s.cols)) (λ p. record { rows = p.0; cols = p.1 })
+    (λ _. refl)
 
 -- the order of sizes: by rows, and then by columns
 abbrev pub powers_cmp : Powers → Powers → Ordering

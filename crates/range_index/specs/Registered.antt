@@ -38,11 +38,13 @@ has_registration rs r = list_any (is_at (registration_cmp r)) rs
 
 -- the owner is a cell, one block holds the span, and its size and the registration are there
 abbrev pub is_registered : List Powers → List Registration → Place → Extent → Bool
-is_registered sizes rs o s = (is_within whole o && are_one s) && (has_size sizes (size_of s) && has_registration rs (registered o s))
+is_registered sizes rs o s =
+    (is_within whole o && are_one s) && (has_size sizes (size_of s) && has_registration rs (registered o s))
 
 -- what is registered stays so
 abbrev pub StaysRegistered : List Powers → List Registration → List Powers → List Registration → Type 0
-StaysRegistered sizes rs sizes' rs' = (o : Place) (s : Extent) → is_registered sizes rs o s ≡ true → is_registered sizes' rs' o s ≡ true
+StaysRegistered sizes rs sizes' rs' = (o : Place) (s : Extent) → is_registered sizes rs o s ≡ true →
+    is_registered sizes' rs' o s ≡ true
 
 -- each owner's spans are registered
 abbrev pub AreRegistered : Owners → List Powers → List Registration → Type 0
@@ -62,7 +64,8 @@ AreAmong old new = (o : Place) → has_place old o ≡ true → has_place new o 
 
 -- each owner that the registrations name in a block is found
 abbrev pub AreFoundIn : Owners → Place → List Registration → Block → List Place → Type 0
-AreFoundIn m p rs b found = (o : Place) → is_within whole o ≡ true → has_registration rs (owned b o) ≡ true → hold (spans_in (get m o)) p ≡ true → has_place found o ≡ true
+AreFoundIn m p rs b found = (o : Place) → is_within whole o ≡ true → has_registration rs (owned b o) ≡ true →
+    hold (spans_in (get m o)) p ≡ true → has_place found o ≡ true
 
 -- each owner that is registered in a block of one of the sizes is found
 abbrev pub AreFoundAt : Owners → Place → List Registration → List Powers → List Place → Type 0
@@ -70,8 +73,10 @@ AreFoundAt m p rs sizes found = (z : Powers) → has_size sizes z ≡ true → A
 
 -- each such owner is found, or is still to come
 abbrev pub AreFoundOrLeft : Owners → Place → List Registration → Block → List Place → List Registration → Type 0
-AreFoundOrLeft m p rs b found left = (o : Place) → is_within whole o ≡ true → has_registration rs (owned b o) ≡ true → hold (spans_in (get m o)) p ≡ true → (has_place found o ≡ true) ⊎ (has_registration left (owned b o) ≡ true)
+AreFoundOrLeft m p rs b found left = (o : Place) → is_within whole o ≡ true → has_registration rs (owned b o) ≡ true →
+    hold (spans_in (get m o)) p ≡ true → (has_place found o ≡ true) ⊎ (has_registration left (owned b o) ≡ true)
 
 -- the owners of each size are found, or the size is still to come
 abbrev pub AreFoundOrCome : Owners → Place → List Registration → List Powers → List Place → List Powers → Type 0
-AreFoundOrCome m p rs sizes found left = (z : Powers) → has_size sizes z ≡ true → AreFoundIn m p rs (block_at z p) found ⊎ (has_size left z ≡ true)
+AreFoundOrCome m p rs sizes found left = (z : Powers) → has_size sizes z ≡ true →
+    AreFoundIn m p rs (block_at z p) found ⊎ (has_size left z ≡ true)

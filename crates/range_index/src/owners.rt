@@ -16,8 +16,10 @@ pub fn put(
     owner: Cell,
     span: Span,
 ) -> Result<(), Memory>
-    ensures ok { OnOk result (map.from_entries owners.new.entries ≡ with_span (map.from_entries owners.old.entries) owner span) }
-    ensures err { OnErr result (map.from_entries {R = place_cmp} owners.new.entries ≡ map.from_entries owners.old.entries) }
+    ensures ok { OnOk result
+        (map.from_entries owners.new.entries ≡ with_span (map.from_entries owners.old.entries) owner span) }
+    ensures err { OnErr result
+        (map.from_entries {R = place_cmp} owners.new.entries ≡ map.from_entries owners.old.entries) }
 {
     match owners.get_mut(&owner) {
         Some(spans) => push(spans, span),

@@ -47,7 +47,8 @@ pub fn enter(
 
 /// Takes an owner's registrations away.
 pub fn forget(registrations: &mut BTreeSet<Registration>, owner: Cell, spans: &[Span])
-    ensures { (r : Registration) → same_place r.owner owner ≡ false → has_registration registrations.old.keys r ≡ true → has_registration registrations.new.keys r ≡ true }
+    ensures { (r : Registration) → same_place r.owner owner ≡ false → has_registration registrations.old.keys r ≡ true →
+        has_registration registrations.new.keys r ≡ true }
 {
     for span in spans {
         let _ = registrations.remove(&place_of(owner, *span));
