@@ -13,11 +13,18 @@ use lics_text::Memory;
 use std::alloc::Global;
 use std::collections::{BTreeMap, BTreeSet};
 
+// The last row of the sheet.
+const LAST_ROW: u16 = 8191;
+
+// The last column of the sheet.
+const LAST_COLUMN: u8 = 255;
+
 // Adds an owner to those that were found.
 fn add(found: &mut BTreeSet<Cell>, owner: Cell) -> Result<(), Memory>
     ensures kept { OnOk result (AreAmong found.old.keys found.new.keys) }
     ensures has { OnOk result (has_place found.new.keys owner ≡ true) }
-    ensures only { OnOk result ((q : Place) → has_place found.new.keys q ≡ true → (has_place found.old.keys q ≡ true) ⊎ (q ≡ owner)) }
+    ensures only { OnOk result
+        ((q : Place) → has_place found.new.keys q ≡ true → (has_place found.old.keys q ≡ true) ⊎ (q ≡ owner)) }
 {
     found.insert(owner)?;
     Ok(())
@@ -40,8 +47,8 @@ fn last_in(block: &Block) -> Registration
     Registration {
         block: *block,
         owner: Cell {
-            row: 8191,
-            col: 255,
+            row: LAST_ROW,
+            col: LAST_COLUMN,
         },
     }
 }
@@ -57,7 +64,8 @@ fn gather(
     requires { AreOwners (map.from_entries owners.now.entries) cell found.old.keys }
     ensures owners { OnOk result (AreOwners (map.from_entries owners.now.entries) cell found.new.keys) }
     ensures kept { OnOk result (AreAmong found.old.keys found.new.keys) }
-    ensures all { OnOk result (AreFoundIn (map.from_entries owners.now.entries) cell registrations.now.keys block.now found.new.keys) }
+    ensures all { OnOk result
+        (AreFoundIn (map.from_entries owners.now.entries) cell registrations.now.keys block.now found.new.keys) }
 {
     for registration in registrations.range(first_in(block)..=last_in(block)) {
         if owns(owners, registration.owner, cell) {
@@ -76,7 +84,9 @@ fn gather_all(
     cell: Cell,
 ) -> Result<BTreeSet<Cell>, Memory>
     ensures owners { IfOk result (λ found. AreOwners (map.from_entries owners.now.entries) cell found.keys) }
-    ensures all { IfOk result (λ found. AreFoundAt (map.from_entries owners.now.entries) cell registrations.now.keys sizes.now.keys found.keys) }
+    ensures all { IfOk result
+        (λ found. AreFoundAt (map.from_entries owners.now.entries) cell registrations.now.keys sizes.now.keys
+        found.keys) }
 {
     let mut found = BTreeSet::new(alloc);
     for size in sizes.iter() {
