@@ -23,4 +23,5 @@ AreOthers old new c = (d : Place) → same_place d c ≡ false → spans_in (get
 
 -- the spans of all cells are as they were, but for one cell in one of the two
 abbrev pub AreOthersKept : Owners → Owners → Owners → Owners → Bool → Place → Type 0
-AreOthersKept even odd even' odd' is_odd c = (b : Bool) (d : Place) → (same_place d c ≡ false) ⊎ (b ≡ is_odd → ⊥) → spans_at even' odd' b d ≡ spans_at even odd b d
+AreOthersKept even odd even' odd' is_odd c = (b : Bool) (d : Place) → (same_place d c ≡ false) ⊎ (b ≡ is_odd → ⊥) →
+    spans_at even' odd' b d ≡ spans_at even odd b d

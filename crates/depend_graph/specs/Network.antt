@@ -15,15 +15,21 @@ pub record Network : Type 0 where
   pub formulas : Nodes
   pub offers : Nodes
 
+-- a network is coded as its two maps, one after the other
 abbrev pub coded_network : Coded Network
-coded_network = code_by (FinMap place_cmp Node × FinMap place_cmp Node) (coded× (map.code coded_place (node.the_row).coded) (map.code coded_place (node.the_row).coded)) (λ g. (g.formulas, g.offers)) (λ p. record { formulas = p.0; offers = p.1 }) (λ _. refl)
+coded_network = code_by (FinMap place_cmp Node × FinMap place_cmp Node)
+    (coded× (map.code coded_place (node.the_row).coded) (map.code coded_place (node.the_row).coded))
+    (λ g. (g.formulas, g.offers)) (λ p. record { formulas = p.0; offers = p.1 }) (λ _. refl)
 
+-- a formula waits at a cell, and the one that is there stays in force
 abbrev pub offered : Network → Place → Node → Network
 offered g c n = record g { offers = insert g.offers c n }
 
+-- the formula that waits at a cell is given up
 abbrev pub withdrawn : Network → Place → Network
 withdrawn g c = record g { offers = remove g.offers c }
 
+-- what waits at a cell, where something does, becomes its formula
 abbrev pub taken : Option Node → Network → Place → Network
 taken None g c = g
 taken (Some n) g c = record { formulas = insert g.formulas c n; offers = remove g.offers c }
@@ -36,15 +42,18 @@ accepted g c = taken (get g.offers c) g c
 abbrev pub put : Network → Place → Node → Network
 put g c n = record { formulas = insert g.formulas c n; offers = remove g.offers c }
 
+-- the cell has no formula any more; what waits there goes on waiting
 abbrev pub dropped : Network → Place → Network
 dropped g c = record g { formulas = remove g.formulas c }
 
 abbrev pub has : List Place → Place → Bool
 has xs c = list_any (same_place c) xs
 
+-- whether the cell has a formula in force
 abbrev pub is_formula : Network → Place → Bool
 is_formula g c = is_some (get g.formulas c)
 
+-- whether a formula, where there is one, reads the cell
 abbrev pub holds : Option Node → Place → Bool
 holds None d = false
 holds (Some n) d = hold n.reads d
@@ -58,6 +67,7 @@ pub data Reaches (g : Network) : Place → Place → Type 0 where
   at_once : {c d : Place} → reads g c d ≡ true → Reaches g c d
   through : {c e d : Place} → reads g c e ≡ true → Reaches g e d → Reaches g c d
 
+-- the formula at c reads one of the cells, by itself or through other formulas
 pub record ReachesOneOf (g : Network) (cells : List Place) (c : Place) : Type 0 where
   pub cell : Place
   pub among : has cells cell ≡ true

@@ -7,9 +7,11 @@ use Rattle.depend_graph.specs.Banks.{spans_at, wide}
 use Rattle.depend_graph.specs.declared.node.Node.{Node}
 use Rattle.depend_graph.specs.declared.slots.Slot.{Slot}
 
+-- all cells that have a formula or an offer, in one map
 abbrev pub Slots : Type 0
 Slots = FinMap place_cmp Slot
 
+-- for each cell what its formula reads, and whether that is volatile
 abbrev pub Nodes : Type 0
 Nodes = FinMap place_cmp Node
 
@@ -23,16 +25,20 @@ abbrev pub with_some : Place → Option Node → List (Place × Node) → List (
 with_some p None es = es
 with_some p (Some n) es = (p, n) ∷ es
 
+-- of the entries those in which f finds a node, with that node
 abbrev pub somes : (Slot → Option Node) → List (Place × Slot) → List (Place × Node)
 somes f [] = []
 somes f (e ∷ es) = with_some e.0 (f e.1) (somes f es)
 
+-- the map of the nodes that f finds in the slots
 abbrev pub picked : (Slot → Option Node) → Slots → Nodes
 picked f m = from_entries (somes f (entries m))
 
+-- the formula in force
 abbrev pub node_in : Slot → Option Node
 node_in s = s.node
 
+-- the formula that waits to take its place
 abbrev pub offer_in : Slot → Option Node
 offer_in s = s.offer
 
@@ -56,19 +62,22 @@ abbrev pub turned_to : Option Node → Slot → Slot
 turned_to None s = s
 turned_to (Some n) s = record { node = Some n; offer = None; is_odd = not s.is_odd }
 
+-- the same where there may be no slot
 abbrev pub turned : Option Slot → Option Slot
 turned None = None
 turned (Some s) = Some (turned_to s.offer s)
 
--- without its offer, and without its formula; a slot that has neither is taken out
+-- a slot stays where it still has the other of the two, and is taken out where it has neither
 abbrev pub filled : Option Node → Slot → Option Slot
 filled None s = None
 filled (Some n) s = Some s
 
+-- what is left of a slot whose offer is given up
 abbrev pub without_offer : Option Slot → Option Slot
 without_offer None = None
 without_offer (Some s) = filled s.node (record s { offer = None })
 
+-- what is left of a slot whose formula is dropped
 abbrev pub without_node : Option Slot → Option Slot
 without_node None = None
 without_node (Some s) = filled s.offer (record s { node = None })
@@ -83,5 +92,6 @@ pub record IsRegistered (even odd : Owners) (c : Place) (s : Slot) : Type 0 wher
   pub node : Stands s.node (spans_at even odd s.is_odd c)
   pub offer : Stands s.offer (spans_at even odd (not s.is_odd) c)
 
+-- so it is in every slot
 abbrev pub AreRegistered : Slots → Owners → Owners → Type 0
 AreRegistered m even odd = (c : Place) (s : Slot) → get m c ≡ Some s → IsRegistered even odd c s

@@ -41,6 +41,7 @@ fn fill(index: &mut RangeIndex, owner: Cell, spans: &SpanList) -> Result<(), Mem
     Ok(())
 }
 
+// Takes a cell's spans out of one of the two indexes.
 fn empty(index: &mut RangeIndex, owner: Cell)
     ensures { AreOthers index.old index.new owner }
 {

@@ -189,6 +189,7 @@ impl Graph {
     }
 }
 
+// What is kept of a formula, with a list of its own.
 fn node(alloc: Global, reads: &SpanList, volatile: bool) -> Result<Node, Memory>
     ensures { IfOk result (λ n. n ≡ record { reads = reads.now; volatile = volatile }) }
 {

@@ -20,8 +20,8 @@ const PAGES: usize = 64;
 /// How many places a page has.
 const PLACES: usize = 1_024;
 
-/// A small number for each place of the sheet; 0 stands for none. The places lie in pages of 256 rows and 4 columns, and
-/// a page without a mark takes no room but its head's.
+/// A small number for each place of the sheet; 0 stands for none. The places lie in pages of 256 rows and 4 columns,
+/// and a page without a mark takes no room but its head's.
 #[derive(Drop)]
 pub struct Marks {
     pages: Vec<Vec<u8>>,

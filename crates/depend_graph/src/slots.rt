@@ -36,6 +36,7 @@ pub fn node_of(slots: &CellMap<Slot>, cell: Cell) -> Option<&Node>
     }
 }
 
+// Whether the cell has a formula in force.
 fn has_node(slots: &CellMap<Slot>, cell: Cell) -> bool
     ensures { result ≡ is_some (had node_in (map.get slots.now cell)) }
 {
@@ -55,6 +56,7 @@ pub fn has_offer(slots: &CellMap<Slot>, cell: Cell) -> bool
     }
 }
 
+// An offer takes the place of the one before it.
 fn write_offer(slot: &mut Slot, node: Node)
     ensures { slot.new ≡ record slot.old { offer = Some node } }
 {
@@ -83,6 +85,7 @@ pub fn put_offer(slots: &mut CellMap<Slot>, cell: Cell, node: Node) -> Result<()
     }
 }
 
+// The offer becomes the formula, and the side turns with it.
 fn turn_slot(slot: &mut Slot)
     ensures { slot.new ≡ turned_to slot.old.offer slot.old }
 {
@@ -102,6 +105,7 @@ pub fn turn(slots: &mut CellMap<Slot>, cell: Cell)
     }
 }
 
+// The formula in force stays.
 fn clear_offer(slot: &mut Slot)
     ensures { slot.new ≡ record slot.old { offer = None } }
 {
@@ -122,6 +126,7 @@ pub fn drop_offer(slots: &mut CellMap<Slot>, cell: Cell)
     }
 }
 
+// The offer stays, and so does the side.
 fn clear_node(slot: &mut Slot)
     ensures { slot.new ≡ record slot.old { node = None } }
 {
