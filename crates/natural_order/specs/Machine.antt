@@ -25,7 +25,8 @@ walk_on pre n path = walk same_place pre (n - length path) path
 -- what comes of the walks that the frames have begun, the outermost first
 abbrev pub finish : (Place → List Place) → ℕ → List Place → List Frame → Walked Place → Walked Place
 finish pre n path [] s = s
-finish pre n path (f ∷ fs) s = appended same_place f.cell (fold (walk_on pre n (f.cell ∷ path)) (finish pre n (f.cell ∷ path) fs s) (left f))
+finish pre n path (f ∷ fs) s =
+    appended same_place f.cell (fold (walk_on pre n (f.cell ∷ path)) (finish pre n (f.cell ∷ path) fs s) (left f))
 
 -- each frame of the stack has a property
 abbrev pub EachFrame : (Frame → Type 0) → List Frame → Type 0

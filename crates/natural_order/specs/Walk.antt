@@ -54,7 +54,8 @@ module _ {K : Type 0} (eq : K → K → Bool) where
   -- along the list, what a cell reads stands before it, or among the seen, unless the cell reaches itself
   abbrev pub Precedes : (K → List K) → List K → List K → Type 0
   Precedes pre seen [] = Unit {0}
-  Precedes pre seen (c ∷ cs) = ((d : K) → has (pre c) d ≡ true → (has seen d ≡ true) ⊎ Reaches pre c c) × Precedes pre (c ∷ seen) cs
+  Precedes pre seen (c ∷ cs) = ((d : K) → has (pre c) d ≡ true → (has seen d ≡ true) ⊎ Reaches pre c c)
+      × Precedes pre (c ∷ seen) cs
 
   -- ≡ as eq tells it
   pub record IsExact : Type 0 where
@@ -63,9 +64,11 @@ module _ {K : Type 0} (eq : K → K → Bool) where
 
   -- in the order of the roots, a cell stands after all that it reads, unless it reaches itself
   abbrev pub OrderPrecedes : Type 0
-  OrderPrecedes = IsExact → (pre : K → List K) (all roots : List K) → ((c d : K) → has (pre c) d ≡ true → has all d ≡ true) → ((c : K) → has roots c ≡ true → has all c ≡ true)
+  OrderPrecedes = IsExact → (pre : K → List K) (all roots : List K) →
+      ((c d : K) → has (pre c) d ≡ true → has all d ≡ true) → ((c : K) → has roots c ≡ true → has all c ≡ true)
       → Precedes pre [] (order pre (suc (length all)) roots).done
 
   -- each of the roots stands in their order
   abbrev pub OrderCovers : Type 0
-  OrderCovers = IsExact → (pre : K → List K) (all roots : List K) → (x : K) → has roots x ≡ true → has (order pre (suc (length all)) roots).done x ≡ true
+  OrderCovers = IsExact → (pre : K → List K) (all roots : List K) → (x : K) → has roots x ≡ true →
+      has (order pre (suc (length all)) roots).done x ≡ true

@@ -98,13 +98,20 @@ impl Walker {
     // Walks one cell: one that is done or on the path at once, and any other by a new frame.
     fn visit<G: Precedents>(&mut self, graph: &G, cell: Cell) -> Result<(), Memory>
         requires known { has same_place (G.all graph.now) cell ≡ true }
-        requires on { IsOnPath (G.pre graph.now) (G.all graph.now) self.old.done.keys self.old.path.keys self.old.stack.items }
-        ensures same { OnOk result (finish (G.pre graph.now) (fuel (G.all graph.now)) [] self.new.stack.items (walked self.new.done self.new.circular)
+        requires on { IsOnPath (G.pre graph.now) (G.all graph.now) self.old.done.keys self.old.path.keys
+            self.old.stack.items }
+        ensures same { OnOk result
+            (finish (G.pre graph.now) (fuel (G.all graph.now)) [] self.new.stack.items
+            (walked self.new.done self.new.circular)
             ≡ finish (G.pre graph.now) (fuel (G.all graph.now)) [] self.old.stack.items
-            (walk_on (G.pre graph.now) (fuel (G.all graph.now)) (trail [] self.old.stack.items) (walked self.old.done self.old.circular) cell)) }
-        ensures on { OnOk result (IsOnPath (G.pre graph.now) (G.all graph.now) self.new.done.keys self.new.path.keys self.new.stack.items) }
-        ensures less { OnOk result (work_left (G.pre graph.now) (G.all graph.now) self.new.done.keys self.new.path.keys self.new.stack.items
-            ≤ work_left (G.pre graph.now) (G.all graph.now) self.old.done.keys self.old.path.keys self.old.stack.items) }
+            (walk_on (G.pre graph.now) (fuel (G.all graph.now)) (trail [] self.old.stack.items)
+            (walked self.old.done self.old.circular) cell)) }
+        ensures on { OnOk result
+            (IsOnPath (G.pre graph.now) (G.all graph.now) self.new.done.keys self.new.path.keys self.new.stack.items) }
+        ensures less { OnOk result
+            (work_left (G.pre graph.now) (G.all graph.now) self.new.done.keys self.new.path.keys self.new.stack.items
+            ≤ work_left (G.pre graph.now) (G.all graph.now) self.old.done.keys self.old.path.keys
+            self.old.stack.items) }
     {
         if is_in(&self.done, cell) {
             return Ok(());
@@ -120,12 +127,19 @@ impl Walker {
     // One step: the last frame's next cell is walked, or that frame is closed.
     fn step<G: Precedents>(&mut self, graph: &G) -> Result<(), Memory>
         requires begun { 0 < length self.old.stack.items }
-        requires on { IsOnPath (G.pre graph.now) (G.all graph.now) self.old.done.keys self.old.path.keys self.old.stack.items }
-        ensures same { OnOk result (finish (G.pre graph.now) (fuel (G.all graph.now)) [] self.new.stack.items (walked self.new.done self.new.circular)
-            ≡ finish (G.pre graph.now) (fuel (G.all graph.now)) [] self.old.stack.items (walked self.old.done self.old.circular)) }
-        ensures on { OnOk result (IsOnPath (G.pre graph.now) (G.all graph.now) self.new.done.keys self.new.path.keys self.new.stack.items) }
-        ensures less { OnOk result (work_left (G.pre graph.now) (G.all graph.now) self.new.done.keys self.new.path.keys self.new.stack.items
-            < work_left (G.pre graph.now) (G.all graph.now) self.old.done.keys self.old.path.keys self.old.stack.items) }
+        requires on { IsOnPath (G.pre graph.now) (G.all graph.now) self.old.done.keys self.old.path.keys
+            self.old.stack.items }
+        ensures same { OnOk result
+            (finish (G.pre graph.now) (fuel (G.all graph.now)) [] self.new.stack.items
+            (walked self.new.done self.new.circular)
+            ≡ finish (G.pre graph.now) (fuel (G.all graph.now)) [] self.old.stack.items
+            (walked self.old.done self.old.circular)) }
+        ensures on { OnOk result
+            (IsOnPath (G.pre graph.now) (G.all graph.now) self.new.done.keys self.new.path.keys self.new.stack.items) }
+        ensures less { OnOk result
+            (work_left (G.pre graph.now) (G.all graph.now) self.new.done.keys self.new.path.keys self.new.stack.items
+            < work_left (G.pre graph.now) (G.all graph.now) self.old.done.keys self.old.path.keys
+            self.old.stack.items) }
     {
         let Some(mut frame) = self.stack.pop() else {
             return Ok(());
@@ -149,7 +163,8 @@ impl Walker {
         requires idle { self.old.stack.items ≡ [] }
         requires clear { self.old.path.keys ≡ [] }
         ensures walked { OnOk result (walked self.new.done self.new.circular
-            ≡ walk same_place (G.pre graph.now) (fuel (G.all graph.now)) [] (walked self.old.done self.old.circular) root) }
+            ≡ walk same_place (G.pre graph.now) (fuel (G.all graph.now)) []
+            (walked self.old.done self.old.circular) root) }
         ensures idle { OnOk result (self.new.stack.items ≡ []) }
         ensures clear { OnOk result (self.new.path.keys ≡ []) }
     {
@@ -169,7 +184,8 @@ pub fn order_of<G: Precedents>(
     roots: &[Cell],
 ) -> Result<FormulaOrder, Memory>
     requires known { (c : Place) → has same_place roots.now c ≡ true → has same_place (G.all graph.now) c ≡ true }
-    ensures order { IfOk result (λ o. walked o.done o.circular ≡ order same_place (G.pre graph.now) (fuel (G.all graph.now)) roots.now) }
+    ensures order { IfOk result
+        (λ o. walked o.done o.circular ≡ order same_place (G.pre graph.now) (fuel (G.all graph.now)) roots.now) }
     ensures unique { IfOk result (λ o. IsUnique same_place o.done) }
 {
     let mut walker = Walker::new(alloc);
