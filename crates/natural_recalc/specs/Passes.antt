@@ -16,13 +16,16 @@ use Rattle.sheet_store.specs.declared.order.Order.TheVariants as orders
 use Rattle.natural_recalc.specs.Reading.{is_formula_at, natural_order, pre, spans_at, volatile_of, StaysDirty}
 use Rattle.natural_recalc.specs.World.{content_of, format_of, formula_at, value_at, world_at, Context}
 
+-- what a formula in a cell is worth in a world
 abbrev pub Meaning : Type 0
 Meaning = Tree → Place → World → Value
 
 -- a meaning that hangs on the values that are read alone, where the formula isn't volatile
 pub record IsMeaning (mean : Meaning) : Type 0 where
-  pub reads : (t : Tree) (at : Place) (w u : World) → is_volatile t ≡ false → ((c : Place) → Reads t at c → w.sight.values c ≡ u.sight.values c) → mean t at w ≡ mean t at u
+  pub reads : (t : Tree) (at : Place) (w u : World) → is_volatile t ≡ false →
+      ((c : Place) → Reads t at c → w.sight.values c ≡ u.sight.values c) → mean t at w ≡ mean t at u
 
+-- the value of a cell becomes what its formula is worth now; a cell without one stays as it is
 abbrev pub revalued : Meaning → Context → Grid → Place → Option Tree → Grid
 revalued mean x g c None = g
 revalued mean x g c (Some t) = set_value_at g c (mean t c (world_at x g))
@@ -31,9 +34,11 @@ revalued mean x g c (Some t) = set_value_at g c (mean t c (world_at x g))
 abbrev pub evaluated : Meaning → Context → Grid → Place → Grid
 evaluated mean x g c = revalued mean x g c (formula_at g c)
 
+-- each of the cells is evaluated once, in their order, over what those before it left
 abbrev pub pass : Meaning → Context → List Place → Grid → Grid
 pass mean x cells g = fold (evaluated mean x) g cells
 
+-- so many passes along the same cells, each over what the one before left
 abbrev pub passes : Meaning → Context → ℕ → List Place → Grid → Grid
 passes mean x zero cells g = g
 passes mean x (suc n) cells g = passes mean x n cells (pass mean x cells g)
@@ -48,12 +53,15 @@ pub record IsSound (mean : Meaning) (x : Context) (g : Grid) (dirty : Place → 
   pub up : (c d : Place) → has same_place (pre g c) d ≡ true → dirty d ≡ true → dirty c ≡ true
   pub calm : (c : Place) (t : Tree) → formula_at g c ≡ Some t → dirty c ≡ false → is_volatile t ≡ false
   pub acyclic : (c : Place) → dirty c ≡ false → Reaches same_place (pre g) c c → ⊥
-  pub right : (c : Place) (t : Tree) → formula_at g c ≡ Some t → dirty c ≡ false → value_at g c ≡ mean t c (world_at x g)
+  pub right : (c : Place) (t : Tree) → formula_at g c ≡ Some t → dirty c ≡ false →
+      value_at g c ≡ mean t c (world_at x g)
 
+-- these are just the formulas that a recalculation leaves dirty
 abbrev pub IsWhatStays : Grid → (Place → Bool) → Type 0
 IsWhatStays g rest = (c : Place) → (rest c ≡ true) ↔ StaysDirty g c
 
--- the formulas that are dirty after a recalculation: those that stay in natural order, and in another order all that were
+-- the formulas that are dirty after a recalculation: those that stay in natural order, and in another order all that
+-- were
 abbrev pub IsDirtyAfter : Order → Grid → (Place → Bool) → (Place → Bool) → Type 0
 IsDirtyAfter orders.Natural g old new = IsWhatStays g new
 IsDirtyAfter orders.Columnwise g old new = (c : Place) → new c ≡ old c
@@ -92,13 +100,16 @@ pub record IsSpread (old new : Grid) (written dirty spread : Place → Bool) : T
   pub written_too : (c : Place) → written c ≡ true → is_formula_at new c ≡ true → spread c ≡ true
   pub reaching : (c w : Place) → written w ≡ true → ReachesCell new c w → spread c ≡ true
   pub kept : (c : Place) → dirty c ≡ true → is_formula_at new c ≡ true → spread c ≡ true
-  pub exact : (c : Place) → spread c ≡ true → (written c ≡ true) ⊎ (((w : Place) × (written w ≡ true) × ReachesCell new c w) ⊎ (dirty c ≡ true))
+  pub exact : (c : Place) → spread c ≡ true →
+      (written c ≡ true) ⊎ (((w : Place) × (written w ≡ true) × ReachesCell new c w) ⊎ (dirty c ≡ true))
 
 -- an edit that spreads keeps what holds of the dirty formulas
 abbrev pub EditKeepsSound : Meaning → Context → Type 0
-EditKeepsSound mean x = (old new : Grid) (written dirty spread : Place → Bool) → IsSound mean x old dirty → IsSpread old new written dirty spread → IsSound mean x new spread
+EditKeepsSound mean x = (old new : Grid) (written dirty spread : Place → Bool) → IsSound mean x old dirty →
+    IsSpread old new written dirty spread → IsSound mean x new spread
 
--- the formulas that stay dirty after a recalculation, as a set: what is left out isn't volatile, and reads nothing that is in
+-- the formulas that stay dirty after a recalculation, as a set: what is left out isn't volatile, and reads nothing that
+-- is in
 pub record IsRest (g : Grid) (rest : Place → Bool) : Type 0 where
   pub only : (c : Place) → rest c ≡ true → is_formula_at g c ≡ true
   pub volatile : (c : Place) (t : Tree) → formula_at g c ≡ Some t → rest c ≡ false → is_volatile t ≡ false

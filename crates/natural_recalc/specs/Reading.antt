@@ -15,9 +15,11 @@ use Rattle.sheet_store.specs.declared.order.Order.{Order}
 use Rattle.sheet_store.specs.declared.order.Order.TheVariants as orders
 use Rattle.natural_recalc.specs.World.{formula_at}
 
+-- whether a cell holds a formula
 abbrev pub is_formula_at : Grid → Place → Bool
 is_formula_at g c = is_some (formula_at g c)
 
+-- what a formula in a cell reads, from left to right; nothing where there is none
 abbrev pub spans_in : Option Tree → Place → List Extent
 spans_in None c = []
 spans_in (Some t) c = spans_of t c
@@ -35,14 +37,17 @@ formulas_in g (s ∷ ss) = formulas_within g s ++ formulas_in g ss
 abbrev pub pre : Grid → Place → List Place
 pre g c = formulas_in g (spans_at g c)
 
+-- whether there is a formula that has to be evaluated each time
 abbrev pub volatile_of : Option Tree → Bool
 volatile_of None = false
 volatile_of (Some t) = is_volatile t
 
+-- what a graph keeps of a formula in a cell
 abbrev pub node_of : Option Tree → Place → Option Node
 node_of None c = None
 node_of (Some t) c = Some (record { reads = spans_of t c; volatile = is_volatile t })
 
+-- what a graph tells that a formula reads
 abbrev pub spans_told : Option Node → List Extent
 spans_told None = []
 spans_told (Some n) = n.reads
@@ -80,7 +85,8 @@ order_in orders.Natural g = natural_order g
 order_in orders.Columnwise g = record { done = plain_order true g; circular = false }
 order_in orders.Rowwise g = record { done = plain_order false g; circular = false }
 
--- the formulas that stay dirty after a recalculation: a volatile one, one that reaches itself, and what reads one that stays
+-- the formulas that stay dirty after a recalculation: a volatile one, one that reaches itself, and what reads one that
+-- stays
 pub data StaysDirty (g : Grid) : Place → Type 0 where
   volatile : {c : Place} {t : Tree} → formula_at g c ≡ Some t → is_volatile t ≡ true → StaysDirty g c
   circle : {c : Place} → Reaches same_place (pre g) c c → StaysDirty g c

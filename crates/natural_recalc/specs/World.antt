@@ -22,16 +22,20 @@ pub record Context : Type 0 where
   pub settings : Choices
   pub scene : Scene
 
+-- names, settings and what the outside tells, as formulas look at them together
 abbrev pub context_of : NameMap → Choices → Scene → Context
 context_of names settings scene = record { names = names; settings = settings; scene = scene }
 
+-- the value of what is held of a cell, blank where nothing is
 abbrev pub value_of : Option CellState → Value
 value_of None = value.Blank
 value_of (Some s) = s.value
 
+-- the value of a cell that is blank or not there
 abbrev pub IsBlank : Value → Type 0
 IsBlank v = v ≡ value.Blank
 
+-- the content of what is held of a cell, where something is
 abbrev pub content_of : Option CellState → Option Content
 content_of None = None
 content_of (Some s) = Some s.content
@@ -41,19 +45,23 @@ abbrev pub format_of : Option CellState → ℕ
 format_of None = default_format
 format_of (Some s) = s.format.0
 
+-- a content's formula, where it is one
 abbrev pub formula_in : Content → Option Tree
 formula_in content.Blank = None
 formula_in (content.Number x) = None
 formula_in (content.Label p t) = None
 formula_in (content.Formula f) = Some f
 
+-- the formula in what is held of a cell
 abbrev pub formula_of : Option CellState → Option Tree
 formula_of None = None
 formula_of (Some s) = formula_in s.content
 
+-- the value that a cell has in the grid
 abbrev pub value_at : Grid → Place → Value
 value_at g c = value_of (map.get g.cells c)
 
+-- the formula that a cell has in the grid
 abbrev pub formula_at : Grid → Place → Option Tree
 formula_at g c = formula_of (map.get g.cells c)
 
@@ -62,6 +70,8 @@ abbrev pub width_or : ℕ → Option ℕ → ℕ
 width_or global None = global
 width_or global (Some n) = n
 
+-- what formulas see of the sheet: of each cell its value, content and format, of each column its width, and the
+-- names
 abbrev pub sight_of : NameMap → Choices → Grid → Sight
 sight_of names settings g = record {
   values = λ c. value_at g c;
@@ -71,5 +81,6 @@ sight_of names settings g = record {
   names = names;
 }
 
+-- what formulas see of the sheet, with the moment and the machine outside it
 abbrev pub world_at : Context → Grid → World
 world_at x g = world_of (sight_of x.names x.settings g) x.scene

@@ -25,7 +25,8 @@ pub fn evaluate_at<E: Means>(
     tally: &mut E,
 ) -> Result<(), Memory>
     requires { is_formula_at store.old cell ≡ true }
-    ensures value { OnOk result (store.new ≡ evaluated E.meaning (context_of names.now settings.now scene.entry.now) store.old cell) }
+    ensures value { OnOk result
+        (store.new ≡ evaluated E.meaning (context_of names.now settings.now scene.entry.now) store.old cell) }
     ensures err { OnErr result (store.new ≡ store.old) }
     ensures count { OnOk result (E.count tally.new ≡ raised_by 1 (E.count tally.old)) }
 {
@@ -57,9 +58,11 @@ pub fn pass_over<E: Means>(
     tally: &mut E,
 ) -> Result<(), Memory>
     requires { (c : Place) → has same_place cells.now c ≡ true → is_formula_at store.old c ≡ true }
-    ensures values { OnOk result (store.new ≡ pass E.meaning (context_of names.now settings.now scene.entry.now) cells.now store.old) }
+    ensures values { OnOk result
+        (store.new ≡ pass E.meaning (context_of names.now settings.now scene.entry.now) cells.now store.old) }
     ensures count { OnOk result (E.count tally.new ≡ raised_by (length cells.now) (E.count tally.old)) }
-    ensures sound { (dirty : Place → Bool) → IsSound E.meaning (context_of names.now settings.now scene.entry.now) store.old dirty
+    ensures sound { (dirty : Place → Bool) →
+        IsSound E.meaning (context_of names.now settings.now scene.entry.now) store.old dirty
         → IsSound E.meaning (context_of names.now settings.now scene.entry.now) store.new dirty }
     ensures contents { SameContents store.old store.new }
 {
@@ -80,9 +83,11 @@ pub fn further<E: Means>(
     tally: &mut E,
 ) -> Result<(), Memory>
     requires { (c : Place) → has same_place cells.now c ≡ true → is_formula_at store.old c ≡ true }
-    ensures values { OnOk result (store.new ≡ passes E.meaning (context_of names.now settings.now scene.entry.now) times cells.now store.old) }
+    ensures values { OnOk result
+        (store.new ≡ passes E.meaning (context_of names.now settings.now scene.entry.now) times cells.now store.old) }
     ensures count { OnOk result (E.count tally.new ≡ raised_by (times * length cells.now) (E.count tally.old)) }
-    ensures sound { (dirty : Place → Bool) → IsSound E.meaning (context_of names.now settings.now scene.entry.now) store.old dirty
+    ensures sound { (dirty : Place → Bool) →
+        IsSound E.meaning (context_of names.now settings.now scene.entry.now) store.old dirty
         → IsSound E.meaning (context_of names.now settings.now scene.entry.now) store.new dirty }
     ensures contents { SameContents store.old store.new }
 {

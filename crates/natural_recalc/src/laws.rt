@@ -20,8 +20,8 @@ pub fn edit_keeps_sound<E: Means>()
     ensures { (x : Context) → EditKeepsSound E.meaning x }
 {}
 
-/// One pass over the dirty formulas in any order in which each comes after all of them that it reads is one pass over all
-/// in their natural order, and no circle is told.
+/// One pass over the dirty formulas in any order in which each comes after all of them that it reads is one pass over
+/// all in their natural order, and no circle is told.
 pub fn any_order_serves<E: Means>()
     ensures { (x : Context) → AnyOrderServes E.meaning x }
 {}

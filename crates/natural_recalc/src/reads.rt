@@ -30,7 +30,8 @@ pub fn add_kept(list: &mut Vec<Cell>, set: &CellSet, cells: &[Cell]) -> Result<(
 
 // Adds the dirty formulas of a span.
 fn add_dirty(list: &mut Vec<Cell>, store: &Store, dirty: &CellSet, span: Span) -> Result<(), Memory>
-    ensures { OnOk result (list.new.items ≡ list.old.items ++ filter (has same_place dirty.now.keys) (formulas_within store.now span)) }
+    ensures { OnOk result
+        (list.new.items ≡ list.old.items ++ filter (has same_place dirty.now.keys) (formulas_within store.now span)) }
 {
     let cells = store.formulas_in(span)?;
     add_kept(list, dirty, cells.as_slice())?;
@@ -89,7 +90,8 @@ pub struct DirtyReads<'a> {
 }
 
 impl<'a> Precedents for DirtyReads<'a> {
-    ghost pre = { λ s c. filter (has same_place s.dirty.now.keys) (formulas_in s.store.now (spans_told (map.get s.graph.now.formulas c))) };
+    ghost pre = { λ s c. filter (has same_place s.dirty.now.keys)
+        (formulas_in s.store.now (spans_told (map.get s.graph.now.formulas c))) };
 
     ghost all = { λ s. formulas s.store.now };
 
@@ -100,5 +102,6 @@ impl<'a> Precedents for DirtyReads<'a> {
         }
     }
 
-    ghost closed = { λ s c d h. told_formulas s.store.now (spans_told (map.get s.graph.now.formulas c)) (has same_place s.dirty.now.keys) d h };
+    ghost closed = { λ s c d h. told_formulas s.store.now (spans_told (map.get s.graph.now.formulas c))
+        (has same_place s.dirty.now.keys) d h };
 }

@@ -40,6 +40,7 @@ fn kept(alloc: Global, set: &CellSet, cells: &[Cell]) -> Result<Vec<Cell>, Memor
     Ok(list)
 }
 
+// A list of the same cells that can be sorted.
 fn copied(alloc: Global, cells: &[Cell]) -> Result<Vec<Cell>, Memory>
     ensures { IfOk result (λ list. list.items ≡ cells.now) }
 {
@@ -71,8 +72,10 @@ fn dirty_formulas(store: &Store, dirty: &CellSet) -> Result<Vec<Cell>, Memory>
 // The dirty formulas by column and then by row, or by row and then by column.
 fn plain_dirty(store: &Store, dirty: &CellSet, is_by_column: bool) -> Result<Vec<Cell>, Memory>
     requires { (c : Place) → has same_place dirty.now.keys c ≡ true → is_formula_at store.now c ≡ true }
-    ensures list { IfOk result (λ l. l.items ≡ filter (has same_place dirty.now.keys) (plain_order is_by_column store.now)) }
-    ensures length { IfOk result (λ l. length l.items ≡ length (filter (has same_place dirty.now.keys) (formulas store.now))) }
+    ensures list { IfOk result
+        (λ l. l.items ≡ filter (has same_place dirty.now.keys) (plain_order is_by_column store.now)) }
+    ensures length { IfOk result
+        (λ l. length l.items ≡ length (filter (has same_place dirty.now.keys) (formulas store.now))) }
 {
     let cells = dirty_formulas(store, dirty)?;
     if !is_by_column {
@@ -87,10 +90,12 @@ fn dirty_order(store: &Store, graph: &Graph, dirty: &CellSet) -> Result<FormulaO
     requires matches { Matches graph.now store.now }
     requires split { IsSplit same_place (pre store.now) (has same_place dirty.now.keys) }
     requires only { (c : Place) → has same_place dirty.now.keys c ≡ true → is_formula_at store.now c ≡ true }
-    ensures done { IfOk result (λ o. o.done.keys ≡ filter (has same_place dirty.now.keys) (natural_order store.now).done) }
+    ensures done { IfOk result
+        (λ o. o.done.keys ≡ filter (has same_place dirty.now.keys) (natural_order store.now).done) }
     ensures circular { IfOk result (λ o. o.circular ≡ (natural_order store.now).circular) }
     ensures unique { IfOk result (λ o. IsUnique same_place o.done) }
-    ensures precedes { IfOk result (λ o. Precedes same_place (λ c. filter (has same_place dirty.now.keys) (pre store.now c)) [] o.done.keys) }
+    ensures precedes { IfOk result
+        (λ o. Precedes same_place (λ c. filter (has same_place dirty.now.keys) (pre store.now c)) [] o.done.keys) }
     ensures same { IfOk result (λ o. (c : Place) → has same_place o.done.keys c ≡ has same_place dirty.now.keys c) }
 {
     let roots = dirty_formulas(store, dirty)?;
@@ -114,15 +119,21 @@ fn first_pass<E: Means>(
     tally: &mut E,
 ) -> Result<FormulaOrder, Memory>
     requires matches { Matches graph.now store.old }
-    requires sound { IsSound E.meaning (context_of names.now settings.now scene.now) store.old (has same_place dirty.now.keys) }
-    ensures values { OnOk result (store.new ≡ pass E.meaning (context_of names.now settings.now scene.entry.now) (natural_order store.old).done store.old) }
-    ensures done { IfOk result (λ o. o.done.keys ≡ filter (has same_place dirty.now.keys) (natural_order store.old).done) }
+    requires sound { IsSound E.meaning (context_of names.now settings.now scene.now) store.old
+        (has same_place dirty.now.keys) }
+    ensures values { OnOk result
+        (store.new ≡ pass E.meaning (context_of names.now settings.now scene.entry.now)
+        (natural_order store.old).done store.old) }
+    ensures done { IfOk result
+        (λ o. o.done.keys ≡ filter (has same_place dirty.now.keys) (natural_order store.old).done) }
     ensures circular { IfOk result (λ o. o.circular ≡ (natural_order store.old).circular) }
     ensures unique { IfOk result (λ o. IsUnique same_place o.done) }
-    ensures precedes { IfOk result (λ o. Precedes same_place (λ c. filter (has same_place dirty.now.keys) (pre store.old c)) [] o.done.keys) }
+    ensures precedes { IfOk result
+        (λ o. Precedes same_place (λ c. filter (has same_place dirty.now.keys) (pre store.old c)) [] o.done.keys) }
     ensures same { IfOk result (λ o. (c : Place) → has same_place o.done.keys c ≡ has same_place dirty.now.keys c) }
     ensures count { OnOk result (E.count tally.new ≡ raised_by (length dirty.now.keys) (E.count tally.old)) }
-    ensures sound { IsSound E.meaning (context_of names.now settings.now scene.entry.now) store.new (has same_place dirty.now.keys) }
+    ensures sound { IsSound E.meaning (context_of names.now settings.now scene.entry.now) store.new
+        (has same_place dirty.now.keys) }
     ensures contents { SameContents store.old store.new }
 {
     // `len` is called for its clause that no cell is in the set twice.
@@ -139,7 +150,8 @@ fn rest_of(
     order: FormulaOrder,
 ) -> Result<(CellSet, Vec<Cell>), Memory>
     requires matches { Matches graph.now store.now }
-    requires order { Precedes same_place (λ c. filter (has same_place order.done.keys) (pre store.now c)) [] order.done.keys }
+    requires order { Precedes same_place (λ c. filter (has same_place order.done.keys) (pre store.now c)) []
+        order.done.keys }
     requires all { (c : Place) → StaysDirty store.now c → has same_place order.done.keys c ≡ true }
     ensures stays { IfOk result (λ r. IsWhatStays store.now (has same_place r.0.keys)) }
     ensures unique { IfOk result (λ r. IsDistinct same_place r.0.keys) }
@@ -170,7 +182,8 @@ fn recalc_in_order<E: Means>(
     requires order { GoesInOrder store.old dirty.old.keys }
     requires times { 1 ≤ times }
     ensures values { OnOk result (store.new
-        ≡ passes E.meaning (context_of names.now settings.now scene.entry.now) times (natural_order store.old).done store.old) }
+        ≡ passes E.meaning (context_of names.now settings.now scene.entry.now) times (natural_order store.old).done
+        store.old) }
     ensures circular { (natural_order store.old).circular ≡ false }
     ensures stays { OnOk result (IsWhatStays store.new (has same_place dirty.new.keys)) }
     ensures sound { IsSound E.meaning (context_of names.now settings.now scene.entry.now)
@@ -201,7 +214,8 @@ fn recalc_walked<E: Means>(
         store.old (has same_place dirty.old.keys) }
     requires times { 1 ≤ times }
     ensures values { OnOk result (store.new
-        ≡ passes E.meaning (context_of names.now settings.now scene.entry.now) times (natural_order store.old).done store.old) }
+        ≡ passes E.meaning (context_of names.now settings.now scene.entry.now) times (natural_order store.old).done
+        store.old) }
     ensures circular { IfOk result (λ c. c ≡ (natural_order store.old).circular) }
     ensures stays { OnOk result (IsWhatStays store.new (has same_place dirty.new.keys)) }
     ensures sound { IsSound E.meaning (context_of names.now settings.now scene.entry.now)
@@ -243,7 +257,8 @@ fn recalc_natural<E: Means>(
         store.old (has same_place dirty.old.keys) }
     requires times { 1 ≤ times }
     ensures values { OnOk result (store.new
-        ≡ passes E.meaning (context_of names.now settings.now scene.entry.now) times (natural_order store.old).done store.old) }
+        ≡ passes E.meaning (context_of names.now settings.now scene.entry.now) times (natural_order store.old).done
+        store.old) }
     ensures circular { IfOk result (λ c. c ≡ (natural_order store.old).circular) }
     ensures stays { OnOk result (IsWhatStays store.new (has same_place dirty.new.keys)) }
     ensures sound { IsSound E.meaning (context_of names.now settings.now scene.entry.now)
@@ -273,10 +288,14 @@ fn recalc_plain<E: Means>(
     scene: &Scene,
     tally: &mut E,
 ) -> Result<Circ, Memory>
-    requires sound { IsSound E.meaning (context_of names.now settings.now scene.now) store.old (has same_place dirty.now.keys) }
-    ensures values { OnOk result (store.new ≡ passes E.meaning (context_of names.now settings.now scene.entry.now) times (plain_order is_by_column store.old) store.old) }
+    requires sound { IsSound E.meaning (context_of names.now settings.now scene.now) store.old
+        (has same_place dirty.now.keys) }
+    ensures values { OnOk result
+        (store.new ≡ passes E.meaning (context_of names.now settings.now scene.entry.now) times
+        (plain_order is_by_column store.old) store.old) }
     ensures circular { IfOk result (λ c. c.0 ≡ false) }
-    ensures sound { IsSound E.meaning (context_of names.now settings.now scene.entry.now) store.new (has same_place dirty.now.keys) }
+    ensures sound { IsSound E.meaning (context_of names.now settings.now scene.entry.now) store.new
+        (has same_place dirty.now.keys) }
     ensures contents { SameContents store.old store.new }
     ensures count { OnOk result (E.count tally.new ≡ raised_by (times * length dirty.now.keys) (E.count tally.old)) }
 {
@@ -295,8 +314,8 @@ fn recalc_plain<E: Means>(
     Ok(Circ(false))
 }
 
-/// Evaluates the dirty formulas alone, and leaves the values and the circle that passes along all formulas leave, in the
-/// order of the settings. The tally rises by the number of dirty formulas, and for each further pass by that of the
+/// Evaluates the dirty formulas alone, and leaves the values and the circle that passes along all formulas leave, in
+/// the order of the settings. The tally rises by the number of dirty formulas, and for each further pass by that of the
 /// formulas which are dirty afterwards. In natural order these are the formulas that are volatile or reach themselves,
 /// and those that reach one of them; in another order they are those that were dirty before. Where there is no memory,
 /// contents, formats and the dirty formulas are as before, and what held of these still holds.
@@ -311,17 +330,26 @@ pub fn recalc<E: Means>(
     tally: &mut E,
 ) -> Result<Circ, Memory>
     requires matches { Matches graph.now store.old }
-    requires sound { IsSound E.meaning (context_of names.now settings.now scene.now) store.old (has same_place dirty.old.keys) }
+    requires sound { IsSound E.meaning (context_of names.now settings.now scene.now) store.old
+        (has same_place dirty.old.keys) }
     requires passes { passes ≡ settings.now.passes }
-    ensures values { OnOk result (store.new ≡ whole.passes E.meaning (context_of names.now settings.now scene.entry.now) passes (order_in settings.now.order store.old).done store.old) }
+    ensures values { OnOk result
+        (store.new ≡ whole.passes E.meaning (context_of names.now settings.now scene.entry.now) passes
+        (order_in settings.now.order store.old).done store.old) }
     ensures circular { IfOk result (λ c. c.0 ≡ (order_in settings.now.order store.old).circular) }
-    ensures dirty { OnOk result (IsDirtyAfter settings.now.order store.new (has same_place dirty.old.keys) (has same_place dirty.new.keys)) }
-    ensures sound { IsSound E.meaning (context_of names.now settings.now scene.entry.now) store.new (has same_place dirty.new.keys) }
+    ensures dirty { OnOk result
+        (IsDirtyAfter settings.now.order store.new (has same_place dirty.old.keys) (has same_place dirty.new.keys)) }
+    ensures sound { IsSound E.meaning (context_of names.now settings.now scene.entry.now) store.new
+        (has same_place dirty.new.keys) }
     ensures contents { SameContents store.old store.new }
     ensures matches { Matches graph.now store.new }
     ensures err { OnErr result (dirty.new.keys ≡ dirty.old.keys) }
-    ensures count { OnOk result (E.count tally.new ≡ raised_by (length dirty.old.keys + (passes - 1) * length dirty.new.keys) (E.count tally.old)) }
-    ensures right { OnOk result (settings.now.order ≡ Natural → IsPlain store.old → IsRight E.meaning (context_of names.now settings.now scene.entry.now) store.new) }
+    ensures count { OnOk result
+        (E.count tally.new ≡ raised_by (length dirty.old.keys + (passes - 1) * length dirty.new.keys)
+        (E.count tally.old)) }
+    ensures right { OnOk result
+        (settings.now.order ≡ Natural → IsPlain store.old →
+        IsRight E.meaning (context_of names.now settings.now scene.entry.now) store.new) }
 {
     settings.are_within();
     match settings.order {

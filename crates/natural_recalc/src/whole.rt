@@ -17,7 +17,8 @@ use sheet_store::Store;
 /// Every formula of a store, as a dirty set, whatever their values are.
 pub fn all_dirty(store: &Store) -> Result<CellSet, Memory>
     ensures members { IfOk result (λ set. (c : Place) → has same_place set.keys c ≡ is_formula_at store.now c) }
-    ensures sound { IfOk result (λ set. (mean : Meaning) (x : Context) → IsSound mean x store.now (has same_place set.keys)) }
+    ensures sound { IfOk result
+        (λ set. (mean : Meaning) (x : Context) → IsSound mean x store.now (has same_place set.keys)) }
 {
     let cells = store.formulas()?;
     let mut set = CellSet::new(store.alloc());
@@ -42,7 +43,10 @@ fn add_formula(graph: &mut Graph, store: &Store, cell: Cell) -> Result<(), Memor
 
 // Puts the formulas of cells into the graph.
 fn add_formulas(graph: &mut Graph, store: &Store, cells: &[Cell]) -> Result<(), Memory>
-    ensures { OnOk result ((c : Place) → map.get graph.new.formulas c ≡ cond (has same_place cells.now c && is_formula_at store.now c) (node_of (formula_at store.now c) c) (map.get graph.old.formulas c)) }
+    ensures { OnOk result
+        ((c : Place) → map.get graph.new.formulas c
+        ≡ cond (has same_place cells.now c && is_formula_at store.now c) (node_of (formula_at store.now c) c)
+        (map.get graph.old.formulas c)) }
 {
     for cell in cells {
         add_formula(graph, store, *cell)?;
