@@ -25,8 +25,10 @@ first_value (content.Formula f) = value.Num (pos 0)
 
 -- a cell takes a content, and keeps its format
 abbrev pub written_state : Grid → Place → Content → CellState
-written_state g c x = record { content = x; value = first_value x; format = record { 0 = format_of (map.get g.cells c) } }
+written_state g c x =
+    record { content = x; value = first_value x; format = record { 0 = format_of (map.get g.cells c) } }
 
+-- the grid after a content is written into a cell
 abbrev pub written : Grid → Place → Content → Grid
 written g c x = put_state g c (written_state g c x)
 
@@ -47,12 +49,14 @@ pub record IsDirtied (new : Grid) (old written : Place → Bool) (c : Place) : T
   pub formula : is_formula_at new c ≡ true
   pub why : (old c ≡ true) ⊎ ((written c ≡ true) ⊎ ReachesWritten new written c)
 
+-- these are dirty after the edit, and no other cell is
 abbrev pub AreDirtied : Grid → (Place → Bool) → (Place → Bool) → (Place → Bool) → Type 0
 AreDirtied new old written now = (c : Place) → (now c ≡ true) ↔ IsDirtied new old written c
 
 -- the set has what it had, the cells that are given a formula, and what the graph tells of the written cells
 abbrev pub WithReached : Network → List Place → (Place → Bool) → List Place → List Place → Type 0
-WithReached n cells given old new = (c : Place) → (has same_place new c ≡ true) ↔ ((has same_place old c ≡ true) ⊎ ((given c ≡ true) ⊎ IsSpread n cells c))
+WithReached n cells given old new = (c : Place) →
+    (has same_place new c ≡ true) ↔ ((has same_place old c ≡ true) ⊎ ((given c ≡ true) ⊎ IsSpread n cells c))
 
 -- the graph takes the formula that is offered, or drops the one that is there
 abbrev pub settled : Bool → Network → Place → Network
@@ -78,10 +82,12 @@ put_back g c (Some s) = record g { cells = map.insert g.cells c s }
 abbrev pub is_evaluated : Choices → Content → Bool
 is_evaluated s x = not s.automatic && is_formula x
 
+-- the grid after a content is entered in a cell, with its formula evaluated at once or not
 abbrev pub entered : Meaning → Context → Bool → Grid → Place → Content → Grid
 entered mean x true g c content = evaluated mean x (written g c content) c
 entered mean x false g c content = written g c content
 
+-- how often an entry evaluates its formula
 abbrev pub evaluations : Bool → ℕ
 evaluations true = 1
 evaluations false = 0

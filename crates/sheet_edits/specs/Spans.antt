@@ -23,6 +23,7 @@ use Rattle.sheet_edits.specs.declared.spans.FormatChange.{FormatChange}
 use Rattle.sheet_edits.specs.declared.spans.FormatChange.TheVariants as formats
 use Rattle.sheet_edits.specs.Edits.{first_value, is_protected}
 
+-- a map of cells is coded by the codes of places and of states
 abbrev pub coded_cells : Coded Cells
 coded_cells = cells.code coded_place (state.the_row).coded
 
@@ -51,6 +52,7 @@ abbrev pub blanked : Option CellState → Option CellState
 blanked None = None
 blanked (Some s) = Some (blank_state s.format)
 
+-- what a cell holds after it is erased: nothing where its format is the default one
 abbrev pub erased : Option CellState → Option CellState
 erased o = changed (blanked o) o
 
@@ -63,9 +65,11 @@ abbrev pub with_mark : Bool → ℕ → ℕ
 with_mark true byte = protected byte
 with_mark false byte = unprotected byte
 
+-- a cell's state with another format byte, blank where nothing is held of it
 abbrev pub reformatted_state : (ℕ → ℕ) → Option CellState → CellState
 reformatted_state rule o = formatted o (record { 0 = rule (format_of o) })
 
+-- what a cell holds after its format is changed
 abbrev pub reformatted : (ℕ → ℕ) → Option CellState → Option CellState
 reformatted rule o = kept_of (reformatted_state rule o)
 
@@ -74,6 +78,7 @@ abbrev pub copied_state : Option CellState → CellState
 copied_state None = blank_state (record { 0 = default_format })
 copied_state (Some s) = record s { value = first_value s.content }
 
+-- what a cell holds after another is copied into it
 abbrev pub copied : Option CellState → Option CellState
 copied o = kept_of (copied_state o)
 
@@ -88,17 +93,22 @@ block_at first rows cols = cond (nat_le (first.row + rows) 8192 && nat_le (first
 
 -- the written span of a copy
 abbrev pub target_of : Extent → Extent → Option Extent
-target_of from to = block_at to.first (repeated (height_of from) (height_of to)) (repeated (width_of from) (width_of to))
+target_of from to =
+    block_at to.first (repeated (height_of from) (height_of to)) (repeated (width_of from) (width_of to))
 
 -- the cell that a cell of the written span copies
 abbrev pub source_of : Extent → Place → Place → Place
-source_of from first c = record { row = from.first.row + (c.row - first.row) % height_of from; col = from.first.col + (c.col - first.col) % width_of from }
+source_of from first c = record {
+  row = from.first.row + (c.row - first.row) % height_of from;
+  col = from.first.col + (c.col - first.col) % width_of from;
+}
 
 -- a write's format, or the cell's own
 abbrev pub given_format : Option Format → Option CellState → Format
 given_format None o = record { 0 = format_of o }
 given_format (Some f) o = f
 
+-- the state that a write gives to a cell
 abbrev pub write_state : Write → Option CellState → CellState
 write_state w o = record { content = w.content; value = first_value w.content; format = given_format w.format o }
 
@@ -106,10 +116,12 @@ write_state w o = record { content = w.content; value = first_value w.content; f
 abbrev pub written_by : Grid → Write → Grid
 written_by g w = put_state g w.cell (write_state w (cells.get g.cells w.cell))
 
+-- the grid after all of the writes, each over what those before it left
 abbrev pub written_all : Grid → List Write → Grid
 written_all g [] = g
 written_all g (w ∷ ws) = written_all (written_by g w) ws
 
+-- the cells that the writes are for, in their order
 abbrev pub written_cells : List Write → List Place
 written_cells ws = map (λ (w : Write). w.cell) ws
 
@@ -119,6 +131,7 @@ pub record IsFirstProtected (s : Choices) (g : Grid) (written : Place → Bool) 
   pub protected : is_protected s g c ≡ true
   pub first : (d : Place) → written d ≡ true → is_protected s g d ≡ true → place_cmp d c ≡ Less → ⊥
 
+-- no written cell is protected
 abbrev pub NoneProtected : Choices → Grid → (Place → Bool) → Type 0
 NoneProtected s g written = (c : Place) → written c ≡ true → is_protected s g c ≡ false
 
@@ -147,7 +160,8 @@ AreSound changes = (c : Place) (s : CellState) → cells.get changes c ≡ Some 
 
 -- every cell that is given a state that is kept is there
 abbrev pub HaveRoom : Cells → (Place → Bool) → Grid → Type 0
-HaveRoom changes written g = (c : Place) (s : CellState) → written c ≡ true → cells.get changes c ≡ Some s → is_kept s ≡ true → cells.get g.cells c ≡ None → ⊥
+HaveRoom changes written g = (c : Place) (s : CellState) → written c ≡ true → cells.get changes c ≡ Some s →
+    is_kept s ≡ true → cells.get g.cells c ≡ None → ⊥
 
 -- some cells were added that weren't there and are to be given a state
 pub record IsGrown (changes : Cells) (grown : List Place) (old new : Grid) : Type 0 where
@@ -219,10 +233,12 @@ abbrev pub IsFirstOf : Grid → (Place → Bool) → Option Place → Type 0
 IsFirstOf g among None = NoneMarked g among
 IsFirstOf g among (Some c) = IsFirstMarked g among c
 
+-- what a change makes of a format byte
 abbrev pub rule_of : FormatChange → ℕ → ℕ
 rule_of (formats.Code code) = with_code code
 rule_of (formats.Mark b) = with_mark b
 
+-- the code of a change leaves the protection mark alone
 abbrev pub HasCode : FormatChange → Type 0
 HasCode (formats.Code code) = code < 128
 HasCode (formats.Mark b) = Unit {0}

@@ -95,7 +95,8 @@ pub fn prepare(
 // The graph and the dirty set take what was prepared. It takes no memory.
 pub fn settle(graph: &mut Graph, dirty: &mut CellSet, cell: Cell, holds_formula: bool)
     ensures graph { graph.new ≡ settled holds_formula graph.old cell }
-    ensures dirty { (c : Place) → has same_place dirty.new.keys c ≡ kept_at holds_formula cell c (has same_place dirty.old.keys c) }
+    ensures dirty { (c : Place) →
+        has same_place dirty.new.keys c ≡ kept_at holds_formula cell c (has same_place dirty.old.keys c) }
 {
     if holds_formula {
         graph.accept(cell);
@@ -119,7 +120,8 @@ pub fn write_cell(
     requires matches { Matches graph.old store.old }
     requires only { (c : Place) → has same_place dirty.old.keys c ≡ true → is_formula_at store.old c ≡ true }
     ensures store { OnOk result (store.new ≡ put_state store.old cell state) }
-    ensures dirty { OnOk result (AreDirtied store.new (has same_place dirty.old.keys) (just cell) (has same_place dirty.new.keys)) }
+    ensures dirty { OnOk result
+        (AreDirtied store.new (has same_place dirty.old.keys) (just cell) (has same_place dirty.new.keys)) }
     ensures matches { Matches graph.new store.new }
     ensures store_err { OnErr result (store.new ≡ store.old) }
     ensures dirty_err { OnErr result (dirty.new.keys ≡ dirty.old.keys) }

@@ -47,8 +47,8 @@ fn put_back(store: &mut Store, cell: Cell, old: Option<CellState>)
     }
 }
 
-/// Writes a formula into a cell and evaluates it over the values as they then stand. Where there is no memory, the store
-/// and the dirty set are as before, and so are the formulas of the graph.
+/// Writes a formula into a cell and evaluates it over the values as they then stand. Where there is no memory, the
+/// store and the dirty set are as before, and so are the formulas of the graph.
 pub fn write_evaluated<E: Means>(
     store: &mut Store,
     graph: &mut Graph,
@@ -65,8 +65,12 @@ pub fn write_evaluated<E: Means>(
     requires kept { is_kept state ≡ true }
     requires matches { Matches graph.old store.old }
     requires only { (c : Place) → has same_place dirty.old.keys c ≡ true → is_formula_at store.old c ≡ true }
-    ensures store { OnOk result (store.new ≡ evaluated E.meaning (context_of names.now settings.now scene.entry.now) (put_state store.old cell state) cell) }
-    ensures dirty { OnOk result (AreDirtied (put_state store.old cell state) (has same_place dirty.old.keys) (just cell) (has same_place dirty.new.keys)) }
+    ensures store { OnOk result
+        (store.new ≡ evaluated E.meaning (context_of names.now settings.now scene.entry.now)
+        (put_state store.old cell state) cell) }
+    ensures dirty { OnOk result
+        (AreDirtied (put_state store.old cell state) (has same_place dirty.old.keys) (just cell)
+        (has same_place dirty.new.keys)) }
     ensures matches { OnOk result (Matches graph.new (put_state store.old cell state)) }
     ensures count { OnOk result (E.count tally.new ≡ raised_by 1 (E.count tally.old)) }
     ensures store_err { OnErr result (store.new ≡ store.old) }

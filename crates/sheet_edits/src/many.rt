@@ -33,9 +33,12 @@ fn offer_at(graph: &mut Graph, cell: Cell, changes: &Changes) -> Result<(), Memo
     Ok(())
 }
 
+// Each cell's new formula waits in the graph until all the memory is there.
 fn offer_all(graph: &mut Graph, cells: &[Cell], changes: &Changes) -> Result<(), Memory>
     ensures formulas { graph.new.formulas ≡ graph.old.formulas }
-    ensures offers { OnOk result ((c : Place) → has same_place cells.now c ≡ true → map.get graph.new.offers c ≡ node_given (map.get changes.now c) c) }
+    ensures offers { OnOk result
+        ((c : Place) → has same_place cells.now c ≡ true →
+        map.get graph.new.offers c ≡ node_given (map.get changes.now c) c) }
 {
     for cell in cells {
         offer_at(graph, *cell, changes)?;
@@ -55,7 +58,9 @@ fn is_given(changes: &Changes, cell: Cell) -> bool
 
 // Adds the cells that are given a formula.
 fn insert_given(dirty: &mut CellSet, cells: &[Cell], changes: &Changes) -> Result<(), Memory>
-    ensures members { OnOk result ((c : Place) → has same_place dirty.new.keys c ≡ (has same_place dirty.old.keys c || (has same_place cells.now c && gives_formula (map.get changes.now c)))) }
+    ensures members { OnOk result
+        ((c : Place) → has same_place dirty.new.keys c
+        ≡ (has same_place dirty.old.keys c || (has same_place cells.now c && gives_formula (map.get changes.now c)))) }
     ensures extends { Extends dirty.old.keys dirty.new.keys }
 {
     for cell in cells {
@@ -70,7 +75,8 @@ fn insert_given(dirty: &mut CellSet, cells: &[Cell], changes: &Changes) -> Resul
 fn is_new(store: &Store, cell: Cell, changes: &Changes) -> bool
     ensures absent { result ≡ true → map.get store.now.cells cell ≡ None }
     ensures given { result ≡ true → map.get changes.now cell ≡ None → ⊥ }
-    ensures rest { result ≡ false → (s : CellState) → map.get changes.now cell ≡ Some s → is_kept s ≡ true → map.get store.now.cells cell ≡ None → ⊥ }
+    ensures rest { result ≡ false → (s : CellState) → map.get changes.now cell ≡ Some s → is_kept s ≡ true →
+        map.get store.now.cells cell ≡ None → ⊥ }
 {
     match changes.get(cell) {
         Some(state) => state.is_kept() && store.get(cell).is_none(),
@@ -80,9 +86,11 @@ fn is_new(store: &Store, cell: Cell, changes: &Changes) -> bool
 
 // Puts a blank cell that holds a place in the store until its state comes.
 fn hold_place(store: &mut Store, grown: &mut CellList, cell: Cell) -> Result<(), Memory>
-    ensures grown { (c : Place) → has same_place grown.new c ≡ true → (has same_place grown.old c ≡ true) ⊎ (same_place c cell ≡ true) }
+    ensures grown { (c : Place) → has same_place grown.new c ≡ true →
+        (has same_place grown.old c ≡ true) ⊎ (same_place c cell ≡ true) }
     ensures held { (c : Place) → has same_place grown.old c ≡ true → has same_place grown.new c ≡ true }
-    ensures others { (c : Place) → has same_place grown.new c ≡ false → map.get store.new.cells c ≡ map.get store.old.cells c }
+    ensures others { (c : Place) → has same_place grown.new c ≡ false →
+        map.get store.new.cells c ≡ map.get store.old.cells c }
     ensures beside { (c : Place) → same_place c cell ≡ false → map.get store.new.cells c ≡ map.get store.old.cells c }
     ensures there { OnOk result (map.get store.new.cells cell ≡ None → ⊥) }
     ensures widths { store.new.widths ≡ store.old.widths }
@@ -93,6 +101,7 @@ fn hold_place(store: &mut Store, grown: &mut CellList, cell: Cell) -> Result<(),
     Ok(())
 }
 
+// Holds places for the states that come, and tells in which cells.
 fn grow_all(
     store: &mut Store,
     grown: &mut CellList,
@@ -111,8 +120,10 @@ fn grow_all(
     Ok(())
 }
 
+// Nothing is held of the cells any more.
 fn clear_all(store: &mut Store, cells: &[Cell])
-    ensures cells { (c : Place) → map.get store.new.cells c ≡ cond (has same_place cells.now c) None (map.get store.old.cells c) }
+    ensures cells { (c : Place) →
+        map.get store.new.cells c ≡ cond (has same_place cells.now c) None (map.get store.old.cells c) }
     ensures widths { store.new.widths ≡ store.old.widths }
     ensures hidden { store.new.hidden ≡ store.old.hidden }
 {
@@ -140,7 +151,8 @@ fn grow(store: &mut Store, cells: &[Cell], changes: &Changes) -> Result<(), Memo
 // Gives a cell its state. It takes no memory.
 fn put_at(store: &mut Store, cell: Cell, changes: &mut Changes)
     requires sound { (s : CellState) → map.get changes.old cell ≡ Some s → IsSound s }
-    requires room { (s : CellState) → map.get changes.old cell ≡ Some s → is_kept s ≡ true → map.get store.old.cells cell ≡ None → ⊥ }
+    requires room { (s : CellState) → map.get changes.old cell ≡ Some s → is_kept s ≡ true →
+        map.get store.old.cells cell ≡ None → ⊥ }
     ensures store { store.new ≡ put_given store.old cell (map.get changes.old cell) }
     ensures changes { changes.new ≡ map.remove changes.old cell }
 {
@@ -153,10 +165,13 @@ fn put_at(store: &mut Store, cell: Cell, changes: &mut Changes)
     }
 }
 
+// Gives the cells their states, for which there is room. It takes no memory.
 fn put_all(store: &mut Store, cells: &[Cell], changes: &mut Changes)
     requires sound { AreSound changes.old }
     requires room { HaveRoom changes.old (has same_place cells.now) store.old }
-    ensures { Becomes store.old (λ c. cond (has same_place cells.now c) (changed (map.get changes.old c) (map.get store.old.cells c)) (map.get store.old.cells c)) store.new }
+    ensures { Becomes store.old
+        (λ c. cond (has same_place cells.now c) (changed (map.get changes.old c) (map.get store.old.cells c))
+        (map.get store.old.cells c)) store.new }
 {
     for cell in cells {
         put_at(store, *cell, changes);
@@ -167,7 +182,8 @@ fn put_all(store: &mut Store, cells: &[Cell], changes: &mut Changes)
 pub fn change_cells(store: &mut Store, cells: &[Cell], mut changes: Changes) -> Result<(), Memory>
     requires sound { AreSound changes }
     requires given { (c : Place) → has same_place cells.now c ≡ false → map.get changes c ≡ None }
-    ensures ok { OnOk result (Becomes store.old (λ c. changed (map.get changes c) (map.get store.old.cells c)) store.new) }
+    ensures ok { OnOk result
+        (Becomes store.old (λ c. changed (map.get changes c) (map.get store.old.cells c)) store.new) }
     ensures err { OnErr result (store.new ≡ store.old) }
 {
     grow(store, cells, &changes)?;
@@ -175,6 +191,7 @@ pub fn change_cells(store: &mut Store, cells: &[Cell], mut changes: Changes) -> 
     Ok(())
 }
 
+// Whether the store has a formula in the cell.
 fn holds_formula(store: &Store, cell: Cell) -> bool
     ensures { result ≡ is_formula_at store.now cell }
 {
@@ -184,13 +201,19 @@ fn holds_formula(store: &Store, cell: Cell) -> bool
     }
 }
 
+// The graph takes the offer of a cell that has its state, and the cell stays dirty only with a formula.
 fn settle_at(store: &Store, graph: &mut Graph, dirty: &mut CellSet, cell: Cell)
     requires { IsOffered graph.old store.now cell }
     ensures here { map.get graph.new.formulas cell ≡ node_of (formula_at store.now cell) cell }
-    ensures offer { (map.get graph.new.offers cell ≡ None) ⊎ (map.get graph.new.offers cell ≡ map.get graph.old.offers cell) }
-    ensures formulas { (c : Place) → same_place c cell ≡ false → map.get graph.new.formulas c ≡ map.get graph.old.formulas c }
+    ensures offer { (map.get graph.new.offers cell ≡ None)
+        ⊎ (map.get graph.new.offers cell ≡ map.get graph.old.offers cell) }
+    ensures formulas { (c : Place) → same_place c cell ≡ false →
+        map.get graph.new.formulas c ≡ map.get graph.old.formulas c }
     ensures offers { (c : Place) → same_place c cell ≡ false → map.get graph.new.offers c ≡ map.get graph.old.offers c }
-    ensures dirty { (c : Place) → has same_place dirty.new.keys c ≡ cond (same_place c cell) (has same_place dirty.old.keys c && is_formula_at store.now c) (has same_place dirty.old.keys c) }
+    ensures dirty { (c : Place) →
+        has same_place dirty.new.keys c
+        ≡ cond (same_place c cell) (has same_place dirty.old.keys c && is_formula_at store.now c)
+        (has same_place dirty.old.keys c) }
 {
     let holds_formula = holds_formula(store, cell);
     settle(graph, dirty, cell, holds_formula);
@@ -199,9 +222,13 @@ fn settle_at(store: &Store, graph: &mut Graph, dirty: &mut CellSet, cell: Cell)
 // The graph and the dirty set take what was prepared for cells that have their states. It takes no memory.
 fn settle_all(store: &Store, graph: &mut Graph, dirty: &mut CellSet, cells: &[Cell])
     requires offered { (c : Place) → has same_place cells.now c ≡ true → IsOffered graph.old store.now c }
-    requires others { (c : Place) → has same_place cells.now c ≡ false → map.get graph.old.formulas c ≡ node_of (formula_at store.now c) c }
+    requires others { (c : Place) → has same_place cells.now c ≡ false →
+        map.get graph.old.formulas c ≡ node_of (formula_at store.now c) c }
     ensures matches { Matches graph.new store.now }
-    ensures dirty { (c : Place) → has same_place dirty.new.keys c ≡ cond (has same_place cells.now c) (has same_place dirty.old.keys c && is_formula_at store.now c) (has same_place dirty.old.keys c) }
+    ensures dirty { (c : Place) →
+        has same_place dirty.new.keys c
+        ≡ cond (has same_place cells.now c) (has same_place dirty.old.keys c && is_formula_at store.now c)
+        (has same_place dirty.old.keys c) }
 {
     for cell in cells {
         settle_at(store, graph, dirty, *cell);
@@ -217,9 +244,13 @@ fn prepare_all(
     changes: &Changes,
 ) -> Result<(), Memory>
     ensures formulas { graph.new.formulas ≡ graph.old.formulas }
-    ensures offers { OnOk result ((c : Place) → has same_place cells.now c ≡ true → map.get graph.new.offers c ≡ node_given (map.get changes.now c) c) }
+    ensures offers { OnOk result
+        ((c : Place) → has same_place cells.now c ≡ true →
+        map.get graph.new.offers c ≡ node_given (map.get changes.now c) c) }
     ensures extends { Extends dirty.old.keys dirty.new.keys }
-    ensures dirty { OnOk result (WithReached graph.old cells.now (λ c. has same_place cells.now c && gives_formula (map.get changes.now c)) dirty.old.keys dirty.new.keys) }
+    ensures dirty { OnOk result
+        (WithReached graph.old cells.now (λ c. has same_place cells.now c && gives_formula (map.get changes.now c))
+        dirty.old.keys dirty.new.keys) }
     ensures beside { OnOk result (IsKeptBeside changes.now store.old store.new) }
     ensures room { OnOk result (HaveRoom changes.now (has same_place cells.now) store.new) }
     ensures err { OnErr result (store.new ≡ store.old) }
@@ -245,8 +276,11 @@ pub fn write_cells(
     requires given { (c : Place) → has same_place cells.now c ≡ false → map.get changes c ≡ None }
     requires matches { Matches graph.old store.old }
     requires only { (c : Place) → has same_place dirty.old.keys c ≡ true → is_formula_at store.old c ≡ true }
-    ensures store { OnOk result (Becomes store.old (λ c. changed (map.get changes c) (map.get store.old.cells c)) store.new) }
-    ensures dirty { OnOk result (AreDirtied store.new (has same_place dirty.old.keys) (has same_place cells.now) (has same_place dirty.new.keys)) }
+    ensures store { OnOk result
+        (Becomes store.old (λ c. changed (map.get changes c) (map.get store.old.cells c)) store.new) }
+    ensures dirty { OnOk result
+        (AreDirtied store.new (has same_place dirty.old.keys) (has same_place cells.now)
+        (has same_place dirty.new.keys)) }
     ensures matches { Matches graph.new store.new }
     ensures store_err { OnErr result (store.new ≡ store.old) }
     ensures dirty_err { OnErr result (dirty.new.keys ≡ dirty.old.keys) }

@@ -25,7 +25,9 @@ fn format_after(store: &Store, changes: &Changes, cell: Cell) -> Format
 
 // The state that a write gives its cell after the changes.
 fn write_state(store: &Store, changes: &Changes, write: &Write) -> Result<CellState, Memory>
-    ensures { IfOk result (λ s. s ≡ write_state write.now (changed (map.get changes.now write.now.cell) (map.get store.now.cells write.now.cell))) }
+    ensures { IfOk result
+        (λ s. s ≡ write_state write.now
+        (changed (map.get changes.now write.now.cell) (map.get store.now.cells write.now.cell))) }
 {
     let content = write.content.copy()?;
     let value = first_value(&content)?;
@@ -48,7 +50,10 @@ fn gather(
     changes: &mut Changes,
 ) -> Result<(), Memory>
     ensures cells { OnOk result (cells.new ≡ cells.old ++ write.now.cell ∷ []) }
-    ensures changes { OnOk result (changes.new ≡ map.insert changes.old write.now.cell (write_state write.now (changed (map.get changes.old write.now.cell) (map.get store.now.cells write.now.cell)))) }
+    ensures changes { OnOk result
+        (changes.new ≡ map.insert changes.old write.now.cell
+        (write_state write.now
+        (changed (map.get changes.old write.now.cell) (map.get store.now.cells write.now.cell)))) }
 {
     let state = write_state(store, changes, write)?;
     changes.set(write.cell, state)?;
