@@ -16,6 +16,12 @@ use natural_recalc::format_of;
 use sheet_store::{CellState, Settings, Store};
 use std::alloc::Global;
 
+// The rows of the sheet.
+const ROWS: u16 = 8192;
+
+// The columns of the sheet.
+const COLUMNS: u16 = 256;
+
 /// The cell at the top left of a span.
 pub fn first_of(span: Span) -> Cell
     ensures { result ≡ span.first }
@@ -25,9 +31,11 @@ pub fn first_of(span: Span) -> Cell
 
 // As many cells of a row, from a column on.
 fn put_row(cells: &mut CellList, row: u16, first: u8, count: u16) -> Result<(), Memory>
-    requires row { row < 8192 }
-    requires count { first + count ≤ 256 }
-    ensures { OnOk result ((c : Place) → has same_place cells.new c ≡ (has same_place cells.old c || (nat_eq c.row row && in_columns first count c))) }
+    requires row { row < ROWS }
+    requires count { first + count ≤ COLUMNS }
+    ensures { OnOk result
+        ((c : Place) → has same_place cells.new c
+        ≡ (has same_place cells.old c || (nat_eq c.row row && in_columns first count c))) }
 {
     for place in 0..count {
         let col = (u16::from(first) + place) as u8;
@@ -39,8 +47,8 @@ fn put_row(cells: &mut CellList, row: u16, first: u8, count: u16) -> Result<(), 
 // As many rows of as many cells, from a cell on.
 fn put_rows(cells: &mut CellList, row: u16, col: u8, rows: u16, cols: u16) -> Result<(), Memory>
     requires empty { cells.old ≡ [] }
-    requires rows { row + rows ≤ 8192 }
-    requires cols { col + cols ≤ 256 }
+    requires rows { row + rows ≤ ROWS }
+    requires cols { col + cols ≤ COLUMNS }
     ensures { OnOk result ((c : Place) → has same_place cells.new c ≡ (in_rows row rows c && in_columns col cols c)) }
 {
     for place in 0..rows {
@@ -114,7 +122,8 @@ fn erase_at(changes: &mut Changes, store: &Store, cell: Cell) -> Result<(), Memo
 
 /// Blank states for the cells that are there.
 pub fn erased(store: &Store, cells: &[Cell]) -> Result<Changes, Memory>
-    ensures given { IfOk result (λ m. AreGiven m (has same_place cells.now) (λ c. blanked (map.get store.now.cells c))) }
+    ensures given { IfOk result
+        (λ m. AreGiven m (has same_place cells.now) (λ c. blanked (map.get store.now.cells c))) }
     ensures sound { IfOk result AreSound }
 {
     let mut changes = Changes::new(store.alloc());
@@ -169,7 +178,9 @@ fn source_of(from: Span, first: Cell, cell: Cell) -> Cell
 /// What the cells of a copy's written span are given, whose first cell is named. All is read before a cell is written.
 pub fn copied(store: &Store, from: Span, first: Cell, cells: &[Cell]) -> Result<Changes, Memory>
     requires { (c : Place) → has same_place cells.now c ≡ true → (first.row ≤ c.row) × (first.col ≤ c.col) }
-    ensures given { IfOk result (λ m. AreGiven m (has same_place cells.now) (λ c. Some (copied_state (map.get store.now.cells (source_of from first c))))) }
+    ensures given { IfOk result
+        (λ m. AreGiven m (has same_place cells.now)
+        (λ c. Some (copied_state (map.get store.now.cells (source_of from first c))))) }
     ensures sound { IfOk result AreSound }
 {
     // The store is asked for what it keeps of its cells.
@@ -182,14 +193,15 @@ pub fn copied(store: &Store, from: Span, first: Cell, cells: &[Cell]) -> Result<
     Ok(changes)
 }
 
+// As many rows and columns from a cell on, where they lie in the sheet.
 fn block_at(first: Cell, rows: u16, cols: u16) -> Option<Span>
-    requires rows { (1 ≤ rows) × (rows ≤ 8192) }
-    requires cols { (1 ≤ cols) × (cols ≤ 256) }
+    requires rows { (1 ≤ rows) × (rows ≤ ROWS) }
+    requires cols { (1 ≤ cols) × (cols ≤ COLUMNS) }
     ensures { result ≡ block_at first rows cols }
 {
     let row = first.row + (rows - 1);
     let col = u16::from(first.col) + (cols - 1);
-    if row > 8191 || col > 255 {
+    if row >= ROWS || col >= COLUMNS {
         return None;
     }
     let last = Cell {
@@ -199,6 +211,7 @@ fn block_at(first: Cell, rows: u16, cols: u16) -> Option<Span>
     Some(Span { first, last })
 }
 
+// The written length of a copy in one direction: a source of one repeats along its target.
 fn repeated(from: u16, to: u16) -> u16
     ensures { result ≡ repeated from to }
 {
@@ -221,6 +234,7 @@ pub enum FormatChange {
     Mark(bool),
 }
 
+// The format byte after a change.
 fn reformat(change: FormatChange, format: Format) -> Format
     requires { HasCode change }
     ensures { result.0 ≡ rule_of change format.0 }
@@ -232,6 +246,7 @@ fn reformat(change: FormatChange, format: Format) -> Format
     }
 }
 
+// A cell's state in another format, blank where the store has none.
 fn reformatted_state(store: &Store, cell: Cell, change: FormatChange) -> Result<CellState, Memory>
     requires { HasCode change }
     ensures { IfOk result (λ s. s ≡ reformatted_state (rule_of change) (map.get store.now.cells cell)) }
@@ -249,7 +264,9 @@ fn reformatted_state(store: &Store, cell: Cell, change: FormatChange) -> Result<
 /// The cells' states in other formats.
 pub fn reformatted(store: &Store, change: FormatChange, cells: &[Cell]) -> Result<Changes, Memory>
     requires { HasCode change }
-    ensures given { IfOk result (λ m. AreGiven m (has same_place cells.now) (λ c. Some (reformatted_state (rule_of change) (map.get store.now.cells c)))) }
+    ensures given { IfOk result
+        (λ m. AreGiven m (has same_place cells.now)
+        (λ c. Some (reformatted_state (rule_of change) (map.get store.now.cells c)))) }
     ensures sound { IfOk result AreSound }
     ensures held { AreHeld store.now.cells }
 {
