@@ -17,6 +17,7 @@ pub record Sheet : Type 0 where
   pub names : NameMap
   pub settings : Choices
 
+-- a sheet is coded as its parts, one after the other
 abbrev pub coded_sheet : Coded Sheet
 coded_sheet = code_by (Grid × (Bool × (Bool × (NameMap × Choices))))
     (coded× coded_grid (coded× coded_bool (coded× coded_bool (coded× coded_names (settings.the_row).coded))))

@@ -29,6 +29,7 @@ pub record Worksheet : Type 0 where
   pub names : NameMap
   pub settings : Choices
 
+-- a worksheet is coded as its parts, one after the other
 abbrev pub coded_worksheet : Coded Worksheet
 coded_worksheet = code_by (Grid × (List Place × (Bool × (Bool × (NameMap × Choices)))))
     (coded× coded_grid (coded× (coded_list coded_place)

@@ -7,8 +7,8 @@ use Rattle.natural_recalc.specs.Spans.{span_order}
 use Rattle.work_sheet.specs.Doing.{context_in, swept, Done}
 use Rattle.work_sheet.specs.Seen.{Sheet}
 
--- Every formula of a span is evaluated once, by column and then by row or by row and then by column. What else is kept of
--- the sheet stays: whether a circle is told, and whether a recalculation is wanted.
+-- Every formula of a span is evaluated once, by column and then by row or by row and then by column. What else is kept
+-- of the sheet stays: whether a circle is told, and whether a recalculation is wanted.
 abbrev pub span_recalculated : Meaning → Scene → Extent → Bool → Sheet → Done
 span_recalculated mean scene span by_columns s = record {
   sheet = record s { grid = pass mean (context_in scene s) (span_order by_columns span s.grid) s.grid };

@@ -17,6 +17,7 @@ pub record Work : Type 0 where
   pub dirty : List Place
   pub count : ℕ
 
+-- the work is coded as its list and its count
 abbrev pub coded_work : Coded Work
 coded_work = code_by (List Place × ℕ) (coded× (coded_list coded_place) coded_ℕ)
     (λ w. (w.dirty, w.count)) (λ p. record { dirty = p.0; count = p.1 }) (λ _. refl)
