@@ -33,7 +33,7 @@ use depend_graph::Graph;
 use formula_eval::{Look, Means, Scene, Tally};
 use formula_tree::{Content, Value};
 use grid_address::{Cell, CellList, Format, Span};
-use lics_text::{Line, Memory};
+use lics_text::{Line, MAX_LEN, Memory};
 use natural_recalc::{
     Missing, View, all_dirty, content_of, format_of, graph_of, recalc, recalc_span, value_of,
     width_of,
@@ -47,6 +47,9 @@ use sheet_shifts::{Shift, names_after, refusal, store_after};
 use sheet_store::{CellState, Order, SavedSheet, Settings, SheetFault, Store, Writes, is_formula};
 use std::alloc::Global;
 use std::marker::{Model, PhantomData};
+
+/// The widest that a column can be.
+pub const MOST_WIDTH: u8 = 240;
 
 /// A sheet over an evaluator: its cells and columns, its names and its settings. It keeps which formulas are dirty, so
 /// that a recalculation evaluates those alone: a formula that isn't dirty has its meaning as its value.
@@ -73,7 +76,14 @@ impl<E: Means> Model for SheetOf<E> {
 
     ghost coded = { coded_worksheet };
 
-    ghost view = { λ s. record { grid = s.store; dirty = s.dirty.keys; circular = s.circular; stale = s.stale; names = s.names; settings = s.settings } };
+    ghost view = { λ s. record {
+      grid = s.store;
+      dirty = s.dirty.keys;
+      circular = s.circular;
+      stale = s.stale;
+      names = s.names;
+      settings = s.settings;
+    } };
 
     ghost invariant = { λ s. IsKept E.meaning s.graph s.store s.dirty.keys s.settings.order };
 }
@@ -99,7 +109,8 @@ impl<E: Means> SheetOf<E> {
 
     /// The sheet that was saved. All its formulas are dirty; it has no circle told, and no change made.
     pub fn restore(saved: SavedSheet) -> Result<Self, Memory>
-        ensures { IfOk result (λ s. (before : Worksheet) → DidEdit (restored saved.store saved.names saved.settings) before s) }
+        ensures { IfOk result
+            (λ s. (before : Worksheet) → DidEdit (restored saved.store saved.names saved.settings) before s) }
     {
         let graph = graph_of(&saved.store)?;
         let dirty = all_dirty(&saved.store)?;
@@ -186,7 +197,8 @@ impl<E: Means> SheetOf<E> {
     /// whatever the moment, the pointer, the names and the settings are. In another order than the natural one all
     /// formulas are dirty.
     pub fn is_kept(&self)
-        ensures sound { (x : Context) → recalculation.IsSound E.meaning x self.now.grid (has same_place self.now.dirty) }
+        ensures sound { (x : Context) →
+            recalculation.IsSound E.meaning x self.now.grid (has same_place self.now.dirty) }
         ensures all { AllDirtyIn self.now.settings.order self.now.grid self.now.dirty }
     {
         let _ = &self.dirty;
@@ -228,8 +240,8 @@ impl<E: Means> SheetOf<E> {
     /// before, and the answer tells whether that is all.
     pub fn text_of(&self, cell: Cell, into: &mut Line) -> bool
         requires { into.old ≡ [] }
-        ensures line { into.new ≡ take 240 (typed self.now.names self.now.grid cell) }
-        ensures whole { result ≡ nat_le (length (typed self.now.names self.now.grid cell)) 240 }
+        ensures line { into.new ≡ take MAX_LEN (typed self.now.names self.now.grid cell) }
+        ensures whole { result ≡ nat_le (length (typed self.now.names self.now.grid cell)) MAX_LEN }
     {
         text_of(&self.store, &self.names, cell, into)
     }
@@ -244,7 +256,7 @@ impl<E: Means> SheetOf<E> {
     /// A column's own width, where it has one.
     pub fn own_width(&self, col: u8) -> Option<u8>
         ensures width { result ≡ width_of self.now.grid col }
-        ensures within { ForSome result (λ n. (1 ≤ n) × (n ≤ 240)) }
+        ensures within { ForSome result (λ n. (1 ≤ n) × (n ≤ MOST_WIDTH)) }
     {
         self.store.width(col)
     }
@@ -258,7 +270,7 @@ impl<E: Means> SheetOf<E> {
 
     /// Gives a column a width of its own, 1 to 240, or takes it away.
     pub fn set_width(&mut self, col: u8, width: Option<u8>)
-        requires { ForSome width (λ n. (1 ≤ n) × (n ≤ 240)) }
+        requires { ForSome width (λ n. (1 ≤ n) × (n ≤ MOST_WIDTH)) }
         ensures { DidEdit (with_width col width) self.old self.new }
     {
         self.store.set_width(col, width);
@@ -275,7 +287,8 @@ impl<E: Means> SheetOf<E> {
     /// `Names::create` says.
     pub fn create_name(&mut self, name: &[u8], span: Span) -> Result<(), NameFault>
         ensures valid { OnOk result (fault_of name.now ≡ None) }
-        ensures did { OnOk result (DidEdit (with_names (map.insert self.old.names (key_of name.now) span)) self.old self.new) }
+        ensures did { OnOk result
+            (DidEdit (with_names (map.insert self.old.names (key_of name.now) span)) self.old self.new) }
         ensures kept { OnErr result (self.new ≡ self.old) }
         ensures err { IfErr result (λ fault. (fault ≡ cause.Memory) ⊎ (fault_of name.now ≡ Some fault)) }
     {
@@ -286,9 +299,13 @@ impl<E: Means> SheetOf<E> {
     /// Takes a name away. The sheet is unchanged where it is refused, as `Names::delete` says.
     pub fn delete_name(&mut self, name: &[u8]) -> Result<(), NameFault>
         ensures valid { OnOk result (fault_of name.now ≡ None) }
-        ensures did { OnOk result (DidEdit (with_names (map.remove self.old.names (key_of name.now))) self.old self.new) }
+        ensures did { OnOk result
+            (DidEdit (with_names (map.remove self.old.names (key_of name.now))) self.old self.new) }
         ensures kept { OnErr result (self.new ≡ self.old) }
-        ensures err { IfErr result (λ fault. (fault_of name.now ≡ Some fault) ⊎ ((fault_of name.now ≡ None) × (fault ≡ cause.Absent) × (map.get self.old.names (key_of name.now) ≡ None))) }
+        ensures err { IfErr result
+            (λ fault. (fault_of name.now ≡ Some fault)
+            ⊎ ((fault_of name.now ≡ None) × (fault ≡ cause.Absent)
+            × (map.get self.old.names (key_of name.now) ≡ None))) }
     {
         self.names.delete(name)?;
         Ok(())
@@ -360,7 +377,9 @@ impl<E: Means> SheetOf<E> {
         scene: &Scene,
         tally: &mut E,
     ) -> Result<(), SheetFault>
-        ensures did { OnOk result (Did (put E.meaning scene.entry.now cell content (of_worksheet self.old)) self.old self.new (E.count tally.old) (E.count tally.new)) }
+        ensures did { OnOk result
+            (Did (put E.meaning scene.entry.now cell content (of_worksheet self.old)) self.old self.new
+            (E.count tally.old) (E.count tally.new)) }
         ensures err { OnErr result (self.new ≡ self.old) }
         ensures fault { IsFaultOf (is_protected self.old.settings self.old.grid cell) cell result }
     {
@@ -395,8 +414,11 @@ impl<E: Means> SheetOf<E> {
         requires sound { AreSound changes }
         requires given { (c : Place) → has same_place cells.now c ≡ false → map.get changes c ≡ None }
         ensures answer { IsAnswered self.old.settings self.old.grid (has same_place cells.now) result }
-        ensures grid { OnOk result (Becomes self.old.grid (λ c. changed (map.get changes c) (map.get self.old.grid.cells c)) self.new.grid) }
-        ensures dirty { OnOk result (AreDirtied self.new.grid (has same_place self.old.dirty) (has same_place cells.now) (has same_place self.new.dirty)) }
+        ensures grid { OnOk result
+            (Becomes self.old.grid (λ c. changed (map.get changes c) (map.get self.old.grid.cells c)) self.new.grid) }
+        ensures dirty { OnOk result
+            (AreDirtied self.new.grid (has same_place self.old.dirty) (has same_place cells.now)
+            (has same_place self.new.dirty)) }
         ensures distinct { OnOk result (IsDistinct same_place self.new.dirty) }
         ensures stale { OnOk result (self.new.stale ≡ true) }
         ensures beside { SameBeside self.old self.new }
@@ -444,8 +466,10 @@ impl<E: Means> SheetOf<E> {
     /// the first written cell that is protected. The sheet is unchanged where the edit is refused.
     pub fn copy_span(&mut self, from: Span, to: Span) -> Result<(), SheetFault>
         ensures outside { target_of from to ≡ None → result ≡ Err (faults.OutOfSheet from) }
-        ensures answer { ForSome (target_of from to) (λ target. IsAnswered self.old.settings self.old.grid (is_within target) result) }
-        ensures did { OnOk result (ForSome (target_of from to) (λ target. DidEdit (copied from target) self.old self.new)) }
+        ensures answer { ForSome (target_of from to)
+            (λ target. IsAnswered self.old.settings self.old.grid (is_within target) result) }
+        ensures did { OnOk result
+            (ForSome (target_of from to) (λ target. DidEdit (copied from target) self.old self.new)) }
         ensures err { OnErr result (self.new ≡ self.old) }
     {
         let Some(target) = target_of(from, to) else {
@@ -486,11 +510,11 @@ impl<E: Means> SheetOf<E> {
         }
     }
 
-    /// Moves cells: rows or columns are inserted or deleted, or a span is moved. References, names and what columns have
-    /// of their own follow, and all formulas become dirty. `OutOfSheet` carries the moved span that would leave the sheet;
-    /// then `Protected` names the first line's first cell, or the first cell of the span and of its target that is
-    /// protected, where protection is on; then `PushedOff` names the first filled cell that would leave the sheet. The
-    /// sheet is unchanged where the edit is refused.
+    /// Moves cells: rows or columns are inserted or deleted, or a span is moved. References, names and what columns
+    /// have of their own follow, and all formulas become dirty. `OutOfSheet` carries the moved span that would leave
+    /// the sheet; then `Protected` names the first line's first cell, or the first cell of the span and of its target
+    /// that is protected, where protection is on; then `PushedOff` names the first filled cell that would leave the
+    /// sheet. The sheet is unchanged where the edit is refused.
     pub fn shift(&mut self, shift: &Shift) -> Result<(), SheetFault>
         requires { AreInSheet shift.now }
         ensures fault { IsRefusedBy (refusal self.old.settings self.old.grid.cells shift.now) result }
@@ -559,8 +583,12 @@ impl<E: Means> SheetOf<E> {
     /// Recalculates in the order of the settings, with as many passes. In the natural order, where no formula is
     /// volatile and none reaches itself, the value of each is then its meaning.
     pub fn calc(&mut self, scene: &Scene, tally: &mut E) -> Result<(), Memory>
-        ensures did { OnOk result (Did (recalculated E.meaning scene.entry.now (of_worksheet self.old)) self.old self.new (E.count tally.old) (E.count tally.new)) }
-        ensures right { OnOk result (self.old.settings.order ≡ orders.Natural → IsPlain self.old.grid → IsRight E.meaning (context_in scene.entry.now (of_worksheet self.old)) self.new.grid) }
+        ensures did { OnOk result
+            (Did (recalculated E.meaning scene.entry.now (of_worksheet self.old)) self.old self.new (E.count tally.old)
+            (E.count tally.new)) }
+        ensures right { OnOk result
+            (self.old.settings.order ≡ orders.Natural → IsPlain self.old.grid →
+            IsRight E.meaning (context_in scene.entry.now (of_worksheet self.old)) self.new.grid) }
         ensures contents { SameContents self.old.grid self.new.grid }
         ensures err { OnErr result (self.new ≡ record self.old { grid = self.new.grid }) }
     {
@@ -581,8 +609,8 @@ impl<E: Means> SheetOf<E> {
         Ok(())
     }
 
-    /// Evaluates each formula of a span once over the values as they then stand, by column and then by row or by row and
-    /// then by column. Formulas that aren't dirty have their meaning already, so only the dirty ones are evaluated;
+    /// Evaluates each formula of a span once over the values as they then stand, by column and then by row or by row
+    /// and then by column. Formulas that aren't dirty have their meaning already, so only the dirty ones are evaluated;
     /// these stay dirty, and the circle and the mark of a change stay. (Release 2 manual for the two orders.)
     pub fn recalc_span(
         &mut self,
@@ -591,7 +619,9 @@ impl<E: Means> SheetOf<E> {
         scene: &Scene,
         tally: &mut E,
     ) -> Result<(), Memory>
-        ensures did { OnOk result (Did (span_recalculated E.meaning scene.entry.now span by_columns (of_worksheet self.old)) self.old self.new (E.count tally.old) (E.count tally.new)) }
+        ensures did { OnOk result
+            (Did (span_recalculated E.meaning scene.entry.now span by_columns (of_worksheet self.old)) self.old self.new
+            (E.count tally.old) (E.count tally.new)) }
         ensures contents { SameContents self.old.grid self.new.grid }
         ensures err { OnErr result (self.new ≡ record self.old { grid = self.new.grid }) }
     {

@@ -8,15 +8,18 @@ use fixed_value::{Fixed, write_short};
 use formula_text::print;
 use formula_tree::Content;
 use grid_address::Cell;
-use lics_text::{LabelPrefix, Line, Text};
+use lics_text::{LabelPrefix, Line, MAX_LEN, Text};
 use range_names::Names;
 use sheet_store::Store;
+
+// As many bytes of a label have room beside its prefix.
+const MOST_OF_LABEL: usize = 239;
 
 // A number with the places that it needs, which is never longer than a line.
 fn put_number(number: Fixed, into: &mut Line) -> bool
     requires { into.old ≡ [] }
-    ensures line { into.new ≡ take 240 (short number 6) }
-    ensures whole { result ≡ nat_le (length (short number 6)) 240 }
+    ensures line { into.new ≡ take MAX_LEN (short number 6) }
+    ensures whole { result ≡ nat_le (length (short number 6)) MAX_LEN }
 {
     let digits = write_short(number, 6);
     into.put_all(digits.bytes());
@@ -26,21 +29,21 @@ fn put_number(number: Fixed, into: &mut Line) -> bool
 // A label's prefix and its text; of a text of 240 bytes the last one has no room.
 fn put_label(prefix: LabelPrefix, text: &Text, into: &mut Line) -> bool
     requires { into.old ≡ [] }
-    ensures line { into.new ≡ take 240 (prefix_byte prefix ∷ text.now) }
-    ensures whole { result ≡ nat_le (length (prefix_byte prefix ∷ text.now)) 240 }
+    ensures line { into.new ≡ take MAX_LEN (prefix_byte prefix ∷ text.now) }
+    ensures whole { result ≡ nat_le (length (prefix_byte prefix ∷ text.now)) MAX_LEN }
 {
     let bytes = text.bytes();
-    let room = bytes.len().min(239);
+    let room = bytes.len().min(MOST_OF_LABEL);
     let _ = into.put(prefix.byte());
     into.put_all(&bytes[..room]);
-    bytes.len() <= 239
+    bytes.len() <= MOST_OF_LABEL
 }
 
 // A content as it would be typed.
 fn put_content(content: &Content, cell: Cell, names: &Names, into: &mut Line) -> bool
     requires { into.old ≡ [] }
-    ensures line { into.new ≡ take 240 (typed_content names.now cell content.now) }
-    ensures whole { result ≡ nat_le (length (typed_content names.now cell content.now)) 240 }
+    ensures line { into.new ≡ take MAX_LEN (typed_content names.now cell content.now) }
+    ensures whole { result ≡ nat_le (length (typed_content names.now cell content.now)) MAX_LEN }
 {
     match content {
         Content::Blank => true,
@@ -53,8 +56,8 @@ fn put_content(content: &Content, cell: Cell, names: &Names, into: &mut Line) ->
 // The first 240 bytes of what a cell holds; the answer tells whether that is all.
 pub fn text_of(store: &Store, names: &Names, cell: Cell, into: &mut Line) -> bool
     requires { into.old ≡ [] }
-    ensures line { into.new ≡ take 240 (typed names.now store.now cell) }
-    ensures whole { result ≡ nat_le (length (typed names.now store.now cell)) 240 }
+    ensures line { into.new ≡ take MAX_LEN (typed names.now store.now cell) }
+    ensures whole { result ≡ nat_le (length (typed names.now store.now cell)) MAX_LEN }
 {
     match store.get(cell) {
         Some(state) => put_content(&state.content, cell, names, into),
