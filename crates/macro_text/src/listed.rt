@@ -7,7 +7,7 @@ ghost use Rattle.macro_text.specs.Texts.{part as part_of};
 use crate::TextList;
 use crate::pieces::part;
 use key_words::{Arguments, Cut};
-use lics_text::{Memory, Text};
+use lics_text::{MAX_LEN, Memory, Text};
 use std::alloc::Global;
 
 // Whether a byte parts arguments.
@@ -31,7 +31,7 @@ fn depth_behind(depth: usize, byte: u8) -> usize
 
 // The first separator outside quotes and brackets.
 fn separator(mut bytes: &[u8], mut quoted: bool) -> Option<usize>
-    requires { length bytes.now ≤ 240 }
+    requires { length bytes.now ≤ MAX_LEN }
     ensures place { result ≡ spec.separator_from 0 quoted 0 bytes.entry.now }
     ensures within { IfSome result (λ place. place < length bytes.entry.now) }
 {
@@ -87,7 +87,7 @@ fn push_copy(alloc: Global, list: &mut TextList, bytes: &[u8]) -> Result<(), Mem
 // The arguments that bytes list, which begin inside quotes or not.
 fn split(alloc: Global, bytes: &[u8], quoted: bool) -> Result<TextList, Memory>
     requires text { IsText bytes.now }
-    requires short { length bytes.now ≤ 240 }
+    requires short { length bytes.now ≤ MAX_LEN }
     ensures { IfOk result (λ l. l ≡ spec.split_from quoted 0 bytes.now) }
 {
     let mut list = TextList::new(alloc);
