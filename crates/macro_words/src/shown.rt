@@ -20,7 +20,7 @@ static STARS: [u8; MAX_LEN] = [b'*'; MAX_LEN];
 // Adds so many blanks.
 #[tactic(auto, using(crate::proofs::Showing::blanks_front))]
 fn put_blanks(count: usize, into: &mut Line)
-    requires { length into.old + count ≤ 240 }
+    requires { length into.old + count ≤ MAX_LEN }
     ensures { into.new ≡ into.old ++ replicate count 32 }
 {
     into.put_all(&BLANKS[..count]);
@@ -29,7 +29,7 @@ fn put_blanks(count: usize, into: &mut Line)
 // Adds so many stars.
 #[tactic(auto, using(crate::proofs::Showing::stars_front))]
 fn put_stars(count: usize, into: &mut Line)
-    requires { length into.old + count ≤ 240 }
+    requires { length into.old + count ≤ MAX_LEN }
     ensures { into.new ≡ into.old ++ replicate count 42 }
 {
     into.put_all(&STARS[..count]);
@@ -38,7 +38,7 @@ fn put_stars(count: usize, into: &mut Line)
 // A word that ends one byte before the right edge, or stars.
 #[tactic(auto, using(crate::proofs::Showing::right_word))]
 fn put_word(word: &[u8], width: u8, into: &mut Line)
-    requires width { width ≤ 240 }
+    requires width { width ≤ MAX_LEN }
     requires empty { into.old ≡ [] }
     ensures { into.new ≡ placed (Some word.now) width }
 {
@@ -55,7 +55,7 @@ fn put_word(word: &[u8], width: u8, into: &mut Line)
 // A text that is cut or filled with blanks.
 #[tactic(auto, using(crate::proofs::Showing::text_padded))]
 fn put_padded(text: &[u8], width: u8, into: &mut Line)
-    requires width { width ≤ 240 }
+    requires width { width ≤ MAX_LEN }
     requires empty { into.old ≡ [] }
     ensures { into.new ≡ spec.padded width text.now }
 {
@@ -67,7 +67,7 @@ fn put_padded(text: &[u8], width: u8, into: &mut Line)
 
 // What a value shows.
 fn put_value(value: &Value, format: Format, width: u8, into: &mut Line)
-    requires width { width ≤ 240 }
+    requires width { width ≤ MAX_LEN }
     requires empty { into.old ≡ [] }
     ensures { into.new ≡ spec.shown_value value.now format.0 width }
 {
@@ -83,7 +83,7 @@ fn put_value(value: &Value, format: Format, width: u8, into: &mut Line)
 // A formula as it is printed.
 #[tactic(auto, using(crate::proofs::Showing::padded_front))]
 fn put_printed(formula: &Formula, cell: Cell, names: &Names, width: u8, into: &mut Line)
-    requires width { width ≤ 240 }
+    requires width { width ≤ MAX_LEN }
     requires empty { into.old ≡ [] }
     ensures { into.new ≡ spec.padded width (printed names.now cell formula.now) }
 {
@@ -94,7 +94,7 @@ fn put_printed(formula: &Formula, cell: Cell, names: &Names, width: u8, into: &m
 
 // What a content shows, in a format other than Hidden.
 fn put_content<K: Look>(look: &K, cell: Cell, format: Format, width: u8, into: &mut Line)
-    requires width { width ≤ 240 }
+    requires width { width ≤ MAX_LEN }
     requires empty { into.old ≡ [] }
     ensures { let sight = K.sight look.now in
         into.new ≡ spec.shown_content sight.names cell (sight.contents cell) (sight.values cell) format.0 width }
@@ -116,7 +116,7 @@ fn put_content<K: Look>(look: &K, cell: Cell, format: Format, width: u8, into: &
 
 // What a content shows, and nothing in the format Hidden.
 fn put_visible<K: Look>(look: &K, cell: Cell, format: Format, width: u8, into: &mut Line)
-    requires width { width ≤ 240 }
+    requires width { width ≤ MAX_LEN }
     requires empty { into.old ≡ [] }
     ensures { let sight = K.sight look.now in
         into.new ≡ spec.visible_content sight.names cell (sight.contents cell) (sight.values cell) format.0 width }
@@ -148,7 +148,7 @@ fn visible(byte: u8) -> u8
 
 // The text of bytes as they are shown.
 fn visible_text(alloc: Global, bytes: &[u8]) -> Result<Text, Memory>
-    requires { length bytes.now ≤ 240 }
+    requires { length bytes.now ≤ MAX_LEN }
     ensures { IfOk result (λ t. t ≡ map spec.visible bytes.now) }
 {
     let mut line = Line::new();
@@ -168,7 +168,7 @@ pub fn shown_cell<K: Look>(
     width: u8,
     own: Format,
 ) -> Result<Text, Memory>
-    requires { width ≤ 240 }
+    requires { width ≤ MAX_LEN }
     ensures { IfOk result (λ t. t ≡ spec.shown_cell (K.sight look.now) global.0 cell width own.0) }
 {
     let mut line = Line::new();
