@@ -7,10 +7,11 @@ use Rattle.std.specs.Map.{keys_of, lookup}
 use Rattle.std.proofs.Common.{sym, ◌∙◌, ap, inl, inr, arith, length-append}
 use Rattle.std.proofs.lemmas.Bool.{false≢true, cases_Bool, or_left, or_right}
 use Rattle.std.proofs.lemmas.Map.Made.{length-le_from_is_member}
+use Rattle.cell_numbers.specs.Sets.{has}
 use Rattle.grid_address.proofs.Maps.{get_lookup}
 use Rattle.grid_address.proofs.Places.{cells_total, place_tied, same_place_laws}
 use Rattle.grid_address.specs.Place.{place_cmp, same_place, Place}
-use Rattle.depend_graph.specs.Network.{has, holds, is_formula, reads, IsSpread, Network, Reaches, ReachesOneOf}
+use Rattle.depend_graph.specs.Network.{holds, is_formula, reads, IsSpread, Network, Reaches, ReachesOneOf}
 use Rattle.depend_graph.specs.Network.Reaches.{at_once, through}
 use Rattle.depend_graph.specs.Backward.{all}
 use Rattle.depend_graph.specs.Within.{Within}

@@ -8,13 +8,13 @@ use Rattle.std.proofs.lemmas.Bool.{and_parts, cases_Bool, false≢true, or_cases
 use Rattle.std.proofs.lemmas.Bool.Decides.{nat_tests}
 use Rattle.std.proofs.lemmas.List.{take-append-drop, take_more}
 use Rattle.std.proofs.lemmas.List.Folds.{list_any-append}
+use Rattle.cell_numbers.specs.Sets.{has}
 use Rattle.grid_address.proofs.Places.{get_inserted, same_place_is, same_place_itself}
 use Rattle.grid_address.specs.Place.{is_within, place_cmp, same_place, Extent, Place}
 use Rattle.range_index.specs.Owners.{hold}
 use Rattle.depend_graph.proofs.Placed.{get_placed}
 use Rattle.depend_graph.specs.Banks.{is_one}
 use Rattle.depend_graph.specs.Lists.{items_in, list_at, AreInLists, AreKept, IsInLists, IsInListsOf, IsListed, Lists}
-use Rattle.depend_graph.specs.Network.{has}
 use Rattle.depend_graph.specs.Slots.{filled, offering, placed, turned, turned_to, without_node, without_offer, Slots}
 use Rattle.depend_graph.specs.declared.node.Node.{Node}
 use Rattle.depend_graph.specs.declared.slots.Slot.{Slot}

@@ -4,9 +4,10 @@ use Rattle.std.proofs.Common.{sym, ◌∙◌, ap, subst, refl, inl, inr, arith, 
 use Rattle.std.proofs.lemmas.Bool.{or_cases}
 use Rattle.std.proofs.lemmas.List.{length-drop, take_all}
 use Rattle.cell_numbers.specs.Numbers.{number_at}
+use Rattle.cell_numbers.specs.Sets.{has}
 use Rattle.grid_address.proofs.Places.{same_place_is, same_place_itself}
 use Rattle.grid_address.specs.Place.{same_place, InSheet, Place}
-use Rattle.depend_graph.specs.Network.{has, Network}
+use Rattle.depend_graph.specs.Network.{Network}
 use Rattle.depend_graph.specs.InOrder.{AreMarked, GoesInOrder, StandsFirst}
 
 pub whole_rest : (cells : List Place) (n : ℕ) → take (length cells - n) (drop n cells) ≡ drop n cells

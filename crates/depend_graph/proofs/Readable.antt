@@ -4,12 +4,13 @@ use Rattle.std.specs.FinMap.{get}
 use Rattle.std.specs.List.{filter}
 use Rattle.std.proofs.Common.{sym, ◌∙◌, ap, inl, inr, ◌⊎◌}
 use Rattle.std.proofs.lemmas.Bool.{true≢false, or_cases, or_left, or_right}
+use Rattle.cell_numbers.specs.Sets.{has}
 use Rattle.grid_address.specs.Place.{is_within, Extent, Place}
 use Rattle.range_index.proofs.Listed.{owner_told}
 use Rattle.range_index.specs.Owners.{hold, owners_of, Owners}
 use Rattle.depend_graph.specs.Banks.{is_one, spans_at, wide}
 use Rattle.depend_graph.specs.Lists.{list_at, AreInLists, IsInListsOf, Lists}
-use Rattle.depend_graph.specs.Network.{has, holds}
+use Rattle.depend_graph.specs.Network.{holds}
 use Rattle.depend_graph.specs.Slots.{had, node_in, AreRegistered, Slots, Stands}
 use Rattle.depend_graph.specs.declared.node.Node.{Node}
 use Rattle.depend_graph.specs.declared.slots.Slot.{Slot}

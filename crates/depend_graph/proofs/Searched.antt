@@ -5,10 +5,11 @@ use Rattle.std.specs.List.{AllByRecursion, IsDistinct}
 use Rattle.std.proofs.lemmas.Bool.{true≢false, false≢true, cases_Bool, false_from_ne_true, or_cases, or_left, or_right}
 use Rattle.std.proofs.lemmas.List.Folds.{list_any-append}
 use Rattle.cell_numbers.specs.Numbers.{number_at}
+use Rattle.cell_numbers.specs.Sets.{has}
 use Rattle.grid_address.proofs.Places.{same_place_is, same_place_itself, same_place_laws}
 use Rattle.grid_address.specs.Place.{same_place, InSheet, Place}
 use Rattle.depend_graph.specs.Backward.{all, work_left, IsDeeper, IsSearched}
-use Rattle.depend_graph.specs.Network.{has, reads, Network}
+use Rattle.depend_graph.specs.Network.{reads, Network}
 use Rattle.depend_graph.specs.Within.{Within}
 use Rattle.depend_graph.specs.Within.Within.{reader, seed}
 use Rattle.depend_graph.specs.declared.closure.Search.{Search}

@@ -3,10 +3,11 @@ use Rattle.std.specs.Prelude.{◌≡◌, ◌⊎◌, ◌↔◌, cond, true, false
 use Rattle.std.specs.FinMap.{get, remove}
 use Rattle.std.proofs.Common.{sym, ◌∙◌, ap, subst, inl, inr}
 use Rattle.std.proofs.lemmas.Bool.{cases_Bool, false≢true, true≢false}
+use Rattle.cell_numbers.specs.Sets.{has}
 use Rattle.grid_address.proofs.Places.{get_removed, same_place_is, same_places}
 use Rattle.grid_address.specs.Place.{same_place, Place}
 use Rattle.depend_graph.specs.InOrder.{is_volatile, GoesInOrder, StandsFirst}
-use Rattle.depend_graph.specs.Network.{dropped, has, holds, is_formula, IsSpread, Network, Reaches}
+use Rattle.depend_graph.specs.Network.{dropped, holds, is_formula, IsSpread, Network, Reaches}
 use Rattle.depend_graph.specs.Network.Reaches.{at_once, through}
 use Rattle.depend_graph.specs.Slots.{Nodes}
 use Rattle.depend_graph.specs.Spreads.{is_of, list_of, IsKept, IsSpreadOf}

@@ -4,8 +4,9 @@ use Rattle.std.specs.FinMap.{entries}
 use Rattle.std.specs.List.{IsDistinct}
 use Rattle.std.specs.Map.{keys_of}
 use Rattle.cell_numbers.specs.Numbers.{number_at}
+use Rattle.cell_numbers.specs.Sets.{has}
 use Rattle.grid_address.specs.Place.{same_place, InSheet, Place}
-use Rattle.depend_graph.specs.Network.{has, reads, Network}
+use Rattle.depend_graph.specs.Network.{reads, Network}
 use Rattle.depend_graph.specs.Within.{Within}
 use Rattle.depend_graph.specs.declared.closure.Search.{Search}
 

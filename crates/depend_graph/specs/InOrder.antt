@@ -2,8 +2,9 @@
 use Rattle.std.specs.Prelude.{ℕ, ◌≡◌, Bool, true, false, List, [], ◌∷◌, Option, None, Some}
 use Rattle.std.specs.FinMap.{get}
 use Rattle.cell_numbers.specs.Numbers.{number_at}
+use Rattle.cell_numbers.specs.Sets.{has}
 use Rattle.grid_address.specs.Place.{InSheet, Place}
-use Rattle.depend_graph.specs.Network.{has, reads, Network}
+use Rattle.depend_graph.specs.Network.{reads, Network}
 use Rattle.depend_graph.specs.declared.node.Node.{Node}
 
 -- whether a formula is volatile, where there is one

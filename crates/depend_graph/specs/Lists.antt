@@ -3,10 +3,10 @@ use Rattle.std.specs.Prelude.{◌≡◌, true, List, [], Option, None, Some}
 use Rattle.std.specs.FinMap.{get, FinMap}
 use Rattle.std.specs.Global.{Vec}
 use Rattle.std.specs.List.{filter}
+use Rattle.cell_numbers.specs.Sets.{has}
 use Rattle.grid_address.specs.Place.{place_cmp, Extent, Place}
 use Rattle.range_index.specs.Owners.{hold}
 use Rattle.depend_graph.specs.Banks.{is_one}
-use Rattle.depend_graph.specs.Network.{has}
 use Rattle.depend_graph.specs.Slots.{Slots}
 use Rattle.depend_graph.specs.declared.node.Node.{Node}
 use Rattle.depend_graph.specs.declared.slots.Slot.{Slot}

@@ -3,8 +3,8 @@ use Rattle.std.specs.Prelude.{◌≡◌, ◌⊎◌, refl, Bool, true, false, Lis
 use Rattle.std.specs.Coded.{Coded, code_by, coded×}
 use Rattle.std.specs.FinMap as map
 use Rattle.std.specs.FinMap.{get, insert, remove, FinMap}
-use Rattle.std.specs.List.{list_any}
-use Rattle.grid_address.specs.Place.{coded_place, place_cmp, same_place, Place}
+use Rattle.cell_numbers.specs.Sets.{has}
+use Rattle.grid_address.specs.Place.{coded_place, place_cmp, Place}
 use Rattle.range_index.specs.Owners.{hold}
 use Rattle.depend_graph.specs.Slots.{had, node_in, offer_in, picked, Nodes, Slots}
 use Rattle.depend_graph.specs.declared.node.Node.{Node}
@@ -45,9 +45,6 @@ put g c n = record { formulas = insert g.formulas c n; offers = remove g.offers 
 -- the cell has no formula any more; what waits there goes on waiting
 abbrev pub dropped : Network → Place → Network
 dropped g c = record g { formulas = remove g.formulas c }
-
-abbrev pub has : List Place → Place → Bool
-has xs c = list_any (same_place c) xs
 
 -- whether the cell has a formula in force
 abbrev pub is_formula : Network → Place → Bool

@@ -1,9 +1,10 @@
 -- What is kept of a search, for the next one from the same cell.
 use Rattle.std.specs.Prelude.{◌≡◌, ◌↔◌, Bool, true, false, List, [], ◌∷◌, Option, None, Some}
 use Rattle.std.specs.Option.{ForSome}
+use Rattle.cell_numbers.specs.Sets.{has}
 use Rattle.grid_address.specs.Place.{same_place, Place}
 use Rattle.depend_graph.specs.InOrder.{GoesInOrder}
-use Rattle.depend_graph.specs.Network.{has, IsSpread, Network}
+use Rattle.depend_graph.specs.Network.{IsSpread, Network}
 use Rattle.depend_graph.specs.declared.spread.Spread.{Spread}
 
 -- the list has the formulas among the cell and those that reach it, and stands in order where that is told

@@ -1,7 +1,8 @@
 -- What is found from some cells on, going back over what formulas read.
 use Rattle.std.specs.Prelude.{◌≡◌, true, List, ◌++◌}
+use Rattle.cell_numbers.specs.Sets.{has}
 use Rattle.grid_address.specs.Place.{Place}
-use Rattle.depend_graph.specs.Network.{has, reads, Network}
+use Rattle.depend_graph.specs.Network.{reads, Network}
 
 -- c is one of the cells, or reads one that is within
 pub data Within (g : Network) (cells : List Place) : Place → Type 0 where

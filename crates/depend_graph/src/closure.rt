@@ -1,9 +1,10 @@
 // What reaches cells through what formulas read, by a search that goes depth first.
 ghost use Rattle.std.specs.Prelude.{◌≡◌, ◌<◌, ◌^◌, ◌⊎◌, ◌↔◌, ◌++◌, ◌∷◌, [], List, cond, length, true, IfOk, OnOk};
 ghost use Rattle.cell_numbers.specs.Numbers.{number_at};
+ghost use Rattle.cell_numbers.specs.Sets.{has};
 ghost use Rattle.grid_address.specs.Place.{same_place, InSheet, Place};
 ghost use Rattle.depend_graph.specs.Backward.{work_left, IsDeeper, IsSearched};
-ghost use Rattle.depend_graph.specs.Network.{has, is_formula, IsSpread, Network};
+ghost use Rattle.depend_graph.specs.Network.{is_formula, IsSpread, Network};
 ghost use Rattle.depend_graph.specs.Within.{Within};
 
 use crate::{Graph, Marks};

@@ -1,9 +1,10 @@
 // The graph of what formulas read.
 ghost use Rattle.std.specs.Prelude.{◌≡◌, ◌⊎◌, ◌↔◌, ◌∷◌, [], true, IfOk, OnOk, OnErr, option_copied};
 ghost use Rattle.std.specs.FinMap as map;
+ghost use Rattle.cell_numbers.specs.Sets.{has};
 ghost use Rattle.grid_address.specs.Place.{Place};
 ghost use Rattle.depend_graph.specs.InOrder.{GoesInOrder};
-ghost use Rattle.depend_graph.specs.Network.{accepted, dropped, has, is_formula, offered, put, reads, withdrawn, IsSpread};
+ghost use Rattle.depend_graph.specs.Network.{accepted, dropped, is_formula, offered, put, reads, withdrawn, IsSpread};
 ghost use Rattle.depend_graph.specs.declared.node.Node.{Node};
 
 use crate::Node;

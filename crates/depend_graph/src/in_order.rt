@@ -1,11 +1,11 @@
 // Whether formulas stand in an order in which each comes after all of them that it reads.
 ghost use Rattle.std.specs.Prelude.{◌≡◌, ◌<◌, ◌≤◌, IfOk, true, false};
 ghost use Rattle.cell_numbers.specs.Numbers.{number_at};
+ghost use Rattle.cell_numbers.specs.Sets.{has};
 ghost use Rattle.grid_address.specs.Place.{is_within, whole, Place};
 ghost use Rattle.range_index.specs.Owners.{hold};
 ghost use Rattle.depend_graph.specs.Banks.{is_one};
 ghost use Rattle.depend_graph.specs.InOrder.{AreMarked, GoesInOrder, StandsFirst};
-ghost use Rattle.depend_graph.specs.Network.{has};
 
 use crate::lists::is_one;
 use crate::{Graph, Marks};

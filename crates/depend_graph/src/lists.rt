@@ -1,10 +1,10 @@
 // For each cell the formulas that read it by itself, and not in a wider span.
 ghost use Rattle.std.specs.Prelude.{◌≡◌, ◌≤◌, length, true, IfOk, OnOk};
 ghost use Rattle.std.specs.FinMap as map;
+ghost use Rattle.cell_numbers.specs.Sets.{has};
 ghost use Rattle.grid_address.specs.Place.{place_cmp, Place};
 ghost use Rattle.depend_graph.specs.Banks.{is_one};
 ghost use Rattle.depend_graph.specs.Lists.{list_at, AreKept, IsListed};
-ghost use Rattle.depend_graph.specs.Network.{has};
 
 use cell_numbers::CellMap;
 use grid_address::{Cell, Span};

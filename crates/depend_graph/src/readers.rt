@@ -1,10 +1,11 @@
 // The formulas that read a cell.
 ghost use Rattle.std.specs.Prelude.{◌≡◌, ◌⊎◌, ◌↔◌, true, OnOk, IfOk, ◌++◌, ◌∷◌, []};
 ghost use Rattle.std.specs.FinMap as map;
+ghost use Rattle.cell_numbers.specs.Sets.{has};
 ghost use Rattle.grid_address.specs.Place.{Place};
 ghost use Rattle.range_index.specs.Owners.{owners_of};
 ghost use Rattle.depend_graph.specs.Lists.{list_at, AreInLists};
-ghost use Rattle.depend_graph.specs.Network.{has, holds, network_of, reads, IsReaderAmong};
+ghost use Rattle.depend_graph.specs.Network.{holds, network_of, reads, IsReaderAmong};
 ghost use Rattle.depend_graph.specs.Slots.{had, node_in, AreRegistered};
 
 use crate::banks::Banks;

@@ -1,8 +1,7 @@
 // Sets of cells that grow, and are cut back where a later growth fails.
 ghost use Rattle.std.specs.Prelude.{◌≡◌, ◌||◌, take, OnOk};
 ghost use Rattle.grid_address.specs.Place.{same_place, Place};
-ghost use Rattle.cell_numbers.specs.Sets.{insert_key};
-ghost use Rattle.depend_graph.specs.Network.{has};
+ghost use Rattle.cell_numbers.specs.Sets.{has, insert_key};
 ghost use Rattle.depend_graph.specs.Within.{Extends};
 
 use cell_numbers::CellSet;

@@ -17,6 +17,7 @@ use Rattle.grid_address.proofs.Maps.{in_order}
 use Rattle.grid_address.proofs.Places.{cells_exact, cells_total, place_tied, same_place_is, same_place_laws}
 use Rattle.grid_address.specs.Place.{is_within, place_cmp, same_place, Extent, Place}
 use Rattle.cell_numbers.specs.Filled.{cell_in, cells_of, filled, item_in, with_item, AreOnce}
+use Rattle.cell_numbers.specs.Sets.{has}
 use Rattle.cell_numbers.specs.declared.held.Held.{Held}
 use Rattle.cell_numbers.proofs.Filled.{none_at}
 use Rattle.sheet_store.specs.Grid.{picked, Cells}
@@ -25,9 +26,6 @@ use Rattle.sheet_store.specs.declared.state.CellState.{CellState}
 -- each after those before it, by row and then by column
 abbrev Ascends : List Place → Type 0
 Ascends xs = IsStrictlySortedBy place_cmp xs
-
-abbrev has : List Place → Place → Bool
-has xs q = list_any (same_place q) xs
 
 -- no place has two entries
 abbrev pub AreApart : List (Place × CellState) → Type 0

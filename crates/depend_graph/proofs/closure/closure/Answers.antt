@@ -1,6 +1,6 @@
 use Rattle.std.proofs.Common.{ap, sym, ◌∙◌}
+use Rattle.cell_numbers.specs.Sets.{has}
 use Rattle.depend_graph.proofs.Growth.{spread}
-use Rattle.depend_graph.specs.Network.{has}
 use Rattle.depend_graph.proofs.closure.closure.Goals as goal
 
 pub returns : goal.returns

@@ -1,6 +1,7 @@
 use Rattle.std.specs.Prelude.{◌≡◌, ◌≤◌, ◌↔◌, true, drop, length}
+use Rattle.cell_numbers.specs.Sets.{has}
 use Rattle.grid_address.specs.Place.{Place}
-use Rattle.depend_graph.specs.Network.{has, is_formula}
+use Rattle.depend_graph.specs.Network.{is_formula}
 use Rattle.depend_graph.proofs.closure.formulas_backward.Given as goal
 
 abbrev pub invariant-back : goal.invariant-back

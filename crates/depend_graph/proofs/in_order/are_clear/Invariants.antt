@@ -1,6 +1,6 @@
 use Rattle.std.specs.Prelude.{◌≡◌, take, true, false}
+use Rattle.cell_numbers.specs.Sets.{has}
 use Rattle.grid_address.specs.Place.{Place}
-use Rattle.depend_graph.specs.Network.{has}
 use Rattle.range_index.specs.Owners.{hold}
 use Rattle.depend_graph.proofs.in_order.are_clear.Given as goal
 

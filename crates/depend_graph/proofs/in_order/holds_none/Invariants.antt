@@ -1,6 +1,6 @@
 use Rattle.std.specs.Prelude.{◌≡◌, take, true, false}
+use Rattle.cell_numbers.specs.Sets.{has}
 use Rattle.grid_address.specs.Place.{is_within, Place}
-use Rattle.depend_graph.specs.Network.{has}
 use Rattle.depend_graph.proofs.in_order.holds_none.Given as goal
 
 abbrev pub invariant-loop-cell : goal.invariant-loop-cell

@@ -3,11 +3,11 @@ use Rattle.std.specs.FinMap.{insert}
 use Rattle.std.specs.Global.{Vec}
 use Rattle.std.proofs.Common.{ap, subst, sym, ◌∙◌}
 use Rattle.std.proofs.lemmas.Bool.{false≢true}
+use Rattle.cell_numbers.specs.Sets.{has}
 use Rattle.grid_address.proofs.Places.{get_inserted}
 use Rattle.grid_address.specs.Place.{Place}
 use Rattle.depend_graph.proofs.Listing.{kept_inserted, list_inserted}
 use Rattle.depend_graph.specs.Lists.{items_in, list_at, AreKept, Lists}
-use Rattle.depend_graph.specs.Network.{has}
 use Rattle.depend_graph.proofs.lists.add.Goals as goal
 
 pub returns-in-Some-clause-kept : goal.returns-in-Some-clause-kept

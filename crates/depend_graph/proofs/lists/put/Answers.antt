@@ -1,6 +1,6 @@
 use Rattle.std.proofs.Common.{ap, ◌∙◌}
+use Rattle.cell_numbers.specs.Sets.{has}
 use Rattle.depend_graph.proofs.Listing.{put_has}
-use Rattle.depend_graph.specs.Network.{has}
 use Rattle.depend_graph.proofs.lists.put.Goals as goal
 
 pub returns-clause-kept : goal.returns-clause-kept

@@ -1,6 +1,6 @@
 use Rattle.std.specs.Prelude.{◌≡◌, ◌||◌, take}
+use Rattle.cell_numbers.specs.Sets.{has}
 use Rattle.grid_address.specs.Place.{Place}
-use Rattle.depend_graph.specs.Network.{has}
 use Rattle.depend_graph.specs.Within.{Extends}
 use Rattle.depend_graph.proofs.sets.insert_all.Given as goal
 

@@ -1,7 +1,8 @@
 use Rattle.std.specs.Prelude.{◌≡◌, ◌↔◌, true, [], ◌∷◌}
 use Rattle.std.proofs.Common.{sym, subst, ◌∙◌}
+use Rattle.cell_numbers.specs.Sets.{has}
 use Rattle.grid_address.specs.Place.{Place}
-use Rattle.depend_graph.specs.Network.{has, IsSpread, Network}
+use Rattle.depend_graph.specs.Network.{IsSpread, Network}
 use Rattle.depend_graph.specs.Spreads.{list_of}
 use Rattle.depend_graph.proofs.Spreads.{kept_is}
 use Rattle.depend_graph.proofs.graph.Graph.spread_of.Goals as goal
