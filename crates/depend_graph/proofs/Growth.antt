@@ -11,8 +11,8 @@ use Rattle.cell_numbers.specs.Sets.{has}
 use Rattle.grid_address.proofs.Maps.{get_lookup}
 use Rattle.grid_address.proofs.Places.{cells_total, place_tied, same_place_laws}
 use Rattle.grid_address.specs.Place.{place_cmp, same_place, Place}
-use Rattle.depend_graph.specs.Network.{holds, is_formula, reads, IsSpread, Network, Reaches, ReachesOneOf}
-use Rattle.depend_graph.specs.Network.Reaches.{at_once, through}
+use Rattle.depend_graph.specs.Network.{holds, is_formula, reads, IsSpread, Network, ReachesCell, ReachesOneOf}
+use Rattle.depend_graph.specs.Network.ReachesCell.{direct, through}
 use Rattle.depend_graph.specs.Backward.{all}
 use Rattle.depend_graph.specs.Within.{Within}
 use Rattle.depend_graph.specs.Within.Within.{reader, seed}
@@ -46,12 +46,12 @@ module _ (g : Network) (cells : List Place) where
   reaches : {c : Place} → Within g cells c → (has cells c ≡ true) ⊎ ReachesOneOf g cells c
   reaches (seed m) = inl m
   reaches (reader {c = c} w r) = elim (reaches w) [
-    | inl m ↦ inr (record { cell = c; among = m; reached = at_once r })
+    | inl m ↦ inr (record { cell = c; among = m; reached = direct r })
     | inr q ↦ inr (record { cell = q.cell; among = q.among; reached = through r q.reached })
   ]
 
-  reached_within : {c d : Place} → Reaches g c d → has cells d ≡ true → Within g cells c
-  reached_within (at_once r) m = reader (seed m) r
+  reached_within : {c d : Place} → ReachesCell (reads g) c d → has cells d ≡ true → Within g cells c
+  reached_within (direct r) m = reader (seed m) r
   reached_within (through r q) m = reader (reached_within q m) r
 
   within_formula : {c : Place} → Within g cells c → (has cells c ≡ true → is_formula g c ≡ true) → is_formula g c ≡ true

@@ -7,16 +7,16 @@ use Rattle.cell_numbers.specs.Sets.{has}
 use Rattle.grid_address.proofs.Places.{get_removed, same_place_is, same_places}
 use Rattle.grid_address.specs.Place.{same_place, Place}
 use Rattle.depend_graph.specs.InOrder.{is_volatile, GoesInOrder, StandsFirst}
-use Rattle.depend_graph.specs.Network.{dropped, holds, is_formula, IsSpread, Network, Reaches}
-use Rattle.depend_graph.specs.Network.Reaches.{at_once, through}
+use Rattle.depend_graph.specs.Network.{dropped, holds, is_formula, reads, IsSpread, Network, ReachesCell}
+use Rattle.depend_graph.specs.Network.ReachesCell.{direct, through}
 use Rattle.depend_graph.specs.Slots.{Nodes}
 use Rattle.depend_graph.specs.Spreads.{is_of, list_of, IsKept, IsSpreadOf}
 use Rattle.depend_graph.specs.declared.node.Node.{Node}
 use Rattle.depend_graph.specs.declared.spread.Spread.{Spread}
 
 -- which cells a formula reaches hangs on the formulas alone
-reaches_along : (a b : Network) → a.formulas ≡ b.formulas → {c d : Place} → Reaches a c d → Reaches b c d
-reaches_along a b e {c} {d} (at_once r) = at_once (sym (ap (λ f. holds (get f c) d) e) ∙ r)
+reaches_along : (a b : Network) → a.formulas ≡ b.formulas → {c d : Place} → ReachesCell (reads a) c d → ReachesCell (reads b) c d
+reaches_along a b e {c} {d} (direct r) = direct (sym (ap (λ f. holds (get f c) d) e) ∙ r)
 reaches_along a b e {c} {d} (through {e = x} r q) = through (sym (ap (λ f. holds (get f c) x) e) ∙ r) (reaches_along a b e q)
 
 pub spread_along : (a b : Network) → a.formulas ≡ b.formulas → (cells : List Place) (c : Place) → IsSpread a cells c → IsSpread b cells c

@@ -59,16 +59,16 @@ holds (Some n) d = hold n.reads d
 abbrev pub reads : Network → Place → Place → Bool
 reads g c d = holds (get g.formulas c) d
 
--- the formula at c reads d, or a formula that reaches d
-pub data Reaches (g : Network) : Place → Place → Type 0 where
-  at_once : {c d : Place} → reads g c d ≡ true → Reaches g c d
-  through : {c e d : Place} → reads g c e ≡ true → Reaches g e d → Reaches g c d
+-- the formula at c reads d, or a formula that reaches d; what it reads is told by a graph or by a grid
+pub data ReachesCell (reading : Place → Place → Bool) : Place → Place → Type 0 where
+  direct : {c d : Place} → reading c d ≡ true → ReachesCell reading c d
+  through : {c e d : Place} → reading c e ≡ true → ReachesCell reading e d → ReachesCell reading c d
 
 -- the formula at c reads one of the cells, by itself or through other formulas
 pub record ReachesOneOf (g : Network) (cells : List Place) (c : Place) : Type 0 where
   pub cell : Place
   pub among : has cells cell ≡ true
-  pub reached : Reaches g c cell
+  pub reached : ReachesCell (reads g) c cell
 
 -- c is a formula, and is one of the cells or reaches one of them
 pub record IsSpread (g : Network) (cells : List Place) (c : Place) : Type 0 where

@@ -2,39 +2,34 @@
 use Rattle.std.specs.Prelude.{◌≡◌, Bool, true, false, Some, ◌⊎◌}
 use Rattle.std.specs.Option.{is_some}
 use Rattle.std.proofs.Common.{sym, ◌∙◌, ap, inl, inr}
-use Rattle.std.proofs.lemmas.Bool.{true≢false, and_from, and_parts, false_from_ne_true, cases_Bool}
+use Rattle.std.proofs.lemmas.Bool.{true≢false, and_parts, false_from_ne_true, cases_Bool}
 use Rattle.grid_address.specs.Place.{same_place, Place}
+use Rattle.depend_graph.specs.Network.{ReachesCell}
+use Rattle.depend_graph.specs.Network.ReachesCell.{direct, through}
 use Rattle.natural_order.specs.Walk.{has, Reaches}
 use Rattle.natural_order.specs.Walk.Reaches.{one, more}
 use Rattle.range_index.specs.Owners.{hold}
 use Rattle.sheet_store.specs.Grid.{Grid}
 use Rattle.natural_recalc.proofs.First.{reads_formula}
-use Rattle.natural_recalc.proofs.Members.{has_pre}
-use Rattle.natural_recalc.specs.Passes.{EditKeepsSound, IsMeaning, IsSpread, Meaning, ReachesCell}
-use Rattle.natural_recalc.specs.Passes.ReachesCell.{direct, through}
-use Rattle.natural_recalc.specs.Reading.{is_formula_at, pre, spans_at, spans_in}
+use Rattle.natural_recalc.proofs.Members.{has_pre, pre_of_read, read_of_pre}
+use Rattle.natural_recalc.specs.Passes.{EditKeepsSound, IsMeaning, IsSpread, Meaning}
+use Rattle.natural_recalc.specs.Reading.{is_formula_at, pre, reads_at, spans_at, spans_in}
 use Rattle.natural_recalc.specs.World.{formula_at, formula_of, value_of, world_at, Context}
 
 module _ (old new : Grid) (written dirty spread : Place → Bool) (s : IsSpread old new written dirty spread) where
   formula_other : (c : Place) → written c ≡ false → formula_at new c ≡ formula_at old c
   formula_other c h = ap formula_of (s.others c h)
 
-  read_of_pre : (g : Grid) (c d : Place) → has same_place (pre g c) d ≡ true → hold (spans_at g c) d ≡ true
-  read_of_pre g c d h = (and_parts _ _ (sym (has_pre g c d) ∙ h)).1
-
   -- what a cell that was not written reads
   same_reads : (c d : Place) → written c ≡ false → hold (spans_at new c) d ≡ true → hold (spans_at old c) d ≡ true
   same_reads c d h m = sym (ap (λ o. hold (spans_in o c) d) (formula_other c h)) ∙ m
-
-  pre_of_read : (g : Grid) (c d : Place) → hold (spans_at g c) d ≡ true → is_formula_at g d ≡ true → has same_place (pre g c) d ≡ true
-  pre_of_read g c d m k = has_pre g c d ∙ and_from _ _ k m
 
   old_pre : (c d : Place) → written c ≡ false → written d ≡ false → has same_place (pre new c) d ≡ true → has same_place (pre old c) d ≡ true
   old_pre c d h k m = pre_of_read old c d (same_reads c d h (read_of_pre new c d m))
       (sym (ap is_some (formula_other d k)) ∙ (and_parts _ _ (sym (has_pre new c d) ∙ m)).0)
 
   -- a way in the new sheet meets a written cell, or is one of the old sheet
-  meets : {c d : Place} → Reaches same_place (pre new) c d → written c ≡ false → ((w : Place) × (written w ≡ true) × ReachesCell new c w) ⊎ Reaches same_place (pre old) c d
+  meets : {c d : Place} → Reaches same_place (pre new) c d → written c ≡ false → ((w : Place) × (written w ≡ true) × ReachesCell (reads_at new) c w) ⊎ Reaches same_place (pre old) c d
   meets {c} {d} (one m) h = elim (cases_Bool (written d)) [
     | inl t ↦ inl (d, t, direct (read_of_pre new c d m))
     | inr k ↦ inr (one (old_pre c d h k m))
@@ -42,7 +37,7 @@ module _ (old new : Grid) (written dirty spread : Place → Bool) (s : IsSpread 
   meets {c} {d} (more {e = e} m r) h = elim (cases_Bool (written e)) [
     | inl t ↦ inl (e, t, direct (read_of_pre new c e m))
     | inr k ↦ elim (meets r k) [
-      | inl w ↦ inl (w.0, w.1, through m w.2)
+      | inl w ↦ inl (w.0, w.1, through (read_of_pre new c e m) w.2)
       | inr q ↦ inr (more (old_pre c e h k m) q)
     ]
   ]
@@ -56,13 +51,13 @@ edit_keeps_sound mean ctx meaning old new written dirty spread sound s = record 
   up = λ c d m t.
       let f : is_formula_at new c ≡ true = reads_formula new c d m in
       elim (s.exact d t) [
-        | inl w ↦ s.reaching c d w (direct (read_of_pre old new written dirty spread s new c d m))
+        | inl w ↦ s.reaching c d w (direct (read_of_pre new c d m))
         | inr k ↦ elim k [
-          | inl w ↦ s.reaching c w.0 w.1 (through m w.2)
+          | inl w ↦ s.reaching c w.0 w.1 (through (read_of_pre new c d m) w.2)
           | inr q ↦ elim (cases_Bool (written c)) [
             | inl w ↦ s.written_too c w f
             | inr u ↦ elim (cases_Bool (written d)) [
-              | inl w ↦ s.reaching c d w (direct (read_of_pre old new written dirty spread s new c d m))
+              | inl w ↦ s.reaching c d w (direct (read_of_pre new c d m))
               | inr v ↦ s.kept c (sound.up c d (old_pre old new written dirty spread s c d u v m) q) f
             ]
           ]

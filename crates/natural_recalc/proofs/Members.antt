@@ -3,6 +3,7 @@ use Rattle.std.specs.Prelude.{◌≡◌, ◌&&◌, ◌||◌, Bool, true, false, 
 use Rattle.std.specs.BTreeMap.{is_at}
 use Rattle.std.specs.List.{list_any}
 use Rattle.std.proofs.Common.{sym, ◌∙◌, ap}
+use Rattle.std.proofs.lemmas.Bool.{and_from, and_parts}
 use Rattle.std.proofs.lemmas.Map.Lookups.{btree_set_from_contains}
 use Rattle.grid_address.proofs.Places.{cells_exact, cells_total, place_tied}
 use Rattle.grid_address.specs.Place.{is_within, place_cmp, same_place, Extent, Place}
@@ -43,6 +44,14 @@ module _ (a b : Grid) (same : formula_at a ≡ formula_at b) where
 -- a formula is among those that a formula reads exactly where one of the spans holds it
 pub has_pre : (g : Grid) (c d : Place) → has same_place (pre g c) d ≡ (is_formula_at g d && hold (spans_at g c) d)
 has_pre g c d = has_in g (spans_at g c) d
+
+-- such a formula lies in one of the spans
+pub read_of_pre : (g : Grid) (c d : Place) → has same_place (pre g c) d ≡ true → hold (spans_at g c) d ≡ true
+read_of_pre g c d h = (and_parts _ _ (sym (has_pre g c d) ∙ h)).1
+
+-- and a formula that lies in one of them is such a one
+pub pre_of_read : (g : Grid) (c d : Place) → hold (spans_at g c) d ≡ true → is_formula_at g d ≡ true → has same_place (pre g c) d ≡ true
+pre_of_read g c d m k = has_pre g c d ∙ and_from _ _ k m
 
 pub pre_formulas : (g : Grid) (c d : Place) → has same_place (pre g c) d ≡ true → has same_place (formulas g) d ≡ true
 pre_formulas g c d h = has_formula g d ∙ first (is_formula_at g d) (hold (spans_at g c) d) (sym (has_pre g c d) ∙ h)

@@ -8,12 +8,12 @@ use Rattle.formula_tree.specs.Tree.{Tree}
 use Rattle.formula_tree.specs.declared.value.Value.{Value}
 use Rattle.formula_eval.specs.Mean.{Reads}
 use Rattle.formula_eval.specs.World.{World}
+use Rattle.depend_graph.specs.Network.{ReachesCell}
 use Rattle.natural_order.specs.Walk.{has, Reaches}
-use Rattle.range_index.specs.Owners.{hold}
 use Rattle.sheet_store.specs.Grid.{set_value_at, Grid}
 use Rattle.sheet_store.specs.declared.order.Order.{Order}
 use Rattle.sheet_store.specs.declared.order.Order.TheVariants as orders
-use Rattle.natural_recalc.specs.Reading.{is_formula_at, natural_order, pre, spans_at, volatile_of, StaysDirty}
+use Rattle.natural_recalc.specs.Reading.{is_formula_at, natural_order, pre, reads_at, volatile_of, StaysDirty}
 use Rattle.natural_recalc.specs.World.{content_of, format_of, formula_at, value_at, world_at, Context}
 
 -- what a formula in a cell is worth in a world
@@ -88,20 +88,15 @@ abbrev pub PassIsCut : Meaning → Context → Type 0
 PassIsCut mean x = (g : Grid) (dirty : Place → Bool) → IsSound mean x g dirty → (cells : List Place)
     → pass mean x cells g ≡ pass mean x (filter dirty cells) g
 
--- a formula reaches a cell that it reads, or that a formula which it reads reaches
-pub data ReachesCell (g : Grid) : Place → Place → Type 0 where
-  direct : {c d : Place} → hold (spans_at g c) d ≡ true → ReachesCell g c d
-  through : {c e d : Place} → has same_place (pre g c) e ≡ true → ReachesCell g e d → ReachesCell g c d
-
 -- cells were written, and the formulas that they hold or that reach one of them are dirty now
 pub record IsSpread (old new : Grid) (written dirty spread : Place → Bool) : Type 0 where
   pub others : (c : Place) → written c ≡ false → map.get new.cells c ≡ map.get old.cells c
   pub only : (c : Place) → spread c ≡ true → is_formula_at new c ≡ true
   pub written_too : (c : Place) → written c ≡ true → is_formula_at new c ≡ true → spread c ≡ true
-  pub reaching : (c w : Place) → written w ≡ true → ReachesCell new c w → spread c ≡ true
+  pub reaching : (c w : Place) → written w ≡ true → ReachesCell (reads_at new) c w → spread c ≡ true
   pub kept : (c : Place) → dirty c ≡ true → is_formula_at new c ≡ true → spread c ≡ true
   pub exact : (c : Place) → spread c ≡ true →
-      (written c ≡ true) ⊎ (((w : Place) × (written w ≡ true) × ReachesCell new c w) ⊎ (dirty c ≡ true))
+      (written c ≡ true) ⊎ (((w : Place) × (written w ≡ true) × ReachesCell (reads_at new) c w) ⊎ (dirty c ≡ true))
 
 -- an edit that spreads keeps what holds of the dirty formulas
 abbrev pub EditKeepsSound : Meaning → Context → Type 0

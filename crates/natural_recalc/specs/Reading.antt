@@ -10,6 +10,7 @@ use Rattle.depend_graph.specs.Network.{put, Network}
 use Rattle.depend_graph.specs.declared.node.Node.{Node}
 use Rattle.natural_order.specs.Machine.{fuel}
 use Rattle.natural_order.specs.Walk.{has, order, Reaches, Walked}
+use Rattle.range_index.specs.Owners.{hold}
 use Rattle.sheet_store.specs.Grid.{formulas, formulas_within, Grid}
 use Rattle.sheet_store.specs.declared.order.Order.{Order}
 use Rattle.sheet_store.specs.declared.order.Order.TheVariants as orders
@@ -27,6 +28,10 @@ spans_in (Some t) c = spans_of t c
 -- the spans that the formula of a cell reads, from left to right
 abbrev pub spans_at : Grid → Place → List Extent
 spans_at g c = spans_in (formula_at g c) c
+
+-- one of the spans that the formula at c reads holds d
+abbrev pub reads_at : Grid → Place → Place → Bool
+reads_at g c d = hold (spans_at g c) d
 
 -- the formulas of spans, span by span, those of a span in row order
 abbrev pub formulas_in : Grid → List Extent → List Place

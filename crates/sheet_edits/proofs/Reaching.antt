@@ -2,22 +2,19 @@
 use Rattle.std.specs.Prelude.{◌≡◌, Bool, true, false, cond, is_some, refl, Option, None, Some}
 use Rattle.std.specs.FinMap.{get, insert, remove}
 use Rattle.std.proofs.Common.{sym, ◌∙◌, ap, inl, inr}
-use Rattle.std.proofs.lemmas.Bool.{and_from, and_parts, cases_Bool, false≢true, true≢false}
+use Rattle.std.proofs.lemmas.Bool.{cases_Bool, false≢true, true≢false}
 use Rattle.grid_address.proofs.Places.{get_inserted, get_removed, same_place_is, same_place_itself}
 use Rattle.grid_address.specs.Place.{same_place, Place}
 use Rattle.formula_tree.specs.Tree.{Tree}
 use Rattle.formula_tree.specs.declared.value.Content.{Content}
 use Rattle.formula_tree.specs.declared.value.Content.TheVariants as content
-use Rattle.depend_graph.specs.Network.{accepted, dropped, holds, offered, reads, withdrawn, Network, Reaches}
+use Rattle.depend_graph.specs.Network.{accepted, dropped, holds, offered, reads, withdrawn, Network, ReachesCell}
 use Rattle.depend_graph.specs.declared.node.Node.{Node}
-use Rattle.depend_graph.specs.Network.Reaches.{at_once, through}
+use Rattle.depend_graph.specs.Network.ReachesCell.{direct, through}
 use Rattle.range_index.specs.Owners.{hold}
 use Rattle.sheet_store.specs.Grid.{is_formula, is_kept, put_state, Grid}
 use Rattle.sheet_store.specs.declared.state.CellState.{CellState}
-use Rattle.natural_recalc.proofs.Members.{has_pre}
-use Rattle.natural_recalc.specs.Passes.{ReachesCell}
-use Rattle.natural_recalc.specs.Passes.ReachesCell.{direct, through as over}
-use Rattle.natural_recalc.specs.Reading.{is_formula_at, node_of, spans_at, spans_in, Matches}
+use Rattle.natural_recalc.specs.Reading.{is_formula_at, node_of, reads_at, spans_at, spans_in, Matches}
 use Rattle.natural_recalc.specs.World.{formula_at, formula_in, formula_of}
 use Rattle.sheet_edits.specs.Edits.{ReachesWritten}
 
@@ -76,9 +73,9 @@ module _ (h : Grid) where
       with None k = absurd (false≢true k)
       with (Some x) k = refl
 
-  pub reaching_formula : {c d : Place} → ReachesCell h c d → is_formula_at h c ≡ true
+  pub reaching_formula : {c d : Place} → ReachesCell (reads_at h) c d → is_formula_at h c ≡ true
   reaching_formula {c} {d} (direct t) = holds_formula c d t
-  reaching_formula {c} {d} (over {e = e} p r) = holds_formula c e (and_parts _ _ (sym (has_pre h c e) ∙ p)).1
+  reaching_formula {c} {d} (through {e = e} p r) = holds_formula c e p
 
 -- a graph of the formulas before, of which those at some written cells are other ones after
 module _ (g h : Grid) (written changed : Place → Bool) (sub : (c : Place) → changed c ≡ true → written c ≡ true) (beside : (c : Place) → changed c ≡ false → formula_at h c ≡ formula_at g c) (n : Network) (m : Matches n g) where
@@ -90,20 +87,20 @@ module _ (g h : Grid) (written changed : Place → Bool) (sub : (c : Place) → 
   reads_are c d k = ap (λ o. holds o d) (m c) ∙ told (formula_at g c) c d ∙ sym (ap (λ o. hold (spans_in o c) d) (beside c k))
 
   -- what reaches a written cell before reaches one after
-  pub to_new : {c d : Place} → Reaches n c d → written d ≡ true → changed c ≡ false → ReachesWritten h written c
-  to_new {c} {d} (at_once r) w k = (d, w, direct (sym (reads_are c d k) ∙ r))
+  pub to_new : {c d : Place} → ReachesCell (reads n) c d → written d ≡ true → changed c ≡ false → ReachesWritten h written c
+  to_new {c} {d} (direct r) w k = (d, w, direct (sym (reads_are c d k) ∙ r))
   to_new {c} {d} (through {e = e} r q) w k = elim (cases_Bool (changed e)) [
     | inl t ↦ (e, sub e t, direct (sym (reads_are c e k) ∙ r))
-    | inr f ↦ let next = to_new q w f in (next.0, next.1, over (has_pre h c e ∙ and_from _ _ (reaching_formula h next.2) (sym (reads_are c e k) ∙ r)) next.2)
+    | inr f ↦ let next = to_new q w f in (next.0, next.1, through (sym (reads_are c e k) ∙ r) next.2)
   ]
 
   -- and the other way round
-  pub to_old : {c d : Place} → ReachesCell h c d → written d ≡ true → changed c ≡ false → (w : Place) × (written w ≡ true) × Reaches n c w
-  to_old {c} {d} (direct r) w k = (d, w, at_once (reads_are c d k ∙ r))
-  to_old {c} {d} (over {e = e} p q) w k =
-      let read : reads n c e ≡ true = reads_are c e k ∙ (and_parts _ _ (sym (has_pre h c e) ∙ p)).1 in
+  pub to_old : {c d : Place} → ReachesCell (reads_at h) c d → written d ≡ true → changed c ≡ false → (w : Place) × (written w ≡ true) × ReachesCell (reads n) c w
+  to_old {c} {d} (direct r) w k = (d, w, direct (reads_are c d k ∙ r))
+  to_old {c} {d} (through {e = e} p q) w k =
+      let read : reads n c e ≡ true = reads_are c e k ∙ p in
       elim (cases_Bool (changed e)) [
-        | inl t ↦ (e, sub e t, at_once read)
+        | inl t ↦ (e, sub e t, direct read)
         | inr f ↦ let next = to_old q w f in (next.0, next.1, through read next.2)
       ]
 

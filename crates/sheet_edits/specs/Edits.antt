@@ -7,13 +7,13 @@ use Rattle.formula_tree.specs.declared.value.Content.{Content}
 use Rattle.formula_tree.specs.declared.value.Content.TheVariants as content
 use Rattle.formula_tree.specs.declared.value.Value.{Value}
 use Rattle.formula_tree.specs.declared.value.Value.TheVariants as value
-use Rattle.depend_graph.specs.Network.{accepted, dropped, IsSpread, Network}
+use Rattle.depend_graph.specs.Network.{accepted, dropped, IsSpread, Network, ReachesCell}
 use Rattle.natural_order.specs.Walk.{has}
 use Rattle.sheet_store.specs.Choices.{Choices}
 use Rattle.sheet_store.specs.Grid.{clear_cell, is_formula, is_kept, put_state, Grid, IsSound}
 use Rattle.sheet_store.specs.declared.state.CellState.{CellState}
-use Rattle.natural_recalc.specs.Passes.{evaluated, Meaning, ReachesCell}
-use Rattle.natural_recalc.specs.Reading.{is_formula_at}
+use Rattle.natural_recalc.specs.Passes.{evaluated, Meaning}
+use Rattle.natural_recalc.specs.Reading.{is_formula_at, reads_at}
 use Rattle.natural_recalc.specs.World.{format_of, Context}
 
 -- a newly written formula has the value 0
@@ -42,7 +42,7 @@ just cell c = same_place c cell
 
 -- the formula at c reads a written cell, or a formula that reaches one
 abbrev pub ReachesWritten : Grid → (Place → Bool) → Place → Type 0
-ReachesWritten g written c = (w : Place) × (written w ≡ true) × ReachesCell g c w
+ReachesWritten g written c = (w : Place) × (written w ≡ true) × ReachesCell (reads_at g) c w
 
 -- the formulas that are dirty after cells were written: those that were, the cells, and what reaches one of them
 pub record IsDirtied (new : Grid) (old written : Place → Bool) (c : Place) : Type 0 where

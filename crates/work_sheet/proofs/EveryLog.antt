@@ -6,17 +6,20 @@ use Rattle.std.proofs.lemmas.Bool.{cases_Bool, false≢true, or_cases, or_left, 
 use Rattle.formula_tree.specs.Tree.{Tree}
 use Rattle.grid_address.proofs.Places.{same_place_is, same_place_itself}
 use Rattle.grid_address.specs.Place.{is_within, same_place, Extent, Place}
+use Rattle.depend_graph.specs.Network.{ReachesCell}
+use Rattle.depend_graph.specs.Network.ReachesCell.{direct, through}
 use Rattle.natural_order.proofs.Cut.{filter_in, filter_passes, has-filter}
 use Rattle.natural_order.specs.Walk.{has, Reaches}
 use Rattle.natural_order.specs.Walk.Reaches.{one, more}
 use Rattle.natural_recalc.proofs.First.{reads_formula, stays_formula}
+use Rattle.natural_recalc.proofs.Members.{pre_of_read, read_of_pre}
 use Rattle.natural_recalc.specs.Laws.{has_formula}
-use Rattle.natural_recalc.specs.Passes.{raised_by, IsDirtyAfter, IsWhatStays, ReachesCell}
-use Rattle.natural_recalc.specs.Passes.ReachesCell.{direct, through}
-use Rattle.natural_recalc.specs.Reading.{is_formula_at, pre, spans_at, spans_in, volatile_of, StaysDirty}
+use Rattle.natural_recalc.specs.Passes.{raised_by, IsDirtyAfter, IsWhatStays}
+use Rattle.natural_recalc.specs.Reading.{is_formula_at, pre, reads_at, spans_at, spans_in, volatile_of, StaysDirty}
 use Rattle.natural_recalc.specs.Reading.StaysDirty.{circle, reading, volatile}
 use Rattle.natural_recalc.specs.World.{formula_at}
 use Rattle.range_index.specs.Owners.{hold}
+use Rattle.sheet_edits.proofs.Reaching.{reaching_formula}
 use Rattle.sheet_edits.specs.Edits.{AreDirtied, IsDirtied, ReachesWritten}
 use Rattle.sheet_store.specs.Grid.{formulas, Grid}
 use Rattle.sheet_store.specs.declared.order.Order.{Order}
@@ -108,11 +111,11 @@ module _ (g : Grid) where
 
     leads_written : {c : Place} → Leads same_place (pre g) reads_one c → ReachesWritten g cells c
     leads_written (here {c = c} b) = let r = read_in (spans_at g c) b in (r.0, r.1, direct r.2)
-    leads_written (there m l) = let r = leads_written l in (r.0, r.1, through m r.2)
+    leads_written (there {c = c} {e = e} m l) = let r = leads_written l in (r.0, r.1, through (read_of_pre g c e m) r.2)
 
-    written_leads : (w : Place) → cells w ≡ true → {c : Place} → ReachesCell g c w → Leads same_place (pre g) reads_one c
+    written_leads : (w : Place) → cells w ≡ true → {c : Place} → ReachesCell (reads_at g) c w → Leads same_place (pre g) reads_one c
     written_leads w t (direct {c = c} h) = here (in_read (spans_at g c) w t h)
-    written_leads w t (through m r) = there m (written_leads w t r)
+    written_leads w t (through {c = c} {e = e} m r) = there (pre_of_read g c e m (reaching_formula g r)) (written_leads w t r)
 
     written_told : IsTold (ReachesWritten g cells)
     written_told = let t = leading_told reads_one one_formula in (t.0, λ c. (λ h. leads_written ((t.1 c).0 h), λ r. (t.1 c).1 (written_leads r.0 r.1 r.2)))
