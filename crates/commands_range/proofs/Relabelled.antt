@@ -8,7 +8,7 @@ use Rattle.formula_tree.specs.declared.value.Content.{Content}
 use Rattle.formula_tree.specs.declared.value.Content.TheVariants as content
 use Rattle.grid_address.specs.Place.{Extent, Place}
 use Rattle.lics_text.specs.declared.prefix.LabelPrefix.{LabelPrefix}
-use Rattle.natural_recalc.specs.Laws.{picked_ascends}
+use Rattle.natural_recalc.proofs.Ascending.{picked_ascends}
 use Rattle.sheet_edits.specs.Spans.{written_cells}
 use Rattle.sheet_store.specs.Grid.{any_state, cells_within, Grid}
 use Rattle.sheet_store.specs.declared.state.CellState.{CellState}

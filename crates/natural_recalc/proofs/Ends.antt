@@ -13,11 +13,12 @@ use Rattle.natural_order.proofs.Cut.{filter_passes, has-filter}
 use Rattle.natural_order.proofs.Settle.{same_bools}
 use Rattle.natural_order.specs.Walk.{has, Precedes}
 use Rattle.sheet_store.specs.Grid.{formulas, Grid}
+use Rattle.natural_recalc.proofs.Ascending.{formulas_ascend}
 use Rattle.natural_recalc.proofs.Cut.{sound_all}
 use Rattle.natural_recalc.proofs.First.{filter_twice, rest_of, stays_along, stays_formula, stays_in, what_stays_along}
 use Rattle.natural_recalc.proofs.Members.{pre_along}
 use Rattle.natural_recalc.proofs.Rest.{formulas_all, further, settled_pass}
-use Rattle.natural_recalc.specs.Laws.{formulas_ascend, has_formula, Ascends}
+use Rattle.natural_recalc.specs.Laws.{has_formula, Ascends}
 use Rattle.natural_recalc.specs.Passes.{IsPlain, IsRight, pass, passes, IsMeaning, IsSound, IsWhatStays, Meaning}
 use Rattle.natural_recalc.specs.Reading.{is_formula_at, natural_order, pre, StaysDirty}
 use Rattle.natural_recalc.specs.Reading.StaysDirty.{circle, reading, volatile}

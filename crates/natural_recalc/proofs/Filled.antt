@@ -19,7 +19,8 @@ use Rattle.natural_order.proofs.Cut.{filter_passes, has-filter}
 use Rattle.natural_order.specs.Walk.{has}
 use Rattle.sheet_store.specs.Grid.{any_state, cells_within, Grid}
 use Rattle.sheet_store.specs.declared.state.CellState.{CellState}
-use Rattle.natural_recalc.specs.Laws.{has_picked, passes_at, picked_ascends, Ascends}
+use Rattle.natural_recalc.specs.Laws.{has_picked, passes_at, Ascends}
+use Rattle.natural_recalc.proofs.Ascending.{picked_ascends}
 use Rattle.natural_recalc.proofs.Members.{same_members}
 use Rattle.natural_recalc.specs.World.{value_at, value_of}
 

@@ -1,4 +1,5 @@
 pub mod Along
+pub mod Ascending
 pub mod ByColumn
 pub mod Contents
 pub mod Counts

@@ -11,8 +11,9 @@ use Rattle.formula_tree.specs.Tree.{Tree}
 use Rattle.natural_order.specs.Walk.{has}
 use Rattle.range_index.specs.Owners.{hold}
 use Rattle.sheet_store.specs.Grid.{formulas, formulas_within, holds_formula, Grid}
+use Rattle.natural_recalc.proofs.Ascending.{formulas_ascend, picked_ascends}
 use Rattle.natural_recalc.specs.Reading.{formulas_in, is_formula_at, pre, spans_at, spans_in}
-use Rattle.natural_recalc.specs.Laws.{formulas_ascend, has_formula, has_in, has_within, picked_ascends, Ascends}
+use Rattle.natural_recalc.specs.Laws.{has_formula, has_in, has_within, Ascends}
 use Rattle.natural_recalc.specs.World.{formula_at}
 
 -- lists in row order with the same members are one

@@ -9,9 +9,10 @@ use Rattle.grid_address.proofs.Places.{cells_total, place_tied, same_place_laws}
 use Rattle.grid_address.specs.Place.{place_cmp, same_place, Place}
 use Rattle.natural_order.specs.Walk.{has}
 use Rattle.sheet_store.specs.Grid.{formulas, Grid}
+use Rattle.natural_recalc.proofs.Ascending.{formulas_ascend}
 use Rattle.natural_recalc.proofs.Filled.{has_filtered}
 use Rattle.natural_recalc.proofs.Members.{same_members}
-use Rattle.natural_recalc.specs.Laws.{formulas_ascend, has_formula, Ascends}
+use Rattle.natural_recalc.specs.Laws.{has_formula, Ascends}
 use Rattle.natural_recalc.specs.Reading.{is_formula_at}
 
 -- where no cell comes twice, none is dropped
