@@ -31,26 +31,26 @@ or_true true = refl
 or_true false = refl
 
 -- a member has a place in the list
-pub at_some : (cells : List Place) (c : Place) → has cells c ≡ true → (i : ℕ) × (slice_get cells i ≡ Some c)
+pub at_some : (cells : List Place) (c : Place) → has same_place cells c ≡ true → (i : ℕ) × (slice_get cells i ≡ Some c)
 at_some [] c h = absurd (false≢true h)
 at_some (x ∷ xs) c h = with (cases_Bool (same_place c x)) (λ k. at_some xs c k)
   where
-    with : (same_place c x ≡ true) ⊎ (same_place c x ≡ false) → (has xs c ≡ true → (i : ℕ) × (slice_get xs i ≡ Some c)) → (i : ℕ) × (slice_get (x ∷ xs) i ≡ Some c)
+    with : (same_place c x ≡ true) ⊎ (same_place c x ≡ false) → (has same_place xs c ≡ true → (i : ℕ) × (slice_get xs i ≡ Some c)) → (i : ℕ) × (slice_get (x ∷ xs) i ≡ Some c)
     with (inl t) more = (0, ap Some (sym (same_place_is c x t)))
-    with (inr f) more = let r = more (ap (λ b. b || has xs c) (sym f) ∙ h) in (suc r.0, r.1)
+    with (inr f) more = let r = more (ap (λ b. b || has same_place xs c) (sym f) ∙ h) in (suc r.0, r.1)
 
 -- and what has a place is a member
-pub has_at : (cells : List Place) (i : ℕ) (c : Place) → slice_get cells i ≡ Some c → has cells c ≡ true
+pub has_at : (cells : List Place) (i : ℕ) (c : Place) → slice_get cells i ≡ Some c → has same_place cells c ≡ true
 has_at [] i c e = absurd (no_some e)
-has_at (x ∷ xs) zero c e = ap (λ b. b || has xs c) (ap (same_place c) (same_some e) ∙ same_place_itself c)
+has_at (x ∷ xs) zero c e = ap (λ b. b || has same_place xs c) (ap (same_place c) (same_some e) ∙ same_place_itself c)
 has_at (x ∷ xs) (suc i) c e = ap (λ b. same_place c x || b) (has_at xs i c e) ∙ or_true (same_place c x)
 
 -- none of the cells before one is the same, where no cell stands twice
-pub fresh : (cells : List Place) (i : ℕ) (c : Place) → IsDistinct same_place cells → i < length cells → c ≡ get_or cells i c → has (take i cells) c ≡ false
+pub fresh : (cells : List Place) (i : ℕ) (c : Place) → IsDistinct same_place cells → i < length cells → c ≡ get_or cells i c → has same_place (take i cells) c ≡ false
 unfolding IsDistinct
 fresh [] i c d h e = absurd (omega (arith, h))
 fresh (x ∷ xs) zero c d h e = refl
-fresh (x ∷ xs) (suc i) c d h e = ap (λ b. b || has (take i xs) c) (turned (all_at xs i c d.0 (omega (arith, h)) e)) ∙ fresh xs i c d.1 (omega (arith, h)) e
+fresh (x ∷ xs) (suc i) c d h e = ap (λ b. b || has same_place (take i xs) c) (turned (all_at xs i c d.0 (omega (arith, h)) e)) ∙ fresh xs i c d.1 (omega (arith, h)) e
   where
     turned : same_place x c ≡ false → same_place c x ≡ false
     turned k = same_place_laws.symm c x ∙ k
@@ -71,19 +71,19 @@ room bands c i e = below (get_or bands (page_of c) []) (place_of c) e
 
 module _ (bands : List (List ℕ)) (cells : List Place) (ok : AreNumbered bands cells) where
   -- a member lies on the sheet and has a number
-  pub told_member : (c : Place) → has cells c ≡ true → (i : ℕ) × ((number_at bands c ≡ suc i) × InSheet c)
+  pub told_member : (c : Place) → has same_place cells c ≡ true → (i : ℕ) × ((number_at bands c ≡ suc i) × InSheet c)
   told_member c h = let a = at_some cells c h in (a.0, (ok.told a.0 c a.1, ok.inside a.0 c a.1))
 
   -- a cell of the sheet with a number is a member
-  pub member : (c : Place) (i : ℕ) → InSheet c → number_at bands c ≡ suc i → has cells c ≡ true
+  pub member : (c : Place) (i : ℕ) → InSheet c → number_at bands c ≡ suc i → has same_place cells c ≡ true
   member c i inside e = has_at cells i c (ok.found c i inside e)
 
   -- one without a number is none
-  pub no_member : (c : Place) → number_at bands c ≡ 0 → has cells c ≡ false
-  no_member c z = false_from_ne_true (has cells c) (λ h. (let a = told_member c h in let k : suc a.0 ≡ 0 = sym a.1.0 ∙ z in absurd (omega (arith, k))))
+  pub no_member : (c : Place) → number_at bands c ≡ 0 → has same_place cells c ≡ false
+  no_member c z = false_from_ne_true (has same_place cells c) (λ h. (let a = told_member c h in let k : suc a.0 ≡ 0 = sym a.1.0 ∙ z in absurd (omega (arith, k))))
 
   -- a cell of the sheet that is no member has no number
-  pub no_number : (c : Place) → InSheet c → has cells c ≡ false → number_at bands c ≡ 0
+  pub no_number : (c : Place) → InSheet c → has same_place cells c ≡ false → number_at bands c ≡ 0
   no_number c inside f = with (number_at bands c) refl
     where
       with : (n : ℕ) → number_at bands c ≡ n → number_at bands c ≡ 0
@@ -91,10 +91,10 @@ module _ (bands : List (List ℕ)) (cells : List Place) (ok : AreNumbered bands 
       with (suc i) e = absurd (false≢true (sym f ∙ member c i inside e))
 
   -- where a cell has no number, none is taken out
-  pub none_gone : (c : Place) → number_at bands c ≡ 0 → (d : Place) → has cells d ≡ cond (same_place c d) false (has cells d)
+  pub none_gone : (c : Place) → number_at bands c ≡ 0 → (d : Place) → has same_place cells d ≡ cond (same_place c d) false (has same_place cells d)
   none_gone c z d = elim (cases_Bool (same_place c d)) [
-    | inl t ↦ ap (has cells) (sym (same_place_is c d t)) ∙ no_member c z ∙ ap (λ b. cond b false (has cells d)) (sym t)
-    | inr f ↦ ap (λ b. cond b false (has cells d)) (sym f)
+    | inl t ↦ ap (has same_place cells) (sym (same_place_is c d t)) ∙ no_member c z ∙ ap (λ b. cond b false (has same_place cells d)) (sym t)
+    | inr f ↦ ap (λ b. cond b false (has same_place cells d)) (sym f)
   ]
 
   -- no cell is there twice
@@ -242,24 +242,24 @@ module _ (old mid new : List (List ℕ)) (cells : List Place) (at : ℕ) (c last
           ]
 
   -- the members are the others
-  pub others : (d : Place) → has (set cells at last) d ≡ cond (same_place c d) false (has (cells ++ last ∷ []) d)
+  pub others : (d : Place) → has same_place (set cells at last) d ≡ cond (same_place c d) false (has same_place (cells ++ last ∷ []) d)
   others d = both_ways _ _ forth back
     where
-      forth : has (set cells at last) d ≡ true → cond (same_place c d) false (has (cells ++ last ∷ []) d) ≡ true
+      forth : has same_place (set cells at last) d ≡ true → cond (same_place c d) false (has same_place (cells ++ last ∷ []) d) ≡ true
       forth h =
           let a = told_member new (set cells at last) removed d h in
           let alive = not_gone d a.0 a.1.1 a.1.0 in
-          ap (λ b. cond b false (has (cells ++ last ∷ []) d)) (apart c d alive) ∙ elim (cases_Bool (same_place last d)) [
+          ap (λ b. cond b false (has same_place (cells ++ last ∷ []) d)) (apart c d alive) ∙ elim (cases_Bool (same_place last d)) [
             | inl t ↦ has_at (cells ++ last ∷ []) (length cells) d (last_is cells last ∙ ap Some (same_place_is last d t))
             | inr f ↦ member old (cells ++ last ∷ []) ok d a.0 a.1.1
                 (sym (number_beside d a.1.1 alive (λ e. false≢true (sym f ∙ ap (same_place last) (sym e) ∙ same_place_itself last))) ∙ a.1.0)
           ]
 
-      back : cond (same_place c d) false (has (cells ++ last ∷ []) d) ≡ true → has (set cells at last) d ≡ true
+      back : cond (same_place c d) false (has same_place (cells ++ last ∷ []) d) ≡ true → has same_place (set cells at last) d ≡ true
       back h = with (cases_Bool (same_place c d)) (cases_Bool (same_place last d))
         where
-          with : (same_place c d ≡ true) ⊎ (same_place c d ≡ false) → (same_place last d ≡ true) ⊎ (same_place last d ≡ false) → has (set cells at last) d ≡ true
-          with (inl t) l = absurd (false≢true (ap (λ b. cond b false (has (cells ++ last ∷ []) d)) (sym t) ∙ h))
+          with : (same_place c d ≡ true) ⊎ (same_place c d ≡ false) → (same_place last d ≡ true) ⊎ (same_place last d ≡ false) → has same_place (set cells at last) d ≡ true
+          with (inl t) l = absurd (false≢true (ap (λ b. cond b false (has same_place (cells ++ last ∷ []) d)) (sym t) ∙ h))
           with (inr f) (inl t) =
               let same = same_place_is last d t in
               let alive : (c ≡ d → ⊥) = (λ e. false≢true (sym f ∙ ap (same_place c) (sym e) ∙ same_place_itself c)) in
@@ -269,7 +269,7 @@ module _ (old mid new : List (List ℕ)) (cells : List Place) (at : ℕ) (c last
               ] in
               has_at (set cells at last) at d (set_here cells at last w ∙ ap Some same)
           with (inr f) (inr g) =
-              let a = told_member old (cells ++ last ∷ []) ok d (ap (λ b. cond b false (has (cells ++ last ∷ []) d)) (sym f) ∙ h) in
+              let a = told_member old (cells ++ last ∷ []) ok d (ap (λ b. cond b false (has same_place (cells ++ last ∷ []) d)) (sym f) ∙ h) in
               member new (set cells at last) removed d a.0 a.1.1
               (number_beside d a.1.1 (λ e. false≢true (sym f ∙ ap (same_place c) (sym e) ∙ same_place_itself c))
               (λ e. false≢true (sym g ∙ ap (same_place last) (sym e) ∙ same_place_itself last)) ∙ a.1.0)

@@ -2,7 +2,7 @@
 use Rattle.std.specs.Prelude.{Bool, List, ◌∷◌, ◌++◌, [], if◌then◌else◌, refl}
 use Rattle.std.specs.Coded.{Coded, code_by, coded_list}
 use Rattle.std.specs.List.{list_any}
-use Rattle.grid_address.specs.Place.{coded_place, same_place, Place}
+use Rattle.grid_address.specs.Place.{coded_place, Place}
 
 -- the cells of a set, in its order
 pub record Cells : Type 0 where
@@ -12,9 +12,10 @@ pub record Cells : Type 0 where
 abbrev pub coded_cells : Coded Cells
 coded_cells = code_by (List Place) (coded_list coded_place) (λ s. s.keys) (λ ks. record { keys = ks }) (λ _. refl)
 
--- whether a cell is one of these
-abbrev pub has : List Place → Place → Bool
-has cells c = list_any (same_place c) cells
+module _ {K : Type 0} (same : K → K → Bool) where
+  -- whether an item is one of these, by the given equality: for cells by `same_place`
+  abbrev pub has : List K → K → Bool
+  has items x = list_any (same x) items
 
 -- the cells after one is added behind them, unless it is there by the given equality
 abbrev pub insert_key : (Place → Place → Bool) → List Place → Place → List Place

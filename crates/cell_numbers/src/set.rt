@@ -88,7 +88,7 @@ impl CellSet {
 
     /// Whether a cell is in the set.
     pub fn contains(&self, cell: Cell) -> bool
-        ensures { result ≡ has self.now.keys cell }
+        ensures { result ≡ has same_place self.now.keys cell }
     {
         cell.is_on_sheet();
         match index_of(&self.table, cell) {
@@ -112,7 +112,8 @@ impl CellSet {
 
     /// Takes a cell out, and puts the last one in its place. It takes no memory.
     pub fn remove(&mut self, cell: Cell)
-        ensures { (d : Place) → has self.new.keys d ≡ cond (same_place cell d) false (has self.old.keys d) }
+        ensures { (d : Place) →
+            has same_place self.new.keys d ≡ cond (same_place cell d) false (has same_place self.old.keys d) }
     {
         cell.is_on_sheet();
         let Some(at) = index_of(&self.table, cell) else {

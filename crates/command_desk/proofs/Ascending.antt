@@ -9,7 +9,7 @@ use Rattle.std.proofs.Common.{sym, ◌∙◌, ap, arith, inl, inr, subst}
 use Rattle.std.proofs.lemmas.Bool.{cases_Bool, false≢true, or_cases, or_left, or_right, true≢false}
 use Rattle.grid_address.proofs.Places.{same_place_is, same_place_itself}
 use Rattle.grid_address.specs.Place.{height_of, place_cmp, same_place, width_of, Extent, Place}
-use Rattle.natural_order.specs.Walk.{has}
+use Rattle.cell_numbers.specs.Sets.{has}
 use Rattle.work_sheet.specs.Cells.{cells_of, row_of, rows_of}
 
 -- each cell comes before those behind it

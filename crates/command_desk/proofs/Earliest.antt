@@ -8,7 +8,7 @@ use Rattle.std.proofs.Common.{sym, ◌∙◌, ap, inl, inr, subst}
 use Rattle.std.proofs.lemmas.Bool.{and_from, and_parts, cases_Bool, false≢true, or_cases, or_left, or_right}
 use Rattle.grid_address.proofs.Places.{cells_exact, cells_total, same_place_is, same_place_itself}
 use Rattle.grid_address.specs.Place.{place_cmp, same_place, Place}
-use Rattle.natural_order.specs.Walk.{has}
+use Rattle.cell_numbers.specs.Sets.{has}
 use Rattle.natural_recalc.proofs.Filled.{has_filtered}
 use Rattle.command_desk.specs.Writing.{first_in_order, unless_before}
 

@@ -14,7 +14,7 @@ use Rattle.grid_address.proofs.Places.{same_place_is}
 use Rattle.grid_address.specs.Formats.{has_protection}
 use Rattle.grid_address.specs.Place.{same_place, Place}
 use Rattle.grid_address.specs.declared.format.Format.{Format}
-use Rattle.natural_order.specs.Walk.{has}
+use Rattle.cell_numbers.specs.Sets.{has}
 use Rattle.natural_recalc.specs.World.{content_of, format_of}
 use Rattle.sheet_edits.proofs.Gathering.{format_changed}
 use Rattle.sheet_edits.proofs.Overlaid.{get_put}

@@ -12,7 +12,7 @@ use Rattle.formula_eval.specs.declared.look.Scene.{Scene}
 use Rattle.formula_tree.specs.declared.value.Content.{Content}
 use Rattle.grid_address.specs.Place.{same_place, Place}
 use Rattle.lics_text.specs.declared.faults.Memory.{Memory}
-use Rattle.natural_order.specs.Walk.{has}
+use Rattle.cell_numbers.specs.Sets.{has}
 use Rattle.natural_recalc.specs.Passes.{SameContents}
 use Rattle.natural_recalc.specs.World.{format_of}
 use Rattle.sheet_edits.specs.Edits.{just, written_state}

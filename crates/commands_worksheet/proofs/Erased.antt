@@ -8,7 +8,7 @@ use Rattle.command_desk.specs.declared.ending.CommandEnd.TheVariants.{Finished}
 use Rattle.formula_eval.specs.Mean.{mean}
 use Rattle.formula_eval.specs.declared.look.Scene.{Scene}
 use Rattle.grid_address.specs.Place.{place_cmp, same_place, Place}
-use Rattle.natural_order.specs.Walk.{has}
+use Rattle.cell_numbers.specs.Sets.{has}
 use Rattle.natural_recalc.specs.Reading.{is_formula_at}
 use Rattle.natural_recalc.specs.World.{formula_of}
 use Rattle.work_sheet.proofs.Done.{did_both}

@@ -31,21 +31,21 @@ kept_itself m c d h = h
 pub kept_on : (a b m : Lists) → AreKept a b → AreKept b m → AreKept a m
 kept_on a b m f g c d h = g c d (f c d h)
 
-pub kept_inserted : (m m' : Lists) (c : Place) (v : Vec Place) → ((d : Place) → get m' d ≡ cond (same_place d c) (Some v) (get m d)) → ((d : Place) → has (list_at m c) d ≡ true → has v.items d ≡ true) → AreKept m m'
+pub kept_inserted : (m m' : Lists) (c : Place) (v : Vec Place) → ((d : Place) → get m' d ≡ cond (same_place d c) (Some v) (get m d)) → ((d : Place) → has same_place (list_at m c) d ≡ true → has same_place v.items d ≡ true) → AreKept m m'
 kept_inserted m m' c v is more d x h = elim (cases_Bool (same_place d c)) [
-  | inl t ↦ ap (λ (o : Option (Vec Place)). has (items_in o) x) (is d ∙ ap (λ b. cond b (Some v) (get m d)) t) ∙ more x (sym (ap (λ p. has (list_at m p) x) (same_place_is d c t)) ∙ h)
-  | inr f ↦ ap (λ (o : Option (Vec Place)). has (items_in o) x) (is d ∙ ap (λ b. cond b (Some v) (get m d)) f) ∙ h
+  | inl t ↦ ap (λ (o : Option (Vec Place)). has same_place (items_in o) x) (is d ∙ ap (λ b. cond b (Some v) (get m d)) t) ∙ more x (sym (ap (λ p. has same_place (list_at m p) x) (same_place_is d c t)) ∙ h)
+  | inr f ↦ ap (λ (o : Option (Vec Place)). has same_place (items_in o) x) (is d ∙ ap (λ b. cond b (Some v) (get m d)) f) ∙ h
 ]
 
 pub list_inserted : (m : Lists) (c : Place) (v : Vec Place) → list_at (insert m c v) c ≡ v.items
 list_inserted m c v = ap (λ (o : Option (Vec Place)). items_in o) (get_inserted m c v c ∙ ap (λ b. cond b (Some v) (get m c)) (same_place_itself c))
 
 -- what a list had it still has where one was put into it, if there was memory
-pub put_has : (b : Bool) (xs : List Place) (i : ℕ) (x d : Place) → has xs d ≡ true → has (cond b (take i xs ++ x ∷ drop i xs) xs) d ≡ true
+pub put_has : (b : Bool) (xs : List Place) (i : ℕ) (x d : Place) → has same_place xs d ≡ true → has same_place (cond b (take i xs ++ x ∷ drop i xs) xs) d ≡ true
 put_has false xs i x d h = h
-put_has true xs i x d h = elim (or_cases (has (take i xs) d) (has (drop i xs) d) (sym (list_any-append (same_place d) (take i xs) (drop i xs)) ∙ ap (λ l. has l d) (take-append-drop i xs) ∙ h)) [
+put_has true xs i x d h = elim (or_cases (has same_place (take i xs) d) (has same_place (drop i xs) d) (sym (list_any-append (same_place d) (take i xs) (drop i xs)) ∙ ap (λ l. has same_place l d) (take-append-drop i xs) ∙ h)) [
   | inl k ↦ list_any-append (same_place d) (take i xs) (x ∷ drop i xs) ∙ or_left _ _ k
-  | inr k ↦ list_any-append (same_place d) (take i xs) (x ∷ drop i xs) ∙ or_right (has (take i xs) d) _ (or_right (same_place d x) _ k)
+  | inr k ↦ list_any-append (same_place d) (take i xs) (x ∷ drop i xs) ∙ or_right (has same_place (take i xs) d) _ (or_right (same_place d x) _ k)
 ]
 
 pub listed_kept : (a b : Lists) (c : Place) (spans : List Extent) → AreKept a b → IsListed a c spans → IsListed b c spans
@@ -90,11 +90,11 @@ one_place s d o w =
 
 -- one more span was gone over
 pub listed_more : (a b : Lists) (c : Place) (spans : List Extent) (i : ℕ) (s : Extent) → i < length spans → s ≡ get_or spans i s → AreKept a b → IsListed a c (take i spans)
-    → (is_one s ≡ true → has (list_at b s.first) c ≡ true) → IsListed b c (take (i + 1) spans)
+    → (is_one s ≡ true → has same_place (list_at b s.first) c ≡ true) → IsListed b c (take (i + 1) spans)
 listed_more a b c spans i s lt e k l here d h = elim (or_cases (hold (filter is_one (take i spans)) d) (hold (filter is_one (s ∷ [])) d) (sym front ∙ h)) [
   | inl m ↦ k d c (l d m)
   | inr m ↦ elim (cases_Bool (is_one s)) [
-    | inl o ↦ subst (λ p. has (list_at b p) c ≡ true) (sym (one_place s d o (single (sym (ap (λ t. hold (cond t (s ∷ []) []) d) o) ∙ m)))) (here o)
+    | inl o ↦ subst (λ p. has same_place (list_at b p) c ≡ true) (sym (one_place s d o (single (sym (ap (λ t. hold (cond t (s ∷ []) []) d) o) ∙ m)))) (here o)
     | inr f ↦ absurd (false≢true (sym (ap (λ t. hold (cond t (s ∷ []) []) d) f) ∙ m))
   ]
 ]

@@ -18,7 +18,7 @@ front cells i n x e le is = drop-cons cells n x (let h = le in let k = e in omeg
 
 pub marked_more : (cells : List Place) (i n : ℕ) (x : Place) (old new : List (List ℕ)) → i ≡ suc n → i ≤ length cells → x ≡ get_or cells n x → InSheet x → AreMarked old (drop i cells)
     → ((d : Place) → InSheet d → number_at new d ≡ cond (same_place x d) 1 (number_at old d)) → AreMarked new (drop n cells)
-marked_more cells i n x old new e le is inside all set d m = elim (or_cases (same_place d x) (has (drop i cells) d) (sym (ap (λ l. has l d) (front cells i n x e le is)) ∙ m)) [
+marked_more cells i n x old new e le is inside all set d m = elim (or_cases (same_place d x) (has same_place (drop i cells) d) (sym (ap (λ l. has same_place l d) (front cells i n x e le is)) ∙ m)) [
   | inl q ↦
       let here : x ≡ d = sym (same_place_is d x q) in
       (subst InSheet here inside, set d (subst InSheet here inside) ∙ ap (λ b. cond b 1 (number_at old d)) (ap (same_place x) (sym here) ∙ same_place_itself x))

@@ -5,7 +5,7 @@ use Rattle.std.specs.List.{filter}
 use Rattle.std.proofs.Common.{sym, ◌∙◌, ap, inl, inr, ◌⊎◌}
 use Rattle.std.proofs.lemmas.Bool.{true≢false, or_cases, or_left, or_right}
 use Rattle.cell_numbers.specs.Sets.{has}
-use Rattle.grid_address.specs.Place.{is_within, Extent, Place}
+use Rattle.grid_address.specs.Place.{is_within, same_place, Extent, Place}
 use Rattle.range_index.proofs.Listed.{owner_told}
 use Rattle.range_index.specs.Owners.{hold, owners_of, Owners}
 use Rattle.depend_graph.specs.Banks.{is_one, spans_at, wide}
@@ -31,9 +31,9 @@ in_part cell (s ∷ ss) h = elim (is_one s) as (λ b. (hold (cond b (s ∷ filte
 
 module _ (m : Slots) (lists : Lists) (even odd : Owners) (all : AreRegistered m even odd) (listed : AreInLists m lists) (cell d : Place) where
   abbrev IsFound : Type 0
-  IsFound = (has (list_at lists cell) d ≡ true) ⊎ ((has (owners_of even cell) d ≡ true) ⊎ (has (owners_of odd cell) d ≡ true))
+  IsFound = (has same_place (list_at lists cell) d ≡ true) ⊎ ((has same_place (owners_of even cell) d ≡ true) ⊎ (has same_place (owners_of odd cell) d ≡ true))
 
-  in_bank : (b : Bool) (n : Node) → spans_at even odd b d ≡ wide n.reads → hold (wide n.reads) cell ≡ true → (has (owners_of even cell) d ≡ true) ⊎ (has (owners_of odd cell) d ≡ true)
+  in_bank : (b : Bool) (n : Node) → spans_at even odd b d ≡ wide n.reads → hold (wide n.reads) cell ≡ true → (has same_place (owners_of even cell) d ≡ true) ⊎ (has same_place (owners_of odd cell) d ≡ true)
   in_bank true n e h = inr (owner_told cell odd d ∙ ap (λ (l : List Extent). hold l cell) e ∙ h)
   in_bank false n e h = inl (owner_told cell even d ∙ ap (λ (l : List Extent). hold l cell) e ∙ h)
 

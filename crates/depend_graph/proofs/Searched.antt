@@ -15,29 +15,29 @@ use Rattle.depend_graph.specs.Within.Within.{reader, seed}
 use Rattle.depend_graph.specs.declared.closure.Search.{Search}
 use Rattle.depend_graph.proofs.Growth.{reader_known, small}
 
-snoc_is : (xs : List Place) (c d : Place) → has (xs ++ c ∷ []) d ≡ true → (has xs d ≡ true) ⊎ (same_place d c ≡ true)
-snoc_is xs c d m = elim (or_cases (has xs d) (same_place d c || false) (sym (list_any-append (same_place d) xs (c ∷ [])) ∙ m)) [
+snoc_is : (xs : List Place) (c d : Place) → has same_place (xs ++ c ∷ []) d ≡ true → (has same_place xs d ≡ true) ⊎ (same_place d c ≡ true)
+snoc_is xs c d m = elim (or_cases (has same_place xs d) (same_place d c || false) (sym (list_any-append (same_place d) xs (c ∷ [])) ∙ m)) [
   | inl h ↦ inl h
   | inr h ↦ elim (or_cases (same_place d c) false h) [ inl q ↦ inr q | inr q ↦ absurd (false≢true q) ]
 ]
 
-snoc_in : (xs : List Place) (c d : Place) → has xs d ≡ true → has (xs ++ c ∷ []) d ≡ true
+snoc_in : (xs : List Place) (c d : Place) → has same_place xs d ≡ true → has same_place (xs ++ c ∷ []) d ≡ true
 snoc_in xs c d h = list_any-append (same_place d) xs (c ∷ []) ∙ or_left _ _ h
 
-snoc_last : (xs : List Place) (c d : Place) → same_place d c ≡ true → has (xs ++ c ∷ []) d ≡ true
-snoc_last xs c d h = list_any-append (same_place d) xs (c ∷ []) ∙ or_right (has xs d) (same_place d c || false) (or_left _ _ h)
+snoc_last : (xs : List Place) (c d : Place) → same_place d c ≡ true → has same_place (xs ++ c ∷ []) d ≡ true
+snoc_last xs c d h = list_any-append (same_place d) xs (c ∷ []) ∙ or_right (has same_place xs d) (same_place d c || false) (or_left _ _ h)
 
 turned : (c d : Place) (b : Bool) → same_place c d ≡ b → same_place d c ≡ b
 turned c d b h = sym (same_place_laws.symm c d) ∙ h
 
-snoc_not : (xs : List Place) (c d : Place) → has xs d ≡ false → same_place d c ≡ false → has (xs ++ c ∷ []) d ≡ false
+snoc_not : (xs : List Place) (c d : Place) → has same_place xs d ≡ false → same_place d c ≡ false → has same_place (xs ++ c ∷ []) d ≡ false
 snoc_not xs c d h k = false_from_ne_true _ (λ m. elim (snoc_is xs c d m) [ inl n ↦ true≢false (sym n ∙ h) | inr n ↦ true≢false (sym n ∙ k) ])
 
 apart_none : IsDistinct same_place []
 unfolding IsDistinct
 apart_none = tt
 
-apart_snoc : (xs : List Place) (c : Place) → IsDistinct same_place xs → has xs c ≡ false → IsDistinct same_place (xs ++ c ∷ [])
+apart_snoc : (xs : List Place) (c : Place) → IsDistinct same_place xs → has same_place xs c ≡ false → IsDistinct same_place (xs ++ c ∷ [])
 unfolding IsDistinct
 apart_snoc [] c d h = (tt, tt)
 apart_snoc (x ∷ xs) c d h = (
@@ -53,30 +53,30 @@ module _ (g : Network) (cells : List Place) where
   -- nothing is met, and the cells are on the stack
   pub searched_none : (s : Search) → ((d : Place) → number_at s.marks d ≡ 0) → s.met.items ≡ [] → s.left.items ≡ [] → s.stack.items ≡ cells → IsSearched g cells s
   searched_none s marks met left stack = record {
-    unmet = λ c i z. ap (λ xs. has xs c) met;
+    unmet = λ c i z. ap (λ xs. has same_place xs c) met;
     marked = λ c i n. absurd (n (marks c));
     over = λ c i n k. absurd (n (marks c));
     begun = λ c m. absurd (none c met m);
     left = λ c m. absurd (none c left m);
-    cells_in = λ c m. inr (ap (λ xs. has xs c) stack ∙ m);
+    cells_in = λ c m. inr (ap (λ xs. has same_place xs c) stack ∙ m);
     readers_in = λ c d m r. absurd (none c met m);
     met = λ c m. absurd (none c met m);
-    stacked = λ c m. seed (sym (ap (λ xs. has xs c) stack) ∙ m);
+    stacked = λ c m. seed (sym (ap (λ xs. has same_place xs c) stack) ∙ m);
     distinct = subst (IsDistinct same_place) (sym met) apart_none;
   }
     where
-      none : {xs : List Place} (c : Place) → xs ≡ [] → has xs c ≡ true → ⊥
-      none c e m = true≢false (sym m ∙ ap (λ ys. has ys c) e)
+      none : {xs : List Place} (c : Place) → xs ≡ [] → has same_place xs c ≡ true → ⊥
+      none c e m = true≢false (sym m ∙ ap (λ ys. has same_place ys c) e)
 
   module _ (s t : Search) (rest : List Place) (c : Place) (h : IsSearched g cells s) (st : s.stack.items ≡ rest ++ c ∷ []) (inside : InSheet c) where
     within_here : Within g cells c
-    within_here = h.stacked c (ap (λ xs. has xs c) st ∙ snoc_last rest c c (same_place_itself c))
+    within_here = h.stacked c (ap (λ xs. has same_place xs c) st ∙ snoc_last rest c c (same_place_itself c))
 
-    old_stack : (d : Place) → has s.stack.items d ≡ true → (has rest d ≡ true) ⊎ (same_place d c ≡ true)
-    old_stack d m = snoc_is rest c d (sym (ap (λ xs. has xs d) st) ∙ m)
+    old_stack : (d : Place) → has same_place s.stack.items d ≡ true → (has same_place rest d ≡ true) ⊎ (same_place d c ≡ true)
+    old_stack d m = snoc_is rest c d (sym (ap (λ xs. has same_place xs d) st) ∙ m)
 
-    in_old : (d : Place) → has rest d ≡ true → has s.stack.items d ≡ true
-    in_old d m = ap (λ xs. has xs d) st ∙ snoc_in rest c d m
+    in_old : (d : Place) → has same_place rest d ≡ true → has same_place s.stack.items d ≡ true
+    in_old d m = ap (λ xs. has same_place xs d) st ∙ snoc_in rest c d m
 
     -- a cell is met
     pub entered : number_at s.marks c ≡ 0 → ((d : Place) → InSheet d → number_at t.marks d ≡ cond (same_place c d) 1 (number_at s.marks d))
@@ -84,21 +84,21 @@ module _ (g : Network) (cells : List Place) where
     entered zero_here marks met left deep = record {
       unmet = λ d i z. elim (cases_Bool (same_place c d)) [
         | inl e ↦ absurd (one_not (sym (at_here d i e) ∙ z))
-        | inr n ↦ ap (λ xs. has xs d) met ∙ snoc_not s.met.items c d (h.unmet d i (sym (at_other d i n) ∙ z)) (turned c d false n)
+        | inr n ↦ ap (λ xs. has same_place xs d) met ∙ snoc_not s.met.items c d (h.unmet d i (sym (at_other d i n) ∙ z)) (turned c d false n)
       ];
       marked = λ d i n. elim (cases_Bool (same_place c d)) [
-        | inl e ↦ ap (λ xs. has xs d) met ∙ snoc_last s.met.items c d (turned c d true e)
+        | inl e ↦ ap (λ xs. has same_place xs d) met ∙ snoc_last s.met.items c d (turned c d true e)
         | inr k ↦ met_in d (h.marked d i (λ z. n (at_other d i k ∙ z)))
       ];
       over = λ d i n k. elim (cases_Bool (same_place c d)) [
         | inl e ↦ absurd (k (at_here d i e))
-        | inr f ↦ ap (λ xs. has xs d) left ∙ h.over d i (λ z. n (at_other d i f ∙ z)) (λ z. k (at_other d i f ∙ z))
+        | inr f ↦ ap (λ xs. has same_place xs d) left ∙ h.over d i (λ z. n (at_other d i f ∙ z)) (λ z. k (at_other d i f ∙ z))
       ];
       begun = λ d m. elim (met_is d m) [
-        | inl k ↦ elim (h.begun d k) [ inl l ↦ inl (ap (λ xs. has xs d) left ∙ l) | inr w ↦ inr (kept d w) ]
+        | inl k ↦ elim (h.begun d k) [ inl l ↦ inl (ap (λ xs. has same_place xs d) left ∙ l) | inr w ↦ inr (kept d w) ]
         | inr q ↦ inr ((deep.members d).1 (inr (inl q)))
       ];
-      left = λ d m. met_in d (h.left d (sym (ap (λ xs. has xs d) left) ∙ m));
+      left = λ d m. met_in d (h.left d (sym (ap (λ xs. has same_place xs d) left) ∙ m));
       cells_in = λ d m. elim (h.cells_in d m) [ inl k ↦ inl (met_in d k) | inr w ↦ inr (kept d w) ];
       readers_in = λ x d m r. elim (met_is x m) [
         | inl k ↦ elim (h.readers_in x d k r) [ inl l ↦ inl (met_in d l) | inr w ↦ inr (kept d w) ]
@@ -121,51 +121,51 @@ module _ (g : Network) (cells : List Place) where
         at_other : (d : Place) → InSheet d → same_place c d ≡ false → number_at t.marks d ≡ number_at s.marks d
         at_other d i e = marks d i ∙ ap (λ b. cond b 1 (number_at s.marks d)) e
 
-        met_in : (d : Place) → has s.met.items d ≡ true → has t.met.items d ≡ true
-        met_in d m = ap (λ xs. has xs d) met ∙ snoc_in s.met.items c d m
+        met_in : (d : Place) → has same_place s.met.items d ≡ true → has same_place t.met.items d ≡ true
+        met_in d m = ap (λ xs. has same_place xs d) met ∙ snoc_in s.met.items c d m
 
-        met_is : (d : Place) → has t.met.items d ≡ true → (has s.met.items d ≡ true) ⊎ (same_place d c ≡ true)
-        met_is d m = snoc_is s.met.items c d (sym (ap (λ xs. has xs d) met) ∙ m)
+        met_is : (d : Place) → has same_place t.met.items d ≡ true → (has same_place s.met.items d ≡ true) ⊎ (same_place d c ≡ true)
+        met_is d m = snoc_is s.met.items c d (sym (ap (λ xs. has same_place xs d) met) ∙ m)
 
-        kept : (d : Place) → has s.stack.items d ≡ true → has t.stack.items d ≡ true
+        kept : (d : Place) → has same_place s.stack.items d ≡ true → has same_place t.stack.items d ≡ true
         kept d m = elim (old_stack d m) [ inl k ↦ (deep.members d).1 (inl k) | inr q ↦ (deep.members d).1 (inr (inl q)) ]
 
     -- a cell that was met is off the stack
-    shortened : t.met.items ≡ s.met.items → t.stack.items ≡ rest → has t.left.items c ≡ true → has s.met.items c ≡ true
-        → ((d : Place) → has s.left.items d ≡ true → has t.left.items d ≡ true) → ((d : Place) → has t.left.items d ≡ true → has s.met.items d ≡ true)
-        → ((d : Place) → InSheet d → number_at t.marks d ≡ 0 → has s.met.items d ≡ false)
-        → ((d : Place) → InSheet d → (number_at t.marks d ≡ 0 → ⊥) → has s.met.items d ≡ true)
-        → ((d : Place) → InSheet d → (number_at t.marks d ≡ 0 → ⊥) → (number_at t.marks d ≡ 1 → ⊥) → has t.left.items d ≡ true) → IsSearched g cells t
+    shortened : t.met.items ≡ s.met.items → t.stack.items ≡ rest → has same_place t.left.items c ≡ true → has same_place s.met.items c ≡ true
+        → ((d : Place) → has same_place s.left.items d ≡ true → has same_place t.left.items d ≡ true) → ((d : Place) → has same_place t.left.items d ≡ true → has same_place s.met.items d ≡ true)
+        → ((d : Place) → InSheet d → number_at t.marks d ≡ 0 → has same_place s.met.items d ≡ false)
+        → ((d : Place) → InSheet d → (number_at t.marks d ≡ 0 → ⊥) → has same_place s.met.items d ≡ true)
+        → ((d : Place) → InSheet d → (number_at t.marks d ≡ 0 → ⊥) → (number_at t.marks d ≡ 1 → ⊥) → has same_place t.left.items d ≡ true) → IsSearched g cells t
     shortened met stack here known more only unmet marked over = record {
-      unmet = λ d i z. ap (λ xs. has xs d) met ∙ unmet d i z;
+      unmet = λ d i z. ap (λ xs. has same_place xs d) met ∙ unmet d i z;
       marked = λ d i n. met_in d (marked d i n);
       over = over;
       begun = λ d m. elim (h.begun d (met_is d m)) [
         | inl l ↦ inl (more d l)
-        | inr w ↦ elim (old_stack d w) [ inl k ↦ inr (stack_in d k) | inr q ↦ inl (subst (λ y. has t.left.items y ≡ true) (sym (same_place_is d c q)) here) ]
+        | inr w ↦ elim (old_stack d w) [ inl k ↦ inr (stack_in d k) | inr q ↦ inl (subst (λ y. has same_place t.left.items y ≡ true) (sym (same_place_is d c q)) here) ]
       ];
       left = λ d m. met_in d (only d m);
       cells_in = λ d m. off d (h.cells_in d m);
       readers_in = λ x d m r. off d (h.readers_in x d (met_is x m) r);
       met = λ d m. h.met d (met_is d m);
-      stacked = λ d m. h.stacked d (in_old d (sym (ap (λ xs. has xs d) stack) ∙ m));
+      stacked = λ d m. h.stacked d (in_old d (sym (ap (λ xs. has same_place xs d) stack) ∙ m));
       distinct = subst (IsDistinct same_place) (sym met) h.distinct;
     }
       where
-        met_in : (d : Place) → has s.met.items d ≡ true → has t.met.items d ≡ true
-        met_in d m = ap (λ xs. has xs d) met ∙ m
+        met_in : (d : Place) → has same_place s.met.items d ≡ true → has same_place t.met.items d ≡ true
+        met_in d m = ap (λ xs. has same_place xs d) met ∙ m
 
-        met_is : (d : Place) → has t.met.items d ≡ true → has s.met.items d ≡ true
-        met_is d m = sym (ap (λ xs. has xs d) met) ∙ m
+        met_is : (d : Place) → has same_place t.met.items d ≡ true → has same_place s.met.items d ≡ true
+        met_is d m = sym (ap (λ xs. has same_place xs d) met) ∙ m
 
-        stack_in : (d : Place) → has rest d ≡ true → has t.stack.items d ≡ true
-        stack_in d m = ap (λ xs. has xs d) stack ∙ m
+        stack_in : (d : Place) → has same_place rest d ≡ true → has same_place t.stack.items d ≡ true
+        stack_in d m = ap (λ xs. has same_place xs d) stack ∙ m
 
-        off : (d : Place) → (has s.met.items d ≡ true) ⊎ (has s.stack.items d ≡ true) → (has t.met.items d ≡ true) ⊎ (has t.stack.items d ≡ true)
+        off : (d : Place) → (has same_place s.met.items d ≡ true) ⊎ (has same_place s.stack.items d ≡ true) → (has same_place t.met.items d ≡ true) ⊎ (has same_place t.stack.items d ≡ true)
         off d (inl m) = inl (met_in d m)
         off d (inr w) = elim (old_stack d w) [
           | inl k ↦ inr (stack_in d k)
-          | inr q ↦ inl (met_in d (subst (λ y. has s.met.items y ≡ true) (sym (same_place_is d c q)) known))
+          | inr q ↦ inl (met_in d (subst (λ y. has same_place s.met.items y ≡ true) (sym (same_place_is d c q)) known))
         ]
 
     -- a cell is left
@@ -177,7 +177,7 @@ module _ (g : Network) (cells : List Place) where
           | inr n ↦ h.unmet d i (sym (at_other d i n) ∙ z)
         ])
         (λ d i n. elim (cases_Bool (same_place c d)) [
-          | inl e ↦ subst (λ y. has s.met.items y ≡ true) (same_place_is c d e) known
+          | inl e ↦ subst (λ y. has same_place s.met.items y ≡ true) (same_place_is c d e) known
           | inr k ↦ h.marked d i (λ z. n (at_other d i k ∙ z))
         ])
         (λ d i n k. elim (cases_Bool (same_place c d)) [
@@ -188,7 +188,7 @@ module _ (g : Network) (cells : List Place) where
         two_not : ◌≡◌ {A = ℕ} 2 0 → ⊥
         two_not e = omega (arith, e)
 
-        known : has s.met.items c ≡ true
+        known : has same_place s.met.items c ≡ true
         known = h.marked c inside some
 
         at_here : (d : Place) → InSheet d → same_place c d ≡ true → number_at t.marks d ≡ 2
@@ -197,26 +197,26 @@ module _ (g : Network) (cells : List Place) where
         at_other : (d : Place) → InSheet d → same_place c d ≡ false → number_at t.marks d ≡ number_at s.marks d
         at_other d i e = marks d i ∙ ap (λ b. cond b 2 (number_at s.marks d)) e
 
-        last : (d : Place) → same_place d c ≡ true → has t.left.items d ≡ true
-        last d q = ap (λ xs. has xs d) left ∙ snoc_last s.left.items c d q
+        last : (d : Place) → same_place d c ≡ true → has same_place t.left.items d ≡ true
+        last d q = ap (λ xs. has same_place xs d) left ∙ snoc_last s.left.items c d q
 
-        more : (d : Place) → has s.left.items d ≡ true → has t.left.items d ≡ true
-        more d m = ap (λ xs. has xs d) left ∙ snoc_in s.left.items c d m
+        more : (d : Place) → has same_place s.left.items d ≡ true → has same_place t.left.items d ≡ true
+        more d m = ap (λ xs. has same_place xs d) left ∙ snoc_in s.left.items c d m
 
-        only : (d : Place) → has t.left.items d ≡ true → has s.met.items d ≡ true
-        only d m = elim (snoc_is s.left.items c d (sym (ap (λ xs. has xs d) left) ∙ m)) [
+        only : (d : Place) → has same_place t.left.items d ≡ true → has same_place s.met.items d ≡ true
+        only d m = elim (snoc_is s.left.items c d (sym (ap (λ xs. has same_place xs d) left) ∙ m)) [
           | inl k ↦ h.left d k
-          | inr q ↦ subst (λ y. has s.met.items y ≡ true) (sym (same_place_is d c q)) known
+          | inr q ↦ subst (λ y. has same_place s.met.items y ≡ true) (sym (same_place_is d c q)) known
         ]
 
     -- a cell that was left before is off the stack
     pub passed : (number_at s.marks c ≡ 0 → ⊥) → (number_at s.marks c ≡ 1 → ⊥) → t.marks ≡ s.marks → t.met.items ≡ s.met.items → t.left.items ≡ s.left.items → t.stack.items ≡ rest → IsSearched g cells t
-    passed some gone marks met left stack = shortened met stack (ap (λ xs. has xs c) left ∙ h.over c inside some gone) (h.marked c inside some)
-        (λ d m. ap (λ xs. has xs d) left ∙ m)
-        (λ d m. h.left d (sym (ap (λ xs. has xs d) left) ∙ m))
+    passed some gone marks met left stack = shortened met stack (ap (λ xs. has same_place xs c) left ∙ h.over c inside some gone) (h.marked c inside some)
+        (λ d m. ap (λ xs. has same_place xs d) left ∙ m)
+        (λ d m. h.left d (sym (ap (λ xs. has same_place xs d) left) ∙ m))
         (λ d i z. h.unmet d i (sym (ap (λ m. number_at m d) marks) ∙ z))
         (λ d i n. h.marked d i (λ z. n (ap (λ m. number_at m d) marks ∙ z)))
-        (λ d i n k. ap (λ xs. has xs d) left ∙ h.over d i (λ z. n (ap (λ m. number_at m d) marks ∙ z)) (λ z. k (ap (λ m. number_at m d) marks ∙ z)))
+        (λ d i n k. ap (λ xs. has same_place xs d) left ∙ h.over d i (λ z. n (ap (λ m. number_at m d) marks ∙ z)) (λ z. k (ap (λ m. number_at m d) marks ∙ z)))
 
     pub shortened_less : t.met.items ≡ s.met.items → t.stack.items ≡ rest → work_left g cells t < work_left g cells s
     shortened_less met stack =
@@ -234,17 +234,17 @@ module _ (g : Network) (cells : List Place) where
         let l = deep.short in
         omega (arith, a, b, k, l)
       where
-        within_known : {d : Place} → Within g cells d → has (cells ++ all g) d ≡ true
+        within_known : {d : Place} → Within g cells d → has same_place (cells ++ all g) d ≡ true
         within_known {d} (seed m) = list_any-append (same_place d) cells (all g) ∙ or_left _ _ m
-        within_known {d} (reader {c = e} w r) = list_any-append (same_place d) cells (all g) ∙ or_right (has cells d) _ (reader_known g d e r)
+        within_known {d} (reader {c = e} w r) = list_any-append (same_place d) cells (all g) ∙ or_right (has same_place cells d) _ (reader_known g d e r)
 
-  met_all : (s : Search) → IsSearched g cells s → s.stack.items ≡ [] → {c : Place} → Within g cells c → has s.met.items c ≡ true
-  met_all s h e {c} (seed m) = elim (h.cells_in c m) [ inl k ↦ k | inr w ↦ absurd (true≢false (sym w ∙ ap (λ xs. has xs c) e)) ]
-  met_all s h e {c} (reader {c = d} w r) = elim (h.readers_in d c (met_all s h e w) r) [ inl k ↦ k | inr w ↦ absurd (true≢false (sym w ∙ ap (λ xs. has xs c) e)) ]
+  met_all : (s : Search) → IsSearched g cells s → s.stack.items ≡ [] → {c : Place} → Within g cells c → has same_place s.met.items c ≡ true
+  met_all s h e {c} (seed m) = elim (h.cells_in c m) [ inl k ↦ k | inr w ↦ absurd (true≢false (sym w ∙ ap (λ xs. has same_place xs c) e)) ]
+  met_all s h e {c} (reader {c = d} w r) = elim (h.readers_in d c (met_all s h e w) r) [ inl k ↦ k | inr w ↦ absurd (true≢false (sym w ∙ ap (λ xs. has same_place xs c) e)) ]
 
   -- with nothing on the stack, what was left is all that is within
-  pub searched_all : (s : Search) → IsSearched g cells s → s.stack.items ≡ [] → (c : Place) → (has s.left.items c ≡ true) ↔ Within g cells c
+  pub searched_all : (s : Search) → IsSearched g cells s → s.stack.items ≡ [] → (c : Place) → (has same_place s.left.items c ≡ true) ↔ Within g cells c
   searched_all s h e c = (
     (λ m. h.met c (h.left c m)),
-    (λ w. elim (h.begun c (met_all s h e w)) [ inl k ↦ k | inr m ↦ absurd (true≢false (sym m ∙ ap (λ xs. has xs c) e)) ]),
+    (λ w. elim (h.begun c (met_all s h e w)) [ inl k ↦ k | inr m ↦ absurd (true≢false (sym m ∙ ap (λ xs. has same_place xs c) e)) ]),
   )

@@ -68,6 +68,6 @@ none_dropped g c f = ap {B = Network} (λ (m : Nodes). record g { formulas = m }
     with d (inr n) = ap (λ b. cond b None (get g.formulas d)) (sym n)
 
 -- what is kept of a cell is what it spreads to
-pub kept_is : (g : Network) (kept : Option Spread) (cell : Place) → IsKept g kept → is_of kept cell ≡ true → (c : Place) → (has (list_of kept) c ≡ true) ↔ IsSpread g (cell ∷ []) c
+pub kept_is : (g : Network) (kept : Option Spread) (cell : Place) → IsKept g kept → is_of kept cell ≡ true → (c : Place) → (has same_place (list_of kept) c ≡ true) ↔ IsSpread g (cell ∷ []) c
 kept_is g None cell h t = absurd (false≢true t)
-kept_is g (Some s) cell h t = subst (λ (x : Place). (c : Place) → (has s.list c ≡ true) ↔ IsSpread g (x ∷ []) c) (same_place_is s.cell cell t) ((h s refl).members)
+kept_is g (Some s) cell h t = subst (λ (x : Place). (c : Place) → (has same_place s.list c ≡ true) ↔ IsSpread g (x ∷ []) c) (same_place_is s.cell cell t) ((h s refl).members)

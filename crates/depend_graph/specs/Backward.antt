@@ -16,23 +16,25 @@ all g = keys_of (entries g.formulas)
 
 -- what was met, what of it was left, and what is still on the stack
 pub record IsSearched (g : Network) (cells : List Place) (s : Search) : Type 0 where
-  pub unmet : (c : Place) → InSheet c → number_at s.marks c ≡ 0 → has s.met.items c ≡ false
-  pub marked : (c : Place) → InSheet c → (number_at s.marks c ≡ 0 → ⊥) → has s.met.items c ≡ true
+  pub unmet : (c : Place) → InSheet c → number_at s.marks c ≡ 0 → has same_place s.met.items c ≡ false
+  pub marked : (c : Place) → InSheet c → (number_at s.marks c ≡ 0 → ⊥) → has same_place s.met.items c ≡ true
   pub over : (c : Place) → InSheet c → (number_at s.marks c ≡ 0 → ⊥) → (number_at s.marks c ≡ 1 → ⊥) →
-      has s.left.items c ≡ true
-  pub begun : (c : Place) → has s.met.items c ≡ true → (has s.left.items c ≡ true) ⊎ (has s.stack.items c ≡ true)
-  pub left : (c : Place) → has s.left.items c ≡ true → has s.met.items c ≡ true
-  pub cells_in : (c : Place) → has cells c ≡ true → (has s.met.items c ≡ true) ⊎ (has s.stack.items c ≡ true)
-  pub readers_in : (c d : Place) → has s.met.items c ≡ true → reads g d c ≡ true →
-      (has s.met.items d ≡ true) ⊎ (has s.stack.items d ≡ true)
-  pub met : (c : Place) → has s.met.items c ≡ true → Within g cells c
-  pub stacked : (c : Place) → has s.stack.items c ≡ true → Within g cells c
+      has same_place s.left.items c ≡ true
+  pub begun : (c : Place) → has same_place s.met.items c ≡ true →
+      (has same_place s.left.items c ≡ true) ⊎ (has same_place s.stack.items c ≡ true)
+  pub left : (c : Place) → has same_place s.left.items c ≡ true → has same_place s.met.items c ≡ true
+  pub cells_in : (c : Place) → has same_place cells c ≡ true →
+      (has same_place s.met.items c ≡ true) ⊎ (has same_place s.stack.items c ≡ true)
+  pub readers_in : (c d : Place) → has same_place s.met.items c ≡ true → reads g d c ≡ true →
+      (has same_place s.met.items d ≡ true) ⊎ (has same_place s.stack.items d ≡ true)
+  pub met : (c : Place) → has same_place s.met.items c ≡ true → Within g cells c
+  pub stacked : (c : Place) → has same_place s.stack.items c ≡ true → Within g cells c
   pub distinct : IsDistinct same_place s.met.items
 
 -- a cell and all that read it were put on the stack
 pub record IsDeeper (g : Network) (c : Place) (old new : List Place) : Type 0 where
   pub members : (d : Place) →
-      (has new d ≡ true) ↔ ((has old d ≡ true) ⊎ ((same_place d c ≡ true) ⊎ (reads g d c ≡ true)))
+      (has same_place new d ≡ true) ↔ ((has same_place old d ≡ true) ⊎ ((same_place d c ≡ true) ⊎ (reads g d c ≡ true)))
   pub short : length new < 2 ^ 64
 
 -- the steps that are left: no more cells are met than there are, and each step without a new one shortens the stack

@@ -4,7 +4,7 @@ use Rattle.std.specs.FinMap.{get, FinMap}
 use Rattle.std.specs.Global.{Vec}
 use Rattle.std.specs.List.{filter}
 use Rattle.cell_numbers.specs.Sets.{has}
-use Rattle.grid_address.specs.Place.{place_cmp, Extent, Place}
+use Rattle.grid_address.specs.Place.{place_cmp, same_place, Extent, Place}
 use Rattle.range_index.specs.Owners.{hold}
 use Rattle.depend_graph.specs.Banks.{is_one}
 use Rattle.depend_graph.specs.Slots.{Slots}
@@ -26,11 +26,11 @@ list_at m c = items_in (get m c)
 
 -- what stood in lists still does
 abbrev pub AreKept : Lists → Lists → Type 0
-AreKept old new = (c d : Place) → has (list_at old c) d ≡ true → has (list_at new c) d ≡ true
+AreKept old new = (c d : Place) → has same_place (list_at old c) d ≡ true → has same_place (list_at new c) d ≡ true
 
 -- a formula stands in the list of each cell that one of the spans is
 abbrev pub IsListed : Lists → Place → List Extent → Type 0
-IsListed m c spans = (d : Place) → hold (filter is_one spans) d ≡ true → has (list_at m d) c ≡ true
+IsListed m c spans = (d : Place) → hold (filter is_one spans) d ≡ true → has same_place (list_at m d) c ≡ true
 
 -- the cells that a formula reads by themselves have it in their lists
 abbrev pub IsInListsOf : Lists → Place → Option Node → Type 0

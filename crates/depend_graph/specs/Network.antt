@@ -4,7 +4,7 @@ use Rattle.std.specs.Coded.{Coded, code_by, coded×}
 use Rattle.std.specs.FinMap as map
 use Rattle.std.specs.FinMap.{get, insert, remove, FinMap}
 use Rattle.cell_numbers.specs.Sets.{has}
-use Rattle.grid_address.specs.Place.{coded_place, place_cmp, Place}
+use Rattle.grid_address.specs.Place.{coded_place, place_cmp, same_place, Place}
 use Rattle.range_index.specs.Owners.{hold}
 use Rattle.depend_graph.specs.Slots.{had, node_in, offer_in, picked, Nodes, Slots}
 use Rattle.depend_graph.specs.declared.node.Node.{Node}
@@ -67,13 +67,13 @@ pub data ReachesCell (reading : Place → Place → Bool) : Place → Place → 
 -- the formula at c reads one of the cells, by itself or through other formulas
 pub record ReachesOneOf (g : Network) (cells : List Place) (c : Place) : Type 0 where
   pub cell : Place
-  pub among : has cells cell ≡ true
+  pub among : has same_place cells cell ≡ true
   pub reached : ReachesCell (reads g) c cell
 
 -- c is a formula, and is one of the cells or reaches one of them
 pub record IsSpread (g : Network) (cells : List Place) (c : Place) : Type 0 where
   pub formula : is_formula g c ≡ true
-  pub way : (has cells c ≡ true) ⊎ ReachesOneOf g cells c
+  pub way : (has same_place cells c ≡ true) ⊎ ReachesOneOf g cells c
 
 -- the network that slots tell
 abbrev pub network_of : Slots → Network
@@ -81,4 +81,4 @@ network_of m = record { formulas = picked node_in m; offers = picked offer_in m 
 
 -- d is one of the formulas, and reads c
 abbrev pub IsReaderAmong : Slots → Place → List Place → Place → Type 0
-IsReaderAmong m c formulas d = (has formulas d ≡ true) × (holds (had node_in (get m d)) c ≡ true)
+IsReaderAmong m c formulas d = (has same_place formulas d ≡ true) × (holds (had node_in (get m d)) c ≡ true)

@@ -9,7 +9,7 @@ use Rattle.depend_graph.specs.declared.spread.Spread.{Spread}
 
 -- the list has the formulas among the cell and those that reach it, and stands in order where that is told
 pub record IsSpreadOf (g : Network) (s : Spread) : Type 0 where
-  pub members : (c : Place) → (has s.list c ≡ true) ↔ IsSpread g (s.cell ∷ []) c
+  pub members : (c : Place) → (has same_place s.list c ≡ true) ↔ IsSpread g (s.cell ∷ []) c
   pub order : s.is_in_order ≡ true → GoesInOrder g s.list
 
 -- so is what is kept, where something is

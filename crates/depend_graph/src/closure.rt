@@ -115,7 +115,7 @@ impl Search {
 
 // The cells, and the formulas that reach one of them, each behind those that read it, as far as circles allow.
 fn within(alloc: Global, graph: &Graph, cells: &[Cell]) -> Result<Vec<Cell>, Memory>
-    ensures { IfOk result (λ l. (c : Place) → (has l.items c ≡ true) ↔ Within graph.now cells.now c) }
+    ensures { IfOk result (λ l. (c : Place) → (has same_place l.items c ≡ true) ↔ Within graph.now cells.now c) }
 {
     let mut search = Search::new(alloc, cells)?;
     'steps: while !search.stack.is_empty() {
@@ -126,8 +126,8 @@ fn within(alloc: Global, graph: &Graph, cells: &[Cell]) -> Result<Vec<Cell>, Mem
 
 // Those of the cells that hold formulas, the last one first.
 fn formulas_backward(alloc: Global, graph: &Graph, cells: &[Cell]) -> Result<CellList, Memory>
-    ensures { IfOk result (λ l. (c : Place) → (has l c ≡ true)
-        ↔ ((has cells.now c ≡ true) × (is_formula graph.now c ≡ true))) }
+    ensures { IfOk result (λ l. (c : Place) → (has same_place l c ≡ true)
+        ↔ ((has same_place cells.now c ≡ true) × (is_formula graph.now c ≡ true))) }
 {
     let mut list = CellList::new(alloc);
     let mut next = cells.len();
@@ -143,7 +143,7 @@ fn formulas_backward(alloc: Global, graph: &Graph, cells: &[Cell]) -> Result<Cel
 
 /// The formulas among the cells, and those that reach one of them, the last one that the search left first.
 pub fn closure(alloc: Global, graph: &Graph, cells: &[Cell]) -> Result<CellList, Memory>
-    ensures { IfOk result (λ l. (c : Place) → (has l c ≡ true) ↔ IsSpread graph.now cells.now c) }
+    ensures { IfOk result (λ l. (c : Place) → (has same_place l c ≡ true) ↔ IsSpread graph.now cells.now c) }
 {
     let left = within(alloc, graph, cells)?;
     let list = formulas_backward(alloc, graph, left.as_slice())?;

@@ -2,7 +2,7 @@
 ghost use Rattle.std.specs.Prelude.{◌≡◌, ◌⊎◌, ◌↔◌, ◌∷◌, [], true, IfOk, OnOk, OnErr, option_copied};
 ghost use Rattle.std.specs.FinMap as map;
 ghost use Rattle.cell_numbers.specs.Sets.{has};
-ghost use Rattle.grid_address.specs.Place.{Place};
+ghost use Rattle.grid_address.specs.Place.{same_place, Place};
 ghost use Rattle.depend_graph.specs.InOrder.{GoesInOrder};
 ghost use Rattle.depend_graph.specs.Network.{accepted, dropped, is_formula, offered, put, reads, withdrawn, IsSpread};
 ghost use Rattle.depend_graph.specs.declared.node.Node.{Node};
@@ -143,8 +143,8 @@ impl Graph {
 
     /// Adds the formulas that read a cell, some of them more than once.
     pub fn add_readers(&self, cell: Cell, found: &mut Vec<Cell>) -> Result<(), Memory>
-        ensures { OnOk result ((d : Place) → (has found.new.items d ≡ true)
-            ↔ ((has found.old.items d ≡ true) ⊎ (reads self.now d cell ≡ true))) }
+        ensures { OnOk result ((d : Place) → (has same_place found.new.items d ≡ true)
+            ↔ ((has same_place found.old.items d ≡ true) ⊎ (reads self.now d cell ≡ true))) }
     {
         add_readers(&self.slots, &self.lists, &self.banks, cell, found)?;
         Ok(())
@@ -153,7 +153,7 @@ impl Graph {
     /// The formulas among the cells, and those that reach one of them through what they read. They are meant to stand
     /// before those that read them, as far as circles allow; no clause tells that.
     pub fn closure(&self, cells: &CellList) -> Result<CellList, Memory>
-        ensures { IfOk result (λ l. (c : Place) → (has l c ≡ true) ↔ IsSpread self.now cells.now c) }
+        ensures { IfOk result (λ l. (c : Place) → (has same_place l c ≡ true) ↔ IsSpread self.now cells.now c) }
     {
         let list = closure(self.alloc, self, cells.as_slice())?;
         Ok(list)
@@ -163,7 +163,7 @@ impl Graph {
     /// while no formula changes, and so is whether they stand in order.
     pub fn spread_of(&mut self, cell: Cell) -> Result<CellList, Memory>
         ensures same { self.new ≡ self.old }
-        ensures list { IfOk result (λ l. (c : Place) → (has l c ≡ true) ↔ IsSpread self.old (cell ∷ []) c) }
+        ensures list { IfOk result (λ l. (c : Place) → (has same_place l c ≡ true) ↔ IsSpread self.old (cell ∷ []) c) }
     {
         if is_of(&self.spread, cell) {
             let list = list_of(self.alloc, &self.spread)?;

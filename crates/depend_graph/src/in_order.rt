@@ -2,7 +2,7 @@
 ghost use Rattle.std.specs.Prelude.{◌≡◌, ◌<◌, ◌≤◌, IfOk, true, false};
 ghost use Rattle.cell_numbers.specs.Numbers.{number_at};
 ghost use Rattle.cell_numbers.specs.Sets.{has};
-ghost use Rattle.grid_address.specs.Place.{is_within, whole, Place};
+ghost use Rattle.grid_address.specs.Place.{is_within, same_place, whole, Place};
 ghost use Rattle.range_index.specs.Owners.{hold};
 ghost use Rattle.depend_graph.specs.Banks.{is_one};
 ghost use Rattle.depend_graph.specs.InOrder.{AreMarked, GoesInOrder, StandsFirst};
@@ -53,7 +53,7 @@ fn is_unmarked(marked: &Marks, span: Span) -> bool
 
 // Whether a span holds none of the cells.
 fn holds_none(span: Span, cells: &[Cell]) -> bool
-    ensures { result ≡ true → (d : Place) → has cells.now d ≡ true → is_within span d ≡ false }
+    ensures { result ≡ true → (d : Place) → has same_place cells.now d ≡ true → is_within span d ≡ false }
 {
     for cell in cells {
         if span.contains(*cell) {
@@ -67,7 +67,7 @@ fn holds_none(span: Span, cells: &[Cell]) -> bool
 // cells, whichever are fewer.
 fn is_clear(marked: &Marks, cells: &[Cell], span: Span) -> bool
     requires { AreMarked marked.now cells.now }
-    ensures { result ≡ true → (d : Place) → has cells.now d ≡ true → is_within span d ≡ false }
+    ensures { result ≡ true → (d : Place) → has same_place cells.now d ≡ true → is_within span d ≡ false }
 {
     if is_one(span) {
         return is_unmarked(marked, span);
@@ -83,7 +83,7 @@ fn is_clear(marked: &Marks, cells: &[Cell], span: Span) -> bool
 // Whether the spans hold none of the cells, which are marked.
 fn are_clear(marked: &Marks, cells: &[Cell], spans: &[Span]) -> bool
     requires { AreMarked marked.now cells.now }
-    ensures { result ≡ true → (d : Place) → has cells.now d ≡ true → hold spans.now d ≡ false }
+    ensures { result ≡ true → (d : Place) → has same_place cells.now d ≡ true → hold spans.now d ≡ false }
 {
     for span in spans {
         if !is_clear(marked, cells, *span) {

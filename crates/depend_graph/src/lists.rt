@@ -2,7 +2,7 @@
 ghost use Rattle.std.specs.Prelude.{◌≡◌, ◌≤◌, length, true, IfOk, OnOk};
 ghost use Rattle.std.specs.FinMap as map;
 ghost use Rattle.cell_numbers.specs.Sets.{has};
-ghost use Rattle.grid_address.specs.Place.{place_cmp, Place};
+ghost use Rattle.grid_address.specs.Place.{place_cmp, same_place, Place};
 ghost use Rattle.depend_graph.specs.Banks.{is_one};
 ghost use Rattle.depend_graph.specs.Lists.{list_at, AreKept, IsListed};
 
@@ -45,8 +45,8 @@ fn place_for(list: &[Cell], cell: Cell) -> usize
 
 // Puts a cell into a list, unless it is there.
 fn put(list: &mut Vec<Cell>, cell: Cell) -> Result<(), Memory>
-    ensures kept { (d : Place) → has list.old.items d ≡ true → has list.new.items d ≡ true }
-    ensures here { OnOk result (has list.new.items cell ≡ true) }
+    ensures kept { (d : Place) → has same_place list.old.items d ≡ true → has same_place list.new.items d ≡ true }
+    ensures here { OnOk result (has same_place list.new.items cell ≡ true) }
 {
     let at = place_for(list.as_slice(), cell);
     if at < list.len() && list[at] == cell {
@@ -58,7 +58,7 @@ fn put(list: &mut Vec<Cell>, cell: Cell) -> Result<(), Memory>
 
 // A list of one cell.
 fn one(alloc: Global, cell: Cell) -> Result<Vec<Cell>, Memory>
-    ensures { IfOk result (λ l. has l.items cell ≡ true) }
+    ensures { IfOk result (λ l. has same_place l.items cell ≡ true) }
 {
     let mut list = Vec::new(alloc);
     list.push(cell)?;
@@ -68,7 +68,7 @@ fn one(alloc: Global, cell: Cell) -> Result<Vec<Cell>, Memory>
 // Puts a formula into the list of a cell.
 fn add(lists: &mut Lists, alloc: Global, cell: Cell, formula: Cell) -> Result<(), Memory>
     ensures kept { AreKept lists.old lists.new }
-    ensures here { OnOk result (has (list_at lists.new cell) formula ≡ true) }
+    ensures here { OnOk result (has same_place (list_at lists.new cell) formula ≡ true) }
 {
     match lists.get_mut(cell) {
         Some(list) => put(list, formula),
@@ -83,7 +83,7 @@ fn add(lists: &mut Lists, alloc: Global, cell: Cell, formula: Cell) -> Result<()
 // Puts a formula into the list of the cell that a span is, if it is one.
 fn add_span(lists: &mut Lists, alloc: Global, span: Span, formula: Cell) -> Result<(), Memory>
     ensures kept { AreKept lists.old lists.new }
-    ensures here { OnOk result (is_one span ≡ true → has (list_at lists.new span.first) formula ≡ true) }
+    ensures here { OnOk result (is_one span ≡ true → has same_place (list_at lists.new span.first) formula ≡ true) }
 {
     if is_one(span) {
         add(lists, alloc, span.first, formula)?;

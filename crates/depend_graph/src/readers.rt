@@ -2,7 +2,7 @@
 ghost use Rattle.std.specs.Prelude.{◌≡◌, ◌⊎◌, ◌↔◌, true, OnOk, IfOk, ◌++◌, ◌∷◌, []};
 ghost use Rattle.std.specs.FinMap as map;
 ghost use Rattle.cell_numbers.specs.Sets.{has};
-ghost use Rattle.grid_address.specs.Place.{Place};
+ghost use Rattle.grid_address.specs.Place.{same_place, Place};
 ghost use Rattle.range_index.specs.Owners.{owners_of};
 ghost use Rattle.depend_graph.specs.Lists.{list_at, AreInLists};
 ghost use Rattle.depend_graph.specs.Network.{holds, network_of, reads, IsReaderAmong};
@@ -33,8 +33,8 @@ fn add_those(
     cell: Cell,
     found: &mut Vec<Cell>,
 ) -> Result<(), Memory>
-    ensures { OnOk result ((d : Place) → (has found.new.items d ≡ true)
-        ↔ ((has found.old.items d ≡ true) ⊎ IsReaderAmong slots.now cell formulas.now d)) }
+    ensures { OnOk result ((d : Place) → (has same_place found.new.items d ≡ true)
+        ↔ ((has same_place found.old.items d ≡ true) ⊎ IsReaderAmong slots.now cell formulas.now d)) }
 {
     for formula in formulas {
         if reads(slots, *formula, cell) {
@@ -51,8 +51,8 @@ fn add_listed(
     cell: Cell,
     found: &mut Vec<Cell>,
 ) -> Result<(), Memory>
-    ensures { OnOk result ((d : Place) → (has found.new.items d ≡ true)
-        ↔ ((has found.old.items d ≡ true) ⊎ IsReaderAmong slots.now cell (list_at lists.now cell) d)) }
+    ensures { OnOk result ((d : Place) → (has same_place found.new.items d ≡ true)
+        ↔ ((has same_place found.old.items d ≡ true) ⊎ IsReaderAmong slots.now cell (list_at lists.now cell) d)) }
 {
     match lists.get(cell) {
         Some(list) => add_those(slots, list.as_slice(), cell, found),
@@ -67,8 +67,8 @@ fn add_owners(
     cell: Cell,
     found: &mut Vec<Cell>,
 ) -> Result<(), Memory>
-    ensures { OnOk result ((d : Place) → (has found.new.items d ≡ true)
-        ↔ ((has found.old.items d ≡ true) ⊎ IsReaderAmong slots.now cell (owners_of index.now cell) d)) }
+    ensures { OnOk result ((d : Place) → (has same_place found.new.items d ≡ true)
+        ↔ ((has same_place found.old.items d ≡ true) ⊎ IsReaderAmong slots.now cell (owners_of index.now cell) d)) }
 {
     if index.is_empty() {
         return Ok(());
@@ -87,8 +87,8 @@ pub fn add_readers(
 ) -> Result<(), Memory>
     requires registered { AreRegistered slots.now banks.now.even banks.now.odd }
     requires listed { AreInLists slots.now lists.now }
-    ensures { OnOk result ((d : Place) → (has found.new.items d ≡ true)
-        ↔ ((has found.old.items d ≡ true) ⊎ (reads (network_of slots.now) d cell ≡ true))) }
+    ensures { OnOk result ((d : Place) → (has same_place found.new.items d ≡ true)
+        ↔ ((has same_place found.old.items d ≡ true) ⊎ (reads (network_of slots.now) d cell ≡ true))) }
 {
     add_listed(slots, lists, cell, found)?;
     add_owners(slots, &banks.even, cell, found)?;

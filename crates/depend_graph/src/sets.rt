@@ -19,7 +19,8 @@ pub fn insert(set: &mut CellSet, cell: Cell) -> Result<(), Memory>
 
 /// Adds cells behind the others. Where there is no memory some may have been added.
 pub fn insert_all(set: &mut CellSet, cells: &[Cell]) -> Result<(), Memory>
-    ensures members { OnOk result ((c : Place) → has set.new.keys c ≡ (has set.old.keys c || has cells.now c)) }
+    ensures members { OnOk result
+        ((c : Place) → has same_place set.new.keys c ≡ (has same_place set.old.keys c || has same_place cells.now c)) }
     ensures extends { Extends set.old.keys set.new.keys }
 {
     for cell in cells {

@@ -7,7 +7,8 @@ use Rattle.std.proofs.lemmas.Bool.{true≢false, or_cases, or_left, or_right, or
 use Rattle.std.proofs.lemmas.List.Folds.{list_any-append}
 use Rattle.std.proofs.lemmas.Map.Made.{length-le_from_is_member}
 use Rattle.std.proofs.lemmas.Map.Keys.{IsDistinct-cons}
-use Rattle.natural_order.specs.Walk.{Walked, has, appended, raised, walk, unwalked, Reaches, IsExact, Precedes, OrderCovers, OrderPrecedes}
+use Rattle.cell_numbers.specs.Sets.{has}
+use Rattle.natural_order.specs.Walk.{Walked, appended, raised, walk, unwalked, Reaches, IsExact, Precedes, OrderCovers, OrderPrecedes}
 use Rattle.natural_order.specs.Walk.Reaches.{one, more}
 use Rattle.natural_order.proofs.Cut.{Each, Each-from_has}
 

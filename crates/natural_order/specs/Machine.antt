@@ -3,7 +3,8 @@ use Rattle.std.specs.Prelude.{ℕ, suc, ◌≡◌, ◌-◌, ◌+◌, Bool, true,
 use Rattle.std.specs.List.{fold, sum_by, IsDistinct}
 use Rattle.grid_address.specs.Place.{same_place, Place}
 use Rattle.indexmap.specs.IndexSet.{IndexSet}
-use Rattle.natural_order.specs.Walk.{Walked, appended, walk, has}
+use Rattle.cell_numbers.specs.Sets.{has}
+use Rattle.natural_order.specs.Walk.{Walked, appended, walk}
 use Rattle.natural_order.specs.declared.walker.Frame.{Frame}
 
 -- what a set of done cells says of a walk: these in the order in which they were done, and whether it met a circle

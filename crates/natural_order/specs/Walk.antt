@@ -1,6 +1,7 @@
 -- The natural order, over any kind of cell. eq tells cells apart, pre gives the formula cells that a formula reads.
 use Rattle.std.specs.Prelude.{ℕ, zero, suc, ◌≡◌, Bool, true, false, cond, List, [], ◌∷◌, ◌++◌, length, ◌⊎◌}
-use Rattle.std.specs.List.{fold, filter, list_any}
+use Rattle.std.specs.List.{fold, filter}
+use Rattle.cell_numbers.specs.Sets.{has}
 
 -- what a walk has made: the cells appended, and whether it met a cell on its path
 pub record Walked (K : Type 0) : Type 0 where
@@ -8,9 +9,6 @@ pub record Walked (K : Type 0) : Type 0 where
   pub circular : Bool
 
 module _ {K : Type 0} (eq : K → K → Bool) where
-  abbrev pub has : List K → K → Bool
-  has xs x = list_any (eq x) xs
-
   abbrev pub appended : K → Walked K → Walked K
   appended c s = record { done = s.done ++ c ∷ []; circular = s.circular }
 
@@ -21,8 +19,8 @@ module _ {K : Type 0} (eq : K → K → Bool) where
   abbrev pub walk : (K → List K) → ℕ → List K → Walked K → K → Walked K
   walk pre zero path s c = s
   walk pre (suc n) path s c =
-      cond (has s.done c) s
-      (cond (has path c) (raised s)
+      cond (has eq s.done c) s
+      (cond (has eq path c) (raised s)
       (appended c (fold (walk pre n (c ∷ path)) s (pre c))))
 
   abbrev pub unwalked : Walked K
@@ -34,13 +32,13 @@ module _ {K : Type 0} (eq : K → K → Bool) where
 
   -- c reaches d through formulas
   pub data Reaches (pre : K → List K) : K → K → Type 0 where
-    one : {c d : K} → has (pre c) d ≡ true → Reaches pre c d
-    more : {c e d : K} → has (pre c) e ≡ true → Reaches pre e d → Reaches pre c d
+    one : {c d : K} → has eq (pre c) d ≡ true → Reaches pre c d
+    more : {c e d : K} → has eq (pre c) e ≡ true → Reaches pre e d → Reaches pre c d
 
   pub record IsSplit (pre : K → List K) (dirty : K → Bool) : Type 0 where
     pub same : (x y : K) → eq x y ≡ true → x ≡ y
     pub refl_eq : (x : K) → eq x x ≡ true
-    pub up : (c d : K) → has (pre c) d ≡ true → dirty d ≡ true → dirty c ≡ true
+    pub up : (c d : K) → has eq (pre c) d ≡ true → dirty d ≡ true → dirty c ≡ true
     pub acyclic : (c : K) → dirty c ≡ false → Reaches pre c c → ⊥
 
   abbrev pub cut : (K → Bool) → Walked K → Walked K
@@ -54,7 +52,7 @@ module _ {K : Type 0} (eq : K → K → Bool) where
   -- along the list, what a cell reads stands before it, or among the seen, unless the cell reaches itself
   abbrev pub Precedes : (K → List K) → List K → List K → Type 0
   Precedes pre seen [] = Unit {0}
-  Precedes pre seen (c ∷ cs) = ((d : K) → has (pre c) d ≡ true → (has seen d ≡ true) ⊎ Reaches pre c c)
+  Precedes pre seen (c ∷ cs) = ((d : K) → has eq (pre c) d ≡ true → (has eq seen d ≡ true) ⊎ Reaches pre c c)
       × Precedes pre (c ∷ seen) cs
 
   -- ≡ as eq tells it
@@ -65,10 +63,11 @@ module _ {K : Type 0} (eq : K → K → Bool) where
   -- in the order of the roots, a cell stands after all that it reads, unless it reaches itself
   abbrev pub OrderPrecedes : Type 0
   OrderPrecedes = IsExact → (pre : K → List K) (all roots : List K) →
-      ((c d : K) → has (pre c) d ≡ true → has all d ≡ true) → ((c : K) → has roots c ≡ true → has all c ≡ true)
+      ((c d : K) → has eq (pre c) d ≡ true → has eq all d ≡ true) →
+      ((c : K) → has eq roots c ≡ true → has eq all c ≡ true)
       → Precedes pre [] (order pre (suc (length all)) roots).done
 
   -- each of the roots stands in their order
   abbrev pub OrderCovers : Type 0
-  OrderCovers = IsExact → (pre : K → List K) (all roots : List K) → (x : K) → has roots x ≡ true →
-      has (order pre (suc (length all)) roots).done x ≡ true
+  OrderCovers = IsExact → (pre : K → List K) (all roots : List K) → (x : K) → has eq roots x ≡ true →
+      has eq (order pre (suc (length all)) roots).done x ≡ true

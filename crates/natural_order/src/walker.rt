@@ -3,7 +3,8 @@ ghost use Rattle.std.specs.Prelude.{◌≡◌, ◌<◌, ◌≤◌, [], ◌∷◌
 ghost use Rattle.grid_address.specs.Place.{same_place, Place};
 ghost use Rattle.indexmap.specs.IndexSet.{insert_key, IsUnique};
 ghost use Rattle.natural_order.specs.Machine.{finish, fuel, trail, walked, walk_on, work_left, Entered, IsOnPath};
-ghost use Rattle.natural_order.specs.Walk.{has, order, walk};
+ghost use Rattle.cell_numbers.specs.Sets.{has};
+ghost use Rattle.natural_order.specs.Walk.{order, walk};
 
 use crate::Precedents;
 use grid_address::Cell;

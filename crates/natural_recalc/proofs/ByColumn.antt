@@ -9,7 +9,7 @@ use Rattle.std.proofs.lemmas.List.Folds.{list_any-append}
 use Rattle.grid_address.proofs.Places.{same_place_is, same_place_itself}
 use Rattle.grid_address.specs.Place.{same_place, InSheet, Place}
 use Rattle.natural_order.proofs.Cut.{filter-append, filter_in}
-use Rattle.natural_order.specs.Walk.{has}
+use Rattle.cell_numbers.specs.Sets.{has}
 use Rattle.natural_recalc.specs.Reading.{by_columns, of_columns}
 
 abbrev in_column : ℕ → Place → Bool

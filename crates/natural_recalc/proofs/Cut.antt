@@ -11,7 +11,8 @@ use Rattle.grid_address.specs.Place.{same_place, Place}
 use Rattle.formula_eval.specs.World.{World}
 use Rattle.formula_tree.specs.Spans.{spans_of}
 use Rattle.formula_tree.specs.Tree.{Tree}
-use Rattle.natural_order.specs.Walk.{has, Reaches}
+use Rattle.cell_numbers.specs.Sets.{has}
+use Rattle.natural_order.specs.Walk.{Reaches}
 use Rattle.range_index.specs.Owners.{hold}
 use Rattle.sheet_store.specs.Grid.{set_value_at, Grid}
 use Rattle.natural_recalc.proofs.Members.{has_pre, pre_along}

@@ -6,7 +6,8 @@ use Rattle.std.proofs.lemmas.Bool.{true≢false, and_parts, false_from_ne_true, 
 use Rattle.grid_address.specs.Place.{same_place, Place}
 use Rattle.depend_graph.specs.Network.{ReachesCell}
 use Rattle.depend_graph.specs.Network.ReachesCell.{direct, through}
-use Rattle.natural_order.specs.Walk.{has, Reaches}
+use Rattle.cell_numbers.specs.Sets.{has}
+use Rattle.natural_order.specs.Walk.{Reaches}
 use Rattle.natural_order.specs.Walk.Reaches.{one, more}
 use Rattle.range_index.specs.Owners.{hold}
 use Rattle.sheet_store.specs.Grid.{Grid}

@@ -11,7 +11,8 @@ use Rattle.grid_address.proofs.Places.{cells_total, same_place_is, same_place_la
 use Rattle.grid_address.specs.Place.{place_cmp, same_place, Place}
 use Rattle.natural_order.proofs.Cut.{filter_passes, has-filter}
 use Rattle.natural_order.proofs.Settle.{same_bools}
-use Rattle.natural_order.specs.Walk.{has, Precedes}
+use Rattle.cell_numbers.specs.Sets.{has}
+use Rattle.natural_order.specs.Walk.{Precedes}
 use Rattle.sheet_store.specs.Grid.{formulas, Grid}
 use Rattle.natural_recalc.proofs.Ascending.{formulas_ascend}
 use Rattle.natural_recalc.proofs.Cut.{sound_all}

@@ -16,7 +16,7 @@ use Rattle.grid_address.specs.Place.{height_of, is_within, place_cmp, same_place
 use Rattle.formula_tree.specs.Values.{is_filled}
 use Rattle.formula_eval.specs.World.{block_cells, cells_of, row_cells}
 use Rattle.natural_order.proofs.Cut.{filter_passes, has-filter}
-use Rattle.natural_order.specs.Walk.{has}
+use Rattle.cell_numbers.specs.Sets.{has}
 use Rattle.sheet_store.specs.Grid.{any_state, cells_within, Grid}
 use Rattle.sheet_store.specs.declared.state.CellState.{CellState}
 use Rattle.natural_recalc.specs.Laws.{has_picked, passes_at, Ascends}

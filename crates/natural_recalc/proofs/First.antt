@@ -11,7 +11,8 @@ use Rattle.formula_tree.specs.Tree.{Tree}
 use Rattle.natural_order.proofs.Cut.{filter_in, filter_passes, has-filter, order_is_cut}
 use Rattle.natural_order.proofs.Settle.{order_covers, order_precedes, same_bools}
 use Rattle.natural_order.specs.Machine.{fuel}
-use Rattle.natural_order.specs.Walk.{has, order, IsExact, IsSplit, Precedes, Reaches, Walked}
+use Rattle.cell_numbers.specs.Sets.{has}
+use Rattle.natural_order.specs.Walk.{order, IsExact, IsSplit, Precedes, Reaches, Walked}
 use Rattle.natural_order.specs.Walk.Reaches.{one, more}
 use Rattle.range_index.specs.Owners.{hold}
 use Rattle.sheet_store.specs.Grid.{formulas, Grid}

@@ -12,7 +12,8 @@ use Rattle.formula_tree.specs.Spans.{is_volatile, spans_of}
 use Rattle.formula_tree.specs.Tree.{Tree}
 use Rattle.depend_graph.specs.Network.{put, Network}
 use Rattle.depend_graph.specs.Slots.{Nodes}
-use Rattle.natural_order.specs.Walk.{has, Reaches}
+use Rattle.cell_numbers.specs.Sets.{has}
+use Rattle.natural_order.specs.Walk.{Reaches}
 use Rattle.natural_order.specs.Walk.Reaches.{more, one}
 use Rattle.sheet_store.specs.Grid.{is_kept, put_state, Grid}
 use Rattle.sheet_store.specs.declared.state.CellState.{CellState}

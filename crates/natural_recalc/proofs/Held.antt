@@ -8,7 +8,8 @@ use Rattle.grid_address.proofs.Places.{same_place_is, same_place_itself}
 use Rattle.grid_address.specs.Place.{same_place, Place}
 use Rattle.formula_tree.specs.Tree.{Tree}
 use Rattle.natural_order.proofs.Cut.{filter_in, has-filter}
-use Rattle.natural_order.specs.Walk.{has, Precedes, Reaches}
+use Rattle.cell_numbers.specs.Sets.{has}
+use Rattle.natural_order.specs.Walk.{Precedes, Reaches}
 use Rattle.natural_order.specs.Walk.Reaches.{one, more}
 use Rattle.sheet_store.specs.Grid.{Grid}
 use Rattle.natural_recalc.specs.Passes.{is_held, LeftSoFar}

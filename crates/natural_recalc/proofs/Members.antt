@@ -8,7 +8,7 @@ use Rattle.std.proofs.lemmas.Map.Lookups.{btree_set_from_contains}
 use Rattle.grid_address.proofs.Places.{cells_exact, cells_total, place_tied}
 use Rattle.grid_address.specs.Place.{is_within, place_cmp, same_place, Extent, Place}
 use Rattle.formula_tree.specs.Tree.{Tree}
-use Rattle.natural_order.specs.Walk.{has}
+use Rattle.cell_numbers.specs.Sets.{has}
 use Rattle.range_index.specs.Owners.{hold}
 use Rattle.sheet_store.specs.Grid.{formulas, formulas_within, holds_formula, Grid}
 use Rattle.natural_recalc.proofs.Ascending.{formulas_ascend, picked_ascends}

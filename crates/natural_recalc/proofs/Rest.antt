@@ -11,7 +11,8 @@ use Rattle.formula_tree.specs.Spans.{spans_of}
 use Rattle.formula_tree.specs.Tree.{Tree}
 use Rattle.formula_tree.specs.declared.value.Value.{Value}
 use Rattle.natural_order.proofs.Settle.{order_covers, order_precedes}
-use Rattle.natural_order.specs.Walk.{has, IsExact, Precedes, Reaches}
+use Rattle.cell_numbers.specs.Sets.{has}
+use Rattle.natural_order.specs.Walk.{IsExact, Precedes, Reaches}
 use Rattle.natural_order.specs.Walk.Reaches.{one}
 use Rattle.range_index.specs.Owners.{hold}
 use Rattle.sheet_store.specs.Grid.{formulas, Grid}

@@ -7,7 +7,7 @@ use Rattle.std.proofs.lemmas.List.Kept.{IsStrictlySortedBy-dedup, IsStrictlySort
 use Rattle.std.proofs.lemmas.Map.Keys.{IsDistinct-IsPermutation}
 use Rattle.grid_address.proofs.Places.{cells_total, place_tied, same_place_laws}
 use Rattle.grid_address.specs.Place.{place_cmp, same_place, Place}
-use Rattle.natural_order.specs.Walk.{has}
+use Rattle.cell_numbers.specs.Sets.{has}
 use Rattle.sheet_store.specs.Grid.{formulas, Grid}
 use Rattle.natural_recalc.proofs.Ascending.{formulas_ascend}
 use Rattle.natural_recalc.proofs.Filled.{has_filtered}

@@ -1,7 +1,7 @@
 -- Formulas in an order in which each comes after all of them that it reads.
 use Rattle.std.specs.Prelude.{◌≡◌, true, false, List, [], ◌∷◌}
 use Rattle.grid_address.specs.Place.{same_place, Place}
-use Rattle.natural_order.specs.Walk.{has}
+use Rattle.cell_numbers.specs.Sets.{has}
 use Rattle.range_index.specs.Owners.{hold}
 use Rattle.sheet_store.specs.Grid.{Grid}
 use Rattle.natural_recalc.specs.Passes.{pass, IsSound, Meaning}

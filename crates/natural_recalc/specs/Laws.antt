@@ -17,7 +17,7 @@ use Rattle.grid_address.specs.Place.{is_within, place_cmp, same_place, Extent, P
 use Rattle.formula_tree.specs.declared.value.Content.{Content}
 use Rattle.formula_tree.specs.declared.value.Content.TheVariants as content
 use Rattle.natural_order.proofs.Cut.{filter_in}
-use Rattle.natural_order.specs.Walk.{has}
+use Rattle.cell_numbers.specs.Sets.{has}
 use Rattle.range_index.specs.Owners.{hold}
 use Rattle.sheet_store.specs.Grid.{formulas, formulas_among, formulas_within, holds_formula, is_formula, picked, Grid}
 use Rattle.sheet_store.specs.declared.state.CellState.{CellState}
@@ -47,7 +47,7 @@ pub ahead : (x : Place) (ys : List Place) → AllByRecursion (λ y. place_cmp x 
 ahead x [] h = refl
 ahead x (y ∷ ys) h =
     ap (λ b. b || has same_place ys x) (false_from_ne_true (same_place x y)
-        (λ e. apart (subst (λ z. place_cmp x z ≡ Less) (sym (same_place_is x y e)) h.0)))
+    (λ e. apart (subst (λ z. place_cmp x z ≡ Less) (sym (same_place_is x y e)) h.0)))
     ∙ ahead x ys h.1
   where
     differ : Equal ≡ Less → ⊥
@@ -157,7 +157,7 @@ pub told_formulas : (g : Grid) (ss : List Extent) (p : Place → Bool) (d : Plac
 told_formulas g ss p d h =
     has_formula g d
     ∙ first (is_formula_at g d) (hold ss d)
-        (sym (has_in g ss d) ∙ filter_in same_place same_place_is p (formulas_in g ss) d h)
+    (sym (has_in g ss d) ∙ filter_in same_place same_place_is p (formulas_in g ss) d h)
   where
     first : (x y : Bool) → (x && y) ≡ true → x ≡ true
     first true y k = refl

@@ -9,7 +9,8 @@ use Rattle.formula_tree.specs.declared.value.Value.{Value}
 use Rattle.formula_eval.specs.Mean.{Reads}
 use Rattle.formula_eval.specs.World.{World}
 use Rattle.depend_graph.specs.Network.{ReachesCell}
-use Rattle.natural_order.specs.Walk.{has, Reaches}
+use Rattle.cell_numbers.specs.Sets.{has}
+use Rattle.natural_order.specs.Walk.{Reaches}
 use Rattle.sheet_store.specs.Grid.{set_value_at, Grid}
 use Rattle.sheet_store.specs.declared.order.Order.{Order}
 use Rattle.sheet_store.specs.declared.order.Order.TheVariants as orders

@@ -9,7 +9,8 @@ use Rattle.formula_tree.specs.Tree.{Tree}
 use Rattle.depend_graph.specs.Network.{put, Network}
 use Rattle.depend_graph.specs.declared.node.Node.{Node}
 use Rattle.natural_order.specs.Machine.{fuel}
-use Rattle.natural_order.specs.Walk.{has, order, Reaches, Walked}
+use Rattle.cell_numbers.specs.Sets.{has}
+use Rattle.natural_order.specs.Walk.{order, Reaches, Walked}
 use Rattle.range_index.specs.Owners.{hold}
 use Rattle.sheet_store.specs.Grid.{formulas, formulas_within, Grid}
 use Rattle.sheet_store.specs.declared.order.Order.{Order}

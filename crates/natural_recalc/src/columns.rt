@@ -2,7 +2,7 @@
 ghost use Rattle.std.specs.Prelude.{◌≡◌, ◌<◌, ◌++◌, length, nat_eq, IfOk, OnOk, true};
 ghost use Rattle.std.specs.List.{filter};
 ghost use Rattle.grid_address.specs.Place.{same_place, InSheet, Place};
-ghost use Rattle.natural_order.specs.Walk.{has};
+ghost use Rattle.cell_numbers.specs.Sets.{has};
 ghost use Rattle.natural_recalc.specs.Reading.{by_columns};
 
 use grid_address::Cell;

@@ -2,7 +2,8 @@
 ghost use Rattle.std.specs.Prelude.{◌≡◌, [], IfOk, OnOk, true, false};
 ghost use Rattle.std.specs.List.{filter};
 ghost use Rattle.grid_address.specs.Place.{same_place, Place};
-ghost use Rattle.natural_order.specs.Walk.{has, Precedes};
+ghost use Rattle.cell_numbers.specs.Sets.{has};
+ghost use Rattle.natural_order.specs.Walk.{Precedes};
 ghost use Rattle.natural_recalc.specs.Passes.{is_held, IsWhatStays};
 ghost use Rattle.natural_recalc.specs.Reading.{pre, Matches, StaysDirty};
 

@@ -3,7 +3,7 @@ ghost use Rattle.std.specs.Prelude.{◌≡◌, ◌++◌, ◌∷◌, [], IfOk, On
 ghost use Rattle.std.specs.FinMap as map;
 ghost use Rattle.std.specs.List.{filter, list_any};
 ghost use Rattle.grid_address.specs.Place.{same_place, Place};
-ghost use Rattle.natural_order.specs.Walk.{has};
+ghost use Rattle.cell_numbers.specs.Sets.{has};
 ghost use Rattle.sheet_store.specs.Grid.{formulas, formulas_within};
 ghost use Rattle.natural_recalc.specs.Laws.{told_formulas};
 ghost use Rattle.natural_recalc.specs.Reading.{formulas_in, spans_told};

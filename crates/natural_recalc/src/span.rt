@@ -2,7 +2,7 @@
 ghost use Rattle.std.specs.Prelude.{◌≡◌, length, IfOk, OnOk, true};
 ghost use Rattle.std.specs.List.{filter};
 ghost use Rattle.grid_address.specs.Place.{same_place, Place};
-ghost use Rattle.natural_order.specs.Walk.{has};
+ghost use Rattle.cell_numbers.specs.Sets.{has};
 ghost use Rattle.sheet_store.specs.Grid.{formulas_within};
 ghost use Rattle.natural_recalc.specs.Passes.{pass, raised_by, IsSound, SameContents};
 ghost use Rattle.natural_recalc.specs.Spans.{span_order};

@@ -10,8 +10,7 @@ use Rattle.formula_tree.specs.Tree.{Tree}
 use Rattle.depend_graph.specs.Network as network
 use Rattle.depend_graph.proofs.Spreads.{spread_along}
 use Rattle.depend_graph.specs.Network.{IsSpread, Network}
-use Rattle.cell_numbers.specs.Sets.{insert_key}
-use Rattle.natural_order.specs.Walk.{has}
+use Rattle.cell_numbers.specs.Sets.{has, insert_key}
 use Rattle.sheet_store.specs.Grid.{is_formula, is_kept, put_state, Grid}
 use Rattle.sheet_store.specs.declared.state.CellState.{CellState}
 use Rattle.natural_recalc.specs.Reading.{is_formula_at, node_of, Matches}

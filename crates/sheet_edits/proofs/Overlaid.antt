@@ -12,7 +12,7 @@ use Rattle.formula_tree.specs.declared.value.Content.TheVariants as content
 use Rattle.formula_tree.specs.declared.value.Value.{Value}
 use Rattle.depend_graph.specs.Network.{taken, IsSpread, Network}
 use Rattle.depend_graph.specs.declared.node.Node.{Node}
-use Rattle.natural_order.specs.Walk.{has}
+use Rattle.cell_numbers.specs.Sets.{has}
 use Rattle.natural_recalc.specs.Reading.{is_formula_at, node_of, Matches}
 use Rattle.natural_recalc.specs.World.{formula_at, formula_in, formula_of}
 use Rattle.sheet_store.specs.Grid.{is_kept, put_state, Cells, Grid}

@@ -8,7 +8,7 @@ use Rattle.formula_tree.specs.declared.value.Content.TheVariants as content
 use Rattle.formula_tree.specs.declared.value.Value.{Value}
 use Rattle.formula_tree.specs.declared.value.Value.TheVariants as value
 use Rattle.depend_graph.specs.Network.{accepted, dropped, IsSpread, Network, ReachesCell}
-use Rattle.natural_order.specs.Walk.{has}
+use Rattle.cell_numbers.specs.Sets.{has}
 use Rattle.sheet_store.specs.Choices.{Choices}
 use Rattle.sheet_store.specs.Grid.{clear_cell, is_formula, is_kept, put_state, Grid, IsSound}
 use Rattle.sheet_store.specs.declared.state.CellState.{CellState}

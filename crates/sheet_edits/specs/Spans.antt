@@ -9,7 +9,7 @@ use Rattle.grid_address.specs.Place.{coded_place, height_of, place_cmp, same_pla
 use Rattle.grid_address.specs.declared.format.Format.{Format}
 use Rattle.depend_graph.specs.Network.{Network}
 use Rattle.depend_graph.specs.declared.node.Node.{Node}
-use Rattle.natural_order.specs.Walk.{has}
+use Rattle.cell_numbers.specs.Sets.{has}
 use Rattle.natural_recalc.specs.Reading.{node_of}
 use Rattle.natural_recalc.specs.World.{format_of, formula_at, formula_in}
 use Rattle.sheet_store.specs.Choices.{Choices}

@@ -3,7 +3,7 @@ ghost use Rattle.std.specs.Prelude.{◌≡◌, IfOk, OnErr, OnOk, None, true};
 ghost use Rattle.std.specs.FinMap as map;
 ghost use Rattle.std.specs.Option.{ForSome};
 ghost use Rattle.grid_address.specs.Place.{same_place, Place};
-ghost use Rattle.natural_order.specs.Walk.{has};
+ghost use Rattle.cell_numbers.specs.Sets.{has};
 ghost use Rattle.natural_recalc.specs.Passes.{evaluated, raised_by};
 ghost use Rattle.natural_recalc.specs.Reading.{is_formula_at, Matches};
 ghost use Rattle.natural_recalc.specs.World.{context_of};

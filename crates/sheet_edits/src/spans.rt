@@ -2,7 +2,7 @@
 ghost use Rattle.std.specs.Prelude.{◌≡◌, ◌≤◌, ◌<◌, ◌+◌, ◌-◌, ◌%◌, ◌&&◌, ◌||◌, [], length, IfOk, IfSome, IfNone, OnOk, None, Some, nat_eq, nat_le, false, true};
 ghost use Rattle.std.specs.FinMap as map;
 ghost use Rattle.grid_address.specs.Place.{is_within, same_place, Place};
-ghost use Rattle.natural_order.specs.Walk.{has};
+ghost use Rattle.cell_numbers.specs.Sets.{has};
 ghost use Rattle.natural_recalc.specs.World.{format_of};
 ghost use Rattle.sheet_store.specs.Grid.{AreHeld};
 ghost use Rattle.sheet_store.specs.Choices.{Choices};

@@ -55,10 +55,10 @@ filled_apart (h ∷ hs) once = with (item_in h) (filled_apart hs (λ i j c a b. 
     with (Some s) rest = (none_at (cell_in h) hs (λ i k. (let e : suc i ≡ 0 = once (suc i) 0 (cell_in h) k refl in absurd (omega (arith, e)))), rest)
 
 -- lists in row order with the same members are one
-same_members : (xs ys : List Place) → Ascends xs → Ascends ys → ((q : Place) → has xs q ≡ has ys q) → xs ≡ ys
+same_members : (xs ys : List Place) → Ascends xs → Ascends ys → ((q : Place) → has same_place xs q ≡ has same_place ys q) → xs ≡ ys
 same_members xs ys a b h = btree_set_from_contains cells_total (record { keys = xs }) (record { keys = ys }) a b (λ q. tied q xs ∙ h q ∙ sym (tied q ys)) cells_exact
   where
-    tied : (q : Place) (zs : List Place) → list_any (is_at (place_cmp q)) zs ≡ has zs q
+    tied : (q : Place) (zs : List Place) → list_any (is_at (place_cmp q)) zs ≡ has same_place zs q
     tied q [] = refl
     tied q (z ∷ zs) = ap (λ b. b || list_any (is_at (place_cmp q)) zs) (place_tied q z) ∙ ap (λ b. same_place q z || b) (tied q zs)
 
@@ -77,9 +77,9 @@ sorted_ascends : (xs ys : List Place) → IsDistinct same_place xs → IsPermuta
 sorted_ascends xs ys d p s = subst Ascends (dedup_all ys (IsDistinct-IsPermutation same_place same_place_laws.symm xs ys p d))
     (IsStrictlySortedBy-dedup cells_total {E = same_place} (λ x y. sym (place_tied x y)) ys s)
 
-others : (q : Place) (xs : List Place) → has xs q ≡ false → AllByRecursion (λ y. same_place q y ≡ false) xs
+others : (q : Place) (xs : List Place) → has same_place xs q ≡ false → AllByRecursion (λ y. same_place q y ≡ false) xs
 others q [] h = tt
-others q (x ∷ xs) h = let p = neither (same_place q x) (has xs q) h in (p.0, others q xs p.1)
+others q (x ∷ xs) h = let p = neither (same_place q x) (has same_place xs q) h in (p.0, others q xs p.1)
   where
     neither : (a b : Bool) → (a || b) ≡ false → (a ≡ false) × (b ≡ false)
     neither true b k = absurd cc
@@ -91,18 +91,18 @@ module _ (test : CellState → Bool) (span : Extent) where
   is_picked q None = false
   is_picked q (Some s) = is_within span q && test s
 
-  picked_missed : (q : Place) (es : List (Place × CellState)) → find place_cmp q es ≡ None → has (picked test span es) q ≡ false
+  picked_missed : (q : Place) (es : List (Place × CellState)) → find place_cmp q es ≡ None → has same_place (picked test span es) q ≡ false
   picked_missed q [] h = refl
   picked_missed q (e ∷ es) h = elim (cases_Bool (same_place q e.0)) [
     | inl t ↦ absurd (no_some e.1 (sym (ap (λ b. cond b (Some e.1) (find place_cmp q es)) (place_tied q e.0 ∙ t)) ∙ h))
     | inr f ↦ with f (is_within span e.0 && test e.1) (picked_missed q es (sym (ap (λ b. cond b (Some e.1) (find place_cmp q es)) (place_tied q e.0 ∙ f)) ∙ h))
   ]
     where
-      with : same_place q e.0 ≡ false → (b : Bool) → has (picked test span es) q ≡ false → has (cond b (e.0 ∷ picked test span es) (picked test span es)) q ≡ false
-      with f true k = ap (λ x. x || has (picked test span es) q) f ∙ k
+      with : same_place q e.0 ≡ false → (b : Bool) → has same_place (picked test span es) q ≡ false → has same_place (cond b (e.0 ∷ picked test span es) (picked test span es)) q ≡ false
+      with f true k = ap (λ x. x || has same_place (picked test span es) q) f ∙ k
       with f false k = k
 
-  has_picked : (q : Place) (es : List (Place × CellState)) → AreApart es → has (picked test span es) q ≡ is_picked q (find place_cmp q es)
+  has_picked : (q : Place) (es : List (Place × CellState)) → AreApart es → has same_place (picked test span es) q ≡ is_picked q (find place_cmp q es)
   unfolding is_picked
   has_picked q [] h = refl
   has_picked q (e ∷ es) h = elim (cases_Bool (same_place q e.0)) [
@@ -110,12 +110,12 @@ module _ (test : CellState → Bool) (span : Extent) where
     | inr f ↦ there f (is_within span e.0 && test e.1) (has_picked q es h.1) ∙ sym (ap (λ b. is_picked q (cond b (Some e.1) (find place_cmp q es))) (place_tied q e.0 ∙ f))
   ]
     where
-      here : same_place q e.0 ≡ true → (b : Bool) → (is_within span e.0 && test e.1) ≡ b → has (cond b (e.0 ∷ picked test span es) (picked test span es)) q ≡ (is_within span q && test e.1)
-      here t true k = ap (λ b. b || has (picked test span es) q) t ∙ sym (ap (λ x. is_within span x && test e.1) (same_place_is q e.0 t) ∙ k)
-      here t false k = ap (has (picked test span es)) (same_place_is q e.0 t) ∙ picked_missed e.0 es h.0 ∙ sym (ap (λ x. is_within span x && test e.1) (same_place_is q e.0 t) ∙ k)
+      here : same_place q e.0 ≡ true → (b : Bool) → (is_within span e.0 && test e.1) ≡ b → has same_place (cond b (e.0 ∷ picked test span es) (picked test span es)) q ≡ (is_within span q && test e.1)
+      here t true k = ap (λ b. b || has same_place (picked test span es) q) t ∙ sym (ap (λ x. is_within span x && test e.1) (same_place_is q e.0 t) ∙ k)
+      here t false k = ap (has same_place (picked test span es)) (same_place_is q e.0 t) ∙ picked_missed e.0 es h.0 ∙ sym (ap (λ x. is_within span x && test e.1) (same_place_is q e.0 t) ∙ k)
 
-      there : same_place q e.0 ≡ false → (b : Bool) → has (picked test span es) q ≡ is_picked q (find place_cmp q es) → has (cond b (e.0 ∷ picked test span es) (picked test span es)) q ≡ is_picked q (find place_cmp q es)
-      there f true k = ap (λ b. b || has (picked test span es) q) f ∙ k
+      there : same_place q e.0 ≡ false → (b : Bool) → has same_place (picked test span es) q ≡ is_picked q (find place_cmp q es) → has same_place (cond b (e.0 ∷ picked test span es) (picked test span es)) q ≡ is_picked q (find place_cmp q es)
+      there f true k = ap (λ b. b || has same_place (picked test span es) q) f ∙ k
       there f false k = k
 
   picked_distinct : (es : List (Place × CellState)) → AreApart es → IsDistinct same_place (picked test span es)

@@ -6,7 +6,7 @@ use Rattle.std.proofs.Common.{ap, subst, sym, ◌∙◌}
 use Rattle.formula_eval.specs.declared.look.Scene.{Scene}
 use Rattle.formula_tree.specs.declared.value.Content.{Content}
 use Rattle.grid_address.specs.Place.{is_within, same_place, Extent, Place}
-use Rattle.natural_order.specs.Walk.{has}
+use Rattle.cell_numbers.specs.Sets.{has}
 use Rattle.natural_recalc.specs.Passes.{raised_by, IsDirtyAfter, Meaning}
 use Rattle.natural_recalc.specs.Reading.{is_formula_at, order_in}
 use Rattle.natural_recalc.specs.World.{context_of}

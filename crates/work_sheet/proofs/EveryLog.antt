@@ -9,7 +9,8 @@ use Rattle.grid_address.specs.Place.{is_within, same_place, Extent, Place}
 use Rattle.depend_graph.specs.Network.{ReachesCell}
 use Rattle.depend_graph.specs.Network.ReachesCell.{direct, through}
 use Rattle.natural_order.proofs.Cut.{filter_in, filter_passes, has-filter}
-use Rattle.natural_order.specs.Walk.{has, Reaches}
+use Rattle.cell_numbers.specs.Sets.{has}
+use Rattle.natural_order.specs.Walk.{Reaches}
 use Rattle.natural_order.specs.Walk.Reaches.{one, more}
 use Rattle.natural_recalc.proofs.First.{reads_formula, stays_formula}
 use Rattle.natural_recalc.proofs.Members.{pre_of_read, read_of_pre}

@@ -6,7 +6,7 @@ use Rattle.std.proofs.lemmas.Bool.Decides.{nat_tests}
 use Rattle.std.proofs.lemmas.List.Folds.{list_any-append}
 use Rattle.grid_address.proofs.Places.{get_inserted, get_removed, same_place_is}
 use Rattle.grid_address.specs.Place.{height_of, is_within, same_place, width_of, Extent, Place}
-use Rattle.natural_order.specs.Walk.{has}
+use Rattle.cell_numbers.specs.Sets.{has}
 use Rattle.sheet_edits.proofs.Listed.{both}
 use Rattle.sheet_edits.proofs.Overlaid.{same_grid}
 use Rattle.sheet_edits.specs.Spans.{changed, AreGiven, Becomes}

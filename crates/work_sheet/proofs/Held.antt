@@ -6,7 +6,8 @@ use Rattle.std.proofs.lemmas.Bool.{cases_Bool, true≢false}
 use Rattle.grid_address.specs.Place.{place_cmp, same_place, Place}
 use Rattle.formula_tree.specs.Tree.{Tree}
 use Rattle.depend_graph.specs.Network.{Network}
-use Rattle.natural_order.specs.Walk.{has, Reaches}
+use Rattle.cell_numbers.specs.Sets.{has}
+use Rattle.natural_order.specs.Walk.{Reaches}
 use Rattle.natural_order.specs.Walk.Reaches.{more, one}
 use Rattle.sheet_store.specs.Grid.{put_state, Cells, Grid}
 use Rattle.sheet_store.specs.declared.order.Order.{Order}

@@ -4,7 +4,7 @@ use Rattle.std.specs.FinMap.{get}
 use Rattle.std.proofs.Common.{◌∙◌, ap}
 use Rattle.grid_address.specs.Place.{same_place, Place}
 use Rattle.depend_graph.specs.Network.{Network}
-use Rattle.natural_order.specs.Walk.{has}
+use Rattle.cell_numbers.specs.Sets.{has}
 use Rattle.natural_recalc.specs.Passes.{IsMeaning, Meaning}
 use Rattle.natural_recalc.specs.World.{formula_of, value_of}
 use Rattle.sheet_store.specs.Grid.{AreHeld, Cells, Grid}

@@ -5,7 +5,7 @@ use Rattle.std.specs.Coded.{Coded, code_by, coded×, coded_bool, coded_list}
 use Rattle.grid_address.specs.Place.{coded_place, same_place, Place}
 use Rattle.range_names.specs.Names.{coded_names, NameMap}
 use Rattle.depend_graph.specs.Network.{Network}
-use Rattle.natural_order.specs.Walk.{has}
+use Rattle.cell_numbers.specs.Sets.{has}
 use Rattle.sheet_store.specs.Choices.{Choices}
 use Rattle.sheet_store.specs.Grid.{coded_grid, Grid}
 use Rattle.formula_tree.specs.declared.value.Value.{Value}

@@ -4,7 +4,7 @@ use Rattle.std.specs.Prelude.{◌≡◌, ℕ, ◌+◌, ◌-◌, ◌*◌, Bool, L
 use Rattle.std.specs.Coded.{Coded, code_by, coded×, coded_list, coded_ℕ}
 use Rattle.std.specs.List.{filter, IsDistinct}
 use Rattle.grid_address.specs.Place.{coded_place, same_place, Extent, Place}
-use Rattle.natural_order.specs.Walk.{has}
+use Rattle.cell_numbers.specs.Sets.{has}
 use Rattle.natural_recalc.specs.Passes.{raised_by, IsDirtyAfter}
 use Rattle.natural_recalc.specs.Reading.{is_formula_at}
 use Rattle.sheet_edits.specs.Edits.{AreDirtied}

@@ -4,7 +4,7 @@ ghost use Rattle.std.specs.FinMap as map;
 ghost use Rattle.std.specs.List.{IsDistinct};
 ghost use Rattle.std.specs.Option.{ForSome};
 ghost use Rattle.grid_address.specs.Place.{is_within, same_place, Place};
-ghost use Rattle.natural_order.specs.Walk.{has};
+ghost use Rattle.cell_numbers.specs.Sets.{has};
 ghost use Rattle.natural_recalc.specs.Passes as recalculation;
 ghost use Rattle.natural_recalc.specs.Passes.{IsPlain, IsRight, SameContents};
 ghost use Rattle.natural_recalc.specs.World.{sight_of, Context};

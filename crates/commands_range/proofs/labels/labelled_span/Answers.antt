@@ -6,7 +6,7 @@ use Rattle.command_desk.specs.Acting.{written, HasActed}
 use Rattle.commands_range.proofs.Relabelled.{relabelled_ascend}
 use Rattle.commands_range.specs.Commands.{relabelled}
 use Rattle.grid_address.specs.Place.{same_place}
-use Rattle.natural_order.specs.Walk.{has}
+use Rattle.cell_numbers.specs.Sets.{has}
 use Rattle.sheet_edits.specs.Spans.{written_cells}
 use Rattle.sheet_store.specs.Grid.{Grid}
 use Rattle.sheet_store.specs.declared.writes.Write.{Write}

@@ -6,7 +6,7 @@ use Rattle.command_desk.specs.Acting.{written, HasActed}
 use Rattle.commands_range.proofs.Valued.{written_are}
 use Rattle.commands_range.specs.Valued.{sight_in, values_of}
 use Rattle.grid_address.specs.Place.{same_place, Place}
-use Rattle.natural_order.specs.Walk.{has}
+use Rattle.cell_numbers.specs.Sets.{has}
 use Rattle.sheet_edits.specs.Spans.{written_cells}
 use Rattle.sheet_store.specs.declared.writes.Write.{Write}
 use Rattle.work_sheet.specs.Cells.{cells_of}

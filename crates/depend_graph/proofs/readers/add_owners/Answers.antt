@@ -4,7 +4,7 @@ use Rattle.std.proofs.Common.{ap, inl, inr, sym, ◌∙◌}
 use Rattle.std.proofs.lemmas.Bool.{false≢true}
 use Rattle.std.proofs.lemmas.List.{nil_from_length}
 use Rattle.cell_numbers.specs.Sets.{has}
-use Rattle.grid_address.specs.Place.{place_cmp, Extent, Place}
+use Rattle.grid_address.specs.Place.{place_cmp, same_place, Extent, Place}
 use Rattle.range_index.specs.Owners.{owners_among, owners_of, Owners}
 use Rattle.depend_graph.proofs.readers.add_owners.Goals as goal
 
@@ -23,6 +23,6 @@ returns-then-is_empty c = λ d.
       (λ h. inl h),
       (λ h. elim h [
         | inl k ↦ k
-        | inr r ↦ absurd (false≢true (ap (λ l. has l d) (sym none) ∙ r.0))
+        | inr r ↦ absurd (false≢true (ap (λ l. has same_place l d) (sym none) ∙ r.0))
       ]),
     ))

@@ -1,5 +1,5 @@
 use Rattle.std.proofs.Common.{ap, ◌∙◌}
-use Rattle.natural_order.specs.Walk.{has}
+use Rattle.cell_numbers.specs.Sets.{has}
 use Rattle.grid_address.specs.Place.{same_place}
 use Rattle.natural_order.proofs.Machine.{has_get}
 use Rattle.natural_order.proofs.walker.order_of.Goals as goal

@@ -1,6 +1,6 @@
 use Rattle.std.specs.Prelude.{◌≡◌, true, take}
 use Rattle.grid_address.specs.Place.{same_place, InSheet, Place}
-use Rattle.natural_order.specs.Walk.{has}
+use Rattle.cell_numbers.specs.Sets.{has}
 use Rattle.natural_recalc.proofs.columns.are_on_sheet.Given as goal
 
 abbrev pub invariant-loop-cell : goal.invariant-loop-cell

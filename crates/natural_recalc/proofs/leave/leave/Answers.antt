@@ -1,7 +1,8 @@
 use Rattle.std.specs.Prelude.{◌≡◌, ◌+◌, ◌<◌, length, take, ◌∷◌, [], ◌++◌, List, filter, ◌⊎◌, true, Bool}
 use Rattle.std.proofs.Common.{sym, ◌∙◌, ap, subst}
 use Rattle.std.proofs.lemmas.List.{take_more}
-use Rattle.natural_order.specs.Walk.{has, Reaches}
+use Rattle.cell_numbers.specs.Sets.{has}
+use Rattle.natural_order.specs.Walk.{Reaches}
 use Rattle.sheet_store.specs.Grid.{Grid}
 use Rattle.grid_address.specs.Place.{same_place, Place}
 use Rattle.natural_recalc.specs.Passes.{LeftSoFar}

@@ -1,6 +1,6 @@
 use Rattle.std.specs.Prelude.{take}
 use Rattle.grid_address.specs.Place.{same_place}
-use Rattle.natural_order.specs.Walk.{has}
+use Rattle.cell_numbers.specs.Sets.{has}
 use Rattle.natural_recalc.specs.Passes.{LeftSoFar}
 use Rattle.natural_recalc.proofs.leave.leave.Given as goal
 

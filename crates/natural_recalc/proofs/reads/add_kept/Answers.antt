@@ -2,7 +2,7 @@ use Rattle.std.specs.Prelude.{◌≡◌, ◌++◌, ◌∷◌, [], List, cond}
 use Rattle.std.specs.List.{filter}
 use Rattle.std.proofs.Common.{ap, ◌∙◌}
 use Rattle.grid_address.specs.Place.{same_place, Place}
-use Rattle.natural_order.specs.Walk.{has}
+use Rattle.cell_numbers.specs.Sets.{has}
 use Rattle.natural_recalc.proofs.Items.{kept_step}
 use Rattle.natural_recalc.proofs.reads.add_kept.Goals as goal
 use Rattle.natural_recalc.proofs.reads.add_kept.Goals.{then-contains+in_ok-push, else-contains}

@@ -1,7 +1,7 @@
 use Rattle.std.specs.Prelude.{◌≡◌, drop}
 use Rattle.std.specs.List.{list_any}
 use Rattle.grid_address.specs.Place.{same_place}
-use Rattle.natural_order.specs.Walk.{has}
+use Rattle.cell_numbers.specs.Sets.{has}
 use Rattle.natural_recalc.specs.Reading.{formulas_in}
 use Rattle.natural_recalc.proofs.reads.any_dirty.Given as goal
 

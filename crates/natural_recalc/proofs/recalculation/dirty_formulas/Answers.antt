@@ -1,5 +1,5 @@
 use Rattle.grid_address.specs.Place.{same_place}
-use Rattle.natural_order.specs.Walk.{has}
+use Rattle.cell_numbers.specs.Sets.{has}
 use Rattle.natural_recalc.proofs.RowOrder.{dirty_sorted}
 use Rattle.natural_recalc.proofs.recalculation.dirty_formulas.Goals as goal
 

@@ -4,7 +4,8 @@ use Rattle.grid_address.proofs.Places.{same_place_is}
 use Rattle.grid_address.specs.Place.{same_place, Place}
 use Rattle.natural_order.proofs.Cut.{filter_in}
 use Rattle.natural_order.specs.Machine.{walked}
-use Rattle.natural_order.specs.Walk.{has, Precedes, Walked}
+use Rattle.cell_numbers.specs.Sets.{has}
+use Rattle.natural_order.specs.Walk.{Precedes, Walked}
 use Rattle.sheet_store.specs.Grid.{formulas, Grid}
 use Rattle.natural_recalc.proofs.First.{dirty_circular, dirty_done, order_goes, order_same, walked_dirty}
 use Rattle.natural_recalc.proofs.Graphs.{walk_told}

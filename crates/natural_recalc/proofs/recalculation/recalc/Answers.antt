@@ -1,5 +1,5 @@
 use Rattle.grid_address.specs.Place.{same_place}
-use Rattle.natural_order.specs.Walk.{has}
+use Rattle.cell_numbers.specs.Sets.{has}
 use Rattle.natural_recalc.proofs.Contents.{formulas_same}
 use Rattle.natural_recalc.proofs.Ends.{right_plain}
 use Rattle.natural_recalc.specs.World.{context_of}

@@ -1,7 +1,7 @@
 use Rattle.std.specs.Prelude.{◌≡◌, ◌-◌, suc, List, []}
 use Rattle.std.proofs.Common.{sym, ◌∙◌, ap, subst, arith}
 use Rattle.grid_address.specs.Place.{same_place, Place}
-use Rattle.natural_order.specs.Walk.{has}
+use Rattle.cell_numbers.specs.Sets.{has}
 use Rattle.sheet_store.specs.Grid.{Grid}
 use Rattle.natural_recalc.proofs.Along.{not_circular, sound_after, stays_after, values}
 use Rattle.natural_recalc.specs.Passes.{pass, IsMeaning, IsSound, IsWhatStays, Meaning}

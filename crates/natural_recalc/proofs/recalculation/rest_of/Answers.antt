@@ -2,7 +2,8 @@ use Rattle.std.specs.List.{IsDistinct}
 use Rattle.std.specs.Prelude.{◌≡◌, List, [], filter}
 use Rattle.std.proofs.Common.{sym, ◌∙◌, ap, subst}
 use Rattle.grid_address.specs.Place.{same_place, Place}
-use Rattle.natural_order.specs.Walk.{has, Precedes}
+use Rattle.cell_numbers.specs.Sets.{has}
+use Rattle.natural_order.specs.Walk.{Precedes}
 use Rattle.natural_recalc.specs.Reading.{pre}
 use Rattle.natural_recalc.proofs.recalculation.rest_of.Goals as goal
 

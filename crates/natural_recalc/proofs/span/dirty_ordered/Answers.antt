@@ -1,7 +1,7 @@
 use Rattle.std.specs.Prelude.{Bool, filter}
 use Rattle.std.proofs.Common.{sym, ◌∙◌, ap}
 use Rattle.grid_address.specs.Place.{same_place, Place}
-use Rattle.natural_order.specs.Walk.{has}
+use Rattle.cell_numbers.specs.Sets.{has}
 use Rattle.sheet_store.specs.Grid.{formulas_within, Grid}
 use Rattle.natural_recalc.proofs.ByColumn.{filter_columns}
 use Rattle.natural_recalc.specs.Reading.{by_columns}

@@ -1,7 +1,7 @@
 use Rattle.std.specs.Prelude.{◌≡◌, ◌&&◌, cond, take}
 use Rattle.std.specs.FinMap as map
 use Rattle.grid_address.specs.Place.{same_place, Place}
-use Rattle.natural_order.specs.Walk.{has}
+use Rattle.cell_numbers.specs.Sets.{has}
 use Rattle.natural_recalc.specs.Reading.{is_formula_at, node_of}
 use Rattle.natural_recalc.specs.World.{formula_at}
 use Rattle.natural_recalc.proofs.whole.add_formulas.Given as goal

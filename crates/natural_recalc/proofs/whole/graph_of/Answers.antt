@@ -1,6 +1,6 @@
 use Rattle.std.proofs.Common.{ap, ◌∙◌}
 use Rattle.grid_address.specs.Place.{same_place}
-use Rattle.natural_order.specs.Walk.{has}
+use Rattle.cell_numbers.specs.Sets.{has}
 use Rattle.natural_recalc.specs.Laws.{has_formula}
 use Rattle.natural_recalc.proofs.Fresh.{graph_whole}
 use Rattle.natural_recalc.proofs.whole.graph_of.Goals as goal

@@ -3,7 +3,7 @@ use Rattle.std.specs.FinMap.{get}
 use Rattle.std.proofs.Common.{ap, subst, sym, ◌∙◌}
 use Rattle.grid_address.specs.Place.{same_place}
 use Rattle.depend_graph.specs.Network.{Network}
-use Rattle.natural_order.specs.Walk.{has}
+use Rattle.cell_numbers.specs.Sets.{has}
 use Rattle.natural_recalc.specs.Reading.{is_formula_at, Matches}
 use Rattle.sheet_store.specs.Grid.{put_state, Grid}
 use Rattle.sheet_edits.proofs.Dirtied.{dirtied_settled, matches_settled}

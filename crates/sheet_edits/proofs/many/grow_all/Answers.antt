@@ -2,7 +2,7 @@ use Rattle.std.specs.Prelude.{List}
 use Rattle.std.proofs.Common.{arith, subst}
 use Rattle.std.proofs.lemmas.List.{take_all}
 use Rattle.grid_address.specs.Place.{same_place, Place}
-use Rattle.natural_order.specs.Walk.{has}
+use Rattle.cell_numbers.specs.Sets.{has}
 use Rattle.sheet_edits.specs.Spans.{HaveRoom}
 use Rattle.sheet_edits.proofs.many.grow_all.Goals as goal
 

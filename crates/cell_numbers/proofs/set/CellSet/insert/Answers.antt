@@ -1,6 +1,7 @@
 use Rattle.std.proofs.Common.{ap, arith, subst, sym, ◌∙◌}
 use Rattle.cell_numbers.specs.Filled.{AreNumbered}
 use Rattle.cell_numbers.specs.Sets.{has, Cells}
+use Rattle.grid_address.specs.Place.{same_place}
 use Rattle.cell_numbers.proofs.Filled.{few_places, number_last}
 use Rattle.cell_numbers.proofs.Sets.{no_number}
 use Rattle.cell_numbers.proofs.set.CellSet.insert.Goals as goal
@@ -13,6 +14,6 @@ invariant_of-self-2 c =
     let old = c.self.inside.table in
     let cells = c.self.inside.cells.items in
     let inside = c.is_on_sheet.ensures in
-    let absent = ap (λ (s : Cells). has s.keys c.args.cell) c.self.view_is ∙ sym c.contains.ensures ∙ c.if-contains.false in
+    let absent = ap (λ (s : Cells). has same_place s.keys c.args.cell) c.self.view_is ∙ sym c.contains.ensures ∙ c.if-contains.false in
     subst (AreNumbered c.add.new.table) (sym c.in_ok-add.ensures.cells)
     (number_last old c.add.new.table cells c.args.cell c.self.invariant inside (no_number old cells c.self.invariant c.args.cell inside absent) c.in_ok-add.ensures.numbers)

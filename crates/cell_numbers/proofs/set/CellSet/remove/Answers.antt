@@ -12,7 +12,7 @@ use Rattle.cell_numbers.proofs.set.CellSet.remove.Goals as goal
 
 pub returns-in_default : goal.returns-in_default
 returns-in_default c = λ d.
-    subst (λ (s : Cells). has s.keys d ≡ cond (same_place c.args.cell d) false (has s.keys d)) c.self.view_is
+    subst (λ (s : Cells). has same_place s.keys d ≡ cond (same_place c.args.cell d) false (has same_place s.keys d)) c.self.view_is
     (none_gone c.self.inside.table c.self.inside.cells.items c.self.invariant c.args.cell c.in_default.ensures.none d)
 
 -- the cells with the last one behind the others
@@ -63,8 +63,8 @@ returns-then-at-len c = λ d.
     let ok = subst (AreNumbered old) c.in-Some-pop.ensures.items c.self.invariant in
     let moved = one_more c.set.new.self old last c.in-Some.at c.set.ensures in
     others old c.set.new.self c.set-in-Some-pop.new.self c.pop.new.self.items c.in-Some.at c.args.cell last ok c.is_on_sheet.ensures c.in-Some.ensures.some moved c.set-in-Some-pop.ensures d
-    ∙ ap (λ xs. cond (same_place c.args.cell d) false (has xs d)) (sym c.in-Some-pop.ensures.items)
-    ∙ ap (λ (s : Cells). cond (same_place c.args.cell d) false (has s.keys d)) c.self.view_is)
+    ∙ ap (λ xs. cond (same_place c.args.cell d) false (has same_place xs d)) (sym c.in-Some-pop.ensures.items)
+    ∙ ap (λ (s : Cells). cond (same_place c.args.cell d) false (has same_place s.keys d)) c.self.view_is)
 
 pub invariant_of-self-else-at-len : goal.invariant_of-self-else-at-len
 invariant_of-self-else-at-len c =
@@ -91,7 +91,7 @@ returns-else-at-len c = λ d.
     let past : length rest ≤ c.in-Some.at = omega (arith, h, e, long) in
     let ok = subst (AreNumbered old) c.in-Some-pop.ensures.items c.self.invariant in
     let moved = one_more c.set.new.self old last c.in-Some.at c.set.ensures in
-    ap (λ xs. has xs d) (sym (set_past rest c.in-Some.at last past))
+    ap (λ xs. has same_place xs d) (sym (set_past rest c.in-Some.at last past))
     ∙ others old c.set.new.self c.set-in-Some-pop.new.self rest c.in-Some.at c.args.cell last ok c.is_on_sheet.ensures c.in-Some.ensures.some moved c.set-in-Some-pop.ensures d
-    ∙ ap (λ xs. cond (same_place c.args.cell d) false (has xs d)) (sym c.in-Some-pop.ensures.items)
-    ∙ ap (λ (s : Cells). cond (same_place c.args.cell d) false (has s.keys d)) c.self.view_is)
+    ∙ ap (λ xs. cond (same_place c.args.cell d) false (has same_place xs d)) (sym c.in-Some-pop.ensures.items)
+    ∙ ap (λ (s : Cells). cond (same_place c.args.cell d) false (has same_place s.keys d)) c.self.view_is)

@@ -1,7 +1,7 @@
 use Rattle.std.specs.FinMap.{get}
 use Rattle.std.proofs.Common.{ap, ◌∙◌}
 use Rattle.grid_address.specs.Place.{same_place}
-use Rattle.natural_order.specs.Walk.{has}
+use Rattle.cell_numbers.specs.Sets.{has}
 use Rattle.natural_recalc.specs.Passes.{IsMeaning, Meaning}
 use Rattle.work_sheet.proofs.Held.{kept_changed}
 use Rattle.sheet_edits.specs.Spans.{changed}
