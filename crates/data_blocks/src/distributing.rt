@@ -21,9 +21,10 @@ use sheet_store::{SheetFault, Write, Writes};
 use std::alloc::Global;
 use value_functions::counted;
 
-// The last row and the last column of a sheet.
+// The last row of a sheet.
 const LAST_ROW: u16 = 8191;
 
+// The last column of a sheet.
 const LAST_COLUMN: u8 = 255;
 
 // A value that is a number counts.

@@ -13,8 +13,10 @@ use lics_text::{LabelPrefix, Line, MAX_LEN, Memory, Text};
 use range_names::Names;
 use std::alloc::Global;
 
+// As many blanks as a line holds.
 static BLANKS: [u8; MAX_LEN] = [b' '; MAX_LEN];
 
+// As many stars as a line holds.
 static STARS: [u8; MAX_LEN] = [b'*'; MAX_LEN];
 
 // Adds so many blanks.

@@ -9,9 +9,11 @@ pub record Walked (K : Type 0) : Type 0 where
   pub circular : Bool
 
 module _ {K : Type 0} (eq : K → K → Bool) where
+  -- a cell is done behind those before it
   abbrev pub appended : K → Walked K → Walked K
   appended c s = record { done = s.done ++ c ∷ []; circular = s.circular }
 
+  -- a circle is told; what was done stays
   abbrev pub raised : Walked K → Walked K
   raised s = record { done = s.done; circular = true }
 
@@ -23,6 +25,7 @@ module _ {K : Type 0} (eq : K → K → Bool) where
       (cond (has eq path c) (raised s)
       (appended c (fold (walk pre n (c ∷ path)) s (pre c))))
 
+  -- nothing is done, and no circle was met
   abbrev pub unwalked : Walked K
   unwalked = record { done = []; circular = false }
 
@@ -35,12 +38,14 @@ module _ {K : Type 0} (eq : K → K → Bool) where
     one : {c d : K} → has eq (pre c) d ≡ true → Reaches pre c d
     more : {c e d : K} → has eq (pre c) e ≡ true → Reaches pre e d → Reaches pre c d
 
+  -- what reads a dirty cell is dirty, and no clean cell reaches itself; eq is equality
   pub record IsSplit (pre : K → List K) (dirty : K → Bool) : Type 0 where
     pub same : (x y : K) → eq x y ≡ true → x ≡ y
     pub refl_eq : (x : K) → eq x x ≡ true
     pub up : (c d : K) → has eq (pre c) d ≡ true → dirty d ≡ true → dirty c ≡ true
     pub acyclic : (c : K) → dirty c ≡ false → Reaches pre c c → ⊥
 
+  -- what a walk has made, without the clean cells
   abbrev pub cut : (K → Bool) → Walked K → Walked K
   cut dirty s = record { done = filter dirty s.done; circular = s.circular }
 
