@@ -94,7 +94,7 @@ fn in_order(first: Cell, last: Cell) -> bool
 {
     first.row <= last.row
         && first.col <= last.col
-        && !(first.row == last.row && first.col == last.col)
+        && first != last
 }
 
 // The name of the span between two corners, where all coordinates are alike and the corners in order.

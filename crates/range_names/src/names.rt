@@ -137,10 +137,7 @@ impl Names {
 fn is_same(a: &Span, b: Span) -> bool
     ensures { result ≡ same_extent a.now b }
 {
-    a.first.row == b.first.row
-        && a.first.col == b.first.col
-        && a.last.row == b.last.row
-        && a.last.col == b.last.col
+    *a == b
 }
 
 // The first plain name of a span.

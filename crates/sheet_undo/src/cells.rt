@@ -123,7 +123,7 @@ fn is_same_state(one: &CellState, other: &CellState, at: Cell) -> Result<bool, M
 fn is_same_cell(cell: Cell, other: Cell) -> bool
     ensures { result ≡ same_place cell other }
 {
-    cell.row == other.row && cell.col == other.col
+    cell == other
 }
 
 // Whether two cells with their states pass the test of being one.

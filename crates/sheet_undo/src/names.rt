@@ -12,10 +12,7 @@ use std::collections::btree_map::Iter;
 fn is_same_span(one: Span, other: Span) -> bool
     ensures { result ≡ same_extent one other }
 {
-    one.first.row == other.first.row
-        && one.first.col == other.first.col
-        && one.last.row == other.last.row
-        && one.last.col == other.last.col
+    one == other
 }
 
 // Whether two names with their spans pass the test of being one.

@@ -102,7 +102,7 @@ fn width(sheet: &mut SavedSheet, col: u8, width: u8)
 fn is_same(a: Cell, b: Cell) -> bool
     ensures { result ≡ same_place a b }
 {
-    a.row == b.row && a.col == b.col
+    a == b
 }
 
 // A text is the value of the formula that stands just before, if it is for that cell.
