@@ -55,7 +55,8 @@ fn add<T: Drop>(
 ) -> Result<(), AllocError>
     requires { length held.old.items < 2 ^ 32 - 1 }
     ensures held { OnOk result (held.new.items ≡ held.old.items ++ Held.Filled cell item ∷ []) }
-    ensures numbers { OnOk result ((d : Place) → InSheet d → number_at table.new d ≡ cond (same_place cell d) (suc (length held.old.items)) (number_at table.old d)) }
+    ensures numbers { OnOk result ((d : Place) → InSheet d → number_at table.new d
+        ≡ cond (same_place cell d) (suc (length held.old.items)) (number_at table.old d)) }
     ensures err_held { OnErr result (held.new.items ≡ held.old.items) }
     ensures err_numbers { OnErr result ((d : Place) → number_at table.new d ≡ number_at table.old d) }
 {

@@ -146,7 +146,8 @@ impl PlaceTable {
     /// Sets the number of a cell that has room for it.
     pub fn set(&mut self, cell: Cell, number: u32)
         requires { HasRoom self.old cell }
-        ensures { (d : Place) → InSheet d → number_at self.new d ≡ cond (same_place cell d) number (number_at self.old d) }
+        ensures { (d : Place) → InSheet d →
+            number_at self.new d ≡ cond (same_place cell d) number (number_at self.old d) }
     {
         cell.is_on_sheet();
         let at = page_of(cell);

@@ -11,8 +11,11 @@ pub record Entry : Type 0 where
   pub text : List ℕ
   pub cursor : ℕ
 
+-- as a pair of the text and the cursor
 abbrev pub coded_entry : Coded Entry
-coded_entry = code_by (List ℕ × ℕ) (coded× (coded_list coded_ℕ) coded_ℕ) (λ e. (e.text, e.cursor)) (λ p. record { text = p.0; cursor = p.1 }) (λ _. refl)
+coded_entry =
+    code_by (List ℕ × ℕ) (coded× (coded_list coded_ℕ) coded_ℕ) (λ e. (e.text, e.cursor))
+    (λ p. record { text = p.0; cursor = p.1 }) (λ _. refl)
 
 -- the cursor goes to a place, or to the end where that is nearer
 abbrev pub placed : Entry → ℕ → Entry
@@ -22,9 +25,11 @@ placed e place = record e { cursor = min place (length e.text) }
 abbrev pub inserted : Entry → ℕ → Entry
 inserted e b = record { text = take e.cursor e.text ++ b ∷ drop e.cursor e.text; cursor = e.cursor + 1 }
 
+-- the line after a byte: it comes in at the cursor, and a full line stays as it was
 abbrev pub typed : Entry → ℕ → Entry
 typed e b = if nat_lt (length e.text) 240 then inserted e b else e
 
+-- what a byte comes to: a full line is told
 abbrev pub room : Entry → LineEvent
 room e = if nat_lt (length e.text) 240 then Going else LineFull
 
@@ -34,11 +39,15 @@ deleted e = record e { text = take e.cursor e.text ++ drop (e.cursor + 1) e.text
 
 -- the byte before the cursor goes, where there is one
 abbrev pub taken_back : Entry → Entry
-taken_back e = if nat_lt 0 e.cursor then record { text = take (e.cursor - 1) e.text ++ drop e.cursor e.text; cursor = e.cursor - 1 } else e
+taken_back e =
+    if nat_lt 0 e.cursor
+    then record { text = take (e.cursor - 1) e.text ++ drop e.cursor e.text; cursor = e.cursor - 1 } else e
 
+-- the empty line
 abbrev pub nothing : Entry
 nothing = record { text = []; cursor = 0 }
 
+-- what ESC comes to: an empty line is given up
 abbrev pub escaped : Entry → LineEvent
 escaped e = if nat_lt 0 (length e.text) then Going else GivenUp
 

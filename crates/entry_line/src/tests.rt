@@ -7,6 +7,7 @@ use key_words::Key;
 use lics_text::TextByte;
 use std::test::Fail;
 
+// The key of a byte that a text may hold; Break for any other.
 fn byte(byte: u8) -> Key {
     match TextByte::of(byte) {
         Some(byte) => Key::Byte(byte),
@@ -14,12 +15,14 @@ fn byte(byte: u8) -> Key {
     }
 }
 
+// Gives a line these keys, one after another.
 fn press(line: &mut EntryLine, keys: &[Key]) {
     for key in keys {
         let _ = line.key(*key);
     }
 }
 
+// An empty line into which these bytes were typed.
 fn typed(text: &[u8]) -> EntryLine {
     let mut line = EntryLine::new(b"");
     for letter in text {

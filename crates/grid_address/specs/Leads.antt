@@ -9,4 +9,5 @@ resolve r at = record { row = resolved r.row at.row 8192; col = resolved r.col a
 
 -- the reference in a cell that names another, with the column or the row absolute where it is asked for
 abbrev pub reference_to : Place → Place → Bool → Bool → Reference
-reference_to target at fixed_col fixed_row = record { col = axis_to fixed_col target.col at.col 256; row = axis_to fixed_row target.row at.row 8192 }
+reference_to target at fixed_col fixed_row =
+    record { col = axis_to fixed_col target.col at.col 256; row = axis_to fixed_row target.row at.row 8192 }

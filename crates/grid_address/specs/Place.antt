@@ -11,7 +11,8 @@ pub record Place : Type 0 where
 
 -- as a pair of numbers
 abbrev pub coded_place : Coded Place
-coded_place = code_by (ℕ × ℕ) (coded× coded_ℕ coded_ℕ) (λ s. (s.row, s.col)) (λ p. record { row = p.0; col = p.1 }) (λ _. refl)
+coded_place =
+    code_by (ℕ × ℕ) (coded× coded_ℕ coded_ℕ) (λ s. (s.row, s.col)) (λ p. record { row = p.0; col = p.1 }) (λ _. refl)
 
 -- a place that a cell can have
 abbrev pub InSheet : Place → Type 0
@@ -32,11 +33,14 @@ pub record Extent : Type 0 where
 
 -- as a pair of corners
 abbrev pub coded_extent : Coded Extent
-coded_extent = code_by (Place × Place) (coded× coded_place coded_place) (λ s. (s.first, s.last)) (λ p. record { first = p.0; last = p.1 }) (λ _. refl)
+coded_extent =
+    code_by (Place × Place) (coded× coded_place coded_place) (λ s. (s.first, s.last))
+    (λ p. record { first = p.0; last = p.1 }) (λ _. refl)
 
 -- whether a cell lies in a span
 abbrev pub is_within : Extent → Place → Bool
-is_within s p = (nat_le s.first.row p.row && nat_le p.row s.last.row) && (nat_le s.first.col p.col && nat_le p.col s.last.col)
+is_within s p =
+    (nat_le s.first.row p.row && nat_le p.row s.last.row) && (nat_le s.first.col p.col && nat_le p.col s.last.col)
 
 -- how many columns it has
 abbrev pub width_of : Extent → ℕ
@@ -48,7 +52,10 @@ height_of s = s.last.row + 1 - s.first.row
 
 -- the corners in order
 abbrev pub spanned : Place → Place → Extent
-spanned a b = record { first = record { row = min a.row b.row; col = min a.col b.col }; last = record { row = max a.row b.row; col = max a.col b.col } }
+spanned a b = record {
+  first = record { row = min a.row b.row; col = min a.col b.col };
+  last = record { row = max a.row b.row; col = max a.col b.col };
+}
 
 -- the whole sheet
 abbrev pub whole : Extent

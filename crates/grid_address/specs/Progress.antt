@@ -6,7 +6,8 @@ use Rattle.grid_address.specs.declared.reading.Progress.TheVariants.{Nothing, Le
 use Rattle.grid_address.specs.Address.{column_name, decimal}
 use Rattle.grid_address.specs.Place.{Place}
 
--- these bytes are read that far: one letter, the two letters of a column, or a column and the first digits of a row's number
+-- these bytes are read that far: one letter, the two letters of a column, or a column and the first digits of a row's
+-- number
 abbrev pub IsRead : Progress → List ℕ → Type 0
 IsRead Nothing bytes = bytes ≡ []
 IsRead (Letter c) bytes = (map to_ascii_uppercase bytes ≡ (65 + c) ∷ []) × (c < 26)
@@ -27,8 +28,10 @@ later_digit c n = if nat_le n 8192 then Some (Row c n) else None
 
 -- how far it is read with one byte more; none where no address goes on with it
 abbrev pub next_of : Progress → ℕ → Option Progress
-next_of Nothing b = if is_ascii_uppercase (to_ascii_uppercase b) then Some (Letter (to_ascii_uppercase b - 65)) else None
-next_of (Letter c) b = if is_ascii_uppercase (to_ascii_uppercase b) then second_letter c (to_ascii_uppercase b) else first_digit c b
+next_of Nothing b =
+    if is_ascii_uppercase (to_ascii_uppercase b) then Some (Letter (to_ascii_uppercase b - 65)) else None
+next_of (Letter c) b =
+    if is_ascii_uppercase (to_ascii_uppercase b) then second_letter c (to_ascii_uppercase b) else first_digit c b
 next_of (Column c) b = first_digit c b
 next_of (Row c n) b = if is_ascii_digit b then later_digit c (n * 10 + (b - 48)) else None
 

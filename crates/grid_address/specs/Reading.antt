@@ -47,7 +47,8 @@ IsSpan bytes = (s : Extent) × SpellsSpan bytes s
 abbrev pub Begins : (List ℕ → Type 0) → List ℕ → Type 0
 Begins Is bytes = (rest : List ℕ) × Is (bytes ++ rest)
 
--- The first byte that can't go on: the bytes before it begin one, and with it they begin none. Where all bytes begin one and are none, it is the place behind them.
+-- The first byte that can't go on: the bytes before it begin one, and with it they begin none. Where all bytes begin
+-- one and are none, it is the place behind them.
 pub record StopsAt (Is : List ℕ → Type 0) (bytes : List ℕ) (at : ℕ) : Type 0 where
   pub within : at ≤ length bytes
   pub begins : Begins Is (take at bytes)

@@ -45,7 +45,8 @@ impl KeyReader {
     pub fn feed(&mut self, byte: u8) -> Fed
         requires room { self.old.taken < 18446744073709551615 }
         ensures taken { self.new.taken ≡ self.old.taken + 1 }
-        ensures fed { (bytes : List ℕ) (keys : List (Key × ℕ)) → HasRead bytes keys self.old → Feeds bytes keys byte result self.new }
+        ensures fed { (bytes : List ℕ) (keys : List (Key × ℕ)) →
+            HasRead bytes keys self.old → Feeds bytes keys byte result self.new }
         ensures again { (at : ℕ) → self.old.bad ≡ Some at → (result ≡ Fed.Bad at) × (self.new.bad ≡ Some at) }
         ensures bad { (at : ℕ) → result ≡ Fed.Bad at → self.new.bad ≡ Some at }
     {
@@ -79,8 +80,10 @@ impl KeyReader {
 
     /// Whether all bytes that were fed are words, which is so between words.
     pub fn at_rest(&self) -> bool
-        ensures whole { (bytes : List ℕ) (keys : List (Key × ℕ)) → HasRead bytes keys self.now → result ≡ true → Spells bytes keys }
-        ensures inside { (bytes : List ℕ) (keys : List (Key × ℕ)) → HasRead bytes keys self.now → result ≡ false → IsNoText bytes }
+        ensures whole { (bytes : List ℕ) (keys : List (Key × ℕ)) →
+            HasRead bytes keys self.now → result ≡ true → Spells bytes keys }
+        ensures inside { (bytes : List ℕ) (keys : List (Key × ℕ)) →
+            HasRead bytes keys self.now → result ≡ false → IsNoText bytes }
         ensures bad { (at : ℕ) → self.now.bad ≡ Some at → result ≡ false }
     {
         match self.begun {
@@ -92,5 +95,6 @@ impl KeyReader {
 
 /// A list of bytes spells at most one list of keys.
 pub fn notation_reads_one_way()
-    ensures { (bytes : List ℕ) (keys others : List (Key × ℕ)) → Spells bytes keys → Spells bytes others → keys ≡ others }
+    ensures { (bytes : List ℕ) (keys others : List (Key × ℕ)) →
+        Spells bytes keys → Spells bytes others → keys ≡ others }
 {}

@@ -16,17 +16,22 @@ text_of bytes = if nat_lt 240 (length bytes) then Err TooLong else unless_bad (p
 
 -- a text with a byte at its end
 abbrev pub pushed_text : List ℕ → ℕ → Result (List ℕ) TextFault
-pushed_text bytes b = if nat_le 240 (length bytes) then Err TooLong else (if nat_lt b 32 then Err (BadByte (length bytes)) else Ok (bytes ++ b ∷ []))
+pushed_text bytes b =
+    if nat_le 240 (length bytes) then Err TooLong
+    else (if nat_lt b 32 then Err (BadByte (length bytes)) else Ok (bytes ++ b ∷ []))
 
 -- a line with one more byte, which is passed over at 240
 abbrev pub line_with : List ℕ → ℕ → List ℕ
 line_with = with_byte 240
 
--- Each letter that follows no letter is raised, and the others are lowered; the flag says whether a letter stands before.
+-- Each letter that follows no letter is raised, and the others are lowered; the flag says whether a letter stands
+-- before.
 abbrev pub proper_after : Bool → List ℕ → List ℕ
 proper_after before [] = []
-proper_after before (b ∷ bs) = (if before then to_ascii_lowercase b else to_ascii_uppercase b) ∷ proper_after (is_ascii_alphabetic b) bs
+proper_after before (b ∷ bs) =
+    (if before then to_ascii_lowercase b else to_ascii_uppercase b) ∷ proper_after (is_ascii_alphabetic b) bs
 
+-- the same for a whole text, before which no letter stands
 abbrev pub proper_of : List ℕ → List ℕ
 proper_of bytes = proper_after false bytes
 
@@ -40,6 +45,7 @@ abbrev pub single_spaced : List ℕ → List ℕ
 single_spaced [] = []
 single_spaced (b ∷ bs) = if b == 32 && is_gap bs then single_spaced bs else b ∷ single_spaced bs
 
+-- the bytes from the first on that is no space
 abbrev pub without_front : List ℕ → List ℕ
 without_front [] = []
 without_front (b ∷ bs) = if b == 32 then without_front bs else b ∷ bs
@@ -59,5 +65,6 @@ pub record IsFirstPlace (what text : List ℕ) (from at : ℕ) : Type 0 where
   pub stands : StandsAt what text at
   pub first : (k : ℕ) → from ≤ k → k < at → StandsAt what text k → ⊥
 
+-- the bytes stand nowhere in the text from the given place on
 abbrev pub IsNoPlace : List ℕ → List ℕ → ℕ → Type 0
 IsNoPlace what text from = (k : ℕ) → from ≤ k → StandsAt what text k → ⊥

@@ -3,12 +3,14 @@ ghost use Rattle.std.specs.Char.{to_ascii_lowercase, to_ascii_uppercase};
 ghost use Rattle.std.specs.Prelude.{◌≡◌, map};
 ghost use Rattle.lics_text.specs.Texts.{proper_of};
 
+/// Raises the small letters of ASCII, and leaves each other byte.
 pub fn raise_all(bytes: &mut Vec<u8>)
     ensures { bytes.new.items ≡ map to_ascii_uppercase bytes.old.items }
 {
     bytes.as_mut_slice().make_ascii_uppercase();
 }
 
+/// Lowers the capitals of ASCII, and leaves each other byte.
 pub fn lower_all(bytes: &mut Vec<u8>)
     ensures { bytes.new.items ≡ map to_ascii_lowercase bytes.old.items }
 {

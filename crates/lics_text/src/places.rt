@@ -2,6 +2,7 @@
 ghost use Rattle.std.specs.Prelude.{◌≡◌, ◌≤◌, ◌+◌, true, false, IfSome, IfNone, length};
 ghost use Rattle.lics_text.specs.Texts.{StandsAt, IsFirstPlace, IsNoPlace};
 
+// Whether bytes stand in a text at a place at which the text is long enough for them.
 fn stands_at(what: &[u8], text: &[u8], at: usize) -> bool
     requires { at + length what.now ≤ length text.now }
     ensures yes { result ≡ true → StandsAt what.now text.now at }

@@ -53,7 +53,8 @@ abbrev pub answered : ShelfAnswer → OnShelf → OnShelf
 answered answer s = on_shelf s.files (s.answers ++ answer ∷ [])
 
 -- A call that changes no file gives what the files tell. Of a shelf that tells nothing nothing is said.
-abbrev pub HasRead : {A : Type 0} → (Files → A) → List ℕ → Option OnShelf → Option OnShelf → Result A ShelfFault → Type 0
+abbrev pub HasRead : {A : Type 0} → (Files → A) → List ℕ → Option OnShelf → Option OnShelf → Result A ShelfFault
+    → Type 0
 HasRead told name None after result = after ≡ None
 HasRead told name (Some s) after (Ok value) = (value ≡ told s.files) × (after ≡ Some (answered done s))
 HasRead told name (Some s) after (Err Failed) = after ≡ Some (answered (failed (file_in name s.files)) s)
@@ -63,13 +64,15 @@ HasRead told name (Some s) after (Err Memory) = after ≡ Some s
 abbrev pub HasPut : List ℕ → List ℕ → Option OnShelf → Option OnShelf → Result Unit ShelfFault → Type 0
 HasPut name bytes None after result = after ≡ None
 HasPut name bytes (Some s) after (Ok _) = after ≡ Some (answered done (holding name (Some bytes) s))
-HasPut name bytes (Some s) after (Err Failed) = (held : Option (List ℕ)) × (after ≡ Some (answered (failed held) (holding name held s)))
+HasPut name bytes (Some s) after (Err Failed) =
+    (held : Option (List ℕ)) × (after ≡ Some (answered (failed held) (holding name held s)))
 HasPut name bytes (Some s) after (Err Memory) = (held : Option (List ℕ)) × (after ≡ Some (holding name held s))
 
 -- A call takes a file away and tells whether it was there; one that fails changes no file.
 abbrev pub HasRemoved : List ℕ → Option OnShelf → Option OnShelf → Result Bool ShelfFault → Type 0
 HasRemoved name None after result = after ≡ None
-HasRemoved name (Some s) after (Ok there) = (there ≡ has_file name s.files) × (after ≡ Some (answered done (holding name None s)))
+HasRemoved name (Some s) after (Ok there) =
+    (there ≡ has_file name s.files) × (after ≡ Some (answered done (holding name None s)))
 HasRemoved name (Some s) after (Err Failed) = after ≡ Some (answered (failed (file_in name s.files)) s)
 HasRemoved name (Some s) after (Err Memory) = after ≡ Some s
 

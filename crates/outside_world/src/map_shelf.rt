@@ -119,9 +119,14 @@ impl MapShelf {
     // A call fails, and its file stays.
     #[tactic(auto, using(crate::proofs::Found::no_put))]
     fn fail(&mut self, name: &FileName) -> ShelfFault
-        ensures failed { result ≡ fault.Failed → (shelf_told self.new ≡ answered (failed (file_in name.now (shelf_told self.old).files)) (shelf_told self.old)) × (shelf_faults self.old ≤ shelf_faults self.new) × Rose (shelf_faults self.old) (shelf_faults self.new) }
-        ensures put { (bytes : List ℕ) → HasPut name.now bytes (Some (shelf_told self.old)) (Some (shelf_told self.new)) (Err result) }
-        ensures memory { result ≡ fault.Memory → (shelf_told self.new ≡ shelf_told self.old) × (shelf_faults self.new ≡ shelf_faults self.old) }
+        ensures failed { result ≡ fault.Failed →
+            (shelf_told self.new
+            ≡ answered (failed (file_in name.now (shelf_told self.old).files)) (shelf_told self.old))
+            × (shelf_faults self.old ≤ shelf_faults self.new) × Rose (shelf_faults self.old) (shelf_faults self.new) }
+        ensures put { (bytes : List ℕ) →
+            HasPut name.now bytes (Some (shelf_told self.old)) (Some (shelf_told self.new)) (Err result) }
+        ensures memory { result ≡ fault.Memory →
+            (shelf_told self.new ≡ shelf_told self.old) × (shelf_faults self.new ≡ shelf_faults self.old) }
     {
         let Ok(copy) = copy_held(&self.journal, name) else {
             return ShelfFault::Memory;

@@ -40,7 +40,8 @@ pub fn columns_of(saved: &SavedSheet, range: Span) -> Columns
 /// How many of the columns the first band has, at least one.
 pub fn band_len(saved: &SavedSheet, width: u8, columns: &[u8]) -> usize
     requires { 1 ≤ length columns.now }
-    ensures bands { bands saved.now width columns.now ≡ take result columns.now ∷ bands saved.now width (drop result columns.now) }
+    ensures bands { bands saved.now width columns.now
+        ≡ take result columns.now ∷ bands saved.now width (drop result columns.now) }
     ensures some { 1 ≤ result }
     ensures within { result ≤ length columns.now }
     ensures wide { wide saved.now (take result columns.now) ≤ 255 }

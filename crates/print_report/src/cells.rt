@@ -196,8 +196,10 @@ fn add_formula<'a>(
 ) -> &'a [u8]
     requires width { width ≤ 240 }
     requires room { length row.old + width ≤ 255 }
-    ensures line { row.new ≡ row.old ++ padded width (formula_text (printed names.now cell formula.now) value.now format.0 width) }
-    ensures rest { result.now ≡ drop width (formula_text (printed names.now cell formula.now) value.now format.0 width) }
+    ensures line { row.new
+        ≡ row.old ++ padded width (formula_text (printed names.now cell formula.now) value.now format.0 width) }
+    ensures rest { result.now
+        ≡ drop width (formula_text (printed names.now cell formula.now) value.now format.0 width) }
 {
     if format.is_shown_as(Format::TEXT) {
         add_printed(row, names, cell, formula, width);
@@ -217,8 +219,10 @@ fn add_content<'a>(
 ) -> &'a [u8]
     requires width { width ≤ 240 }
     requires room { length row.old + width ≤ 255 }
-    ensures line { row.new ≡ row.old ++ padded width (visible_text names.now cell state.now.content state.now.value format.0 width) }
-    ensures rest { result.now ≡ drop width (visible_text names.now cell state.now.content state.now.value format.0 width) }
+    ensures line { row.new
+        ≡ row.old ++ padded width (visible_text names.now cell state.now.content state.now.value format.0 width) }
+    ensures rest { result.now
+        ≡ drop width (visible_text names.now cell state.now.content state.now.value format.0 width) }
 {
     if format.is_shown_as(Format::HIDDEN) {
         return add_text(row, b"", width);
@@ -255,7 +259,8 @@ fn add_state<'a>(
 ) -> &'a [u8]
     requires width { width ≤ 240 }
     requires room { length row.old + width ≤ 255 }
-    ensures line { row.new ≡ row.old ++ padded width (unwrap_or (state_text saved.now cell (Some state.now) width) over.now) }
+    ensures line { row.new
+        ≡ row.old ++ padded width (unwrap_or (state_text saved.now cell (Some state.now) width) over.now) }
     ensures rest { result.now ≡ drop width (unwrap_or (state_text saved.now cell (Some state.now) width) over.now) }
 {
     if let Content::Blank = state.content {

@@ -20,9 +20,11 @@ name_cmp = slice_cmp nat_cmp
 abbrev pub NameMap : Type 0
 NameMap = FinMap name_cmp Extent
 
+-- as the list of its entries, in byte order of the keys
 abbrev pub coded_names : Coded NameMap
 coded_names = code (coded_list coded_ℕ) coded_extent
 
+-- the key of a name, which is the same for letters of either case
 abbrev pub key_of : List ℕ → List ℕ
 key_of name = map to_ascii_uppercase name ++ replicate (15 - length name) 0
 
@@ -35,6 +37,7 @@ name_in (b ∷ bs) = if b == 0 then [] else b ∷ name_in bs
 abbrev pub bad_place : List ℕ → Option ℕ
 bad_place name = if get_or name 0 0 == 32 then Some 0 else position (λ c. nat_lt c 32) name
 
+-- the fault of a bad byte at a place, and none where there is none
 abbrev pub bad_byte : Option ℕ → Option NameFault
 bad_byte None = None
 bad_byte (Some at) = Some (BadByte at)
@@ -54,6 +57,7 @@ IsKey key = (length (name_in key) ≤ 15) × (key_of (name_in key) ≡ key) × (
 abbrev pub AreKeys : NameMap → Type 0
 AreKeys names = (key : List ℕ) (span : Extent) → get names key ≡ Some span → IsKey key
 
+-- a letter, a digit or _
 abbrev pub is_word_byte : ℕ → Bool
 is_word_byte c = is_ascii_alphabetic c || (is_ascii_digit c || (c == 95))
 
@@ -66,6 +70,7 @@ is_word (b ∷ bs) = is_ascii_alphabetic b && list_all is_word_byte bs
 abbrev pub is_plain : List ℕ → Bool
 is_plain name = is_word name && not (is_some (address_in name))
 
+-- the two spans have the same corners
 abbrev pub same_extent : Extent → Extent → Bool
 same_extent s t = same_place s.first t.first && same_place s.last t.last
 
@@ -74,6 +79,7 @@ abbrev pub named : Extent → List (List ℕ × Extent) → Option (List ℕ)
 named span [] = None
 named span (e ∷ es) = if same_extent e.1 span && is_plain (name_in e.0) then Some (name_in e.0) else named span es
 
+-- the name that is written for a span: the first in byte order of those that can be
 abbrev pub name_of_span : NameMap → Extent → Option (List ℕ)
 name_of_span names span = named span (entries names)
 

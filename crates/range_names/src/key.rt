@@ -23,6 +23,7 @@ fn first_small(name: &[u8]) -> Option<usize>
     name.iter().position(|byte| *byte < 32)
 }
 
+// Whether a space stands in front; no bytes begin with none.
 fn starts_with_space(name: &[u8]) -> bool
     ensures { result ≡ (get_or name.now 0 0 == 32) }
 {

@@ -50,7 +50,8 @@ impl Names {
     /// Gives a span a name; a name that is there gets the new span. The names are as before where it is refused:
     /// `Empty`, `TooLong` and `BadByte` come exactly by their causes, in this order.
     pub fn create(&mut self, name: &[u8], span: Span) -> Result<(), NameFault>
-        ensures ok { OnOk result ((fault_of name.now ≡ None) × (self.new ≡ namemap.insert self.old (key_of name.now) span)) }
+        ensures ok { OnOk result
+            ((fault_of name.now ≡ None) × (self.new ≡ namemap.insert self.old (key_of name.now) span)) }
         ensures kept { OnErr result (self.new ≡ self.old) }
         ensures err { IfErr result (λ fault. (fault ≡ cause.Memory) ⊎ (fault_of name.now ≡ Some fault)) }
     {
@@ -66,7 +67,8 @@ impl Names {
         ensures ok { OnOk result ((fault_of name.now ≡ None) × (self.new ≡ namemap.remove self.old (key_of name.now))) }
         ensures there { OnOk result (namemap.get self.old (key_of name.now) ≡ None → ⊥) }
         ensures kept { OnErr result (self.new ≡ self.old) }
-        ensures err { IfErr result (λ fault. (fault_of name.now ≡ Some fault) ⊎ ((fault_of name.now ≡ None) × (fault ≡ cause.Absent) × (namemap.get self.old (key_of name.now) ≡ None))) }
+        ensures err { IfErr result (λ fault. (fault_of name.now ≡ Some fault)
+            ⊎ ((fault_of name.now ≡ None) × (fault ≡ cause.Absent) × (namemap.get self.old (key_of name.now) ≡ None))) }
     {
         let key = checked_key(name)?;
         match self.map.remove(&key) {
@@ -134,6 +136,7 @@ impl Names {
     }
 }
 
+// Whether two spans have the same corners.
 fn is_same(a: &Span, b: Span) -> bool
     ensures { result ≡ same_extent a.now b }
 {
@@ -169,6 +172,7 @@ fn first_after(map: &BTreeMap<[u8; 15], Span>, wanted: [u8; 15]) -> Option<&[u8]
     None
 }
 
+// Whether a key is greater than another, byte by byte.
 fn is_behind(key: &[u8; 15], other: [u8; 15]) -> bool
     ensures { result ≡ is_gt (name_cmp key.now other) }
 {

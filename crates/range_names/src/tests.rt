@@ -51,6 +51,7 @@ fn bad_names_are_refused(rt: HostRuntime) -> Result<(), Fail> {
     Ok(())
 }
 
+// Whether a span has a name that is written for it, and it is this one.
 fn is_first_name(names: &Names, span: Span, name: &[u8]) -> bool {
     match names.of_span(span) {
         Some(found) => found == name,
@@ -58,6 +59,7 @@ fn is_first_name(names: &Names, span: Span, name: &[u8]) -> bool {
     }
 }
 
+// Whether no name is written for a span.
 fn has_no_name(names: &Names, span: Span) -> bool {
     names.of_span(span).is_none()
 }

@@ -5,12 +5,14 @@ ghost use Rattle.range_names.specs.Names.{is_plain, is_word, is_word_byte};
 
 use grid_address::read_cell;
 
+// A letter, a digit or _.
 fn is_word_byte(byte: u8) -> bool
     ensures { result ≡ is_word_byte byte }
 {
     byte.is_ascii_alphabetic() || byte.is_ascii_digit() || byte == b'_'
 }
 
+// Letters, digits and _ alone.
 fn are_word_bytes(bytes: &[u8]) -> bool
     ensures { result ≡ list_all is_word_byte bytes.now }
 {

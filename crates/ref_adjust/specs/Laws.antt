@@ -22,4 +22,6 @@ pub record Follows (goes : Place → Option Place) (old_at new_at : Place) (old 
 
 -- each reference that isn't lost follows
 abbrev pub ReferencesFollow : (Place → Option Place) → Type 0
-ReferencesFollow goes = (old_at new_at : Place) (old new : Reference) → InSheet new_at → InSheet (resolve old old_at) → adjusted goes old_at new_at old ≡ Some new → Follows goes old_at new_at old new
+ReferencesFollow goes =
+    (old_at new_at : Place) (old new : Reference) → InSheet new_at → InSheet (resolve old old_at) →
+    adjusted goes old_at new_at old ≡ Some new → Follows goes old_at new_at old new

@@ -7,11 +7,15 @@ use Rattle.ref_adjust.specs.Moves.{span_of_corners}
 
 -- a later line moves on by the count, and is lost past the last of so many lines
 abbrev pub line_inserted : ℕ → ℕ → ℕ → ℕ → Option ℕ
-line_inserted lines first count line = if nat_lt line first then Some line else (if nat_lt (line + count) lines then Some (line + count) else None)
+line_inserted lines first count line =
+    if nat_lt line first then Some line
+    else (if nat_lt (line + count) lines then Some (line + count) else None)
 
 -- a deleted line is lost, and a later one moves back by the count
 abbrev pub line_deleted : ℕ → ℕ → ℕ → Option ℕ
-line_deleted first count line = if nat_lt line first then Some line else (if nat_lt line (first + count) then None else Some (line - count))
+line_deleted first count line =
+    if nat_lt line first then Some line
+    else (if nat_lt line (first + count) then None else Some (line - count))
 
 -- a place with another row, or with another column
 abbrev pub with_row : Place → Option ℕ → Option Place

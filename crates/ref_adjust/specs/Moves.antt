@@ -16,7 +16,9 @@ FitsAt from to = InSheet (carried from to from.last)
 
 -- a moved place follows, an overwritten one is lost, and any other stays
 abbrev pub place_moved : Extent → Place → Place → Option Place
-place_moved from to p = if is_within from p then Some (carried from to p) else (if is_within (target from to) p then None else Some p)
+place_moved from to p =
+    if is_within from p then Some (carried from to p)
+    else (if is_within (target from to) p then None else Some p)
 
 -- a span by its corners, put in order; none where a corner is lost
 abbrev pub span_of_corners : Option Place → Option Place → Option Extent

@@ -115,9 +115,9 @@ impl Redirect for Shift {
     }
 }
 
-/// A formula whose cell has gone from `old_at` to `new_at`, after rows or columns were inserted or deleted: at least one,
-/// and none past the last. References follow their cells. A reference to a cell that was deleted or has left the sheet
-/// becomes `@ERR`, and so does a span with such a corner. It takes no memory.
+/// A formula whose cell has gone from `old_at` to `new_at`, after rows or columns were inserted or deleted: at least
+/// one, and none past the last. References follow their cells. A reference to a cell that was deleted or has left the
+/// sheet becomes `@ERR`, and so does a span with such a corner. It takes no memory.
 pub fn shifted(formula: Formula, old_at: Cell, new_at: Cell, change: Change) -> Formula
     requires { IsChange change }
     ensures { result ≡ formula_shifted change old_at new_at formula }
@@ -130,8 +130,8 @@ pub fn shifted(formula: Formula, old_at: Cell, new_at: Cell, change: Change) -> 
     formula.redirected(&by)
 }
 
-/// A span after rows or columns were inserted or deleted: at least one, and none past the last. None comes exactly where
-/// a corner was deleted or has left the sheet.
+/// A span after rows or columns were inserted or deleted: at least one, and none past the last. None comes exactly
+/// where a corner was deleted or has left the sheet.
 pub fn span_shifted(span: Span, change: Change) -> Option<Span>
     requires { IsChange change }
     ensures { result ≡ span_shifted change span }

@@ -24,7 +24,8 @@ total length first (suc count) = length first + total length (first + 1) count
 -- whole pieces are taken off, at most so many: the piece in which the number lies, and its place there
 unfoldable pub piece_of : (ℕ → ℕ) → ℕ → ℕ → ℕ → ℕ × ℕ
 piece_of length zero first n = (first, n)
-piece_of length (suc count) first n = if nat_le n (length first) then (first, n) else piece_of length count (first + 1) (n - length first)
+piece_of length (suc count) first n =
+    if nat_le n (length first) then (first, n) else piece_of length count (first + 1) (n - length first)
 
 -- whether a whole number lies between two others, or is one of them
 abbrev pub is_between : ℕ → ℕ → ℤ → Bool
@@ -32,7 +33,9 @@ is_between low high z = not (int_lt z (pos low)) && not (int_lt (pos high) z)
 
 -- the calendar has this day
 abbrev pub is_date : ℤ → ℤ → ℤ → Bool
-is_date y m d = is_between 1900 2099 y && (is_between 1 12 m && is_between 1 (days_in_month (unsigned_abs y) (unsigned_abs m)) d)
+is_date y m d =
+    is_between 1900 2099 y
+    && (is_between 1 12 m && is_between 1 (days_in_month (unsigned_abs y) (unsigned_abs m)) d)
 
 -- its number: the days of the years before, of the months before, and of its month
 abbrev pub number_of : ℕ → ℕ → ℕ → ℕ

@@ -122,6 +122,8 @@ fn parts_of(date: Date) -> Civil
 
 /// `day_of` and `civil_of` undo each other.
 pub fn dates_and_numbers()
-    ensures date { (n : ℕ) (y m d : ℤ) → day_number y m d ≡ Some n → date_of n ≡ Some (record { year = y; month = m; day = d }) }
-    ensures number { (n : ℕ) (y m d : ℤ) → date_of n ≡ Some (record { year = y; month = m; day = d }) → day_number y m d ≡ Some n }
+    ensures date { (n : ℕ) (y m d : ℤ) → day_number y m d ≡ Some n →
+        date_of n ≡ Some (record { year = y; month = m; day = d }) }
+    ensures number { (n : ℕ) (y m d : ℤ) → date_of n ≡ Some (record { year = y; month = m; day = d }) →
+        day_number y m d ≡ Some n }
 {}

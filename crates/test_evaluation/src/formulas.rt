@@ -23,7 +23,13 @@ struct TwoValues {
 }
 
 impl Look for TwoValues {
-    ghost sight = { λ s. record { values = λ p. if p.row == 0 then s.first else s.other; contents = λ _. None; formats = λ _. 255; widths = λ _. 9; names = s.names } };
+    ghost sight = { λ s. record {
+      values = λ p. if p.row == 0 then s.first else s.other;
+      contents = λ _. None;
+      formats = λ _. 255;
+      widths = λ _. 9;
+      names = s.names;
+    } };
 
     fn value(&self, cell: Cell) -> &Value {
         if cell.row == 0 {

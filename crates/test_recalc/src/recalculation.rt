@@ -87,7 +87,8 @@ fn chain<R: Abort>(rt: &R, alloc: Global) -> Store {
     store
 }
 
-// Recalculates a store whose formulas all are dirty, and tells whether a circle was met and how many formulas stay dirty.
+// Recalculates a store whose formulas all are dirty, and tells whether a circle was met and how many formulas stay
+// dirty.
 fn recalc_all<R: Abort, E: Means>(
     rt: &R,
     store: &mut Store,

@@ -148,7 +148,8 @@ fn any(state: u32) -> (Cell, u32) {
     cell_below(state, 9, 7)
 }
 
-// What a plain list of cells with their marks says of a span: how many of its cells are used, and how many hold formulas.
+// What a plain list of cells with their marks says of a span: how many of its cells are used, and how many hold
+// formulas.
 fn counts(marks: &[(Cell, bool)], span: Span) -> (usize, usize) {
     let mut used = 0usize;
     let mut formulas = 0usize;

@@ -62,7 +62,9 @@ can_write bytes (Some a) = writes a.access && nat_le (a.at + length bytes) limit
 -- the bytes stand at the position, over and past the old ones
 abbrev pub with_bytes : List ℕ → Option Attached → Option Attached
 with_bytes bytes None = None
-with_bytes bytes (Some a) = Some (attached a.name a.access (take a.at a.bytes ++ bytes ++ drop (a.at + length bytes) a.bytes) (a.at + length bytes))
+with_bytes bytes (Some a) =
+    Some (attached a.name a.access (take a.at a.bytes ++ bytes ++ drop (a.at + length bytes) a.bytes)
+    (a.at + length bytes))
 
 -- the open file with bytes written at its position, as it was where they can't be
 abbrev pub written : List ℕ → Option Attached → Option Attached
@@ -106,13 +108,15 @@ HasPutAway a before after now (Ok done) = (done ≡ true) × (now ≡ None) × H
 HasPutAway a before after now (Err e) = (now ≡ Some a) × HasPut a.name a.bytes before after (Err (of_shelf e))
 
 -- what closing a file did: one that was opened to be read leaves the shelf, and any other is put there
-abbrev pub HasFinishedBy : Access → Attached → Option OnShelf → Option OnShelf → Option Attached → Result Bool ChannelFault → Type 0
+abbrev pub HasFinishedBy : Access → Attached → Option OnShelf → Option OnShelf → Option Attached
+    → Result Bool ChannelFault → Type 0
 HasFinishedBy Read a before after now result = (result ≡ Ok true) × (now ≡ None) × (after ≡ before)
 HasFinishedBy Write a before after now result = HasPutAway a before after now result
 HasFinishedBy Modify a before after now result = HasPutAway a before after now result
 
 -- Finishing answers false exactly where nothing is attached. A file that was only read is not put.
-abbrev pub HasFinished : Option Attached → Option OnShelf → Option OnShelf → Option Attached → Result Bool ChannelFault → Type 0
+abbrev pub HasFinished : Option Attached → Option OnShelf → Option OnShelf → Option Attached
+    → Result Bool ChannelFault → Type 0
 HasFinished None before after now result = (result ≡ Ok false) × (now ≡ None) × (after ≡ before)
 HasFinished (Some a) before after now result = HasFinishedBy a.access a before after now result
 
@@ -122,17 +126,26 @@ opened name access None = None
 opened name access (Some bytes) = if nat_le (length bytes) limit then Some (attached name access bytes 0) else None
 
 -- The shelf's file was asked for: false comes exactly where nothing is attached by it.
-abbrev pub HasOpened : List ℕ → Access → Option OnShelf → Option OnShelf → Option Attached → Result Bool ChannelFault → Type 0
-HasOpened name access before after now (Ok there) = (got : Option (List ℕ)) × HasRead (file_in name) name before after (Ok got) × (now ≡ opened name access got) × (there ≡ is_some now)
+abbrev pub HasOpened : List ℕ → Access → Option OnShelf → Option OnShelf → Option Attached
+    → Result Bool ChannelFault → Type 0
+HasOpened name access before after now (Ok there) =
+    (got : Option (List ℕ)) × HasRead (file_in name) name before after (Ok got) × (now ≡ opened name access got)
+    × (there ≡ is_some now)
 HasOpened name access before after now (Err e) = (now ≡ None) × HasRead (file_in name) name before after (no_file e)
 
 -- Write takes the empty list; Read and Modify take the shelf's file.
-abbrev pub HasTaken : List ℕ → Access → Option OnShelf → Option OnShelf → Option Attached → Result Bool ChannelFault → Type 0
+abbrev pub HasTaken : List ℕ → Access → Option OnShelf → Option OnShelf → Option Attached
+    → Result Bool ChannelFault → Type 0
 HasTaken name Read before after now result = HasOpened name Read before after now result
 HasTaken name Modify before after now result = HasOpened name Modify before after now result
-HasTaken name Write before after now result = (result ≡ Ok true) × (now ≡ Some (attached name Write [] 0)) × (after ≡ before)
+HasTaken name Write before after now result =
+    (result ≡ Ok true) × (now ≡ Some (attached name Write [] 0)) × (after ≡ before)
 
 -- Attaching finishes what is there, and ends where that failed.
-pub data HasAttached (name : List ℕ) (access : Access) (old : Option Attached) (before after : Option OnShelf) (now : Option Attached) (result : Result Bool ChannelFault) : Type 0 where
-  unfinished : (e : ChannelFault) → result ≡ Err e → HasFinished old before after now (Err e) → HasAttached name access old before after now result
-  finished : (between : Option OnShelf) (left : Option Attached) (was : Bool) → HasFinished old before between left (Ok was) → HasTaken name access between after now result → HasAttached name access old before after now result
+pub data HasAttached (name : List ℕ) (access : Access) (old : Option Attached) (before after : Option OnShelf)
+    (now : Option Attached) (result : Result Bool ChannelFault) : Type 0 where
+  unfinished : (e : ChannelFault) → result ≡ Err e → HasFinished old before after now (Err e) →
+      HasAttached name access old before after now result
+  finished : (between : Option OnShelf) (left : Option Attached) (was : Bool) →
+      HasFinished old before between left (Ok was) → HasTaken name access between after now result →
+      HasAttached name access old before after now result
