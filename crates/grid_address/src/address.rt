@@ -2,8 +2,8 @@
 ghost use Rattle.std.specs.Prelude.{◌≡◌, ◌≤◌, ◌<◌, ◌+◌, ◌++◌, [], length};
 ghost use Rattle.grid_address.specs.Address.{address_of, column_name, decimal};
 
-use crate::Cell;
 use crate::decimal::decimal_text;
+use crate::{Cell, ROWS};
 use byte_list::ByteList;
 
 /// A short text, as an address or a piece of one: at most 6 bytes.
@@ -23,7 +23,7 @@ fn push_column(text: &mut AddressText, col: u8)
 // Adds a row's number, counted from 1.
 #[tactic(auto, using(crate::proofs::Decimals::row_digits))]
 fn push_row(text: &mut AddressText, row: u16)
-    requires row_in { row < 8192 }
+    requires row_in { row < ROWS }
     requires room { length text.old ≤ 2 }
     ensures { text.new ≡ text.old ++ decimal (row + 1) }
 {
@@ -45,7 +45,7 @@ pub fn column_text(col: u8) -> AddressText
 /// A row's number, 1 to 8192 for the rows 0 to 8191.
 #[tactic(auto, using(crate::proofs::Decimals::row_digits))]
 pub fn row_text(row: u16) -> AddressText
-    requires { row < 8192 }
+    requires { row < ROWS }
     ensures value { result ≡ decimal (row + 1) }
     ensures digits { length result ≤ 4 }
 {

@@ -21,3 +21,9 @@ pub use list::{CellList, PlaceList, SpanList};
 pub use reading::{NotAnAddress, count_dots, read_cell, read_span};
 pub use reference::{Axis, Ref};
 pub use span::Span;
+
+/// How many rows the sheet has (Release 2 manual).
+pub const ROWS: u16 = 8192;
+
+/// The last row, counted from 0.
+pub const LAST_ROW: u16 = 8191;

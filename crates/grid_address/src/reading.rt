@@ -5,7 +5,7 @@ ghost use Rattle.grid_address.specs.Progress.{address_in, count_dots, first_digi
 ghost use Rattle.grid_address.specs.Reading.{IsAddress, IsSpan, SpellsCell, SpellsSpan, StopsAt};
 ghost use Rattle.grid_address.specs.declared.reading.Progress.TheVariants.{Letter, Row};
 
-use crate::{Cell, Span};
+use crate::{Cell, ROWS, Span};
 
 /// The bytes are no address, or no span: `at` is the first byte that can't go on, or the number of bytes where they end
 /// too early.
@@ -57,7 +57,7 @@ fn after_digits(col: u8, number: u16, byte: u8) -> Option<Progress>
 {
     if byte >= b'0' && byte <= b'9' {
         let more = u32::from(number) * 10 + u32::from(byte - b'0');
-        if more <= 8192 {
+        if more <= ROWS as u32 {
             return Some(Progress::Row(col, more as u16));
         }
     }

@@ -1,8 +1,8 @@
-ghost use Rattle.std.specs.Prelude.{◌≡◌, ◌<◌};
+ghost use Rattle.std.specs.Prelude.{◌≡◌, ◌≤◌, ◌<◌};
 ghost use Rattle.grid_address.specs.Axes.{axis_to, is_fixed, number_of, resolved};
 ghost use Rattle.grid_address.specs.Leads.{reference_to, resolve};
 
-use crate::Cell;
+use crate::{Cell, ROWS};
 use std::marker::Model;
 
 /// A coordinate of a reference: an absolute number, or an offset that is added and wraps at the edge of
@@ -40,7 +40,7 @@ impl Ref {
         ensures { result ≡ resolve self at }
     {
         let col = along(self.col, at.col as u16, 256);
-        let row = along(self.row, at.row, 8192);
+        let row = along(self.row, at.row, ROWS);
         Cell {
             row,
             col: col as u8,
@@ -57,7 +57,7 @@ impl Ref {
     {
         Ref {
             col: back(fixed_col, target.col as u16, at.col as u16, 256),
-            row: back(fixed_row, target.row, at.row, 8192),
+            row: back(fixed_row, target.row, at.row, ROWS),
         }
     }
 }
@@ -65,7 +65,7 @@ impl Ref {
 // The number that a coordinate names, from where it stands.
 fn along(axis: Axis, at: u16, count: u16) -> u16
     requires below { at < count }
-    requires count_in { count < 8193 }
+    requires count_in { count ≤ ROWS }
     requires size { number_of axis < count }
     ensures value { result ≡ resolved axis at count }
     ensures in_range { result < count }
@@ -80,7 +80,7 @@ fn along(axis: Axis, at: u16, count: u16) -> u16
 fn back(fixed: bool, target: u16, at: u16, count: u16) -> Axis
     requires below { at < count }
     requires target_below { target < count }
-    requires count_in { count < 8193 }
+    requires count_in { count ≤ ROWS }
     ensures is { result ≡ axis_to fixed target at count }
     ensures value { resolved result at count ≡ target }
     ensures fixed { is_fixed result ≡ fixed }

@@ -1,7 +1,7 @@
 ghost use Rattle.std.specs.Prelude.{◌≡◌, ◌≤◌, ◌+◌};
 ghost use Rattle.grid_address.specs.Place.{height_of, is_within, spanned, whole, width_of};
 
-use crate::Cell;
+use crate::{Cell, LAST_ROW, ROWS};
 use std::marker::Model;
 
 /// A rectangle of cells by its corners, of which the first is at the top left.
@@ -50,7 +50,7 @@ impl Span {
     pub fn height(self) -> u16
         ensures height { result ≡ height_of self }
         ensures some { 1 ≤ result }
-        ensures fits { self.first.row + result ≤ 8192 }
+        ensures fits { self.first.row + result ≤ ROWS }
     {
         self.last.row + 1 - self.first.row
     }
@@ -77,7 +77,7 @@ impl Span {
         Span {
             first: Cell { row: 0, col: 0 },
             last: Cell {
-                row: 8191,
+                row: LAST_ROW,
                 col: 255,
             },
         }

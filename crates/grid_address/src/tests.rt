@@ -1,7 +1,7 @@
 // Worked rows of places and references.
 use crate::{
-    Axis, Cell, CellList, NotAnAddress, Ref, Span, SpanList, cell_text, column_text, decimal_text,
-    read_cell, read_span, row_text,
+    Axis, Cell, CellList, LAST_ROW, NotAnAddress, ROWS, Ref, Span, SpanList, cell_text,
+    column_text, decimal_text, read_cell, read_span, row_text,
 };
 use std::process::Abort;
 use std::test::Fail;
@@ -9,7 +9,7 @@ use std::test::Fail;
 const HOME: Cell = Cell { row: 0, col: 0 };
 
 const LAST: Cell = Cell {
-    row: 8191,
+    row: LAST_ROW,
     col: 255,
 };
 
@@ -21,13 +21,13 @@ fn cells_are_written(rt: HostRuntime) -> Result<(), Fail> {
         (9, 26, b"AA10"),
         (99, 51, b"AZ100"),
         (999, 52, b"BA1000"),
-        (8191, 255, b"IV8192"),
+        (LAST_ROW, 255, b"IV8192"),
     ] {
-        assert!(rt; row < 8192);
+        assert!(rt; row < ROWS);
         assert_eq!(rt; cell_text(Cell { row, col }).bytes(), text);
     }
     assert_eq!(rt; column_text(233).bytes(), b"HZ".as_slice());
-    assert_eq!(rt; row_text(8191).bytes(), b"8192".as_slice());
+    assert_eq!(rt; row_text(LAST_ROW).bytes(), b"8192".as_slice());
     assert_eq!(rt; decimal_text(0).bytes(), b"0".as_slice());
     assert_eq!(rt;
         decimal_text(u64::MAX).bytes(),
@@ -42,7 +42,13 @@ fn references_wrap_at_the_edge(rt: HostRuntime) -> Result<(), Fail> {
     let b1 = Cell { row: 0, col: 1 };
     let relative = Ref::of(b1, HOME, false, false);
     assert_eq!(rt; relative.resolve(HOME), b1);
-    assert_eq!(rt; relative.resolve(LAST), Cell { row: 8191, col: 0 });
+    assert_eq!(rt;
+        relative.resolve(LAST),
+        Cell {
+            row: LAST_ROW,
+            col: 0
+        }
+    );
     let back = Ref::of(HOME, LAST, false, false);
     assert_eq!(rt; back.resolve(LAST), HOME);
     assert_eq!(rt; back.resolve(HOME), Cell { row: 1, col: 1 });
@@ -89,10 +95,10 @@ fn addresses_are_read(rt: HostRuntime) -> Result<(), Fail> {
         (b"A1".as_slice(), 0u16, 0u8),
         (b"z9", 8, 25),
         (b"aA10", 9, 26),
-        (b"IV8192", 8191, 255),
+        (b"IV8192", LAST_ROW, 255),
         (b"iu8000", 7999, 254),
     ] {
-        assert!(rt; row < 8192);
+        assert!(rt; row < ROWS);
         assert_eq!(rt; read_cell(text), Ok(Cell { row, col }));
     }
     for (text, at) in [

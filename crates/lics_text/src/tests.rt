@@ -113,9 +113,9 @@ fn a_line_is_full_at_its_end(rt: HostRuntime) -> Result<(), Fail> {
     let mut line = Line::new();
     for count in 0..241usize {
         assert_eq!(rt; line.bytes().len(), count);
-        assert_eq!(rt; line.put(count as u8), count < 240);
-        if count == 240 {
-            assert_eq!(rt; line.bytes().len(), 240);
+        assert_eq!(rt; line.put(count as u8), count < MAX_LEN);
+        if count == MAX_LEN {
+            assert_eq!(rt; line.bytes().len(), MAX_LEN);
         }
     }
     Ok(())

@@ -1,7 +1,7 @@
 ghost use Rattle.std.specs.Prelude.{◌≡◌, ◌≤◌, [], length, nat_lt, IfOk};
 ghost use Rattle.lics_text.specs.Texts.{line_with};
 
-use crate::{Line, Memory, Text, TextByte};
+use crate::{Line, MAX_LEN, Memory, Text, TextByte};
 use std::alloc::Global;
 use std::marker::Model;
 
@@ -34,7 +34,7 @@ impl TextLine {
 
     /// Adds a byte at the end. It answers false, and leaves the line as it was, exactly at 240 bytes.
     pub fn put(&mut self, byte: TextByte) -> bool
-        ensures put { result ≡ nat_lt (length self.old) 240 }
+        ensures put { result ≡ nat_lt (length self.old) MAX_LEN }
         ensures line { self.new ≡ line_with self.old byte }
     {
         self.line.put(byte.get())

@@ -2,7 +2,7 @@
 ghost use Rattle.std.specs.Prelude.{◌≡◌, ◌≤◌, ◌<◌, length, drop};
 ghost use Rattle.lics_text.specs.Texts.{is_gap, without_front, single_spaced};
 
-use crate::Line;
+use crate::{Line, MAX_LEN};
 
 // Whether a space or the end stands at a place.
 fn is_gap(bytes: &[u8], at: usize) -> bool
@@ -24,7 +24,7 @@ pub fn without_front(bytes: &[u8]) -> &[u8]
 
 /// The bytes without the spaces before another space and at the end.
 pub fn single_spaced(bytes: &[u8]) -> Line
-    requires { length bytes.now ≤ 240 }
+    requires { length bytes.now ≤ MAX_LEN }
     ensures { result ≡ single_spaced bytes.now }
 {
     let mut line = Line::new();
