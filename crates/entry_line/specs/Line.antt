@@ -1,6 +1,7 @@
 -- A line that is edited, and what each key does with it.
 use Rattle.std.specs.Prelude.{ℕ, ◌+◌, ◌-◌, refl, nat_lt, min, if◌then◌else◌, length, take, drop, List, [], ◌∷◌, ◌++◌}
 use Rattle.std.specs.Coded.{Coded, code_by, coded×, coded_list, coded_ℕ}
+use Rattle.lics_text.specs.declared.TheConstants.{MAX_LEN}
 use Rattle.key_words.specs.declared.key.Key.{Key}
 use Rattle.key_words.specs.declared.key.Key.TheVariants.{Byte, Enter, Up, Down, Left, Right, Home, End, PgUp, PgDn, BigLeft, BigRight, Esc, Bs, Del, Edit, Name, Abs, Goto, Window, Query, Table, Calc, Graph, Break, Undo, Alt}
 use Rattle.entry_line.specs.declared.event.LineEvent.{LineEvent}
@@ -27,11 +28,11 @@ inserted e b = record { text = take e.cursor e.text ++ b ∷ drop e.cursor e.tex
 
 -- the line after a byte: it comes in at the cursor, and a full line stays as it was
 abbrev pub typed : Entry → ℕ → Entry
-typed e b = if nat_lt (length e.text) 240 then inserted e b else e
+typed e b = if nat_lt (length e.text) MAX_LEN then inserted e b else e
 
 -- what a byte comes to: a full line is told
 abbrev pub room : Entry → LineEvent
-room e = if nat_lt (length e.text) 240 then Going else LineFull
+room e = if nat_lt (length e.text) MAX_LEN then Going else LineFull
 
 -- the byte behind the cursor goes
 abbrev pub deleted : Entry → Entry

@@ -1,26 +1,30 @@
 -- How far an address is read.
 use Rattle.std.specs.Char.{is_ascii_digit, is_ascii_uppercase, to_ascii_uppercase}
 use Rattle.std.specs.Prelude.{ℕ, ◌≡◌, ◌≤◌, ◌<◌, ◌+◌, ◌-◌, ◌*◌, ◌/◌, ◌%◌, ◌&&◌, ◌==◌, nat_le, nat_lt, get_or, length, take, Option, Some, None, List, [], ◌∷◌, ◌++◌, map, if◌then◌else◌, fold, ⊤}
+use Rattle.ascii_bytes.specs.Ascii as ascii
 use Rattle.grid_address.specs.declared.reading.Progress.{Progress}
 use Rattle.grid_address.specs.declared.reading.Progress.TheVariants.{Nothing, Letter, Column, Row}
-use Rattle.grid_address.specs.Address.{column_name, decimal}
+use Rattle.grid_address.specs.Address.{before_a, column_name, decimal}
 use Rattle.grid_address.specs.Place.{Place}
 
 -- these bytes are read that far: one letter, the two letters of a column, or a column and the first digits of a row's
 -- number
 abbrev pub IsRead : Progress → List ℕ → Type 0
 IsRead Nothing bytes = bytes ≡ []
-IsRead (Letter c) bytes = (map to_ascii_uppercase bytes ≡ (65 + c) ∷ []) × (c < 26)
-IsRead (Column c) bytes = (map to_ascii_uppercase bytes ≡ (64 + c / 26) ∷ (65 + c % 26) ∷ []) × (26 ≤ c) × (c < 256)
+IsRead (Letter c) bytes = (map to_ascii_uppercase bytes ≡ (ascii.capital_a + c) ∷ []) × (c < 26)
+IsRead (Column c) bytes =
+    (map to_ascii_uppercase bytes ≡ (before_a + c / 26) ∷ (ascii.capital_a + c % 26) ∷ []) × (26 ≤ c) × (c < 256)
 IsRead (Row c n) bytes = (map to_ascii_uppercase bytes ≡ column_name c ++ decimal n) × (c < 256) × (1 ≤ n) × (n ≤ 8192)
 
 -- a row's number begins with 1 to 9
 abbrev pub first_digit : ℕ → ℕ → Option Progress
-first_digit c b = if nat_le 49 b && nat_le b 57 then Some (Row c (b - 48)) else None
+first_digit c b = if nat_le ascii.one b && nat_le b ascii.nine then Some (Row c (b - ascii.zero)) else None
 
 -- a column behind its second letter; none past the last column
 abbrev pub second_letter : ℕ → ℕ → Option Progress
-second_letter c b = if nat_lt ((c + 1) * 26 + (b - 65)) 256 then Some (Column ((c + 1) * 26 + (b - 65))) else None
+second_letter c b =
+    if nat_lt ((c + 1) * 26 + (b - ascii.capital_a)) 256
+    then Some (Column ((c + 1) * 26 + (b - ascii.capital_a))) else None
 
 -- a row behind a further digit; none past the last row
 abbrev pub later_digit : ℕ → ℕ → Option Progress
@@ -29,11 +33,12 @@ later_digit c n = if nat_le n 8192 then Some (Row c n) else None
 -- how far it is read with one byte more; none where no address goes on with it
 abbrev pub next_of : Progress → ℕ → Option Progress
 next_of Nothing b =
-    if is_ascii_uppercase (to_ascii_uppercase b) then Some (Letter (to_ascii_uppercase b - 65)) else None
+    if is_ascii_uppercase (to_ascii_uppercase b)
+    then Some (Letter (to_ascii_uppercase b - ascii.capital_a)) else None
 next_of (Letter c) b =
     if is_ascii_uppercase (to_ascii_uppercase b) then second_letter c (to_ascii_uppercase b) else first_digit c b
 next_of (Column c) b = first_digit c b
-next_of (Row c n) b = if is_ascii_digit b then later_digit c (n * 10 + (b - 48)) else None
+next_of (Row c n) b = if is_ascii_digit b then later_digit c (n * 10 + (b - ascii.zero)) else None
 
 -- a column and a row that are read are the sheet's
 abbrev pub IsRowOfSheet : Progress → Type 0
@@ -59,7 +64,7 @@ pub record IsFront (bytes : List ℕ) (s : Progress) (end : ℕ) : Type 0 where
 -- how many dots stand in front, at most two
 abbrev pub count_dots : List ℕ → ℕ
 count_dots [] = 0
-count_dots (x ∷ rest) = if x == 46 then (if get_or rest 0 0 == 46 then 2 else 1) else 0
+count_dots (x ∷ rest) = if x == ascii.dot then (if get_or rest 0 0 == ascii.dot then 2 else 1) else 0
 
 -- how far an address is read behind one more byte; none where it can be none any more
 abbrev pub step_on : Option Progress → ℕ → Option Progress

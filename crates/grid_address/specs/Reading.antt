@@ -1,6 +1,7 @@
 -- Addresses and spans as they are read.
 use Rattle.std.specs.Char.{to_ascii_uppercase}
 use Rattle.std.specs.Prelude.{ℕ, ◌≡◌, ◌≤◌, ◌<◌, ◌+◌, List, [], ◌∷◌, ◌++◌, length, take, map, ◌⊎◌}
+use Rattle.ascii_bytes.specs.Ascii as ascii
 use Rattle.grid_address.specs.Address.{address_of}
 use Rattle.grid_address.specs.Place.{spanned, Extent, InSheet, Place}
 
@@ -10,7 +11,7 @@ SpellsCell bytes p = (map to_ascii_uppercase bytes ≡ address_of p) × InSheet 
 
 -- one dot, or two
 abbrev pub AreDots : List ℕ → Type 0
-AreDots dots = (dots ≡ 46 ∷ []) ⊎ (dots ≡ 46 ∷ 46 ∷ [])
+AreDots dots = (dots ≡ ascii.dot ∷ []) ⊎ (dots ≡ ascii.dot ∷ ascii.dot ∷ [])
 
 -- the address of one cell, which is a span of its own
 pub record IsOneCell (bytes : List ℕ) (s : Extent) : Type 0 where

@@ -1,7 +1,9 @@
 -- Which bytes a text may hold.
 use Rattle.std.specs.Prelude.{ℕ, ◌≤◌, List, length}
 use Rattle.std.specs.List.{All}
+use Rattle.ascii_bytes.specs.Ascii as ascii
+use Rattle.lics_text.specs.declared.TheConstants.{MAX_LEN}
 
--- at most 240 bytes, each at least 32
+-- at most 240 bytes, none below a space
 abbrev pub IsText : List ℕ → Type 0
-IsText bytes = (length bytes ≤ 240) × All (λ b. 32 ≤ b) bytes
+IsText bytes = (length bytes ≤ MAX_LEN) × All (λ b. ascii.space ≤ b) bytes

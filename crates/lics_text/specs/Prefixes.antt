@@ -1,15 +1,16 @@
 -- Prefixes of labels and their bytes (Release 2 manual).
 use Rattle.std.specs.Prelude.{ℕ, ◌==◌, Option, Some, None, if◌then◌else◌}
+use Rattle.ascii_bytes.specs.Ascii as ascii
 use Rattle.lics_text.specs.declared.prefix.LabelPrefix.{LabelPrefix}
 use Rattle.lics_text.specs.declared.prefix.LabelPrefix.TheVariants.{Left, Right, Center, Repeat, Unprinted}
 
 -- ' " ^ \ and |
 abbrev pub prefix_byte : LabelPrefix → ℕ
-prefix_byte Left = 39
-prefix_byte Right = 34
-prefix_byte Center = 94
-prefix_byte Repeat = 92
-prefix_byte Unprinted = 124
+prefix_byte Left = ascii.apostrophe
+prefix_byte Right = ascii.quote
+prefix_byte Center = ascii.caret
+prefix_byte Repeat = ascii.backslash
+prefix_byte Unprinted = ascii.bar
 
 -- none for a byte that is no prefix
 unfoldable pub prefix_of : ℕ → Option LabelPrefix

@@ -1,7 +1,9 @@
 -- What the calls of a text answer.
 use Rattle.std.specs.Char.{is_ascii_alphabetic, to_ascii_lowercase, to_ascii_uppercase}
 use Rattle.std.specs.Prelude.{ℕ, ◌≡◌, ◌≤◌, ◌<◌, ◌+◌, List, [], ◌∷◌, ◌++◌, length, take, drop, Option, Some, None, Result, Ok, Err, Bool, true, false, nat_lt, nat_le, ◌==◌, ◌&&◌, position, if◌then◌else◌}
+use Rattle.ascii_bytes.specs.Ascii as ascii
 use Rattle.byte_list.specs.Lists.{with_byte}
+use Rattle.lics_text.specs.declared.TheConstants.{MAX_LEN}
 use Rattle.lics_text.specs.declared.faults.TextFault.{TextFault}
 use Rattle.lics_text.specs.declared.faults.TextFault.TheVariants.{TooLong, BadByte}
 
@@ -12,17 +14,19 @@ unless_bad (Some at) bytes = Err (BadByte at)
 
 -- the text of the bytes, or its first fault
 abbrev pub text_of : List ℕ → Result (List ℕ) TextFault
-text_of bytes = if nat_lt 240 (length bytes) then Err TooLong else unless_bad (position (λ b. nat_lt b 32) bytes) bytes
+text_of bytes =
+    if nat_lt MAX_LEN (length bytes) then Err TooLong
+    else unless_bad (position (λ b. nat_lt b ascii.space) bytes) bytes
 
 -- a text with a byte at its end
 abbrev pub pushed_text : List ℕ → ℕ → Result (List ℕ) TextFault
 pushed_text bytes b =
-    if nat_le 240 (length bytes) then Err TooLong
-    else (if nat_lt b 32 then Err (BadByte (length bytes)) else Ok (bytes ++ b ∷ []))
+    if nat_le MAX_LEN (length bytes) then Err TooLong
+    else (if nat_lt b ascii.space then Err (BadByte (length bytes)) else Ok (bytes ++ b ∷ []))
 
 -- a line with one more byte, which is passed over at 240
 abbrev pub line_with : List ℕ → ℕ → List ℕ
-line_with = with_byte 240
+line_with = with_byte MAX_LEN
 
 -- Each letter that follows no letter is raised, and the others are lowered; the flag says whether a letter stands
 -- before.
@@ -38,17 +42,17 @@ proper_of bytes = proper_after false bytes
 -- a space, or the end
 abbrev pub is_gap : List ℕ → Bool
 is_gap [] = true
-is_gap (b ∷ bs) = b == 32
+is_gap (b ∷ bs) = b == ascii.space
 
 -- a space is left out where another follows it, and at the end
 abbrev pub single_spaced : List ℕ → List ℕ
 single_spaced [] = []
-single_spaced (b ∷ bs) = if b == 32 && is_gap bs then single_spaced bs else b ∷ single_spaced bs
+single_spaced (b ∷ bs) = if b == ascii.space && is_gap bs then single_spaced bs else b ∷ single_spaced bs
 
 -- the bytes from the first on that is no space
 abbrev pub without_front : List ℕ → List ℕ
 without_front [] = []
-without_front (b ∷ bs) = if b == 32 then without_front bs else b ∷ bs
+without_front (b ∷ bs) = if b == ascii.space then without_front bs else b ∷ bs
 
 -- no space at the ends, and one between words
 abbrev pub trimmed : List ℕ → List ℕ

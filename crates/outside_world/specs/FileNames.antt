@@ -1,16 +1,17 @@
 -- Names of files: 1 to 8 bytes of A to Z, 0 to 9, `_` and `-`, and an extension.
-use Rattle.std.specs.Prelude.{◌≡◌, ℕ, ◌-◌, ◌==◌, ◌&&◌, ◌||◌, nat_le, Bool, List, [], ◌∷◌, ◌++◌, length, map, take, drop, Option, Some, None, if◌then◌else◌}
+use Rattle.std.specs.Prelude.{◌≡◌, ℕ, ◌-◌, ◌==◌, ◌&&◌, ◌||◌, nat_le, Bool, List, ◌++◌, length, map, take, drop, Option, Some, None, if◌then◌else◌, codes}
 use Rattle.std.specs.List.{list_all}
 use Rattle.std.specs.Char.{is_ascii_alphanumeric, to_ascii_uppercase}
 use Rattle.std.specs.Str.{bytes_eq}
+use Rattle.ascii_bytes.specs.Ascii as ascii
 use Rattle.outside_world.specs.declared.file_name.Ext.{Ext}
 use Rattle.outside_world.specs.declared.file_name.Ext.TheVariants.{Wk1, Prn, Txt}
 
 -- a dot and three letters: .WK1, .PRN, .TXT
 abbrev pub dotted : Ext → List ℕ
-dotted Wk1 = 46 ∷ 87 ∷ 75 ∷ 49 ∷ []
-dotted Prn = 46 ∷ 80 ∷ 82 ∷ 78 ∷ []
-dotted Txt = 46 ∷ 84 ∷ 88 ∷ 84 ∷ []
+dotted Wk1 = codes ".WK1"
+dotted Prn = codes ".PRN"
+dotted Txt = codes ".TXT"
 
 -- bytes in capitals, as names of files are compared
 abbrev pub folded : List ℕ → List ℕ
@@ -26,7 +27,7 @@ stem_in ext bytes = if has_ending ext bytes then take (length bytes - 4) bytes e
 
 -- a letter, a digit, `_` or `-`
 abbrev pub is_name_byte : ℕ → Bool
-is_name_byte b = is_ascii_alphanumeric b || ((b == 95) || (b == 45))
+is_name_byte b = is_ascii_alphanumeric b || ((b == ascii.underscore) || (b == ascii.minus))
 
 -- whether bytes can be a file's name without its ending: one to eight, each allowed in names
 abbrev pub is_stem : List ℕ → Bool

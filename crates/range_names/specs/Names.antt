@@ -7,6 +7,7 @@ use Rattle.std.specs.declared.cmp.Ordering.{Ordering}
 use Rattle.std.specs.Cmp.Lexicographic.{slice_cmp}
 use Rattle.std.specs.Coded.{Coded, coded_list, coded_ℕ}
 use Rattle.std.specs.FinMap.{FinMap, code, entries, get}
+use Rattle.ascii_bytes.specs.Ascii as ascii
 use Rattle.grid_address.specs.Place.{same_place, coded_extent, Extent}
 use Rattle.grid_address.specs.Progress.{address_in}
 use Rattle.range_names.specs.declared.fault.NameFault.{NameFault}
@@ -33,9 +34,9 @@ abbrev pub name_in : List ℕ → List ℕ
 name_in [] = []
 name_in (b ∷ bs) = if b == 0 then [] else b ∷ name_in bs
 
--- a space in front, or the first byte below 32
+-- a space in front, or the first byte below a space
 abbrev pub bad_place : List ℕ → Option ℕ
-bad_place name = if get_or name 0 0 == 32 then Some 0 else position (λ c. nat_lt c 32) name
+bad_place name = if get_or name 0 0 == ascii.space then Some 0 else position (λ c. nat_lt c ascii.space) name
 
 -- the fault of a bad byte at a place, and none where there is none
 abbrev pub bad_byte : Option ℕ → Option NameFault
@@ -59,7 +60,7 @@ AreKeys names = (key : List ℕ) (span : Extent) → get names key ≡ Some span
 
 -- a letter, a digit or _
 abbrev pub is_word_byte : ℕ → Bool
-is_word_byte c = is_ascii_alphabetic c || (is_ascii_digit c || (c == 95))
+is_word_byte c = is_ascii_alphabetic c || (is_ascii_digit c || (c == ascii.underscore))
 
 -- a letter, and then letters, digits and _ alone
 abbrev pub is_word : List ℕ → Bool
