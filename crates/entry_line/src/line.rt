@@ -33,7 +33,7 @@ impl Model for EntryLine {
 // The bytes from a place on are taken out as far as another, and others come in.
 fn spliced(bytes: &[u8], from: usize, inside: &[u8], to: usize) -> Line
     requires order { (from ≤ to) × (to ≤ length bytes.now) }
-    requires room { from + length inside.now + (length bytes.now - to) ≤ 240 }
+    requires room { from + length inside.now + (length bytes.now - to) ≤ MAX_LEN }
     ensures { result ≡ take from bytes.now ++ (inside.now ++ drop to bytes.now) }
 {
     let mut line = Line::new();
@@ -46,7 +46,7 @@ fn spliced(bytes: &[u8], from: usize, inside: &[u8], to: usize) -> Line
 impl EntryLine {
     /// A line with a text, and the cursor at its end. The text has at most 240 bytes, each 32 to 255.
     pub fn new(text: &[u8]) -> EntryLine
-        requires short { length text.now ≤ 240 }
+        requires short { length text.now ≤ MAX_LEN }
         requires bytes { IsText text.now }
         ensures text { result.text ≡ text.now }
         ensures cursor { result.cursor ≡ length text.now }
@@ -63,7 +63,7 @@ impl EntryLine {
     pub fn text(&self) -> &[u8]
         ensures text { result.now ≡ self.now.text }
         ensures bytes { IsText self.now.text }
-        ensures short { length self.now.text ≤ 240 }
+        ensures short { length self.now.text ≤ MAX_LEN }
     {
         self.line.bytes()
     }

@@ -4,7 +4,7 @@ ghost use Rattle.lics_text.specs.Bytes.{IsText};
 
 use crate::{EntryLine, LineEvent};
 use key_words::Key;
-use lics_text::TextByte;
+use lics_text::{MAX_LEN, TextByte};
 use std::test::Fail;
 
 // The key of a byte that a text may hold; Break for any other.
@@ -99,13 +99,13 @@ fn moving_up_and_down_finishes(rt: HostRuntime) -> Result<(), Fail> {
 
 #[test]
 fn a_line_holds_240_bytes(rt: HostRuntime) -> Result<(), Fail> {
-    let mut line = typed(&[b'x'; 240]);
+    let mut line = typed(&[b'x'; MAX_LEN]);
     press(&mut line, &[Key::Home]);
     assert_eq!(&rt; line.key(byte(b'y')), LineEvent::LineFull);
     assert_eq!(&rt; line.cursor(), 0);
-    assert_eq!(&rt; line.text().len(), 240);
+    assert_eq!(&rt; line.text().len(), MAX_LEN);
     press(&mut line, &[Key::Del]);
     assert_eq!(&rt; line.key(byte(b'y')), LineEvent::Going);
-    assert_eq!(&rt; line.text().len(), 240);
+    assert_eq!(&rt; line.text().len(), MAX_LEN);
     Ok(())
 }

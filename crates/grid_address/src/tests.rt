@@ -13,6 +13,9 @@ const LAST: Cell = Cell {
     col: 255,
 };
 
+// How the last row is written.
+const LAST_NUMBER: &[u8; 4] = b"8192";
+
 #[test]
 fn cells_are_written(rt: HostRuntime) -> Result<(), Fail> {
     for (row, col, text) in [
@@ -27,7 +30,7 @@ fn cells_are_written(rt: HostRuntime) -> Result<(), Fail> {
         assert_eq!(rt; cell_text(Cell { row, col }).bytes(), text);
     }
     assert_eq!(rt; column_text(233).bytes(), b"HZ".as_slice());
-    assert_eq!(rt; row_text(LAST_ROW).bytes(), b"8192".as_slice());
+    assert_eq!(rt; row_text(LAST_ROW).bytes(), LAST_NUMBER.as_slice());
     assert_eq!(rt; decimal_text(0).bytes(), b"0".as_slice());
     assert_eq!(rt;
         decimal_text(u64::MAX).bytes(),

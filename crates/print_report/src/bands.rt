@@ -6,13 +6,16 @@ use byte_list::ByteList as Short;
 use grid_address::Span;
 use sheet_store::SavedSheet;
 
+/// The width of the widest column, in characters (Release 2 manual).
+pub const MOST_WIDTH: u8 = 240;
+
 /// Columns, from left to right.
 pub type Columns = Short<256>;
 
 /// A column's width: its own or the sheet's.
 pub fn width_in(saved: &SavedSheet, col: u8) -> u8
     ensures width { result ≡ width_in saved.now col }
-    ensures most { result ≤ 240 }
+    ensures most { result ≤ MOST_WIDTH }
 {
     let settings = saved.settings;
     settings.are_within();

@@ -5,27 +5,28 @@ ghost use Rattle.cell_format.specs.Numbers.{placed, shown_number};
 ghost use Rattle.formula_text.specs.Printed.{printed};
 ghost use Rattle.print_report.specs.Cells.{cell_text, content_text, format_in, formula_text, is_repeated, label_text, padded, state_text, value_text, visible_text};
 
+use crate::bands::MOST_WIDTH;
 use byte_list::ByteList as Short;
 use cell_format::{show_label, show_number};
 use fixed_value::Fixed;
 use formula_text::print;
 use formula_tree::{Content, Formula, Value};
 use grid_address::{Cell, Format};
-use lics_text::{LabelPrefix, Line};
+use lics_text::{LabelPrefix, Line, MAX_LEN};
 use range_names::Names;
 use sheet_store::{CellState, SavedSheet};
 
 /// A row of the report while it is put together.
 pub type Row = Short<255>;
 
-static BLANKS: [u8; 240] = [b' '; 240];
+static BLANKS: [u8; MAX_LEN] = [b' '; MAX_LEN];
 
-static STARS: [u8; 240] = [b'*'; 240];
+static STARS: [u8; MAX_LEN] = [b'*'; MAX_LEN];
 
 // Adds a text in a column's width, cut or filled. The answer is what is left of the text.
 #[tactic(auto, using(crate::proofs::Cutting::text_added))]
 fn add_text<'a>(row: &mut Row, text: &'a [u8], width: u8) -> &'a [u8]
-    requires width { width ≤ 240 }
+    requires width { width ≤ MOST_WIDTH }
     requires room { length row.old + width ≤ 255 }
     ensures line { row.new ≡ row.old ++ padded width text.now }
     ensures rest { result.now ≡ drop width text.now }
@@ -40,7 +41,7 @@ fn add_text<'a>(row: &mut Row, text: &'a [u8], width: u8) -> &'a [u8]
 // Adds a text that fills the column's width, so that none is left.
 #[tactic(auto, using(crate::proofs::Cutting::none_left))]
 fn add_whole(row: &mut Row, text: &[u8], width: u8)
-    requires width { width ≤ 240 }
+    requires width { width ≤ MOST_WIDTH }
     requires room { length row.old + width ≤ 255 }
     requires size { length text.now ≤ width }
     ensures line { row.new ≡ row.old ++ padded width text.now }
@@ -51,7 +52,7 @@ fn add_whole(row: &mut Row, text: &[u8], width: u8)
 
 // Adds a number as it is shown.
 fn add_number(row: &mut Row, number: Fixed, format: Format, width: u8)
-    requires width { width ≤ 240 }
+    requires width { width ≤ MOST_WIDTH }
     requires room { length row.old + width ≤ 255 }
     ensures line { row.new ≡ row.old ++ padded width (shown_number number format.0 width) }
     ensures rest { drop width (shown_number number format.0 width) ≡ [] }
@@ -64,7 +65,7 @@ fn add_number(row: &mut Row, number: Fixed, format: Format, width: u8)
 // Adds so many blanks.
 #[tactic(auto, using(crate::proofs::Cutting::blanks_front))]
 fn put_blanks(count: usize, into: &mut Line)
-    requires { length into.old + count ≤ 240 }
+    requires { length into.old + count ≤ MAX_LEN }
     ensures { into.new ≡ into.old ++ replicate count 32 }
 {
     into.put_all(&BLANKS[..count]);
@@ -73,7 +74,7 @@ fn put_blanks(count: usize, into: &mut Line)
 // Adds so many stars.
 #[tactic(auto, using(crate::proofs::Cutting::stars_front))]
 fn put_stars(count: usize, into: &mut Line)
-    requires { length into.old + count ≤ 240 }
+    requires { length into.old + count ≤ MAX_LEN }
     ensures { into.new ≡ into.old ++ replicate count 42 }
 {
     into.put_all(&STARS[..count]);
@@ -82,7 +83,7 @@ fn put_stars(count: usize, into: &mut Line)
 // A word that ends one byte before the right edge, or stars.
 #[tactic(auto, using(crate::proofs::Cutting::right_word))]
 fn put_word(word: &[u8], width: u8, into: &mut Line)
-    requires width { width ≤ 240 }
+    requires width { width ≤ MOST_WIDTH }
     requires empty { into.old ≡ [] }
     ensures text { into.new ≡ placed (Some word.now) width }
     ensures size { length into.new ≤ width }
@@ -99,7 +100,7 @@ fn put_word(word: &[u8], width: u8, into: &mut Line)
 
 // Adds a word in a column's width.
 fn add_word(row: &mut Row, word: &[u8], width: u8)
-    requires width { width ≤ 240 }
+    requires width { width ≤ MOST_WIDTH }
     requires room { length row.old + width ≤ 255 }
     ensures line { row.new ≡ row.old ++ padded width (placed (Some word.now) width) }
     ensures rest { drop width (placed (Some word.now) width) ≡ [] }
@@ -111,7 +112,7 @@ fn add_word(row: &mut Row, word: &[u8], width: u8)
 
 // Adds a label that isn't longer than its cell, or is repeated.
 fn add_shown_label(row: &mut Row, prefix: LabelPrefix, text: &[u8], width: u8)
-    requires width { width ≤ 240 }
+    requires width { width ≤ MOST_WIDTH }
     requires room { length row.old + width ≤ 255 }
     ensures line { row.new ≡ row.old ++ padded width (shown_label prefix text.now width) }
     ensures rest { drop width (shown_label prefix text.now width) ≡ [] }
@@ -134,7 +135,7 @@ fn is_repeated(prefix: LabelPrefix) -> bool
 
 // Adds a label; what is left of one that is longer than its cell runs on.
 fn add_label<'a>(row: &mut Row, prefix: LabelPrefix, text: &'a [u8], width: u8) -> &'a [u8]
-    requires width { width ≤ 240 }
+    requires width { width ≤ MOST_WIDTH }
     requires room { length row.old + width ≤ 255 }
     ensures line { row.new ≡ row.old ++ padded width (label_text prefix text.now width) }
     ensures rest { result.now ≡ drop width (label_text prefix text.now width) }
@@ -148,7 +149,7 @@ fn add_label<'a>(row: &mut Row, prefix: LabelPrefix, text: &'a [u8], width: u8) 
 
 // Adds what a value shows. The answer is what is left of a text that is longer than its cell.
 fn add_value<'a>(row: &mut Row, value: &'a Value, format: Format, width: u8) -> &'a [u8]
-    requires width { width ≤ 240 }
+    requires width { width ≤ MOST_WIDTH }
     requires room { length row.old + width ≤ 255 }
     ensures line { row.new ≡ row.old ++ padded width (value_text value.now format.0 width) }
     ensures rest { result.now ≡ drop width (value_text value.now format.0 width) }
@@ -173,7 +174,7 @@ fn add_value<'a>(row: &mut Row, value: &'a Value, format: Format, width: u8) -> 
 
 // Adds a formula as it is printed, cut at the column's width.
 fn add_printed(row: &mut Row, names: &Names, cell: Cell, formula: &Formula, width: u8)
-    requires width { width ≤ 240 }
+    requires width { width ≤ MOST_WIDTH }
     requires room { length row.old + width ≤ 255 }
     ensures line { row.new ≡ row.old ++ padded width (take width (printed names.now cell formula.now)) }
     ensures rest { drop width (take width (printed names.now cell formula.now)) ≡ [] }
@@ -194,7 +195,7 @@ fn add_formula<'a>(
     format: Format,
     width: u8,
 ) -> &'a [u8]
-    requires width { width ≤ 240 }
+    requires width { width ≤ MOST_WIDTH }
     requires room { length row.old + width ≤ 255 }
     ensures line { row.new
         ≡ row.old ++ padded width (formula_text (printed names.now cell formula.now) value.now format.0 width) }
@@ -217,7 +218,7 @@ fn add_content<'a>(
     format: Format,
     width: u8,
 ) -> &'a [u8]
-    requires width { width ≤ 240 }
+    requires width { width ≤ MOST_WIDTH }
     requires room { length row.old + width ≤ 255 }
     ensures line { row.new
         ≡ row.old ++ padded width (visible_text names.now cell state.now.content state.now.value format.0 width) }
@@ -257,7 +258,7 @@ fn add_state<'a>(
     width: u8,
     over: &'a [u8],
 ) -> &'a [u8]
-    requires width { width ≤ 240 }
+    requires width { width ≤ MOST_WIDTH }
     requires room { length row.old + width ≤ 255 }
     ensures line { row.new
         ≡ row.old ++ padded width (unwrap_or (state_text saved.now cell (Some state.now) width) over.now) }
@@ -279,7 +280,7 @@ pub fn add_cell<'a>(
     width: u8,
     over: &'a [u8],
 ) -> &'a [u8]
-    requires width { width ≤ 240 }
+    requires width { width ≤ MOST_WIDTH }
     requires room { length row.old + width ≤ 255 }
     ensures line { row.new ≡ row.old ++ padded width (unwrap_or (cell_text saved.now cell width) over.now) }
     ensures rest { result.now ≡ drop width (unwrap_or (cell_text saved.now cell width) over.now) }

@@ -9,14 +9,14 @@ use crate::bands::width_in;
 use crate::cells::{Row, add_cell};
 use crate::job::Job;
 use crate::lines::{put_line, put_line_end};
-use grid_address::Cell;
+use grid_address::{Cell, ROWS};
 use lics_text::Memory;
 use outside_world::ByteList;
 use sheet_store::SavedSheet;
 
 // The columns of a band beside each other.
 fn beside(saved: &SavedSheet, row: u16, band: &[u8]) -> Row
-    requires row { row < 8192 }
+    requires row { row < ROWS }
     requires room { wide saved.now band.now ≤ 255 }
     ensures { result ≡ beside saved.now row band.now [] }
 {
@@ -64,7 +64,7 @@ fn cut(bytes: &[u8], width: usize) -> &[u8]
 
 // A row's line.
 fn row_text(saved: &SavedSheet, width: u8, band: &[u8], row: u16) -> Row
-    requires row { row < 8192 }
+    requires row { row < ROWS }
     requires room { wide saved.now band.now ≤ 255 }
     ensures { result ≡ row_text saved.now width band.now row }
 {

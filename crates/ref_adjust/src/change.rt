@@ -5,7 +5,7 @@ ghost use Rattle.ref_adjust.specs.Lines.{line_deleted, line_inserted, place_shif
 
 use crate::kinds::{reference_like, span_of_corners};
 use formula_tree::{Formula, Redirect};
-use grid_address::{Cell, Ref, Span};
+use grid_address::{Cell, ROWS, Ref, Span};
 
 /// Lines inserted or deleted: the first line and the count.
 #[derive(Clone, Copy, Debug, PartialEq, Eq)]
@@ -18,7 +18,7 @@ pub enum Change {
 
 // Where one of so many lines is after an insert; none past the last.
 fn line_inserted(lines: u16, first: u16, count: u16, line: u16) -> Option<u16>
-    requires most { lines ≤ 8192 }
+    requires most { lines ≤ ROWS }
     requires inside { line < lines }
     requires lines { AreLines lines first count }
     ensures line { result ≡ line_inserted lines first count line }
@@ -35,7 +35,7 @@ fn line_inserted(lines: u16, first: u16, count: u16, line: u16) -> Option<u16>
 
 // Where a line is after a delete; none where it is deleted.
 fn line_deleted(lines: u16, first: u16, count: u16, line: u16) -> Option<u16>
-    requires most { lines ≤ 8192 }
+    requires most { lines ≤ ROWS }
     requires inside { line < lines }
     requires lines { AreLines lines first count }
     ensures line { result ≡ line_deleted first count line }
@@ -52,7 +52,7 @@ fn line_deleted(lines: u16, first: u16, count: u16, line: u16) -> Option<u16>
 
 // A cell in another row; none where there is no row.
 fn with_row(cell: Cell, row: Option<u16>) -> Option<Cell>
-    requires { IfSome row (λ r. r < 8192) }
+    requires { IfSome row (λ r. r < ROWS) }
     ensures { result ≡ with_row cell row }
 {
     match row {
@@ -84,12 +84,12 @@ pub fn cell_shifted(change: Change, cell: Cell) -> Option<Cell>
     let row = cell.row;
     let col = u16::from(cell.col);
     match change {
-        Change::InsertRows(first, count) => with_row(cell, line_inserted(8192, first, count, row)),
+        Change::InsertRows(first, count) => with_row(cell, line_inserted(ROWS, first, count, row)),
         Change::InsertColumns(first, count) => with_col(
             cell,
             line_inserted(256, first, count, col),
         ),
-        Change::DeleteRows(first, count) => with_row(cell, line_deleted(8192, first, count, row)),
+        Change::DeleteRows(first, count) => with_row(cell, line_deleted(ROWS, first, count, row)),
         Change::DeleteColumns(first, count) => with_col(cell, line_deleted(256, first, count, col)),
     }
 }

@@ -1,7 +1,7 @@
 // Worked rows.
 use crate::{Change, moved, shifted, span_moved, span_shifted};
 use formula_tree::{Expr, ExprList, Formula, Function};
-use grid_address::{Cell, Ref, Span};
+use grid_address::{Cell, LAST_ROW, Ref, Span};
 use std::alloc::Global;
 use std::process::Abort;
 use std::test::Fail;
@@ -21,7 +21,7 @@ const C1: Cell = Cell { row: 0, col: 2 };
 const D1: Cell = Cell { row: 0, col: 3 };
 
 const LAST: Cell = Cell {
-    row: 8191,
+    row: LAST_ROW,
     col: 255,
 };
 

@@ -9,7 +9,7 @@ ghost use Rattle.sheet_gen.specs.Rows.{above, chain, formula_state, left, number
 
 use fixed_value::Fixed;
 use formula_tree::{Content, Expr, Formula, Op, Value};
-use grid_address::{Axis, Cell, Format, Ref};
+use grid_address::{Axis, Cell, Format, LAST_ROW, Ref};
 use lics_text::Memory;
 use sheet_store::{CellState, Store};
 use std::alloc::Global;
@@ -40,7 +40,7 @@ fn above() -> Expr
 {
     Expr::Cell(Ref {
         col: Axis::Offset(0),
-        row: Axis::Offset(8191),
+        row: Axis::Offset(LAST_ROW),
     })
 }
 

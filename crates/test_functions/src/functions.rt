@@ -4,7 +4,7 @@ use at_functions::{
     string, time, timevalue, value, year,
 };
 use fixed_value::Fixed;
-use lics_text::Text;
+use lics_text::{MAX_LEN, Text};
 use std::alloc::Global;
 use std::process::Abort;
 use std::test::Fail;
@@ -287,7 +287,7 @@ fn bytes_are_replaced(rt: HostRuntime) -> Result<(), Fail> {
             .is_none()
     );
     let full = replace(&long, whole(&rt, 0), whole(&rt, 1), &new).expect(&rt, "memory");
-    assert_eq!(rt; full.expect(&rt, "a text").bytes().len(), 240);
+    assert_eq!(rt; full.expect(&rt, "a text").bytes().len(), MAX_LEN);
     Ok(())
 }
 
@@ -300,7 +300,7 @@ fn texts_are_repeated(rt: HostRuntime) -> Result<(), Fail> {
     let none = repeat(&word, number(&rt, -900_000)).expect(&rt, "memory");
     assert_eq!(rt; none.expect(&rt, "a text").bytes(), b"".as_slice());
     let full = repeat(&word, whole(&rt, 120)).expect(&rt, "memory");
-    assert_eq!(rt; full.expect(&rt, "a text").bytes().len(), 240);
+    assert_eq!(rt; full.expect(&rt, "a text").bytes().len(), MAX_LEN);
     assert!(rt;
         repeat(&word, whole(&rt, 121))
             .expect(&rt, "memory")

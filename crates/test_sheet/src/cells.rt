@@ -6,7 +6,7 @@ use fixed_value::Fixed;
 use formula_eval::{Look, Means, Scene, Tally};
 use formula_text::read;
 use formula_tree::{Content, Formula, Value};
-use grid_address::{Cell, cell_text};
+use grid_address::{Cell, ROWS, cell_text};
 use lics_text::{Line, Memory};
 use serial_date::Moment;
 use std::process::Abort;
@@ -27,7 +27,7 @@ const SCENE: Scene = Scene {
 
 // A cell by its row and column.
 fn at(row: u16, col: u8) -> Cell
-    requires { row < 8192 }
+    requires { row < ROWS }
 {
     Cell { row, col }
 }
@@ -131,7 +131,7 @@ fn another_evaluator_gives_the_values(rt: HostRuntime) -> Result<(), Fail> {
 
 // A number, three times the number, and the sum so far.
 fn enter_row<R: Abort, E: Means>(rt: &R, sheet: &mut SheetOf<E>, row: u16)
-    requires { row < 8192 }
+    requires { row < ROWS }
 {
     let number = (u32::from(row) + 1) * 37 % 101;
     enter_number(rt, sheet, at(row, 0), number as u16);

@@ -1,5 +1,5 @@
 // Numbers and cells that are drawn in turn, from a state on.
-use grid_address::Cell;
+use grid_address::{Cell, LAST_ROW};
 
 /// A number below a limit, and the next state.
 pub fn below(state: u32, limit: u32) -> (u32, u32) {
@@ -13,7 +13,7 @@ pub fn cell_below(state: u32, rows: u32, cols: u32) -> (Cell, u32) {
     let (row, state) = below(state, rows);
     let (col, state) = below(state, cols);
     let cell = Cell {
-        row: u16::try_from(row).unwrap_or(0).min(8191),
+        row: u16::try_from(row).unwrap_or(0).min(LAST_ROW),
         col: u8::try_from(col).unwrap_or(0),
     };
     (cell, state)

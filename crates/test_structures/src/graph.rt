@@ -1,7 +1,7 @@
 // Worked rows of the graph.
 use crate::draws::{below, cell_below};
 use depend_graph::{Graph, Node};
-use grid_address::{Cell, CellList, Span, SpanList};
+use grid_address::{Cell, CellList, LAST_ROW, Span, SpanList};
 use std::alloc::Global;
 use std::process::Abort;
 use std::test::Fail;
@@ -9,7 +9,7 @@ use std::test::Fail;
 // A cell of the first column.
 fn a(row: u16) -> Cell {
     Cell {
-        row: row.min(8191),
+        row: row.min(LAST_ROW),
         col: 0,
     }
 }

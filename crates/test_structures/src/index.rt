@@ -1,6 +1,6 @@
 // Worked rows of the index.
 use crate::draws::{below, cell_below};
-use grid_address::{Cell, Span};
+use grid_address::{Cell, ROWS, Span};
 use range_index::RangeIndex;
 use std::test::Fail;
 
@@ -53,7 +53,7 @@ fn it_agrees_with_a_plain_list(rt: HostRuntime) -> Result<(), Fail> {
     let mut state = 1;
     for turn in 0..600 {
         let (owner, next) = cell_below(state, 6, 4);
-        let rows = if turn % 3 == 0 { 8192 } else { 40 };
+        let rows = if turn % 3 == 0 { ROWS as u32 } else { 40 };
         let (first, next) = cell_below(next, rows, 20);
         let (last, next) = cell_below(next, rows, 20);
         let (kind, next) = below(next, 5);

@@ -17,6 +17,9 @@ const C1: Cell = Cell { row: 0, col: 2 };
 
 const B5: Cell = Cell { row: 4, col: 1 };
 
+// The width of the widest column.
+const WIDEST: u8 = 240;
+
 // The state of a cell with a number.
 fn number(millionths: i64) -> CellState
     ensures { IsSound result }
@@ -117,7 +120,7 @@ fn a_blank_cell_in_the_default_format_is_not_kept(rt: HostRuntime) -> Result<(),
 fn a_copy_is_a_store_of_its_own(rt: HostRuntime) -> Result<(), Fail> {
     let alloc = rt.alloc();
     let mut store = filled(&rt, alloc);
-    store.set_width(3, Some(240));
+    store.set_width(3, Some(WIDEST));
     store.set_hidden(7, true);
     let copy = store.copy().expect(&rt, "memory");
     store.clear(A1);
@@ -125,7 +128,7 @@ fn a_copy_is_a_store_of_its_own(rt: HostRuntime) -> Result<(), Fail> {
     store.set_hidden(7, false);
     assert_eq!(&rt; millionths(&copy, A1), Some(1_500_000));
     assert_eq!(&rt; millionths(&store, A1), None);
-    assert_eq!(&rt; copy.width(3), Some(240));
+    assert_eq!(&rt; copy.width(3), Some(WIDEST));
     assert_eq!(&rt; store.width(3), None);
     assert!(&rt; copy.is_hidden(7));
     assert!(&rt; !store.is_hidden(7));

@@ -5,7 +5,7 @@ ghost use Rattle.text_channel.specs.Lines.{next_bytes, next_line};
 
 use crate::attached::{Access, Attached};
 use crate::lines::{next_bytes, next_line, shown_text};
-use lics_text::{Memory, Text};
+use lics_text::{MAX_LEN, Memory, Text};
 use outside_world::{ByteList, FileName, Shelf, ShelfFault};
 use std::alloc::Global;
 use std::marker::Model;
@@ -90,7 +90,7 @@ impl Channel {
     /// comes, and nothing moves, exactly where nothing is attached, the access is Write, or the position is the length.
     /// After want of memory the channel is as it was.
     pub fn read(&mut self, alloc: Global, count: u8) -> Result<Option<Text>, Memory>
-        requires { count ≤ 240 }
+        requires { count ≤ MAX_LEN }
         ensures text { IfOk result (λ text. text ≡ given (next_bytes count) self.old) }
         ensures channel { OnOk result (self.new ≡ left_after (next_bytes count) self.old) }
         ensures kept { OnErr result (self.new ≡ self.old) }

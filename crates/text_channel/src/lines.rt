@@ -39,9 +39,9 @@ fn line_length(bytes: &[u8]) -> usize
 
 // The next bytes, fewer at the end.
 pub(crate) fn next_bytes(count: usize, left: &[u8]) -> Taken
-    requires { count ≤ 240 }
+    requires { count ≤ MAX_LEN }
     ensures piece { next_bytes count left.now ≡ piece (take result.text left.now) result.passed }
-    ensures short { result.text ≤ 240 }
+    ensures short { result.text ≤ MAX_LEN }
     ensures within { (result.text ≤ length left.now) × (result.passed ≤ length left.now) }
 {
     let most = left.len().min(count);
@@ -55,7 +55,7 @@ pub(crate) fn next_bytes(count: usize, left: &[u8]) -> Taken
 #[tactic(auto, using(crate::proofs::Lining::long_line, crate::proofs::Lining::short_line))]
 pub(crate) fn next_line(left: &[u8]) -> Taken
     ensures piece { next_line left.now ≡ piece (take result.text left.now) result.passed }
-    ensures short { result.text ≤ 240 }
+    ensures short { result.text ≤ MAX_LEN }
     ensures within { (result.text ≤ length left.now) × (result.passed ≤ length left.now) }
 {
     let line = line_length(left);
@@ -81,7 +81,7 @@ fn shown_byte(byte: u8) -> u8
 
 // The bytes, of which those below 32 become blanks.
 fn shown_line(bytes: &[u8]) -> Line
-    requires { length bytes.now ≤ 240 }
+    requires { length bytes.now ≤ MAX_LEN }
     ensures { result ≡ map shown_byte bytes.now }
 {
     let mut line = Line::new();
@@ -94,7 +94,7 @@ fn shown_line(bytes: &[u8]) -> Line
 // The text of the bytes, of which those below 32 become blanks.
 #[tactic(auto, using(crate::proofs::Shown::is_shown_text))]
 pub(crate) fn shown_text(alloc: Global, bytes: &[u8]) -> Result<Text, Memory>
-    requires { length bytes.now ≤ 240 }
+    requires { length bytes.now ≤ MAX_LEN }
     ensures { IfOk result (λ text. text ≡ map shown_byte bytes.now) }
 {
     let line = shown_line(bytes);
