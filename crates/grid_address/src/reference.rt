@@ -23,12 +23,13 @@ pub struct Ref {
 impl Model for Ref {
     ghost use Rattle.std.specs.Prelude.{◌<◌};
     ghost use Rattle.grid_address.specs.Axes.{number_of, Reference};
+    ghost use Rattle.grid_address.specs.declared.TheConstants.{ROWS};
 
     ghost Value = { Reference };
 
     ghost view = { λ r. record { col = r.col; row = r.row } };
 
-    ghost invariant = { λ r. (number_of r.col < 256) × (number_of r.row < 8192) };
+    ghost invariant = { λ r. (number_of r.col < 256) × (number_of r.row < ROWS) };
 
     ghost inverse = { λ p. record { col = p.col; row = p.row } };
 }
