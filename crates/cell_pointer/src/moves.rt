@@ -3,9 +3,9 @@ ghost use Rattle.std.specs.Prelude.{◌≡◌};
 ghost use Rattle.cell_pointer.specs.Moves.{moved, or_home, stepped_times};
 
 use crate::runs::run_from;
-use crate::steps::{LAST_ROW, stepped};
+use crate::steps::stepped;
 use crate::{Arrow, Way};
-use grid_address::Cell;
+use grid_address::{Cell, LAST_ROW};
 use sheet_store::Store;
 
 /// The rows of a page.

@@ -4,9 +4,8 @@ ghost use Rattle.cell_pointer.specs.Moves.{ahead, is_filled, next_filled, run_en
 ghost use Rattle.sheet_store.specs.Grid.{is_blank};
 
 use crate::Arrow;
-use crate::steps::LAST_ROW;
 use formula_tree::Content;
-use grid_address::Cell;
+use grid_address::{Cell, LAST_ROW};
 use sheet_store::Store;
 
 // Whether a content isn't blank.

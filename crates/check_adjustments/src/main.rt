@@ -14,7 +14,7 @@ ghost use Rattle.ref_adjust.specs.Moves.{FitsAt};
 use check_cases::{Stop, Subject, Words, check};
 use formula_text::{print, read};
 use formula_tree::Formula;
-use grid_address::{Cell, Span, cell_text};
+use grid_address::{Cell, ROWS, Span, cell_text};
 use lics_text::Line;
 use range_names::Names;
 use ref_adjust::{Change, moved, shifted, span_moved, span_shifted};
@@ -29,9 +29,6 @@ struct Edit {
     from: Span,
     to: Cell,
 }
-
-// How many rows a sheet has.
-const ROWS: u16 = 8192;
 
 // Whether a span moved there lies in the sheet.
 fn fits(from: Span, to: Cell) -> bool

@@ -5,15 +5,12 @@
 
 use check_cases::{Stop, Subject, check};
 use formula_text::{print, read};
-use grid_address::{Cell, Span};
+use grid_address::{Cell, LAST_ROW, Span};
 use lics_text::Line;
 use range_names::{NameFault, Names};
 use std::alloc::Global;
 use std::io::Write;
 use std::process::ExitCode;
-
-// The last row of a sheet.
-const LAST_ROW: u16 = 8191;
 
 // Where the texts stand in turn.
 const CELLS: [Cell; 3] = [

@@ -8,7 +8,7 @@ ghost use Rattle.check_values.specs.Blocks.{content_of, format_of, held_at, inde
 use crate::held::Held;
 use formula_eval::Look;
 use formula_tree::{Content, Value};
-use grid_address::{Cell, CellList, Format, Span};
+use grid_address::{Cell, CellList, Format, ROWS, Span};
 use lics_text::Memory;
 use range_names::Names;
 use std::alloc::Global;
@@ -21,9 +21,6 @@ pub struct Block {
     pub blank: Value,
     pub alloc: Global,
 }
-
-// How many rows a sheet has.
-const ROWS: u16 = 8192;
 
 // The place of a cell among those that are held; none beside the columns.
 fn index_of(cell: Cell) -> Option<usize>

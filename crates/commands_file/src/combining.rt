@@ -15,15 +15,13 @@ use desk_errors::CommandError;
 use fixed_value::Fixed;
 use formula_eval::{Scene, Tally};
 use formula_tree::{Content, Value};
-use grid_address::{Cell, Span};
+use grid_address::{Cell, ROWS, Span};
 use lics_text::Memory;
 use sheet_store::{CellState, Store, Write, Writes};
 use std::alloc::Global;
 use work_sheet::Sheet;
 
-// How many rows and columns the sheet has.
-const ROWS: u16 = 8192;
-
+// How many columns the sheet has.
 const COLS: u16 = 256;
 
 /// How a file's cells are combined with those of the sheet.

@@ -14,15 +14,13 @@ use block_writes::{column_at, value_copied};
 use command_desk::{CommandEnd, cell_at, settled, span_at};
 use desk_errors::CommandError;
 use formula_eval::{Scene, Tally};
-use grid_address::{Cell, Span};
+use grid_address::{Cell, ROWS, Span};
 use lics_text::Memory;
 use session_rooms::Answers;
 use sheet_store::Writes;
 use work_sheet::Sheet;
 
-// How many rows and columns the sheet has.
-const ROWS: u16 = 8192;
-
+// How many columns the sheet has.
 const COLS: u16 = 256;
 
 /// How the values of a span are laid out where they are written.

@@ -15,14 +15,11 @@ use block_writes::{content_of, written};
 use fixed_value::Fixed;
 use formula_eval::Look;
 use formula_tree::Value;
-use grid_address::{Cell, Span};
+use grid_address::{Cell, LAST_ROW, Span};
 use lics_text::Memory;
 use sheet_store::{SheetFault, Write, Writes};
 use std::alloc::Global;
 use value_functions::counted;
-
-// The last row of a sheet.
-const LAST_ROW: u16 = 8191;
 
 // The last column of a sheet.
 const LAST_COLUMN: u8 = 255;

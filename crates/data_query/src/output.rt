@@ -9,9 +9,9 @@ ghost use Rattle.data_query.specs.Extraction.{is_unknown, labelled, room_of, tak
 
 use crate::QueryFault;
 use formula_eval::{Look, field_named, is_label_at, is_no_field};
-use grid_address::{Cell, Span};
+use grid_address::{Cell, LAST_ROW, Span};
 use lics_text::Memory;
-use range_lines::{LAST_ROW, column_at, header};
+use range_lines::{column_at, header};
 use std::alloc::Global;
 
 /// A field that an output takes: its column in the input, and the column of the output.

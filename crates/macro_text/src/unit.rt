@@ -10,7 +10,7 @@ use crate::pieces::{macro_text, part};
 use crate::{KeptWords, Position, Spot};
 use fixed_value::Fixed;
 use formula_eval::{Look, Scene};
-use grid_address::Cell;
+use grid_address::{Cell, LAST_ROW};
 use key_words::{Command, Key, MacroWord};
 use lics_text::Memory;
 use range_names::Names;
@@ -69,9 +69,6 @@ fn behind(end: usize, position: &Position) -> Position
         offset: end,
     })
 }
-
-// The sheet's last row.
-const LAST_ROW: u16 = 8191;
 
 // The cell below, where there is one.
 fn down(position: &Position) -> Turn

@@ -8,7 +8,7 @@ use crate::going::start_of;
 use crate::{Change, Deed, Handler, Move, Row, Running};
 use formula_eval::{Look, Scene};
 use formula_tree::Value;
-use grid_address::{Cell, Span};
+use grid_address::{Cell, LAST_ROW, Span};
 use lics_text::Memory;
 use macro_text::{MacroFault, Spot, TextList, expression_value, place_of};
 use std::alloc::Global;
@@ -94,9 +94,6 @@ pub fn call_row(running: &Running, at: &Spot, span: Option<Span>) -> Row
         None => bad(),
     }
 }
-
-// The sheet's last row.
-const LAST_ROW: u16 = 8191;
 
 // Behind every text.
 const BEHIND_ALL: usize = 240;

@@ -8,13 +8,10 @@ ghost use Rattle.range_index.specs.Registered.{has_place, owned, registration_cm
 use crate::block::{Block, Size, block_at};
 use crate::owners::owns;
 use crate::register::Registration;
-use grid_address::{Cell, CellList, SpanList};
+use grid_address::{Cell, CellList, LAST_ROW, SpanList};
 use lics_text::Memory;
 use std::alloc::Global;
 use std::collections::{BTreeMap, BTreeSet};
-
-// The last row of the sheet.
-const LAST_ROW: u16 = 8191;
 
 // The last column of the sheet.
 const LAST_COLUMN: u8 = 255;

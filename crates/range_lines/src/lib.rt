@@ -5,4 +5,4 @@ mod columns;
 mod rows;
 
 pub use columns::{column_at, header};
-pub use rows::{LAST_ROW, cell_below, count_below, row_below, rows_behind, rows_down};
+pub use rows::{cell_below, count_below, row_below, rows_behind, rows_down};

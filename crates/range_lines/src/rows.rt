@@ -2,10 +2,7 @@
 ghost use Rattle.std.specs.Prelude.{◌≡◌, ◌≤◌, ◌<◌, ◌+◌, ◌-◌};
 ghost use Rattle.range_lines.specs.Rows.{at, last_row, rows_down};
 
-use grid_address::{Cell, Span};
-
-/// The last row of the sheet.
-pub const LAST_ROW: u16 = 8191;
+use grid_address::{Cell, LAST_ROW, Span};
 
 /// How many rows a range has below its first.
 pub fn count_below(span: Span) -> u16

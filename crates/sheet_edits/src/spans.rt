@@ -10,14 +10,11 @@ ghost use Rattle.sheet_edits.specs.Spans.{blanked, block_at, copied_state, given
 
 use crate::changes::Changes;
 use crate::states::{first_value, is_marked};
-use grid_address::{Cell, CellList, Format, Span};
+use grid_address::{Cell, CellList, Format, ROWS, Span};
 use lics_text::Memory;
 use natural_recalc::format_of;
 use sheet_store::{CellState, Settings, Store};
 use std::alloc::Global;
-
-// The rows of the sheet.
-const ROWS: u16 = 8192;
 
 // The columns of the sheet.
 const COLUMNS: u16 = 256;

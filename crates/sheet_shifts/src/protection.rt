@@ -2,11 +2,8 @@
 ghost use Rattle.std.specs.Prelude.{◌≡◌, ◌+◌, ◌≤◌};
 ghost use Rattle.sheet_shifts.specs.Refusals.{earlier, first_in_row, first_in_rows, first_marked, is_marked_at};
 
-use grid_address::{Cell, Span};
+use grid_address::{Cell, ROWS, Span};
 use sheet_store::Store;
-
-/// How many rows a sheet has.
-pub const ROWS: u16 = 8192;
 
 // Whether a cell's mark is set; it is where the cell isn't there.
 fn is_marked(store: &Store, cell: Cell) -> bool

@@ -7,9 +7,8 @@ ghost use Rattle.sheet_store.specs.Grid.{is_blank};
 ghost use Rattle.sheet_shifts.specs.Puts.{first_pushed_at, is_pushed_at};
 ghost use Rattle.sheet_shifts.specs.Refusals.{first_pushed, is_pushed, pushed_by};
 
-use crate::protection::ROWS;
 use formula_tree::Content;
-use grid_address::{Cell, Span};
+use grid_address::{Cell, ROWS, Span};
 use ref_adjust::{Change, cell_shifted};
 use sheet_store::{CellState, Store};
 

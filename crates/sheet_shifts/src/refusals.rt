@@ -6,9 +6,9 @@ ghost use Rattle.sheet_shifts.specs.Refusals.{first_cell, fits_at, out_of_sheet,
 ghost use Rattle.sheet_shifts.specs.Shifts.{IsShift};
 
 use crate::Shift;
-use crate::protection::{ROWS, earlier, first_marked};
+use crate::protection::{earlier, first_marked};
 use crate::pushing::pushed_by;
-use grid_address::{Cell, Span};
+use grid_address::{Cell, ROWS, Span};
 use ref_adjust::Change;
 use sheet_store::{Settings, SheetFault, Store};
 

@@ -7,7 +7,7 @@ ghost use Rattle.sheet_store.specs.RowOrder.{entries_behind, NextHeld, NoneHeldB
 ghost use Rattle.sheet_store.specs.Scan.{left_from, number_of};
 
 use crate::{CellState, Store};
-use grid_address::Cell;
+use grid_address::{Cell, LAST_ROW};
 use std::marker::Model;
 
 /// The cells of a store that are still to come, with their states, in row order.
@@ -61,9 +61,6 @@ impl Store {
         }
     }
 }
-
-/// The last row.
-const LAST_ROW: u16 = 8191;
 
 /// How many columns a row has.
 const COLUMNS: u16 = 256;

@@ -2,7 +2,7 @@
 use fixed_value::Fixed;
 use formula_eval::{Scene, Tally};
 use formula_tree::{Content, Expr, Formula, Op, Value};
-use grid_address::{Axis, Cell, Ref};
+use grid_address::{Axis, Cell, LAST_ROW, Ref};
 use lics_text::Memory;
 use serial_date::Moment;
 use std::alloc::Global;
@@ -25,9 +25,6 @@ pub struct Plan {
 
 /// How many columns they stand in.
 const COLUMNS: u32 = 50;
-
-/// The last row of a sheet.
-const LAST_ROW: u16 = 8191;
 
 /// The scene of each recalculation.
 pub const SCENE: Scene = Scene {

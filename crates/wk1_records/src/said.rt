@@ -17,7 +17,7 @@ ghost use Rattle.wk1_records.specs.declared.entry.Entry.TheVariants as entry;
 use crate::{Entry, Wk1Fault};
 use fixed_value::{DoubleRead, Fixed, from_double_bits};
 use formula_tree::{Content, Expr, ExprList, Formula, Function, Value};
-use grid_address::{Cell, Format, Span};
+use grid_address::{Cell, Format, ROWS, Span};
 use lics_text::{LabelPrefix, Memory, Text};
 use sheet_store::CellState;
 use std::alloc::Global;
@@ -27,9 +27,6 @@ use wk1_formula::{
 
 /// How many columns the sheet has.
 const COLUMNS: u16 = 256;
-
-/// How many rows it has.
-const ROWS: u16 = 8192;
 
 /// The widest that a column may be.
 const MOST_WIDTH: u16 = 240;
