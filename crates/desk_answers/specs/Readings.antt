@@ -5,6 +5,7 @@ use Rattle.fixed_value.specs.Decimals.{decimal_of}
 use Rattle.fixed_value.specs.declared.decimal.Decimal.{Decimal}
 use Rattle.fixed_value.specs.declared.decimal.Decimal.TheVariants as decimal
 use Rattle.grid_address.specs.Place.{Extent}
+use Rattle.grid_address.specs.TypedSpans.{span_in}
 use Rattle.outside_world.specs.FileNames.{file_name}
 use Rattle.outside_world.specs.declared.file_name.Ext.TheVariants as ext
 use Rattle.range_names.specs.Names.{fault_of, key_of, NameMap}
@@ -13,7 +14,6 @@ use Rattle.menu_tree.specs.declared.menu.Ask.{Ask}
 use Rattle.menu_tree.specs.declared.menu.Ask.TheVariants as ask
 use Rattle.desk_errors.specs.declared.error.CommandError.{CommandError}
 use Rattle.desk_errors.specs.declared.error.CommandError.TheVariants as error
-use Rattle.desk_answers.specs.Spans.{span_in}
 
 -- the span of a name that is there
 abbrev pub found_span : Option Extent → ℕ → Result Extent CommandError

@@ -5,3 +5,4 @@ pub mod Leads
 pub mod Place
 pub mod Progress
 pub mod Reading
+pub mod TypedSpans

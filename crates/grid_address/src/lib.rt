@@ -12,6 +12,7 @@ mod reference;
 mod span;
 #[cfg(test)]
 mod tests;
+mod typed_span;
 
 pub use address::{AddressText, cell_text, column_text, row_text};
 pub use cell::Cell;
@@ -21,6 +22,7 @@ pub use list::{CellList, PlaceList, SpanList};
 pub use reading::{NotAnAddress, count_dots, read_cell, read_span};
 pub use reference::{Axis, Ref};
 pub use span::Span;
+pub use typed_span::{cell_in, span_in};
 
 /// How many rows the sheet has (Release 2 manual).
 pub const ROWS: u16 = 8192;

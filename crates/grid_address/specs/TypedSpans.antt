@@ -1,8 +1,8 @@
 -- Spans as they are typed.
 use Rattle.std.specs.Prelude.{ℕ, nat_eq, List, drop, take, position, Option, None, Some}
+use Rattle.ascii_bytes.specs.Ascii as ascii
 use Rattle.grid_address.specs.Place.{spanned, Extent, Place}
 use Rattle.grid_address.specs.Progress.{address_in, count_dots}
-use Rattle.session_rooms.specs.Bytes.{dot}
 
 -- the span between two corners, where both are addresses
 abbrev pub both_corners : Option Place → Option Place → Option Extent
@@ -21,4 +21,4 @@ parted_at (Some at) bytes = both_corners (address_in (take at bytes)) (address_i
 
 -- an address, or two in any order with one or two dots between them
 abbrev pub span_in : List ℕ → Option Extent
-span_in bytes = parted_at (position (nat_eq dot) bytes) bytes
+span_in bytes = parted_at (position (nat_eq ascii.dot) bytes) bytes
