@@ -2,11 +2,11 @@
 ghost use Rattle.sheet_store.specs.Grid.{IsSound};
 
 use crate::files::{spliced, with_zeros, write_own, write_read};
-use crate::states::{MOST_WIDTH, formula_of, settings_of, state_of};
+use crate::states::{formula_of, settings_of, state_of};
 use check_cases::{Stop, Subject, Words, bytes_of};
 use grid_address::{Cell, Format};
 use range_names::Names;
-use sheet_store::{CellState, SavedSheet, Settings, Store};
+use sheet_store::{CellState, MOST_WIDTH, SavedSheet, Settings, Store};
 use std::alloc::Global;
 use wk1_file::write;
 

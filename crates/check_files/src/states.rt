@@ -11,11 +11,8 @@ use formula_tree::{Content, Formula, Value};
 use grid_address::{Cell, Format};
 use lics_text::LabelPrefix;
 use range_names::Names;
-use sheet_store::{CellState, Order, Settings};
+use sheet_store::{CellState, MOST_WIDTH, Order, Settings};
 use std::alloc::Global;
-
-/// The widest that a column may be.
-pub const MOST_WIDTH: u8 = 240;
 
 // A number's state.
 fn number_state(number: Fixed, format: Format) -> CellState

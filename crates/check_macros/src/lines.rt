@@ -5,6 +5,7 @@ use check_cases::{Stop, Subject, Words};
 use check_entries::{SCENE, writes_of};
 use formula_eval::Tally;
 use grid_address::Format;
+use sheet_store::MOST_WIDTH;
 use std::alloc::Global;
 use work_sheet::Sheet;
 
@@ -26,9 +27,6 @@ fn name(sheet: &mut Sheet, mut words: Words) -> Result<(), Stop> {
         Err(_) => Err(Stop::Line),
     }
 }
-
-// The widest that a column can be.
-const MOST_WIDTH: u8 = 240;
 
 // A width for a column.
 fn widen(sheet: &mut Sheet, mut words: Words) -> Result<(), Stop> {

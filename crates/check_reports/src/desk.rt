@@ -8,7 +8,7 @@ use outside_world::ByteList;
 use print_report::{PrintFault, PrintSettings, report};
 use range_names::Names;
 use serial_date::Moment;
-use sheet_store::{SavedSheet, Settings, Store};
+use sheet_store::{MOST_WIDTH, SavedSheet, Settings, Store};
 use std::alloc::Global;
 use std::io::{Error, Write};
 
@@ -20,9 +20,6 @@ pub struct Desk {
 
 // How many rows a sheet has.
 const ROWS: usize = 8192;
-
-// The widest that a column may be.
-const MOST_WIDTH: u8 = 240;
 
 // The last day of the calendar.
 const LAST_DAY: usize = 73_050;

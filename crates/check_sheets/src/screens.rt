@@ -7,11 +7,8 @@ use grid_address::{Cell, Format};
 use lics_text::Line;
 use screen_layout::{corner_for, paint};
 use serial_date::Moment;
-use sheet_store::Settings;
+use sheet_store::{MOST_WIDTH, Settings};
 use std::io::Write;
-
-// The widest that a column may be.
-const MOST_WIDTH: u8 = 240;
 
 // The last day of the calendar, and how many seconds a day has.
 const LAST_DAY: usize = 73_050;

@@ -4,10 +4,7 @@ ghost use Rattle.print_report.specs.Bands.{bands, columns_of, wide, width_in};
 
 use byte_list::ByteList as Short;
 use grid_address::Span;
-use sheet_store::SavedSheet;
-
-/// The width of the widest column, in characters (Release 2 manual).
-pub const MOST_WIDTH: u8 = 240;
+use sheet_store::{MOST_WIDTH, SavedSheet};
 
 /// Columns, from left to right.
 pub type Columns = Short<256>;

@@ -5,7 +5,6 @@ ghost use Rattle.cell_format.specs.Numbers.{placed, shown_number};
 ghost use Rattle.formula_text.specs.Printed.{printed};
 ghost use Rattle.print_report.specs.Cells.{cell_text, content_text, format_in, formula_text, is_repeated, label_text, padded, state_text, value_text, visible_text};
 
-use crate::bands::MOST_WIDTH;
 use byte_list::ByteList as Short;
 use cell_format::{show_label, show_number};
 use fixed_value::Fixed;
@@ -14,7 +13,7 @@ use formula_tree::{Content, Formula, Value};
 use grid_address::{Cell, Format};
 use lics_text::{LabelPrefix, Line, MAX_LEN};
 use range_names::Names;
-use sheet_store::{CellState, SavedSheet};
+use sheet_store::{CellState, MOST_WIDTH, SavedSheet};
 
 /// A row of the report while it is put together.
 pub type Row = Short<255>;

@@ -19,7 +19,7 @@ use fixed_value::{DoubleRead, Fixed, from_double_bits};
 use formula_tree::{Content, Expr, ExprList, Formula, Function, Value};
 use grid_address::{Cell, Format, ROWS, Span};
 use lics_text::{LabelPrefix, Memory, Text};
-use sheet_store::CellState;
+use sheet_store::{CellState, MOST_WIDTH};
 use std::alloc::Global;
 use wk1_formula::{
     CodeFault, before_zero, bytes_from, first_long, is_text, read_code, short_at, short_value,
@@ -27,9 +27,6 @@ use wk1_formula::{
 
 /// How many columns the sheet has.
 const COLUMNS: u16 = 256;
-
-/// The widest that a column may be.
-const MOST_WIDTH: u16 = 240;
 
 /// The width of the columns where a file tells none.
 const DEFAULT_WIDTH: u8 = 9;
@@ -82,7 +79,7 @@ pub fn prefix_of(byte: u8) -> LabelPrefix
 fn is_width(number: u16) -> bool
     ensures { result ≡ is_width number }
 {
-    1 <= number && number <= MOST_WIDTH
+    1 <= number && number <= MOST_WIDTH as u16
 }
 
 // The pointer, which is A1 where it is outside the sheet.

@@ -44,12 +44,9 @@ use sheet_edits::{
     reformatted, refusing, state_of, target_of, write_cell, write_cells, write_evaluated,
 };
 use sheet_shifts::{Shift, names_after, refusal, store_after};
-use sheet_store::{CellState, Order, SavedSheet, Settings, SheetFault, Store, Writes, is_formula};
+use sheet_store::{CellState, MOST_WIDTH, Order, SavedSheet, Settings, SheetFault, Store, Writes, is_formula};
 use std::alloc::Global;
 use std::marker::{Model, PhantomData};
-
-/// The widest that a column can be.
-pub const MOST_WIDTH: u8 = 240;
 
 /// A sheet over an evaluator: its cells and columns, its names and its settings. It keeps which formulas are dirty, so
 /// that a recalculation evaluates those alone: a formula that isn't dirty has its meaning as its value.
