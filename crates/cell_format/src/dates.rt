@@ -43,7 +43,8 @@ fn month_name(month: u8) -> &'static [u8]
 
 // 01-Jun-87, 01-Jun or Jun-87.
 fn date_text(form: DateForm, date: &Civil) -> Line
-    ensures { result ≡ date_text form (unsigned_abs date.now.year) (unsigned_abs date.now.month) (unsigned_abs date.now.day) }
+    ensures { result ≡
+        date_text form (unsigned_abs date.now.year) (unsigned_abs date.now.month) (unsigned_abs date.now.day) }
 {
     let year = date.year.unsigned_abs();
     let name = month_name(date.month.unsigned_abs());

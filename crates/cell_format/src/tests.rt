@@ -6,6 +6,7 @@ use lics_text::{LabelPrefix, Line, MAX_LEN};
 use std::process::Abort;
 use std::test::Fail;
 
+// A number of so many millionths.
 fn number(rt: &impl Abort, millionths: i64) -> Fixed {
     match Fixed::of(millionths) {
         Some(value) => value,

@@ -45,13 +45,14 @@ value_text value.Na format width = placed (Some (codes "NA")) width
 abbrev pub formula_text : List ℕ → Value → ℕ → ℕ → List ℕ
 formula_text text v format width = if is_shown_as format text_format then take width text else value_text v format width
 
--- What a content that isn't blank shows. The format Hidden shows nothing.
+-- what a content that isn't blank shows in a format that isn't Hidden
 abbrev pub content_text : NameMap → Place → Content → Value → ℕ → ℕ → List ℕ
 content_text names c content.Blank v format width = []
 content_text names c (content.Number x) v format width = value_text v format width
 content_text names c (content.Label prefix text) v format width = label_text prefix text width
 content_text names c (content.Formula t) v format width = formula_text (printed names c t) v format width
 
+-- what a content that isn't blank lets see of itself: nothing where its format is Hidden
 abbrev pub visible_text : NameMap → Place → Content → Value → ℕ → ℕ → List ℕ
 visible_text names c x v format width =
     if is_shown_as format hidden_format then [] else content_text names c x v format width
@@ -60,10 +61,15 @@ visible_text names c x v format width =
 abbrev pub own_text : NameMap → Place → Option Content → Value → ℕ → ℕ → Option (List ℕ)
 own_text names c None v format width = None
 own_text names c (Some content.Blank) v format width = None
-own_text names c (Some (content.Number x)) v format width = Some (visible_text names c (content.Number x) v format width)
-own_text names c (Some (content.Label prefix text)) v format width = Some (visible_text names c (content.Label prefix text) v format width)
-own_text names c (Some (content.Formula t)) v format width = Some (visible_text names c (content.Formula t) v format width)
+own_text names c (Some (content.Number x)) v format width =
+    Some (visible_text names c (content.Number x) v format width)
+own_text names c (Some (content.Label prefix text)) v format width =
+    Some (visible_text names c (content.Label prefix text) v format width)
+own_text names c (Some (content.Formula t)) v format width =
+    Some (visible_text names c (content.Formula t) v format width)
 
 -- the same of a cell of a sheet
 abbrev pub cell_text : Sheet → Place → ℕ → Option (List ℕ)
-cell_text s c width = own_text s.names c (content_of (map.get s.grid.cells c)) (value_at s.grid c) (format_in s.settings.format (format_of (map.get s.grid.cells c))) width
+cell_text s c width =
+    own_text s.names c (content_of (map.get s.grid.cells c)) (value_at s.grid c)
+    (format_in s.settings.format (format_of (map.get s.grid.cells c))) width

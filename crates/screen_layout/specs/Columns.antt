@@ -14,7 +14,8 @@ unfoldable pub columns_from : Sheet → Bool → ℕ → ℕ → ℕ → List Co
 columns_from s first zero col room = []
 columns_from s first (suc count) col room =
     if is_hidden s.grid col then columns_from s first count (col + 1) room
-    else if first || nat_le (width_in s col) room then record { col = col; width = width_in s col } ∷ columns_from s false count (col + 1) (room - width_in s col)
+    else if first || nat_le (width_in s col) room
+    then record { col = col; width = width_in s col } ∷ columns_from s false count (col + 1) (room - width_in s col)
     else []
 
 -- behind the four bytes of the row numbers 76 are left
@@ -34,11 +35,13 @@ abbrev pub column_text : Sheet → Option ℕ → Column → Option (List ℕ)
 column_text s None x = Some (head_text x.col x.width)
 column_text s (Some row) x = cell_text s (record { row = row; col = x.col }) x.width
 
--- The columns beside each other, each cut or filled to its width. What is left of a text runs on over blank cells to the
--- right. Nothing runs in from the left of the first column.
+-- The columns beside each other, each cut or filled to its width. What is left of a text runs on over blank cells to
+-- the right. Nothing runs in from the left of the first column.
 unfoldable pub beside : Sheet → Option ℕ → List Column → List ℕ → List ℕ
 beside s row [] over = []
-beside s row (x ∷ xs) over = padded x.width (unwrap_or (column_text s row x) over) ++ beside s row xs (drop x.width (unwrap_or (column_text s row x) over))
+beside s row (x ∷ xs) over =
+    padded x.width (unwrap_or (column_text s row x) over)
+    ++ beside s row xs (drop x.width (unwrap_or (column_text s row x) over))
 
 -- a number, right in four bytes
 abbrev pub row_number : ℕ → List ℕ

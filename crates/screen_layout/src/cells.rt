@@ -10,18 +10,19 @@ ghost use Rattle.natural_recalc.specs.World.{format_of, value_at};
 ghost use Rattle.std.specs.FinMap as map;
 
 use crate::painted_line::PaintedLine;
+use crate::widths::MOST_WIDTH;
 use cell_format::{show_label, show_number};
 use fixed_value::Fixed;
 use formula_eval::Look;
 use formula_text::print;
 use formula_tree::{Content, Formula, Value};
 use grid_address::{Cell, Format};
-use lics_text::{LabelPrefix, Line};
+use lics_text::{LabelPrefix, Line, MAX_LEN};
 use work_sheet::Sheet;
 
-const BLANKS: [u8; 240] = [b' '; 240];
+const BLANKS: [u8; MAX_LEN] = [b' '; MAX_LEN];
 
-const STARS: [u8; 240] = [b'*'; 240];
+const STARS: [u8; MAX_LEN] = [b'*'; MAX_LEN];
 
 /// Adds a text in a column's width, cut or filled; what doesn't fit the line is left out. The answer is what is left of
 /// the text.
@@ -45,8 +46,9 @@ fn add_whole(line: &mut PaintedLine, text: &Line, width: u8)
     add_text(line, text.bytes(), width);
 }
 
+// Adds a number.
 fn add_number(line: &mut PaintedLine, number: Fixed, format: Format, width: u8)
-    requires { width ≤ 240 }
+    requires { width ≤ MOST_WIDTH }
     ensures line { line.new ≡ take 80 (line.old ++ padded width (shown_number number format.0 width)) }
     ensures rest { drop width (shown_number number format.0 width) ≡ [] }
 {
@@ -58,15 +60,16 @@ fn add_number(line: &mut PaintedLine, number: Fixed, format: Format, width: u8)
 /// Adds blanks to a line, for which there must be room.
 #[tactic(auto, using(crate::proofs::Cuts::blanks_front))]
 pub fn put_blanks(count: usize, into: &mut Line)
-    requires { length into.old + count ≤ 240 }
+    requires { length into.old + count ≤ MAX_LEN }
     ensures { into.new ≡ into.old ++ replicate count 32 }
 {
     into.put_all(&BLANKS[..count]);
 }
 
+// Adds stars to a line, for which there must be room.
 #[tactic(auto, using(crate::proofs::Cuts::stars_front))]
 fn put_stars(count: usize, into: &mut Line)
-    requires { length into.old + count ≤ 240 }
+    requires { length into.old + count ≤ MAX_LEN }
     ensures { into.new ≡ into.old ++ replicate count 42 }
 {
     into.put_all(&STARS[..count]);
@@ -75,7 +78,7 @@ fn put_stars(count: usize, into: &mut Line)
 // A word that ends one byte before the right edge, or stars.
 #[tactic(auto, using(crate::proofs::Cuts::right_word))]
 fn put_word(word: &[u8], width: u8, into: &mut Line)
-    requires width { width ≤ 240 }
+    requires width { width ≤ MOST_WIDTH }
     requires empty { into.old ≡ [] }
     ensures text { into.new ≡ placed (Some word.now) width }
     ensures size { length into.new ≤ width }
@@ -90,8 +93,9 @@ fn put_word(word: &[u8], width: u8, into: &mut Line)
     }
 }
 
+// Adds ERR or NA, which ends one byte before the right edge, or stars.
 fn add_word(line: &mut PaintedLine, word: &[u8], width: u8)
-    requires { width ≤ 240 }
+    requires { width ≤ MOST_WIDTH }
     ensures line { line.new ≡ take 80 (line.old ++ padded width (placed (Some word.now) width)) }
     ensures rest { drop width (placed (Some word.now) width) ≡ [] }
 {
@@ -100,8 +104,9 @@ fn add_word(line: &mut PaintedLine, word: &[u8], width: u8)
     add_whole(line, &text, width);
 }
 
+// Adds a label that fills its cell.
 fn add_shown_label(line: &mut PaintedLine, prefix: LabelPrefix, text: &[u8], width: u8)
-    requires { width ≤ 240 }
+    requires { width ≤ MOST_WIDTH }
     ensures line { line.new ≡ take 80 (line.old ++ padded width (shown_label prefix text.now width)) }
     ensures rest { drop width (shown_label prefix text.now width) ≡ [] }
 {
@@ -121,8 +126,9 @@ fn is_repeated(prefix: LabelPrefix) -> bool
     }
 }
 
+// Adds a label. The answer is what is left of one that is longer than its cell and stands at the left.
 fn add_label<'a>(line: &mut PaintedLine, prefix: LabelPrefix, text: &'a [u8], width: u8) -> &'a [u8]
-    requires { width ≤ 240 }
+    requires { width ≤ MOST_WIDTH }
     ensures line { line.new ≡ take 80 (line.old ++ padded width (label_text prefix text.now width)) }
     ensures rest { result.now ≡ drop width (label_text prefix text.now width) }
 {
@@ -133,8 +139,9 @@ fn add_label<'a>(line: &mut PaintedLine, prefix: LabelPrefix, text: &'a [u8], wi
     b""
 }
 
+// Adds a value as its kind is shown. The answer is what is left of a text.
 fn add_value<'a>(line: &mut PaintedLine, value: &'a Value, format: Format, width: u8) -> &'a [u8]
-    requires { width ≤ 240 }
+    requires { width ≤ MOST_WIDTH }
     ensures line { line.new ≡ take 80 (line.old ++ padded width (value_text value.now format.0 width)) }
     ensures rest { result.now ≡ drop width (value_text value.now format.0 width) }
 {
@@ -158,8 +165,9 @@ fn add_value<'a>(line: &mut PaintedLine, value: &'a Value, format: Format, width
 
 // Adds a formula as it is printed, cut at the column's width.
 fn add_printed(line: &mut PaintedLine, sheet: &Sheet, cell: Cell, formula: &Formula, width: u8)
-    requires { width ≤ 240 }
-    ensures line { line.new ≡ take 80 (line.old ++ padded width (take width (printed sheet.now.names cell formula.now))) }
+    requires { width ≤ MOST_WIDTH }
+    ensures line { line.new ≡ take 80 (line.old ++
+        padded width (take width (printed sheet.now.names cell formula.now))) }
     ensures rest { drop width (take width (printed sheet.now.names cell formula.now)) ≡ [] }
 {
     let mut text = Line::new();
@@ -168,6 +176,7 @@ fn add_printed(line: &mut PaintedLine, sheet: &Sheet, cell: Cell, formula: &Form
     add_text(line, &bytes[..bytes.len().min(usize::from(width))], width);
 }
 
+// Adds a formula's value, or the formula itself where its format is Text.
 fn add_formula<'a>(
     line: &mut PaintedLine,
     sheet: &'a Sheet,
@@ -176,9 +185,11 @@ fn add_formula<'a>(
     format: Format,
     width: u8,
 ) -> &'a [u8]
-    requires { width ≤ 240 }
-    ensures line { line.new ≡ take 80 (line.old ++ padded width (formula_text (printed sheet.now.names cell formula.now) (value_at sheet.now.grid cell) format.0 width)) }
-    ensures rest { result.now ≡ drop width (formula_text (printed sheet.now.names cell formula.now) (value_at sheet.now.grid cell) format.0 width) }
+    requires { width ≤ MOST_WIDTH }
+    ensures line { line.new ≡ take 80 (line.old ++ padded width (formula_text
+        (printed sheet.now.names cell formula.now) (value_at sheet.now.grid cell) format.0 width)) }
+    ensures rest { result.now ≡ drop width (formula_text
+        (printed sheet.now.names cell formula.now) (value_at sheet.now.grid cell) format.0 width) }
 {
     if format.is_shown_as(Format::TEXT) {
         add_printed(line, sheet, cell, formula, width);
@@ -187,6 +198,7 @@ fn add_formula<'a>(
     add_value(line, sheet.value(cell), format, width)
 }
 
+// Adds what a cell that isn't blank shows, which is nothing where its format is Hidden.
 fn add_content<'a>(
     line: &mut PaintedLine,
     sheet: &'a Sheet,
@@ -195,9 +207,11 @@ fn add_content<'a>(
     format: Format,
     width: u8,
 ) -> &'a [u8]
-    requires { width ≤ 240 }
-    ensures line { line.new ≡ take 80 (line.old ++ padded width (visible_text sheet.now.names cell content.now (value_at sheet.now.grid cell) format.0 width)) }
-    ensures rest { result.now ≡ drop width (visible_text sheet.now.names cell content.now (value_at sheet.now.grid cell) format.0 width) }
+    requires { width ≤ MOST_WIDTH }
+    ensures line { line.new ≡ take 80 (line.old ++ padded width (visible_text
+        sheet.now.names cell content.now (value_at sheet.now.grid cell) format.0 width)) }
+    ensures rest { result.now ≡ drop width (visible_text
+        sheet.now.names cell content.now (value_at sheet.now.grid cell) format.0 width) }
 {
     if format.is_shown_as(Format::HIDDEN) {
         return add_text(line, b"", width);
@@ -230,8 +244,9 @@ pub fn add_cell<'a>(
     width: u8,
     over: &'a [u8],
 ) -> &'a [u8]
-    requires { width ≤ 240 }
-    ensures line { line.new ≡ take 80 (line.old ++ padded width (unwrap_or (cell_text (of_worksheet sheet.now) cell width) over.now)) }
+    requires { width ≤ MOST_WIDTH }
+    ensures line { line.new ≡ take 80 (line.old ++
+        padded width (unwrap_or (cell_text (of_worksheet sheet.now) cell width) over.now)) }
     ensures rest { result.now ≡ drop width (unwrap_or (cell_text (of_worksheet sheet.now) cell width) over.now) }
 {
     match sheet.content(cell) {

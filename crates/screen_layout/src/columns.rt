@@ -13,6 +13,9 @@ use grid_address::{Cell, column_text, row_text};
 use lics_text::Line;
 use work_sheet::Sheet;
 
+/// How many rows a sheet has.
+pub const ROWS: u16 = 8192;
+
 // Adds the letters of a column, with half of the free bytes on their left.
 #[tactic(auto, using(crate::proofs::Cuts::take_least))]
 fn add_head(line: &mut PaintedLine, col: u8, width: u8)
@@ -38,10 +41,12 @@ fn add_column<'a>(
     column: Column,
     over: &'a [u8],
 ) -> &'a [u8]
-    requires row { ForSome row (λ r. r < 8192) }
+    requires row { ForSome row (λ r. r < ROWS) }
     requires width { column.width ≤ MOST_WIDTH }
-    ensures line { line.new ≡ take 80 (line.old ++ padded column.width (unwrap_or (column_text (of_worksheet sheet.now) row column) over.now)) }
-    ensures rest { result.now ≡ drop column.width (unwrap_or (column_text (of_worksheet sheet.now) row column) over.now) }
+    ensures line { line.new ≡ take 80 (line.old ++
+        padded column.width (unwrap_or (column_text (of_worksheet sheet.now) row column) over.now)) }
+    ensures rest { result.now ≡
+        drop column.width (unwrap_or (column_text (of_worksheet sheet.now) row column) over.now) }
 {
     let Column { col, width } = column;
     match row {
@@ -55,7 +60,7 @@ fn add_column<'a>(
 
 // The four bytes before the columns: blanks, or the number of a row.
 fn margin_of(row: Option<u16>) -> PaintedLine
-    requires { ForSome row (λ r. r < 8192) }
+    requires { ForSome row (λ r. r < ROWS) }
     ensures { result ≡ margin row }
 {
     let mut line = PaintedLine::new();
@@ -73,7 +78,7 @@ fn margin_of(row: Option<u16>) -> PaintedLine
 
 /// The line of letters, or a row below 8192, from a column on, with the shown columns beside each other.
 pub fn columns_line(sheet: &Sheet, row: Option<u16>, first: u8) -> [u8; 80]
-    requires { ForSome row (λ r. r < 8192) }
+    requires { ForSome row (λ r. r < ROWS) }
     ensures { result ≡ shown_line (columns_line (of_worksheet sheet.now) row first) }
 {
     let mut line = margin_of(row);

@@ -21,6 +21,7 @@ impl Model for PaintedLine {
 }
 
 impl PaintedLine {
+    /// A line on which nothing is painted yet.
     pub fn new() -> PaintedLine
         ensures { result ≡ [] }
     {
@@ -30,6 +31,7 @@ impl PaintedLine {
         }
     }
 
+    /// Up to which column it is painted.
     pub fn len(&self) -> usize
         ensures len { result ≡ length self.now }
         ensures within { length self.now ≤ 80 }
@@ -79,6 +81,7 @@ fn shown_byte(byte: u8) -> u8
     }
 }
 
+// A whole line as it is shown.
 fn shown(bytes: &[u8; 80]) -> [u8; 80]
     ensures { result ≡ map shown_byte bytes.now }
 {
