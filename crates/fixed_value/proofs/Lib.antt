@@ -1,4 +1,5 @@
 pub mod Exact
+pub mod Few
 pub mod Kept
 pub mod LastDigits
 pub mod LastZeros

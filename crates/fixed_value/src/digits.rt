@@ -133,7 +133,9 @@ fn write(minus: bool, number: u64, places: u8, zeros: u8, most: u8) -> Digits
     requires below { number / 10 ^ places < 10 ^ most }
     requires some { 1 ≤ most }
     requires room { most + places + zeros ≤ 30 }
-    ensures { result ≡ minus_sign (minus && not (number == 0)) ++ (without_zeros (fixed_digits most (number / 10 ^ places)) ++ pointed (fixed_digits places number ++ replicate zeros 48)) }
+    ensures { result ≡ minus_sign (minus && not (number == 0))
+        ++ (without_zeros (fixed_digits most (number / 10 ^ places))
+        ++ pointed (fixed_digits places number ++ replicate zeros 48)) }
 {
     let mut text = Digits::new();
     put_zeros(&mut text, zeros);
@@ -156,10 +158,6 @@ fn without_zeros_at_end(number: u64, places: u8) -> (u64, u8)
     ensures zero { (result.0 == 0) ≡ (number == 0) }
     ensures size { result.1 ≤ places }
 {
-    // A whole number's places go at once.
-    if places == 6 && number % 1_000_000 == 0 {
-        return (number / 1_000_000, 0);
-    }
     let mut left = number;
     let mut more = places;
     while more > 0 && left % 10 == 0 {
@@ -167,6 +165,25 @@ fn without_zeros_at_end(number: u64, places: u8) -> (u64, u8)
         more -= 1;
     }
     (left, more)
+}
+
+// The same of six places, of which most numbers have one or none: five zeros go at once.
+#[tactic(auto, using(crate::proofs::Few::few_left, crate::proofs::Few::none_left, crate::proofs::Kept::zero_raised))]
+fn without_zeros_of_six(number: u64) -> (u64, u8)
+    ensures places { fixed_digits result.1 result.0 ≡ without_last_zeros (fixed_digits 6 number) }
+    ensures whole { result.0 / 10 ^ result.1 ≡ number / 10 ^ 6 }
+    ensures zero { (result.0 == 0) ≡ (number == 0) }
+    ensures size { result.1 ≤ 6 }
+{
+    if number % 100_000 > 0 {
+        return without_zeros_at_end(number, 6);
+    }
+    let tenths = number / 100_000;
+    if tenths % 10 > 0 {
+        (tenths, 1)
+    } else {
+        (tenths / 10, 0)
+    }
 }
 
 /// Whether all digits are zero of a number that is written with so many places, at most 15.
@@ -219,12 +236,13 @@ pub fn write_hundredfold(value: Fixed, places: u8) -> Digits
 /// takes at most so many bytes, and else answers none: with more places its short text is the same.
 pub fn write_exact(value: Fixed, whole: u8, room: usize) -> Option<Digits>
     requires { whole ≡ whole_len value }
-    ensures text { result ≡ (if nat_le (length (written value (decimals value))) room then Some (written value (decimals value)) else None) }
+    ensures text { result ≡ (if nat_le (length (written value (decimals value))) room
+        then Some (written value (decimals value)) else None) }
     ensures few { decimals value ≤ 6 }
     ensures enough { (places : ℕ) → decimals value ≤ places → short value places ≡ written value (decimals value) }
 {
     let size = size_of(value);
-    let (number, places) = without_zeros_at_end(size, 6);
+    let (number, places) = without_zeros_of_six(size);
     if sign_len(value, size) + usize::from(whole) + behind_len(places) > room {
         return None;
     }

@@ -6,7 +6,7 @@ use Rattle.fixed_value.proofs.digits.write_exact.Goals as goal
 
 pub returns-then-sign_len-from-clause-text : goal.returns-then-sign_len-from-clause-text
 returns-then-sign_len-from-clause-text c =
-    let strip = c.without_zeros_at_end-number in
+    let strip = c.without_zeros_of_six-number in
     let len = exact_len c.args.value c.size_of-size.result strip.result.1 strip.result.0 c.size_of-size.ensures.size c.size_of-size.ensures.most strip.ensures.places strip.ensures.whole strip.ensures.zero in
     let is : c.args.whole ≡ length (without_zeros (fixed_digits 10 (c.size_of-size.result / 1000000))) = c.requires ∙ ap (λ n. length (without_zeros (fixed_digits 10 (n / 1000000)))) (sym c.size_of-size.ensures.size) in
     no_room_for (length (written c.args.value (decimals c.args.value))) c.args.room (written c.args.value (decimals c.args.value))
@@ -17,7 +17,7 @@ returns-then-sign_len-from-clause-enough c places enough = enough_places c.args.
 
 pub returns-clause-text : goal.returns-clause-text
 returns-clause-text c =
-    let strip = c.without_zeros_at_end-number in
+    let strip = c.without_zeros_of_six-number in
     let len = exact_len c.args.value c.size_of-size.result strip.result.1 strip.result.0 c.size_of-size.ensures.size c.size_of-size.ensures.most strip.ensures.places strip.ensures.whole strip.ensures.zero in
     let is : c.args.whole ≡ length (without_zeros (fixed_digits 10 (c.size_of-size.result / 1000000))) = c.requires ∙ ap (λ n. length (without_zeros (fixed_digits 10 (n / 1000000)))) (sym c.size_of-size.ensures.size) in
     room_for (length (written c.args.value (decimals c.args.value))) c.args.room c.write.result (written c.args.value (decimals c.args.value))
