@@ -2,13 +2,14 @@
 use Rattle.std.specs.Char.{is_ascii_digit}
 use Rattle.std.specs.Prelude.{ℕ, ◌+◌, ◌-◌, ◌*◌, ◌^◌, Bool, false, ◌&&◌, ◌||◌, ◌==◌, nat_le, List, [], ◌∷◌, ◌++◌, length, fold, Option, Some, None, if◌then◌else◌}
 use Rattle.std.specs.List.{list_all}
+use Rattle.ascii_bytes.specs.Ascii as ascii
 use Rattle.fixed_value.specs.declared.decimal.Decimal.{Decimal}
 use Rattle.fixed_value.specs.declared.decimal.Decimal.TheVariants.{Num, TooLarge, NotNumber}
 use Rattle.fixed_value.specs.Numbers.{nearest, signed}
 
 -- a number with one more decimal digit behind it, by the digit's byte
 abbrev pub digit_more : ℕ → ℕ → ℕ
-digit_more n b = n * 10 + (b - 48)
+digit_more n b = n * 10 + (b - ascii.zero)
 
 -- what digits stand for
 abbrev pub number_of : List ℕ → ℕ
@@ -17,12 +18,12 @@ number_of digits = fold digit_more 0 digits
 -- whether a text begins with a minus
 abbrev pub is_minus : List ℕ → Bool
 is_minus [] = false
-is_minus (b ∷ bs) = b == 45
+is_minus (b ∷ bs) = b == ascii.minus
 
 -- a text without the plus or the minus in front of it
 abbrev pub without_sign : List ℕ → List ℕ
 without_sign [] = []
-without_sign (b ∷ bs) = if b == 43 || b == 45 then bs else b ∷ bs
+without_sign (b ∷ bs) = if b == ascii.plus || b == ascii.minus then bs else b ∷ bs
 
 -- the digits that the bytes begin with, and the bytes behind them
 abbrev pub whole_digits : List ℕ → List ℕ
@@ -37,7 +38,7 @@ behind_digits (b ∷ bs) = if is_ascii_digit b then behind_digits bs else b ∷ 
 -- the digits behind the point, of which there may be none; no other byte may stand there
 abbrev pub places_of : List ℕ → Option (List ℕ)
 places_of [] = Some []
-places_of (b ∷ bs) = if b == 46 && list_all is_ascii_digit bs then Some bs else None
+places_of (b ∷ bs) = if b == ascii.dot && list_all is_ascii_digit bs then Some bs else None
 
 -- the exact fraction, rounded once
 abbrev pub fraction_of : Bool → List ℕ → List ℕ → Decimal

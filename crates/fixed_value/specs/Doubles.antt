@@ -57,4 +57,5 @@ pub record IsWritten (v : ℤ) (bits : ℕ) : Type 0 where
   pub scale_from : 23 ≤ scale
   pub least : 4503599627370496 * 1000000 ≤ nat_abs v * 2 ^ scale
   pub below : nat_abs v * 2 ^ scale < 9007199254740992 * 1000000
-  pub bits_are : bits ≡ sign_bit v + ((1075 - scale) * 4503599627370496 + (nearest_even (nat_abs v * 2 ^ scale) 1000000 - 4503599627370496))
+  pub bits_are : bits ≡ sign_bit v
+      + ((1075 - scale) * 4503599627370496 + (nearest_even (nat_abs v * 2 ^ scale) 1000000 - 4503599627370496))

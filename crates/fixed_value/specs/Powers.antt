@@ -22,7 +22,11 @@ inverted (Some p) = quotient (pos 1000000) p
 abbrev pub power : ℤ → ℤ → Option ℤ
 power x e =
     if nat_abs e % 1000000 == 0
-    then (if nat_lt 1000 (nat_abs e / 1000000) then None else (if int_lt e (pos 0) then inverted (powered x (nat_abs e / 1000000)) else powered x (nat_abs e / 1000000)))
+    then (if nat_lt 1000 (nat_abs e / 1000000)
+    then None
+    else (if int_lt e (pos 0)
+    then inverted (powered x (nat_abs e / 1000000))
+    else powered x (nat_abs e / 1000000)))
     else None
 
 -- the unit of a decimal place, in millionths, for places below 6

@@ -3,6 +3,7 @@ ghost use Rattle.std.specs.Char.{is_ascii_digit};
 ghost use Rattle.std.specs.Prelude.{◌≡◌, ◌≤◌, ◌<◌, ◌-◌, ◌*◌, ◌/◌, ◌^◌, ◌++◌, true, length, take, drop, min, replicate, slice_index_or};
 ghost use Rattle.std.specs.List.{list_all};
 ghost use Rattle.std.specs.Option.{option_copied};
+ghost use Rattle.ascii_bytes.specs.Ascii as ascii;
 ghost use Rattle.fixed_value.specs.Decimals.{behind_digits, decimal_of, fraction_of, is_minus, number_of, places_of, whole_digits, without_sign};
 
 use crate::Fixed;
@@ -69,7 +70,7 @@ pub fn capped_number(digits: &[u8]) -> u64
 fn digit_at(places: &[u8], at: usize) -> u8
     requires digits { list_all is_ascii_digit places.now ≡ true }
     requires at_in { at < 7 }
-    ensures value { result ≡ slice_index_or (places.now ++ replicate 7 48) at 48 - 48 }
+    ensures value { result ≡ slice_index_or (places.now ++ replicate 7 ascii.zero) at ascii.zero - ascii.zero }
     ensures size { result ≤ 9 }
 {
     if at < places.len() {

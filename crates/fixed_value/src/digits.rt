@@ -1,6 +1,7 @@
 // Decimals as they are written.
 ghost use Rattle.std.specs.Int.RustNames.{int_lt};
 ghost use Rattle.std.specs.Prelude.{◌≡◌, ◌≤◌, ◌<◌, ◌+◌, ◌/◌, ◌^◌, ◌++◌, ◌&&◌, ◌==◌, if◌then◌else◌, not, length, nat_le, replicate, ℕ, ℤ, pos, nat_abs, Some, None};
+ghost use Rattle.ascii_bytes.specs.Ascii as ascii;
 ghost use Rattle.fixed_value.specs.Decimals.{decimal_of};
 ghost use Rattle.fixed_value.specs.Written.{decimals, fixed_digits, hundredfold, minus_sign, pointed, scaled, short, without_last_zeros, whole_len, without_zeros, written};
 ghost use Rattle.fixed_value.specs.declared.decimal.Decimal.TheVariants.{Num};
@@ -11,7 +12,7 @@ use crate::front::Digits;
 // Puts so many zeros in front.
 fn put_zeros(text: &mut Digits, count: u8)
     requires { length text.old + count ≤ 32 }
-    ensures digits { text.new ≡ replicate count 48 ++ text.old }
+    ensures digits { text.new ≡ replicate count ascii.zero ++ text.old }
     ensures size { length text.new ≡ length text.old + count }
 {
     let mut more = count;
@@ -135,7 +136,7 @@ fn write(minus: bool, number: u64, places: u8, zeros: u8, most: u8) -> Digits
     requires room { most + places + zeros ≤ 30 }
     ensures { result ≡ minus_sign (minus && not (number == 0))
         ++ (without_zeros (fixed_digits most (number / 10 ^ places))
-        ++ pointed (fixed_digits places number ++ replicate zeros 48)) }
+        ++ pointed (fixed_digits places number ++ replicate zeros ascii.zero)) }
 {
     let mut text = Digits::new();
     put_zeros(&mut text, zeros);
