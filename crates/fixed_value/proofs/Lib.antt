@@ -1,11 +1,13 @@
 pub mod Exact
 pub mod Few
 pub mod Kept
+pub mod InPlace
 pub mod LastDigits
 pub mod LastZeros
 pub mod Places
 pub mod Powers
 pub mod Rounding
 pub mod Short
+pub mod Standing
 pub mod Written
 pub mod WrittenBits

@@ -95,7 +95,7 @@ fn scaled(value: Fixed, places: u8) -> u64
 }
 
 // The size in millionths.
-fn size_of(value: Fixed) -> u64
+pub(crate) fn size_of(value: Fixed) -> u64
     ensures size { result ≡ nat_abs value }
     ensures most { nat_abs value ≤ 999999999999999 }
 {
@@ -103,14 +103,14 @@ fn size_of(value: Fixed) -> u64
 }
 
 // Whether it is below zero.
-fn is_minus(value: Fixed) -> bool
+pub(crate) fn is_minus(value: Fixed) -> bool
     ensures { result ≡ int_lt value (pos 0) }
 {
     value.millionths() < 0
 }
 
 // How long the sign of a number is, of which none stands where all digits are zero.
-fn sign_len(value: Fixed, number: u64) -> usize
+pub(crate) fn sign_len(value: Fixed, number: u64) -> usize
     ensures len { result ≡ length (minus_sign (int_lt value (pos 0) && not (number == 0))) }
     ensures most { result ≤ 1 }
 {
@@ -118,7 +118,7 @@ fn sign_len(value: Fixed, number: u64) -> usize
 }
 
 // How long so many places are with the point, which stands only where there are places.
-fn behind_len(places: u8) -> usize
+pub(crate) fn behind_len(places: u8) -> usize
     ensures len { (number : ℕ) → result ≡ length (pointed (fixed_digits places number)) }
     ensures most { result ≤ 1 + places }
 {
@@ -170,7 +170,7 @@ fn without_zeros_at_end(number: u64, places: u8) -> (u64, u8)
 
 // The same of six places, of which most numbers have one or none: five zeros go at once.
 #[tactic(auto, using(crate::proofs::Few::few_left, crate::proofs::Few::none_left, crate::proofs::Kept::zero_raised))]
-fn without_zeros_of_six(number: u64) -> (u64, u8)
+pub(crate) fn without_zeros_of_six(number: u64) -> (u64, u8)
     ensures places { fixed_digits result.1 result.0 ≡ without_last_zeros (fixed_digits 6 number) }
     ensures whole { result.0 / 10 ^ result.1 ≡ number / 10 ^ 6 }
     ensures zero { (result.0 == 0) ≡ (number == 0) }

@@ -7,6 +7,7 @@ mod digits;
 mod doubles;
 mod fixed;
 mod front;
+mod in_place;
 mod parts;
 mod power;
 mod power_of_ten;
@@ -20,6 +21,7 @@ pub use digits::{
 pub use doubles::{DoubleRead, from_double_bits, to_double_bits};
 pub use fixed::{Fixed, MAX_SIZE, rounding_is_nearest};
 pub use front::Digits;
+pub use in_place::put_exact;
 
 #[cfg(test)]
 mod double_rows;
