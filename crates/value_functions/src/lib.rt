@@ -6,10 +6,12 @@ mod rows;
 mod scalars;
 mod values;
 
-pub use operators::{binary, denied, divided, is_zero, negated};
+pub use operators::{binary, binary_numbers, denied, divided, is_zero, negated};
 pub use rows::constant_value;
 pub use scalars::{
     changed, char_value, cut_value, exact_value, find_value, mid_value, of_number, of_numbers,
     of_parts, of_text, replace_value, string_value, test_value,
 };
-pub use values::{answer, counted, number_in, stop, stop_one, stop_two, text_in, texted, truth};
+pub use values::{
+    answer, counted, number_in, stop, stop_one, stop_two, text_in, texted, truth, whole_number,
+};

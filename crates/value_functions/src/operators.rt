@@ -2,12 +2,13 @@
 ghost use Rattle.std.specs.Prelude.{◌≡◌, ◌≤◌, ◌++◌, length, IfOk};
 ghost use Rattle.std.specs.Ordering.{int_cmp};
 ghost use Rattle.value_functions.specs.Operators.{binary_value, both_numbers, combined, computed, denied, is_zero, joined, joined_with, negated, of_numbers, order, order_with_number, order_with_text};
-ghost use Rattle.value_functions.specs.Values.{texted};
+ghost use Rattle.value_functions.specs.Values.{answer, texted};
+ghost use Rattle.formula_tree.specs.declared.value.Value.TheVariants as value;
 
-use crate::values::{answer, number_in, stop_one, stop_two, texted, truth};
+use crate::values::{answer, number_in, one_if, stop_one, stop_two, texted, truth};
 use fixed_value::Fixed;
 use formula_tree::{Op, Value};
-use lics_text::{Line, Memory, Text};
+use lics_text::{Line, MAX_LEN, Memory, Text};
 use std::alloc::Global;
 use std::cmp::Ordering;
 
@@ -18,12 +19,14 @@ pub fn is_zero(number: Fixed) -> bool
     number.millionths() == 0
 }
 
+// How two numbers stand to one another by their size.
 fn order_of_numbers(x: Fixed, y: Fixed) -> Ordering
     ensures { result ≡ int_cmp x y }
 {
     x.millionths().cmp(&y.millionths())
 }
 
+// How a number stands to another value, which is 0 where it is blank.
 fn order_with_number(x: Fixed, other: &Value) -> Ordering
     ensures { result ≡ order_with_number x other.now }
 {
@@ -34,6 +37,7 @@ fn order_with_number(x: Fixed, other: &Value) -> Ordering
     }
 }
 
+// How a text stands to another value.
 fn order_with_text(text: &Text, other: &Value) -> Ordering
     ensures { result ≡ order_with_text text.now other.now }
 {
@@ -54,12 +58,13 @@ fn order(a: &Value, b: &Value) -> Ordering
     }
 }
 
+// The two texts, one behind the other, and ERR where they have no room in one.
 fn texts_joined(alloc: Global, first: &[u8], second: &[u8]) -> Result<Value, Memory>
-    requires first { length first.now ≤ 240 }
-    requires second { length second.now ≤ 240 }
+    requires first { length first.now ≤ MAX_LEN }
+    requires second { length second.now ≤ MAX_LEN }
     ensures { IfOk result (λ v. v ≡ texted (first.now ++ second.now)) }
 {
-    if first.len() + second.len() > 240 {
+    if first.len() + second.len() > MAX_LEN {
         return Ok(Value::Err);
     }
     let mut line = Line::new();
@@ -68,8 +73,9 @@ fn texts_joined(alloc: Global, first: &[u8], second: &[u8]) -> Result<Value, Mem
     texted(alloc, line.bytes())
 }
 
+// A text joined with another value, which is the empty text where it is blank.
 fn joined_with(alloc: Global, first: &[u8], other: &Value) -> Result<Value, Memory>
-    requires { length first.now ≤ 240 }
+    requires { length first.now ≤ MAX_LEN }
     ensures { IfOk result (λ v. v ≡ joined_with first.now other.now) }
 {
     match other {
@@ -79,6 +85,7 @@ fn joined_with(alloc: Global, first: &[u8], other: &Value) -> Result<Value, Memo
     }
 }
 
+// Two values joined as texts.
 fn joined(alloc: Global, a: &Value, b: &Value) -> Result<Value, Memory>
     ensures { IfOk result (λ v. v ≡ joined a.now b.now) }
 {
@@ -99,30 +106,51 @@ fn both(a: &Value, b: &Value) -> Option<(Fixed, Fixed)>
     }
 }
 
-fn of_numbers(op: Op, x: Fixed, y: Fixed) -> Value
-    ensures { result ≡ of_numbers op x y }
+// The number that an operator of numbers makes of two; none where that is ERR, and for any other operator.
+fn arithmetic(op: Op, x: Fixed, y: Fixed) -> Option<Fixed>
+    ensures { of_numbers op x y ≡ answer result }
 {
     match op {
-        Op::Pow => answer(x.pow(y)),
-        Op::Mul => answer(x.mul(y)),
-        Op::Div => answer(x.div(y)),
-        Op::Add => answer(x.add(y)),
-        Op::Sub => answer(x.sub(y)),
-        Op::And => truth(!is_zero(x) && !is_zero(y)),
-        Op::Or => truth(!is_zero(x) || !is_zero(y)),
-        Op::Eq | Op::Ne | Op::Lt | Op::Gt | Op::Le | Op::Ge | Op::Join => Value::Err,
+        Op::Pow => x.pow(y),
+        Op::Mul => x.mul(y),
+        Op::Div => x.div(y),
+        Op::Add => x.add(y),
+        Op::Sub => x.sub(y),
+        Op::And => Some(one_if(!is_zero(x) && !is_zero(y))),
+        Op::Or => Some(one_if(!is_zero(x) || !is_zero(y))),
+        Op::Eq | Op::Ne | Op::Lt | Op::Gt | Op::Le | Op::Ge | Op::Join => None,
     }
 }
 
+/// The number that an operator makes of two numbers; none exactly where their value by `binary` is ERR.
+#[tactic(auto, unfolding(crate::specs::Operators::binary_value))]
+pub fn binary_numbers(op: Op, x: Fixed, y: Fixed) -> Option<Fixed>
+    ensures { binary_value op (value.Num x) (value.Num y) ≡ answer result }
+{
+    match op {
+        Op::Eq => Some(one_if(order_of_numbers(x, y).is_eq())),
+        Op::Ne => Some(one_if(order_of_numbers(x, y).is_ne())),
+        Op::Lt => Some(one_if(order_of_numbers(x, y).is_lt())),
+        Op::Gt => Some(one_if(order_of_numbers(x, y).is_gt())),
+        Op::Le => Some(one_if(order_of_numbers(x, y).is_le())),
+        Op::Ge => Some(one_if(order_of_numbers(x, y).is_ge())),
+        Op::Pow | Op::Mul | Op::Div | Op::Add | Op::Sub | Op::And | Op::Or | Op::Join => {
+            arithmetic(op, x, y)
+        }
+    }
+}
+
+// An operator of numbers between any two values.
 fn computed(op: Op, a: &Value, b: &Value) -> Value
     ensures { result ≡ computed op a.now b.now }
 {
     match both(a, b) {
-        Some((x, y)) => of_numbers(op, x, y),
+        Some((x, y)) => answer(arithmetic(op, x, y)),
         None => Value::Err,
     }
 }
 
+// An operator between two values of which none is ERR or NA.
 fn combined(alloc: Global, op: Op, a: &Value, b: &Value) -> Result<Value, Memory>
     ensures { IfOk result (λ v. v ≡ combined op a.now b.now) }
 {

@@ -1,12 +1,16 @@
 // Values as arguments and as answers.
 ghost use Rattle.std.specs.Prelude.{◌≡◌, ◌≤◌, ◌||◌, IfOk, IfSome, IfNone, Some, None, nat_abs};
 ghost use Rattle.lics_text.specs.Texts.{text_of};
+ghost use Rattle.formula_tree.specs.declared.value.Value.TheVariants as value;
 ghost use Rattle.value_functions.specs.Values.{answer, counted, is_err, is_na, is_text, number_in, stop, stop_four, stop_one, stop_three, stop_two, text_in, texted, truth, worded};
 
 use fixed_value::Fixed;
 use formula_tree::Value;
 use lics_text::{Memory, Text, TextFault};
 use std::alloc::Global;
+
+/// The greatest whole number that a cell can hold.
+const MOST_WHOLE: usize = 999_999_999;
 
 /// Whether it is ERR.
 pub fn is_err(value: &Value) -> bool
@@ -92,14 +96,28 @@ pub fn texted(alloc: Global, bytes: &[u8]) -> Result<Value, Memory>
     }
 }
 
-/// 1 for true, and 0 for false.
+/// The number 1 for true, and 0 for false.
+pub fn one_if(is: bool) -> Fixed
+    ensures { truth is ≡ value.Num result }
+{
+    if is { Fixed::ONE } else { Fixed::ZERO }
+}
+
+/// 1 for true, and 0 for false, as a value.
 pub fn truth(is: bool) -> Value
     ensures { result ≡ truth is }
 {
-    if is {
-        Value::Num(Fixed::ONE)
+    Value::Num(one_if(is))
+}
+
+/// A whole number; none past 999,999,999.
+pub fn whole_number(number: usize) -> Option<Fixed>
+    ensures { counted number ≡ answer result }
+{
+    if number <= MOST_WHOLE {
+        Fixed::of(number as i64 * 1_000_000)
     } else {
-        Value::Num(Fixed::ZERO)
+        None
     }
 }
 
@@ -107,11 +125,7 @@ pub fn truth(is: bool) -> Value
 pub fn counted(number: usize) -> Value
     ensures { result ≡ counted number }
 {
-    if number <= 999_999_999 {
-        answer(Fixed::of(number as i64 * 1_000_000))
-    } else {
-        Value::Err
-    }
+    answer(whole_number(number))
 }
 
 /// What stops a function: ERR wins over NA, and NA over all else. (This project's choice.)
