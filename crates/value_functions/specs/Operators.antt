@@ -13,13 +13,15 @@ use Rattle.formula_tree.specs.declared.value.Value.{Value}
 use Rattle.formula_tree.specs.declared.value.Value.TheVariants as value
 use Rattle.value_functions.specs.Values.{answer, number_in, on_number, stop_one, stop_two, texted, truth, unless_stopped}
 
+-- a number that counts as false
 abbrev pub is_zero : ℤ → Bool
 is_zero x = nat_abs x == 0
 
--- texts by folded bytes; any number is less than any text
+-- texts by their bytes, letters of either case being the same; any number is less than any text
 abbrev pub order_of_texts : List ℕ → List ℕ → Ordering
 order_of_texts a b = slice_cmp nat_cmp (map to_ascii_uppercase a) (map to_ascii_uppercase b)
 
+-- a number beside another value; a Blank, ERR and NA count as 0 here
 abbrev pub order_with_number : ℤ → Value → Ordering
 order_with_number x (value.Str t) = Less
 order_with_number x (value.Num y) = int_cmp x y
@@ -27,6 +29,7 @@ order_with_number x value.Blank = int_cmp x (pos 0)
 order_with_number x value.Err = int_cmp x (pos 0)
 order_with_number x value.Na = int_cmp x (pos 0)
 
+-- a text beside another value
 abbrev pub order_with_text : List ℕ → Value → Ordering
 order_with_text s (value.Str t) = order_of_texts s t
 order_with_text s (value.Num y) = Greater
@@ -34,6 +37,7 @@ order_with_text s value.Blank = Greater
 order_with_text s value.Err = Greater
 order_with_text s value.Na = Greater
 
+-- how any two values stand to one another
 abbrev pub order : Value → Value → Ordering
 order (value.Str s) b = order_with_text s b
 order (value.Num x) b = order_with_number x b
@@ -49,6 +53,7 @@ joined_with s (value.Num y) = value.Err
 joined_with s value.Err = value.Err
 joined_with s value.Na = value.Err
 
+-- two texts, one behind the other
 abbrev pub joined : Value → Value → Value
 joined (value.Str s) b = joined_with s b
 joined value.Blank b = joined_with [] b
@@ -63,6 +68,7 @@ both_by (Some x) None = None
 both_by None (Some y) = None
 both_by None None = None
 
+-- the numbers of both values, if both have one
 abbrev pub both_numbers : Value → Value → Option (ℤ × ℤ)
 both_numbers a b = both_by (number_in a) (number_in b)
 
@@ -83,10 +89,12 @@ of_numbers Le x y = value.Err
 of_numbers Ge x y = value.Err
 of_numbers Join x y = value.Err
 
+-- ERR where one side is no number
 abbrev pub computed_by : Op → Option (ℤ × ℤ) → Value
 computed_by op (Some p) = of_numbers op p.0 p.1
 computed_by op None = value.Err
 
+-- an operator that takes numbers, between any two values
 abbrev pub computed : Op → Value → Value → Value
 computed op a b = computed_by op (both_numbers a b)
 
@@ -107,6 +115,7 @@ combined Le a b = truth (not (is_gt (order a b)))
 combined Ge a b = truth (not (is_lt (order a b)))
 combined Join a b = joined a b
 
+-- an operator between two values; ERR and NA pass through it
 unfoldable pub binary_value : Op → Value → Value → Value
 binary_value op a b = unless_stopped (stop_two a b) (combined op a b)
 

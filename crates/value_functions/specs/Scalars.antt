@@ -21,6 +21,7 @@ abbrev pub now_value : Option ℕ → ℕ → Value
 now_value None second = value.Err
 now_value (Some day) second = value.Num (pos (day * 1000000 + millionths_of_day second))
 
+-- a text as a value, unless memory is wanting
 abbrev pub in_words : Result (Option (List ℕ)) Memory → Result Value Memory
 in_words (Ok t) = Ok (worded t)
 in_words (Err e) = Err e
@@ -82,42 +83,69 @@ cut_row function.Left t n = left t n
 cut_row function.Right t n = right t n
 cut_row f t n = None
 
+-- a function of one number
 abbrev pub of_number : Function → Value → Value
 of_number f a = unless_stopped (stop_one a) (on_number (number_in a) (λ x. answer (number_row f x)))
 
+-- a function of one text that answers a number
 abbrev pub of_text : Function → Value → Value
 of_text f a = unless_stopped (stop_one a) (on_text (text_in a) (λ t. answer (text_row f t)))
 
+-- a function of one text that answers a text
 abbrev pub changed : Function → Value → Value
 changed f a = unless_stopped (stop_one a) (on_text (text_in a) (λ t. worded (changed_row f t)))
 
+-- CHAR
 abbrev pub char_value : Value → Value
 char_value a = unless_stopped (stop_one a) (on_number (number_in a) (λ x. worded (char_of x)))
 
+-- a function of two numbers
 abbrev pub of_numbers : Function → Value → Value → Value
-of_numbers f a b = unless_stopped (stop_two a b) (on_number (number_in a) (λ x. on_number (number_in b) (λ y. answer (numbers_row f x y))))
+of_numbers f a b =
+    unless_stopped (stop_two a b) (on_number (number_in a) (λ x. on_number (number_in b) (λ y.
+    answer (numbers_row f x y))))
 
+-- STRING, of a number and of how many places it shows
 abbrev pub string_value : Value → Value → Value
-string_value a b = unless_stopped (stop_two a b) (on_number (number_in a) (λ x. on_number (number_in b) (λ y. worded (string x y))))
+string_value a b =
+    unless_stopped (stop_two a b) (on_number (number_in a) (λ x. on_number (number_in b) (λ y.
+    worded (string x y))))
 
+-- a function of a text and a count
 abbrev pub cut_value : Function → Value → Value → Value
-cut_value f a b = unless_stopped (stop_two a b) (on_text (text_in a) (λ t. on_number (number_in b) (λ n. worded (cut_row f t n))))
+cut_value f a b =
+    unless_stopped (stop_two a b) (on_text (text_in a) (λ t. on_number (number_in b) (λ n.
+    worded (cut_row f t n))))
 
+-- EXACT: whether two texts have the same bytes
 abbrev pub exact_value : Value → Value → Value
-exact_value a b = unless_stopped (stop_two a b) (on_text (text_in a) (λ s. on_text (text_in b) (λ t. truth (bytes_eq s t))))
+exact_value a b =
+    unless_stopped (stop_two a b) (on_text (text_in a) (λ s. on_text (text_in b) (λ t.
+    truth (bytes_eq s t))))
 
+-- a function of three numbers
 abbrev pub of_parts : Function → Value → Value → Value → Value
-of_parts f a b c = unless_stopped (stop_three a b c) (on_number (number_in a) (λ x. on_number (number_in b) (λ y. on_number (number_in c) (λ z. answer (parts_row f x y z)))))
+of_parts f a b c =
+    unless_stopped (stop_three a b c) (on_number (number_in a) (λ x. on_number (number_in b) (λ y.
+    on_number (number_in c) (λ z. answer (parts_row f x y z)))))
 
+-- MID, of a text, where its part starts, and how long that is
 abbrev pub mid_value : Value → Value → Value → Value
-mid_value a b c = unless_stopped (stop_three a b c) (on_text (text_in a) (λ t. on_number (number_in b) (λ s. on_number (number_in c) (λ n. worded (mid t s n)))))
+mid_value a b c =
+    unless_stopped (stop_three a b c) (on_text (text_in a) (λ t. on_number (number_in b) (λ s.
+    on_number (number_in c) (λ n. worded (mid t s n)))))
 
+-- FIND, of what is looked for, the text, and where the search starts
 abbrev pub find_value : Value → Value → Value → Value
-find_value a b c = unless_stopped (stop_three a b c) (on_text (text_in a) (λ w. on_text (text_in b) (λ t. on_number (number_in c) (λ s. answer (find_in w t s)))))
+find_value a b c =
+    unless_stopped (stop_three a b c) (on_text (text_in a) (λ w. on_text (text_in b) (λ t.
+    on_number (number_in c) (λ s. answer (find_in w t s)))))
 
+-- REPLACE, of a text, where its part starts, how long that is, and what stands there then
 abbrev pub replace_value : Value → Value → Value → Value → Value
 replace_value a b c d =
-    unless_stopped (stop_four a b c d) (on_text (text_in a) (λ t. on_number (number_in b) (λ s. on_number (number_in c) (λ n. on_text (text_in d) (λ new. worded (replace t s n new))))))
+    unless_stopped (stop_four a b c d) (on_text (text_in a) (λ t. on_number (number_in b) (λ s.
+    on_number (number_in c) (λ n. on_text (text_in d) (λ new. worded (replace t s n new))))))
 
 -- ISNA, ISERR, ISNUMBER and ISSTRING; any value passes the test
 abbrev pub test_value : Function → Value → Value

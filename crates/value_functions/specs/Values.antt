@@ -5,6 +5,7 @@ use Rattle.lics_text.specs.Texts.{text_of}
 use Rattle.formula_tree.specs.declared.value.Value.{Value}
 use Rattle.formula_tree.specs.declared.value.Value.TheVariants as value
 
+-- a value that can't be had
 abbrev pub is_err : Value → Bool
 is_err value.Err = true
 is_err value.Blank = false
@@ -12,6 +13,7 @@ is_err (value.Num x) = false
 is_err (value.Str t) = false
 is_err value.Na = false
 
+-- a value that isn't available
 abbrev pub is_na : Value → Bool
 is_na value.Na = true
 is_na value.Blank = false
@@ -19,6 +21,7 @@ is_na (value.Num x) = false
 is_na (value.Str t) = false
 is_na value.Err = false
 
+-- a label, or the text of a formula
 abbrev pub is_text : Value → Bool
 is_text (value.Str t) = true
 is_text value.Blank = false
@@ -34,6 +37,7 @@ number_in (value.Str t) = None
 number_in value.Err = None
 number_in value.Na = None
 
+-- a text alone has one
 abbrev pub text_in : Value → Option (List ℕ)
 text_in (value.Str t) = Some t
 text_in value.Blank = None
@@ -46,6 +50,7 @@ abbrev pub answer : Option ℤ → Value
 answer (Some x) = value.Num x
 answer None = value.Err
 
+-- a text, and ERR where there is none
 abbrev pub worded : Option (List ℕ) → Value
 worded (Some t) = value.Str t
 worded None = value.Err
@@ -55,9 +60,11 @@ abbrev pub texted_by : Result (List ℕ) TextFault → Value
 texted_by (Ok t) = value.Str t
 texted_by (Err fault) = value.Err
 
+-- the text of these bytes as a value
 abbrev pub texted : List ℕ → Value
 texted bytes = texted_by (text_of bytes)
 
+-- 1 for true, and 0 for false
 abbrev pub truth : Bool → Value
 truth true = value.Num (pos 1000000)
 truth false = value.Num (pos 0)
@@ -70,17 +77,22 @@ counted n = if nat_le n 999999999 then value.Num (pos (n * 1000000)) else value.
 abbrev pub stop : Bool → Bool → Option Value
 stop err na = if err then Some value.Err else if na then Some value.Na else None
 
+-- what stops a function of one value
 abbrev pub stop_one : Value → Option Value
 stop_one a = stop (is_err a) (is_na a)
 
+-- what stops a function of two values
 abbrev pub stop_two : Value → Value → Option Value
 stop_two a b = stop (is_err a || is_err b) (is_na a || is_na b)
 
+-- what stops a function of three values
 abbrev pub stop_three : Value → Value → Value → Option Value
 stop_three a b c = stop (is_err a || (is_err b || is_err c)) (is_na a || (is_na b || is_na c))
 
+-- what stops a function of four values
 abbrev pub stop_four : Value → Value → Value → Value → Option Value
-stop_four a b c d = stop (is_err a || (is_err b || (is_err c || is_err d))) (is_na a || (is_na b || (is_na c || is_na d)))
+stop_four a b c d =
+    stop (is_err a || (is_err b || (is_err c || is_err d))) (is_na a || (is_na b || (is_na c || is_na d)))
 
 -- what stops a function, and otherwise its value
 abbrev pub unless_stopped : Option Value → Value → Value

@@ -13,6 +13,7 @@ use formula_tree::{Function, Value};
 use lics_text::{Memory, Text};
 use std::alloc::Global;
 
+// A text as a value, and ERR where there is none, unless memory is wanting.
 fn in_words(text: Result<Option<Text>, Memory>) -> Result<Value, Memory>
     ensures { result ≡ in_words text }
 {
