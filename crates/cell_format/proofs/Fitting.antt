@@ -68,6 +68,10 @@ enough (suc k) exact room v same fit = elim (cases_Bool (nat_le (length (written
       enough k exact room v same fit ∙ ap (λ p. fitting p v room) (let e : exact + k ≡ exact + suc k - 1 = omega arith in e) ∙ one_less (exact + suc k) room v past (omega arith))
 ]
 
+-- all decimals, where there is room for them
+pub all_fit : (exact room : ℕ) (v : ℤ) → ((p : ℕ) → exact ≤ p → short v p ≡ written v exact) → exact ≤ 6 → length (written v exact) ≤ room → Some (written v exact) ≡ fitting 6 v room
+all_fit exact room v same few fit = (let all : exact + (6 - exact) ≡ 6 = omega (arith, few) in enough (6 - exact) exact room v same fit ∙ ap (λ p. fitting p v room) all)
+
 -- a text with all decimals, if there is room for it
 pub exact_fits : (exact room : ℕ) (v : ℤ) (text : Option (List ℕ)) → ((p : ℕ) → exact ≤ p → short v p ≡ written v exact) → exact ≤ 6 → text ≡ (if nat_le (length (written v exact)) room then Some (written v exact) else None) → is_some text ≡ true →
     text ≡ fitting 6 v room

@@ -1,3 +1,4 @@
+pub mod BlankCell
 pub mod Digits
 pub mod Fitting
 pub mod Texts

@@ -5,6 +5,7 @@ mod dates;
 mod indicators;
 mod labels;
 mod numbers;
+mod plain;
 mod push;
 mod shape;
 #[cfg(test)]
@@ -13,4 +14,5 @@ mod tests;
 pub use indicators::indicator;
 pub use labels::show_label;
 pub use numbers::show_number;
+pub use plain::put_plain;
 pub use shape::{DateForm, Shape, shape_of};

@@ -1,0 +1,43 @@
+// Numbers that go into their cell at once.
+ghost use Rattle.std.specs.Prelude.{◌≡◌, ◌-◌, length, true, false, ℕ, ℤ};
+ghost use Rattle.cell_format.specs.Format.{shape_of, HasFewPlaces};
+ghost use Rattle.cell_format.specs.Numbers.{fitting, number_text, shown_number, spaces};
+
+use crate::{Shape, shape_of};
+use fixed_value::{Fixed, put_exact};
+use grid_address::Format;
+
+// Whether it shows numbers with as many decimals as fit.
+fn is_general(shape: Shape) -> bool
+    ensures { result ≡ true → (v : ℤ) (room : ℕ) → number_text shape v room ≡ fitting 6 v room }
+{
+    match shape {
+        Shape::Fixed(_) => false,
+        Shape::Currency(_) => false,
+        Shape::Percent(_) => false,
+        Shape::Comma(_) => false,
+        Shape::Date(_) => false,
+        Shape::Hidden => false,
+        Shape::Scientific(_) => true,
+        Shape::Bar => true,
+        Shape::General => true,
+        Shape::Text => true,
+        Shape::Default => true,
+        Shape::Unnamed => true,
+    }
+}
+
+/// Puts a number into a blank cell, where its format shows as many decimals as fit and those that it has do fit. Whether
+/// it did; where it didn't, the cell is as it was, and `show_number` tells what it shows.
+pub fn put_plain(value: Fixed, format: Format, cell: &mut [u8]) -> bool
+    requires { cell.old ≡ spaces (length cell.old) }
+    ensures shown { result ≡ true → cell.new ≡ shown_number value format.0 (length cell.old) }
+    ensures same { result ≡ false → cell.new ≡ cell.old }
+    ensures size { length cell.new ≡ length cell.old }
+{
+    let width = cell.len();
+    if width == 0 || !is_general(shape_of(format)) {
+        return false;
+    }
+    put_exact(value, cell, width - 1)
+}
