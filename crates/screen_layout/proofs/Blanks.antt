@@ -19,3 +19,7 @@ longer_by_blanks from column xs up within blank =
     let on : from + (column - from) ≡ column = omega arith in
     let blanks : take (column - from) (drop from xs) ≡ replicate (column - from) 32 = ap (take (column - from)) blank ∙ take-replicate (column - from) (80 - from) 32 (omega arith) in
     ap (λ n. take n xs) (sym on) ∙ take_on from (column - from) xs ∙ ap (λ (l : List ℕ). take from xs ++ l) blanks
+
+-- a part of what is blank
+pub blank_part : (from end : ℕ) (xs : List ℕ) → from ≤ end → end ≤ 80 → drop from xs ≡ replicate (80 - from) 32 → take (end - from) (drop from xs) ≡ replicate (end - from) 32
+blank_part from end xs up within blank = ap (take (end - from)) blank ∙ take-replicate (end - from) (80 - from) 32 (omega (arith, up, within))

@@ -112,6 +112,15 @@ stars_front n h = take-replicate n 240 42 h
 pub right_word : (n : ℕ) (word : List ℕ) → ([] ++ replicate n 32 ++ word) ++ 32 ∷ [] ≡ replicate n 32 ++ (word ++ 32 ∷ [])
 right_word n word = append_assoc (replicate n 32) word (32 ∷ [])
 
+-- a text that fills its width is added to a line that has room for it
+pub whole_added : (width : ℕ) (line shown : List ℕ) → length line + width ≤ 80 → length shown ≡ width → line ++ shown ≡ take 80 (line ++ padded width shown)
+whole_added width line shown room long =
+    let none : width - length shown ≡ 0 = omega (arith, long) in
+    let filled : padded width shown ≡ shown =
+    ap (λ (k : ℕ). take width shown ++ replicate k 32) none ∙ append-nil (take width shown) ∙ take_all width shown (omega (arith, long)) in
+    let within : length (line ++ shown) ≤ 80 = omega (arith, length-append line shown, long, room) in
+    sym (take_all 80 (line ++ shown) within) ∙ ap (λ (l : List ℕ). take 80 (line ++ l)) (sym filled)
+
 -- a cut line is shown as the whole
 pub shown_cut : (text : List ℕ) → shown_line (take 80 text) ≡ shown_line text
 shown_cut text = ap (map shown_byte) (ap (λ (l : List ℕ). l ++ replicate (80 - length (take 80 text)) 32) (take-take 80 80 text (omega arith)) ∙ cut_filled text)

@@ -46,8 +46,26 @@ fn add_whole(line: &mut PaintedLine, text: &Line, width: u8)
     add_text(line, text.bytes(), width);
 }
 
-// Adds a number.
+// Adds a number, which mostly fits the line and goes into its cell at once.
+#[tactic(auto, using(crate::proofs::Cuts::whole_added, crate::proofs::Cuts::none_left))]
 fn add_number(line: &mut PaintedLine, number: Fixed, format: Format, width: u8)
+    requires { width ≤ MOST_WIDTH }
+    ensures line { line.new ≡ take 80 (line.old ++ padded width (shown_number number format.0 width)) }
+    ensures rest { drop width (shown_number number format.0 width) ≡ [] }
+{
+    if line.len() + usize::from(width) > 80 {
+        add_any_number(line, number, format, width);
+        return;
+    }
+    if line.add_plain(number, format, width) {
+        return;
+    }
+    add_any_number(line, number, format, width);
+}
+
+// Adds a number of any format, cut or filled.
+#[inline(never)]
+fn add_any_number(line: &mut PaintedLine, number: Fixed, format: Format, width: u8)
     requires { width ≤ MOST_WIDTH }
     ensures line { line.new ≡ take 80 (line.old ++ padded width (shown_number number format.0 width)) }
     ensures rest { drop width (shown_number number format.0 width) ≡ [] }

@@ -1,7 +1,11 @@
 // A line of the screen while it is painted. What is not painted yet is blank.
-ghost use Rattle.std.specs.Prelude.{◌≡◌, ◌≤◌, ◌-◌, ◌++◌, [], length, take, replicate, map};
+ghost use Rattle.std.specs.Prelude.{◌≡◌, ◌≤◌, ◌+◌, ◌-◌, ◌++◌, [], length, take, replicate, map, true, false};
+ghost use Rattle.cell_format.specs.Numbers.{shown_number};
 ghost use Rattle.screen_layout.specs.Lines.{shown_byte, shown_line};
 
+use cell_format::put_plain;
+use fixed_value::Fixed;
+use grid_address::Format;
 use std::marker::Model;
 
 #[derive(Drop)]
@@ -50,6 +54,23 @@ impl PaintedLine {
             self.bytes[from..from + count].copy_from_slice(&bytes[..count]);
             self.len = from + count;
         }
+    }
+
+    /// Adds a number in a width for which the line has room, where it goes into its cell at once. Whether it did; where it
+    /// didn't, the line is as it was.
+    pub fn add_plain(&mut self, number: Fixed, format: Format, width: u8) -> bool
+        requires { length self.old + width ≤ 80 }
+        ensures shown { result ≡ true → self.new ≡ self.old ++ shown_number number format.0 width }
+        ensures same { result ≡ false → self.new ≡ self.old }
+        ensures size { result ≡ true → length (shown_number number format.0 width) ≡ width }
+    {
+        let from = self.len;
+        let end = from + usize::from(width);
+        if put_plain(number, format, &mut self.bytes[from..end]) {
+            self.len = end;
+            return true;
+        }
+        false
     }
 
     /// Adds blanks up to a column.
