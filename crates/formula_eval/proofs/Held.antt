@@ -2,7 +2,7 @@
 use Rattle.std.proofs.Common.{◌≡◌, ℕ, ◌+◌, ◌-◌, ◌<◌, List, get_or, sym, ap, ◌∙◌}
 use Rattle.std.specs.Prelude.{Bool, Option}
 use Rattle.grid_address.specs.Place.{width_of, Extent}
-use Rattle.formula_eval.specs.World.{Sight, World}
+use Rattle.formula_eval.specs.World.{World}
 use Rattle.range_lines.specs.Rows.{at, rows_down}
 use Rattle.formula_eval.specs.Criteria.{condition_holds, holds_at, value_of_field}
 use Rattle.formula_eval.specs.Fields.{field_named}

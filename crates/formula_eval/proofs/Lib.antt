@@ -1,5 +1,7 @@
 pub mod Columns
+pub mod Composed
 pub mod Gathered
 pub mod Held
 pub mod Lines
 pub mod Places
+pub mod Totalled

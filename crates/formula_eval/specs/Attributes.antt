@@ -36,12 +36,14 @@ abbrev pub without_brackets : List ℕ → List ℕ
 without_brackets [] = []
 without_brackets (b ∷ bs) = take (length bs - 1) bs
 
+-- the prefix of a label; anything else has none
 abbrev pub prefix_in : Content → List ℕ
 prefix_in content.Blank = []
 prefix_in (content.Number x) = []
 prefix_in (content.Label prefix t) = prefix_byte prefix ∷ []
 prefix_in (content.Formula f) = []
 
+-- the prefix of what may be in a cell
 abbrev pub prefix_of : Option Content → List ℕ
 prefix_of None = []
 prefix_of (Some c) = prefix_in c
@@ -53,10 +55,12 @@ type_in (content.Number x) = codes "v"
 type_in (content.Label prefix t) = codes "l"
 type_in (content.Formula f) = codes "v"
 
+-- the type of what may be in a cell
 abbrev pub type_of : Option Content → List ℕ
 type_of None = codes "b"
 type_of (Some c) = type_in c
 
+-- what is told of a cell, one row for each attribute
 abbrev pub attribute_value : Sight → Place → Attribute → Value
 attribute_value sight p Address = texted (codes "$" ++ (column_name p.col ++ (codes "$" ++ decimal (p.row + 1))))
 attribute_value sight p Col = counted (p.col + 1)
@@ -68,10 +72,12 @@ attribute_value sight p Protect = truth (has_protection (sight.formats p))
 attribute_value sight p CellType = texted (type_of (sight.contents p))
 attribute_value sight p Width = counted (sight.widths p.col)
 
+-- an attribute is wanted
 abbrev pub on_attribute : Sight → Place → Option Attribute → Value
 on_attribute sight p None = value.Err
 on_attribute sight p (Some a) = attribute_value sight p a
 
+-- CELLPOINTER, of the cell of the pointer: what a text asks of a cell
 abbrev pub told_value : Sight → Place → Value → Value
 told_value sight p a = unless_stopped (stop_one a) (on_text (text_in a) (λ t. on_attribute sight p (attribute_named t)))
 

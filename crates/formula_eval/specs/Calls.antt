@@ -73,14 +73,17 @@ abbrev pub behind_first : ℕ → Option ℕ → Option ℕ
 behind_first count None = None
 behind_first count (Some n) = if nat_lt (n + 1) count then Some (n + 1) else None
 
+-- the place of the argument that a number takes, where there are so many
 abbrev pub place_for : Function → ℕ → ℤ → Option ℕ
 place_for function.If count x = if is_zero x then Some 2 else Some 1
 place_for f count x = behind_first count (count_of x)
 
+-- ERR where no argument has that place
 abbrev pub place_or_err : Option ℕ → Result ℕ Value
 place_or_err (Some k) = Ok k
 place_or_err None = Err value.Err
 
+-- by what stops the function and by the number of its first argument
 abbrev pub choice_by : Option Value → Option ℤ → Function → ℕ → Result ℕ Value
 choice_by (Some stopped) x f count = Err stopped
 choice_by None None f count = Err value.Err
@@ -90,15 +93,18 @@ choice_by None (Some x) f count = place_or_err (place_for f count x)
 abbrev pub choice : Function → ℕ → Value → Result ℕ Value
 choice f count v = choice_by (stop_one v) (number_in v) f count
 
+-- the value of an argument, counted from 0
 abbrev pub nth_value : List Argument → ℕ → Value
 nth_value [] k = value.Err
 nth_value (a ∷ more) zero = a.value
 nth_value (a ∷ more) (suc k) = nth_value more k
 
+-- the argument of that place, or the value in its stead
 abbrev pub chosen_one : Result ℕ Value → List Argument → Value
 chosen_one (Ok k) args = nth_value args k
 chosen_one (Err v) args = v
 
+-- IF and CHOOSE
 abbrev pub chosen : Function → List Argument → Value
 chosen f [] = value.Err
 chosen f (a ∷ more) = chosen_one (choice f (suc (length more)) a.value) (a ∷ more)

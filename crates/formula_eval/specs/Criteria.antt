@@ -15,8 +15,8 @@ use Rattle.formula_eval.specs.World.{Sight, World}
 use Rattle.formula_eval.specs.declared.record_match.Match.{Match}
 use Rattle.formula_eval.specs.declared.record_match.Match.TheVariants as match
 
--- A condition holds of a field's value; a formula is taken as if it were copied down to the record, and its functions of
--- records are ERR.
+-- A condition holds of a field's value; a formula is taken as if it were copied down to the record, and its functions
+-- of records are ERR.
 abbrev pub content_holds : World → Content → Place → Value → Bool
 content_holds w content.Blank place v = true
 content_holds w (content.Number x) place v = equals_number x v

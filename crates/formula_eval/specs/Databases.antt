@@ -1,7 +1,7 @@
 -- The functions of records: DSUM, DAVG, DCOUNT, DMIN and DMAX.
 use Rattle.std.specs.Prelude.{ℕ, ◌+◌, ◌&&◌, Bool, true, false, Option, None, Some, List, [], ◌∷◌, map, if◌then◌else◌}
 use Rattle.std.specs.List.{filter}
-use Rattle.grid_address.specs.Place.{width_of, Extent, Place}
+use Rattle.grid_address.specs.Place.{width_of, Extent}
 use Rattle.range_lines.specs.Rows.{at, rows_below}
 use Rattle.formula_tree.specs.declared.function.Function.{Function}
 use Rattle.formula_tree.specs.declared.function.Function.TheVariants as function
@@ -48,7 +48,8 @@ over_column f w input criterion k =
 -- the second argument is the column's number
 abbrev pub by_column : Function → World → Extent → Extent → Value → Value
 by_column f w input criterion n =
-    unless_stopped (stop_one n) (on_number (number_in n) (λ x. on_place (place_in x (width_of input)) (over_column f w input criterion)))
+    unless_stopped (stop_one n) (on_number (number_in n) (λ x.
+    on_place (place_in x (width_of input)) (over_column f w input criterion)))
 
 -- of an input, a column and a criterion
 abbrev pub database_value : Function → World → List Argument → Value
@@ -56,5 +57,6 @@ database_value f w [] = value.Err
 database_value f w (a ∷ []) = value.Err
 database_value f w (a ∷ b ∷ []) = value.Err
 database_value f w (a ∷ b ∷ c ∷ []) =
-    on_range (range_of a.operand) (λ input. on_range (range_of c.operand) (λ criterion. by_column f w input criterion b.value))
+    on_range (range_of a.operand) (λ input. on_range (range_of c.operand) (λ criterion.
+    by_column f w input criterion b.value))
 database_value f w (a ∷ b ∷ c ∷ d ∷ more) = value.Err

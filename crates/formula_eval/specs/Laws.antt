@@ -3,7 +3,6 @@ use Rattle.std.specs.Prelude.{◌≡◌, ◌||◌, refl, Bool, true, false, List
 use Rattle.std.specs.List.{list_any}
 use Rattle.std.proofs.Common.{ap, sym, ◌∙◌, arith, inl, inr}
 use Rattle.std.proofs.lemmas.Bool.{cases_Bool}
-use Rattle.std.proofs.lemmas.Bool.Decides.{nat_tests}
 use Rattle.grid_address.specs.Leads.{resolve}
 use Rattle.grid_address.specs.Place.{is_within, Extent, Place}
 use Rattle.formula_tree.specs.Spans.{any_volatile, is_volatile, spans_of, spans_of_all}
@@ -50,7 +49,8 @@ same_constant : (f : Function) (w u : World) → is_volatile_function f ≡ fals
 same_constant function.Now w u s = absurd cc
 same_constant f w u s = refl
 
-same_one : (f : Function) (w u : World) (a : Argument) → is_volatile_function f ≡ false → one_value f w a ≡ one_value f u a
+same_one : (f : Function) (w u : World) (a : Argument) → is_volatile_function f ≡ false →
+    one_value f w a ≡ one_value f u a
 same_one function.CellPointer w u a s = absurd cc
 same_one function.Pointed w u a s = absurd cc
 same_one f w u a s = refl
@@ -60,7 +60,8 @@ same_two : (f : Function) (w u : World) (a b : Argument) → is_volatile_functio
 same_two function.Cell w u a b s = absurd cc
 same_two f w u a b s = refl
 
-among : (args : List Argument) (a : Argument) (p : Place) (w u : World) → AgreeOn (a ∷ args) w u → in_operand a.operand p ≡ true → w.sight.values p ≡ u.sight.values p
+among : (args : List Argument) (a : Argument) (p : Place) (w u : World) → AgreeOn (a ∷ args) w u →
+    in_operand a.operand p ≡ true → w.sight.values p ≡ u.sight.values p
 among args a p w u agree h = agree p (first (in_operand a.operand p) (in_arguments args p) h)
   where
     first : (a b : Bool) → a ≡ true → (a || b) ≡ true
@@ -73,7 +74,8 @@ behind args a w u agree = λ p h. agree p (second (in_operand a.operand p) (in_a
     second a b h = grind arith
 
 same_table : (w u : World) (across : Bool) (a b c : Argument) → AgreeOn (a ∷ b ∷ c ∷ []) w u →
-    lookup_value w.sight.values across a.value b.operand c.value ≡ lookup_value u.sight.values across a.value b.operand c.value
+    lookup_value w.sight.values across a.value b.operand c.value ≡
+    lookup_value u.sight.values across a.value b.operand c.value
 same_table w u across a b c agree =
     let within = behind (b ∷ c ∷ []) a w u agree in
     same_lookup w.sight.values u.sight.values across a.value b.operand c.value (λ p h. among (c ∷ []) b p w u within h)
@@ -99,7 +101,8 @@ same_list : (f : Function) (w u : World) (args : List Argument) → AgreeOn args
     list_value f (items_of w.sight.values args) ≡ list_value f (items_of u.sight.values args)
 same_list f w u args agree = ap (list_value f) (same_of w.sight.values u.sight.values args agree)
 
-same_call : (d : Database) (f : Function) (w u : World) (args : List Argument) → is_volatile_function f ≡ false → AgreeOn args w u →
+same_call : (d : Database) (f : Function) (w u : World) (args : List Argument) → is_volatile_function f ≡ false →
+    AgreeOn args w u →
     call_value d f w args ≡ call_value d f u args
 same_call d function.Choose w u args s agree = refl
 same_call d function.If w u args s agree = refl
@@ -116,21 +119,24 @@ same_call d function.DMax w u args s agree = absurd cc
 same_call d f w u args s agree = same_called f w u args s agree
 
 -- the ranges of arguments are among the spans that they read
-any_here : (p : Place) (xs ys : List Extent) → list_any (λ s. is_within s p) xs ≡ true → list_any (λ s. is_within s p) (xs ++ ys) ≡ true
+any_here : (p : Place) (xs ys : List Extent) → list_any (λ s. is_within s p) xs ≡ true →
+    list_any (λ s. is_within s p) (xs ++ ys) ≡ true
 any_here p [] ys h = absurd cc
 any_here p (x ∷ xs) ys h = elim (cases_Bool (is_within x p)) [
   | inl yet ↦ rw yet refl
   | inr no_more ↦ rw no_more (any_here p xs ys (sym (ap (λ b. b || list_any (λ s. is_within s p) xs) no_more) ∙ h))
 ]
 
-any_there : (p : Place) (xs ys : List Extent) → list_any (λ s. is_within s p) ys ≡ true → list_any (λ s. is_within s p) (xs ++ ys) ≡ true
+any_there : (p : Place) (xs ys : List Extent) → list_any (λ s. is_within s p) ys ≡ true →
+    list_any (λ s. is_within s p) (xs ++ ys) ≡ true
 any_there p [] ys h = h
 any_there p (x ∷ xs) ys h = second (is_within x p) (list_any (λ s. is_within s p) (xs ++ ys)) (any_there p xs ys h)
   where
     second : (a b : Bool) → b ≡ true → (a || b) ≡ true
     second a b h = grind arith
 
-read_operand : (t : Tree) (at p : Place) → in_operand (operand_of t at) p ≡ true → list_any (λ s. is_within s p) (spans_of t at) ≡ true
+read_operand : (t : Tree) (at p : Place) → in_operand (operand_of t at) p ≡ true →
+    list_any (λ s. is_within s p) (spans_of t at) ≡ true
 read_operand (cell r) at p h = rw h refl
 read_operand (span a b) at p h = rw h refl
 read_operand (num v) at p h = absurd cc
@@ -145,11 +151,13 @@ read_operand (call f ts) at p h = absurd cc
 abbrev AgreeFor : List Extent → World → World → Type 0
 AgreeFor spans w u = (c : Place) → list_any (λ s. is_within s c) spans ≡ true → w.sight.values c ≡ u.sight.values c
 
-read_arguments : (d : Database) (ts : Trees) (at : Place) (w : World) (p : Place) → in_arguments (arguments_by d ts at w) p ≡ true → list_any (λ s. is_within s p) (spans_of_all ts at) ≡ true
+read_arguments : (d : Database) (ts : Trees) (at : Place) (w : World) (p : Place) →
+    in_arguments (arguments_by d ts at w) p ≡ true → list_any (λ s. is_within s p) (spans_of_all ts at) ≡ true
 read_arguments d no_trees at w p h = absurd cc
 read_arguments d (trees a ts) at w p h = elim (cases_Bool (in_operand (operand_of a at) p)) [
   | inl here ↦ any_here p (spans_of a at) (spans_of_all ts at) (read_operand a at p here)
-  | inr later ↦ any_there p (spans_of a at) (spans_of_all ts at) (read_arguments d ts at w p (sym (ap (λ b. b || in_arguments (arguments_by d ts at w) p) later) ∙ h))
+  | inr later ↦ any_there p (spans_of a at) (spans_of_all ts at)
+      (read_arguments d ts at w p (sym (ap (λ b. b || in_arguments (arguments_by d ts at w) p) later) ∙ h))
 ]
 
 for_left : (xs ys : List Extent) (w u : World) → AgreeFor (xs ++ ys) w u → AgreeFor xs w u
@@ -159,7 +167,8 @@ for_right : (xs ys : List Extent) (w u : World) → AgreeFor (xs ++ ys) w u → 
 for_right xs ys w u h = λ c r. h c (any_there c xs ys r)
 
 mutual
-  value_reads : (d : Database) (t : Tree) (at : Place) (w u : World) → is_volatile t ≡ false → AgreeFor (spans_of t at) w u → value_by d t at w ≡ value_by d t at u
+  value_reads : (d : Database) (t : Tree) (at : Place) (w u : World) → is_volatile t ≡ false →
+      AgreeFor (spans_of t at) w u → value_by d t at w ≡ value_by d t at u
   value_reads d (num v) at w u s h = refl
   value_reads d (str v) at w u s h = refl
   value_reads d (cell r) at w u s h = h (resolve r at) (rw (within_itself (resolve r at)) refl)
@@ -174,9 +183,11 @@ mutual
       λ i. binary_value op (one i) (two i)
   value_reads d (call f ts) at w u s h =
       let parts = either_false (is_volatile_function f) (any_volatile ts) s in
-      same_call d f w u (arguments_by d ts at w) parts.0 (λ p r. h p (read_arguments d ts at w p r)) ∙ ap (call_value d f u) (arguments_read d ts at w u parts.1 h)
+      same_call d f w u (arguments_by d ts at w) parts.0 (λ p r. h p (read_arguments d ts at w p r))
+      ∙ ap (call_value d f u) (arguments_read d ts at w u parts.1 h)
 
-  arguments_read : (d : Database) (ts : Trees) (at : Place) (w u : World) → any_volatile ts ≡ false → AgreeFor (spans_of_all ts at) w u → arguments_by d ts at w ≡ arguments_by d ts at u
+  arguments_read : (d : Database) (ts : Trees) (at : Place) (w u : World) → any_volatile ts ≡ false →
+      AgreeFor (spans_of_all ts at) w u → arguments_by d ts at w ≡ arguments_by d ts at u
   arguments_read d no_trees at w u s h = refl
   arguments_read d (trees a ts) at w u s h =
       let parts = either_false (is_volatile a) (any_volatile ts) s in
@@ -184,6 +195,7 @@ mutual
       let more = arguments_read d ts at w u parts.1 (for_right (spans_of a at) (spans_of_all ts at) w u h) in
       λ i. record { value = here i; operand = operand_of a at } ∷ more i
 
-pub reads_alone : (t : Tree) (at : Place) (w u : World) → is_volatile t ≡ false → ((c : Place) → Reads t at c → w.sight.values c ≡ u.sight.values c) → mean t at w ≡ mean t at u
+pub reads_alone : (t : Tree) (at : Place) (w u : World) → is_volatile t ≡ false →
+    ((c : Place) → Reads t at c → w.sight.values c ≡ u.sight.values c) → mean t at w ≡ mean t at u
 unfolding mean
 reads_alone t at w u s h = ap filled_in (value_reads database_value t at w u s h)

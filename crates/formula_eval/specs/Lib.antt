@@ -9,6 +9,8 @@ pub mod Lists
 pub mod Lookalike
 pub mod Lookups
 pub mod Mean
+pub mod Numbers
 pub mod Parts
 pub mod Scenes
+pub mod Totals
 pub mod World

@@ -47,6 +47,7 @@ abbrev pub items_in : (Place → Value) → List Place → List Item
 items_in values [] = []
 items_in values (p ∷ ps) = in_range (values p) ++ items_in values ps
 
+-- the items of an argument
 abbrev pub items_by : (Place → Value) → Operand → Value → List Item
 items_by values operand.Other v = scalar v ∷ []
 items_by values (operand.Cell p) v = alone (values p) ∷ []
@@ -57,16 +58,19 @@ abbrev pub items_of : (Place → Value) → List Argument → List Item
 items_of values [] = []
 items_of values (a ∷ more) = items_by values a.operand a.value ++ items_of values more
 
+-- an item that can't be had
 abbrev pub is_err : Item → Bool
 is_err item.Err = true
 is_err item.Na = false
 is_err (item.Is x) = false
 
+-- an item that isn't available
 abbrev pub is_na : Item → Bool
 is_na item.Na = true
 is_na item.Err = false
 is_na (item.Is x) = false
 
+-- an item in a sum and beside others; ERR and NA stop the function before
 abbrev pub size_of : Item → ℤ
 size_of (item.Is x) = x
 size_of item.Err = pos 0
@@ -76,10 +80,12 @@ size_of item.Na = pos 0
 abbrev pub sum : List Item → ℤ
 sum items = fold (λ total i. total +ℤ size_of i) (pos 0) items
 
+-- the least so far, with an item more
 abbrev pub smaller : Option ℤ → Item → Option ℤ
 smaller None i = Some (size_of i)
 smaller (Some x) i = if int_lt (size_of i) x then Some (size_of i) else Some x
 
+-- the greatest so far, with an item more
 abbrev pub larger : Option ℤ → Item → Option ℤ
 larger None i = Some (size_of i)
 larger (Some x) i = if int_lt x (size_of i) then Some (size_of i) else Some x
@@ -92,5 +98,6 @@ list_row function.Count items = counted (length items)
 list_row function.Min items = answer (fold smaller None items)
 list_row f items = answer (fold larger None items)
 
+-- a function of a list; ERR and NA among its items pass through it
 abbrev pub list_value : Function → List Item → Value
 list_value f items = unless_stopped (stop (list_any is_err items) (list_any is_na items)) (list_row f items)

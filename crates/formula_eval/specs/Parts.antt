@@ -1,5 +1,5 @@
 -- What the parts of a formula are worth, by what the functions of records answer.
-use Rattle.std.specs.Prelude.{ℤ, pos, List, [], ◌∷◌}
+use Rattle.std.specs.Prelude.{pos, List, [], ◌∷◌}
 use Rattle.grid_address.specs.Leads.{resolve}
 use Rattle.grid_address.specs.Place.{spanned, Place}
 use Rattle.formula_tree.specs.Tree.{Tree, num, str, cell, span, group, neg, not, binary, call, Trees, no_trees, trees}
@@ -66,7 +66,8 @@ abbrev mutual
 
   pub arguments_by : Database → Trees → Place → World → List Argument
   arguments_by d no_trees at w = []
-  arguments_by d (trees a ts) at w = record { value = value_by d a at w; operand = operand_of a at } ∷ arguments_by d ts at w
+  arguments_by d (trees a ts) at w =
+      record { value = value_by d a at w; operand = operand_of a at } ∷ arguments_by d ts at w
 
 -- at the top Blank is 0
 abbrev pub filled_in : Value → Value

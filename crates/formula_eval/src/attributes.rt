@@ -30,12 +30,14 @@ pub enum Attribute {
     Width,
 }
 
+// Whether a text is a word, letters of either case being the same.
 fn is_word(text: &[u8], word: &[u8]) -> bool
     ensures { result ≡ str_eq_ignore_ascii_case text.now word.now }
 {
     text.eq_ignore_ascii_case(word)
 }
 
+// The attribute that a text asks for.
 #[tactic(auto, unfolding(crate::specs::Attributes::attribute_named))]
 fn attribute_named(text: &[u8]) -> Option<Attribute>
     ensures { result ≡ attribute_named text.now }
@@ -65,7 +67,8 @@ fn attribute_named(text: &[u8]) -> Option<Attribute>
 
 // The address with both coordinates absolute.
 fn address_value(alloc: Global, cell: Cell) -> Result<Value, Memory>
-    ensures { IfOk result (λ v. v ≡ texted (codes "$" ++ (column_name cell.col ++ (codes "$" ++ decimal (cell.row + 1))))) }
+    ensures { let address = codes "$" ++ (column_name cell.col ++ (codes "$" ++ decimal (cell.row + 1))) in
+        IfOk result (λ v. v ≡ texted address) }
 {
     let mut line = Line::new();
     line.put(b'$');
@@ -86,6 +89,7 @@ fn without_brackets(bytes: &[u8]) -> &[u8]
     &rest[..rest.len().saturating_sub(1)]
 }
 
+// The prefix of a label as a text, and the empty text of anything else.
 fn prefix_value(alloc: Global, content: &Content) -> Result<Value, Memory>
     ensures { IfOk result (λ v. v ≡ texted (prefix_in content.now)) }
 {
@@ -95,6 +99,7 @@ fn prefix_value(alloc: Global, content: &Content) -> Result<Value, Memory>
     }
 }
 
+// The letter of a content: blank, label or value.
 fn type_value(alloc: Global, content: &Content) -> Result<Value, Memory>
     ensures { IfOk result (λ v. v ≡ texted (type_in content.now)) }
 {
@@ -105,6 +110,7 @@ fn type_value(alloc: Global, content: &Content) -> Result<Value, Memory>
     }
 }
 
+// The prefix of what is in a cell.
 fn prefix_there<K: Look>(alloc: Global, cell: Cell, look: &K) -> Result<Value, Memory>
     ensures { IfOk result (λ v. v ≡ texted (prefix_of ((K.sight look.now).contents cell))) }
 {
@@ -114,6 +120,7 @@ fn prefix_there<K: Look>(alloc: Global, cell: Cell, look: &K) -> Result<Value, M
     }
 }
 
+// The letter of what is in a cell.
 fn type_there<K: Look>(alloc: Global, cell: Cell, look: &K) -> Result<Value, Memory>
     ensures { IfOk result (λ v. v ≡ texted (type_of ((K.sight look.now).contents cell))) }
 {
@@ -123,6 +130,7 @@ fn type_there<K: Look>(alloc: Global, cell: Cell, look: &K) -> Result<Value, Mem
     }
 }
 
+// What is told of a cell.
 fn attribute_value<K: Look>(
     alloc: Global,
     cell: Cell,

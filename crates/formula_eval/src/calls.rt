@@ -21,6 +21,7 @@ use value_functions::{
     test_value,
 };
 
+// How many columns or rows an argument has, and ERR where it is no range.
 fn extent_of(function: Function, argument: &Argument) -> Value
     ensures { result ≡ on_range (range_of argument.now.operand) (extent_value function) }
 {
@@ -30,6 +31,7 @@ fn extent_of(function: Function, argument: &Argument) -> Value
     }
 }
 
+// A function of one argument.
 fn one_value<K: Look>(
     alloc: Global,
     function: Function,
@@ -63,6 +65,7 @@ fn one_value<K: Look>(
     }
 }
 
+// A function of two arguments.
 fn two_value<K: Look>(
     alloc: Global,
     function: Function,
@@ -84,6 +87,7 @@ fn two_value<K: Look>(
     }
 }
 
+// A function of three arguments.
 fn three_value<K: Look>(
     function: Function,
     a: &Argument,
@@ -92,7 +96,8 @@ fn three_value<K: Look>(
     look: &K,
     scene: &Scene,
 ) -> Result<Value, Memory>
-    ensures { IfOk result (λ v. v ≡ three_value function (world_of (K.sight look.now) scene.entry.now) a.now b.now c.now) }
+    ensures { let w = world_of (K.sight look.now) scene.entry.now in
+        IfOk result (λ v. v ≡ three_value function w a.now b.now c.now) }
 {
     match function {
         Function::Mid => mid_value(&a.value, &b.value, &c.value),
@@ -136,6 +141,7 @@ fn behind_first(count: usize, x: Fixed) -> Option<usize>
     if place < count { Some(place) } else { None }
 }
 
+// The place of the argument that IF or CHOOSE takes by the number of its first.
 fn place_for(function: Function, count: usize, x: Fixed) -> Option<usize>
     ensures { result ≡ place_for function count x }
 {

@@ -61,9 +61,11 @@ pub fn put_cell(items: &mut Vec<Item>, value: &Value) -> Result<(), Memory>
     Ok(())
 }
 
+// The items of a range, behind those of before.
 #[tactic(auto, using(crate::proofs::Gathered::in_more))]
 fn put_range<K: Look>(items: &mut Vec<Item>, span: Span, look: &K) -> Result<(), Memory>
-    ensures { OnOk result (items.new.items ≡ items.old.items ++ items_in (K.sight look.now).values (filled (K.sight look.now).values span)) }
+    ensures { let values = (K.sight look.now).values in
+        OnOk result (items.new.items ≡ items.old.items ++ items_in values (filled values span)) }
 {
     let cells = look.filled(span)?;
     for place in 0..cells.len() {
@@ -74,8 +76,10 @@ fn put_range<K: Look>(items: &mut Vec<Item>, span: Span, look: &K) -> Result<(),
     Ok(())
 }
 
+// The items of an argument, behind those of before.
 fn put_argument<K: Look>(items: &mut Vec<Item>, argument: &Argument, look: &K) -> Result<(), Memory>
-    ensures { OnOk result (items.new.items ≡ items.old.items ++ items_by (K.sight look.now).values argument.now.operand argument.now.value) }
+    ensures { let values = (K.sight look.now).values in let a = argument.now in
+        OnOk result (items.new.items ≡ items.old.items ++ items_by values a.operand a.value) }
 {
     match argument.operand {
         Operand::Other => items.push(scalar(&argument.value))?,
@@ -101,6 +105,7 @@ pub fn items_of<K: Look>(
     Ok(items)
 }
 
+// Whether an item is ERR.
 fn is_err(item: Item) -> bool
     ensures { result ≡ is_err item }
 {
@@ -110,6 +115,7 @@ fn is_err(item: Item) -> bool
     }
 }
 
+// Whether an item is NA.
 fn is_na(item: Item) -> bool
     ensures { result ≡ is_na item }
 {
@@ -119,6 +125,7 @@ fn is_na(item: Item) -> bool
     }
 }
 
+// The number of an item, and 0 where it is none.
 fn size_of(item: Item) -> Fixed
     ensures { result ≡ size_of item }
 {
@@ -128,6 +135,7 @@ fn size_of(item: Item) -> Fixed
     }
 }
 
+// The number of an item in 128 bits, where a sum of any length has room.
 fn wide(item: Item) -> i128
     ensures value { result ≡ size_of item }
     ensures size { nat_abs result ≤ 999999999999999 }
@@ -147,6 +155,7 @@ fn sum(items: &[Item]) -> i128
     total
 }
 
+// A sum in 64 bits.
 fn narrow(total: i128) -> i64
     requires { nat_abs total ≤ 999999999999999 }
     ensures { result ≡ total }
@@ -165,13 +174,15 @@ fn number_of(total: i128) -> Option<Fixed>
     }
 }
 
+// Whether a number is less than another.
 fn is_less(x: Fixed, y: Fixed) -> bool
     ensures { result ≡ int_lt x y }
 {
     x.millionths() < y.millionths()
 }
 
-fn smaller(least: Option<Fixed>, item: Item) -> Option<Fixed>
+/// The less of the least number so far and of one more.
+pub fn smaller(least: Option<Fixed>, item: Item) -> Option<Fixed>
     ensures { result ≡ smaller least item }
 {
     match least {
@@ -187,7 +198,8 @@ fn smaller(least: Option<Fixed>, item: Item) -> Option<Fixed>
     }
 }
 
-fn larger(greatest: Option<Fixed>, item: Item) -> Option<Fixed>
+/// The larger of the greatest number so far and of one more.
+pub fn larger(greatest: Option<Fixed>, item: Item) -> Option<Fixed>
     ensures { result ≡ larger greatest item }
 {
     match greatest {
@@ -203,6 +215,7 @@ fn larger(greatest: Option<Fixed>, item: Item) -> Option<Fixed>
     }
 }
 
+// The least item.
 #[tactic(auto, using(std::proofs::lemmas::List::Sums::fold_more))]
 fn least(items: &[Item]) -> Option<Fixed>
     ensures { result ≡ fold smaller None items.now }
@@ -214,6 +227,7 @@ fn least(items: &[Item]) -> Option<Fixed>
     least
 }
 
+// The greatest item.
 #[tactic(auto, using(std::proofs::lemmas::List::Sums::fold_more))]
 fn greatest(items: &[Item]) -> Option<Fixed>
     ensures { result ≡ fold larger None items.now }
@@ -238,12 +252,14 @@ fn list_row(function: Function, items: &[Item]) -> Value
     }
 }
 
+// Whether an item is ERR.
 fn any_err(items: &[Item]) -> bool
     ensures { result ≡ list_any is_err items.now }
 {
     items.iter().any(|item| is_err(*item))
 }
 
+// Whether an item is NA.
 fn any_na(items: &[Item]) -> bool
     ensures { result ≡ list_any is_na items.now }
 {

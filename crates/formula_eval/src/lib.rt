@@ -14,8 +14,10 @@ mod look;
 mod lookups;
 mod meaning;
 mod means;
+mod numbers;
 mod record_match;
 mod records;
+mod totals;
 
 pub use criteria::{content_holds, fields_of, record_matches};
 pub use fields::{field_named, has_fields, is_label_at, is_no_field};

@@ -18,6 +18,9 @@ use range_names::Names;
 use std::cmp::Ordering;
 use value_functions::{counted, number_in, stop_one, stop_two, text_in};
 
+/// The most lines that a range has, and the most cells of a line.
+const MOST_LINES: u16 = 8_192;
+
 /// An argument as a range; a cell is a range of one cell.
 pub fn range_of(operand: Operand) -> Option<Span>
     ensures { result ≡ range_of operand }
@@ -42,7 +45,7 @@ pub fn extent_value(function: Function, span: Span) -> Value
 // A range is looked through by lines: its rows, or across its columns.
 fn lines_of(across: bool, span: Span) -> u16
     ensures lines { result ≡ lines_of across span }
-    ensures bound { result ≤ 8192 }
+    ensures bound { result ≤ MOST_LINES }
 {
     if across { span.width() } else { span.height() }
 }
@@ -50,13 +53,13 @@ fn lines_of(across: bool, span: Span) -> u16
 // How many cells a line has.
 fn depth_of(across: bool, span: Span) -> u16
     ensures depth { result ≡ depth_of across span }
-    ensures bound { result ≤ 8192 }
+    ensures bound { result ≤ MOST_LINES }
 {
     if across { span.height() } else { span.width() }
 }
 
-// A cell by its row and its column in a range.
-fn cell_at(span: Span, row: u16, col: u16) -> Cell
+/// A cell by its row and its column in a range, counted from its first.
+pub fn cell_at(span: Span, row: u16, col: u16) -> Cell
     requires row { row < height_of span }
     requires col { col < width_of span }
     ensures row { result.row ≡ span.first.row + row }
@@ -81,6 +84,7 @@ fn line_cell(across: bool, span: Span, line: u16, place: u16) -> Cell
     }
 }
 
+// Whether a number is no greater than another.
 fn is_at_most(x: Fixed, y: Fixed) -> bool
     ensures { result ≡ not (int_lt y x) }
 {
@@ -98,6 +102,7 @@ fn passes(x: Fixed, value: &Value) -> bool
     }
 }
 
+// Whether a value is that label, letters of either case being the same.
 fn is_label(text: &Text, value: &Value) -> bool
     ensures { result ≡ is_label text.now value.now }
 {
@@ -110,7 +115,8 @@ fn is_label(text: &Text, value: &Value) -> bool
 // How many lines are passed.
 fn passed<K: Look>(across: bool, span: Span, x: Fixed, look: &K) -> u16
     requires { 0 < depth_of across span }
-    ensures passed { result ≡ prefix_len (passes x) (firsts (K.sight look.now).values across span 0 (lines_of across span)) }
+    ensures passed { let lines = firsts (K.sight look.now).values across span 0 (lines_of across span) in
+        result ≡ prefix_len (passes x) lines }
     ensures within { result ≤ lines_of across span }
 {
     let lines = lines_of(across, span);
@@ -127,7 +133,8 @@ fn passed<K: Look>(across: bool, span: Span, x: Fixed, look: &K) -> u16
 // The first line with the label.
 fn first_line<K: Look>(across: bool, span: Span, text: &Text, look: &K) -> Option<u16>
     requires { 0 < depth_of across span }
-    ensures place { result ≡ position (is_label text.now) (firsts (K.sight look.now).values across span 0 (lines_of across span)) }
+    ensures place { let lines = firsts (K.sight look.now).values across span 0 (lines_of across span) in
+        result ≡ position (is_label text.now) lines }
     ensures within { ForSome result (λ n. n < lines_of across span) }
 {
     let lines = lines_of(across, span);
@@ -141,6 +148,7 @@ fn first_line<K: Look>(across: bool, span: Span, text: &Text, look: &K) -> Optio
     None
 }
 
+// The lookup of a number: the cell at a place of the last line that was passed.
 fn by_number<K: Look>(
     across: bool,
     span: Span,
@@ -160,6 +168,7 @@ fn by_number<K: Look>(
     }
 }
 
+// The lookup of a label: the cell at a place of its line, or for the first place the line's number.
 fn by_text<K: Look>(
     across: bool,
     span: Span,
@@ -182,6 +191,7 @@ fn by_text<K: Look>(
     }
 }
 
+// The lookup of any value.
 fn looked_up<K: Look>(
     across: bool,
     span: Span,

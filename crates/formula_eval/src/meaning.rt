@@ -1,10 +1,10 @@
 // From a formula to its value.
-ghost use Rattle.std.specs.Prelude.{◌≡◌, ℕ, ◌+◌, ◌-◌, ◌^◌, ◌∷◌, [], ◌++◌, map, min, IfOk, IfSome, OnOk};
+ghost use Rattle.std.specs.Prelude.{◌≡◌, ℕ, ◌+◌, ◌-◌, ◌^◌, ◌∷◌, [], ◌++◌, map, min, IfOk, OnOk};
 ghost use Rattle.formula_tree.specs.View.{listed, tree_of};
 ghost use Rattle.formula_eval.specs.Lists.{items_of, list_value};
 ghost use Rattle.formula_eval.specs.Calls.{chosen};
 ghost use Rattle.formula_eval.specs.Mean.{mean};
-ghost use Rattle.formula_eval.specs.Parts.{arguments_by, call_value, filled_in, mean_within, operand_of, value_by, Database};
+ghost use Rattle.formula_eval.specs.Parts.{arguments_by, call_value, filled_in, mean_within, operand_of, value_by};
 ghost use Rattle.value_functions.specs.Operators.{binary_value, denied, negated};
 ghost use Rattle.formula_eval.specs.Scenes.{world_of};
 ghost use Rattle.formula_eval.specs.World.{Sight};
@@ -15,6 +15,7 @@ use crate::calls::{called, choice};
 use crate::databases::{Databases, Recorded, Refused};
 use crate::items::{items_of, list_value};
 use crate::look::{Look, Scene};
+use crate::numbers::number_of;
 use fixed_value::Fixed;
 use formula_tree::{Expr, Formula, Function, Op, Value};
 use grid_address::{Cell, Span};
@@ -71,7 +72,7 @@ fn arguments_of<D: Databases, K: Look>(
 {
     let mut arguments = Vec::new(alloc);
     for expr in exprs {
-        let value = value_of(alloc, databases, expr, at, look, scene)?;
+        let value = composed(alloc, databases, expr, at, look, scene)?;
         let operand = operand_of(expr, at);
         arguments.push(Argument { value, operand })?;
     }
@@ -95,11 +96,11 @@ fn chosen<D: Databases, K: Look>(
     if exprs.len() == 0 {
         return Ok(Value::Err);
     }
-    let first = value_of(alloc, databases, &exprs[0], at, look, scene)?;
+    let first = composed(alloc, databases, &exprs[0], at, look, scene)?;
     match choice(function, exprs.len(), &first) {
         Ok(place) => {
             if place < exprs.len() {
-                value_of(alloc, databases, &exprs[place], at, look, scene)
+                composed(alloc, databases, &exprs[place], at, look, scene)
             } else {
                 Ok(Value::Err)
             }
@@ -120,7 +121,8 @@ fn listed_value<D: Databases, K: Look>(
     scene: &Scene,
 ) -> Result<Value, Memory>
     ensures { let w = world_of (K.sight look.now) scene.entry.now in let ts = listed (map tree_of exprs.now) in
-        IfOk result (λ v. v ≡ list_value function (items_of (K.sight look.now).values (arguments_by D.answers ts at w))) }
+        let items = items_of (K.sight look.now).values (arguments_by D.answers ts at w) in
+        IfOk result (λ v. v ≡ list_value function items) }
 {
     let arguments = arguments_of(alloc, databases, exprs, at, look, scene)?;
     let items = items_of(alloc, arguments.as_slice(), look)?;
@@ -159,12 +161,14 @@ fn call_value<D: Databases, K: Look>(
     }
 }
 
+// A text as a value.
 fn text_value(text: &Text) -> Result<Value, Memory>
     ensures { IfOk result (λ v. v ≡ value.Str text.now) }
 {
     Ok(Value::Str(text.copy()?))
 }
 
+// The value of a part with a minus in front.
 #[cycle(value)]
 fn negated_value<D: Databases, K: Look>(
     alloc: Global,
@@ -181,6 +185,7 @@ fn negated_value<D: Databases, K: Look>(
     Ok(negated(&value))
 }
 
+// The value of a part with #NOT# in front.
 #[cycle(value)]
 fn denied_value<D: Databases, K: Look>(
     alloc: Global,
@@ -197,22 +202,7 @@ fn denied_value<D: Databases, K: Look>(
     Ok(denied(&value))
 }
 
-// The number of a part that is one, or of the cell that it names. It spares most operators two values.
-fn number_at<K: Look>(expr: &Expr, at: Cell, look: &K) -> Option<Fixed>
-    ensures { let w = λ (s : Scene). world_of (K.sight look.now) s in
-        IfSome result (λ n. (d : Database) (s : Scene) → value_by d (tree_of expr.now) at (w s) ≡ value.Num n) }
-{
-    match expr {
-        Expr::Num(number) => Some(*number),
-        Expr::Cell(reference) => match look.value(reference.resolve(at)) {
-            Value::Num(number) => Some(*number),
-            Value::Blank | Value::Str(_) | Value::Err | Value::Na => None,
-        },
-        Expr::Str(_) | Expr::Span(_, _) | Expr::Group(_) | Expr::Neg(_) => None,
-        Expr::Not(_) | Expr::Binary(_, _, _) | Expr::Call(_, _) => None,
-    }
-}
-
+// The value of two parts with an operator between them.
 #[cycle(value)]
 fn binary_value<D: Databases, K: Look>(
     alloc: Global,
@@ -225,11 +215,9 @@ fn binary_value<D: Databases, K: Look>(
     scene: &Scene,
 ) -> Result<Value, Memory>
     ensures { let w = world_of (K.sight look.now) scene.entry.now in
-        IfOk result (λ v. v ≡ binary_value op (value_by D.answers (tree_of left.now) at w) (value_by D.answers (tree_of right.now) at w)) }
+        let a = value_by D.answers (tree_of left.now) at w in let b = value_by D.answers (tree_of right.now) at w in
+        IfOk result (λ v. v ≡ binary_value op a b) }
 {
-    if let (Some(x), Some(y)) = (number_at(left, at, look), number_at(right, at, look)) {
-        return binary(alloc, op, &Value::Num(x), &Value::Num(y));
-    }
     let left = value_of(alloc, databases, left, at, look, scene)?;
     let right = value_of(alloc, databases, right, at, look, scene)?;
     binary(alloc, op, &left, &right)
@@ -271,6 +259,25 @@ fn value_of<D: Databases, K: Look>(
     }
 }
 
+// The value of a part, found by numbers alone where it is made of them.
+#[cycle(value)]
+fn composed<D: Databases, K: Look>(
+    alloc: Global,
+    databases: &D,
+    expr: &Expr,
+    at: Cell,
+    look: &K,
+    scene: &Scene,
+) -> Result<Value, Memory>
+    ensures { let w = world_of (K.sight look.now) scene.entry.now in
+        IfOk result (λ v. v ≡ value_by D.answers (tree_of expr.now) at w) }
+{
+    match number_of(expr, at, look) {
+        Some(number) => Ok(Value::Num(number)),
+        None => value_of(alloc, databases, expr, at, look, scene),
+    }
+}
+
 // At the top a blank value is 0.
 fn filled_in(value: Value) -> Value
     ensures { result ≡ filled_in value }
@@ -291,7 +298,7 @@ pub fn glance_within<K: Look>(
 ) -> Result<Value, Memory>
     ensures { IfOk result (λ v. v ≡ mean_within formula.now at (world_of (K.sight look.now) scene.entry.now)) }
 {
-    let value = value_of(formula.alloc(), &Refused, formula.expr(), at, look, scene)?;
+    let value = composed(formula.alloc(), &Refused, formula.expr(), at, look, scene)?;
     Ok(filled_in(value))
 }
 
@@ -305,7 +312,7 @@ pub fn glance<K: Look>(
 ) -> Result<Value, Memory>
     ensures { IfOk result (λ v. v ≡ mean formula.now at (world_of (K.sight look.now) scene.entry.now)) }
 {
-    let value = value_of(formula.alloc(), &Recorded, formula.expr(), at, look, scene)?;
+    let value = composed(formula.alloc(), &Recorded, formula.expr(), at, look, scene)?;
     Ok(filled_in(value))
 }
 

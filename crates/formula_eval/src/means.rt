@@ -36,7 +36,8 @@ pub trait Means {
 
     ghost never_blank: { (t : Tree) (at : Place) (w : World) → meaning t at w ≡ value.Blank → ⊥ };
 
-    ghost reads_alone: { (t : Tree) (at : Place) (w u : World) → is_volatile t ≡ false → ((c : Place) → Reads t at c → w.sight.values c ≡ u.sight.values c) → meaning t at w ≡ meaning t at u };
+    ghost reads_alone: { (t : Tree) (at : Place) (w u : World) → is_volatile t ≡ false
+        → ((c : Place) → Reads t at c → w.sight.values c ≡ u.sight.values c) → meaning t at w ≡ meaning t at u };
 }
 
 impl Means for Tally {

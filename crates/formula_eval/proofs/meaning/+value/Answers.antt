@@ -10,8 +10,8 @@ use Rattle.formula_eval.specs.Scenes.{world_of}
 use Rattle.formula_eval.proofs.Places.{argument, nth_is, nth_past, one_more, stopped, taken}
 use Rattle.formula_eval.proofs.meaning.+value.Goals as goal
 
-pub arguments_of-value_of-requires : goal.arguments_of-value_of-requires
-arguments_of-value_of-requires g t c κs within =
+pub arguments_of-composed-requires : goal.arguments_of-composed-requires
+arguments_of-composed-requires g t c κs within =
     let few = fewer_nodes c.args.exprs.now c.loop-expr.expr-index c.expr-item.result c.loop-expr-test.true in
     let same = ap (λ e. nodes (tree_of e)) c.expr-item.is in
     (omega (arith, few, same, c.decreases), within)
@@ -30,8 +30,8 @@ arguments_of-loop-expr-preserved g t c =
     ∙ ap (λ (l : List Argument). l ++ argument g.D.Databases.answers at w (tree_of (get_or es c.loop-expr.expr-index item)) ∷ []) c.loop-expr.invariant
     ∙ sym (one_more g.D.Databases.answers at w es c.loop-expr.expr-index item c.loop-expr-test.true)
 
-pub chosen-value_of-requires-then-place-exprs : goal.chosen-value_of-requires-then-place-exprs
-chosen-value_of-requires-then-place-exprs g t c κs within =
+pub chosen-composed-requires-then-place-exprs : goal.chosen-composed-requires-then-place-exprs
+chosen-composed-requires-then-place-exprs g t c κs within =
     let few = fewer_nodes c.args.exprs.now c.in-Ok.place c.index-exprs-place.result c.if-place-exprs.true in
     let same = ap (λ e. nodes (tree_of e)) c.index-exprs-place.is in
     (omega (arith, few, same, c.decreases), within)
@@ -49,7 +49,7 @@ chosen-returns-then-place-exprs g t c =
     let first : c.in_ok-first.first ≡ value_by g.D.Databases.answers (tree_of (get_or es 0 zeroth)) at w = c.in_ok-first.ensures ∙ ap (λ e. value_by g.D.Databases.answers (tree_of e) at w) c.index-exprs-0.is in
     let told : choice f (length es) (value_by g.D.Databases.answers (tree_of (get_or es 0 zeroth)) at w) ≡ Ok place = ap (choice f (length es)) (sym first) ∙ sym c.choice.ensures ∙ c.in-Ok.is in
     let is = ap (λ e. value_by g.D.Databases.answers (tree_of e) at w) c.index-exprs-place.is ∙ sym (nth_is g.D.Databases.answers at w es place item c.if-place-exprs.true) ∙ sym (taken g.D.Databases.answers f at w es zeroth place some told) in
-    subst (λ x. IfOk c.value_of-then-place-exprs.result (λ v. v ≡ x)) is c.value_of-then-place-exprs.ensures
+    subst (λ x. IfOk c.composed-then-place-exprs.result (λ v. v ≡ x)) is c.composed-then-place-exprs.ensures
 
 pub chosen-returns-in-Ok : goal.chosen-returns-in-Ok
 chosen-returns-in-Ok g t c =

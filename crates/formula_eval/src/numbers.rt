@@ -1,0 +1,80 @@
+// The numbers of formulas that are made of numbers alone. No value is copied on the way to them.
+ghost use Rattle.std.specs.Prelude.{◌≡◌, map, IfSome};
+ghost use Rattle.formula_tree.specs.View.{listed, tree_of};
+ghost use Rattle.formula_eval.specs.Numbers.{ranged, IsCallNumber, IsNumber};
+ghost use Rattle.formula_eval.specs.Parts.{arguments_by, Database};
+ghost use Rattle.formula_eval.specs.World.{Sight, World};
+
+use crate::look::Look;
+use crate::totals::range_number;
+use fixed_value::Fixed;
+use formula_tree::{Expr, Function, Value};
+use grid_address::{Cell, Span};
+use value_functions::binary_numbers;
+
+// The number of a part that is one, or of the cell that it names. It spares most operators a call for each side.
+fn number_at<K: Look>(expr: &Expr, at: Cell, look: &K) -> Option<Fixed>
+    ensures { IfSome result (IsNumber (tree_of expr.now) at (K.sight look.now)) }
+{
+    match expr {
+        Expr::Num(number) => Some(*number),
+        Expr::Cell(reference) => match look.value(reference.resolve(at)) {
+            Value::Num(number) => Some(*number),
+            Value::Blank | Value::Str(_) | Value::Err | Value::Na => None,
+        },
+        Expr::Str(_) | Expr::Span(_, _) | Expr::Group(_) | Expr::Neg(_) => None,
+        Expr::Not(_) | Expr::Binary(_, _, _) | Expr::Call(_, _) => None,
+    }
+}
+
+// The range that is the only argument of a function.
+fn only_range(exprs: &[Expr], at: Cell) -> Option<Span>
+    ensures { let ts = listed (map tree_of exprs.now) in
+        IfSome result (λ s. (d : Database) (w : World) → arguments_by d ts at w ≡ ranged s) }
+{
+    match exprs {
+        [Expr::Span(first, last)] => Some(Span::of(first.resolve(at), last.resolve(at))),
+        _ => None,
+    }
+}
+
+// The number of a function of a list over a single range; none for any other function.
+fn call_number<K: Look>(function: Function, exprs: &[Expr], at: Cell, look: &K) -> Option<Fixed>
+    ensures { let ts = listed (map tree_of exprs.now) in
+        IfSome result (IsCallNumber function ts at (K.sight look.now)) }
+{
+    match function {
+        Function::Sum | Function::Avg | Function::Count | Function::Min | Function::Max => {
+            range_number(function, only_range(exprs, at)?, look)
+        }
+        _ => None,
+    }
+}
+
+/// The number of a part that is made of numbers; none where it has none, or where one of its parts is found otherwise.
+/// It spares time alone.
+pub fn number_of<K: Look>(expr: &Expr, at: Cell, look: &K) -> Option<Fixed>
+    ensures { IfSome result (IsNumber (tree_of expr.now) at (K.sight look.now)) }
+{
+    match expr {
+        Expr::Group(inner) => number_of(inner, at, look),
+        Expr::Neg(inner) => {
+            let number = number_of(inner, at, look)?;
+            Some(number.neg())
+        }
+        Expr::Binary(op, left, right) => {
+            if let Some(x) = number_at(left, at, look)
+                && let Some(y) = number_at(right, at, look)
+            {
+                return binary_numbers(*op, x, y);
+            }
+            let x = number_of(left, at, look)?;
+            let y = number_of(right, at, look)?;
+            binary_numbers(*op, x, y)
+        }
+        Expr::Call(function, exprs) => call_number(*function, exprs.items(), at, look),
+        Expr::Num(_) | Expr::Cell(_) | Expr::Str(_) | Expr::Span(_, _) | Expr::Not(_) => {
+            number_at(expr, at, look)
+        }
+    }
+}
