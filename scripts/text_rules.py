@@ -125,9 +125,9 @@ class Rules:
                 self.late_fault("number that has a name", name, at + 1, line.strip()[:90])
 
     def columns(self, name, lines):
-        """Clauses and definitions fit the page; what is imported may run on."""
+        """Clauses and definitions fit the page; what is imported, and the lemmas that a proof is given, may run on."""
         for at, line in enumerate(lines):
-            if len(line) > MOST_COLUMNS and not re.match(r"(pub )?(ghost )?use ", line):
+            if len(line) > MOST_COLUMNS and not re.match(r"(pub )?(ghost )?use | *#\[tactic\(", line):
                 self.late_fault(f"line past {MOST_COLUMNS} columns", name, at + 1, f"{len(line)} columns")
 
     def edits(self):

@@ -27,8 +27,8 @@ fn is_general(shape: Shape) -> bool
     }
 }
 
-/// Puts a number into a blank cell, where its format shows as many decimals as fit and those that it has do fit. Whether
-/// it did; where it didn't, the cell is as it was, and `show_number` tells what it shows.
+/// Puts a number into a blank cell, where its format shows as many decimals as fit and those that it has do fit.
+/// Whether it did; where it didn't, the cell is as it was, and `show_number` tells what it shows.
 pub fn put_plain(value: Fixed, format: Format, cell: &mut [u8]) -> bool
     requires { cell.old ≡ spaces (length cell.old) }
     ensures shown { result ≡ true → cell.new ≡ shown_number value format.0 (length cell.old) }

@@ -68,14 +68,16 @@ fn put_sign(bytes: &mut [u8], end: usize, minus: bool) -> usize
     }
 }
 
-// Puts a number of units of the last place in front of a place, by its sign and its count of whole digits. The answer is
-// where it begins.
+// Puts a number of units of the last place in front of a place, by its sign and its count of whole digits. The answer
+// is where it begins.
 fn put_parts(bytes: &mut [u8], end: usize, minus: bool, number: u64, places: u8, whole: u8) -> usize
     requires whole { whole ≡ length (without_zeros (fixed_digits 10 (number / 10 ^ places))) }
     requires below { number / 10 ^ places < 10 ^ 10 }
     requires room { length (minus_sign minus) + whole + length (pointed (fixed_digits places number)) ≤ end }
     requires within { end ≤ length bytes.old }
-    ensures { Stands (minus_sign minus ++ (without_zeros (fixed_digits 10 (number / 10 ^ places)) ++ pointed (fixed_digits places number)))
+    ensures { Stands
+        (minus_sign minus
+        ++ (without_zeros (fixed_digits 10 (number / 10 ^ places)) ++ pointed (fixed_digits places number)))
         result end bytes.old bytes.new }
 {
     let (point, left) = put_behind(bytes, end, number, places);
@@ -90,8 +92,8 @@ fn has_sign(value: Fixed, number: u64) -> bool
     is_minus(value) && number != 0
 }
 
-/// Puts a number with the decimals that it has, without zeros at their end, in front of a place of other bytes, where it
-/// takes no more than there are before that place. Whether it did; where it didn't, the bytes are as they were.
+/// Puts a number with the decimals that it has, without zeros at their end, in front of a place of other bytes, where
+/// it takes no more than there are before that place. Whether it did; where it didn't, the bytes are as they were.
 pub fn put_exact(value: Fixed, bytes: &mut [u8], end: usize) -> bool
     requires { end ≤ length bytes.old }
     ensures fits { result ≡ nat_le (length (written value (decimals value))) end }

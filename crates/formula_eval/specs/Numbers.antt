@@ -18,7 +18,8 @@ IsNumber t at sight n = (d : Database) (s : Scene) → value_by d t at (world_of
 -- so has a function of those arguments
 abbrev pub IsCallNumber : Function → Trees → Place → Sight → ℤ → Type 0
 IsCallNumber f ts at sight n =
-    (d : Database) (s : Scene) → call_value d f (world_of sight s) (arguments_by d ts at (world_of sight s)) ≡ value.Num n
+    (d : Database) (s : Scene) →
+    call_value d f (world_of sight s) (arguments_by d ts at (world_of sight s)) ≡ value.Num n
 
 -- a range as the only argument of a function
 abbrev pub ranged : Extent → List Argument

@@ -71,7 +71,8 @@ fn add_value(total: Total, value: &Value) -> Option<Total>
 fn add_row<K: Look>(total: Total, span: Span, row: u16, look: &K) -> Option<Total>
     requires { row < height_of span }
     ensures { let cells = row_cells (span.first.row + row) span.first.col (width_of span) in
-        IfSome result (λ t. (l : List Item) → IsTotal total l → IsTotal t (l ++ items_in (K.sight look.now).values cells)) }
+        IfSome result (λ t. (l : List Item) → IsTotal total l →
+        IsTotal t (l ++ items_in (K.sight look.now).values cells)) }
 {
     let mut so_far = total;
     for col in 0..span.width() {

@@ -56,8 +56,8 @@ impl PaintedLine {
         }
     }
 
-    /// Adds a number in a width for which the line has room, where it goes into its cell at once. Whether it did; where it
-    /// didn't, the line is as it was.
+    /// Adds a number in a width for which the line has room, where it goes into its cell at once. Whether it did; where
+    /// it didn't, the line is as it was.
     pub fn add_plain(&mut self, number: Fixed, format: Format, width: u8) -> bool
         requires { length self.old + width ≤ 80 }
         ensures shown { result ≡ true → self.new ≡ self.old ++ shown_number number format.0 width }
