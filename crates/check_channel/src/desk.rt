@@ -2,7 +2,7 @@
 
 use check_cases::{Stop, Subject, Words, bytes_of, whole_of};
 use lics_text::{Memory, Text};
-use outside_world::{ByteList, Ext, FileName, MapShelf, Shelf, ShelfFault};
+use outside_world::{ByteBuffer, Ext, FileName, MapShelf, Shelf, ShelfFault};
 use std::alloc::Global;
 use std::io::{Error, Write};
 use text_channel::{Access, Channel, ChannelFault};
@@ -19,7 +19,7 @@ pub enum Answer {
     Done(bool),
     Number(Option<u32>),
     Text(Option<Text>),
-    File(Option<ByteList>),
+    File(Option<ByteBuffer>),
     Failed,
 }
 
@@ -76,16 +76,16 @@ fn access_of(word: &[u8]) -> Access {
 }
 
 // Bytes in hexadecimal digits.
-fn bytes_in(alloc: Global, words: &mut Words) -> Result<ByteList, Stop> {
+fn bytes_in(alloc: Global, words: &mut Words) -> Result<ByteBuffer, Stop> {
     let bytes = bytes_of(alloc, words.next())?;
-    Ok(ByteList::from_slice(alloc, bytes.as_slice())?)
+    Ok(ByteBuffer::from_slice(alloc, bytes.as_slice())?)
 }
 
 // A byte that is doubled so many times, with some bytes behind.
-fn doubled(alloc: Global, words: &mut Words) -> Result<ByteList, Stop> {
+fn doubled(alloc: Global, words: &mut Words) -> Result<ByteBuffer, Stop> {
     let count = words.count()?;
     let more = bytes_in(alloc, words)?;
-    let mut list = ByteList::from_slice(alloc, b"x")?;
+    let mut list = ByteBuffer::from_slice(alloc, b"x")?;
     for _ in 0..count {
         let copy = list.copy()?;
         list.put_at(list.len(), copy.bytes())?;
@@ -120,7 +120,7 @@ impl Desk {
     }
 
     // Puts a file on the shelf.
-    fn put(&mut self, name: FileName, file: ByteList) -> Result<Answer, Stop> {
+    fn put(&mut self, name: FileName, file: ByteBuffer) -> Result<Answer, Stop> {
         self.shelf.add(name, file)?;
         Ok(Answer::Done(true))
     }

@@ -4,7 +4,7 @@ ghost use Rattle.std.specs.Prelude.{◌≤◌, IfOk};
 use crate::states::{state_in, text_in};
 use check_cases::{Stop, Subject, Words, bytes_of};
 use grid_address::{Cell, Format, Span};
-use outside_world::ByteList;
+use outside_world::ByteBuffer;
 use print_report::{PrintFault, PrintSettings, report};
 use range_names::Names;
 use serial_date::Moment;
@@ -110,7 +110,7 @@ fn write_whole<W: Write>(bytes: &[u8], out: &mut W) -> Result<(), Error> {
 
 // Writes what a report holds, or why there is none.
 fn write_report<W: Write>(
-    made: Result<ByteList, PrintFault>,
+    made: Result<ByteBuffer, PrintFault>,
     is_whole: bool,
     out: &mut W,
 ) -> Result<(), Stop> {

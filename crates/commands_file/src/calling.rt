@@ -7,21 +7,21 @@ ghost use Rattle.wk1_file.specs.Saved.{file_bytes};
 
 use command_desk::CommandEnd;
 use desk_errors::CommandError;
-use outside_world::{ByteList, FileName, Memory, Shelf, ShelfFault};
+use outside_world::{ByteBuffer, FileName, Memory, Shelf, ShelfFault};
 use sheet_store::SavedSheet;
 use std::alloc::Global;
 use wk1_file::write;
 
 // The bytes of a sheet's file.
-fn bytes_of(alloc: Global, saved: &SavedSheet) -> Result<ByteList, Memory>
+fn bytes_of(alloc: Global, saved: &SavedSheet) -> Result<ByteBuffer, Memory>
     ensures { IfOk result (λ bytes. bytes ≡ file_bytes saved.now) }
 {
     let bytes = write(alloc, saved)?;
-    ByteList::from_slice(alloc, bytes.as_slice())
+    ByteBuffer::from_slice(alloc, bytes.as_slice())
 }
 
 // Bytes are written as a file; false tells that the call failed.
-fn put_bytes<S: Shelf>(name: &FileName, bytes: &ByteList, shelf: &mut S) -> Result<bool, Memory>
+fn put_bytes<S: Shelf>(name: &FileName, bytes: &ByteBuffer, shelf: &mut S) -> Result<bool, Memory>
     ensures put { IfOk result (λ done. HasCalled (puts name.now bytes.now) is_written done
         (shelf_view (S.holds shelf.old) (S.faults shelf.old)) (shelf_view (S.holds shelf.new) (S.faults shelf.new))) }
     ensures memory { OnErr result (HasBrokenOff

@@ -6,11 +6,11 @@ use std::marker::Model;
 
 /// A list of bytes, of any length and value.
 #[derive(Drop)]
-pub struct ByteList {
+pub struct ByteBuffer {
     bytes: Vec<u8>,
 }
 
-impl Model for ByteList {
+impl Model for ByteBuffer {
     ghost use Rattle.std.specs.Prelude.{ℕ, List};
 
     ghost Value = { List ℕ };
@@ -18,29 +18,29 @@ impl Model for ByteList {
     ghost view = { λ a. a.bytes.items };
 }
 
-impl ByteList {
+impl ByteBuffer {
     /// The empty list.
-    pub fn new(alloc: Global) -> ByteList
+    pub fn new(alloc: Global) -> ByteBuffer
         ensures { result ≡ [] }
     {
-        ByteList {
+        ByteBuffer {
             bytes: Vec::new(alloc),
         }
     }
 
     /// A list of these bytes.
-    pub fn from_slice(alloc: Global, bytes: &[u8]) -> Result<ByteList, Memory>
+    pub fn from_slice(alloc: Global, bytes: &[u8]) -> Result<ByteBuffer, Memory>
         ensures { IfOk result (λ list. list ≡ bytes.now) }
     {
         let bytes = Vec::from_slice(alloc, bytes)?;
-        Ok(ByteList { bytes })
+        Ok(ByteBuffer { bytes })
     }
 
     // A list of the bytes of a vector.
-    pub(crate) fn of_vec(bytes: Vec<u8>) -> ByteList
+    pub(crate) fn of_vec(bytes: Vec<u8>) -> ByteBuffer
         ensures { result ≡ bytes.items }
     {
-        ByteList { bytes }
+        ByteBuffer { bytes }
     }
 
     /// Adds a byte at the end. After want of memory the list is as it was.
@@ -87,10 +87,10 @@ impl ByteList {
     }
 
     /// An equal list.
-    pub fn copy(&self) -> Result<ByteList, Memory>
+    pub fn copy(&self) -> Result<ByteBuffer, Memory>
         ensures { IfOk result (λ list. list ≡ self.now) }
     {
         let bytes = self.bytes.clone()?;
-        Ok(ByteList { bytes })
+        Ok(ByteBuffer { bytes })
     }
 }

@@ -5,7 +5,7 @@ ghost use Rattle.outside_world.specs.FileNames.{dotted, file_name, has_ending, i
 ghost use Rattle.outside_world.specs.declared.file_name.Ext.TheVariants as of;
 ghost use Rattle.std.specs.Str.{bytes_eq};
 
-use byte_list::ByteList as Short;
+use byte_list::ByteList;
 use std::marker::Model;
 
 /// Which kind of file a name is for.
@@ -36,7 +36,7 @@ impl Ext {
 /// as `LOG.TXT`. Letters are folded onto capitals.
 #[derive(Drop)]
 pub struct FileName {
-    bytes: Short<12>,
+    bytes: ByteList<12>,
     ext: Ext,
 }
 
@@ -86,7 +86,7 @@ impl FileName {
     pub fn copy(&self) -> FileName
         ensures { result ≡ self.now }
     {
-        let mut bytes = Short::new();
+        let mut bytes = ByteList::new();
         bytes.put_all(self.bytes.bytes());
         FileName {
             bytes,
@@ -151,11 +151,11 @@ fn is_stem(stem: &[u8]) -> bool
 }
 
 // The capitals of the stem, and the extension.
-fn whole_name(ext: Ext, stem: &[u8]) -> Short<12>
+fn whole_name(ext: Ext, stem: &[u8]) -> ByteList<12>
     requires { length stem.now ≤ 8 }
     ensures { result ≡ map to_ascii_uppercase stem.now ++ dotted ext }
 {
-    let mut bytes = Short::new();
+    let mut bytes = ByteList::new();
     for at in 0..stem.len() {
         bytes.put_all(&[stem[at].to_ascii_uppercase()]);
     }

@@ -1,8 +1,8 @@
 ghost use Rattle.std.specs.Prelude.{◌≡◌, ◌≤◌, List, None, length};
 ghost use Rattle.outside_world.specs.Shelf.{HasCause};
 
-use crate::{ByteList, FileName, Shelf, ShelfFault};
-use byte_list::ByteList as Short;
+use crate::{ByteBuffer, FileName, Shelf, ShelfFault};
+use byte_list::ByteList;
 use std::alloc::Global;
 use std::fs::{Files, Metadata, OpenFile, OpenOptions};
 use std::io::{ErrorKind, Read, Write};
@@ -84,14 +84,14 @@ fn state_to_change(files: &impl Files, name: &str) -> io::Result<Option<Metadata
 }
 
 // The first bytes of a file, up to the most.
-fn read_file(files: &impl Files, alloc: Global, name: &str) -> io::Result<Option<ByteList>> {
+fn read_file(files: &impl Files, alloc: Global, name: &str) -> io::Result<Option<ByteBuffer>> {
     if state_of(files, name)?.is_none() {
         return Ok(None);
     }
     let mut bytes = Vec::new(alloc);
     let file = fs::open(files, name)?;
     file.take(MOST_BYTES).read_to_end(&mut bytes)?;
-    Ok(Some(ByteList::of_vec(bytes)))
+    Ok(Some(ByteBuffer::of_vec(bytes)))
 }
 
 // Makes a file of these bytes, which are on the disk when it answers. There must be none of the name.
@@ -139,8 +139,8 @@ fn remove_file(files: &impl Files, name: &str) -> io::Result<bool> {
 }
 
 // What is written where the file of this name is to be replaced.
-fn beside(name: &FileName) -> Short<19> {
-    let mut bytes = Short::new();
+fn beside(name: &FileName) -> ByteList<19> {
+    let mut bytes = ByteList::new();
     bytes.put_all(name.bytes());
     bytes.put_all(BESIDE);
     bytes
@@ -159,7 +159,7 @@ impl<F: Files + Drop> Shelf for HostShelf<F> {
         Ok(self.answer(outcome)?.is_some())
     }
 
-    fn get(&mut self, name: &FileName) -> Result<Option<ByteList>, ShelfFault> {
+    fn get(&mut self, name: &FileName) -> Result<Option<ByteBuffer>, ShelfFault> {
         let outcome = match text_of(name.bytes()) {
             Ok(text) => read_file(&self.files, self.alloc, text),
             Err(fault) => Err(fault),
@@ -167,7 +167,7 @@ impl<F: Files + Drop> Shelf for HostShelf<F> {
         self.answer(outcome)
     }
 
-    fn put(&mut self, name: &FileName, bytes: &ByteList) -> Result<(), ShelfFault> {
+    fn put(&mut self, name: &FileName, bytes: &ByteBuffer) -> Result<(), ShelfFault> {
         let beside = beside(name);
         let outcome = match (text_of(name.bytes()), text_of(beside.bytes())) {
             (Ok(text), Ok(other)) => replace_file(&self.files, text, other, bytes.bytes()),
@@ -203,7 +203,7 @@ mod tests {
     type Tested = HostShelf<HostRuntime>;
 
     // The bytes that a file holds.
-    fn held(shelf: &mut Tested, name: &FileName) -> Option<ByteList> {
+    fn held(shelf: &mut Tested, name: &FileName) -> Option<ByteBuffer> {
         shelf.get(name).unwrap_or(None)
     }
 
@@ -226,7 +226,7 @@ mod tests {
         shelf: &mut Tested,
         name: &FileName,
     ) -> Result<(), Fail> {
-        let first = ByteList::from_slice(rt.alloc(), b"first")?;
+        let first = ByteBuffer::from_slice(rt.alloc(), b"first")?;
         fs::write(rt, LOWER, b"other".as_slice())?;
         assert_eq!(rt; shelf.has(name), Ok(false));
         assert!(rt; matches!(shelf.get(name), Ok(None)));
@@ -236,7 +236,7 @@ mod tests {
         assert!(rt; holds(shelf, name, b"first"));
         fs::set_permissions(rt, NAME, fs::Permissions::from_mode(0o640))?;
         fs::write(rt, WRITTEN_BESIDE, b"broken off".as_slice())?;
-        assert_eq!(rt; shelf.put(name, &ByteList::new(rt.alloc())), Ok(()));
+        assert_eq!(rt; shelf.put(name, &ByteBuffer::new(rt.alloc())), Ok(()));
         assert!(rt; holds(shelf, name, b""));
         assert_eq!(rt; fs::metadata(rt, NAME)?.permissions().mode() & 0o777, 0o640);
         assert!(rt; fs::metadata(rt, WRITTEN_BESIDE).is_err());
@@ -252,7 +252,7 @@ mod tests {
         shelf: &mut Tested,
         name: &FileName,
     ) -> Result<(), Fail> {
-        let second = ByteList::from_slice(rt.alloc(), b"second")?;
+        let second = ByteBuffer::from_slice(rt.alloc(), b"second")?;
         fs::write(rt, NAME, b"first".as_slice())?;
         fs::create_dir(rt, WRITTEN_BESIDE)?;
         assert_eq!(rt; shelf.put(name, &second), Err(ShelfFault::Failed));
@@ -282,7 +282,7 @@ mod tests {
             assert_eq!(rt; shelf.has(name), Err(ShelfFault::Failed));
             assert!(rt; matches!(shelf.get(name), Err(ShelfFault::Failed)));
             assert_eq!(rt;
-                shelf.put(name, &ByteList::new(rt.alloc())),
+                shelf.put(name, &ByteBuffer::new(rt.alloc())),
                 Err(ShelfFault::Failed)
             );
             assert_eq!(rt; shelf.remove(name), Err(ShelfFault::Failed));

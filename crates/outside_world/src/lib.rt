@@ -16,7 +16,7 @@ mod map_shelf;
 mod notes;
 mod shelf;
 
-pub use bytes::ByteList;
+pub use bytes::ByteBuffer;
 pub use clock::{Clock, ListClock};
 pub use faults::{Failed, ShelfFault};
 pub use file_name::{Ext, FileName};

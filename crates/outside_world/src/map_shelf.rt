@@ -6,7 +6,7 @@ ghost use Rattle.outside_world.specs.declared.faults.ShelfFault.TheVariants as f
 ghost use Rattle.outside_world.specs.Journal.{files_of, told_by};
 
 use crate::file_name::is_same;
-use crate::{ByteList, FileName, Shelf, ShelfFault};
+use crate::{ByteBuffer, FileName, Shelf, ShelfFault};
 use lics_text::Memory;
 use std::collections::VecDeque;
 
@@ -14,13 +14,13 @@ use std::collections::VecDeque;
 #[derive(Drop)]
 pub(crate) enum Entry {
     // A file was put there, by no call of the shelf.
-    Added(FileName, ByteList),
+    Added(FileName, ByteBuffer),
     // A call was done that changed no file.
     Asked,
-    Put(FileName, ByteList),
+    Put(FileName, ByteBuffer),
     Removed(FileName),
     // A call failed, and this is what its file then held.
-    Failed(Option<ByteList>),
+    Failed(Option<ByteBuffer>),
 }
 
 /// A shelf in memory. The calls with the given numbers, counted from 1, fail, and leave the files as they were. It
@@ -50,7 +50,7 @@ impl MapShelf {
     }
 
     /// Puts a file there, by no call that is counted. After want of memory the files are as they were.
-    pub fn add(&mut self, name: FileName, bytes: ByteList) -> Result<(), Memory>
+    pub fn add(&mut self, name: FileName, bytes: ByteBuffer) -> Result<(), Memory>
         ensures ok { OnOk result (shelf_told self.new ≡ holding name (Some bytes) (shelf_told self.old)) }
         ensures err { OnErr result (shelf_told self.new ≡ shelf_told self.old) }
         ensures faults { shelf_faults self.new ≡ shelf_faults self.old }
@@ -61,7 +61,7 @@ impl MapShelf {
 }
 
 // The newest entry that tells of a file.
-fn held<'a>(journal: &'a VecDeque<Entry>, name: &FileName) -> Option<&'a ByteList>
+fn held<'a>(journal: &'a VecDeque<Entry>, name: &FileName) -> Option<&'a ByteBuffer>
     ensures { option_copied result ≡ file_in name.now (files_of journal.now.items) }
 {
     for entry in journal {
@@ -83,7 +83,7 @@ fn held<'a>(journal: &'a VecDeque<Entry>, name: &FileName) -> Option<&'a ByteLis
 }
 
 // What a file holds.
-fn copy_held(journal: &VecDeque<Entry>, name: &FileName) -> Result<Option<ByteList>, Memory>
+fn copy_held(journal: &VecDeque<Entry>, name: &FileName) -> Result<Option<ByteBuffer>, Memory>
     ensures { IfOk result (λ copy. copy ≡ file_in name.now (files_of journal.now.items)) }
 {
     match held(journal, name) {
@@ -157,7 +157,7 @@ impl Shelf for MapShelf {
         Ok(there)
     }
 
-    fn get(&mut self, name: &FileName) -> Result<Option<ByteList>, ShelfFault> {
+    fn get(&mut self, name: &FileName) -> Result<Option<ByteBuffer>, ShelfFault> {
         if self.begin() {
             return Err(self.fail(name));
         }
@@ -170,7 +170,7 @@ impl Shelf for MapShelf {
 
     // A put that fails leaves its file too.
     #[tactic(auto, using(crate::proofs::Found::unchanged_put))]
-    fn put(&mut self, name: &FileName, bytes: &ByteList) -> Result<(), ShelfFault>
+    fn put(&mut self, name: &FileName, bytes: &ByteBuffer) -> Result<(), ShelfFault>
         ensures held { HasPut name.now bytes.now (Some (shelf_told self.old)) (Some (shelf_told self.new)) result }
         ensures cause { HasCause (shelf_faults self.old) (shelf_faults self.new) result }
         ensures kept { OnErr result ((shelf_told self.new).files ≡ (shelf_told self.old).files) }

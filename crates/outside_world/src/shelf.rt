@@ -2,7 +2,7 @@ ghost use Rattle.std.specs.Prelude.{◌≡◌, ◌≤◌, ◌+◌, ℕ, List, Op
 ghost use Rattle.std.specs.FinMap as map;
 ghost use Rattle.outside_world.specs.Shelf.{file_in, has_file, HasCause, HasPut, HasRead, HasRemoved};
 
-use crate::{ByteList, FileName, ShelfFault};
+use crate::{ByteBuffer, FileName, ShelfFault};
 
 /// Where files lie: by what it holds, where it tells it, and by the count of its faults, which never falls.
 /// What it tells is its files and the answers of its calls. A call that doesn't answer `Memory` adds its answer;
@@ -20,13 +20,13 @@ pub trait Shelf {
         ensures cause { HasCause (faults self.old) (faults self.new) result };
 
     /// The bytes of a file, and none exactly where there is no such file. No file is changed.
-    fn get(&mut self, name: &FileName) -> Result<Option<ByteList>, ShelfFault>
+    fn get(&mut self, name: &FileName) -> Result<Option<ByteBuffer>, ShelfFault>
         ensures held { HasRead (file_in name.now) name.now (holds self.old) (holds self.new) result }
         ensures cause { HasCause (faults self.old) (faults self.new) result };
 
     /// Writes a file, in the place of one of that name. A put that fails leaves that name's file open, and all
     /// others unchanged.
-    fn put(&mut self, name: &FileName, bytes: &ByteList) -> Result<(), ShelfFault>
+    fn put(&mut self, name: &FileName, bytes: &ByteBuffer) -> Result<(), ShelfFault>
         ensures held { HasPut name.now bytes.now (holds self.old) (holds self.new) result }
         ensures cause { HasCause (faults self.old) (faults self.new) result };
 

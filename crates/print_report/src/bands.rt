@@ -2,12 +2,12 @@
 ghost use Rattle.std.specs.Prelude.{◌≡◌, ◌≤◌, ◌∷◌, length, take, drop};
 ghost use Rattle.print_report.specs.Bands.{bands, columns_of, wide, width_in};
 
-use byte_list::ByteList as Short;
+use byte_list::ByteList;
 use grid_address::Span;
 use sheet_store::{MOST_WIDTH, SavedSheet};
 
 /// Columns, from left to right.
-pub type Columns = Short<256>;
+pub type Columns = ByteList<256>;
 
 /// A column's width: its own or the sheet's.
 pub fn width_in(saved: &SavedSheet, col: u8) -> u8

@@ -5,7 +5,7 @@ ghost use Rattle.cell_format.specs.Numbers.{placed, shown_number};
 ghost use Rattle.formula_text.specs.Printed.{printed};
 ghost use Rattle.print_report.specs.Cells.{cell_text, content_text, format_in, formula_text, is_repeated, label_text, padded, state_text, value_text, visible_text};
 
-use byte_list::ByteList as Short;
+use byte_list::ByteList;
 use cell_format::{show_label, show_number};
 use fixed_value::Fixed;
 use formula_text::print;
@@ -16,7 +16,7 @@ use range_names::Names;
 use sheet_store::{CellState, MOST_WIDTH, SavedSheet};
 
 /// A row of the report while it is put together.
-pub type Row = Short<255>;
+pub type Row = ByteList<255>;
 
 static BLANKS: [u8; MAX_LEN] = [b' '; MAX_LEN];
 

@@ -3,7 +3,7 @@ ghost use Rattle.std.specs.Prelude.{◌≡◌, ◌≤◌, ◌++◌, length, OnOk
 ghost use Rattle.print_report.specs.Lines.{empty_lines, line, line_end, trimmed, with_margin};
 
 use lics_text::Memory;
-use outside_world::ByteList;
+use outside_world::ByteBuffer;
 
 static BLANKS: [u8; 255] = [b' '; 255];
 
@@ -11,7 +11,7 @@ const LINE_END: &[u8] = b"\r\n";
 
 // Adds bytes at the end.
 #[tactic(auto, using(crate::proofs::Lining::at_end))]
-fn append(out: &mut ByteList, bytes: &[u8]) -> Result<(), Memory>
+fn append(out: &mut ByteBuffer, bytes: &[u8]) -> Result<(), Memory>
     ensures { OnOk result (out.new ≡ out.old ++ bytes.now) }
 {
     out.put_at(out.len(), bytes)?;
@@ -20,7 +20,7 @@ fn append(out: &mut ByteList, bytes: &[u8]) -> Result<(), Memory>
 
 // Adds so many blanks.
 #[tactic(auto, using(crate::proofs::Lining::margin_front))]
-fn put_blanks(out: &mut ByteList, count: u8) -> Result<(), Memory>
+fn put_blanks(out: &mut ByteBuffer, count: u8) -> Result<(), Memory>
     ensures { OnOk result (out.new ≡ out.old ++ replicate count 32) }
 {
     append(out, &BLANKS[..usize::from(count)])
@@ -38,7 +38,7 @@ fn trimmed(text: &[u8]) -> &[u8]
 }
 
 /// Adds an empty line.
-pub fn put_line_end(out: &mut ByteList) -> Result<(), Memory>
+pub fn put_line_end(out: &mut ByteBuffer) -> Result<(), Memory>
     ensures { OnOk result (out.new ≡ out.old ++ line_end) }
 {
     append(out, LINE_END)
@@ -46,7 +46,7 @@ pub fn put_line_end(out: &mut ByteList) -> Result<(), Memory>
 
 // Adds a text behind the blanks of the margin.
 #[tactic(auto, using(crate::proofs::Lining::margin_put))]
-fn put_text(out: &mut ByteList, left: u8, text: &[u8]) -> Result<(), Memory>
+fn put_text(out: &mut ByteBuffer, left: u8, text: &[u8]) -> Result<(), Memory>
     requires { length text.now ≡ 0 → ⊥ }
     ensures { OnOk result (out.new ≡ out.old ++ with_margin left text.now) }
 {
@@ -55,7 +55,7 @@ fn put_text(out: &mut ByteList, left: u8, text: &[u8]) -> Result<(), Memory>
 }
 
 /// Adds a line with the blanks of the margin before it, and an empty one where the text is empty or all blanks.
-pub fn put_line(out: &mut ByteList, left: u8, text: &[u8]) -> Result<(), Memory>
+pub fn put_line(out: &mut ByteBuffer, left: u8, text: &[u8]) -> Result<(), Memory>
     ensures { OnOk result (out.new ≡ out.old ++ line left text.now) }
 {
     let text = trimmed(text);
@@ -67,7 +67,7 @@ pub fn put_line(out: &mut ByteList, left: u8, text: &[u8]) -> Result<(), Memory>
 }
 
 /// Adds so many empty lines.
-pub fn put_empty_lines(out: &mut ByteList, count: u8) -> Result<(), Memory>
+pub fn put_empty_lines(out: &mut ByteBuffer, count: u8) -> Result<(), Memory>
     ensures { OnOk result (out.new ≡ out.old ++ empty_lines count) }
 {
     for _ in 0..count {

@@ -11,13 +11,13 @@ use crate::lines::put_empty_lines;
 use crate::rows::put_rows;
 use crate::running::put_running;
 use lics_text::Memory;
-use outside_world::ByteList;
+use outside_world::ByteBuffer;
 
 // The most bytes of a report.
 const LIMIT: usize = 67_108_864;
 
 // Adds the line of a page's head or foot.
-fn put_edge(out: &mut ByteList, job: &Job, number: u64, text: &[u8]) -> Result<(), Memory>
+fn put_edge(out: &mut ByteBuffer, job: &Job, number: u64, text: &[u8]) -> Result<(), Memory>
     ensures { let p = printing job.now.set.now job.now.saved.now job.now.range job.now.moment.day in
         OnOk result (out.new ≡ out.old ++ running_line p number text.now) }
 {
@@ -28,7 +28,7 @@ fn put_edge(out: &mut ByteList, job: &Job, number: u64, text: &[u8]) -> Result<(
 
 // Adds a page.
 fn put_page(
-    out: &mut ByteList,
+    out: &mut ByteBuffer,
     job: &Job,
     band: &[u8],
     number: u64,
@@ -54,7 +54,7 @@ fn put_page(
 
 // Adds so many pages of a band, from the range's first row on.
 fn put_pages(
-    out: &mut ByteList,
+    out: &mut ByteBuffer,
     job: &Job,
     band: &[u8],
     number: u64,
@@ -95,7 +95,12 @@ fn page_count(job: &Job, rows: u8) -> u16
 }
 
 /// Adds the pages of all bands of the columns.
-pub fn put_bands(out: &mut ByteList, job: &Job, columns: &[u8], rows: u8) -> Result<(), PrintFault>
+pub fn put_bands(
+    out: &mut ByteBuffer,
+    job: &Job,
+    columns: &[u8],
+    rows: u8,
+) -> Result<(), PrintFault>
     requires some { 1 ≤ rows }
     requires rows { rows ≡ page_rows job.now.set.now }
     requires columns { length columns.now ≤ 256 }

@@ -7,7 +7,7 @@ use crate::job::Job;
 use crate::pages::put_bands;
 use crate::{PrintFault, PrintSettings};
 use grid_address::Span;
-use outside_world::ByteList;
+use outside_world::ByteBuffer;
 use serial_date::Moment;
 use sheet_store::SavedSheet;
 use std::alloc::Global;
@@ -43,7 +43,7 @@ pub fn report(
     set: &PrintSettings,
     saved: &SavedSheet,
     now: &Moment,
-) -> Result<ByteList, PrintFault>
+) -> Result<ByteBuffer, PrintFault>
     ensures { Gives result (report (printing set.now saved.now range now.now.day)) }
 {
     if is_too_small(set) {
@@ -55,7 +55,7 @@ pub fn report(
         range,
         moment: *now,
     };
-    let mut out = ByteList::new(alloc);
+    let mut out = ByteBuffer::new(alloc);
     let columns = columns_of(saved, range);
     put_bands(&mut out, &job, columns.bytes(), page_rows(set))?;
     Ok(out)

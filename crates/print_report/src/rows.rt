@@ -11,7 +11,7 @@ use crate::job::Job;
 use crate::lines::{put_line, put_line_end};
 use grid_address::{Cell, ROWS};
 use lics_text::Memory;
-use outside_world::ByteList;
+use outside_world::ByteBuffer;
 use sheet_store::SavedSheet;
 
 // The columns of a band beside each other.
@@ -73,7 +73,7 @@ fn row_text(saved: &SavedSheet, width: u8, band: &[u8], row: u16) -> Row
 }
 
 // Adds the line of a row, and an empty one below the range.
-fn put_row(out: &mut ByteList, job: &Job, band: &[u8], row: u32) -> Result<(), Memory>
+fn put_row(out: &mut ByteBuffer, job: &Job, band: &[u8], row: u32) -> Result<(), Memory>
     requires { wide job.now.saved.now band.now ≤ 255 }
     ensures { let p = printing job.now.set.now job.now.saved.now job.now.range job.now.moment.day in
         OnOk result (out.new ≡ out.old ++ row_line p band.now row) }
@@ -89,7 +89,7 @@ fn put_row(out: &mut ByteList, job: &Job, band: &[u8], row: u32) -> Result<(), M
 
 /// Adds so many rows from one on.
 pub fn put_rows(
-    out: &mut ByteList,
+    out: &mut ByteBuffer,
     job: &Job,
     band: &[u8],
     row: u32,

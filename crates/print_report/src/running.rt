@@ -6,15 +6,15 @@ ghost use Rattle.print_report.specs.Lines.{line};
 ghost use Rattle.print_report.specs.Running.{bar_in, before_bar, behind_bar, day_text, filled, laid, left_laid, middle_laid, overlaid, part, right_laid, running};
 
 use crate::lines::put_line;
-use byte_list::ByteList as Short;
+use byte_list::ByteList;
 use cell_format::show_number;
 use fixed_value::Fixed;
 use grid_address::{Format, decimal_text};
 use lics_text::{Line, Memory};
-use outside_world::ByteList;
+use outside_world::ByteBuffer;
 
 // A part of a line.
-type Part = Short<255>;
+type Part = ByteList<255>;
 
 // The place of the first `|`.
 fn bar_in(text: &[u8]) -> Option<usize>
@@ -162,7 +162,7 @@ fn lay_all(over: &mut [u8], number: u64, day: Option<u32>, text: &[u8])
 
 /// Adds the line of a page's head or foot.
 pub fn put_running(
-    out: &mut ByteList,
+    out: &mut ByteBuffer,
     left: u8,
     width: u8,
     number: u64,

@@ -1,6 +1,6 @@
 // Runs with files: a start file, and the commands below File. The expected values come from the rules of worksheet
 // files and an independent model of the program.
-use outside_world::{ByteList, FileName, ListClock, ListKeys, ListNotes, MapShelf, Shelf};
+use outside_world::{ByteBuffer, FileName, ListClock, ListKeys, ListNotes, MapShelf, Shelf};
 use screen_show::{Display, Kind, Recorder};
 use serial_date::Moment;
 use sheet_run::{Words, run};
@@ -93,7 +93,10 @@ fn name_of<R: Abort>(rt: &R, name: &str) -> FileName {
 fn shelf_of<R: AllocGlobal + Abort>(rt: &R, row: &Row) -> Result<MapShelf, Fail> {
     let mut shelf = MapShelf::new(row.failing.to_vec(rt.alloc())?);
     for (name, bytes) in row.files {
-        shelf.add(name_of(rt, name), ByteList::from_slice(rt.alloc(), bytes)?)?;
+        shelf.add(
+            name_of(rt, name),
+            ByteBuffer::from_slice(rt.alloc(), bytes)?,
+        )?;
     }
     Ok(shelf)
 }
@@ -379,7 +382,10 @@ fn check_all<R: AllocGlobal + Abort>(rt: &R, rows: &[Row]) -> Result<(), Fail> {
 // A shelf with this one file.
 fn shelf_with<R: AllocGlobal + Abort>(rt: &R, bytes: &[u8]) -> Result<MapShelf, Fail> {
     let mut shelf = MapShelf::new(Vec::new(rt.alloc()));
-    shelf.add(name_of(rt, "PAY"), ByteList::from_slice(rt.alloc(), bytes)?)?;
+    shelf.add(
+        name_of(rt, "PAY"),
+        ByteBuffer::from_slice(rt.alloc(), bytes)?,
+    )?;
     Ok(shelf)
 }
 

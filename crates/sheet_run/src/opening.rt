@@ -4,7 +4,7 @@ ghost use Rattle.commands_file.specs.Calls.{shelf_view};
 ghost use Rattle.sheet_run.specs.Beginning.{HasBegunOr, HasLoaded, HasReadFile, HasReadSheet, IsDeskOf};
 
 use command_desk::Desk;
-use outside_world::{ByteList, Clock, FileName, Memory, Shelf, ShelfFault};
+use outside_world::{ByteBuffer, Clock, FileName, Memory, Shelf, ShelfFault};
 use session_core::Session;
 use sheet_store::SavedSheet;
 use std::alloc::Global;
@@ -30,7 +30,7 @@ pub enum NotBegun {
 }
 
 // The sheet that bytes are read as.
-fn read_sheet(alloc: Global, bytes: &ByteList) -> Result<SavedSheet, NotBegun>
+fn read_sheet(alloc: Global, bytes: &ByteBuffer) -> Result<SavedSheet, NotBegun>
     ensures { HasReadSheet bytes.now result }
 {
     match read(alloc, bytes.bytes()) {

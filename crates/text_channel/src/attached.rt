@@ -1,4 +1,4 @@
-use outside_world::{ByteList, FileName};
+use outside_world::{ByteBuffer, FileName};
 
 /// What a channel may do with its file.
 #[derive(Clone, Copy, PartialEq, Eq, Debug)]
@@ -13,6 +13,6 @@ pub enum Access {
 pub struct Attached {
     pub name: FileName,
     pub access: Access,
-    pub bytes: ByteList,
+    pub bytes: ByteBuffer,
     pub at: usize,
 }

@@ -6,7 +6,7 @@ ghost use Rattle.text_channel.specs.Lines.{next_bytes, next_line};
 use crate::attached::{Access, Attached};
 use crate::lines::{next_bytes, next_line, shown_text};
 use lics_text::{MAX_LEN, Memory, Text};
-use outside_world::{ByteList, FileName, Shelf, ShelfFault};
+use outside_world::{ByteBuffer, FileName, Shelf, ShelfFault};
 use std::alloc::Global;
 use std::marker::Model;
 
@@ -212,7 +212,7 @@ impl Channel {
                 self.attached = Some(Attached {
                     name,
                     access,
-                    bytes: ByteList::new(alloc),
+                    bytes: ByteBuffer::new(alloc),
                     at: 0,
                 });
                 Ok(true)
