@@ -1,5 +1,5 @@
 -- Where two screens differ.
-use Rattle.std.specs.Prelude.{◌≡◌, ⊤, ℕ, suc, ◌+◌, Bool, true, false, ◌==◌, if◌then◌else◌, List, [], ◌∷◌}
+use Rattle.std.specs.Prelude.{◌≡◌, ⊤, ℕ, suc, ◌+◌, Bool, true, false, ◌==◌, if◌then◌else◌, List, [], ◌∷◌, Some, slice_get}
 
 -- a line after the bytes of `after` were put where `before` and `after` differ
 abbrev pub patched_line : List ℕ → List ℕ → List ℕ → List ℕ
@@ -59,3 +59,7 @@ Agrees [] after grid = ⊤
 Agrees (b ∷ before) [] grid = ⊤
 Agrees (b ∷ before) (a ∷ after) [] = ⊤
 Agrees (b ∷ before) (a ∷ after) (x ∷ grid) = AgreesInLine b a x × Agrees before after grid
+
+-- at each line that is not in the set of lines, two screens have the same line
+abbrev pub Unchanged : List Bool → List (List ℕ) → List (List ℕ) → Type 0
+Unchanged lines before after = (row : ℕ) → slice_get lines row ≡ Some false → slice_get before row ≡ slice_get after row

@@ -1,6 +1,8 @@
 ghost use Rattle.std.specs.Prelude.{◌≡◌, ◌<◌, ◌≤◌, Some, length, slice_get, slice_set, ◌+◌};
+ghost use Rattle.screen_show.specs.Changes.{Unchanged};
 ghost use Rattle.screen_show.specs.Grid.{IsGrid, empty_grid, put_in_grid};
 
+use crate::LineSet;
 use std::marker::Model;
 
 /// The bytes of a screen: 25 lines of 80.
@@ -68,5 +70,17 @@ impl Grid {
         ensures { self.new ≡ slice_set self.old row line }
     {
         self.lines[row as usize] = line;
+    }
+    /// Copies the lines of a set from a grid that has the others in common with this one, so that this grid becomes that
+    /// one.
+    pub fn copy_lines(&mut self, from: &Grid, lines: &LineSet)
+        requires { Unchanged lines.now self.old from.now }
+        ensures { self.new ≡ from.now }
+    {
+        for row in 0..25u8 {
+            if lines.contains(row) {
+                self.lines[row as usize] = from.lines[row as usize];
+            }
+        }
     }
 }

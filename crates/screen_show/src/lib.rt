@@ -5,6 +5,7 @@ mod ansi;
 mod display;
 mod grid;
 mod last;
+mod line_set;
 mod page;
 mod recorder;
 mod sender;
@@ -13,9 +14,10 @@ pub use ansi::AnsiDisplay;
 pub use display::{Display, Kind};
 pub use grid::Grid;
 pub use last::LastDisplay;
+pub use line_set::LineSet;
 pub use page::PageDisplay;
 pub use recorder::Recorder;
-pub use sender::send;
+pub use sender::send_lines;
 
 #[cfg(test)]
 mod tests {
@@ -36,13 +38,16 @@ mod tests {
     fn changed_runs_alone_are_put(rt: HostRuntime) -> Result<(), Fail> {
         let mut recorder = Recorder::new(rt.alloc(), Kind::Pages, 3, Vec::new(rt.alloc()))?;
         let blank = Grid::empty();
+        let all = LineSet::all();
+        let mut last = LineSet::none();
+        last.insert(24);
         let first = grid_with(24, b"abc");
         let second = grid_with(24, b"xby");
-        send(&blank, &first, &mut recorder)?;
+        send_lines(&blank, &first, &all, &mut recorder)?;
         assert_eq!(rt; (recorder.puts(), recorder.bytes_put()), (1, 3));
-        send(&first, &second, &mut recorder)?;
+        send_lines(&first, &second, &last, &mut recorder)?;
         assert_eq!(rt; (recorder.puts(), recorder.bytes_put()), (3, 5));
-        send(&second, &second, &mut recorder)?;
+        send_lines(&second, &second, &all, &mut recorder)?;
         assert_eq!(rt; (recorder.puts(), recorder.bytes_put()), (3, 5));
         let frames = recorder.frames();
         assert_eq!(rt; frames.len(), 3);

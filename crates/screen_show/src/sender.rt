@@ -1,11 +1,11 @@
 // Sends a screen to a display, by what changed.
 ghost use Rattle.std.specs.Prelude.{◌≡◌, ◌≤◌, ◌<◌, ◌+◌, length, take, drop};
 ghost use Rattle.outside_world.specs.Causes.{HasCause};
-ghost use Rattle.screen_show.specs.Changes.{differing_front};
+ghost use Rattle.screen_show.specs.Changes.{differing_front, Unchanged};
 ghost use Rattle.screen_show.specs.Display.{Puts, Finishes, Sends, TellsSoundly};
 ghost use Rattle.screen_show.specs.Lines.{SendsLine};
 
-use crate::{Display, Grid};
+use crate::{Display, Grid, LineSet};
 use outside_world::Failed;
 
 fn put_run(display: &mut dyn Display, row: u8, col: usize, bytes: &[u8]) -> Result<(), Failed>
@@ -88,10 +88,17 @@ fn send_line(before: &[u8], after: &[u8], row: u8, display: &mut dyn Display) ->
     Ok(())
 }
 
-/// Sends the screen `after` to a display that shows `before`: it puts the changed runs of each line,
-/// a run being a longest stretch of bytes of one line in which the two differ, and ends the frame.
+/// Sends the screen `after` to a display that shows `before`, where the two have all lines in common that are not in the
+/// set: it puts the changed runs of each line of the set, a run being a longest stretch of bytes of one line in which the
+/// two differ, and ends the frame.
 /// It fails only where the display's count of faults rose, and has then added no frame.
-pub fn send(before: &Grid, after: &Grid, display: &mut dyn Display) -> Result<(), Failed>
+pub fn send_lines(
+    before: &Grid,
+    after: &Grid,
+    lines: &LineSet,
+    display: &mut dyn Display,
+) -> Result<(), Failed>
+    requires { Unchanged lines.now before.now after.now }
     ensures shown { Sends before.now after.now (seen display.old).told (seen display.new).told result }
     ensures kind { (seen display.new).kind ≡ (seen display.old).kind }
     ensures cause { HasCause (seen display.old).faults (seen display.new).faults result }
@@ -100,7 +107,9 @@ pub fn send(before: &Grid, after: &Grid, display: &mut dyn Display) -> Result<()
     after.is_whole();
     is_sound(display);
     for row in 0..25u8 {
-        send_line(before.line(row), after.line(row), row, display)?;
+        if lines.contains(row) {
+            send_line(before.line(row), after.line(row), row, display)?;
+        }
     }
     end_frame(display)
 }

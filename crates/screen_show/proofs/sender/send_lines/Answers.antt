@@ -1,6 +1,6 @@
 use Rattle.std.proofs.Common.{rules, arith}
 use Rattle.screen_show.proofs.GridSending.{grid_more, grid_ends}
-use Rattle.screen_show.proofs.sender.send.Goals as goal
+use Rattle.screen_show.proofs.sender.send_lines.Goals as goal
 
 pub loop-row-preserved : goal.loop-row-preserved
 loop-row-preserved g c = record {

@@ -1,6 +1,6 @@
 use Rattle.std.proofs.Common.{◌≡◌}
 use Rattle.screen_show.proofs.GridSending.{SendingGrid}
-use Rattle.screen_show.proofs.sender.send.Given as goal
+use Rattle.screen_show.proofs.sender.send_lines.Given as goal
 
 abbrev pub invariant-loop-row : goal.invariant-loop-row
 invariant-loop-row g l =
