@@ -1,7 +1,7 @@
 -- How far two lines differ, and what that makes of a patched line and of the counts.
-use Rattle.std.proofs.Common.{◌≡◌, ℕ, suc, ◌+◌, ◌<◌, ◌≤◌, true, false, List, [], ◌∷◌, ◌++◌, length, take, drop, get_or, refl, ap, ◌∙◌, arith, inl, inr, zero-add}
+use Rattle.std.proofs.Common.{◌≡◌, ℕ, suc, ◌+◌, ◌<◌, ◌≤◌, true, false, List, [], ◌∷◌, ◌++◌, length, take, drop, get_or, refl, ap, sym, ◌∙◌, arith, inl, inr, zero-add}
 use Rattle.std.specs.Prelude.{◌==◌}
-use Rattle.std.proofs.lemmas.List.{drop_more, drop_all}
+use Rattle.std.proofs.lemmas.List.{drop_more, drop_all, drop-take, take-append-drop, take-take}
 use Rattle.std.proofs.lemmas.Bool.{cases_Bool, eq-eqb, ne_eqb}
 use Rattle.screen_show.specs.Changes.{patched_line, line_differences, line_runs, runs_after, differing_front}
 
@@ -18,6 +18,21 @@ pub front_goes_on : (before after : List ℕ) (n : ℕ) → n < length before �
 front_goes_on before after n h k apart =
     let test : (get_or before n 0 == get_or after n 0) ≡ false = ne_eqb _ _ apart in
     rw (drop_more before n 0 h, drop_more after n 0 k, test) (omega arith)
+
+-- where two lists differ at a place, they differ from it on
+pub front_begins : (before after : List ℕ) (n : ℕ) → n < length before → n < length after → (get_or before n 0 ≡ get_or after n 0 → ⊥) →
+    0 < differing_front (drop n before) (drop n after)
+front_begins before after n h k apart = omega (arith, front_goes_on before after n h k apart)
+
+take_apart : (n m : ℕ) (xs : List ℕ) → take (n + m) xs ≡ take n xs ++ take m (drop n xs)
+take_apart n m xs =
+    sym (take-append-drop n (take (n + m) xs)) ∙ ap (λ (l : List ℕ). l ++ drop n (take (n + m) xs)) (take-take n (n + m) xs (omega arith))
+    ∙ ap (λ (l : List ℕ). take n xs ++ l) (drop-take n m xs)
+
+-- two lists that begin alike, and go on alike
+pub take_further : (n m : ℕ) (xs ys : List ℕ) → take n xs ≡ take n ys → take m (drop n xs) ≡ take m (drop n ys) → take (n + m) xs ≡ take (n + m) ys
+take_further n m xs ys first more =
+    take_apart n m xs ∙ ap (λ (l : List ℕ). l ++ take m (drop n xs)) first ∙ ap (λ (l : List ℕ). take n ys ++ l) more ∙ sym (take_apart n m ys)
 
 pub run_line : (before after line : List ℕ) → length before ≡ length after → length line ≡ length after →
     patched_line before after line ≡ take (differing_front before after) after ++ patched_line (drop (differing_front before after) before) (drop (differing_front before after) after) (drop (differing_front before after) line)

@@ -1,17 +1,18 @@
 -- A screen that is sent line by line.
-use Rattle.std.proofs.Common.{◌≡◌, ℕ, ◌+◌, ◌<◌, ◌≤◌, List, [], ◌∷◌, ◌++◌, length, take, drop, get_or, Option, Some, None, Result, Ok, Err, refl, ap, sym, ◌∙◌, subst, arith, inl, inr, append_assoc}
-use Rattle.std.specs.Prelude.{slice_get, ◌==◌}
+use Rattle.std.proofs.Common.{◌≡◌, ℕ, suc, zero, ◌+◌, ◌<◌, ◌≤◌, List, [], ◌∷◌, ◌++◌, length, take, drop, get_or, Option, Some, None, Result, Ok, Err, refl, ap, sym, ◌∙◌, subst, arith, inl, inr, append_assoc}
+use Rattle.std.specs.Prelude.{Bool, false, slice_get, ◌-◌, ◌==◌}
 use Rattle.std.specs.List.{All}
 use Rattle.std.proofs.lemmas.List.{append-nil, drop_all, drop_more, drop-set-lt, take_all, take_more_set, length-set}
 use Rattle.std.proofs.lemmas.List.Elements.{All-set, All-head, All-tail}
 use Rattle.std.proofs.lemmas.Bool.{cases_Bool, eqb-true}
 use Rattle.std.proofs.lemmas.Option.{slice_get-get_or}
 use Rattle.outside_world.specs.declared.faults.Failed.{Failed}
-use Rattle.screen_show.specs.Changes.{Agrees, AgreesInLine, patched, patched_line, changed_runs, differences, line_runs, line_differences}
+use Rattle.screen_show.specs.Changes.{Agrees, AgreesInLine, Unchanged, patched, patched_line, changed_runs, differences, line_runs, line_differences}
 use Rattle.screen_show.specs.Display.{Shown, Finishes, HasSent, IsSound, Sends, TellsSoundly, raised, with_frame}
 use Rattle.screen_show.specs.Grid.{IsGrid}
 use Rattle.screen_show.specs.Lines.{SendsLine, HasSentLine}
 use Rattle.screen_show.proofs.Fronts.{length-patched_line}
+use Rattle.screen_show.proofs.LineSending.{line_unchanged}
 
 -- the changes above a row were put, and the rest of the screen gives those that are left
 pub record OnGrid (row : ℕ) (before after : List (List ℕ)) (s t : Shown) : Type 0 where
@@ -84,6 +85,37 @@ module _ (row : ℕ) (before after : List (List ℕ)) (b a : List ℕ) (below : 
   grid_more (Some s) None now u sent on = absurd on
   grid_more (Some s) (Some t) None u sent on = absurd sent
   grid_more (Some s) (Some t) (Some v) u sent on = line_more s t v on sent
+
+module _ (lines : List Bool) (before after : List (List ℕ)) (before_shape : IsGrid before) (after_shape : IsGrid after)
+    (unchanged : Unchanged lines before after) where
+  -- so many lines are passed over, none of which is in the set
+  lines_passed : (n row : ℕ) (was now : Option Shown) → row + n ≤ 25 →
+      ((k : ℕ) → row ≤ k → k < row + n → slice_get lines k ≡ Some false) →
+      SendingGrid row before after was now → SendingGrid (row + n) before after was now
+  lines_passed zero row was now within passed on =
+      let there : row ≡ row + 0 = omega arith in
+      subst (λ (m : ℕ). SendingGrid m before after was now) there on
+  lines_passed (suc n) row was now within passed on =
+      let line : List ℕ = get_or before row [] in
+      let inside : row < length before = omega (arith, before_shape.lines) in
+      let before_is : slice_get before row ≡ Some line = slice_get-get_or before row [] inside in
+      let same : slice_get before row ≡ slice_get after row = unchanged row (passed row (omega arith) (omega arith)) in
+      let wide : length line ≡ 80 = before_shape.columns row [] inside in
+      let none = line_unchanged row line line now tt (omega arith) wide refl (grid_sound row before after was now on) in
+      let one : SendingGrid (row + 1) before after was now =
+      grid_more row before after line line (omega arith) before_shape after_shape before_is (sym same ∙ before_is) wide wide was now now tt none on in
+      let there : row + 1 + n ≡ row + suc n = omega arith in
+      subst (λ (m : ℕ). SendingGrid m before after was now) there
+      (lines_passed n (row + 1) was now (omega arith) (λ k h g. passed k (omega arith) (omega arith)) one)
+
+  -- the lines up to the next one of the set are passed over
+  pub grid_passes : (row next : ℕ) (was now : Option Shown) → row ≤ next → next ≤ 25 →
+      ((k : ℕ) → row ≤ k → k < next → slice_get lines k ≡ Some false) →
+      SendingGrid row before after was now → SendingGrid next before after was now
+  grid_passes row next was now later within passed on =
+      let there : row + (next - row) ≡ next = omega arith in
+      subst (λ (m : ℕ). SendingGrid m before after was now) there
+      (lines_passed (next - row) row was now (omega arith) (λ k h g. passed k h (omega arith)) on)
 
 pub grid_fails : (row : ℕ) (before after : List (List ℕ)) (b a : List ℕ) (was then now : Option Shown) (f : Failed) → SendsLine row b a then now (Err f) → SendingGrid row before after was then → Sends before after was now (Err f)
 grid_fails row before after b a None None now f sent on = sent

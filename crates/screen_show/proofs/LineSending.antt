@@ -1,5 +1,5 @@
 -- One line that is sent, run by run.
-use Rattle.std.proofs.Common.{◌≡◌, ℕ, ◌+◌, ◌-◌, ◌^◌, ◌<◌, ◌≤◌, true, List, [], ◌∷◌, ◌++◌, length, take, drop, get_or, set, Option, Some, None, Ok, Err, refl, ap, sym, ◌∙◌, subst, arith, append_assoc, length-append}
+use Rattle.std.proofs.Common.{◌≡◌, ℕ, suc, zero, ◌+◌, ◌-◌, ◌^◌, ◌<◌, ◌≤◌, true, List, [], ◌∷◌, ◌++◌, length, take, drop, get_or, set, Option, Some, None, Ok, Err, refl, ap, sym, ◌∙◌, subst, arith, append_assoc, length-append}
 use Rattle.std.specs.Prelude.{◌==◌}
 use Rattle.std.proofs.lemmas.Bool.{eq-eqb}
 use Rattle.std.proofs.lemmas.List.{append-nil, drop_all, drop_more, take_all, take_more, length-take-le, length-drop, set-get_or, get_or-set_same, set-set, take_at, drop_at, drop-drop}
@@ -8,7 +8,7 @@ use Rattle.screen_show.specs.Changes.{patched_line, line_differences, line_runs,
 use Rattle.screen_show.specs.Display.{Shown, Puts, TellsSoundly, raised, with_bytes}
 use Rattle.screen_show.specs.Grid.{put_in_line}
 use Rattle.screen_show.specs.Lines.{SendsLine, HasSentLine}
-use Rattle.screen_show.proofs.Fronts.{run_line, run_count, run_differences, same_first}
+use Rattle.screen_show.proofs.Fronts.{front_stops, run_line, run_count, run_differences, same_first}
 
 -- the changes before a column were put, and the rest of the line gives those that are left
 pub record OnLine (row col : ℕ) (before after : List ℕ) (s t : Shown) : Type 0 where
@@ -140,6 +140,45 @@ module _ (row col : ℕ) (before after : List ℕ) (wide_before : length before 
   line_ends None now u past on = on
   line_ends (Some s) None u past on = on
   line_ends (Some s) (Some t) u past on = line_done s t past on
+
+-- a stretch in which the lines are equal
+pub line_stretch : (n row col : ℕ) (before after : List ℕ) (was now : Option Shown) → length before ≡ 80 → length after ≡ 80 → col + n ≤ 80 →
+    take n (drop col before) ≡ take n (drop col after) → SendingLine row col before after was now → SendingLine row (col + n) before after was now
+line_stretch zero row col before after was now before_wide after_wide within same on =
+    let there : col ≡ col + 0 = omega arith in
+    subst (λ (m : ℕ). SendingLine row m before after was now) there on
+line_stretch (suc n) row col before after was now before_wide after_wide within same on =
+    let b : drop col before ≡ get_or before col 0 ∷ drop (col + 1) before = drop_more before col 0 (omega arith) in
+    let a : drop col after ≡ get_or after col 0 ∷ drop (col + 1) after = drop_more after col 0 (omega arith) in
+    let both : get_or before col 0 ∷ take n (drop (col + 1) before) ≡ get_or after col 0 ∷ take n (drop (col + 1) after) = rw (b, a) at same in
+    let first : get_or before col 0 ≡ get_or after col 0 = cc in
+    let more : take n (drop (col + 1) before) ≡ take n (drop (col + 1) after) = cc in
+    let none : differing_front (drop col before) (drop col after) ≡ 0 = front_stops before after col (omega arith) (omega arith) first in
+    let there : col + 1 + n ≡ col + suc n = omega arith in
+    subst (λ (m : ℕ). SendingLine row m before after was now) there
+    (line_stretch n row (col + 1) before after was now before_wide after_wide (omega arith) more
+    (line_same row col before after before_wide after_wide was now (omega arith) none on))
+
+pub line_begins : (n row : ℕ) (before after : List ℕ) (was : Option Shown) → row < 25 → length before ≡ 80 → length after ≡ 80 → n ≤ 80 →
+    take n before ≡ take n after → TellsSoundly was → SendingLine row n before after was was
+line_begins n row before after was inside before_wide after_wide within same sound =
+    let there : 0 + n ≡ n = omega arith in
+    subst (λ (m : ℕ). SendingLine row m before after was was) there
+    (line_stretch n row 0 before after was was before_wide after_wide (omega arith) same (line_starts row before after was inside sound))
+
+-- the rests of two lines from a place on
+module _ (at k : ℕ) (before after before_rest after_rest : List ℕ) (b : before_rest ≡ drop at before) (a : after_rest ≡ drop at after) where
+  pub rests_equal : take k before_rest ≡ take k after_rest → take k (drop at before) ≡ take k (drop at after)
+  rests_equal same = sym (ap (take k) b) ∙ same ∙ ap (take k) a
+
+  pub rests_differ : (k < length before_rest → 0 < differing_front (drop k before_rest) (drop k after_rest)) → at + k < length before →
+      0 < differing_front (drop (at + k) before) (drop (at + k) after)
+  rests_differ differ below =
+      let inside : k < length before_rest = omega (arith, ap length b, length-drop at before) in
+      let before_is : drop k before_rest ≡ drop (at + k) before = ap (drop k) b ∙ drop-drop k at before in
+      let after_is : drop k after_rest ≡ drop (at + k) after = ap (drop k) a ∙ drop-drop k at after in
+      subst (λ (xs : List ℕ). 0 < differing_front xs (drop (at + k) after)) before_is
+      (subst (λ (ys : List ℕ). 0 < differing_front (drop k before_rest) ys) after_is (differ inside))
 
 -- a line that did not change
 same_line_patched : (xs line : List ℕ) → length line ≡ length xs → patched_line xs xs line ≡ line

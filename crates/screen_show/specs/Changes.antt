@@ -18,23 +18,27 @@ line_differences (b ∷ before) (a ∷ after) = (if b == a then 0 else 1) + line
 abbrev pub runs_after : Bool → List ℕ → List ℕ → ℕ
 runs_after inside [] after = 0
 runs_after inside (b ∷ before) [] = 0
-runs_after inside (b ∷ before) (a ∷ after) = if b == a then runs_after false before after else ((if inside then 0 else 1) + runs_after true before after)
+runs_after inside (b ∷ before) (a ∷ after) =
+    if b == a then runs_after false before after else ((if inside then 0 else 1) + runs_after true before after)
 
+-- in how many longest stretches two lines differ
 abbrev pub line_runs : List ℕ → List ℕ → ℕ
 line_runs before after = runs_after false before after
 
--- the same of whole screens
+-- a screen after the bytes of `after` were put where `before` and `after` differ
 abbrev pub patched : List (List ℕ) → List (List ℕ) → List (List ℕ) → List (List ℕ)
 patched [] after grid = []
 patched (b ∷ before) [] grid = []
 patched (b ∷ before) (a ∷ after) [] = []
 patched (b ∷ before) (a ∷ after) (x ∷ grid) = patched_line b a x ∷ patched before after grid
 
+-- at how many places two screens differ
 abbrev pub differences : List (List ℕ) → List (List ℕ) → ℕ
 differences [] after = 0
 differences (b ∷ before) [] = 0
 differences (b ∷ before) (a ∷ after) = line_differences b a + differences before after
 
+-- in how many longest stretches of one line two screens differ
 abbrev pub changed_runs : List (List ℕ) → List (List ℕ) → ℕ
 changed_runs [] after = 0
 changed_runs (b ∷ before) [] = 0

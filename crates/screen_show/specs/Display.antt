@@ -5,8 +5,8 @@ use Rattle.screen_show.specs.declared.display.Kind.{Kind}
 use Rattle.screen_show.specs.Changes.{Agrees, changed_runs, differences}
 use Rattle.screen_show.specs.Grid.{IsGrid, put_in_grid}
 
--- the grid now, the finished frames, how many puts were finished and their bytes, whether the last finished call was a close,
--- and how many closes were finished
+-- the grid now, the finished frames, how many puts were finished and their bytes, whether the last finished call was a
+-- close, and how many closes were finished
 pub record Shown : Type 0 where
   pub grid : List (List ℕ)
   pub frames : List (List (List ℕ))
@@ -31,6 +31,7 @@ pub record IsSound (s : Shown) : Type 0 where
   pub puts : s.puts ≤ 2 ^ 64 - 1
   pub bytes_put : s.bytes_put ≤ 2 ^ 64 - 1
 
+-- what holds of every display that tells what it shows
 abbrev pub TellsSoundly : Option Shown → Type 0
 TellsSoundly None = ⊤
 TellsSoundly (Some s) = IsSound s
@@ -41,31 +42,57 @@ LeavesGridOpen s after = (g : List (List ℕ)) × (after ≡ Some (record s { gr
 
 -- what is shown once bytes are put at a place
 abbrev pub with_bytes : ℕ → ℕ → List ℕ → Shown → Shown
-with_bytes row col bytes s = record { grid = put_in_grid row col bytes s.grid; frames = s.frames; puts = raised s.puts 1; bytes_put = raised s.bytes_put (length bytes); closed = false; closes = s.closes }
+with_bytes row col bytes s = record {
+  grid = put_in_grid row col bytes s.grid;
+  frames = s.frames;
+  puts = raised s.puts 1;
+  bytes_put = raised s.bytes_put (length bytes);
+  closed = false;
+  closes = s.closes;
+}
 
 -- what is shown once the frame is ended: the grid is one more frame
 abbrev pub with_frame : Shown → Shown
-with_frame s = record { grid = s.grid; frames = s.frames ++ s.grid ∷ []; puts = s.puts; bytes_put = s.bytes_put; closed = false; closes = s.closes }
+with_frame s = record {
+  grid = s.grid;
+  frames = s.frames ++ s.grid ∷ [];
+  puts = s.puts;
+  bytes_put = s.bytes_put;
+  closed = false;
+  closes = s.closes;
+}
 
+-- what is shown once the display is ended: the same, and one more close
 abbrev pub with_end : Shown → Shown
-with_end s = record { grid = s.grid; frames = s.frames; puts = s.puts; bytes_put = s.bytes_put; closed = true; closes = raised s.closes 1 }
+with_end s = record {
+  grid = s.grid;
+  frames = s.frames;
+  puts = s.puts;
+  bytes_put = s.bytes_put;
+  closed = true;
+  closes = raised s.closes 1;
+}
 
+-- bytes are put at a place, or fail to be, where the display tells what it shows
 abbrev pub Puts : ℕ → ℕ → List ℕ → Option Shown → Option Shown → Result Unit Failed → Type 0
 Puts row col bytes None after result = after ≡ None
 Puts row col bytes (Some s) after (Ok _) = after ≡ Some (with_bytes row col bytes s)
 Puts row col bytes (Some s) after (Err f) = LeavesGridOpen s after
 
+-- the frame is ended, or fails to be
 abbrev pub Finishes : Option Shown → Option Shown → Result Unit Failed → Type 0
 Finishes None after result = after ≡ None
 Finishes (Some s) after (Ok _) = after ≡ Some (with_frame s)
 Finishes (Some s) after (Err f) = LeavesGridOpen s after
 
+-- the display is ended, or fails to be
 abbrev pub Closes : Option Shown → Option Shown → Result Unit Failed → Type 0
 Closes None after result = after ≡ None
 Closes (Some s) after (Ok _) = after ≡ Some (with_end s)
 Closes (Some s) after (Err f) = LeavesGridOpen s after
 
--- The changes from one screen to the next were put, run by run, and what is shown is one more frame. It is the screen, if the grid agreed with the one before wherever nothing changed.
+-- The changes from one screen to the next were put, run by run, and what is shown is one more frame. It is the screen,
+-- if the grid agreed with the one before wherever nothing changed.
 pub record HasSent (before after : List (List ℕ)) (s t : Shown) : Type 0 where
   pub grid : Agrees before after s.grid → t.grid ≡ after
   pub frames : t.frames ≡ s.frames ++ t.grid ∷ []

@@ -12,6 +12,7 @@ pub record HasSentLine (row : ℕ) (before after : List ℕ) (s t : Shown) : Typ
   pub bytes_put : t.bytes_put ≡ raised s.bytes_put (line_differences before after)
   pub closes : t.closes ≡ s.closes
 
+-- one line is sent to a display; where that fails no frame was added, and no close was finished
 abbrev pub SendsLine : ℕ → List ℕ → List ℕ → Option Shown → Option Shown → Result Unit Failed → Type 0
 SendsLine row before after None now result = now ≡ None
 SendsLine row before after (Some s) None result = ⊥

@@ -32,7 +32,8 @@ pub trait Display: Drop {
 
     /// The recorder that this display is, and none exactly where it doesn't tell its content.
     fn recorder(&self) -> Option<&Recorder>
-        ensures { MatchOption result ((seen self.now).told ≡ None) (λ r. (seen self.now).told ≡ Some (recorded r.now)) };
+        ensures { MatchOption result ((seen self.now).told ≡ None)
+            (λ r. (seen self.now).told ≡ Some (recorded r.now)) };
 
     /// Puts bytes into a line, from a column on.
     fn put(&mut self, row: u8, col: u8, bytes: &[u8]) -> Result<(), Failed>

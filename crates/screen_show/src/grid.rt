@@ -1,4 +1,4 @@
-ghost use Rattle.std.specs.Prelude.{◌≡◌, ◌<◌, ◌≤◌, Some, length, slice_get, slice_set, ◌+◌};
+ghost use Rattle.std.specs.Prelude.{◌≡◌, ◌<◌, ◌≤◌, Some, length, slice_get, slice_index_or, slice_set, [], ◌+◌};
 ghost use Rattle.screen_show.specs.Changes.{Unchanged};
 ghost use Rattle.screen_show.specs.Grid.{IsGrid, empty_grid, put_in_grid};
 
@@ -71,16 +71,25 @@ impl Grid {
     {
         self.lines[row as usize] = line;
     }
-    /// Copies the lines of a set from a grid that has the others in common with this one, so that this grid becomes that
-    /// one.
+    /// Becomes another grid, which has all lines in common with this one that aren't in the set: those of the set alone
+    /// are copied.
     pub fn copy_lines(&mut self, from: &Grid, lines: &LineSet)
         requires { Unchanged lines.now self.old from.now }
         ensures { self.new ≡ from.now }
     {
-        for row in 0..25u8 {
-            if lines.contains(row) {
-                self.lines[row as usize] = from.lines[row as usize];
-            }
+        self.is_whole();
+        from.is_whole();
+        let mut row = lines.next_from(0);
+        while row < 25 {
+            self.copy_line(row, from);
+            row = lines.next_from(row + 1);
         }
+    }
+    // Copies one line of another grid.
+    fn copy_line(&mut self, row: u8, from: &Grid)
+        requires { row ≤ 24 }
+        ensures { self.new ≡ slice_set self.old row (slice_index_or from.now row []) }
+    {
+        self.lines[row as usize] = from.lines[row as usize];
     }
 }

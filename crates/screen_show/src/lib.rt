@@ -17,7 +17,7 @@ pub use last::LastDisplay;
 pub use line_set::LineSet;
 pub use page::PageDisplay;
 pub use recorder::Recorder;
-pub use sender::send_lines;
+pub use sender::{send, send_lines};
 
 #[cfg(test)]
 mod tests {
@@ -39,19 +39,32 @@ mod tests {
         let mut recorder = Recorder::new(rt.alloc(), Kind::Pages, 3, Vec::new(rt.alloc()))?;
         let blank = Grid::empty();
         let all = LineSet::all();
-        let mut last = LineSet::none();
-        last.insert(24);
+        let none = LineSet::none();
         let first = grid_with(24, b"abc");
         let second = grid_with(24, b"xby");
         send_lines(&blank, &first, &all, &mut recorder)?;
         assert_eq!(rt; (recorder.puts(), recorder.bytes_put()), (1, 3));
-        send_lines(&first, &second, &last, &mut recorder)?;
+        send_lines(&first, &second, &all, &mut recorder)?;
         assert_eq!(rt; (recorder.puts(), recorder.bytes_put()), (3, 5));
-        send_lines(&second, &second, &all, &mut recorder)?;
+        send_lines(&second, &second, &none, &mut recorder)?;
         assert_eq!(rt; (recorder.puts(), recorder.bytes_put()), (3, 5));
         let frames = recorder.frames();
         assert_eq!(rt; frames.len(), 3);
         assert_eq!(rt; &frames[2].line(24)[..4], b"xby\0".as_slice());
+        Ok(())
+    }
+
+    #[test]
+    fn lines_of_a_set_are_gone_over(rt: HostRuntime) -> Result<(), Fail> {
+        let mut lines = LineSet::none();
+        assert_eq!(rt; lines.next_from(0), 25);
+        lines.insert(2);
+        lines.insert(24);
+        assert!(rt; lines.contains(2));
+        assert!(rt; !lines.contains(3));
+        assert_eq!(rt; (lines.next_from(0), lines.next_from(3)), (2, 24));
+        assert_eq!(rt; lines.next_from(25), 25);
+        assert_eq!(rt; LineSet::all().next_from(24), 24);
         Ok(())
     }
 

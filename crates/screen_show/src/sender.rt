@@ -8,6 +8,7 @@ ghost use Rattle.screen_show.specs.Lines.{SendsLine};
 use crate::{Display, Grid, LineSet};
 use outside_world::Failed;
 
+// Puts a run of bytes into a line.
 fn put_run(display: &mut dyn Display, row: u8, col: usize, bytes: &[u8]) -> Result<(), Failed>
     requires row_in { row ≤ 24 }
     requires col_in { col + length bytes.now ≤ 80 }
@@ -18,6 +19,7 @@ fn put_run(display: &mut dyn Display, row: u8, col: usize, bytes: &[u8]) -> Resu
     display.put(row, col as u8, bytes)
 }
 
+// Ends a frame.
 fn end_frame(display: &mut dyn Display) -> Result<(), Failed>
     ensures shown { Finishes (seen display.old).told (seen display.new).told result }
     ensures kind { (seen display.new).kind ≡ (seen display.old).kind }
@@ -31,19 +33,6 @@ fn is_sound(display: &dyn Display)
     ensures { TellsSoundly (seen display.now).told }
 {
     let _kind = display.kind();
-}
-
-// How far two lines differ from their beginning on.
-fn differing_len(before: &[u8], after: &[u8]) -> usize
-    requires { length before.now ≡ length after.now }
-    ensures front { result ≡ differing_front before.now after.now }
-    ensures within { result ≤ length before.now }
-{
-    let mut len = 0;
-    while len < before.len() && before[len] != after[len] {
-        len += 1;
-    }
-    len
 }
 
 // The bytes from a place on.
@@ -62,6 +51,60 @@ fn front(bytes: &[u8], len: usize) -> &[u8]
     &bytes[..len]
 }
 
+// How far two lines differ from their beginning on.
+fn differing_len(before: &[u8], after: &[u8]) -> usize
+    requires { length before.now ≡ length after.now }
+    ensures front { result ≡ differing_front before.now after.now }
+    ensures within { result ≤ length before.now }
+{
+    let mut len = 0;
+    while len < before.len() && before[len] != after[len] {
+        len += 1;
+    }
+    len
+}
+
+// The bytes that are compared at once.
+const PART: usize = 8;
+
+// As many bytes from a place on.
+fn part(bytes: &[u8], at: usize) -> &[u8; PART]
+    requires { at + 8 ≤ length bytes.now }
+    ensures { result.now ≡ take 8 (drop at bytes.now) }
+{
+    match rest(bytes, at).first_chunk::<PART>() {
+        Some(part) => part,
+        None => unreachable!(),
+    }
+}
+
+// How far two lines are equal from their beginning on, by whole parts.
+fn equal_parts(before: &[u8], after: &[u8]) -> usize
+    requires { length before.now ≡ length after.now }
+    ensures equal { take result before.now ≡ take result after.now }
+    ensures within { result ≤ length before.now }
+{
+    let mut len = 0;
+    while before.len() - len >= PART && *part(before, len) == *part(after, len) {
+        len += PART;
+    }
+    len
+}
+
+// How far two lines are equal from their beginning on.
+fn equal_len(before: &[u8], after: &[u8]) -> usize
+    requires { length before.now ≡ length after.now }
+    ensures equal { take result before.now ≡ take result after.now }
+    ensures within { result ≤ length before.now }
+    ensures whole { result < length before.now → 0 < differing_front (drop result before.now) (drop result after.now) }
+{
+    let mut len = equal_parts(before, after);
+    while len < before.len() && before[len] == after[len] {
+        len += 1;
+    }
+    len
+}
+
 // Puts the changed runs of one line.
 fn send_line(before: &[u8], after: &[u8], row: u8, display: &mut dyn Display) -> Result<(), Failed>
     requires row_in { row ≤ 24 }
@@ -72,25 +115,19 @@ fn send_line(before: &[u8], after: &[u8], row: u8, display: &mut dyn Display) ->
     ensures kind { (seen display.new).kind ≡ (seen display.old).kind }
     ensures cause { HasCause (seen display.old).faults (seen display.new).faults result }
 {
-    if before == after {
-        return Ok(());
-    }
-    let mut col = 0;
+    let mut col = equal_len(before, after);
     while col < after.len() {
         let len = differing_len(rest(before, col), rest(after, col));
-        if len == 0 {
-            col += 1;
-            continue;
-        }
         put_run(display, row, col, front(rest(after, col), len))?;
         col += len;
+        col += equal_len(rest(before, col), rest(after, col));
     }
     Ok(())
 }
 
-/// Sends the screen `after` to a display that shows `before`, where the two have all lines in common that are not in the
-/// set: it puts the changed runs of each line of the set, a run being a longest stretch of bytes of one line in which the
-/// two differ, and ends the frame.
+/// Sends the screen `after` to a display that shows `before`, where the two have all lines in common that are not in
+/// the set: it puts the changed runs of each line of the set, a run being a longest stretch of bytes of one line in
+/// which the two differ, and ends the frame.
 /// It fails only where the display's count of faults rose, and has then added no frame.
 pub fn send_lines(
     before: &Grid,
@@ -106,10 +143,19 @@ pub fn send_lines(
     before.is_whole();
     after.is_whole();
     is_sound(display);
-    for row in 0..25u8 {
-        if lines.contains(row) {
-            send_line(before.line(row), after.line(row), row, display)?;
-        }
+    let mut row = lines.next_from(0);
+    while row < 25 {
+        send_line(before.line(row), after.line(row), row, display)?;
+        row = lines.next_from(row + 1);
     }
     end_frame(display)
+}
+
+/// Sends the screen `after` to a display that shows `before`, whatever the two have in common, as `send_lines` does.
+pub fn send(before: &Grid, after: &Grid, display: &mut dyn Display) -> Result<(), Failed>
+    ensures shown { Sends before.now after.now (seen display.old).told (seen display.new).told result }
+    ensures kind { (seen display.new).kind ≡ (seen display.old).kind }
+    ensures cause { HasCause (seen display.old).faults (seen display.new).faults result }
+{
+    send_lines(before, after, &LineSet::all(), display)
 }

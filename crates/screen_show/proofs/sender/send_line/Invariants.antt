@@ -1,4 +1,5 @@
-use Rattle.std.proofs.Common.{◌≡◌, ◌-◌, length}
+use Rattle.std.proofs.Common.{◌≡◌, ◌<◌, ◌≤◌, ◌-◌, length, drop}
+use Rattle.screen_show.specs.Changes.{differing_front}
 use Rattle.screen_show.proofs.LineSending.{SendingLine}
 use Rattle.screen_show.proofs.sender.send_line.Given as goal
 
@@ -7,6 +8,8 @@ invariant-loop-col g l =
     let was = (goal.Display-dyn g l.initial.display.now).seen l.initial.display.now.1 in
     let now = (goal.Display-dyn g l.display.now).seen l.display.now.1 in
     record {
+      within : l.col ≤ 80;
+      differs : l.col < 80 → 0 < differing_front (drop l.col l.before) (drop l.col l.after);
       line : SendingLine l.row l.col l.before l.after was.told now.told;
       kind : now.kind ≡ was.kind;
       faults : now.faults ≡ was.faults;

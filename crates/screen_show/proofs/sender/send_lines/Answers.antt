@@ -1,12 +1,24 @@
-use Rattle.std.proofs.Common.{rules, arith}
-use Rattle.screen_show.proofs.GridSending.{grid_more, grid_ends}
+use Rattle.std.proofs.Common.{rules, arith, ◌+◌}
+use Rattle.screen_show.proofs.GridSending.{grid_starts, grid_more, grid_passes, grid_ends}
 use Rattle.screen_show.proofs.sender.send_lines.Goals as goal
+
+pub loop-row-init : goal.loop-row-init
+loop-row-init g c = record {
+  within = c.next_from-row.ensures.within.1;
+  lines = grid_passes c.args.lines.now c.args.before.now c.args.after.now c.is_whole.ensures c.is_whole-2.ensures c.requires
+      0 _ _ _ (omega arith) c.next_from-row.ensures.within.1 c.next_from-row.ensures.passed (grid_starts c.args.before.now c.args.after.now _ c.is_sound.ensures);
+  kind = search rules;
+  faults = search rules;
+}
 
 pub loop-row-preserved : goal.loop-row-preserved
 loop-row-preserved g c = record {
-  lines = grid_more c.loop-row.row c.args.before.now c.args.after.now c.line.result.now c.line-in-loop-row.result.now (omega arith)
+  within = c.next_from-row-in-loop-row.ensures.within.1;
+  lines = grid_passes c.args.lines.now c.args.before.now c.args.after.now c.is_whole.ensures c.is_whole-2.ensures c.requires
+      (c.loop-row.row + 1) _ _ _ c.next_from-row-in-loop-row.ensures.within.0 c.next_from-row-in-loop-row.ensures.within.1 c.next_from-row-in-loop-row.ensures.passed
+      (grid_more c.loop-row.row c.args.before.now c.args.after.now c.line.result.now c.line-in-loop-row.result.now (omega arith)
       c.line.ensures.grid c.line-in-loop-row.ensures.grid c.line.ensures.line c.line-in-loop-row.ensures.line c.line.ensures.width c.line-in-loop-row.ensures.width
-      _ _ _ c.in_ok-send_line.field-0 c.in_ok-send_line.ensures.shown c.loop-row.invariant.lines;
+      _ _ _ c.in_ok-send_line.field-0 c.in_ok-send_line.ensures.shown c.loop-row.invariant.lines);
   kind = search rules;
   faults = search rules;
 }
