@@ -1,5 +1,5 @@
 -- Where two screens differ.
-use Rattle.std.specs.Prelude.{◌≡◌, ⊤, ℕ, suc, ◌+◌, Bool, true, false, ◌==◌, if◌then◌else◌, List, [], ◌∷◌, Some, slice_get}
+use Rattle.std.specs.Prelude.{◌≡◌, ⊤, ℕ, suc, ◌+◌, Bool, true, false, ◌==◌, if◌then◌else◌, List, [], ◌∷◌, Option, Some, slice_get}
 
 -- a line after the bytes of `after` were put where `before` and `after` differ
 abbrev pub patched_line : List ℕ → List ℕ → List ℕ → List ℕ
@@ -67,3 +67,7 @@ Agrees (b ∷ before) (a ∷ after) (x ∷ grid) = AgreesInLine b a x × Agrees 
 -- at each line that is not in the set of lines, two screens have the same line
 abbrev pub Unchanged : List Bool → List (List ℕ) → List (List ℕ) → Type 0
 Unchanged lines before after = (row : ℕ) → slice_get lines row ≡ Some false → slice_get before row ≡ slice_get after row
+
+-- the last frame, where there is one, has all lines in common with the grid that are not in the set of lines
+abbrev pub FrameUnchanged : List Bool → Option (List (List ℕ)) → List (List ℕ) → Type 0
+FrameUnchanged lines last grid = (frame : List (List ℕ)) → last ≡ Some frame → Unchanged lines frame grid

@@ -1,8 +1,9 @@
-ghost use Rattle.std.specs.Prelude.{None};
+ghost use Rattle.std.specs.Prelude.{◌≡◌, None, Some};
+ghost use Rattle.screen_show.specs.Changes.{FrameUnchanged};
 ghost use Rattle.screen_show.specs.declared.display.Kind.TheVariants.{Last};
 
 use crate::page::write_page;
-use crate::{Display, Grid, Kind, Recorder};
+use crate::{Display, Grid, Kind, LineSet, Recorder};
 use outside_world::Failed;
 use std::io::Write;
 
@@ -13,7 +14,10 @@ pub struct LastDisplay<W: Write + Drop> {
     writer: W,
     grid: Grid,
     frame: Option<Grid>,
+    // The lines that were put since the frame was ended.
+    changed: LineSet,
     faults: u64,
+    ghost others: { FrameUnchanged changed frame grid },
 }
 
 impl<W: Write + Drop> LastDisplay<W> {
@@ -23,8 +27,20 @@ impl<W: Write + Drop> LastDisplay<W> {
             writer,
             grid: Grid::empty(),
             frame: None,
+            changed: LineSet::none(),
             faults: 0,
         }
+    }
+}
+
+// The last frame becomes the grid, from which it differs in these lines alone.
+fn take_frame(frame: &mut Option<Grid>, grid: &Grid, changed: &LineSet)
+    requires { FrameUnchanged changed.now frame.old grid.now }
+    ensures { frame.new ≡ Some grid.now }
+{
+    match frame {
+        Some(frame) => frame.copy_lines(grid, changed),
+        None => *frame = Some(*grid),
     }
 }
 
@@ -41,11 +57,13 @@ impl<W: Write + Drop> Display for LastDisplay<W> {
 
     fn put(&mut self, row: u8, col: u8, bytes: &[u8]) -> Result<(), Failed> {
         self.grid.put(row, col, bytes);
+        self.changed.insert(row);
         Ok(())
     }
 
     fn done(&mut self) -> Result<(), Failed> {
-        self.frame = Some(self.grid);
+        take_frame(&mut self.frame, &self.grid, &self.changed);
+        self.changed = LineSet::none();
         Ok(())
     }
 
