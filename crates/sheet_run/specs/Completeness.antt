@@ -17,11 +17,13 @@ use Rattle.sheet_run.specs.declared.options.Options.{Options}
 
 -- Steps that a run from this start may make over these keys, over what the clock and the shelf tell: none of them ends
 -- the run, and these keys are left.
-pub record MayMake (before : Outside) (start : Option StartFile) (first : Moment) (keys left : List Key) (steps : List Step) : Type 0 where
+pub record MayMake (before : Outside) (start : Option StartFile) (first : Moment) (keys left : List Key)
+    (steps : List Step) : Type 0 where
   pub readings : Option (List Moment)
   pub took : TakesReadings before.readings (first ∷ moments_of steps) readings
   pub shelf : ShelfView
-  pub answered : HaveAnswered ((opening start first).calls ++ calls_of (opening start first).state steps) before.shelf shelf
+  pub answered : HaveAnswered
+      ((opening start first).calls ++ calls_of (opening start first).state steps) before.shelf shelf
   pub fit : Fit (opening start first).state steps
   pub go_on : GoOn (opening start first).state steps
   pub keys_are : keys ≡ keys_of steps ++ left
@@ -33,29 +35,34 @@ AtRest start first steps left = (wants_key (after (opening start first).state st
 -- whichever steps are made, as many as the limit come to the end of these keys and of the macros that they start
 abbrev pub RestWithin : Outside → Option StartFile → ℕ → List Key → Type 0
 RestWithin before start limit keys =
-    (first : Moment) (left : List Key) (steps : List Step) → MayMake before start first keys left steps → length steps ≡ limit → AtRest start first steps left
+    (first : Moment) (left : List Key) (steps : List Step) → MayMake before start first keys left steps →
+    length steps ≡ limit → AtRest start first steps left
 
 -- whichever steps are made, these keys, with the macros that they start, end the run by one of so many
 abbrev pub QuitWithin : Outside → Option StartFile → ℕ → List Key → Type 0
 QuitWithin before start limit keys =
-    (first : Moment) (left : List Key) (steps : List Step) → MayMake before start first keys left steps → (length steps < limit) × (AtRest start first steps left → ⊥)
+    (first : Moment) (left : List Key) (steps : List Step) → MayMake before start first keys left steps →
+    (length steps < limit) × (AtRest start first steps left → ⊥)
 
--- The bytes bring a run to its end within so many steps: they spell keys that come to their end within them, or they begin
--- with words that give keys by which the run is quit within them, whatever comes behind.
+-- The bytes bring a run to its end within so many steps: they spell keys that come to their end within them, or they
+-- begin with words that give keys by which the run is quit within them, whatever comes behind.
 pub data EndWithin (before : Outside) (start : Option StartFile) (limit : ℕ) (bytes : List ℕ) : Type 0 where
-  at_their_end : (keys : List Key) → Spells bytes keys → RestWithin before start limit keys → EndWithin before start limit bytes
+  at_their_end : (keys : List Key) → Spells bytes keys → RestWithin before start limit keys →
+      EndWithin before start limit bytes
   by_quitting : (front rest : List ℕ) (keys : List Key) → bytes ≡ front ++ rest → SpellsInto front keys →
       QuitWithin before start limit keys → EndWithin before start limit bytes
 
 -- the next call of a shelf that tells its answers isn't told as failed
 abbrev pub FailsNotFirst : OnShelf → Option OnShelf → Type 0
 FailsNotFirst s now =
-    (t : OnShelf) (held : Option (List ℕ)) (more : List ShelfAnswer) → now ≡ Some t → t.answers ≡ s.answers ++ failed held ∷ more → ⊥
+    (t : OnShelf) (held : Option (List ℕ)) (more : List ShelfAnswer) → now ≡ Some t →
+    t.answers ≡ s.answers ++ failed held ∷ more → ⊥
 
 -- the start file that the words may name reads as a sheet: the shelf tells its bytes, and doesn't fail to give them
 pub data Opens (before now : ShelfView) : Option (List ℕ) → Option StartFile → Type 0 where
   without : Opens before now None None
-  from_file : (f : StartFile) (s : OnShelf) (bytes : List ℕ) → before.told ≡ Some s → file_in f.name s.files ≡ Some bytes →
+  from_file : (f : StartFile) (s : OnShelf) (bytes : List ℕ) → before.told ≡ Some s →
+      file_in f.name s.files ≡ Some bytes →
       IsFile bytes (Ok f.saved) → FailsNotFirst s now.told → Opens before now (Some f.name) (Some f)
 
 -- the words are in the grammar, the start file opens, the bytes bring the run to its end within its limit, and neither

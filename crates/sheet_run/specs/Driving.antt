@@ -32,7 +32,8 @@ ComesNext true bytes keys told told' f next = Reads bytes keys told told' f next
 ComesNext false bytes keys told told' f next = (next ≡ NextEvent UnitEvent) × (told' ≡ told) × HasPressed bytes keys f
 
 -- a step was made and its screen sent; the flag says whether it ends the run
-pub record HasMadeStep (event : Event) (ends : Bool) (s t : Running) (readings readings' : Option (List Moment)) (shelf shelf' : ShelfView)
+pub record HasMadeStep (event : Event) (ends : Bool) (s t : Running) (readings readings' : Option (List Moment))
+    (shelf shelf' : ShelfView)
     (shown shown' : Screen) (displays displays' failed failed' : List View) : Type 0 where
   pub moment : Moment
   pub replies : Replies
@@ -54,7 +55,8 @@ pub record HasNotMadeStep (readings readings' : Option (List Moment)) (shelf she
   pub failed_stay : failed' ≡ failed
 
 -- a step was made, or memory ran out in it
-abbrev pub HasStepped : Event → Running → Running → Option (List Moment) → Option (List Moment) → ShelfView → ShelfView → Screen → Screen → List View → List View → List View → List View → StepEnd → Type 0
+abbrev pub HasStepped : Event → Running → Running → Option (List Moment) → Option (List Moment) → ShelfView →
+    ShelfView → Screen → Screen → List View → List View → List View → List View → StepEnd → Type 0
 HasStepped event s t readings readings' shelf shelf' shown shown' displays displays' failed failed' Done =
     HasMadeStep event false s t readings readings' shelf shelf' shown shown' displays displays' failed failed'
 HasStepped event s t readings readings' shelf shelf' shown shown' displays displays' failed failed' StepQuit =
@@ -75,7 +77,8 @@ EndsAsTold f ending = (rests : Bool) × RestsAsTold f rests × (ending ≡ ended
 abbrev pub HasEnded : ℕ → State → List Step → List Watched → List Watched → Outside → Outside → Ending → Type 0
 HasEnded limit s steps left out before now KeysEnded = RanToEnd limit s steps left out before now
 HasEnded limit s steps left out before now Quit = RanToQuit limit s steps left out before now
-HasEnded limit s steps left out before now (BadWord at) = RanIntoWord limit at s steps left out before now ⊎ RanToBadByte limit at s steps left out before now
+HasEnded limit s steps left out before now (BadWord at) = RanIntoWord limit at s steps left out before now
+    ⊎ RanToBadByte limit at s steps left out before now
 HasEnded limit s steps left out before now KeysFailed = RanToKeyFault limit s steps left out before now
 HasEnded limit s steps left out before now Stopped = RanToLimit limit s steps left out before now
 HasEnded limit s steps left out before now NoMemory = RanOutOfMemory limit s steps left out before now

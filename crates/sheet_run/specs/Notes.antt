@@ -125,11 +125,13 @@ AddsPart text (Some old) now = (n : ℕ) × (n ≤ length text) × (now ≡ Some
 
 -- the text was written, or a write of it failed and no more was written
 abbrev pub Tried : List ℕ → Option (List ℕ) → Option (List ℕ) → ℕ → ℕ → Type 0
-Tried text before now faults faults' = (AddsText text before now × (faults' ≡ faults)) ⊎ (AddsPart text before now × Rose faults faults')
+Tried text before now faults faults' = (AddsText text before now × (faults' ≡ faults))
+    ⊎ (AddsPart text before now × Rose faults faults')
 
 -- the text was written and the status is the one found, or a write failed and the status is 8
 abbrev pub Tells : List ℕ → ℕ → Option (List ℕ) → Option (List ℕ) → ℕ → ℕ → ℕ → Type 0
-Tells text found before now faults faults' status = ((status ≡ found) × AddsText text before now × (faults' ≡ faults)) ⊎ ((status ≡ 8) × AddsPart text before now × Rose faults faults')
+Tells text found before now faults faults' status = ((status ≡ found) × AddsText text before now × (faults' ≡ faults))
+    ⊎ ((status ≡ 8) × AddsPart text before now × Rose faults faults')
 
 -- the text was written, or its write failed
 abbrev pub HasWritten : List ℕ → Option (List ℕ) → Option (List ℕ) → ℕ → ℕ → Result Unit Failed → Type 0
@@ -138,4 +140,5 @@ HasWritten text before now faults faults' (Err f) = AddsPart text before now × 
 
 -- a refused word was told, or there was no memory for its line
 abbrev pub ToldRefused : List ℕ → Option (List ℕ) → Option (List ℕ) → ℕ → ℕ → ℕ → Type 0
-ToldRefused word before now faults faults' status = Tells (refused_note word) 1 before now faults faults' status ⊎ ((status ≡ 9) × Tried memory_note before now faults faults')
+ToldRefused word before now faults faults' status = Tells (refused_note word) 1 before now faults faults' status
+    ⊎ ((status ≡ 9) × Tried memory_note before now faults faults')

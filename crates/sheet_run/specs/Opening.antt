@@ -1,4 +1,5 @@
--- How a run begins: the start file is asked for, where the words name one, and its sheet, or a fresh one, is recalculated.
+-- How a run begins: the start file is asked for, where the words name one, and its sheet, or a fresh one, is
+-- recalculated.
 use Rattle.std.specs.Prelude.{◌≡◌, ℕ, ◌⊎◌, List, [], ◌∷◌, ◌++◌, Option, Some, None, Ok, Err, false}
 use Rattle.command_desk.specs.Desks.{fresh_desk, of_desk, on_sheet, Desk}
 use Rattle.command_desk.specs.declared.desk.Desk as declared
@@ -71,7 +72,8 @@ answer_of DiskError = failed
 abbrev pub BreaksOff : Option (List ℕ) → ShelfView → ShelfView → Type 0
 BreaksOff None before now = now ≡ before
 BreaksOff (Some name) before now = (now ≡ before)
-    ⊎ ((bytes : List ℕ) × HasRead (file_in name) name before.told now.told (Ok (Some bytes)) × (now.faults ≡ before.faults))
+    ⊎ ((bytes : List ℕ) × HasRead (file_in name) name before.told now.told (Ok (Some bytes))
+    × (now.faults ≡ before.faults))
 
 -- a desk was made, with a fresh sheet or that of the named file, of which the shelf was asked so
 pub record HasBegun (file : Option (List ℕ)) (desk : declared.Desk) (before now : ShelfView) : Type 0 where
@@ -82,7 +84,8 @@ pub record HasBegun (file : Option (List ℕ)) (desk : declared.Desk) (before no
   pub worked : HasWorked (log_from start) no_work (work_of desk.sheet 0)
 
 -- the start file was asked for and read, if the words name one, and then the clock was read for the start
-pub record HasOpened (file : Option (List ℕ)) (start : Option StartFile) (first : Moment) (before now : Outside) : Type 0 where
+pub record HasOpened (file : Option (List ℕ)) (start : Option StartFile) (first : Moment)
+    (before now : Outside) : Type 0 where
   pub named : name_of start ≡ file
   pub shelf : ShelfView
   pub answered : HaveAnswered (opening start first).calls before.shelf shelf

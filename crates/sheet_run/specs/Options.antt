@@ -34,7 +34,8 @@ steps_of v = if is_number v && nat_le (number_of v) 10000000 then Some (number_o
 
 -- the kind of display that a word names
 abbrev pub kind_of : List ℕ → Option Kind
-kind_of v = if bytes_eq v (codes "pages") then Some Pages else if bytes_eq v (codes "ansi") then Some Ansi else if bytes_eq v (codes "last") then Some Last else None
+kind_of v = if bytes_eq v (codes "pages") then Some Pages else if bytes_eq v (codes "ansi") then Some Ansi
+    else if bytes_eq v (codes "last") then Some Last else None
 
 -- a word begins with these bytes
 abbrev pub has_front : List ℕ → List ℕ → Bool
@@ -86,8 +87,10 @@ complete (Err text) = Err text
 abbrev pub on_joined : Options → List ℕ → Result (Options × Option Wanted) (List ℕ)
 on_joined o w =
     if has_front w (codes "--file=") then (if is_given o File then Err w else complete (on_value o File (drop 7 w)))
-    else if has_front w (codes "--steps=") then (if is_given o Steps then Err w else complete (on_value o Steps (drop 8 w)))
-    else if has_front w (codes "--show=") then (if is_given o Show then Err w else complete (on_value o Show (drop 7 w)))
+    else if has_front w (codes "--steps=") then
+    (if is_given o Steps then Err w else complete (on_value o Steps (drop 8 w)))
+    else if has_front w (codes "--show=") then
+    (if is_given o Show then Err w else complete (on_value o Show (drop 7 w)))
     else Err w
 
 -- a word where no value is wanted: an option that was not given before, alone or with its value
@@ -105,7 +108,8 @@ taken o None word = on_word o word
 taken o (Some wanted) value = complete (on_value o wanted value)
 
 -- what comes behind a word, unless it is refused
-abbrev pub go_on : Result (Options × Option Wanted) (List ℕ) → (Options → Option Wanted → Result Options (List ℕ)) → Result Options (List ℕ)
+abbrev pub go_on : Result (Options × Option Wanted) (List ℕ) → (Options → Option Wanted → Result Options (List ℕ)) →
+    Result Options (List ℕ)
 go_on (Ok t) rest = rest t.0 t.1
 go_on (Err text) rest = Err text
 

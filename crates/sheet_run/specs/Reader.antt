@@ -32,10 +32,12 @@ HasPressed bytes keys f = HasPressedAll bytes keys f ⊎ HasJustPressed bytes ke
 
 -- what reading came to, behind these bytes and keys
 abbrev pub Reads : List ℕ → List Key → Option (List ℕ) → Option (List ℕ) → KeyFeed → Next → Type 0
-Reads bytes keys told told' f (Event (KeyEvent key)) = (more : List ℕ) × TakesBytes told more told' × HasJustPressed (bytes ++ more) (keys ++ key ∷ []) f
+Reads bytes keys told told' f (Event (KeyEvent key)) = (more : List ℕ) × TakesBytes told more told'
+    × HasJustPressed (bytes ++ more) (keys ++ key ∷ []) f
 Reads bytes keys told told' f (Event UnitEvent) = ⊥
 Reads bytes keys told told' f More = (b : ℕ) × TakesBytes told (b ∷ []) told' × HasPressedAll (bytes ++ b ∷ []) keys f
-Reads bytes keys told told' f (Bad at) = (b : ℕ) × TakesBytes told (b ∷ []) told' × HasKeys bytes keys × (Begins (bytes ++ b ∷ []) → ⊥) × (at ≡ length bytes) × (at < 18446744073709551615)
+Reads bytes keys told told' f (Bad at) = (b : ℕ) × TakesBytes told (b ∷ []) told' × HasKeys bytes keys
+    × (Begins (bytes ++ b ∷ []) → ⊥) × (at ≡ length bytes) × (at < 18446744073709551615)
 Reads bytes keys told told' f End = TakesBytes told [] told' × Ended bytes told' × HasPressedAll bytes keys f
 Reads bytes keys told told' f Failed = TakesBytes told [] told' × HasKeys bytes keys
 
@@ -44,11 +46,13 @@ abbrev pub Takes : List ℕ → List Key → ℕ → KeyFeed → Next → Type 0
 Takes bytes keys b f (Event (KeyEvent key)) = HasJustPressed (bytes ++ b ∷ []) (keys ++ key ∷ []) f
 Takes bytes keys b f (Event UnitEvent) = ⊥
 Takes bytes keys b f More = HasPressedAll (bytes ++ b ∷ []) keys f
-Takes bytes keys b f (Bad at) = HasKeys bytes keys × (Begins (bytes ++ b ∷ []) → ⊥) × (at ≡ length bytes) × (at < 18446744073709551615)
+Takes bytes keys b f (Bad at) = HasKeys bytes keys × (Begins (bytes ++ b ∷ []) → ⊥) × (at ≡ length bytes)
+    × (at < 18446744073709551615)
 Takes bytes keys b f End = ⊥
 Takes bytes keys b f Failed = ⊥
 
 -- the reader is at rest exactly where the bytes are whole words
 pub record RestsAsTold (f : KeyFeed) (rests : Bool) : Type 0 where
-  pub whole : (bytes : List ℕ) (words : List (Key × ℕ)) → HasRead bytes words f.words → rests ≡ true → Spells bytes words
+  pub whole : (bytes : List ℕ) (words : List (Key × ℕ)) → HasRead bytes words f.words → rests ≡ true →
+      Spells bytes words
   pub inside : (bytes : List ℕ) (words : List (Key × ℕ)) → HasRead bytes words f.words → rests ≡ false → IsNoText bytes

@@ -41,8 +41,8 @@ closed_outside middle left out = record middle { displays = views_of left; faile
 abbrev pub shelved : Options → ShelfView → Outside → Outside
 shelved o shelf before = record (asked o before) { shelf = shelf }
 
--- The run was opened, steps were made up to an ending that leaves the session, and each display that was left was closed.
--- The status is found, and the text is that of the notes.
+-- The run was opened, steps were made up to an ending that leaves the session, and each display that was left was
+-- closed. The status is found, and the text is that of the notes.
 pub record HasFinished (options : Options) (before now : Outside) (found : ℕ) (text : List ℕ) : Type 0 where
   pub start : Option StartFile
   pub first : Moment
@@ -59,38 +59,48 @@ pub record HasFinished (options : Options) (before now : Outside) (found : ℕ) 
   pub worked : HasWorked ((opening start first).log ++ happened (opening start first).state steps) no_work work
   pub left_now : List Watched
   pub out_now : List Watched
-  pub closed : Passes (HasClosed (screens (opening start first).state steps)) (HasFailed (screens (opening start first).state steps)) left left_now out_now
+  pub closed : Passes (HasClosed (screens (opening start first).state steps))
+      (HasFailed (screens (opening start first).state steps)) left left_now out_now
   pub now_is : now ≡ closed_outside middle left_now out_now
   pub found_is : found ≡ ending_status (is_any (out ++ out_now)) ending
-  pub text_is : text ≡ count_note (count_of options work) ++ ending_note (limit_of options) (is_any (out ++ out_now)) ending
+  pub text_is : text ≡ count_note (count_of options work) ++ ending_note (limit_of options)
+      (is_any (out ++ out_now)) ending
 
 -- what a run with these options did, by its status
 pub data RunsWith (options : Options) (before now : World) : ℕ → Type 0 where
   finished : (found : ℕ) (text : List ℕ) {status : ℕ} → HasFinished options before.outside now.outside found text →
-      Tells text found before.notes now.notes before.note_faults now.note_faults status → RunsWith options before now status
+      Tells text found before.notes now.notes before.note_faults now.note_faults status →
+      RunsWith options before now status
   -- the start file was asked for and is no sheet, and no reading was taken
-  not_read : (name : List ℕ) (why : NotRead) (shelf : ShelfView) {status : ℕ} → options.file ≡ Some name → HaveAnswered (asked_for name (answer_of why)) before.outside.shelf shelf →
-      now.outside ≡ shelved options shelf before.outside → Tells (file_note name why) (file_status why) before.notes now.notes before.note_faults now.note_faults status →
+  not_read : (name : List ℕ) (why : NotRead) (shelf : ShelfView) {status : ℕ} → options.file ≡ Some name →
+      HaveAnswered (asked_for name (answer_of why)) before.outside.shelf shelf →
+      now.outside ≡ shelved options shelf before.outside →
+      Tells (file_note name why) (file_status why) before.notes now.notes before.note_faults now.note_faults status →
       RunsWith options before now status
   -- memory ran out before room was there for each display
   no_room : now.outside ≡ before.outside →
       Tried memory_note before.notes now.notes before.note_faults now.note_faults → RunsWith options before now 9
   -- memory ran out before the sheet was there, and no reading was taken
-  no_sheet : (shelf : ShelfView) → BreaksOff options.file before.outside.shelf shelf → now.outside ≡ shelved options shelf before.outside →
+  no_sheet : (shelf : ShelfView) → BreaksOff options.file before.outside.shelf shelf →
+      now.outside ≡ shelved options shelf before.outside →
       Tried memory_note before.notes now.notes before.note_faults now.note_faults → RunsWith options before now 9
   -- memory ran out while the sheet was recalculated, before the first step
-  no_session : (start : Option StartFile) (first : Moment) → HasOpened options.file start first (asked options before.outside) now.outside →
+  no_session : (start : Option StartFile) (first : Moment) →
+      HasOpened options.file start first (asked options before.outside) now.outside →
       Tried memory_note before.notes now.notes before.note_faults now.note_faults → RunsWith options before now 9
   -- memory ran out in a step; the displays have the screens of the finished steps
-  no_memory : (start : Option StartFile) (first : Moment) (begun : Outside) (steps : List Step) (left out : List Watched) → HasOpened options.file start first (asked options before.outside) begun →
+  no_memory : (start : Option StartFile) (first : Moment) (begun : Outside) (steps : List Step)
+      (left out : List Watched) → HasOpened options.file start first (asked options before.outside) begun →
       RanOutOfMemory (limit_of options) (opening start first).state steps left out begun now.outside →
       Tried memory_note before.notes now.notes before.note_faults now.note_faults → RunsWith options before now 9
 
 -- What a run did, by its status. Where the words are refused nothing but the notes was called.
 pub data IsRun (words : List (List ℕ)) (before now : World) : ℕ → Type 0 where
   refused : (word : List ℕ) {status : ℕ} → words_read words ≡ Err word → now.outside ≡ before.outside →
-      Tells (refused_note word) 1 before.notes now.notes before.note_faults now.note_faults status → IsRun words before now status
-  ran : (options : Options) {status : ℕ} → words_read words ≡ Ok options → RunsWith options before now status → IsRun words before now status
+      Tells (refused_note word) 1 before.notes now.notes before.note_faults now.note_faults status →
+      IsRun words before now status
+  ran : (options : Options) {status : ℕ} → words_read words ≡ Ok options → RunsWith options before now status →
+      IsRun words before now status
   -- memory ran out while the note on the refused word was made
   no_note : (word : List ℕ) → words_read words ≡ Err word → now.outside ≡ before.outside →
       Tried memory_note before.notes now.notes before.note_faults now.note_faults → IsRun words before now 9

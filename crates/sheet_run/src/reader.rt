@@ -57,10 +57,11 @@ impl KeyFeed {
         self.words.at_rest()
     }
 
-    /// The last word's key once more, or what one byte more comes to. Where as many bytes were read as can be counted, the
-    /// keys end.
+    /// The last word's key once more, or what one byte more comes to. Where as many bytes were read as can be counted,
+    /// the keys end.
     pub fn read<K: Keys>(&mut self, keys: &mut K) -> Next
-        ensures read { (bytes : List ℕ) (made : List Key) → HasPressed bytes made self.old → Reads bytes made (K.left keys.old) (K.left keys.new) self.new result }
+        ensures read { (bytes : List ℕ) (made : List Key) → HasPressed bytes made self.old →
+            Reads bytes made (K.left keys.old) (K.left keys.new) self.new result }
         ensures event { (event : Event) → result ≡ Next.Event event → ahead self.new < ahead self.old }
         ensures more { result ≡ Next.More → ahead self.new < ahead self.old }
         ensures few { self.new.words.taken ≤ 18446744073709551615 }
@@ -86,7 +87,8 @@ impl KeyFeed {
     fn take(&mut self, byte: u8) -> Next
         requires none { self.old.left ≡ 0 }
         requires room { self.old.words.taken < 18446744073709551615 }
-        ensures took { (bytes : List ℕ) (made : List Key) → HasPressedAll bytes made self.old → Takes bytes made byte self.new result }
+        ensures took { (bytes : List ℕ) (made : List Key) → HasPressedAll bytes made self.old →
+            Takes bytes made byte self.new result }
         ensures event { (event : Event) → result ≡ Next.Event event → ahead self.new < ahead self.old }
         ensures more { result ≡ Next.More → ahead self.new < ahead self.old }
         ensures few { self.new.words.taken ≤ 18446744073709551615 }

@@ -42,17 +42,17 @@ fn refused_text(words: &Words, refused: Refused) -> &[u8]
 /// the shelf is asked once for the start file, where the words name one; the clock is read once, and the
 /// file's sheet, or a fresh one, is recalculated; then the steps follow.
 /// Before each step, where the session wants a key, bytes are read until a key is there or the keys end; where it wants
-/// none, the step is of a macro's unit. Then the limit is tested, then the clock is read, the step is made and its screen
-/// is sent to each display in order. A display whose call failed moves to the end of `failed`, and the others go on.
-/// Behind a step that asks to quit no byte more is taken. At the end each display that is left is closed. With 1, 2, 6
-/// and 9 none is closed, and with 1, 2 and 6 the clock isn't read.
+/// none, the step is of a macro's unit. Then the limit is tested, then the clock is read, the step is made and its
+/// screen is sent to each display in order. A display whose call failed moves to the end of `failed`, and the others go
+/// on. Behind a step that asks to quit no byte more is taken. At the end each display that is left is closed. With 1,
+/// 2, 6 and 9 none is closed, and with 1, 2 and 6 the clock isn't read.
 ///
 /// | Status | Comes | Note |
 /// |---|---|---|
 /// | 0 | the keys ended at a word's end, or asked to quit | none |
 /// | 1 | exactly where the words are outside the grammar | `bad word: W` |
-/// | 2 | exactly where the shelf has no start file, or the file is no worksheet file | `NAME.WK1: no such file` or `NAME.WK1: F2 6` |
-/// | 3 | exactly where as many steps as the limit were made and one more could begin: of a macro's unit, of a repeat that is left, or of a key that was read | `stopped after N steps` |
+/// | 2 | exactly where the start file is missing, or no worksheet file | `NAME.WK1: no such file`, `NAME.WK1: F2 6` |
+/// | 3 | exactly where the limit's steps were made and one more could begin | `stopped after N steps` |
 /// | 4 | exactly where the bytes begin no text of key notation, or end inside a word | `bad key word at byte N` |
 /// | 5 | only where the count of the keys' faults rose | `keys failed` |
 /// | 6 | only where the count of the shelf's faults rose while the start file was read | `NAME.WK1: disk error` |
@@ -60,8 +60,9 @@ fn refused_text(words: &Words, refused: Refused) -> &[u8]
 /// | 8 | only where the count of the notes' faults rose; it takes the place of the others | none |
 /// | 9 | memory ran out | `memory full`, unless that can't be written |
 ///
-/// Every note begins with `1-2-3: ` and ends with a line feed. A file's fault is told as F with its number and the numbers
-/// that it carries, a function's code in two capital hexadecimal digits. With `--count`, `evaluations N` comes
+/// One more step could begin of a macro's unit, of a repeat that is left, or of a key that was read.
+/// Every note begins with `1-2-3: ` and ends with a line feed. A file's fault is told as F with its number and the
+/// numbers that it carries, a function's code in two capital hexadecimal digits. With `--count`, `evaluations N` comes
 /// first wherever a session was made and memory didn't run out. (This project's choice.)
 pub fn run<K: Keys, S: Shelf, C: Clock, N: Notes>(
     alloc: Global,
@@ -179,9 +180,10 @@ fn count_of(options: &Options, session: &Session) -> Option<u64>
 }
 
 /// A run ends well where the words are in the grammar, the start file reads as a sheet, nothing failed, and the bytes
-/// spell keys that with the macros they start come to their end within the limit of steps, or begin with words whose keys
-/// quit the run within it, unless memory ran out.
+/// spell keys that with the macros they start come to their end within the limit of steps, or begin with words whose
+/// keys quit the run within it, unless memory ran out.
 pub fn a_run_ends_well()
     ensures { (words : List (List ℕ)) (before now : World) (status : ℕ) →
-        IsRun words before now status → (must : MustEndWell words before now) → HasEndedWell must.start before now status }
+        IsRun words before now status → (must : MustEndWell words before now) →
+        HasEndedWell must.start before now status }
 {}

@@ -19,6 +19,7 @@ impl Model for Word {
 }
 
 impl Word {
+    // The word's bytes.
     fn bytes(&self) -> &[u8]
         ensures { result.now ≡ self.now }
     {
