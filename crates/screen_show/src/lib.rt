@@ -17,7 +17,7 @@ pub use last::LastDisplay;
 pub use line_set::LineSet;
 pub use page::PageDisplay;
 pub use recorder::Recorder;
-pub use sender::{send, send_lines};
+pub use sender::send_lines;
 
 #[cfg(test)]
 mod tests {

@@ -150,12 +150,3 @@ pub fn send_lines(
     }
     end_frame(display)
 }
-
-/// Sends the screen `after` to a display that shows `before`, whatever the two have in common, as `send_lines` does.
-pub fn send(before: &Grid, after: &Grid, display: &mut dyn Display) -> Result<(), Failed>
-    ensures shown { Sends before.now after.now (seen display.old).told (seen display.new).told result }
-    ensures kind { (seen display.new).kind ≡ (seen display.old).kind }
-    ensures cause { HasCause (seen display.old).faults (seen display.new).faults result }
-{
-    send_lines(before, after, &LineSet::all(), display)
-}

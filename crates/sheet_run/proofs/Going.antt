@@ -1,5 +1,6 @@
 -- A run that is going on.
-use Rattle.std.proofs.Common.{◌≡◌, ℕ, ◌<◌, ◌≤◌, ◌+◌, ◌-◌, ◌^◌, List, [], ◌∷◌, ◌++◌, length, Bool, true, false, Option, refl, sym, ap, ◌∙◌, subst, arith, inl, inr, append_assoc, length-append}
+use Rattle.std.proofs.Common.{◌≡◌, ℕ, ◌<◌, ◌≤◌, ◌+◌, ◌-◌, ◌^◌, suc, zero, List, [], ◌∷◌, ◌++◌, length, Bool, true, false, Option, refl, sym, ap, ◌∙◌, subst, arith, inl, inr, append_assoc, length-append}
+use Rattle.std.specs.Prelude.{◌==◌, replicate}
 use Rattle.std.proofs.lemmas.Bool.{true≢false}
 use Rattle.std.proofs.lemmas.Grind.{flat_map-append}
 use Rattle.std.proofs.lemmas.List.{append-nil, map-append}
@@ -16,8 +17,10 @@ use Rattle.work_sheet.specs.Doing.{Happened}
 use Rattle.work_sheet.specs.Work.{HasWorked}
 use Rattle.commands_file.specs.Calls.{Asked, HaveAnswered, ShelfView}
 use Rattle.session_core.specs.Screen.{screen}
+use Rattle.screen_show.specs.Changes.{Unchanged}
 use Rattle.screen_show.specs.Display.{View}
 use Rattle.screen_show.specs.Grid.{empty_grid}
+use Rattle.screen_show.proofs.LineSets.{all_may_differ}
 use Rattle.sheet_run.specs.Displays.{Screen, Sent, Watched, last_screen, no_screen}
 use Rattle.sheet_run.specs.Driving.{ended_as, ComesNext, EndsAsTold, HasDriven, HasEnded, HasMadeStep, HasNotMadeStep, IsAfter, LeavesState}
 use Rattle.sheet_run.specs.Notation.{SpellsUpTo}
@@ -89,6 +92,32 @@ pub record Going (limit count : ℕ) (from s : Running) (f : KeyFeed) (shown : S
   pub no_fault : now.key_faults ≡ before.key_faults
   pub made : length steps ≡ count
   pub shows : shown ≡ last_screen empty_grid (screens from.state steps)
+
+-- the last of the screens is that of the state behind the steps
+last_is : (steps : List Step) (s : State) → last_screen (screen s) (screens s steps) ≡ screen (after s steps)
+last_is [] s = refl
+last_is (x ∷ xs) s = last_is xs (outcome s x).state
+
+last_of : (steps : List Step) (s : State) (empty : Screen) → 0 < length steps → last_screen empty (screens s steps) ≡ screen (after s steps)
+last_of [] s empty h = absurd (omega arith)
+last_of (x ∷ xs) s empty h = last_is xs (outcome s x).state
+
+some_made : (count : ℕ) → (count == 0) ≡ false → 0 < count
+some_made zero h = absurd (true≢false h)
+some_made (suc n) h = omega arith
+
+-- once a step was made, the screen that is shown is the session's
+pub shown_now : (limit count : ℕ) (from s : Running) (f : KeyFeed) (shown : Screen) (before now : Outside) → Going limit count from s f shown before now →
+    (count == 0) ≡ false → shown ≡ screen s.state
+shown_now limit count from s f shown before now going some =
+    going.shows ∙ last_of going.steps from.state empty_grid (omega (arith, going.made, some_made count some)) ∙ ap screen (sym going.session.state)
+
+-- the lines that are sent: all of them at the first step, and else those that the step may have changed
+pub lines_to_send : (is_first : Bool) (changed lines : List Bool) (shown was now : Screen) → (is_first ≡ true → lines ≡ replicate 25 true) → (is_first ≡ false → lines ≡ changed) →
+    (is_first ≡ false → shown ≡ was) → Unchanged changed was now → Unchanged lines shown now
+lines_to_send true changed lines shown was now all same shows unchanged = subst (λ (ls : List Bool). Unchanged ls shown now) (sym (all refl)) (all_may_differ shown now)
+lines_to_send false changed lines shown was now all same shows unchanged =
+    subst (λ (ls : List Bool). Unchanged ls shown now) (sym (same refl)) (subst (λ (s : Screen). Unchanged changed s now) (sym (shows refl)) unchanged)
 
 pub going_starts : (limit : ℕ) (bytes : Option (List ℕ)) (faults : ℕ) (told : Option (List Moment)) (shelf : ShelfView) (displays failed : List View) (s : Running) (f : KeyFeed) (shown : Screen) →
     s.spent ≡ false → HasPressedAll [] [] f → shown ≡ empty_grid → Going limit 0 s s f shown (outside bytes faults told shelf displays failed) (outside bytes faults told shelf displays failed)

@@ -2,11 +2,12 @@
 ghost use Rattle.std.specs.Prelude.{◌≡◌, ◌+◌, ◌≤◌, map, vec_len, vec_capacity};
 ghost use Rattle.std.specs.List.{filter};
 ghost use Rattle.sheet_run.specs.Displays.{same_kind};
-ghost use Rattle.sheet_run.specs.Working.{HasWorkedOne};
+ghost use Rattle.screen_show.specs.Changes.{Unchanged};
+ghost use Rattle.sheet_run.specs.Working.{HasWorkedOne, IsReady};
 ghost use Rattle.sheet_run.specs.Passing.{HasClosedOne, HasSentOne, Passed};
 
 use outside_world::Failed;
-use screen_show::{Display, Grid, Kind, send};
+use screen_show::{Display, Grid, Kind, LineSet, send_lines};
 
 // Whether two kinds are one.
 fn same_kind(a: Kind, b: Kind) -> bool
@@ -44,16 +45,26 @@ pub fn keep_kind(kind: Kind, displays: &mut Vec<Box<dyn Display>>)
 /// What is done with each display.
 #[derive(Clone, Copy)]
 pub enum Work<'a> {
-    /// The screen `after` is sent to displays that show `before`.
-    Send { before: &'a Grid, after: &'a Grid },
+    /// The screen `after` is sent to displays that show `before`; the two differ in these lines alone.
+    Send {
+        before: &'a Grid,
+        after: &'a Grid,
+        lines: &'a LineSet,
+    },
     Close,
 }
 
-// Sends the screen `after` to a display that shows `before`.
-fn send_to_one(before: &Grid, after: &Grid, display: &mut Box<dyn Display>) -> Result<(), Failed>
+// Sends the screen `after` to a display that shows `before`, from which it differs in these lines alone.
+fn send_to_one(
+    before: &Grid,
+    after: &Grid,
+    lines: &LineSet,
+    display: &mut Box<dyn Display>,
+) -> Result<(), Failed>
+    requires { Unchanged lines.now before.now after.now }
     ensures { HasSentOne before.now after.now (seen display.old) (seen display.new) result }
 {
-    send(before, after, &mut **display)
+    send_lines(before, after, lines, &mut **display)
 }
 
 // Closes a display.
@@ -65,10 +76,15 @@ fn close_one(display: &mut Box<dyn Display>) -> Result<(), Failed>
 
 // Works on one display.
 fn work_on_one(work: &Work, display: &mut Box<dyn Display>) -> Result<(), Failed>
+    requires { IsReady work.now }
     ensures { HasWorkedOne work.now (seen display.old) (seen display.new) result }
 {
     match work {
-        Work::Send { before, after } => send_to_one(before, after, display),
+        Work::Send {
+            before,
+            after,
+            lines,
+        } => send_to_one(before, after, lines, display),
         Work::Close => close_one(display),
     }
 }
@@ -80,8 +96,10 @@ pub fn work_on_all(
     displays: &mut Vec<Box<dyn Display>>,
     failed: &mut Vec<Box<dyn Display>>,
 )
-    requires { vec_len failed.old + vec_len displays.old ≤ vec_capacity failed.old }
-    ensures passed { Passed (HasWorkedOne work.now) (map seen displays.old.items) (map seen displays.new.items) (map seen failed.old.items) (map seen failed.new.items) }
+    requires ready { IsReady work.now }
+    requires room { vec_len failed.old + vec_len displays.old ≤ vec_capacity failed.old }
+    ensures passed { Passed (HasWorkedOne work.now) (map seen displays.old.items) (map seen displays.new.items)
+        (map seen failed.old.items) (map seen failed.new.items) }
     ensures room { vec_len failed.new + vec_len displays.new ≤ vec_capacity failed.new }
 {
     let mut place = 0;

@@ -1,6 +1,7 @@
 // Drives a session by keys and by the units of its macros.
-ghost use Rattle.std.specs.Prelude.{◌≡◌, ◌<◌, ◌≤◌, ◌+◌, ℕ, false, List, map, vec_len, vec_capacity};
+ghost use Rattle.std.specs.Prelude.{◌≡◌, ◌<◌, ◌≤◌, ◌+◌, ℕ, false, true, List, map, replicate, vec_len, vec_capacity};
 ghost use Rattle.commands_file.specs.Calls.{shelf_view};
+ghost use Rattle.screen_show.specs.Changes.{Unchanged};
 ghost use Rattle.screen_show.specs.Grid.{empty_grid, IsPrinted};
 ghost use Rattle.key_words.specs.declared.key.Key.{Key};
 ghost use Rattle.outside_world.specs.Causes.{Rose};
@@ -17,7 +18,7 @@ ghost use Rattle.sheet_run.specs.declared.reader.Next.TheVariants as Next;
 use crate::displays::{Work, work_on_all};
 use crate::reader::{KeyFeed, Next};
 use outside_world::{Clock, Keys, Shelf};
-use screen_show::{Display, Grid};
+use screen_show::{Display, Grid, LineSet};
 use session_core::{Event, Session, Stepped};
 
 /// How a step ended.
@@ -44,14 +45,16 @@ pub enum Ending {
     NoMemory,
 }
 
-// Sends the session's screen to displays that show the one before.
+// Sends the session's screen to displays that show the one before, from which it differs in these lines alone.
 fn send_screen(
     session: &Session,
+    lines: &LineSet,
     displays: &mut Vec<Box<dyn Display>>,
     failed: &mut Vec<Box<dyn Display>>,
     shown: &mut Grid,
 )
     requires fresh { session.now.spent ≡ false }
+    requires lines { Unchanged lines.now shown.old (screen session.now.state) }
     requires room { vec_len failed.old + vec_len displays.old ≤ vec_capacity failed.old }
     ensures passed { Passed (HasSentOne shown.old (screen session.now.state))
         (map seen displays.old.items) (map seen displays.new.items)
@@ -64,9 +67,10 @@ fn send_screen(
     let work = Work::Send {
         before: shown,
         after,
+        lines,
     };
     work_on_all(&work, displays, failed);
-    *shown = *after;
+    shown.copy_lines(after, lines);
 }
 
 // What comes next: where the session wants no key, a macro's unit, for which nothing is read.
@@ -87,9 +91,21 @@ fn next_event<K: Keys>(session: &Session, feed: &mut KeyFeed, keys: &mut K) -> N
     }
 }
 
-// Reads the clock, makes a step, and sends its screen.
+// At the first step all lines are sent, since nothing is shown before it.
+fn take_all_at_first(is_first: bool, lines: &mut LineSet)
+    ensures all { is_first ≡ true → lines.new ≡ replicate 25 true }
+    ensures same { is_first ≡ false → lines.new ≡ lines.old }
+{
+    if is_first {
+        *lines = LineSet::all();
+    }
+}
+
+// Reads the clock, makes a step, and sends its screen: all of it where it is the first one, and else the lines that the
+// step may have changed.
 fn make_step<S: Shelf, C: Clock>(
     event: Event,
+    is_first: bool,
     shelf: &mut S,
     clock: &mut C,
     displays: &mut Vec<Box<dyn Display>>,
@@ -99,6 +115,7 @@ fn make_step<S: Shelf, C: Clock>(
 ) -> StepEnd
     requires fresh { session.old.spent ≡ false }
     requires wanted { is_key event ≡ wants_key session.old.state }
+    requires shows { is_first ≡ false → shown.old ≡ screen session.old.state }
     requires room { vec_len failed.old + vec_len displays.old ≤ vec_capacity failed.old }
     ensures stepped { HasStepped event session.old session.new (C.readings clock.old) (C.readings clock.new)
         (shelf_view (S.holds shelf.old) (S.faults shelf.old)) (shelf_view (S.holds shelf.new) (S.faults shelf.new))
@@ -107,13 +124,16 @@ fn make_step<S: Shelf, C: Clock>(
     ensures room { vec_len failed.new + vec_len displays.new ≤ vec_capacity failed.new }
 {
     let now = clock.read();
-    match session.step(event, &now, shelf) {
+    let mut lines = LineSet::none();
+    let stepped = session.step(event, &now, shelf, &mut lines);
+    take_all_at_first(is_first, &mut lines);
+    match stepped {
         Stepped::More => {
-            send_screen(session, displays, failed, shown);
+            send_screen(session, &lines, displays, failed, shown);
             StepEnd::Done
         }
         Stepped::Quit => {
-            send_screen(session, displays, failed, shown);
+            send_screen(session, &lines, displays, failed, shown);
             StepEnd::Quit
         }
         Stepped::Memory => StepEnd::NoMemory,
@@ -166,7 +186,10 @@ pub fn drive<K: Keys, S: Shelf, C: Clock>(
         if steps >= limit {
             return Ending::Stopped;
         }
-        match make_step(event, shelf, clock, displays, failed, session, &mut shown) {
+        let is_first = steps == 0;
+        match make_step(
+            event, is_first, shelf, clock, displays, failed, session, &mut shown,
+        ) {
             StepEnd::Done => steps += 1,
             StepEnd::Quit => return Ending::Quit,
             StepEnd::NoMemory => return Ending::NoMemory,

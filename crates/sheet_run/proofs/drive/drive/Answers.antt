@@ -1,5 +1,5 @@
 use Rattle.std.proofs.Common.{refl, arith, inr}
-use Rattle.sheet_run.proofs.Going.{event_fits, going_starts, going_on, ran_to_end, ran_to_bad, ran_to_fault, ran_to_limit, ran_out, step_made, quit_made, leaves}
+use Rattle.sheet_run.proofs.Going.{event_fits, going_starts, going_on, ran_to_end, ran_to_bad, ran_to_fault, ran_to_limit, ran_out, step_made, quit_made, leaves, shown_now}
 use Rattle.sheet_run.proofs.drive.drive.Goals as goal
 
 pub loop-event-init : goal.loop-event-init
@@ -75,3 +75,6 @@ returns-in-NoMemory-clause-driven g c = record {
 pub make_step-requires-clause-wanted : goal.make_step-requires-clause-wanted
 make_step-requires-clause-wanted g c =
     event_fits _ _ _ _ _ _ _ _ _ _ _ _ _ c.loop-event.invariant.going _ _ _ c.in-Event.event c.in-Event.ensures.next c.in-Event.ensures.few (c.in-Event.ensures.fine (λ e. cc))
+
+pub make_step-requires-clause-shows : goal.make_step-requires-clause-shows
+make_step-requires-clause-shows g c some = shown_now _ _ _ _ _ _ _ _ c.loop-event.invariant.going some
