@@ -1,86 +1,92 @@
 -- The lines between the panel's.
-use Rattle.std.proofs.Common.{◌≡◌, ℕ, zero, suc, ◌+◌, ◌-◌, ◌≤◌, ◌<◌, Bool, true, false, ◌||◌, List, [], ◌∷◌, ◌++◌, drop, map, set, Option, Some, None, refl, ap, ◌∙◌, arith}
+use Rattle.std.proofs.Common.{◌≡◌, ℕ, zero, suc, ◌+◌, ◌-◌, ◌≤◌, ◌<◌, Bool, true, false, ◌||◌, List, [], ◌∷◌, ◌++◌, drop, get_or, Option, Some, None, refl, ap, sym, ◌∙◌, arith}
 use Rattle.std.specs.Prelude.{if◌then◌else◌, nat_le, nat_lt, unwrap_or}
-use Rattle.std.specs.List.{range_with_len}
 use Rattle.std.proofs.lemmas.Bool.Decides.{nat_tests}
+use Rattle.std.specs.FinMap.{get}
+use Rattle.control_panel.specs.declared.panel.Panel.{Panel}
 use Rattle.grid_address.specs.Place.{Place}
-use Rattle.sheet_store.specs.Grid.{is_hidden}
+use Rattle.natural_recalc.specs.World.{content_of, format_of, value_of, width_or}
+use Rattle.range_names.specs.Names.{NameMap}
+use Rattle.sheet_store.specs.Grid.{is_hidden, own_width, width_of}
+use Rattle.sheet_store.specs.declared.state.CellState.{CellState}
+use Rattle.work_sheet.specs.Seen.{Sheet}
+use Rattle.screen_layout.specs.Alike.{AreAlike}
+use Rattle.screen_layout.specs.Cells.{cell_text, format_in, own_text}
 use Rattle.screen_layout.specs.Columns.{beside, column_text, columns_from, columns_line, margin, shown_columns}
-use Rattle.screen_layout.specs.Control.{below_line, entry_line, pointer_line}
-use Rattle.screen_layout.specs.Foot.{foot_line}
 use Rattle.screen_layout.specs.Lines.{padded, shown_line}
-use Rattle.screen_layout.specs.Screen.{line_text, row_line, screen, screen_line, RepaintsPanel}
+use Rattle.screen_layout.specs.Screen.{line_text, row_line, screen_line}
 use Rattle.screen_layout.specs.Sheets.{width_in}
 use Rattle.screen_layout.specs.declared.shown_columns.Column.{Column}
-use Rattle.work_sheet.specs.Doing.{with_pointer}
-use Rattle.work_sheet.specs.Seen.{Sheet}
-use Rattle.control_panel.specs.declared.panel.Panel.{Panel}
 
--- the pointer may stand in any cell
-module _ (q : Place) (s : Sheet) where
-  columns_from_same : (first : Bool) (count col room : ℕ) → columns_from (with_pointer q s) first count col room ≡ columns_from s first count col room
+-- a row is another one than those that were touched
+abbrev IsApart : (ℕ → Bool) → Option ℕ → Type 0
+IsApart touched None = Unit {0}
+IsApart touched (Some row) = touched row ≡ false
+
+-- the lines of letters and of rows that were not touched
+module _ (touched : ℕ → Bool) (s t : Sheet) (alike : AreAlike touched s t) where
+  width_same : (col : ℕ) → width_in t col ≡ width_in s col
+  width_same col =
+      ap (λ (own : List ℕ). width_or t.settings.width (own_width (get_or own col 0))) alike.widths
+      ∙ ap (λ (whole : ℕ). width_or whole (width_of s.grid col)) alike.width
+
+  hidden_same : (col : ℕ) → is_hidden t.grid col ≡ is_hidden s.grid col
+  hidden_same col = ap (λ (marks : List Bool). get_or marks col false) alike.hidden
+
+  columns_from_same : (first : Bool) (count col room : ℕ) → columns_from t first count col room ≡ columns_from s first count col room
   unfolding columns_from
   columns_from_same first zero col room = refl
   columns_from_same first (suc count) col room =
-      let width : ℕ = width_in s col in
-      let passed : columns_from (with_pointer q s) first count (col + 1) room ≡ columns_from s first count (col + 1) room = columns_from_same first count (col + 1) room in
-      let others : columns_from (with_pointer q s) false count (col + 1) (room - width) ≡ columns_from s false count (col + 1) (room - width) =
-      columns_from_same false count (col + 1) (room - width) in
-      rw (passed, others) refl
+      let next : Bool → ℕ → List Column → List Column → List Column = λ hidden width passed others.
+      if hidden then passed
+      else if first || nat_le width room then record { col = col; width = width } ∷ others
+      else [] in
+      let behind : ℕ → List Column = λ width. columns_from t false count (col + 1) (room - width) in
+      ap (λ (hidden : Bool). next hidden (width_in t col) (columns_from t first count (col + 1) room) (behind (width_in t col))) (hidden_same col)
+      ∙ ap (λ (width : ℕ). next (is_hidden s.grid col) width (columns_from t first count (col + 1) room) (behind width)) (width_same col)
+      ∙ ap (λ (passed : List Column). next (is_hidden s.grid col) (width_in s col) passed (behind (width_in s col))) (columns_from_same first count (col + 1) room)
+      ∙ ap (next (is_hidden s.grid col) (width_in s col) (columns_from s first count (col + 1) room)) (columns_from_same false count (col + 1) (room - width_in s col))
 
-  beside_same : (row : Option ℕ) (xs : List Column) (over : List ℕ) → beside (with_pointer q s) row xs over ≡ beside s row xs over
+  cell_same : (c : Place) (width : ℕ) → touched c.row ≡ false → cell_text t c width ≡ cell_text s c width
+  cell_same c width apart =
+      ap (λ (o : Option CellState). own_text t.names c (content_of o) (value_of o) (format_in t.settings.format (format_of o)) width) (alike.cells c apart)
+      ∙ ap (λ (names : NameMap). own_text names c (content_of (get s.grid.cells c)) (value_of (get s.grid.cells c)) (format_in t.settings.format (format_of (get s.grid.cells c))) width) alike.names
+      ∙ ap (λ (format : ℕ). own_text s.names c (content_of (get s.grid.cells c)) (value_of (get s.grid.cells c)) (format_in format (format_of (get s.grid.cells c))) width) alike.format
+
+  column_same : (row : Option ℕ) (x : Column) → IsApart touched row → column_text t row x ≡ column_text s row x
+  column_same None x apart = refl
+  column_same (Some row) x apart = cell_same (record { row = row; col = x.col }) x.width apart
+
+  beside_same : (row : Option ℕ) (xs : List Column) (over : List ℕ) → IsApart touched row → beside t row xs over ≡ beside s row xs over
   unfolding beside
-  beside_same row [] over = refl
-  beside_same None (x ∷ xs) over =
-      let text : List ℕ = unwrap_or (column_text s None x) over in
-      ap (λ (l : List ℕ). padded x.width text ++ l) (beside_same None xs (drop x.width text))
-  beside_same (Some row) (x ∷ xs) over =
-      let text : List ℕ = unwrap_or (column_text s (Some row) x) over in
-      ap (λ (l : List ℕ). padded x.width text ++ l) (beside_same (Some row) xs (drop x.width text))
+  beside_same row [] over apart = refl
+  beside_same row (x ∷ xs) over apart =
+      let text : Option (List ℕ) → List ℕ = λ own. unwrap_or own over in
+      ap (λ (own : Option (List ℕ)). padded x.width (text own) ++ beside t row xs (drop x.width (text own))) (column_same row x apart)
+      ∙ ap (λ (l : List ℕ). padded x.width (text (column_text s row x)) ++ l) (beside_same row xs (drop x.width (text (column_text s row x))) apart)
 
-  columns_line_same : (row : Option ℕ) (first : ℕ) → columns_line (with_pointer q s) row first ≡ columns_line s row first
-  columns_line_same row first =
-      ap (λ (xs : List Column). margin row ++ beside (with_pointer q s) row xs []) (columns_from_same true (256 - first) first 76)
-      ∙ ap (λ (l : List ℕ). margin row ++ l) (beside_same row (shown_columns s first) [])
+  columns_line_same : (row : Option ℕ) (first : ℕ) → IsApart touched row → columns_line t row first ≡ columns_line s row first
+  columns_line_same row first apart =
+      ap (λ (xs : List Column). margin row ++ beside t row xs []) (columns_from_same true (256 - first) first 76)
+      ∙ ap (λ (l : List ℕ). margin row ++ l) (beside_same row (shown_columns s first) [] apart)
 
-  row_line_same : (row first : ℕ) → row_line (with_pointer q s) row first ≡ row_line s row first
-  row_line_same row first = ap (λ (l : List ℕ). if nat_lt row 8192 then l else []) (columns_line_same (Some row) first)
+  -- the letters are the same from the same column on
+  pub letters_same : (a b : Panel) (corner from : Place) (d e : Option ℕ) (x y : ℕ) → corner.col ≡ from.col →
+      screen_line s a corner d x 3 ≡ screen_line t b from e y 3
+  letters_same a b corner from d e x y stays =
+      sym (ap (λ (col : ℕ). shown_line (columns_line t None col)) (sym stays) ∙ ap shown_line (columns_line_same None corner.col tt))
 
-  -- the lines 3 to 23 tell nothing of the pointer, of a panel or of a moment
-  pub line_same : (a b : Panel) (corner : Place) (d e : Option ℕ) (t u n : ℕ) → 3 ≤ n → n < 24 →
-      screen_line (with_pointer q s) a corner d t n ≡ screen_line s b corner e u n
-  line_same a b corner d e t u n least most =
+  -- a line of a row that was not touched is the same, whatever the panel and the moment are
+  pub row_same : (a b : Panel) (corner : Place) (d e : Option ℕ) (x y n : ℕ) → 4 ≤ n → n < 24 → touched (corner.row + (n - 4)) ≡ false →
+      screen_line s a corner d x n ≡ screen_line t b corner e y n
+  row_same a b corner d e x y n least most apart =
       let zeroth : nat_lt n 1 ≡ false = grind (arith, nat_tests) in
       let first : nat_lt n 2 ≡ false = grind (arith, nat_tests) in
       let second : nat_lt n 3 ≡ false = grind (arith, nat_tests) in
+      let third : nat_lt n 4 ≡ false = grind (arith, nat_tests) in
       let between : nat_lt n 24 ≡ true = grind (arith, nat_tests) in
       let row : ℕ = corner.row + (n - 4) in
-      let same : (if nat_lt n 4 then columns_line (with_pointer q s) None corner.col else row_line (with_pointer q s) row corner.col)
-      ≡ (if nat_lt n 4 then columns_line s None corner.col else row_line s row corner.col) =
-      ap (λ (l : List ℕ). if nat_lt n 4 then l else row_line (with_pointer q s) row corner.col) (columns_line_same None corner.col)
-      ∙ ap (λ (l : List ℕ). if nat_lt n 4 then columns_line s None corner.col else l) (row_line_same row corner.col) in
-      let text : line_text (with_pointer q s) a corner d t n ≡ line_text s b corner e u n = rw (zeroth, first, second, between) same in
+      let same : row_line s row corner.col ≡ row_line t row corner.col =
+      sym (ap (λ (l : List ℕ). if nat_lt row 8192 then l else []) (columns_line_same (Some row) corner.col apart)) in
+      let text : line_text s a corner d x n ≡ line_text t b corner e y n = rw (zeroth, first, second, third, between) same in
       ap shown_line text
-
--- lines that are the same one by one
-same_lines : (f g : ℕ → List ℕ) (first count : ℕ) → ((n : ℕ) → first ≤ n → n < first + count → g n ≡ f n) →
-    map g (range_with_len first count) ≡ map f (range_with_len first count)
-same_lines f g first zero h = refl
-same_lines f g first (suc count) h =
-    ap (λ (l : List ℕ). l ∷ map g (range_with_len (first + 1) count)) (h first (omega arith) (omega arith))
-    ∙ ap (λ (ls : List (List ℕ)). f first ∷ ls) (same_lines f g (first + 1) count (λ n least most. h n (omega (arith, least)) (omega (arith, most))))
-
--- the four lines are set, and the others are the same
-lines_set : (f g : ℕ → List ℕ) → ((n : ℕ) → 3 ≤ n → n < 24 → g n ≡ f n) →
-    set (set (set (set (map g (range_with_len 0 25)) 0 (f 0)) 1 (f 1)) 2 (f 2)) 24 (f 24) ≡ map f (range_with_len 0 25)
-lines_set f g h = ap (λ (ls : List (List ℕ)). f 0 ∷ f 1 ∷ f 2 ∷ (ls ++ f 24 ∷ [])) (same_lines f g 3 21 h)
-
--- the panel's lines are set over a screen of the same cells
-pub panel_set : (s : Sheet) (p : Panel) (day : Option ℕ) (second : ℕ) (pointer entry below foot : List ℕ) (before : List (List ℕ)) →
-    pointer ≡ shown_line (pointer_line s p) → entry ≡ shown_line (entry_line p) → below ≡ shown_line (below_line p) →
-    foot ≡ shown_line (foot_line s p day second) →
-    RepaintsPanel s p day second before (set (set (set (set before 0 pointer) 1 entry) 2 below) 24 foot)
-unfolding screen
-panel_set s p day second pointer entry below foot before zeroth first next last q a corner d t shown =
-    rw (zeroth, first, next, last, shown) (lines_set (screen_line s p corner day second) (screen_line (with_pointer q s) a corner d t)
-    (λ n least most. line_same q s a p corner d day t second n least most))

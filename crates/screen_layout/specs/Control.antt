@@ -13,6 +13,7 @@ use Rattle.control_panel.specs.declared.panel.Mode.TheVariants.{Ready, Label, Va
 use Rattle.control_panel.specs.declared.panel.Panel.{Panel}
 use Rattle.work_sheet.specs.Typed.{typed}
 
+-- the word that tells a mode
 abbrev pub mode_name : Mode → List ℕ
 mode_name Ready = codes "READY"
 mode_name Label = codes "LABEL"
@@ -34,8 +35,10 @@ with_space (b ∷ bs) = (b ∷ bs) ++ 32 ∷ []
 
 -- a cell without a protection mark is told, and one with it while protection is on
 abbrev pub protection_part : Bool → ℕ → List ℕ
-protection_part protection format = if not (has_protection format) then codes "U " else if protection then codes "PR " else []
+protection_part protection format =
+    if not (has_protection format) then codes "U " else if protection then codes "PR " else []
 
+-- a column's own width
 abbrev pub width_part : Option ℕ → List ℕ
 width_part None = []
 width_part (Some width) = codes "[W" ++ decimal width ++ codes "] "
@@ -47,8 +50,8 @@ pointer_format s = format_of (map.get s.grid.cells s.settings.pointer)
 -- the pointer's address, and what is told of its cell
 abbrev pub front_text : Sheet → List ℕ
 front_text s =
-    address_of s.settings.pointer ++ codes ": " ++ with_space (indicator_of (pointer_format s)) ++ protection_part s.settings.protection (pointer_format s)
-    ++ width_part (width_of s.grid s.settings.pointer.col)
+    address_of s.settings.pointer ++ codes ": " ++ with_space (indicator_of (pointer_format s))
+    ++ protection_part s.settings.protection (pointer_format s) ++ width_part (width_of s.grid s.settings.pointer.col)
 
 -- the same and the content as it would be typed
 abbrev pub pointer_text : Sheet → List ℕ
@@ -62,6 +65,7 @@ pointer_line s p = filled 73 (take 72 (pointer_text s)) ++ mode_text p.indicate 
 abbrev pub typed_line : Panel → List ℕ
 typed_line p = drop (length (with_space p.prompt) + p.cursor - 79) (with_space p.prompt ++ p.typed)
 
+-- a menu stands in the panel's second and third line
 abbrev pub is_menu : Mode → Bool
 is_menu Ready = false
 is_menu Label = false

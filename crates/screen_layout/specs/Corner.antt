@@ -27,5 +27,9 @@ first_column s first pointer =
     else if nat_lt pointer first then pointer
     else nearest s (pointer - first) first
 
+-- the cell at the top left, by the one before
 abbrev pub corner_for : Sheet → Place → Place
-corner_for s corner = record { row = first_row corner.row s.settings.pointer.row; col = first_column s corner.col s.settings.pointer.col }
+corner_for s corner = record {
+  row = first_row corner.row s.settings.pointer.row;
+  col = first_column s corner.col s.settings.pointer.col;
+}

@@ -11,7 +11,9 @@ use Rattle.control_panel.specs.declared.panel.Panel.{Panel}
 -- the day, the hour and the minute, as 01-Jun-87 14:05; nothing where the clock has no day
 abbrev pub moment_text : Option ℕ → ℕ → List ℕ
 moment_text None second = []
-moment_text (Some day) second = shown_number (pos (day * 1000000)) date_format 10 ++ two_digits (second / 3600) ++ 58 ∷ two_digits (second / 60 % 60)
+moment_text (Some day) second =
+    shown_number (pos (day * 1000000)) date_format 10
+    ++ two_digits (second / 3600) ++ 58 ∷ two_digits (second / 60 % 60)
 
 -- in ERROR the message
 abbrev pub first_part : Mode → List ℕ → Option ℕ → ℕ → List ℕ
@@ -35,4 +37,5 @@ wants_recalculation s = s.stale && not s.settings.automatic
 -- CALC from column 50 on, CIRC from 56, END from 62 and CMD from 67
 abbrev pub foot_line : Sheet → Panel → Option ℕ → ℕ → List ℕ
 foot_line s p day second =
-    marked p.running 67 (codes "CMD") (marked p.end 62 (codes "END") (marked s.circular 56 (codes "CIRC") (marked (wants_recalculation s) 50 (codes "CALC") (take 50 (first_part p.mode p.message day second)))))
+    marked p.running 67 (codes "CMD") (marked p.end 62 (codes "END") (marked s.circular 56 (codes "CIRC")
+    (marked (wants_recalculation s) 50 (codes "CALC") (take 50 (first_part p.mode p.message day second)))))

@@ -1,3 +1,4 @@
+pub mod Alike
 pub mod Cells
 pub mod Columns
 pub mod Coming
@@ -7,3 +8,4 @@ pub mod Foot
 pub mod Lines
 pub mod Screen
 pub mod Sheets
+pub mod Views

@@ -1,12 +1,11 @@
 -- The screen: 25 lines of 80 bytes, painted from nothing, at the second of a day where the clock has a day.
-use Rattle.std.specs.Prelude.{◌≡◌, ℕ, ◌+◌, ◌-◌, List, [], map, Option, Some, None, nat_lt, if◌then◌else◌}
+use Rattle.std.specs.Prelude.{ℕ, ◌+◌, ◌-◌, List, [], map, Option, Some, None, nat_lt, if◌then◌else◌}
 use Rattle.std.specs.List.{range_with_len}
 use Rattle.grid_address.specs.Place.{Place}
 use Rattle.screen_layout.specs.Columns.{columns_line}
 use Rattle.screen_layout.specs.Control.{below_line, entry_line, pointer_line}
 use Rattle.screen_layout.specs.Foot.{foot_line}
 use Rattle.screen_layout.specs.Lines.{shown_line}
-use Rattle.work_sheet.specs.Doing.{with_pointer}
 use Rattle.work_sheet.specs.Seen.{Sheet}
 use Rattle.control_panel.specs.declared.panel.Panel.{Panel}
 
@@ -24,15 +23,10 @@ line_text s p corner day second n =
     else if nat_lt n 24 then row_line s (corner.row + (n - 4)) corner.col
     else foot_line s p day second
 
+-- the same as it is shown, 80 bytes
 abbrev pub screen_line : Sheet → Panel → Place → Option ℕ → ℕ → ℕ → List ℕ
 screen_line s p corner day second n = shown_line (line_text s p corner day second n)
 
+-- the 25 lines of the screen
 unfoldable pub screen : Sheet → Panel → Place → Option ℕ → ℕ → List (List ℕ)
 screen s p corner day second = map (screen_line s p corner day second) (range_with_len 0 25)
-
--- A grid that shows a sheet's cells from a corner on, with any pointer, any panel and at any moment, becomes the screen
--- of the sheet and this panel at this moment from that corner on.
-abbrev pub RepaintsPanel : Sheet → Panel → Option ℕ → ℕ → List (List ℕ) → List (List ℕ) → Type 0
-RepaintsPanel s p day second before after =
-    (q : Place) (a : Panel) (corner : Place) (d : Option ℕ) (t : ℕ) →
-    before ≡ screen (with_pointer q s) a corner d t → after ≡ screen s p corner day second

@@ -2,6 +2,7 @@
 ghost use Rattle.std.specs.Prelude.{◌≡◌, ◌≤◌, ◌++◌, ◌+◌, ◌-◌, [], length, take, drop, replicate};
 ghost use Rattle.std.specs.FinMap as map;
 ghost use Rattle.cell_format.specs.Indicator.{indicator_of};
+ghost use Rattle.screen_layout.specs.Views.{viewed};
 ghost use Rattle.grid_address.specs.Address.{address_of};
 ghost use Rattle.natural_recalc.specs.World.{format_of};
 ghost use Rattle.screen_layout.specs.Control.{below_line, entry_line, front_text, is_menu, mode_name, mode_text, pointer_format, pointer_line, pointer_text, protection_part, typed_line, width_part, with_space};
@@ -10,13 +11,15 @@ ghost use Rattle.work_sheet.specs.Seen.{of_worksheet};
 ghost use Rattle.work_sheet.specs.Typed.{typed};
 
 use crate::painted_line::PaintedLine;
+use crate::panel_view::PanelView;
 use cell_format::indicator;
-use control_panel::{Mode, Panel};
+use control_panel::Mode;
 use formula_eval::Look;
 use grid_address::{Cell, Format, cell_text, decimal_text};
 use lics_text::Line;
 use work_sheet::Sheet;
 
+// The word that tells a mode.
 fn mode_name(mode: Mode) -> &'static [u8]
     ensures name { result.now ≡ mode_name mode }
     ensures size { length result.now ≤ 5 }
@@ -33,11 +36,11 @@ fn mode_name(mode: Mode) -> &'static [u8]
 }
 
 // The first five bytes of the text that a macro put there, or the mode.
-fn mode_text(panel: &Panel) -> &[u8]
-    ensures text { result.now ≡ mode_text panel.now.indicate panel.now.mode }
+fn mode_text<'a>(panel: &PanelView<'a>) -> &'a [u8]
+    ensures text { result.now ≡ mode_text panel.now.indicate.now panel.now.mode }
     ensures size { length result.now ≤ 5 }
 {
-    let text = panel.indicate.bytes();
+    let text = panel.indicate;
     if text.is_empty() {
         mode_name(panel.mode)
     } else {
@@ -45,6 +48,7 @@ fn mode_text(panel: &Panel) -> &[u8]
     }
 }
 
+// Adds a format's indicator and a blank, where it has one.
 fn put_indicator(format: Format, into: &mut Line)
     requires { length into.old ≤ 100 }
     ensures text { into.new ≡ into.old ++ with_space (indicator_of format.0) }
@@ -58,6 +62,7 @@ fn put_indicator(format: Format, into: &mut Line)
     }
 }
 
+// Adds what is told of a cell's protection.
 fn put_protection(protection: bool, format: Format, into: &mut Line)
     requires { length into.old ≤ 100 }
     ensures text { into.new ≡ into.old ++ protection_part protection format.0 }
@@ -70,6 +75,7 @@ fn put_protection(protection: bool, format: Format, into: &mut Line)
     }
 }
 
+// Adds a column's own width.
 fn put_width(width: Option<u8>, into: &mut Line)
     requires { length into.old ≤ 100 }
     ensures text { into.new ≡ into.old ++ width_part width }
@@ -99,6 +105,7 @@ fn put_front(sheet: &Sheet, into: &mut Line)
     put_width(sheet.own_width(pointer.col), into);
 }
 
+// The pointer's cell.
 fn pointer_of(sheet: &Sheet) -> Cell
     ensures { result ≡ sheet.now.settings.pointer }
 {
@@ -123,8 +130,8 @@ fn pointer_part(sheet: &Sheet) -> PaintedLine
 
 /// The pointer's address, what is told of its cell, its content and the mode.
 #[tactic(auto, using(crate::proofs::Cuts::mode_added))]
-pub fn pointer_line(sheet: &Sheet, panel: &Panel) -> [u8; 80]
-    ensures { result ≡ shown_line (pointer_line (of_worksheet sheet.now) panel.now) }
+pub fn pointer_line(sheet: &Sheet, panel: &PanelView) -> [u8; 80]
+    ensures { result ≡ shown_line (pointer_line (of_worksheet sheet.now) (viewed panel.now)) }
 {
     let mut line = pointer_part(sheet);
     line.add(80, mode_text(panel));
@@ -146,17 +153,18 @@ fn blank_behind(prompt: &[u8]) -> &'static [u8]
     if prompt.is_empty() { b"" } else { b" " }
 }
 
-fn cursor_of(panel: &Panel) -> u8
+// How many bytes stand before the cursor.
+fn cursor_of(panel: &PanelView) -> u8
     ensures { result ≡ panel.now.cursor }
 {
     panel.cursor
 }
 
 // The line that is typed behind its prompt, from the byte that lets the cursor stand at column 79 at most.
-fn typed_line(panel: &Panel) -> [u8; 80]
-    ensures { result ≡ shown_line (typed_line panel.now) }
+fn typed_line(panel: &PanelView) -> [u8; 80]
+    ensures { result ≡ shown_line (typed_line (viewed panel.now)) }
 {
-    let prompt = panel.prompt.bytes();
+    let prompt = panel.prompt;
     let blank = blank_behind(prompt);
     let before = prompt.len() + blank.len();
     let cursor = usize::from(cursor_of(panel));
@@ -164,7 +172,7 @@ fn typed_line(panel: &Panel) -> [u8; 80]
     let mut line = PaintedLine::new();
     add_from(&mut line, prompt, start);
     add_from(&mut line, blank, start.saturating_sub(prompt.len()));
-    add_from(&mut line, panel.typed.bytes(), start.saturating_sub(before));
+    add_from(&mut line, panel.typed, start.saturating_sub(before));
     line.finish()
 }
 
@@ -178,6 +186,7 @@ pub fn text_line(text: &[u8]) -> [u8; 80]
     line.finish()
 }
 
+// Whether a menu stands in the panel's second and third line.
 fn is_menu(mode: Mode) -> bool
     ensures { result ≡ is_menu mode }
 {
@@ -193,22 +202,22 @@ fn is_menu(mode: Mode) -> bool
 }
 
 /// The menu's items, or the line that is typed.
-pub fn entry_line(panel: &Panel) -> [u8; 80]
-    ensures { result ≡ shown_line (entry_line panel.now) }
+pub fn entry_line(panel: &PanelView) -> [u8; 80]
+    ensures { result ≡ shown_line (entry_line (viewed panel.now)) }
 {
     if is_menu(panel.mode) {
-        text_line(panel.menu.bytes())
+        text_line(panel.menu)
     } else {
         typed_line(panel)
     }
 }
 
 /// What the highlighted item leads to.
-pub fn below_line(panel: &Panel) -> [u8; 80]
-    ensures { result ≡ shown_line (below_line panel.now) }
+pub fn below_line(panel: &PanelView) -> [u8; 80]
+    ensures { result ≡ shown_line (below_line (viewed panel.now)) }
 {
     if is_menu(panel.mode) {
-        text_line(panel.below.bytes())
+        text_line(panel.below)
     } else {
         text_line(b"")
     }

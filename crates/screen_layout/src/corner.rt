@@ -3,7 +3,7 @@ ghost use Rattle.std.specs.Prelude.{◌≡◌, ◌≤◌, ◌+◌, ◌-◌, ◌*
 ghost use Rattle.screen_layout.specs.Corner.{corner_for, first_column, first_row, nearest, wide};
 ghost use Rattle.work_sheet.specs.Seen.{of_worksheet};
 
-use crate::widths::width_in;
+use crate::widths::{MOST_WIDTH, width_in};
 use grid_address::Cell;
 use work_sheet::Sheet;
 
@@ -22,7 +22,7 @@ fn first_row(first: u16, pointer: u16) -> u16
 #[tactic(auto, using(crate::proofs::Nearing::wide_hidden, crate::proofs::Nearing::wide_seen))]
 fn shown_width(sheet: &Sheet, col: u8) -> u16
     ensures width { result ≡ wide (of_worksheet sheet.now) 1 col }
-    ensures most { result ≤ 240 }
+    ensures most { result ≤ MOST_WIDTH }
 {
     if sheet.is_hidden(col) {
         0
@@ -35,7 +35,7 @@ fn shown_width(sheet: &Sheet, col: u8) -> u16
 fn wide(sheet: &Sheet, first: u8, last: u8) -> u16
     requires { first ≤ last }
     ensures width { result ≡ wide (of_worksheet sheet.now) (last - first + 1) first }
-    ensures most { result ≤ 240 * (last - first + 1) }
+    ensures most { result ≤ MOST_WIDTH * (last - first + 1) }
 {
     let mut sum: u16 = 0;
     for col in u16::from(first)..u16::from(last) + 1 {
@@ -60,6 +60,7 @@ fn nearest(sheet: &Sheet, first: u8, pointer: u8) -> u8
     pointer
 }
 
+// The first shown column, as near to the one before as lets the pointer's be shown whole.
 fn first_column(sheet: &Sheet, first: u8, pointer: u8) -> u8
     ensures { result ≡ first_column (of_worksheet sheet.now) first pointer }
 {

@@ -1,19 +1,22 @@
 // The last line: the moment or a message, and the indicators.
 ghost use Rattle.std.specs.Prelude.{◌≡◌, ◌≤◌, ◌+◌, ◌++◌, [], length, take, pos, ◌*◌};
 ghost use Rattle.cell_format.specs.Numbers.{shown_number, two_digits};
+ghost use Rattle.screen_layout.specs.Views.{viewed};
 ghost use Rattle.screen_layout.specs.Foot.{first_part, foot_line, marked, moment_text, wants_recalculation};
 ghost use Rattle.screen_layout.specs.Lines.{shown_line};
 ghost use Rattle.work_sheet.specs.Seen.{of_worksheet};
 
 use crate::painted_line::PaintedLine;
+use crate::panel_view::PanelView;
 use cell_format::show_number;
-use control_panel::{Mode, Panel};
+use control_panel::Mode;
 use fixed_value::Fixed;
 use grid_address::Format;
 use lics_text::Line;
 use serial_date::Moment;
 use work_sheet::Sheet;
 
+// Adds the last two digits of a number.
 fn put_two_digits(number: u32, into: &mut Line)
     requires { length into.old ≤ 100 }
     ensures { into.new ≡ into.old ++ two_digits number }
@@ -49,13 +52,13 @@ fn put_moment(now: &Moment, into: &mut Line)
 }
 
 // The moment, or in ERROR the message.
-fn first_part(panel: &Panel, now: &Moment) -> PaintedLine
-    ensures text { result ≡ take 50 (first_part panel.now.mode panel.now.message now.now.day now.now.second) }
+fn first_part(panel: &PanelView, now: &Moment) -> PaintedLine
+    ensures text { result ≡ take 50 (first_part panel.now.mode panel.now.message.now now.now.day now.now.second) }
     ensures width { length result ≤ 50 }
 {
     let mut line = PaintedLine::new();
     if let Mode::Error = panel.mode {
-        line.add(50, panel.message.bytes());
+        line.add(50, panel.message);
         return line;
     }
     let mut text = Line::new();
@@ -77,15 +80,16 @@ fn mark(line: &mut PaintedLine, told: bool, column: usize, word: &[u8])
     }
 }
 
-fn wants_recalculation(sheet: &Sheet) -> bool
+/// Whether a change was made since the last recalculation, and none follows by itself.
+pub fn wants_recalculation(sheet: &Sheet) -> bool
     ensures { result ≡ wants_recalculation (of_worksheet sheet.now) }
 {
     sheet.is_stale() && !sheet.settings().automatic
 }
 
 /// The last line: the moment or in ERROR the message, and CALC, CIRC, END and CMD.
-pub fn foot_line(sheet: &Sheet, panel: &Panel, now: &Moment) -> [u8; 80]
-    ensures { result ≡ shown_line (foot_line (of_worksheet sheet.now) panel.now now.now.day now.now.second) }
+pub fn foot_line(sheet: &Sheet, panel: &PanelView, now: &Moment) -> [u8; 80]
+    ensures { result ≡ shown_line (foot_line (of_worksheet sheet.now) (viewed panel.now) now.now.day now.now.second) }
 {
     let mut line = first_part(panel, now);
     mark(&mut line, wants_recalculation(sheet), 50, b"CALC");

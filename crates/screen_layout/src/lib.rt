@@ -7,10 +7,13 @@ mod control;
 mod corner;
 mod foot;
 mod painted_line;
+mod panel_view;
 mod screen;
 mod shown_columns;
 mod widths;
 
 pub use corner::corner_for;
-pub use screen::{paint, paint_panel};
+pub use foot::wants_recalculation;
+pub use panel_view::PanelView;
+pub use screen::{paint, paint_lines};
 pub use shown_columns::columns_shown;

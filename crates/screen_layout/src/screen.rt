@@ -1,6 +1,8 @@
 // The whole screen.
 ghost use Rattle.std.specs.Prelude.{◌≡◌, ◌≤◌};
-ghost use Rattle.screen_layout.specs.Screen.{row_line, screen, screen_line, RepaintsPanel};
+ghost use Rattle.screen_layout.specs.Views.{viewed};
+ghost use Rattle.screen_layout.specs.Screen.{row_line, screen, screen_line};
+ghost use Rattle.screen_show.specs.Changes.{Unchanged};
 ghost use Rattle.screen_layout.specs.Lines.{shown_line};
 ghost use Rattle.work_sheet.specs.Seen.{of_worksheet};
 ghost use Rattle.screen_show.specs.Grid.{IsGrid, IsPrinted};
@@ -8,26 +10,31 @@ ghost use Rattle.screen_show.specs.Grid.{IsGrid, IsPrinted};
 use crate::columns::columns_line;
 use crate::control::{below_line, entry_line, pointer_line, text_line};
 use crate::foot::foot_line;
+use crate::panel_view::PanelView;
 use control_panel::Panel;
 use grid_address::Cell;
-use screen_show::Grid;
+use screen_show::{Grid, LineSet};
 use serial_date::Moment;
 use work_sheet::Sheet;
+
+// How many rows a sheet has.
+const ROWS: u16 = 8192;
 
 // A row of the sheet; below row 8192 there is none.
 fn row_line(sheet: &Sheet, row: u16, first: u8) -> [u8; 80]
     ensures { result ≡ shown_line (row_line (of_worksheet sheet.now) row first) }
 {
-    if row < 8192 {
+    if row < ROWS {
         columns_line(sheet, Some(row), first)
     } else {
         text_line(b"")
     }
 }
 
-fn line_at(sheet: &Sheet, panel: &Panel, corner: Cell, now: &Moment, line: u8) -> [u8; 80]
+// A line of the screen.
+fn line_at(sheet: &Sheet, panel: &PanelView, corner: Cell, now: &Moment, line: u8) -> [u8; 80]
     requires { line ≤ 24 }
-    ensures { result ≡ screen_line (of_worksheet sheet.now) panel.now corner now.now.day now.now.second line }
+    ensures { result ≡ screen_line (of_worksheet sheet.now) (viewed panel.now) corner now.now.day now.now.second line }
 {
     let Cell { row, col } = corner;
     match line {
@@ -48,19 +55,34 @@ pub fn paint(sheet: &Sheet, panel: &Panel, corner: Cell, now: &Moment) -> Grid
     ensures printed { IsPrinted (screen (of_worksheet sheet.now) panel.now corner now.now.day now.now.second) }
 {
     let mut grid = Grid::empty();
-    for line in 0..25u8 {
-        grid.set_line(line, line_at(sheet, panel, corner, now, line));
-    }
+    paint_lines(
+        sheet,
+        &PanelView::of(panel),
+        corner,
+        now,
+        &LineSet::all(),
+        &mut grid,
+    );
     grid
 }
 
-/// Paints the panel's lines anew, 0 to 2 and 24, over a screen of the same cells at the same corner, whatever its
-/// pointer, its panel and its moment were: the lines between tell of none of them.
-pub fn paint_panel(sheet: &Sheet, panel: &Panel, now: &Moment, grid: &mut Grid)
-    ensures { RepaintsPanel (of_worksheet sheet.now) panel.now now.now.day now.now.second grid.old grid.new }
+/// Paints the lines of a set over a screen that has the others in common with this one, as `paint` does.
+pub fn paint_lines(
+    sheet: &Sheet,
+    panel: &PanelView,
+    corner: Cell,
+    now: &Moment,
+    lines: &LineSet,
+    grid: &mut Grid,
+)
+    requires { Unchanged lines.now grid.old
+        (screen (of_worksheet sheet.now) (viewed panel.now) corner now.now.day now.now.second) }
+    ensures { grid.new ≡ screen (of_worksheet sheet.now) (viewed panel.now) corner now.now.day now.now.second }
 {
-    grid.set_line(0, pointer_line(sheet, panel));
-    grid.set_line(1, entry_line(panel));
-    grid.set_line(2, below_line(panel));
-    grid.set_line(24, foot_line(sheet, panel, now));
+    grid.is_whole();
+    let mut line = lines.next_from(0);
+    while line < 25 {
+        grid.set_line(line, line_at(sheet, panel, corner, now, line));
+        line = lines.next_from(line + 1);
+    }
 }

@@ -3,22 +3,24 @@ ghost use Rattle.std.specs.Prelude.{◌≡◌, true, false, not, IfOk, IsOk, Non
 ghost use Rattle.command_desk.specs.Desks.{of_desk};
 ghost use Rattle.commands_file.specs.Calls.{shelf_view, HasBrokenOff};
 ghost use Rattle.entry_line.specs.Line.{placed};
+ghost use Rattle.screen_layout.specs.Views.{viewed};
+ghost use Rattle.screen_show.specs.Changes.{Unchanged};
 ghost use Rattle.session_core.specs.Carrying.{acted, asked, carried, editing, entered, failed, finished, going, left_by};
 ghost use Rattle.session_core.specs.Carrying.{is_pointer_protected, looking, recalculated, settling, started, told, writing};
 ghost use Rattle.session_core.specs.Machine.{begun_with, in_room, pointer_of, pointing_at, scene_at, sheet_of, wants_key};
 ghost use Rattle.session_core.specs.Machine.{Leads, LeadsBy, LeadsOver};
 ghost use Rattle.session_core.specs.Moving.{IsMoved, OnlyMoves, OnlyMovesBy, OnlyMovesByKey};
-ghost use Rattle.session_core.specs.Screen.{panel_of, screen, Repaints};
+ghost use Rattle.session_core.specs.Pressing.{room_panel};
+ghost use Rattle.session_core.specs.Screen.{screen};
 ghost use Rattle.session_core.specs.Step.{come_to, event_taken, framed, is_key, loaded, taken, timed};
 ghost use Rattle.work_sheet.specs.Did.{work_of};
 
 use crate::entering::{Meant, meaning_of};
 use crate::event::Event;
 use crate::faults::fault_message;
-use crate::pressing::{room_panel, turn_of};
+use crate::pressing::{plain_view, room_panel, turn_of};
 use cell_pointer::{Way, moved};
 use command_desk::settle;
-use control_panel::Panel;
 use desk_errors::CommandError;
 use entry_line::EntryLine;
 use formula_eval::{Look, Scene, Tally};
@@ -32,8 +34,8 @@ use menu_room::menu_or_ready;
 use menu_tree::{Action, back};
 use outside_world::Shelf;
 use prompt_room::{WhatFollows, opening};
-use screen_layout::{columns_shown, corner_for, paint, paint_panel};
-use screen_show::Grid;
+use screen_layout::{PanelView, columns_shown, corner_for, paint_lines};
+use screen_show::{Grid, LineSet};
 use serial_date::Moment;
 use session_rooms::{AnsweredCommand, Answering, PromptRoom, Room, Turn, TypingMode, TypingRoom};
 use sheet_commands::{CommandEnd, Desk, Looked, act, look};
@@ -574,16 +576,6 @@ impl Machine {
         self.moment = *now;
     }
 
-    // What is shown beside the sheet.
-    fn panel(&self) -> Panel
-        ensures { result ≡ panel_of self.now.state }
-    {
-        let mut panel = room_panel(&self.room);
-        panel.end = self.end;
-        panel.running = self.engine.is_running();
-        panel
-    }
-
     /// The cell at the top left of the screen.
     pub fn corner(&self) -> Cell
         ensures { result ≡ self.now.state.corner }
@@ -591,17 +583,42 @@ impl Machine {
         self.corner
     }
 
+    // Paints lines of the screen with what is shown of the room.
+    fn paint_with(&self, room: PanelView, lines: &LineSet, shown: &mut Grid)
+        requires view { viewed room ≡ room_panel self.now.state.room }
+        requires unchanged { Unchanged lines.now shown.old (screen self.now.state) }
+        ensures { shown.new ≡ screen self.now.state }
+    {
+        let mut panel = room;
+        panel.end = self.end;
+        panel.running = self.engine.is_running();
+        paint_lines(
+            &self.desk.sheet,
+            &panel,
+            self.corner,
+            &self.moment,
+            lines,
+            shown,
+        );
+    }
+
+    /// Paints the lines of a set over a grid that has the others in common with the screen.
+    pub fn paint_lines(&self, lines: &LineSet, shown: &mut Grid)
+        requires { Unchanged lines.now shown.old (screen self.now.state) }
+        ensures { shown.new ≡ screen self.now.state }
+    {
+        match plain_view(&self.room) {
+            Some(view) => self.paint_with(view, lines, shown),
+            None => self.paint_with(PanelView::of(&room_panel(&self.room)), lines, shown),
+        }
+    }
+
     /// The screen, painted from nothing.
     pub fn paint(&self) -> Grid
         ensures { result ≡ screen self.now.state }
     {
-        paint(&self.desk.sheet, &self.panel(), self.corner, &self.moment)
-    }
-
-    /// The screen, over one of the same cells from the same corner on.
-    pub fn paint_panel(&self, shown: &mut Grid)
-        ensures { Repaints self.now.state shown.old shown.new }
-    {
-        paint_panel(&self.desk.sheet, &self.panel(), &self.moment, shown);
+        let mut grid = Grid::empty();
+        self.paint_lines(&LineSet::all(), &mut grid);
+        grid
     }
 }

@@ -1,14 +1,17 @@
 // What a key comes to, and what is shown, by what the session is doing.
-ghost use Rattle.std.specs.Prelude.{◌≡◌, IfOk, IsOk};
+ghost use Rattle.std.specs.Prelude.{◌≡◌, IfOk, IfSome, IsOk};
 ghost use Rattle.command_desk.specs.Desks.{of_desk};
+ghost use Rattle.screen_layout.specs.Views.{viewed};
 ghost use Rattle.session_core.specs.Moving.{KeepsNoAnswer, TakesNoMemory};
 ghost use Rattle.session_core.specs.Pressing.{pressed, room_panel, turn_of};
+ghost use Rattle.typing_room.specs.Room.{told_mode};
 
 use command_desk::Desk;
-use control_panel::Panel;
+use control_panel::{Mode, Panel};
 use key_words::Key;
 use lics_text::Memory;
-use session_rooms::{Room, Turn};
+use screen_layout::PanelView;
+use session_rooms::{Room, Turn, TypingMode};
 
 // What a key comes to in a room.
 fn pressed(room: Room, key: Key, end: bool, desk: &Desk) -> Result<Turn, Memory>
@@ -50,5 +53,31 @@ pub(crate) fn room_panel(room: &Room) -> Panel
         Room::Menu(room) => menu_room::panel(room),
         Room::Asking(room) => prompt_room::panel(room),
         Room::Failed(message) => ready_room::failed_panel(message),
+    }
+}
+
+// The mode that is told while a line is typed.
+fn told_mode(mode: TypingMode) -> Mode
+    ensures { result ≡ told_mode mode }
+{
+    match mode {
+        TypingMode::Label => Mode::Label,
+        TypingMode::Value => Mode::Value,
+        TypingMode::Edit => Mode::Edit,
+    }
+}
+
+/// What is shown in READY and while a line is typed into a cell, where that line stands; none elsewhere.
+pub(crate) fn plain_view(room: &Room) -> Option<PanelView<'_>>
+    ensures { IfSome result (λ v. viewed v ≡ room_panel room.now) }
+{
+    match room {
+        Room::Ready => Some(PanelView::of_line(Mode::Ready, b"", 0)),
+        Room::Typing(room) => {
+            let text = room.line.text();
+            let cursor = room.line.cursor() as u8;
+            Some(PanelView::of_line(told_mode(room.mode), text, cursor))
+        }
+        Room::Pointing(_) | Room::Menu(_) | Room::Asking(_) | Room::Failed(_) => None,
     }
 }

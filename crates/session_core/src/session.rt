@@ -2,20 +2,46 @@
 ghost use Rattle.std.specs.Prelude.{◌≡◌, OnErr, OnOk, false, true};
 ghost use Rattle.command_desk.specs.Desks.{of_desk};
 ghost use Rattle.commands_file.specs.Calls.{shelf_view, HasBrokenOff};
+ghost use Rattle.screen_show.specs.Changes.{Unchanged};
 ghost use Rattle.screen_show.specs.Grid.{IsGrid, IsPrinted};
 ghost use Rattle.session_core.specs.Machine.{begun, sheet_of, wants_key, Follows};
 ghost use Rattle.session_core.specs.Moving.{IsMoved, OnlyMovesBy};
-ghost use Rattle.session_core.specs.Screen.{screen};
+ghost use Rattle.session_core.specs.Screen.{changed_lines, screen};
 ghost use Rattle.session_core.specs.Step.{is_key, loaded, HasTakenStep};
 ghost use Rattle.work_sheet.specs.Did.{work_of};
 
 use crate::machine::{Machine, Touched};
 use crate::{Event, Stepped};
+use grid_address::Cell;
 use outside_world::{Memory, Shelf};
-use screen_show::Grid;
+use screen_show::{Grid, LineSet};
 use serial_date::Moment;
 use sheet_commands::Desk;
 use std::marker::Model;
+
+// Whether the lines of the columns and the rows are the same as before, by what a step may have touched and the cell at
+// the top left before and after it.
+fn keeps_rows(touched: Touched, before: Cell, after: Cell) -> bool
+    ensures { result ≡ true → (touched ≡ Touched.Pointer) × (after ≡ before) }
+{
+    touched == Touched::Pointer && after == before
+}
+
+// The lines that may be others than before, where the cells and the corner are the same or not: in the first case those
+// of the panel alone.
+fn changed_lines(kept: bool) -> LineSet
+    ensures { result ≡ changed_lines kept }
+{
+    if !kept {
+        return LineSet::all();
+    }
+    let mut lines = LineSet::none();
+    lines.insert(0);
+    lines.insert(1);
+    lines.insert(2);
+    lines.insert(24);
+    lines
+}
 
 /// A session: the worksheet, the pointer, and what is being typed, pointed at or asked for. It keeps its screen, and
 /// paints anew what a step may change.
@@ -99,8 +125,14 @@ impl Session {
     /// comes exactly where the menu's Quit was confirmed (Release 2 manual). After `Memory` the session is spent. A
     /// step that only moves the pointer, types, or is passed over, takes no memory and leaves all of the sheet but the
     /// pointer. The shelf is called where a command of files has all its answers, and once before, where it may replace
-    /// a file.
-    pub fn step<S: Shelf>(&mut self, event: Event, now: &Moment, shelf: &mut S) -> Stepped
+    /// a file. The set becomes the lines in which the screen may differ from the one before.
+    pub fn step<S: Shelf>(
+        &mut self,
+        event: Event,
+        now: &Moment,
+        shelf: &mut S,
+        changed: &mut LineSet,
+    ) -> Stepped
         requires fresh { self.old.spent ≡ false }
         requires key { is_key event ≡ wants_key self.old.state }
         ensures more { result ≡ Stepped.More → HasTakenStep event now.now false self.old self.new
@@ -115,17 +147,16 @@ impl Session {
             (shelf_view (S.holds shelf.new) (S.faults shelf.new)) }
         ensures moves { OnlyMovesBy event self.old.state → result ≡ Stepped.More }
         ensures sheet { OnlyMovesBy event self.old.state → IsMoved (sheet_of self.old.state) (sheet_of self.new.state) }
+        ensures lines { self.new.spent ≡ false → Unchanged changed.new (screen self.old.state) (screen self.new.state) }
     {
         let corner = self.machine.corner();
         match self.machine.take_event(event, now, shelf) {
             Ok(taken) => {
                 let stepped = Stepped::of(taken.ends);
                 self.machine.follow(now);
-                if taken.touched == Touched::Pointer && self.machine.corner() == corner {
-                    self.machine.paint_panel(&mut self.shown);
-                } else {
-                    self.shown = self.machine.paint();
-                }
+                let kept = keeps_rows(taken.touched, corner, self.machine.corner());
+                *changed = changed_lines(kept);
+                self.machine.paint_lines(changed, &mut self.shown);
                 stepped
             }
             Err(Memory) => {

@@ -1,15 +1,18 @@
-use Rattle.std.proofs.Common.{arith}
-use Rattle.screen_layout.specs.Screen.{screen_line}
+use Rattle.std.proofs.Common.{ap, ◌∙◌}
+use Rattle.control_panel.specs.declared.panel.Panel.{Panel}
+use Rattle.screen_layout.specs.Screen.{screen}
 use Rattle.work_sheet.specs.Seen.{of_worksheet}
-use Rattle.screen_layout.proofs.Painted.{painted_more, painted_all, printed, shaped}
+use Rattle.screen_layout.proofs.Painted.{printed, shaped}
+use Rattle.screen_show.proofs.LineSets.{all_may_differ}
 use Rattle.screen_layout.proofs.screen.paint.Goals as goal
 
-pub loop-line-preserved : goal.loop-line-preserved
-loop-line-preserved c =
-    rw (c.set_line.ensures, c.line_at.ensures) (painted_more (screen_line (of_worksheet c.args.sheet.now) c.args.panel.now c.args.corner c.args.now.now.day c.args.now.now.second) c.loop-line.line c.loop-line.grid (omega arith) c.loop-line.invariant)
+pub paint_lines-requires : goal.paint_lines-requires
+paint_lines-requires c = rw c.all.ensures (all_may_differ _ _)
 
 pub returns-clause-screen : goal.returns-clause-screen
-returns-clause-screen c = painted_all (of_worksheet c.args.sheet.now) c.args.panel.now c.args.corner c.args.now.now.day c.args.now.now.second c.loop-line.line c.loop-line.grid (omega arith) c.loop-line.invariant
+returns-clause-screen c =
+    c.paint_lines.ensures
+    ∙ ap (λ (p : Panel). screen (of_worksheet c.args.sheet.now) p c.args.corner c.args.now.now.day c.args.now.now.second) c.of.ensures
 
 pub returns-clause-printed : goal.returns-clause-printed
 returns-clause-printed c = printed (of_worksheet c.args.sheet.now) c.args.panel.now c.args.corner c.args.now.now.day c.args.now.now.second

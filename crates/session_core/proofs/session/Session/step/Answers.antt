@@ -1,23 +1,32 @@
-use Rattle.std.proofs.Common.{◌≡◌, rules, ap, ◌∙◌}
+use Rattle.std.proofs.Common.{◌≡◌, rules, ℕ, Bool, true, false, List, ap, sym, subst, ◌∙◌}
+use Rattle.screen_show.specs.Changes.{Unchanged}
 use Rattle.session_core.specs.Machine.{sheet_of, Running, State}
 use Rattle.session_core.specs.Moving.{IsMoved}
+use Rattle.session_core.specs.Screen.{screen}
 use Rattle.session_core.specs.declared.machine.Touched.TheVariants.{Pointer}
-use Rattle.work_sheet.specs.Doing.{with_pointer}
-use Rattle.session_core.proofs.Kept.{repainted}
+use Rattle.session_core.proofs.Kept.{lines_kept}
 use Rattle.session_core.proofs.session.Session.step.Goals as goal
 
--- where the pointer alone moved, the screen is that of before with other lines of the panel
-pub invariant_of-self : goal.invariant_of-self
-invariant_of-self g c fresh =
-    let pointer : c.in-Ok.taken.touched ≡ Pointer = search rules in
-    let moved : IsMoved (sheet_of c.self.inside.machine.state) (sheet_of c.take_event.new.self.state) = c.in-Ok.ensures.touched pointer in
-    let followed : (sheet_of c.follow.new.self.state) ≡ (sheet_of c.take_event.new.self.state) = ap (λ (s : State). sheet_of s) c.follow.ensures.state in
-    let stays : c.follow.new.self.state.corner ≡ c.self.inside.machine.state.corner = search rules in
-    repainted c.self.inside.machine.state c.follow.new.self.state moved.0 c.self.inside.shown c.paint_panel.new.shown (followed ∙ moved.1) stays (c.self.invariant fresh) c.paint_panel.ensures
+-- where the rows are kept, the pointer alone moved
+pub paint_lines-requires : goal.paint_lines-requires
+paint_lines-requires g c =
+    let s : State = c.self.inside.machine.state in
+    let t : State = c.follow.new.self.state in
+    let followed : (sheet_of t) ≡ (sheet_of c.take_event.new.self.state) = ap (λ (u : State). sheet_of u) c.follow.ensures.state in
+    let fresh : c.self.inside.spent ≡ false = search rules in
+    let kept : c.keeps_rows-kept.result ≡ true → IsMoved (sheet_of s) (sheet_of t) × (t.corner ≡ s.corner) = λ e.
+    let moved : IsMoved (sheet_of s) (sheet_of c.take_event.new.self.state) = c.in-Ok.ensures.touched (c.keeps_rows-kept.ensures e).0 in
+    ((moved.0, followed ∙ moved.1), sym c.corner.ensures ∙ (c.keeps_rows-kept.ensures e).1 ∙ c.corner-corner.ensures) in
+    subst (λ (shown : List (List ℕ)). Unchanged c.changed_lines.result shown (screen t)) (sym (c.self.invariant fresh))
+    (subst (λ (lines : List Bool). Unchanged lines (screen s) (screen t)) (sym c.changed_lines.ensures) (lines_kept s t c.keeps_rows-kept.result kept))
 
-pub returns-then-eq-2-clause-sheet : goal.returns-then-eq-2-clause-sheet
-returns-then-eq-2-clause-sheet g c only =
-    let pointer : c.in-Ok.taken.touched ≡ Pointer = search rules in
-    let moved : IsMoved (sheet_of c.self.inside.machine.state) (sheet_of c.take_event.new.self.state) = c.in-Ok.ensures.touched pointer in
-    let followed : (sheet_of c.follow.new.self.state) ≡ (sheet_of c.take_event.new.self.state) = ap (λ (s : State). sheet_of s) c.follow.ensures.state in
-    (moved.0, followed ∙ moved.1 ∙ ap (λ (r : Running). with_pointer moved.0 (sheet_of r.state)) c.self.view_is)
+pub returns-in-Ok-clause-lines : goal.returns-in-Ok-clause-lines
+returns-in-Ok-clause-lines g c fresh =
+    let s : State = c.self.inside.machine.state in
+    let t : State = c.follow.new.self.state in
+    let followed : (sheet_of t) ≡ (sheet_of c.take_event.new.self.state) = ap (λ (u : State). sheet_of u) c.follow.ensures.state in
+    let kept : c.keeps_rows-kept.result ≡ true → IsMoved (sheet_of s) (sheet_of t) × (t.corner ≡ s.corner) = λ e.
+    let moved : IsMoved (sheet_of s) (sheet_of c.take_event.new.self.state) = c.in-Ok.ensures.touched (c.keeps_rows-kept.ensures e).0 in
+    ((moved.0, followed ∙ moved.1), sym c.corner.ensures ∙ (c.keeps_rows-kept.ensures e).1 ∙ c.corner-corner.ensures) in
+    subst (λ (shown : List (List ℕ)). Unchanged c.changed_lines.result shown (screen t)) (ap (λ (r : Running). screen r.state) c.self.view_is)
+    (subst (λ (lines : List Bool). Unchanged lines (screen s) (screen t)) (sym c.changed_lines.ensures) (lines_kept s t c.keeps_rows-kept.result kept))
