@@ -141,9 +141,9 @@ fn set_moment(desk: &mut Desk, bytes: &[u8]) -> Result<(), Stop> {
 
 // The lines of the screen without the blanks at their ends.
 fn show_screen<W: Write>(desk: &Desk, out: &mut W) -> Result<(), Stop> {
-    let grid = paint(&desk.sheet, &desk.panel, desk.corner, &desk.moment);
+    let shown = paint(&desk.sheet, &desk.panel, desk.corner, &desk.moment);
     for row in 0..LINES {
-        let line = grid.line(row);
+        let line = shown.line(row);
         let len = line.iter().rposition(|byte| *byte != b' ');
         let len = match len {
             Some(last) => last + 1,

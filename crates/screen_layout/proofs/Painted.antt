@@ -10,7 +10,7 @@ use Rattle.screen_layout.specs.Lines.{padded, shown_byte}
 use Rattle.screen_layout.specs.Screen.{line_text, screen, screen_line}
 use Rattle.work_sheet.specs.Seen.{Sheet}
 use Rattle.control_panel.specs.declared.panel.Panel.{Panel}
-use Rattle.screen_show.specs.Grid.{IsGrid, IsPrinted}
+use Rattle.screen_show.specs.Screen.{IsScreen, IsPrinted}
 use Rattle.screen_layout.proofs.Cuts.{padded_length}
 
 -- a line of a screen by its number
@@ -30,7 +30,7 @@ printed s p corner day second = All-map (λ line. All (λ b. 32 ≤ b) line) (sc
     (λ j e i. shown_in (get_or (padded 80 (line_text s p corner day second (get_or (range_with_len 0 25) k d))) j e)))
 
 -- a screen has 25 lines of 80 bytes
-pub shaped : (s : Sheet) (p : Panel) (corner : Place) (day : Option ℕ) (second : ℕ) → IsGrid (screen s p corner day second)
+pub shaped : (s : Sheet) (p : Panel) (corner : Place) (day : Option ℕ) (second : ℕ) → IsScreen (screen s p corner day second)
 unfolding screen
 shaped s p corner day second = record {
   lines = length-map-range_with_len (screen_line s p corner day second) 0 25;

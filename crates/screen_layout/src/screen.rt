@@ -5,7 +5,7 @@ ghost use Rattle.screen_layout.specs.Screen.{row_line, screen, screen_line};
 ghost use Rattle.screen_show.specs.Changes.{Unchanged};
 ghost use Rattle.screen_layout.specs.Lines.{shown_line};
 ghost use Rattle.work_sheet.specs.Seen.{of_worksheet};
-ghost use Rattle.screen_show.specs.Grid.{IsGrid, IsPrinted};
+ghost use Rattle.screen_show.specs.Screen.{IsScreen, IsPrinted};
 
 use crate::columns::columns_line;
 use crate::control::{below_line, entry_line, pointer_line, text_line};
@@ -13,7 +13,7 @@ use crate::foot::foot_line;
 use crate::panel_view::PanelView;
 use control_panel::Panel;
 use grid_address::Cell;
-use screen_show::{Grid, LineSet};
+use screen_show::{LineSet, Screen};
 use serial_date::Moment;
 use work_sheet::Sheet;
 
@@ -49,21 +49,21 @@ fn line_at(sheet: &Sheet, panel: &PanelView, corner: Cell, now: &Moment, line: u
 
 /// The screen: the control panel, the columns' letters, 20 rows from the corner's on, and the last line. None of its
 /// bytes is below 32. (Release 2 manual for what stands where, this project's choice for the columns.)
-pub fn paint(sheet: &Sheet, panel: &Panel, corner: Cell, now: &Moment) -> Grid
+pub fn paint(sheet: &Sheet, panel: &Panel, corner: Cell, now: &Moment) -> Screen
     ensures screen { result ≡ screen (of_worksheet sheet.now) panel.now corner now.now.day now.now.second }
-    ensures shape { IsGrid (screen (of_worksheet sheet.now) panel.now corner now.now.day now.now.second) }
+    ensures shape { IsScreen (screen (of_worksheet sheet.now) panel.now corner now.now.day now.now.second) }
     ensures printed { IsPrinted (screen (of_worksheet sheet.now) panel.now corner now.now.day now.now.second) }
 {
-    let mut grid = Grid::empty();
+    let mut shown = Screen::empty();
     paint_lines(
         sheet,
         &PanelView::of(panel),
         corner,
         now,
         &LineSet::all(),
-        &mut grid,
+        &mut shown,
     );
-    grid
+    shown
 }
 
 /// Paints the lines of a set over a screen that has the others in common with this one, as `paint` does.
@@ -73,16 +73,16 @@ pub fn paint_lines(
     corner: Cell,
     now: &Moment,
     lines: &LineSet,
-    grid: &mut Grid,
+    shown: &mut Screen,
 )
-    requires { Unchanged lines.now grid.old
+    requires { Unchanged lines.now shown.old
         (screen (of_worksheet sheet.now) (viewed panel.now) corner now.now.day now.now.second) }
-    ensures { grid.new ≡ screen (of_worksheet sheet.now) (viewed panel.now) corner now.now.day now.now.second }
+    ensures { shown.new ≡ screen (of_worksheet sheet.now) (viewed panel.now) corner now.now.day now.now.second }
 {
-    grid.is_whole();
+    shown.is_whole();
     let mut line = lines.next_from(0);
     while line < 25 {
-        grid.set_line(line, line_at(sheet, panel, corner, now, line));
+        shown.set_line(line, line_at(sheet, panel, corner, now, line));
         line = lines.next_from(line + 1);
     }
 }

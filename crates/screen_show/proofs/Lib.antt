@@ -1,5 +1,5 @@
 pub mod Fronts
-pub mod GridSending
+pub mod ScreenSending
 pub mod LineBits
 pub mod LineSending
 pub mod LineSets

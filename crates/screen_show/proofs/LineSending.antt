@@ -6,7 +6,7 @@ use Rattle.std.proofs.lemmas.List.{append-nil, drop_all, drop_more, take_all, ta
 use Rattle.outside_world.specs.declared.faults.Failed.{Failed}
 use Rattle.screen_show.specs.Changes.{patched_line, line_differences, line_runs, differing_front}
 use Rattle.screen_show.specs.Display.{Shown, Puts, TellsSoundly, raised, with_bytes}
-use Rattle.screen_show.specs.Grid.{put_in_line}
+use Rattle.screen_show.specs.Screen.{put_in_line}
 use Rattle.screen_show.specs.Lines.{SendsLine, HasSentLine}
 use Rattle.screen_show.proofs.Fronts.{front_stops, run_line, run_count, run_differences, same_first}
 
@@ -14,8 +14,8 @@ use Rattle.screen_show.proofs.Fronts.{front_stops, run_line, run_count, run_diff
 pub record OnLine (row col : ℕ) (before after : List ℕ) (s t : Shown) : Type 0 where
   pub now : List ℕ
   pub wide : length now ≡ 80
-  pub grid : t.grid ≡ set s.grid row now
-  pub line : take col now ++ patched_line (drop col before) (drop col after) (drop col now) ≡ patched_line before after (get_or s.grid row [])
+  pub screen : t.screen ≡ set s.screen row now
+  pub line : take col now ++ patched_line (drop col before) (drop col after) (drop col now) ≡ patched_line before after (get_or s.screen row [])
   pub frames : t.frames ≡ s.frames
   pub puts : raised t.puts (line_runs (drop col before) (drop col after)) ≡ raised s.puts (line_runs before after)
   pub bytes_put : raised t.bytes_put (line_differences (drop col before) (drop col after)) ≡ raised s.bytes_put (line_differences before after)
@@ -31,9 +31,9 @@ SendingLine row col before after (Some s) (Some t) = OnLine row col before after
 pub line_starts : (row : ℕ) (before after : List ℕ) (was : Option Shown) → row < 25 → TellsSoundly was → SendingLine row 0 before after was was
 line_starts row before after None h sound = refl
 line_starts row before after (Some s) h sound = record {
-  now = get_or s.grid row [];
-  wide = sound.grid.columns row [] (omega (arith, sound.grid.lines));
-  grid = sym (set-get_or s.grid row []);
+  now = get_or s.screen row [];
+  wide = sound.screen.columns row [] (omega (arith, sound.screen.lines));
+  screen = sym (set-get_or s.screen row []);
   line = refl;
   frames = refl;
   closes = refl;
@@ -58,11 +58,11 @@ module _ (row col : ℕ) (before after : List ℕ) (wide_before : length before 
       let x : drop col on.now ≡ get_or on.now col 0 ∷ drop (col + 1) on.now = drop_more on.now col 0 (omega (arith, on.wide)) in
       let none' : differing_front (get_or before col 0 ∷ drop (col + 1) before) (get_or after col 0 ∷ drop (col + 1) after) ≡ 0 = rw (b, a) at none in
       let test : (get_or before col 0 == get_or after col 0) ≡ true = same_first (get_or before col 0) (get_or after col 0) (drop (col + 1) before) (drop (col + 1) after) none' in
-      let line' : take col on.now ++ (get_or on.now col 0 ∷ patched_line (drop (col + 1) before) (drop (col + 1) after) (drop (col + 1) on.now)) ≡ patched_line before after (get_or s.grid row []) = rw (b, a, x, test) at on.line in
+      let line' : take col on.now ++ (get_or on.now col 0 ∷ patched_line (drop (col + 1) before) (drop (col + 1) after) (drop (col + 1) on.now)) ≡ patched_line before after (get_or s.screen row []) = rw (b, a, x, test) at on.line in
       record {
         now = on.now;
         wide = on.wide;
-        grid = on.grid;
+        screen = on.screen;
         line = rw (take_more on.now col 0 (omega (arith, on.wide)), append_assoc (take col on.now) (get_or on.now col 0 ∷ []) (patched_line (drop (col + 1) before) (drop (col + 1) after) (drop (col + 1) on.now))) line';
         frames = on.frames;
         closes = on.closes;
@@ -73,10 +73,10 @@ module _ (row col : ℕ) (before after : List ℕ) (wide_before : length before 
       }
 
   -- a run is put
-  run_put : (s t : Shown) (n : ℕ) → n ≡ differing_front (drop col before) (drop col after) → 0 < n → col + n ≤ 80 → row < length s.grid →
+  run_put : (s t : Shown) (n : ℕ) → n ≡ differing_front (drop col before) (drop col after) → 0 < n → col + n ≤ 80 → row < length s.screen →
       OnLine row col before after s t → OnLine row (col + n) before after s (with_bytes row col (take n (drop col after)) t)
   run_put s t n is more below inside on =
-      let there : get_or t.grid row [] ≡ on.now = ap (λ (g : List (List ℕ)). get_or g row []) on.grid ∙ get_or-set_same s.grid row on.now [] inside in
+      let there : get_or t.screen row [] ≡ on.now = ap (λ (g : List (List ℕ)). get_or g row []) on.screen ∙ get_or-set_same s.screen row on.now [] inside in
       let piece : List ℕ = take n (drop col after) in
       let long : length piece ≡ n = length-take-le n (drop col after) (omega (arith, length-drop col after)) in
       let front : List ℕ = take col on.now ++ piece in
@@ -92,7 +92,7 @@ module _ (row col : ℕ) (before after : List ℕ) (wide_before : length before 
       record {
         now = front ++ back;
         wide = omega (arith, length-append front back, front_long, length-drop (col + length piece) on.now, on.wide);
-        grid = ap (λ (line : List ℕ). set t.grid row (put_in_line col piece line)) there ∙ ap (λ (g : List (List ℕ)). set g row (front ++ back)) on.grid ∙ set-set s.grid row on.now (front ++ back);
+        screen = ap (λ (line : List ℕ). set t.screen row (put_in_line col piece line)) there ∙ ap (λ (g : List (List ℕ)). set g row (front ++ back)) on.screen ∙ set-set s.screen row on.now (front ++ back);
         line = rw (take_at front back (col + n) front_long, drop_at front back (col + n) front_long, back_is, before_later, after_later)
             (append_assoc (take col on.now) piece (patched_line (drop n (drop col before)) (drop n (drop col after)) (drop n (drop col on.now))) ∙ ap (λ (l : List ℕ). take col on.now ++ l) (sym run) ∙ on.line);
         frames = on.frames;
@@ -115,7 +115,7 @@ module _ (row col : ℕ) (before after : List ℕ) (wide_before : length before 
   line_put (Some s) None now n bytes u is more below inside sound piece put on = absurd on
   line_put (Some s) (Some t) now n bytes u is more below inside sound piece put on =
       subst (λ (shown : Option Shown). SendingLine row (col + n) before after (Some s) shown) (sym (put ∙ ap (λ (b : List ℕ). Some (with_bytes row col b t)) piece))
-      (run_put s t n is more below (omega (arith, sound.grid.lines)) on)
+      (run_put s t n is more below (omega (arith, sound.screen.lines)) on)
 
   pub line_fails : (was then now : Option Shown) (bytes : List ℕ) (f : Failed) → Puts row col bytes then now (Err f) → SendingLine row col before after was then → SendsLine row before after was now (Err f)
   line_fails None None now bytes f put on = put
@@ -126,10 +126,10 @@ module _ (row col : ℕ) (before after : List ℕ) (wide_before : length before 
   line_done : (s t : Shown) → 80 ≤ col → OnLine row col before after s t → HasSentLine row before after s t
   line_done s t past on =
       let before_none : drop col before ≡ [] = drop_all col before (omega arith) in
-      let whole : on.now ≡ patched_line before after (get_or s.grid row []) =
+      let whole : on.now ≡ patched_line before after (get_or s.screen row []) =
       sym (append-nil on.now) ∙ ap (λ (l : List ℕ). l ++ []) (sym (take_all col on.now (omega (arith, on.wide)))) ∙ (rw before_none at on.line) in
       record {
-        grid = on.grid ∙ ap (λ (l : List ℕ). set s.grid row l) whole;
+        screen = on.screen ∙ ap (λ (l : List ℕ). set s.screen row l) whole;
         frames = on.frames;
         closes = on.closes;
         puts = (let all : raised t.puts 0 ≡ raised s.puts (line_runs before after) = rw before_none at on.puts in omega (arith, on.puts_in, all));
@@ -204,10 +204,10 @@ same_line_differences (x ∷ xs) =
 pub line_unchanged : (row : ℕ) (before after : List ℕ) (was : Option Shown) (u : Unit {0}) → row < 25 → length before ≡ 80 → before ≡ after → TellsSoundly was → SendsLine row before after was was (Ok u)
 line_unchanged row before after None u h wide same sound = refl
 line_unchanged row before after (Some s) u h wide same sound =
-    let line : List ℕ = get_or s.grid row [] in
-    let long : length line ≡ 80 = sound.grid.columns row [] (omega (arith, sound.grid.lines)) in
+    let line : List ℕ = get_or s.screen row [] in
+    let long : length line ≡ 80 = sound.screen.columns row [] (omega (arith, sound.screen.lines)) in
     rw (← same) (record {
-      grid = sym (ap (λ (l : List ℕ). set s.grid row l) (same_line_patched before line (omega arith)) ∙ set-get_or s.grid row []);
+      screen = sym (ap (λ (l : List ℕ). set s.screen row l) (same_line_patched before line (omega arith)) ∙ set-get_or s.screen row []);
       frames = refl;
       closes = refl;
       puts = (let none : line_runs before before ≡ 0 = same_line_runs before in omega (arith, none, sound.puts));

@@ -1,4 +1,4 @@
--- Sets of lines, and what a grid is while the lines of one are copied into it.
+-- Sets of lines, and what a screen is while the lines of one are copied into it.
 use Rattle.std.proofs.Common.{◌≡◌, ℕ, suc, zero, ◌+◌, ◌<◌, ◌≤◌, Bool, true, false, List, [], ◌∷◌, length, get_or, set, Some, None, refl, sym, ap, ◌∙◌, arith, inl, inr}
 use Rattle.std.specs.Prelude.{slice_get, replicate}
 use Rattle.std.proofs.lemmas.Bool.{cases_lt, true≢false}
@@ -41,7 +41,7 @@ same_elements {X = X} (x ∷ xs) (y ∷ ys) h =
     let head : x ≡ y = cc in
     ap (λ (z : X). z ∷ xs) head ∙ ap (λ (zs : List X). y ∷ zs) (same_elements xs ys (λ k. h (suc k)))
 
--- above a row the grid has the lines of the one that is copied, and from it on those that it had
+-- above a row the screen has the lines of the one that is copied, and from it on those that it had
 pub record Copying (row : ℕ) (was from now : List (List ℕ)) : Type 0 where
   pub above : (k : ℕ) → k < row → slice_get now k ≡ slice_get from k
   pub below : (k : ℕ) → row ≤ k → slice_get now k ≡ slice_get was k

@@ -27,10 +27,10 @@ line_runs before after = runs_after false before after
 
 -- a screen after the bytes of `after` were put where `before` and `after` differ
 abbrev pub patched : List (List ℕ) → List (List ℕ) → List (List ℕ) → List (List ℕ)
-patched [] after grid = []
-patched (b ∷ before) [] grid = []
+patched [] after screen = []
+patched (b ∷ before) [] screen = []
 patched (b ∷ before) (a ∷ after) [] = []
-patched (b ∷ before) (a ∷ after) (x ∷ grid) = patched_line b a x ∷ patched before after grid
+patched (b ∷ before) (a ∷ after) (x ∷ screen) = patched_line b a x ∷ patched before after screen
 
 -- at how many places two screens differ
 abbrev pub differences : List (List ℕ) → List (List ℕ) → ℕ
@@ -57,17 +57,17 @@ AgreesInLine (b ∷ before) [] line = ⊤
 AgreesInLine (b ∷ before) (a ∷ after) [] = ⊤
 AgreesInLine (b ∷ before) (a ∷ after) (x ∷ line) = (b ≡ a → x ≡ b) × AgreesInLine before after line
 
--- a grid agrees with `before` wherever `before` and `after` are equal
+-- a screen agrees with `before` wherever `before` and `after` are equal
 abbrev pub Agrees : List (List ℕ) → List (List ℕ) → List (List ℕ) → Type 0
-Agrees [] after grid = ⊤
-Agrees (b ∷ before) [] grid = ⊤
+Agrees [] after screen = ⊤
+Agrees (b ∷ before) [] screen = ⊤
 Agrees (b ∷ before) (a ∷ after) [] = ⊤
-Agrees (b ∷ before) (a ∷ after) (x ∷ grid) = AgreesInLine b a x × Agrees before after grid
+Agrees (b ∷ before) (a ∷ after) (x ∷ screen) = AgreesInLine b a x × Agrees before after screen
 
 -- at each line that is not in the set of lines, two screens have the same line
 abbrev pub Unchanged : List Bool → List (List ℕ) → List (List ℕ) → Type 0
 Unchanged lines before after = (row : ℕ) → slice_get lines row ≡ Some false → slice_get before row ≡ slice_get after row
 
--- the last frame, where there is one, has all lines in common with the grid that are not in the set of lines
+-- the last frame, where there is one, has all lines in common with the screen that are not in the set of lines
 abbrev pub FrameUnchanged : List Bool → Option (List (List ℕ)) → List (List ℕ) → Type 0
-FrameUnchanged lines last grid = (frame : List (List ℕ)) → last ≡ Some frame → Unchanged lines frame grid
+FrameUnchanged lines last screen = (frame : List (List ℕ)) → last ≡ Some frame → Unchanged lines frame screen

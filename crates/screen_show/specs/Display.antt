@@ -1,14 +1,14 @@
 -- What a display tells, and what its calls do to it.
 use Rattle.std.specs.Prelude.{◌≡◌, ℕ, ◌+◌, ◌-◌, ◌^◌, ◌≤◌, min, List, [], ◌∷◌, ◌++◌, length, Bool, true, false, Option, Some, None, Result, Ok, Err, ⊤}
 use Rattle.outside_world.specs.declared.faults.Failed.{Failed}
-use Rattle.screen_show.specs.declared.display.Kind.{Kind}
+use Rattle.screen_show.specs.declared.display.DisplayKind.{DisplayKind}
 use Rattle.screen_show.specs.Changes.{Agrees, changed_runs, differences}
-use Rattle.screen_show.specs.Grid.{IsGrid, put_in_grid}
+use Rattle.screen_show.specs.Screen.{IsScreen, put_in_screen}
 
--- the grid now, the finished frames, how many puts were finished and their bytes, whether the last finished call was a
--- close, and how many closes were finished
+-- the screen now, the finished frames, how many puts were finished and their bytes, whether the last finished call was
+-- a close, and how many closes were finished
 pub record Shown : Type 0 where
-  pub grid : List (List ℕ)
+  pub screen : List (List ℕ)
   pub frames : List (List (List ℕ))
   pub puts : ℕ
   pub bytes_put : ℕ
@@ -17,7 +17,7 @@ pub record Shown : Type 0 where
 
 -- a display as it is seen: its kind, what it shows, where it tells it, and its count of faults
 pub record View : Type 0 where
-  pub kind : Kind
+  pub kind : DisplayKind
   pub told : Option Shown
   pub faults : ℕ
 
@@ -25,9 +25,9 @@ pub record View : Type 0 where
 abbrev pub raised : ℕ → ℕ → ℕ
 raised count by = min (count + by) (2 ^ 64 - 1)
 
--- what holds of every display: the grid has its size, and the counts are below 2 ^ 64
+-- what holds of every display: the screen has its size, and the counts are below 2 ^ 64
 pub record IsSound (s : Shown) : Type 0 where
-  pub grid : IsGrid s.grid
+  pub screen : IsScreen s.screen
   pub puts : s.puts ≤ 2 ^ 64 - 1
   pub bytes_put : s.bytes_put ≤ 2 ^ 64 - 1
 
@@ -36,14 +36,14 @@ abbrev pub TellsSoundly : Option Shown → Type 0
 TellsSoundly None = ⊤
 TellsSoundly (Some s) = IsSound s
 
--- after a failed call the grid is open, and all else as before
-abbrev pub LeavesGridOpen : Shown → Option Shown → Type 0
-LeavesGridOpen s after = (g : List (List ℕ)) × (after ≡ Some (record s { grid = g }))
+-- after a failed call the screen is open, and all else as before
+abbrev pub LeavesScreenOpen : Shown → Option Shown → Type 0
+LeavesScreenOpen s after = (g : List (List ℕ)) × (after ≡ Some (record s { screen = g }))
 
 -- what is shown once bytes are put at a place
 abbrev pub with_bytes : ℕ → ℕ → List ℕ → Shown → Shown
 with_bytes row col bytes s = record {
-  grid = put_in_grid row col bytes s.grid;
+  screen = put_in_screen row col bytes s.screen;
   frames = s.frames;
   puts = raised s.puts 1;
   bytes_put = raised s.bytes_put (length bytes);
@@ -51,11 +51,11 @@ with_bytes row col bytes s = record {
   closes = s.closes;
 }
 
--- what is shown once the frame is ended: the grid is one more frame
+-- what is shown once the frame is ended: the screen is one more frame
 abbrev pub with_frame : Shown → Shown
 with_frame s = record {
-  grid = s.grid;
-  frames = s.frames ++ s.grid ∷ [];
+  screen = s.screen;
+  frames = s.frames ++ s.screen ∷ [];
   puts = s.puts;
   bytes_put = s.bytes_put;
   closed = false;
@@ -65,7 +65,7 @@ with_frame s = record {
 -- what is shown once the display is ended: the same, and one more close
 abbrev pub with_end : Shown → Shown
 with_end s = record {
-  grid = s.grid;
+  screen = s.screen;
   frames = s.frames;
   puts = s.puts;
   bytes_put = s.bytes_put;
@@ -77,25 +77,25 @@ with_end s = record {
 abbrev pub Puts : ℕ → ℕ → List ℕ → Option Shown → Option Shown → Result Unit Failed → Type 0
 Puts row col bytes None after result = after ≡ None
 Puts row col bytes (Some s) after (Ok _) = after ≡ Some (with_bytes row col bytes s)
-Puts row col bytes (Some s) after (Err f) = LeavesGridOpen s after
+Puts row col bytes (Some s) after (Err f) = LeavesScreenOpen s after
 
 -- the frame is ended, or fails to be
 abbrev pub Finishes : Option Shown → Option Shown → Result Unit Failed → Type 0
 Finishes None after result = after ≡ None
 Finishes (Some s) after (Ok _) = after ≡ Some (with_frame s)
-Finishes (Some s) after (Err f) = LeavesGridOpen s after
+Finishes (Some s) after (Err f) = LeavesScreenOpen s after
 
 -- the display is ended, or fails to be
 abbrev pub Closes : Option Shown → Option Shown → Result Unit Failed → Type 0
 Closes None after result = after ≡ None
 Closes (Some s) after (Ok _) = after ≡ Some (with_end s)
-Closes (Some s) after (Err f) = LeavesGridOpen s after
+Closes (Some s) after (Err f) = LeavesScreenOpen s after
 
 -- The changes from one screen to the next were put, run by run, and what is shown is one more frame. It is the screen,
--- if the grid agreed with the one before wherever nothing changed.
+-- if the screen agreed with the one before wherever nothing changed.
 pub record HasSent (before after : List (List ℕ)) (s t : Shown) : Type 0 where
-  pub grid : Agrees before after s.grid → t.grid ≡ after
-  pub frames : t.frames ≡ s.frames ++ t.grid ∷ []
+  pub screen : Agrees before after s.screen → t.screen ≡ after
+  pub frames : t.frames ≡ s.frames ++ t.screen ∷ []
   pub puts : t.puts ≡ raised s.puts (changed_runs before after)
   pub bytes_put : t.bytes_put ≡ raised s.bytes_put (differences before after)
   pub closed : t.closed ≡ false

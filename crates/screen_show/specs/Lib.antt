@@ -1,6 +1,6 @@
 pub mod Changes
 pub mod Display
-pub mod Grid
+pub mod Screen
 pub mod LineSets
 pub mod Lines
 pub mod Recorder

@@ -6,7 +6,7 @@ use Rattle.screen_show.specs.Display.{Shown, raised}
 
 -- the changes of one line were put
 pub record HasSentLine (row : ℕ) (before after : List ℕ) (s t : Shown) : Type 0 where
-  pub grid : t.grid ≡ slice_set s.grid row (patched_line before after (slice_index_or s.grid row []))
+  pub screen : t.screen ≡ slice_set s.screen row (patched_line before after (slice_index_or s.screen row []))
   pub frames : t.frames ≡ s.frames
   pub puts : t.puts ≡ raised s.puts (line_runs before after)
   pub bytes_put : t.bytes_put ≡ raised s.bytes_put (line_differences before after)

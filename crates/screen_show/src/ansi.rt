@@ -1,7 +1,7 @@
 ghost use Rattle.std.specs.Prelude.{None, ◌≤◌};
-ghost use Rattle.screen_show.specs.declared.display.Kind.TheVariants.{Ansi};
+ghost use Rattle.screen_show.specs.declared.display.DisplayKind.TheVariants.{Ansi};
 
-use crate::{Display, Kind, Recorder};
+use crate::{Display, DisplayKind, Recorder};
 use outside_world::Failed;
 use std::io::Write;
 
@@ -58,8 +58,8 @@ fn write_run<W: Write>(writer: &mut W, row: u8, col: u8, bytes: &[u8]) -> Result
 impl<W: Write + Drop> Display for AnsiDisplay<W> {
     ghost seen = { λ d. record { kind = Ansi; told = None; faults = d.faults } };
 
-    fn kind(&self) -> Kind {
-        Kind::Ansi
+    fn kind(&self) -> DisplayKind {
+        DisplayKind::Ansi
     }
 
     fn recorder(&self) -> Option<&Recorder> {

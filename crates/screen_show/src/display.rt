@@ -7,7 +7,7 @@ use outside_world::Failed;
 
 /// The kinds of display.
 #[derive(Clone, Copy, PartialEq, Eq, Debug)]
-pub enum Kind {
+pub enum DisplayKind {
     /// Each frame is a page of lines.
     Pages,
     /// Each frame is its changes, as sequences of a terminal.
@@ -18,7 +18,7 @@ pub enum Kind {
 
 /// A display, by what is seen of it: its kind, which never changes, its content, where it tells it, and
 /// its count of faults, which never falls. A call answers `Failed` only where that count rose in it; it
-/// has then added no frame, and the grid is open.
+/// has then added no frame, and the screen is open.
 pub trait Display: Drop {
     ghost use Rattle.screen_show.specs.Display.{View};
     ghost use Rattle.screen_show.specs.Recorder.{recorded};
@@ -26,7 +26,7 @@ pub trait Display: Drop {
     ghost seen: { Self → View };
 
     /// The kind.
-    fn kind(&self) -> Kind
+    fn kind(&self) -> DisplayKind
         ensures kind { result ≡ (seen self.now).kind }
         ensures sound { TellsSoundly (seen self.now).told };
 

@@ -1,9 +1,9 @@
 ghost use Rattle.std.specs.Prelude.{◌≡◌, None, Some};
 ghost use Rattle.screen_show.specs.Changes.{FrameUnchanged};
-ghost use Rattle.screen_show.specs.declared.display.Kind.TheVariants.{Last};
+ghost use Rattle.screen_show.specs.declared.display.DisplayKind.TheVariants.{Last};
 
 use crate::page::write_page;
-use crate::{Display, Grid, Kind, LineSet, Recorder};
+use crate::{Display, DisplayKind, LineSet, Recorder, Screen};
 use outside_world::Failed;
 use std::io::Write;
 
@@ -12,12 +12,12 @@ use std::io::Write;
 #[derive(Drop)]
 pub struct LastDisplay<W: Write + Drop> {
     writer: W,
-    grid: Grid,
-    frame: Option<Grid>,
+    screen: Screen,
+    frame: Option<Screen>,
     // The lines that were put since the frame was ended.
     changed: LineSet,
     faults: u64,
-    ghost others: { FrameUnchanged changed frame grid },
+    ghost others: { FrameUnchanged changed frame screen },
 }
 
 impl<W: Write + Drop> LastDisplay<W> {
@@ -25,7 +25,7 @@ impl<W: Write + Drop> LastDisplay<W> {
     pub fn new(writer: W) -> LastDisplay<W> {
         LastDisplay {
             writer,
-            grid: Grid::empty(),
+            screen: Screen::empty(),
             frame: None,
             changed: LineSet::none(),
             faults: 0,
@@ -33,22 +33,22 @@ impl<W: Write + Drop> LastDisplay<W> {
     }
 }
 
-// The last frame becomes the grid, from which it differs in these lines alone.
-fn take_frame(frame: &mut Option<Grid>, grid: &Grid, changed: &LineSet)
-    requires { FrameUnchanged changed.now frame.old grid.now }
-    ensures { frame.new ≡ Some grid.now }
+// The last frame becomes the screen, from which it differs in these lines alone.
+fn take_frame(frame: &mut Option<Screen>, screen: &Screen, changed: &LineSet)
+    requires { FrameUnchanged changed.now frame.old screen.now }
+    ensures { frame.new ≡ Some screen.now }
 {
     match frame {
-        Some(frame) => frame.copy_lines(grid, changed),
-        None => *frame = Some(*grid),
+        Some(frame) => frame.copy_lines(screen, changed),
+        None => *frame = Some(*screen),
     }
 }
 
 impl<W: Write + Drop> Display for LastDisplay<W> {
     ghost seen = { λ d. record { kind = Last; told = None; faults = d.faults } };
 
-    fn kind(&self) -> Kind {
-        Kind::Last
+    fn kind(&self) -> DisplayKind {
+        DisplayKind::Last
     }
 
     fn recorder(&self) -> Option<&Recorder> {
@@ -56,13 +56,13 @@ impl<W: Write + Drop> Display for LastDisplay<W> {
     }
 
     fn put(&mut self, row: u8, col: u8, bytes: &[u8]) -> Result<(), Failed> {
-        self.grid.put(row, col, bytes);
+        self.screen.put(row, col, bytes);
         self.changed.insert(row);
         Ok(())
     }
 
     fn done(&mut self) -> Result<(), Failed> {
-        take_frame(&mut self.frame, &self.grid, &self.changed);
+        take_frame(&mut self.frame, &self.screen, &self.changed);
         self.changed = LineSet::none();
         Ok(())
     }

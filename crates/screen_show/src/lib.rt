@@ -3,20 +3,20 @@
 
 mod ansi;
 mod display;
-mod grid;
 mod last;
 mod line_set;
 mod page;
 mod recorder;
+mod screen;
 mod sender;
 
 pub use ansi::AnsiDisplay;
-pub use display::{Display, Kind};
-pub use grid::Grid;
+pub use display::{Display, DisplayKind};
 pub use last::LastDisplay;
 pub use line_set::LineSet;
 pub use page::PageDisplay;
 pub use recorder::Recorder;
+pub use screen::Screen;
 pub use sender::send_lines;
 
 #[cfg(test)]
@@ -25,23 +25,23 @@ mod tests {
     use outside_world::Failed;
     use std::test::Fail;
 
-    // The grid that shows these bytes at the beginning of a line, and nothing else.
-    fn grid_with(row: u8, bytes: &[u8; 3]) -> Grid {
-        let mut grid = Grid::empty();
+    // The screen that shows these bytes at the beginning of a line, and nothing else.
+    fn screen_with(row: u8, bytes: &[u8; 3]) -> Screen {
+        let mut screen = Screen::empty();
         if row <= 24 {
-            grid.put(row, 0, bytes);
+            screen.put(row, 0, bytes);
         }
-        grid
+        screen
     }
 
     #[test]
     fn changed_runs_alone_are_put(rt: HostRuntime) -> Result<(), Fail> {
-        let mut recorder = Recorder::new(rt.alloc(), Kind::Pages, 3, Vec::new(rt.alloc()))?;
-        let blank = Grid::empty();
+        let mut recorder = Recorder::new(rt.alloc(), DisplayKind::Pages, 3, Vec::new(rt.alloc()))?;
+        let blank = Screen::empty();
         let all = LineSet::all();
         let none = LineSet::none();
-        let first = grid_with(24, b"abc");
-        let second = grid_with(24, b"xby");
+        let first = screen_with(24, b"abc");
+        let second = screen_with(24, b"xby");
         send_lines(&blank, &first, &all, &mut recorder)?;
         assert_eq!(rt; (recorder.puts(), recorder.bytes_put()), (1, 3));
         send_lines(&first, &second, &all, &mut recorder)?;
@@ -71,7 +71,7 @@ mod tests {
     #[test]
     fn numbered_calls_fail(rt: HostRuntime) -> Result<(), Fail> {
         let failing = [2].to_vec(rt.alloc())?;
-        let mut recorder = Recorder::new(rt.alloc(), Kind::Ansi, 1, failing)?;
+        let mut recorder = Recorder::new(rt.alloc(), DisplayKind::Ansi, 1, failing)?;
         assert_eq!(rt; recorder.put(1, 2, b"abc"), Ok(()));
         assert_eq!(rt; recorder.done(), Err(Failed));
         assert_eq!(rt; recorder.done(), Ok(()));

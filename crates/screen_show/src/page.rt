@@ -1,8 +1,8 @@
 // Pages of a screen's lines, which two of the host's displays write.
 ghost use Rattle.std.specs.Prelude.{None};
-ghost use Rattle.screen_show.specs.declared.display.Kind.TheVariants.{Pages};
+ghost use Rattle.screen_show.specs.declared.display.DisplayKind.TheVariants.{Pages};
 
-use crate::{Display, Grid, Kind, Recorder};
+use crate::{Display, DisplayKind, Recorder, Screen};
 use outside_world::Failed;
 use std::io::Write;
 
@@ -13,7 +13,7 @@ const LINE_END: u8 = b'\n';
 #[derive(Drop)]
 pub struct PageDisplay<W: Write + Drop> {
     writer: W,
-    grid: Grid,
+    screen: Screen,
     faults: u64,
 }
 
@@ -22,18 +22,18 @@ impl<W: Write + Drop> PageDisplay<W> {
     pub fn new(writer: W) -> PageDisplay<W> {
         PageDisplay {
             writer,
-            grid: Grid::empty(),
+            screen: Screen::empty(),
             faults: 0,
         }
     }
 }
 
 // The 25 lines, each with its end, and a line of four dashes.
-fn page_of(grid: &Grid) -> [u8; 2030] {
+fn page_of(screen: &Screen) -> [u8; 2030] {
     let mut page = [b'-'; 2030];
     for row in 0..25u8 {
         let from = row as usize * 81;
-        page[from..from + 80].copy_from_slice(grid.line(row));
+        page[from..from + 80].copy_from_slice(screen.line(row));
         page[from + 80] = LINE_END;
     }
     page[2029] = LINE_END;
@@ -41,8 +41,8 @@ fn page_of(grid: &Grid) -> [u8; 2030] {
 }
 
 // Writes a page.
-pub(crate) fn write_page<W: Write>(writer: &mut W, grid: &Grid) -> Result<(), Failed> {
-    match writer.write_all(&page_of(grid)) {
+pub(crate) fn write_page<W: Write>(writer: &mut W, screen: &Screen) -> Result<(), Failed> {
+    match writer.write_all(&page_of(screen)) {
         Ok(()) => Ok(()),
         Err(_) => Err(Failed),
     }
@@ -51,8 +51,8 @@ pub(crate) fn write_page<W: Write>(writer: &mut W, grid: &Grid) -> Result<(), Fa
 impl<W: Write + Drop> Display for PageDisplay<W> {
     ghost seen = { λ d. record { kind = Pages; told = None; faults = d.faults } };
 
-    fn kind(&self) -> Kind {
-        Kind::Pages
+    fn kind(&self) -> DisplayKind {
+        DisplayKind::Pages
     }
 
     fn recorder(&self) -> Option<&Recorder> {
@@ -60,12 +60,12 @@ impl<W: Write + Drop> Display for PageDisplay<W> {
     }
 
     fn put(&mut self, row: u8, col: u8, bytes: &[u8]) -> Result<(), Failed> {
-        self.grid.put(row, col, bytes);
+        self.screen.put(row, col, bytes);
         Ok(())
     }
 
     fn done(&mut self) -> Result<(), Failed> {
-        let written = write_page(&mut self.writer, &self.grid);
+        let written = write_page(&mut self.writer, &self.screen);
         if written.is_err() {
             self.faults = self.faults.saturating_add(1);
         }

@@ -1,7 +1,7 @@
 ghost use Rattle.std.specs.Prelude.{◌≡◌, ◌≤◌, Some, vec_capacity, IfOk, [], IsTrue, IsFalse};
 ghost use Rattle.outside_world.specs.Causes.{Rose};
 
-use crate::{Display, Grid, Kind};
+use crate::{Display, DisplayKind, Screen};
 use outside_world::{Failed, Memory};
 use std::alloc::Global;
 
@@ -9,9 +9,9 @@ use std::alloc::Global;
 /// `put`, `done` and `close` with the given numbers, counted from 1 over all of them.
 #[derive(Drop)]
 pub struct Recorder {
-    kind: Kind,
-    grid: Grid,
-    frames: Vec<Grid>,
+    kind: DisplayKind,
+    screen: Screen,
+    frames: Vec<Screen>,
     puts: u64,
     bytes_put: u64,
     closed: bool,
@@ -29,7 +29,7 @@ impl Recorder {
     /// A display of this kind with room for so many frames, so that none of its calls takes memory.
     pub fn new(
         alloc: Global,
-        kind: Kind,
+        kind: DisplayKind,
         room: usize,
         failing: Vec<u64>,
     ) -> Result<Recorder, Memory>
@@ -39,7 +39,7 @@ impl Recorder {
         let frames = Vec::with_capacity(alloc, room)?;
         Ok(Recorder {
             kind,
-            grid: Grid::empty(),
+            screen: Screen::empty(),
             frames,
             puts: 0,
             bytes_put: 0,
@@ -53,7 +53,7 @@ impl Recorder {
     }
 
     /// The finished frames.
-    pub fn frames(&self) -> &[Grid]
+    pub fn frames(&self) -> &[Screen]
         ensures { result.now ≡ (recorded self.now).frames }
     {
         &self.frames
@@ -109,8 +109,8 @@ impl Display for Recorder {
 
     ghost seen = { λ r. record { kind = r.kind; told = Some (recorded r); faults = r.faults } };
 
-    fn kind(&self) -> Kind {
-        self.grid.is_whole();
+    fn kind(&self) -> DisplayKind {
+        self.screen.is_whole();
         let _puts = self.puts;
         let _bytes_put = self.bytes_put;
         self.kind
@@ -124,7 +124,7 @@ impl Display for Recorder {
         if self.fails() {
             return Err(Failed);
         }
-        self.grid.put(row, col, bytes);
+        self.screen.put(row, col, bytes);
         self.puts = self.puts.saturating_add(1);
         self.bytes_put = self.bytes_put.saturating_add(bytes.len() as u64);
         self.closed = false;
@@ -139,7 +139,7 @@ impl Display for Recorder {
             self.faults = self.faults.saturating_add(1);
             return Err(Failed);
         }
-        match self.frames.push(self.grid) {
+        match self.frames.push(self.screen) {
             Ok(()) => {
                 self.closed = false;
                 Ok(())

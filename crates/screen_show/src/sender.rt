@@ -5,7 +5,7 @@ ghost use Rattle.screen_show.specs.Changes.{differing_front, Unchanged};
 ghost use Rattle.screen_show.specs.Display.{Puts, Finishes, Sends, TellsSoundly};
 ghost use Rattle.screen_show.specs.Lines.{SendsLine};
 
-use crate::{Display, Grid, LineSet};
+use crate::{Display, LineSet, Screen};
 use outside_world::Failed;
 
 // Puts a run of bytes into a line.
@@ -28,7 +28,7 @@ fn end_frame(display: &mut dyn Display) -> Result<(), Failed>
     display.done()
 }
 
-// A display tells a grid of 25 lines of 80 bytes, and counts below 2 to the 64.
+// A display tells a screen of 25 lines of 80 bytes, and counts below 2 to the 64.
 fn is_sound(display: &dyn Display)
     ensures { TellsSoundly (seen display.now).told }
 {
@@ -130,8 +130,8 @@ fn send_line(before: &[u8], after: &[u8], row: u8, display: &mut dyn Display) ->
 /// which the two differ, and ends the frame.
 /// It fails only where the display's count of faults rose, and has then added no frame.
 pub fn send_lines(
-    before: &Grid,
-    after: &Grid,
+    before: &Screen,
+    after: &Screen,
     lines: &LineSet,
     display: &mut dyn Display,
 ) -> Result<(), Failed>

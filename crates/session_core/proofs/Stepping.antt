@@ -4,7 +4,7 @@ use Rattle.commands_file.specs.Calls.{HaveAnswered, ShelfView}
 use Rattle.formula_eval.specs.declared.look.Scene.{Scene}
 use Rattle.macro_engine.specs.Steps.{macro_step, HasStepped, MacroStep}
 use Rattle.macro_engine.specs.declared.steps.StepEnd.{StepEnd}
-use Rattle.macro_words.specs.declared.running.Running.{Running as RunningMacro}
+use Rattle.macro_words.specs.declared.running.Running.{Running}
 use Rattle.serial_date.specs.declared.moment.Moment.{Moment}
 use Rattle.work_sheet.proofs.OneWork.{worked_both}
 use Rattle.work_sheet.specs.Did.{work_of}
@@ -16,11 +16,11 @@ use Rattle.session_core.specs.Step.{come_to, event_taken}
 use Rattle.session_core.specs.declared.event.Event.TheVariants.{Unit as UnitEvent}
 
 -- the state over the sheet and the macro that a step leaves
-abbrev over_step : State → Sheet → Option RunningMacro → State
+abbrev over_step : State → Sheet → Option Running → State
 over_step s sheet r = with_sheet sheet (with_macro r s)
 
 -- A macro made a step that came to this end, and what follows by that end leads on.
-pub stepped_over : (now : Moment) (told : Bool) (a mid b : Worked) (scene : Scene) (running new_running : Option RunningMacro) (came : StepEnd)
+pub stepped_over : (now : Moment) (told : Bool) (a mid b : Worked) (scene : Scene) (running new_running : Option Running) (came : StepEnd)
     (v w : Worksheet) (m n : ℕ) (x y : ShelfView) → scene ≡ scene_at a.state now → running ≡ a.state.running →
     of_worksheet v ≡ sheet_of a.state → work_of v m ≡ a.work → mid.state ≡ over_step a.state (of_worksheet w) new_running → mid.work ≡ work_of w n →
     HasStepped (macro_step scene running (of_worksheet v)) came new_running v w m n → LeadsOver (come_to came) now told mid b x y →
@@ -30,7 +30,7 @@ stepped_over now told a mid b scene running new_running came v w m n x y scene_i
     let step : MacroStep = macro_step there a.state.running (sheet_of a.state) in
     let here : HasStepped step came new_running v w m n =
     subst (λ (s : Sheet). HasStepped (macro_step there a.state.running s) came new_running v w m n) sheet_is
-    (subst (λ (r : Option RunningMacro). HasStepped (macro_step there r (of_worksheet v)) came new_running v w m n) running_is
+    (subst (λ (r : Option Running). HasStepped (macro_step there r (of_worksheet v)) came new_running v w m n) running_is
     (subst (λ (c : Scene). HasStepped (macro_step c running (of_worksheet v)) came new_running v w m n) scene_is h)) in
     let behind : State = over_step a.state step.done.sheet step.running in
     let is : mid.state ≡ behind =

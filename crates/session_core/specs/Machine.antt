@@ -6,7 +6,7 @@ use Rattle.commands_file.specs.Calls.{Asked, HaveAnswered, Reply, ShelfView}
 use Rattle.formula_eval.specs.declared.look.Scene.{Scene}
 use Rattle.grid_address.specs.Place.{Place, coded_place}
 use Rattle.macro_words.specs.contracts.running.Running as macro_running
-use Rattle.macro_words.specs.declared.running.Running.{Running as RunningMacro}
+use Rattle.macro_words.specs.declared.running.Running.{Running}
 use Rattle.serial_date.specs.declared.moment.Moment.{Moment}
 use Rattle.session_rooms.specs.contracts.rooms.Room as room
 use Rattle.session_rooms.specs.declared.rooms.Room.{Room}
@@ -22,7 +22,7 @@ pub record State : Type 0 where
   pub corner : Place
   pub room : Room
   pub end : Bool
-  pub running : Option RunningMacro
+  pub running : Option Running
   pub day : Option ℕ
   pub second : ℕ
 
@@ -32,14 +32,14 @@ pub record Worked : Type 0 where
   pub work : Work
 
 -- a session: the machine's state, the work that was done, and whether memory ran out
-pub record Running : Type 0 where
+pub record SessionView : Type 0 where
   pub state : State
   pub work : Work
   pub spent : Bool
 
 -- a state's parts, as plain data
 abbrev pub coded_state : Coded State
-coded_state = code_by (Desk × (Place × (Room × (Bool × (Option RunningMacro × (Option ℕ × ℕ))))))
+coded_state = code_by (Desk × (Place × (Room × (Bool × (Option Running × (Option ℕ × ℕ))))))
     (coded× coded_desk
     (coded× coded_place
     (coded× (room.the_row).coded
@@ -62,8 +62,8 @@ coded_worked = code_by (State × Work) (coded× coded_state coded_work)
     (λ w. (w.state, w.work)) (λ p. record { state = p.0; work = p.1 }) (λ _. refl)
 
 -- a session's parts, as plain data
-abbrev pub coded_running : Coded Running
-coded_running = code_by (State × (Work × Bool)) (coded× coded_state (coded× coded_work coded_bool))
+abbrev pub coded_session : Coded SessionView
+coded_session = code_by (State × (Work × Bool)) (coded× coded_state (coded× coded_work coded_bool))
     (λ r. (r.state, (r.work, r.spent))) (λ p. record { state = p.0; work = p.1.0; spent = p.1.1 }) (λ _. refl)
 
 -- the cell A1
@@ -80,11 +80,11 @@ abbrev pub start : State
 start = begun_with fresh_desk
 
 -- a session that begins with a desk, and with the work that was done on it
-abbrev pub begun : Desk → Work → Running
+abbrev pub begun : Desk → Work → SessionView
 begun d w = record { state = begun_with d; work = w; spent = false }
 
 -- no macro
-abbrev pub is_none : Option RunningMacro → Bool
+abbrev pub is_none : Option Running → Bool
 is_none None = true
 is_none (Some r) = false
 
@@ -117,7 +117,7 @@ abbrev pub idle : State → State
 idle s = record s { room = Ready; end = false }
 
 -- this macro runs, or none
-abbrev pub with_macro : Option RunningMacro → State → State
+abbrev pub with_macro : Option Running → State → State
 with_macro r s = record s { running = r }
 
 -- the pointer stands in a cell
@@ -178,7 +178,7 @@ pub record LeadsOver (act : Replies → Scene → State → Outcome) (now : Mome
   pub answered : HaveAnswered (act replies (scene_at a.state now) a.state).calls before after
 
 -- a session goes on to an outcome, with the work of what happened
-pub record Follows (o : Outcome) (a b : Running) : Type 0 where
+pub record Follows (o : Outcome) (a b : SessionView) : Type 0 where
   pub state : b.state ≡ o.state
   pub work : HasWorked o.log a.work b.work
   pub spent : b.spent ≡ a.spent

@@ -3,7 +3,7 @@ use Rattle.std.specs.Prelude.{◌≡◌, Option, None}
 use Rattle.grid_address.specs.Place.{Place}
 use Rattle.key_words.specs.declared.key.Key.{Key}
 use Rattle.key_words.specs.declared.key.Key.TheVariants as key
-use Rattle.macro_words.specs.declared.running.Running.{Running as RunningMacro}
+use Rattle.macro_words.specs.declared.running.Running.{Running}
 use Rattle.session_rooms.specs.declared.rooms.Room.{Room}
 use Rattle.session_rooms.specs.declared.rooms.Room.TheVariants as room
 use Rattle.session_rooms.specs.declared.turn.Turn.{Turn}
@@ -30,7 +30,7 @@ TakesNoMemory key.Break r = Unit {0}
 TakesNoMemory k r = KeepsNoAnswer r
 
 -- the session does something else, the pointer moves, END is marked, or outside a macro an error is told
-abbrev pub OnlyMoves : Turn → Option RunningMacro → Type 0
+abbrev pub OnlyMoves : Turn → Option Running → Type 0
 OnlyMoves (turn.Become r) running = Unit {0}
 OnlyMoves (turn.Move way) running = Unit {0}
 OnlyMoves turn.Mark running = Unit {0}

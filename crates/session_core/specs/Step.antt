@@ -12,7 +12,7 @@ use Rattle.serial_date.specs.declared.moment.Moment.{Moment}
 use Rattle.session_core.specs.Carrying.{carried, failed, recalculated, told}
 use Rattle.session_core.specs.Faults.{fault_message}
 use Rattle.session_core.specs.Machine.{and_further, followed_by, idle, pointer_of, quiet, scene_at, sheet_of}
-use Rattle.session_core.specs.Machine.{with_done, with_macro, Follows, Outcome, Replies, Running, State}
+use Rattle.session_core.specs.Machine.{with_done, with_macro, Follows, Outcome, Replies, SessionView, State}
 use Rattle.session_core.specs.Pressing.{turn_of}
 use Rattle.session_core.specs.declared.event.Event.{Event}
 use Rattle.session_core.specs.declared.event.Event.TheVariants.{Key as KeyEvent, Unit as UnitEvent}
@@ -71,7 +71,7 @@ is_key UnitEvent = false
 
 -- A session made a step that ends the run or doesn't, over some answers of the shelf, which are those that what the
 -- shelf holds gives; its calls leave the shelf so.
-pub record HasTakenStep (event : Event) (now : Moment) (ending : Bool) (a b : Running)
+pub record HasTakenStep (event : Event) (now : Moment) (ending : Bool) (a b : SessionView)
     (before after : ShelfView) : Type 0 where
   pub replies : Replies
   pub follows : Follows (step event now replies a.state) a b

@@ -35,7 +35,7 @@ use menu_tree::{Action, back};
 use outside_world::Shelf;
 use prompt_room::{WhatFollows, opening};
 use screen_layout::{PanelView, columns_shown, corner_for, paint_lines};
-use screen_show::{Grid, LineSet};
+use screen_show::{LineSet, Screen};
 use serial_date::Moment;
 use session_rooms::{AnsweredCommand, Answering, PromptRoom, Room, Turn, TypingMode, TypingRoom};
 use sheet_commands::{CommandEnd, Desk, Looked, act, look};
@@ -584,7 +584,7 @@ impl Machine {
     }
 
     // Paints lines of the screen with what is shown of the room.
-    fn paint_with(&self, room: PanelView, lines: &LineSet, shown: &mut Grid)
+    fn paint_with(&self, room: PanelView, lines: &LineSet, shown: &mut Screen)
         requires view { viewed room ≡ room_panel self.now.state.room }
         requires unchanged { Unchanged lines.now shown.old (screen self.now.state) }
         ensures { shown.new ≡ screen self.now.state }
@@ -602,8 +602,8 @@ impl Machine {
         );
     }
 
-    /// Paints the lines of a set over a grid that has the others in common with the screen.
-    pub fn paint_lines(&self, lines: &LineSet, shown: &mut Grid)
+    /// Paints the lines of a set over a screen that has the others in common with the session's.
+    pub fn paint_lines(&self, lines: &LineSet, shown: &mut Screen)
         requires { Unchanged lines.now shown.old (screen self.now.state) }
         ensures { shown.new ≡ screen self.now.state }
     {
@@ -614,11 +614,11 @@ impl Machine {
     }
 
     /// The screen, painted from nothing.
-    pub fn paint(&self) -> Grid
+    pub fn paint(&self) -> Screen
         ensures { result ≡ screen self.now.state }
     {
-        let mut grid = Grid::empty();
-        self.paint_lines(&LineSet::all(), &mut grid);
-        grid
+        let mut shown = Screen::empty();
+        self.paint_lines(&LineSet::all(), &mut shown);
+        shown
     }
 }

@@ -3,7 +3,7 @@ ghost use Rattle.std.specs.Prelude.{◌≡◌, OnErr, OnOk, false, true};
 ghost use Rattle.command_desk.specs.Desks.{of_desk};
 ghost use Rattle.commands_file.specs.Calls.{shelf_view, HasBrokenOff};
 ghost use Rattle.screen_show.specs.Changes.{Unchanged};
-ghost use Rattle.screen_show.specs.Grid.{IsGrid, IsPrinted};
+ghost use Rattle.screen_show.specs.Screen.{IsScreen, IsPrinted};
 ghost use Rattle.session_core.specs.Machine.{begun, sheet_of, wants_key, Follows};
 ghost use Rattle.session_core.specs.Moving.{IsMoved, OnlyMovesBy};
 ghost use Rattle.session_core.specs.Screen.{changed_lines, screen};
@@ -14,7 +14,7 @@ use crate::machine::{Machine, Touched};
 use crate::{Event, Stepped};
 use grid_address::Cell;
 use outside_world::{Memory, Shelf};
-use screen_show::{Grid, LineSet};
+use screen_show::{LineSet, Screen};
 use serial_date::Moment;
 use sheet_commands::Desk;
 use std::marker::Model;
@@ -48,18 +48,18 @@ fn changed_lines(kept: bool) -> LineSet
 #[derive(Drop)]
 pub struct Session {
     machine: Machine,
-    shown: Grid,
+    shown: Screen,
     spent: bool,
 }
 
 impl Model for Session {
     ghost use Rattle.std.specs.Prelude.{◌≡◌, false};
-    ghost use Rattle.session_core.specs.Machine.{coded_running, Running};
+    ghost use Rattle.session_core.specs.Machine.{coded_session, SessionView};
     ghost use Rattle.session_core.specs.Screen.{screen};
 
-    ghost Value = { Running };
+    ghost Value = { SessionView };
 
-    ghost coded = { coded_running };
+    ghost coded = { coded_session };
 
     ghost view = { λ a. record { state = a.machine.state; work = a.machine.work; spent = a.spent } };
 
@@ -167,10 +167,10 @@ impl Session {
     }
 
     /// The screen of a session that isn't spent. None of its bytes is below 32.
-    pub fn grid(&self) -> &Grid
+    pub fn shown(&self) -> &Screen
         requires { self.now.spent ≡ false }
         ensures screen { result.now ≡ screen self.now.state }
-        ensures shape { IsGrid (screen self.now.state) }
+        ensures shape { IsScreen (screen self.now.state) }
         ensures printed { IsPrinted (screen self.now.state) }
     {
         &self.shown

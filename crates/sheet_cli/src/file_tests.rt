@@ -1,7 +1,7 @@
 // Runs with files: a start file, and the commands below File. The expected values come from the rules of worksheet
 // files and an independent model of the program.
 use outside_world::{ByteBuffer, FileName, ListClock, ListKeys, ListNotes, MapShelf, Shelf};
-use screen_show::{Display, Kind, Recorder};
+use screen_show::{Display, DisplayKind, Recorder};
 use serial_date::Moment;
 use sheet_run::{Words, run};
 use std::process::Abort;
@@ -146,7 +146,7 @@ fn check_over<R: AllocGlobal + Abort>(rt: &R, row: &Row, shelf: &mut MapShelf) -
     let mut notes = ListNotes::new(alloc, 200, Vec::new(alloc))?;
     let mut displays: Vec<Box<dyn Display>> = Vec::new(alloc);
     let mut failed: Vec<Box<dyn Display>> = Vec::new(alloc);
-    let recorder = Recorder::new(alloc, Kind::Pages, 40, Vec::new(alloc))?;
+    let recorder = Recorder::new(alloc, DisplayKind::Pages, 40, Vec::new(alloc))?;
     displays.push(Box::new(alloc, recorder)?)?;
     let status = run(
         alloc,

@@ -6,7 +6,7 @@ use Rattle.commands_file.specs.Calls.{ShelfView}
 use Rattle.grid_address.specs.Place.{Place}
 use Rattle.outside_world.specs.Shelf.{file_in, HasRead}
 use Rattle.serial_date.specs.declared.moment.Moment.{Moment}
-use Rattle.session_core.specs.Machine.{begun as fresh_running, Follows, Running}
+use Rattle.session_core.specs.Machine.{begun as fresh_running, Follows, SessionView}
 use Rattle.session_core.specs.Step.{loaded}
 use Rattle.sheet_store.specs.declared.writes.SavedSheet.{SavedSheet}
 use Rattle.work_sheet.specs.Did.{work_of, DidEdit}
@@ -68,5 +68,5 @@ desk_made saved fresh s is clean edit =
     }
 
 -- a session is loaded
-pub loaded_is : (desk : Desk) (first : Moment) (s t : Running) → s ≡ fresh_running (of_desk desk) (work_of desk.sheet 0) → Follows (loaded first s.state) s t → IsLoaded desk first t
-loaded_is desk first s t is follows = record { follows = subst (λ (r : Running). Follows (loaded first r.state) r t) is follows }
+pub loaded_is : (desk : Desk) (first : Moment) (s t : SessionView) → s ≡ fresh_running (of_desk desk) (work_of desk.sheet 0) → Follows (loaded first s.state) s t → IsLoaded desk first t
+loaded_is desk first s t is follows = record { follows = subst (λ (r : SessionView). Follows (loaded first r.state) r t) is follows }

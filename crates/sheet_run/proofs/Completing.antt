@@ -26,7 +26,7 @@ use Rattle.sheet_run.specs.Notes.{LeavesSession, ending_status}
 use Rattle.sheet_run.specs.Opening.{answer_of, asked_for, opening, HasOpened, StartFile}
 use Rattle.sheet_run.specs.Options.{limit_of}
 use Rattle.sheet_run.specs.Run.{after, calls_of, key_in, keys_of, moments_of, GoOn, HasRun, Outside, Step}
-use Rattle.sheet_run.specs.Status.{HasFinished, IsRun, RunsWith, World, asked, is_any, finished, no_memory, no_note, no_room, no_session, no_sheet, not_read, ran, refused}
+use Rattle.sheet_run.specs.Status.{HasFinished, IsRun, RunsWith, Surroundings, asked, is_any, finished, no_memory, no_note, no_room, no_session, no_sheet, not_read, ran, refused}
 use Rattle.sheet_run.specs.Taking.{AtEnd, Ended, TakesBytes, TakesReadings}
 use Rattle.sheet_run.specs.declared.drive.Ending.{Ending}
 use Rattle.sheet_run.specs.declared.drive.Ending.TheVariants.{KeysEnded, Quit, BadWord, KeysFailed, Stopped, NoMemory}
@@ -296,7 +296,7 @@ never_unread before now shelf file start name DiskError (from_file f s bytes tol
     let now_told : now.told ≡ Some (answered (failed (file_in name s.files)) s) = ap (λ (v : ShelfView). v.told) (same ∙ then) ∙ failed_so name s before.told _ told asked.1.told in
     fails (answered (failed (file_in name s.files)) s) (file_in name s.files) [] now_told refl
 
-ended_well : (words : List (List ℕ)) (o : Options) (before now : World) (found : ℕ) (text : List ℕ) (must : MustEndWell words before now) → must.options ≡ o → HasFinished o before.outside now.outside found text →
+ended_well : (words : List (List ℕ)) (o : Options) (before now : Surroundings) (found : ℕ) (text : List ℕ) (must : MustEndWell words before now) → must.options ≡ o → HasFinished o before.outside now.outside found text →
     (found ≡ 0) × ReadWell must.start before.outside now.outside
 ended_well words o before now found text must same fin =
     let b : now.outside.bytes ≡ fin.middle.bytes = ap (λ (x : Outside). x.bytes) fin.now_is in
@@ -328,7 +328,7 @@ ended_well words o before now found text must same fin =
     let read : ReadWell must.start fin.begun fin.middle = subst (λ (f : Option StartFile). ReadWell f fin.begun fin.middle) start well.1 in
     (fin.found_is ∙ ap (λ (m : Bool). ending_status m fin.ending) (any_length (fin.out ++ fin.out_now) none) ∙ well.0, same_read must.start fin.begun fin.middle before.outside now.outside b0 b read)
 
-with_well : (words : List (List ℕ)) (o : Options) (before now : World) (status : ℕ) (must : MustEndWell words before now) → must.options ≡ o → RunsWith o before now status → HasEndedWell must.start before now status
+with_well : (words : List (List ℕ)) (o : Options) (before now : Surroundings) (status : ℕ) (must : MustEndWell words before now) → must.options ≡ o → RunsWith o before now status → HasEndedWell must.start before now status
 with_well words o before now status must same (finished found text fin (inl told)) =
     let well = ended_well words o before now found text must same fin in
     inl (told.0 ∙ well.0, well.1)
@@ -341,7 +341,7 @@ with_well words o before now status must same (no_sheet shelf broke is tried) = 
 with_well words o before now status must same (no_session start first opened tried) = inr refl
 with_well words o before now status must same (no_memory start first begun steps left out opened ran_out tried) = inr refl
 
-pub completes : (words : List (List ℕ)) (before now : World) (status : ℕ) → IsRun words before now status → (must : MustEndWell words before now) → HasEndedWell must.start before now status
+pub completes : (words : List (List ℕ)) (before now : Surroundings) (status : ℕ) → IsRun words before now status → (must : MustEndWell words before now) → HasEndedWell must.start before now status
 completes words before now status (refused word read untouched told) must = (let both : ◌≡◌ {A = Result Options (List ℕ)} (Err word) (Ok must.options) = sym read ∙ must.accepted in absurd cc)
 completes words before now status (ran o read runs) must = (let both : ◌≡◌ {A = Result Options (List ℕ)} (Ok must.options) (Ok o) = sym must.accepted ∙ read in with_well words o before now status must (cc) runs)
 completes words before now status (no_note word read untouched tried) must = inr refl

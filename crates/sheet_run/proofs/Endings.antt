@@ -9,13 +9,13 @@ use Rattle.command_desk.specs.declared.desk.Desk as declared
 use Rattle.commands_file.specs.Calls.{HaveAnswered, ShelfView}
 use Rattle.outside_world.specs.Clock.{TakesReading}
 use Rattle.serial_date.specs.declared.moment.Moment.{Moment}
-use Rattle.session_core.specs.Machine.{begun as fresh_running, begun_with, Follows, Running, State}
+use Rattle.session_core.specs.Machine.{begun as fresh_running, begun_with, Follows, SessionView, State}
 use Rattle.session_core.specs.Step.{loaded}
 use Rattle.work_sheet.proofs.OneWork.{worked_both}
 use Rattle.work_sheet.specs.Did.{work_of}
 use Rattle.work_sheet.specs.Work.{no_work, HasWorked}
 use Rattle.screen_show.specs.Display.{View}
-use Rattle.screen_show.specs.declared.display.Kind.{Kind}
+use Rattle.screen_show.specs.declared.display.DisplayKind.{DisplayKind}
 use Rattle.sheet_run.specs.Displays.{HasClosed, HasFailed, Sent, Watched, same_kind, views_of}
 use Rattle.sheet_run.specs.Driving.{HasDriven, HasEnded, IsAfter, LeavesState}
 use Rattle.sheet_run.specs.Notes.{LeavesSession, Tells, Tried, count_note, count_of, ending_note, ending_status, file_note, file_status, memory_note, ToldRefused}
@@ -24,7 +24,7 @@ use Rattle.sheet_run.specs.Opening.{calls_from, desk_from, log_from, name_of, op
 use Rattle.sheet_run.specs.Options.{limit_of, shown_kind, words_read}
 use Rattle.sheet_run.specs.Passing.{HasClosedOne, Passed}
 use Rattle.sheet_run.specs.Run.{happened, outside, screens, Outside, Step}
-use Rattle.sheet_run.specs.Status.{RunsWith, World, asked, finished, is_any, no_memory, no_note, no_sheet, not_read, refused, world, IsRun}
+use Rattle.sheet_run.specs.Status.{RunsWith, Surroundings, asked, finished, is_any, no_memory, no_note, no_sheet, not_read, refused, surroundings, IsRun}
 use Rattle.sheet_run.specs.OptionAnswers.{refused_text}
 use Rattle.sheet_run.specs.declared.options.Refused.{Refused}
 use Rattle.sheet_run.specs.declared.drive.Ending.{Ending}
@@ -35,22 +35,22 @@ use Rattle.sheet_run.specs.declared.opening.NotRead.{NotRead as NotReadWhy}
 use Rattle.sheet_run.specs.declared.options.Options.{Options}
 use Rattle.sheet_run.proofs.Shown.{Lifted, all_closed, each_left}
 
-pub nine : (o : Options) (before now : World) (status : ℕ) → status ≡ 9 → RunsWith o before now 9 → RunsWith o before now status
+pub nine : (o : Options) (before now : Surroundings) (status : ℕ) → status ≡ 9 → RunsWith o before now 9 → RunsWith o before now status
 nine o before now status is runs = subst (λ (n : ℕ). RunsWith o before now n) (sym is) runs
 
 pub same_failed : (bytes : Option (List ℕ)) (keys : ℕ) (readings : Option (List Moment)) (shelf : ShelfView) (displays failed failed' : List View) → failed' ≡ failed →
     outside bytes keys readings shelf displays failed' ≡ outside bytes keys readings shelf displays failed
 same_failed bytes keys readings shelf displays failed failed' same = ap (λ (fs : List View). outside bytes keys readings shelf displays fs) same
 
-pub asked_is : (o : Options) (kind : Kind) (bytes : Option (List ℕ)) (keys : ℕ) (readings : Option (List Moment)) (shelf : ShelfView) (displays displays' failed failed' : List View) →
+pub asked_is : (o : Options) (kind : DisplayKind) (bytes : Option (List ℕ)) (keys : ℕ) (readings : Option (List Moment)) (shelf : ShelfView) (displays displays' failed failed' : List View) →
     kind ≡ shown_kind o → displays' ≡ filter (λ v. same_kind v.kind kind) displays → failed' ≡ failed →
     outside bytes keys readings shelf displays' failed' ≡ asked o (outside bytes keys readings shelf displays failed)
 asked_is o kind bytes keys readings shelf displays displays' failed failed' is kept same =
-    ap (λ (ds : List View). outside bytes keys readings shelf ds failed') (kept ∙ ap (λ (k : Kind). filter (λ v. same_kind v.kind k) displays) is)
+    ap (λ (ds : List View). outside bytes keys readings shelf ds failed') (kept ∙ ap (λ (k : DisplayKind). filter (λ v. same_kind v.kind k) displays) is)
     ∙ ap (λ (fs : List View). outside bytes keys readings shelf (filter (λ v. same_kind v.kind (shown_kind o)) displays) fs) same
 
 -- the start file was read and then the clock, with the displays of other kinds dropped
-pub opened_is : (o : Options) (kind : Kind) (start : Option StartFile) (first : Moment) (bytes : Option (List ℕ)) (keys : ℕ) (readings readings' : Option (List Moment)) (shelf shelf' : ShelfView) (displays displays' failed failed' : List View) →
+pub opened_is : (o : Options) (kind : DisplayKind) (start : Option StartFile) (first : Moment) (bytes : Option (List ℕ)) (keys : ℕ) (readings readings' : Option (List Moment)) (shelf shelf' : ShelfView) (displays displays' failed failed' : List View) →
     kind ≡ shown_kind o → displays' ≡ filter (λ v. same_kind v.kind kind) displays → failed' ≡ failed → name_of start ≡ o.file → HaveAnswered (calls_from start) shelf shelf' → TakesReading readings readings' first →
     HasOpened o.file start first (asked o (outside bytes keys readings shelf displays failed)) (outside bytes keys readings' shelf' displays' failed')
 opened_is o kind start first bytes keys readings readings' shelf shelf' displays displays' failed failed' is kept same named answered took = record {
@@ -63,28 +63,28 @@ opened_is o kind start first bytes keys readings readings' shelf shelf' displays
 }
 
 -- the start file isn't read
-pub unread_run : (o : Options) (kind : Kind) (came : NotBegun) (why : NotReadWhy) (bytes : Option (List ℕ)) (keys : ℕ) (readings : Option (List Moment)) (shelf shelf' : ShelfView) (displays displays' failed failed' : List View) (notes notes' : Option (List ℕ)) (faults faults' status : ℕ) →
+pub unread_run : (o : Options) (kind : DisplayKind) (came : NotBegun) (why : NotReadWhy) (bytes : Option (List ℕ)) (keys : ℕ) (readings : Option (List Moment)) (shelf shelf' : ShelfView) (displays displays' failed failed' : List View) (notes notes' : Option (List ℕ)) (faults faults' status : ℕ) →
     came ≡ NotRead why → kind ≡ shown_kind o → displays' ≡ filter (λ v. same_kind v.kind kind) displays → failed' ≡ failed → HasBegunOr o.file (Err came) shelf shelf' →
     ((name : List ℕ) → o.file ≡ Some name → Tells (file_note name why) (file_status why) notes notes' faults faults' status) →
-    RunsWith o (world (outside bytes keys readings shelf displays failed) notes faults) (world (outside bytes keys readings shelf' displays' failed') notes' faults') status
+    RunsWith o (surroundings (outside bytes keys readings shelf displays failed) notes faults) (surroundings (outside bytes keys readings shelf' displays' failed') notes' faults') status
 unread_run o kind came why bytes keys readings shelf shelf' displays displays' failed failed' notes notes' faults faults' status came_is is kept same begun told =
     let h : HasBegunOr o.file (Err (NotRead why)) shelf shelf' = subst (λ (n : NotBegun). HasBegunOr o.file (Err n) shelf shelf') came_is begun in
     not_read h.0 why shelf' h.1 h.2 (asked_is o kind bytes keys readings shelf' displays displays' failed failed' is kept same) (told h.0 h.1)
 
 -- memory ran out before the sheet was there
-pub broken_run : (o : Options) (kind : Kind) (came : NotBegun) (bytes : Option (List ℕ)) (keys : ℕ) (readings : Option (List Moment)) (shelf shelf' : ShelfView) (displays displays' failed failed' : List View) (notes notes' : Option (List ℕ)) (faults faults' : ℕ) →
+pub broken_run : (o : Options) (kind : DisplayKind) (came : NotBegun) (bytes : Option (List ℕ)) (keys : ℕ) (readings : Option (List Moment)) (shelf shelf' : ShelfView) (displays displays' failed failed' : List View) (notes notes' : Option (List ℕ)) (faults faults' : ℕ) →
     came ≡ NoSheet → kind ≡ shown_kind o → displays' ≡ filter (λ v. same_kind v.kind kind) displays → failed' ≡ failed → HasBegunOr o.file (Err came) shelf shelf' → Tried memory_note notes notes' faults faults' →
-    RunsWith o (world (outside bytes keys readings shelf displays failed) notes faults) (world (outside bytes keys readings shelf' displays' failed') notes' faults') 9
+    RunsWith o (surroundings (outside bytes keys readings shelf displays failed) notes faults) (surroundings (outside bytes keys readings shelf' displays' failed') notes' faults') 9
 broken_run o kind came bytes keys readings shelf shelf' displays displays' failed failed' notes notes' faults faults' came_is is kept same begun tried =
     let h : HasBegunOr o.file (Err NoSheet) shelf shelf' = subst (λ (n : NotBegun). HasBegunOr o.file (Err n) shelf shelf') came_is begun in
     no_sheet shelf' h (asked_is o kind bytes keys readings shelf' displays displays' failed failed' is kept same) tried
 
 -- a session has become what a run begins with
-pub record IsOpened (start : Option StartFile) (first : Moment) (s : Running) : Type 0 where
+pub record IsOpened (start : Option StartFile) (first : Moment) (s : SessionView) : Type 0 where
   pub state : s.state ≡ (opening start first).state
   pub work : HasWorked (opening start first).log no_work s.work
 
-pub loaded_so : (file : Option (List ℕ)) (desk : declared.Desk) (before now : ShelfView) (b : HasBegun file desk before now) (t : Running) (first : Moment) → IsLoaded desk first t → IsOpened b.start first t
+pub loaded_so : (file : Option (List ℕ)) (desk : declared.Desk) (before now : ShelfView) (b : HasBegun file desk before now) (t : SessionView) (first : Moment) → IsLoaded desk first t → IsOpened b.start first t
 loaded_so file desk before now b t first is =
     let from : State = begun_with (desk_from b.start) in
     let made : Follows (loaded first from) (fresh_running (of_desk desk) (work_of desk.sheet 0)) t =
@@ -109,7 +109,7 @@ handled limit s steps left out before now KeysFailed h = record { sent = h.did.s
 handled limit s steps left out before now Stopped h = record { sent = h.did.sent; displays = h.did.displays; failed = h.did.failed }
 handled limit s steps left out before now NoMemory h = record { sent = h.did.sent; displays = h.did.displays; failed = h.did.failed }
 
-state_is : (from s : Running) (steps : List Step) (ending : Ending) → LeavesSession ending → LeavesState from s steps ending → IsAfter from s steps
+state_is : (from s : SessionView) (steps : List Step) (ending : Ending) → LeavesSession ending → LeavesState from s steps ending → IsAfter from s steps
 state_is from s steps KeysEnded leaves is = is
 state_is from s steps Quit leaves is = is
 state_is from s steps (BadWord at) leaves is = is
@@ -136,7 +136,7 @@ ended_from : (limit limit' : ℕ) (s s' : State) (steps : List Step) (left out :
 ended_from limit limit' s s' steps left out before now ending same is ended =
     subst (λ (u : State). HasEnded limit' u steps left out before now ending) is (subst (λ (n : ℕ). HasEnded n s steps left out before now ending) same ended)
 
-pub finish : (o : Options) (limit : ℕ) (start : Option StartFile) (first : Moment) (from s : Running) (ending : Ending) (begun middle : Outside) (before now : World) (displays' failed' : List View) (moved : Bool) (status : ℕ) →
+pub finish : (o : Options) (limit : ℕ) (start : Option StartFile) (first : Moment) (from s : SessionView) (ending : Ending) (begun middle : Outside) (before now : Surroundings) (displays' failed' : List View) (moved : Bool) (status : ℕ) →
     limit ≡ limit_of o → HasOpened o.file start first (asked o before.outside) begun → IsOpened start first from → LeavesSession ending → HasDriven limit from s begun middle ending →
     Passed HasClosedOne middle.displays displays' middle.failed failed' → now.outside ≡ record middle { displays = displays'; failed = failed' } → moved ≡ nat_lt (length before.outside.failed) (length failed') →
     Tells (count_note (count_of o s.work) ++ ending_note limit moved ending) (ending_status moved ending) before.notes now.notes before.note_faults now.note_faults status → RunsWith o before now status
@@ -174,7 +174,7 @@ finish o limit start first from s ending begun middle before now displays' faile
       text_is = ap (λ (n : ℕ). count_note (count_of o s.work) ++ ending_note n moved ending) limit_is ∙ ap (λ (m : Bool). count_note (count_of o s.work) ++ ending_note (limit_of o) m ending) any;
     }) told
 
-pub ran_out : (o : Options) (limit : ℕ) (start : Option StartFile) (first : Moment) (from s : Running) (begun : Outside) (before now : World) → limit ≡ limit_of o → HasOpened o.file start first (asked o before.outside) begun → IsOpened start first from →
+pub ran_out : (o : Options) (limit : ℕ) (start : Option StartFile) (first : Moment) (from s : SessionView) (begun : Outside) (before now : Surroundings) → limit ≡ limit_of o → HasOpened o.file start first (asked o before.outside) begun → IsOpened start first from →
     HasDriven limit from s begun now.outside NoMemory → Tried memory_note before.notes now.notes before.note_faults now.note_faults → RunsWith o before now 9
 ran_out o limit start first from s begun before now limit_is opened from_is driven tried =
     no_memory start first begun driven.steps driven.left driven.out opened (ended_from limit (limit_of o) from.state (opening start first).state _ _ _ _ _ NoMemory limit_is from_is.state driven.ended) tried
@@ -187,7 +187,7 @@ leaves_unless KeysFailed h = tt
 leaves_unless Stopped h = tt
 leaves_unless NoMemory h = absurd (h refl)
 
-pub refused_run : (words : List (List ℕ)) (part : Refused) (text : List ℕ) (before now : World) (status : ℕ) → words_read words ≡ Err (refused_text words part) → text ≡ refused_text words part → now.outside ≡ before.outside →
+pub refused_run : (words : List (List ℕ)) (part : Refused) (text : List ℕ) (before now : Surroundings) (status : ℕ) → words_read words ≡ Err (refused_text words part) → text ≡ refused_text words part → now.outside ≡ before.outside →
     ToldRefused text before.notes now.notes before.note_faults now.note_faults status → IsRun words before now status
 refused_run words part text before now status read is same (inl told) = refused text (read ∙ ap (λ (t : List ℕ). Err t) (sym is)) same told
 refused_run words part text before now status read is same (inr tried) =

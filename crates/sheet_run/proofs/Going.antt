@@ -8,7 +8,7 @@ use Rattle.outside_world.specs.Causes.{Rose}
 use Rattle.outside_world.specs.Clock.{TakesReading}
 use Rattle.serial_date.specs.declared.moment.Moment.{Moment}
 use Rattle.key_words.specs.declared.key.Key.{Key}
-use Rattle.session_core.specs.Machine.{wants_key, Follows, Outcome, Running, State}
+use Rattle.session_core.specs.Machine.{wants_key, Follows, Outcome, SessionView, State}
 use Rattle.session_core.specs.Step.{is_key}
 use Rattle.session_core.specs.declared.event.Event.{Event}
 use Rattle.session_core.specs.declared.event.Event.TheVariants.{Unit as UnitEvent}
@@ -19,7 +19,7 @@ use Rattle.commands_file.specs.Calls.{Asked, HaveAnswered, ShelfView}
 use Rattle.session_core.specs.Screen.{screen}
 use Rattle.screen_show.specs.Changes.{Unchanged}
 use Rattle.screen_show.specs.Display.{View}
-use Rattle.screen_show.specs.Grid.{empty_grid}
+use Rattle.screen_show.specs.Screen.{empty_screen}
 use Rattle.screen_show.proofs.LineSets.{all_may_differ}
 use Rattle.sheet_run.specs.Displays.{Screen, Sent, Watched, last_screen, no_screen}
 use Rattle.sheet_run.specs.Driving.{ended_as, ComesNext, EndsAsTold, HasDriven, HasEnded, HasMadeStep, HasNotMadeStep, IsAfter, LeavesState}
@@ -67,7 +67,7 @@ fits_more : (steps : List Step) (s : State) (x : Step) → Fit s steps → is_ke
 fits_more [] s x fit more = (more, tt)
 fits_more (y ∷ ys) s x fit more = (fit.0, fits_more ys (outcome s y).state x fit.1 more)
 
-one_more_after : (from s t : Running) (steps : List Step) (x : Step) → IsAfter from s steps → Follows (outcome s.state x) s t → IsAfter from t (steps ++ x ∷ [])
+one_more_after : (from s t : SessionView) (steps : List Step) (x : Step) → IsAfter from s steps → Follows (outcome s.state x) s t → IsAfter from t (steps ++ x ∷ [])
 one_more_after from s t steps x was made =
     let now : Outcome = outcome (after from.state steps) x in
     let follows : Follows now s t = subst (λ (u : State). Follows (outcome u x) s t) was.state made in
@@ -78,7 +78,7 @@ one_more_after from s t steps x was made =
 
 -- These keys came from the bytes that were taken, and each made a step, as each unit did. No byte was taken behind the
 -- last key's word, unless the session wants another key.
-pub record Going (limit count : ℕ) (from s : Running) (f : KeyFeed) (shown : Screen) (before now : Outside) : Type 0 where
+pub record Going (limit count : ℕ) (from s : SessionView) (f : KeyFeed) (shown : Screen) (before now : Outside) : Type 0 where
   pub taken : List ℕ
   pub steps : List Step
   pub left : List Watched
@@ -91,7 +91,7 @@ pub record Going (limit count : ℕ) (from s : Running) (f : KeyFeed) (shown : S
   pub fresh : s.spent ≡ false
   pub no_fault : now.key_faults ≡ before.key_faults
   pub made : length steps ≡ count
-  pub shows : shown ≡ last_screen empty_grid (screens from.state steps)
+  pub shows : shown ≡ last_screen empty_screen (screens from.state steps)
 
 -- the last of the screens is that of the state behind the steps
 last_is : (steps : List Step) (s : State) → last_screen (screen s) (screens s steps) ≡ screen (after s steps)
@@ -107,10 +107,10 @@ some_made zero h = absurd (true≢false h)
 some_made (suc n) h = omega arith
 
 -- once a step was made, the screen that is shown is the session's
-pub shown_now : (limit count : ℕ) (from s : Running) (f : KeyFeed) (shown : Screen) (before now : Outside) → Going limit count from s f shown before now →
+pub shown_now : (limit count : ℕ) (from s : SessionView) (f : KeyFeed) (shown : Screen) (before now : Outside) → Going limit count from s f shown before now →
     (count == 0) ≡ false → shown ≡ screen s.state
 shown_now limit count from s f shown before now going some =
-    going.shows ∙ last_of going.steps from.state empty_grid (omega (arith, going.made, some_made count some)) ∙ ap screen (sym going.session.state)
+    going.shows ∙ last_of going.steps from.state empty_screen (omega (arith, going.made, some_made count some)) ∙ ap screen (sym going.session.state)
 
 -- the lines that are sent: all of them at the first step, and else those that the step may have changed
 pub lines_to_send : (is_first : Bool) (changed lines : List Bool) (shown was now : Screen) → (is_first ≡ true → lines ≡ replicate 25 true) → (is_first ≡ false → lines ≡ changed) →
@@ -119,8 +119,8 @@ lines_to_send true changed lines shown was now all same shows unchanged = subst 
 lines_to_send false changed lines shown was now all same shows unchanged =
     subst (λ (ls : List Bool). Unchanged ls shown now) (sym (same refl)) (subst (λ (s : Screen). Unchanged changed s now) (sym (shows refl)) unchanged)
 
-pub going_starts : (limit : ℕ) (bytes : Option (List ℕ)) (faults : ℕ) (told : Option (List Moment)) (shelf : ShelfView) (displays failed : List View) (s : Running) (f : KeyFeed) (shown : Screen) →
-    s.spent ≡ false → HasPressedAll [] [] f → shown ≡ empty_grid → Going limit 0 s s f shown (outside bytes faults told shelf displays failed) (outside bytes faults told shelf displays failed)
+pub going_starts : (limit : ℕ) (bytes : Option (List ℕ)) (faults : ℕ) (told : Option (List Moment)) (shelf : ShelfView) (displays failed : List View) (s : SessionView) (f : KeyFeed) (shown : Screen) →
+    s.spent ≡ false → HasPressedAll [] [] f → shown ≡ empty_screen → Going limit 0 s s f shown (outside bytes faults told shelf displays failed) (outside bytes faults told shelf displays failed)
 going_starts limit bytes faults told shelf displays failed s f shown fresh none empty = record {
   taken = [];
   steps = [];
@@ -147,7 +147,7 @@ going_starts limit bytes faults told shelf displays failed s f shown fresh none 
   shows = empty;
 }
 
-module _ (limit count : ℕ) (from s : Running) (f : KeyFeed) (shown : Screen) (before : Outside) (bytes : Option (List ℕ)) (faults : ℕ) (told : Option (List Moment)) (shelf : ShelfView) (displays failed : List View)
+module _ (limit count : ℕ) (from s : SessionView) (f : KeyFeed) (shown : Screen) (before : Outside) (bytes : Option (List ℕ)) (faults : ℕ) (told : Option (List Moment)) (shelf : ShelfView) (displays failed : List View)
     (going : Going limit count from s f shown before (outside bytes faults told shelf displays failed)) where
   -- what was done, when more bytes are taken
   did_take : (more : List ℕ) (bytes' : Option (List ℕ)) (faults' : ℕ) → TakesBytes bytes more bytes' → length (going.taken ++ more) ≤ 2 ^ 64 - 1 →
@@ -325,7 +325,7 @@ module _ (limit count : ℕ) (from s : Running) (f : KeyFeed) (shown : Screen) (
       no_fault = same ∙ going.no_fault;
     }
 
-    module _ (told' : Option (List Moment)) (shelf' : ShelfView) (t : Running) (shown' : Screen) (displays' failed' : List View) (below : count < limit) (ends : Bool)
+    module _ (told' : Option (List Moment)) (shelf' : ShelfView) (t : SessionView) (shown' : Screen) (displays' failed' : List View) (below : count < limit) (ends : Bool)
         (made : HasMadeStep event ends s t told told' shelf shelf' shown shown' displays displays' failed failed') where
       abbrev pub this : Step
       this = record { event = event; moment = made.moment; replies = made.replies }
@@ -364,7 +364,7 @@ module _ (limit count : ℕ) (from s : Running) (f : KeyFeed) (shown : Screen) (
       ends_so : (outcome (after from.state going.steps) this).ends ≡ ends
       ends_so = ap (λ (u : State). (outcome u this).ends) (sym going.session.state) ∙ made.ending
 
-    pub step_made : (told' : Option (List Moment)) (shelf' : ShelfView) (t : Running) (shown' : Screen) (displays' failed' : List View) → count < limit → HasMadeStep event false s t told told' shelf shelf' shown shown' displays displays' failed failed' →
+    pub step_made : (told' : Option (List Moment)) (shelf' : ShelfView) (t : SessionView) (shown' : Screen) (displays' failed' : List View) → count < limit → HasMadeStep event false s t told told' shelf shelf' shown shown' displays displays' failed failed' →
         Going limit (count + 1) from t g shown' before (outside bytes' faults' told' shelf' displays' failed')
     step_made told' shelf' t shown' displays' failed' below made =
         let x : Step = this told' shelf' t shown' displays' failed' below false made in
@@ -382,10 +382,10 @@ module _ (limit count : ℕ) (from s : Running) (f : KeyFeed) (shown : Screen) (
           fresh = made.stepped.spent ∙ going.fresh;
           no_fault = same ∙ going.no_fault;
           made = omega (arith, length-append going.steps (x ∷ []), going.made);
-          shows = made.shows ∙ sym (last_more empty_grid (screens from.state going.steps) (screen t.state)) ∙ ap (last_screen empty_grid) (sym (screens_now told' shelf' t shown' displays' failed' below false made));
+          shows = made.shows ∙ sym (last_more empty_screen (screens from.state going.steps) (screen t.state)) ∙ ap (last_screen empty_screen) (sym (screens_now told' shelf' t shown' displays' failed' below false made));
         }
 
-    pub quit_made : (told' : Option (List Moment)) (shelf' : ShelfView) (t : Running) (shown' : Screen) (displays' failed' : List View) → count < limit → HasMadeStep event true s t told told' shelf shelf' shown shown' displays displays' failed failed' →
+    pub quit_made : (told' : Option (List Moment)) (shelf' : ShelfView) (t : SessionView) (shown' : Screen) (displays' failed' : List View) → count < limit → HasMadeStep event true s t told told' shelf shelf' shown shown' displays displays' failed failed' →
         HasDriven limit from t before (outside bytes' faults' told' shelf' displays' failed') Quit
     quit_made told' shelf' t shown' displays' failed' below made =
         let x : Step = this told' shelf' t shown' displays' failed' below true made in
@@ -404,6 +404,6 @@ module _ (limit count : ℕ) (from s : Running) (f : KeyFeed) (shown : Screen) (
           state = session_now told' shelf' t shown' displays' failed' below true made;
         }
 
-pub leaves : (from s : Running) (steps : List Step) (f : KeyFeed) (ending : Ending) → EndsAsTold f ending → IsAfter from s steps → LeavesState from s steps ending
+pub leaves : (from s : SessionView) (steps : List Step) (f : KeyFeed) (ending : Ending) → EndsAsTold f ending → IsAfter from s steps → LeavesState from s steps ending
 leaves from s steps f ending (true, rest, is) same = rw is same
 leaves from s steps f ending (false, rest, is) same = rw is same

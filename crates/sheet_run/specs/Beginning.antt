@@ -6,7 +6,7 @@ use Rattle.commands_file.specs.Calls.{gets, loaded, HasAnswered, HaveAnswered, S
 use Rattle.lics_text.specs.declared.faults.Memory.{Memory as NoMemory}
 use Rattle.outside_world.specs.Clock.{TakesReading}
 use Rattle.serial_date.specs.declared.moment.Moment.{Moment}
-use Rattle.session_core.specs.Machine.{begun, begun_with, Follows, Running}
+use Rattle.session_core.specs.Machine.{begun, begun_with, Follows, SessionView}
 use Rattle.session_core.specs.Step.{loaded as loaded_at}
 use Rattle.sheet_store.specs.declared.writes.SavedSheet.{SavedSheet}
 use Rattle.work_sheet.specs.Did.{work_of}
@@ -46,10 +46,10 @@ HasBegunOr file (Err (NotRead why)) before now =
 HasBegunOr file (Err Memory) before now = BreaksOff file before now
 
 -- a session begins with a desk and is recalculated at this reading
-pub record IsLoaded (desk : Desk) (first : Moment) (s : Running) : Type 0 where
+pub record IsLoaded (desk : Desk) (first : Moment) (s : SessionView) : Type 0 where
   pub follows : Follows (loaded_at first (begun_with (of_desk desk))) (begun (of_desk desk) (work_of desk.sheet 0)) s
 
 -- the clock was read, and a session recalculated at the reading, or memory ran out
-abbrev pub HasLoaded : Desk → Option (List Moment) → Option (List Moment) → Result Running NoMemory → Type 0
+abbrev pub HasLoaded : Desk → Option (List Moment) → Option (List Moment) → Result SessionView NoMemory → Type 0
 HasLoaded desk before now (Ok s) = (first : Moment) × TakesReading before now first × IsLoaded desk first s
 HasLoaded desk before now (Err m) = (first : Moment) × TakesReading before now first

@@ -11,7 +11,7 @@ use Rattle.sheet_run.specs.Notation.{Spells, SpellsInto, SpellsUpTo}
 use Rattle.sheet_run.specs.Opening.{opening, StartFile}
 use Rattle.sheet_run.specs.Options.{limit_of, words_read}
 use Rattle.sheet_run.specs.Run.{after, calls_of, keys_of, moments_of, EndAtLast, Fit, GoOn, Outside, Step}
-use Rattle.sheet_run.specs.Status.{World}
+use Rattle.sheet_run.specs.Status.{Surroundings}
 use Rattle.sheet_run.specs.Taking.{TakesBytes, TakesReadings}
 use Rattle.sheet_run.specs.declared.options.Options.{Options}
 
@@ -67,7 +67,7 @@ pub data Opens (before now : ShelfView) : Option (List ℕ) → Option StartFile
 
 -- the words are in the grammar, the start file opens, the bytes bring the run to its end within its limit, and neither
 -- keys, notes nor displays failed
-pub record MustEndWell (words : List (List ℕ)) (before now : World) : Type 0 where
+pub record MustEndWell (words : List (List ℕ)) (before now : Surroundings) : Type 0 where
   pub options : Options
   pub accepted : words_read words ≡ Ok options
   pub start : Option StartFile
@@ -107,5 +107,5 @@ abbrev pub ReadWell : Option StartFile → Outside → Outside → Type 0
 ReadWell start before now = ReadToEnd start before now ⊎ ReadToQuit start before now
 
 -- with 0 the keys were read to their end or until the run was quit; with 9 memory ran out
-abbrev pub HasEndedWell : Option StartFile → World → World → ℕ → Type 0
+abbrev pub HasEndedWell : Option StartFile → Surroundings → Surroundings → ℕ → Type 0
 HasEndedWell start before now status = ((status ≡ 0) × ReadWell start before.outside now.outside) ⊎ (status ≡ 9)

@@ -4,13 +4,13 @@ use Rattle.commands_file.specs.Calls.{HasBrokenOff, HaveAnswered, ShelfView}
 use Rattle.outside_world.specs.Clock.{TakesReading}
 use Rattle.serial_date.specs.declared.moment.Moment.{Moment}
 use Rattle.key_words.specs.declared.key.Key.{Key}
-use Rattle.session_core.specs.Machine.{Follows, Replies, Running, State}
+use Rattle.session_core.specs.Machine.{Follows, Replies, SessionView, State}
 use Rattle.session_core.specs.Step.{step}
 use Rattle.session_core.specs.declared.event.Event.{Event}
 use Rattle.session_core.specs.declared.event.Event.TheVariants.{Unit as UnitEvent}
 use Rattle.session_core.specs.Screen.{screen}
 use Rattle.screen_show.specs.Display.{View}
-use Rattle.screen_show.specs.Grid.{IsPrinted}
+use Rattle.screen_show.specs.Screen.{IsPrinted}
 use Rattle.work_sheet.specs.Work.{HasWorked}
 use Rattle.sheet_run.specs.Displays.{Screen, Watched}
 use Rattle.sheet_run.specs.Passing.{HasSentOne, Passed}
@@ -32,7 +32,7 @@ ComesNext true bytes keys told told' f next = Reads bytes keys told told' f next
 ComesNext false bytes keys told told' f next = (next ≡ NextEvent UnitEvent) × (told' ≡ told) × HasPressed bytes keys f
 
 -- a step was made and its screen sent; the flag says whether it ends the run
-pub record HasMadeStep (event : Event) (ends : Bool) (s t : Running) (readings readings' : Option (List Moment))
+pub record HasMadeStep (event : Event) (ends : Bool) (s t : SessionView) (readings readings' : Option (List Moment))
     (shelf shelf' : ShelfView)
     (shown shown' : Screen) (displays displays' failed failed' : List View) : Type 0 where
   pub moment : Moment
@@ -55,7 +55,7 @@ pub record HasNotMadeStep (readings readings' : Option (List Moment)) (shelf she
   pub failed_stay : failed' ≡ failed
 
 -- a step was made, or memory ran out in it
-abbrev pub HasStepped : Event → Running → Running → Option (List Moment) → Option (List Moment) → ShelfView →
+abbrev pub HasStepped : Event → SessionView → SessionView → Option (List Moment) → Option (List Moment) → ShelfView →
     ShelfView → Screen → Screen → List View → List View → List View → List View → StepEnd → Type 0
 HasStepped event s t readings readings' shelf shelf' shown shown' displays displays' failed failed' Done =
     HasMadeStep event false s t readings readings' shelf shelf' shown shown' displays displays' failed failed'
@@ -84,12 +84,12 @@ HasEnded limit s steps left out before now Stopped = RanToLimit limit s steps le
 HasEnded limit s steps left out before now NoMemory = RanOutOfMemory limit s steps left out before now
 
 -- a session has become what the steps make of its state and of its work
-pub record IsAfter (from now : Running) (steps : List Step) : Type 0 where
+pub record IsAfter (from now : SessionView) (steps : List Step) : Type 0 where
   pub state : now.state ≡ after from.state steps
   pub work : HasWorked (happened from.state steps) from.work now.work
 
 -- the session after the steps, where the ending leaves it
-abbrev pub LeavesState : Running → Running → List Step → Ending → Type 0
+abbrev pub LeavesState : SessionView → SessionView → List Step → Ending → Type 0
 LeavesState from now steps KeysEnded = IsAfter from now steps
 LeavesState from now steps Quit = IsAfter from now steps
 LeavesState from now steps (BadWord at) = IsAfter from now steps
@@ -98,7 +98,7 @@ LeavesState from now steps Stopped = IsAfter from now steps
 LeavesState from now steps NoMemory = Unit {0}
 
 -- the steps of a run were made up to an ending, and the session is what they leave
-pub record HasDriven (limit : ℕ) (from now : Running) (before after : Outside) (ending : Ending) : Type 0 where
+pub record HasDriven (limit : ℕ) (from now : SessionView) (before after : Outside) (ending : Ending) : Type 0 where
   pub steps : List Step
   pub left : List Watched
   pub out : List Watched

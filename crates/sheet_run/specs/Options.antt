@@ -6,8 +6,8 @@ use Rattle.std.specs.Str.{bytes_eq}
 use Rattle.fixed_value.specs.Decimals.{number_of}
 use Rattle.outside_world.specs.FileNames.{file_name}
 use Rattle.outside_world.specs.declared.file_name.Ext.TheVariants.{Wk1}
-use Rattle.screen_show.specs.declared.display.Kind.{Kind}
-use Rattle.screen_show.specs.declared.display.Kind.TheVariants.{Pages, Ansi, Last}
+use Rattle.screen_show.specs.declared.display.DisplayKind.{DisplayKind}
+use Rattle.screen_show.specs.declared.display.DisplayKind.TheVariants.{Pages, Ansi, Last}
 use Rattle.sheet_run.specs.declared.options.Options.{Options}
 use Rattle.sheet_run.specs.declared.options.Wanted.{Wanted}
 use Rattle.sheet_run.specs.declared.options.Wanted.TheVariants.{File, Steps, Show}
@@ -21,7 +21,7 @@ abbrev pub limit_of : Options → ℕ
 limit_of o = unwrap_or o.steps 1000000
 
 -- the kind of display that is used, pages where the words don't say it
-abbrev pub shown_kind : Options → Kind
+abbrev pub shown_kind : Options → DisplayKind
 shown_kind o = unwrap_or o.show Pages
 
 -- digits without a leading zero, of a number that is not 0
@@ -33,7 +33,7 @@ unfoldable pub steps_of : List ℕ → Option ℕ
 steps_of v = if is_number v && nat_le (number_of v) 10000000 then Some (number_of v) else None
 
 -- the kind of display that a word names
-abbrev pub kind_of : List ℕ → Option Kind
+abbrev pub kind_of : List ℕ → Option DisplayKind
 kind_of v = if bytes_eq v (codes "pages") then Some Pages else if bytes_eq v (codes "ansi") then Some Ansi
     else if bytes_eq v (codes "last") then Some Last else None
 
@@ -62,7 +62,7 @@ steps_taken o None value = Err value
 steps_taken o (Some n) value = Ok (record o { steps = Some n })
 
 -- a kind takes its place, and a value that names none is refused
-abbrev pub show_taken : Options → Option Kind → List ℕ → Result Options (List ℕ)
+abbrev pub show_taken : Options → Option DisplayKind → List ℕ → Result Options (List ℕ)
 show_taken o None value = Err value
 show_taken o (Some kind) value = Ok (record o { show = Some kind })
 

@@ -15,14 +15,14 @@ use Rattle.sheet_run.specs.declared.opening.NotRead.{NotRead}
 use Rattle.sheet_run.specs.declared.options.Options.{Options}
 
 -- the outside, with the notes
-pub record World : Type 0 where
+pub record Surroundings : Type 0 where
   pub outside : Outside
   pub notes : Option (List ℕ)
   pub note_faults : ℕ
 
--- the world of these parts
-abbrev pub world : Outside → Option (List ℕ) → ℕ → World
-world outside notes note_faults = record { outside = outside; notes = notes; note_faults = note_faults }
+-- the surroundings of these parts
+abbrev pub surroundings : Outside → Option (List ℕ) → ℕ → Surroundings
+surroundings outside notes note_faults = record { outside = outside; notes = notes; note_faults = note_faults }
 
 -- the outside where the displays of other kinds were dropped
 abbrev pub asked : Options → Outside → Outside
@@ -67,7 +67,7 @@ pub record HasFinished (options : Options) (before now : Outside) (found : ℕ) 
       (is_any (out ++ out_now)) ending
 
 -- what a run with these options did, by its status
-pub data RunsWith (options : Options) (before now : World) : ℕ → Type 0 where
+pub data RunsWith (options : Options) (before now : Surroundings) : ℕ → Type 0 where
   finished : (found : ℕ) (text : List ℕ) {status : ℕ} → HasFinished options before.outside now.outside found text →
       Tells text found before.notes now.notes before.note_faults now.note_faults status →
       RunsWith options before now status
@@ -95,7 +95,7 @@ pub data RunsWith (options : Options) (before now : World) : ℕ → Type 0 wher
       Tried memory_note before.notes now.notes before.note_faults now.note_faults → RunsWith options before now 9
 
 -- What a run did, by its status. Where the words are refused nothing but the notes was called.
-pub data IsRun (words : List (List ℕ)) (before now : World) : ℕ → Type 0 where
+pub data IsRun (words : List (List ℕ)) (before now : Surroundings) : ℕ → Type 0 where
   refused : (word : List ℕ) {status : ℕ} → words_read words ≡ Err word → now.outside ≡ before.outside →
       Tells (refused_note word) 1 before.notes now.notes before.note_faults now.note_faults status →
       IsRun words before now status

@@ -7,27 +7,29 @@ ghost use Rattle.sheet_run.specs.Working.{HasWorkedOne, IsReady};
 ghost use Rattle.sheet_run.specs.Passing.{HasClosedOne, HasSentOne, Passed};
 
 use outside_world::Failed;
-use screen_show::{Display, Grid, Kind, LineSet, send_lines};
+use screen_show::{Display, DisplayKind, LineSet, Screen, send_lines};
 
 // Whether two kinds are one.
-fn same_kind(a: Kind, b: Kind) -> bool
+fn same_kind(a: DisplayKind, b: DisplayKind) -> bool
     ensures { result ≡ same_kind a b }
 {
     match (a, b) {
-        (Kind::Pages, Kind::Pages) | (Kind::Ansi, Kind::Ansi) | (Kind::Last, Kind::Last) => true,
-        (Kind::Pages, _) | (Kind::Ansi, _) | (Kind::Last, _) => false,
+        (DisplayKind::Pages, DisplayKind::Pages)
+        | (DisplayKind::Ansi, DisplayKind::Ansi)
+        | (DisplayKind::Last, DisplayKind::Last) => true,
+        (DisplayKind::Pages, _) | (DisplayKind::Ansi, _) | (DisplayKind::Last, _) => false,
     }
 }
 
 // Whether a display is of a kind.
-fn has_kind(display: &Box<dyn Display>, kind: Kind) -> bool
+fn has_kind(display: &Box<dyn Display>, kind: DisplayKind) -> bool
     ensures { result ≡ same_kind (seen display.now).kind kind }
 {
     same_kind(display.kind(), kind)
 }
 
 /// Drops the displays of other kinds. No clause tells that nothing is asked of them before.
-pub fn keep_kind(kind: Kind, displays: &mut Vec<Box<dyn Display>>)
+pub fn keep_kind(kind: DisplayKind, displays: &mut Vec<Box<dyn Display>>)
     ensures kept { map seen displays.new.items ≡ filter (λ v. same_kind v.kind kind) (map seen displays.old.items) }
     ensures fewer { vec_len displays.new ≤ vec_len displays.old }
 {
@@ -47,8 +49,8 @@ pub fn keep_kind(kind: Kind, displays: &mut Vec<Box<dyn Display>>)
 pub enum Work<'a> {
     /// The screen `after` is sent to displays that show `before`; the two differ in these lines alone.
     Send {
-        before: &'a Grid,
-        after: &'a Grid,
+        before: &'a Screen,
+        after: &'a Screen,
         lines: &'a LineSet,
     },
     Close,
@@ -56,8 +58,8 @@ pub enum Work<'a> {
 
 // Sends the screen `after` to a display that shows `before`, from which it differs in these lines alone.
 fn send_to_one(
-    before: &Grid,
-    after: &Grid,
+    before: &Screen,
+    after: &Screen,
     lines: &LineSet,
     display: &mut Box<dyn Display>,
 ) -> Result<(), Failed>

@@ -2,7 +2,7 @@
 ghost use Rattle.std.specs.Prelude.{◌≡◌, ◌<◌, ◌≤◌, ◌+◌, ℕ, false, true, List, map, replicate, vec_len, vec_capacity};
 ghost use Rattle.commands_file.specs.Calls.{shelf_view};
 ghost use Rattle.screen_show.specs.Changes.{Unchanged};
-ghost use Rattle.screen_show.specs.Grid.{empty_grid, IsPrinted};
+ghost use Rattle.screen_show.specs.Screen.{empty_screen, IsPrinted};
 ghost use Rattle.key_words.specs.declared.key.Key.{Key};
 ghost use Rattle.outside_world.specs.Causes.{Rose};
 ghost use Rattle.session_core.specs.Machine.{wants_key};
@@ -18,7 +18,7 @@ ghost use Rattle.sheet_run.specs.declared.reader.Next.TheVariants as Next;
 use crate::displays::{Work, work_on_all};
 use crate::reader::{KeyFeed, Next};
 use outside_world::{Clock, Keys, Shelf};
-use screen_show::{Display, Grid, LineSet};
+use screen_show::{Display, LineSet, Screen};
 use session_core::{Event, Session, Stepped};
 
 /// How a step ended.
@@ -51,7 +51,7 @@ fn send_screen(
     lines: &LineSet,
     displays: &mut Vec<Box<dyn Display>>,
     failed: &mut Vec<Box<dyn Display>>,
-    shown: &mut Grid,
+    shown: &mut Screen,
 )
     requires fresh { session.now.spent ≡ false }
     requires lines { Unchanged lines.now shown.old (screen session.now.state) }
@@ -63,7 +63,7 @@ fn send_screen(
     ensures printed { IsPrinted (screen session.now.state) }
     ensures room { vec_len failed.new + vec_len displays.new ≤ vec_capacity failed.new }
 {
-    let after = session.grid();
+    let after = session.shown();
     let work = Work::Send {
         before: shown,
         after,
@@ -111,7 +111,7 @@ fn make_step<S: Shelf, C: Clock>(
     displays: &mut Vec<Box<dyn Display>>,
     failed: &mut Vec<Box<dyn Display>>,
     session: &mut Session,
-    shown: &mut Grid,
+    shown: &mut Screen,
 ) -> StepEnd
     requires fresh { session.old.spent ≡ false }
     requires wanted { is_key event ≡ wants_key session.old.state }
@@ -172,7 +172,7 @@ pub fn drive<K: Keys, S: Shelf, C: Clock>(
         result }
     ensures room { vec_len failed.new + vec_len displays.new ≤ vec_capacity failed.new }
 {
-    let mut shown = Grid::empty();
+    let mut shown = Screen::empty();
     let mut feed = KeyFeed::new();
     let mut steps: u32 = 0;
     loop {

@@ -7,7 +7,7 @@ ghost use Rattle.sheet_run.specs.OptionAnswers.{HasValue, HasTaken, HasReadWords
 use crate::Words;
 use fixed_value::{all_digits, capped_number};
 use outside_world::FileName;
-use screen_show::Kind;
+use screen_show::DisplayKind;
 
 /// What the words ask for: at most once each, in any order.
 #[derive(Drop)]
@@ -17,7 +17,7 @@ pub struct Options {
     /// `--steps N`: the most steps of the run, 1 to 10,000,000.
     pub steps: Option<u32>,
     /// `--show pages`, `ansi` or `last`: the kind of display that is used.
-    pub show: Option<Kind>,
+    pub show: Option<DisplayKind>,
     /// `--count`: the number of evaluations is told.
     pub count: bool,
 }
@@ -57,12 +57,12 @@ impl Options {
     }
 
     /// The kind of display that is used.
-    pub fn kind(&self) -> Kind
+    pub fn kind(&self) -> DisplayKind
         ensures { result ≡ shown_kind self.now }
     {
         match self.show {
             Some(kind) => kind,
-            None => Kind::Pages,
+            None => DisplayKind::Pages,
         }
     }
 }
@@ -116,15 +116,15 @@ fn file_of(value: &[u8]) -> Option<FileName>
 }
 
 // The kind of display that a word names.
-fn kind_of(value: &[u8]) -> Option<Kind>
+fn kind_of(value: &[u8]) -> Option<DisplayKind>
     ensures { result ≡ kind_of value.now }
 {
     if is_same(value, b"pages") {
-        Some(Kind::Pages)
+        Some(DisplayKind::Pages)
     } else if is_same(value, b"ansi") {
-        Some(Kind::Ansi)
+        Some(DisplayKind::Ansi)
     } else if is_same(value, b"last") {
-        Some(Kind::Last)
+        Some(DisplayKind::Last)
     } else {
         None
     }

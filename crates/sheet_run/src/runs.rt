@@ -5,7 +5,7 @@ ghost use Rattle.sheet_run.specs.Completeness.{HasEndedWell, MustEndWell};
 ghost use Rattle.sheet_run.specs.Notes.{count_of, file_note, file_status, Tells};
 ghost use Rattle.sheet_run.specs.OptionAnswers.{refused_text, IsPart};
 ghost use Rattle.sheet_run.specs.Run.{outside};
-ghost use Rattle.sheet_run.specs.Status.{world, IsRun, RunsWith, World};
+ghost use Rattle.sheet_run.specs.Status.{surroundings, IsRun, RunsWith, Surroundings};
 
 use crate::Words;
 use crate::displays::{Work, keep_kind, work_on_all};
@@ -75,30 +75,30 @@ pub fn run<K: Keys, S: Shelf, C: Clock, N: Notes>(
     notes: &mut N,
 ) -> u8
     ensures ran { IsRun words.now
-        (world
+        (surroundings
         (outside (K.left keys.old) (K.faults keys.old) (C.readings clock.old)
         (shelf_view (S.holds shelf.old) (S.faults shelf.old)) (map seen displays.old.items) (map seen failed.old.items))
         (N.written notes.old) (N.faults notes.old))
-        (world
+        (surroundings
         (outside (K.left keys.new) (K.faults keys.new) (C.readings clock.new)
         (shelf_view (S.holds shelf.new) (S.faults shelf.new)) (map seen displays.new.items) (map seen failed.new.items))
         (N.written notes.new) (N.faults notes.new))
         result }
     ensures complete { (must : MustEndWell words.now
-        (world
+        (surroundings
         (outside (K.left keys.old) (K.faults keys.old) (C.readings clock.old)
         (shelf_view (S.holds shelf.old) (S.faults shelf.old)) (map seen displays.old.items) (map seen failed.old.items))
         (N.written notes.old) (N.faults notes.old))
-        (world
+        (surroundings
         (outside (K.left keys.new) (K.faults keys.new) (C.readings clock.new)
         (shelf_view (S.holds shelf.new) (S.faults shelf.new)) (map seen displays.new.items) (map seen failed.new.items))
         (N.written notes.new) (N.faults notes.new)))
         → HasEndedWell must.start
-        (world
+        (surroundings
         (outside (K.left keys.old) (K.faults keys.old) (C.readings clock.old)
         (shelf_view (S.holds shelf.old) (S.faults shelf.old)) (map seen displays.old.items) (map seen failed.old.items))
         (N.written notes.old) (N.faults notes.old))
-        (world
+        (surroundings
         (outside (K.left keys.new) (K.faults keys.new) (C.readings clock.new)
         (shelf_view (S.holds shelf.new) (S.faults shelf.new)) (map seen displays.new.items) (map seen failed.new.items))
         (N.written notes.new) (N.faults notes.new))
@@ -122,11 +122,11 @@ fn run_with<K: Keys, S: Shelf, C: Clock, N: Notes>(
     notes: &mut N,
 ) -> u8
     ensures { RunsWith options
-        (world
+        (surroundings
         (outside (K.left keys.old) (K.faults keys.old) (C.readings clock.old)
         (shelf_view (S.holds shelf.old) (S.faults shelf.old)) (map seen displays.old.items) (map seen failed.old.items))
         (N.written notes.old) (N.faults notes.old))
-        (world
+        (surroundings
         (outside (K.left keys.new) (K.faults keys.new) (C.readings clock.new)
         (shelf_view (S.holds shelf.new) (S.faults shelf.new)) (map seen displays.new.items) (map seen failed.new.items))
         (N.written notes.new) (N.faults notes.new))
@@ -183,7 +183,7 @@ fn count_of(options: &Options, session: &Session) -> Option<u64>
 /// spell keys that with the macros they start come to their end within the limit of steps, or begin with words whose
 /// keys quit the run within it, unless memory ran out.
 pub fn a_run_ends_well()
-    ensures { (words : List (List ℕ)) (before now : World) (status : ℕ) →
+    ensures { (words : List (List ℕ)) (before now : Surroundings) (status : ℕ) →
         IsRun words before now status → (must : MustEndWell words before now) →
         HasEndedWell must.start before now status }
 {}

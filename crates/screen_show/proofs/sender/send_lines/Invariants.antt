@@ -1,5 +1,5 @@
 use Rattle.std.proofs.Common.{◌≡◌, ◌≤◌, ◌-◌}
-use Rattle.screen_show.proofs.GridSending.{SendingGrid}
+use Rattle.screen_show.proofs.ScreenSending.{SendingScreen}
 use Rattle.screen_show.proofs.sender.send_lines.Given as goal
 
 abbrev pub invariant-loop-row : goal.invariant-loop-row
@@ -8,7 +8,7 @@ invariant-loop-row g l =
     let now = (goal.Display-dyn g l.display.now).seen l.display.now.1 in
     record {
       within : l.row ≤ 25;
-      lines : SendingGrid l.row l.before l.after was.told now.told;
+      lines : SendingScreen l.row l.before l.after was.told now.told;
       kind : now.kind ≡ was.kind;
       faults : now.faults ≡ was.faults;
     }

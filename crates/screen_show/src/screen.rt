@@ -1,43 +1,43 @@
 ghost use Rattle.std.specs.Prelude.{◌≡◌, ◌<◌, ◌≤◌, Some, length, slice_get, slice_index_or, slice_set, [], ◌+◌};
 ghost use Rattle.screen_show.specs.Changes.{Unchanged};
-ghost use Rattle.screen_show.specs.Grid.{IsGrid, empty_grid, put_in_grid};
+ghost use Rattle.screen_show.specs.Screen.{IsScreen, empty_screen, put_in_screen};
 
 use crate::LineSet;
 use std::marker::Model;
 
 /// The bytes of a screen: 25 lines of 80.
 #[derive(Clone, Copy)]
-pub struct Grid {
+pub struct Screen {
     lines: [[u8; 80]; 25],
 }
 
-impl Model for Grid {
+impl Model for Screen {
     ghost use Rattle.std.specs.Prelude.{ℕ, List};
 
     ghost Value = { List (List ℕ) };
 
     ghost view = { λ g. g.lines };
 
-    ghost use Rattle.screen_show.specs.Grid.{IsGrid};
+    ghost use Rattle.screen_show.specs.Screen.{IsScreen};
 
-    ghost invariant = { λ g. IsGrid g.lines };
+    ghost invariant = { λ g. IsScreen g.lines };
 
     ghost inverse = { λ v. record { lines = v } };
 }
 
-impl Grid {
-    /// A grid that holds the byte 0 everywhere, which no screen holds.
-    pub fn empty() -> Grid
-        ensures { result ≡ empty_grid }
+impl Screen {
+    /// A screen that holds the byte 0 everywhere, which none that is painted holds.
+    pub fn empty() -> Screen
+        ensures { result ≡ empty_screen }
     {
-        Grid {
+        Screen {
             lines: [[0; 80]; 25],
         }
     }
 
-    /// A grid has 25 lines of 80 bytes. It does nothing, and is called for its clause.
+    /// A screen has 25 lines of 80 bytes. It does nothing, and is called for its clause.
     pub fn is_whole(&self)
-        ensures { IsGrid self.now }
+        ensures { IsScreen self.now }
     {
         let _lines = &self.lines;
     }
@@ -47,7 +47,7 @@ impl Grid {
         requires { row ≤ 24 }
         ensures line { slice_get self.now row ≡ Some result.now }
         ensures width { length result.now ≡ 80 }
-        ensures grid { IsGrid self.now }
+        ensures screen { IsScreen self.now }
     {
         &self.lines[row as usize]
     }
@@ -56,8 +56,8 @@ impl Grid {
     pub fn put(&mut self, row: u8, col: u8, bytes: &[u8])
         requires row_in { row ≤ 24 }
         requires col_in { col + length bytes.now ≤ 80 }
-        ensures put { self.new ≡ put_in_grid row col bytes.now self.old }
-        ensures grid { IsGrid self.old }
+        ensures put { self.new ≡ put_in_screen row col bytes.now self.old }
+        ensures screen { IsScreen self.old }
     {
         let line = &mut self.lines[row as usize];
         let from = col as usize;
@@ -71,9 +71,10 @@ impl Grid {
     {
         self.lines[row as usize] = line;
     }
-    /// Becomes another grid, which has all lines in common with this one that aren't in the set: those of the set alone
-    /// are copied.
-    pub fn copy_lines(&mut self, from: &Grid, lines: &LineSet)
+
+    /// Becomes another screen, which has all lines in common with this one that aren't in the set: those of the set
+    /// alone are copied.
+    pub fn copy_lines(&mut self, from: &Screen, lines: &LineSet)
         requires { Unchanged lines.now self.old from.now }
         ensures { self.new ≡ from.now }
     {
@@ -85,8 +86,9 @@ impl Grid {
             row = lines.next_from(row + 1);
         }
     }
-    // Copies one line of another grid.
-    fn copy_line(&mut self, row: u8, from: &Grid)
+
+    // Copies one line of another screen.
+    fn copy_line(&mut self, row: u8, from: &Screen)
         requires { row ≤ 24 }
         ensures { self.new ≡ slice_set self.old row (slice_index_or from.now row []) }
     {

@@ -1,6 +1,6 @@
 use Rattle.screen_layout.proofs.Painted.{printed, shaped}
 use Rattle.session_core.specs.Screen.{panel_of}
-use Rattle.session_core.proofs.session.Session.grid.Goals as goal
+use Rattle.session_core.proofs.session.Session.shown.Goals as goal
 
 -- every screen has its lines, and no byte below 32
 pub returns-clause-shape : goal.returns-clause-shape

@@ -1,6 +1,6 @@
 use Rattle.std.proofs.Common.{◌≤◌, ◌-◌}
 use Rattle.screen_show.proofs.LineSets.{Copying}
-use Rattle.screen_show.proofs.grid.Grid.copy_lines.Given as goal
+use Rattle.screen_show.proofs.screen.Screen.copy_lines.Given as goal
 
 abbrev pub invariant-loop-row : goal.invariant-loop-row
 invariant-loop-row l = record {

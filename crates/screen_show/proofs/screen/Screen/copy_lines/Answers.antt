@@ -1,6 +1,6 @@
 use Rattle.std.proofs.Common.{arith}
 use Rattle.screen_show.proofs.LineSets.{copying_starts, copying_more, copying_ends}
-use Rattle.screen_show.proofs.grid.Grid.copy_lines.Goals as goal
+use Rattle.screen_show.proofs.screen.Screen.copy_lines.Goals as goal
 
 pub loop-row-init : goal.loop-row-init
 loop-row-init c = record {
