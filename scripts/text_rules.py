@@ -1,7 +1,4 @@
-"""The rules of the repository's text. `scripts/check_text` says which files break one.
-
-Some rules came after much of the text. scripts/text_left tells, for each of these and each crate, how many places are
-still to be mended: a crate must not gain one, and `scripts/check_text --write` notes what was mended since."""
+"""The rules of the repository's text. `scripts/check_text` says which files break one."""
 import collections
 import re
 import subprocess
@@ -13,23 +10,18 @@ CRATE_PARTS = {"src", "specs", "proofs", "must-fail", "wrong-bodies", "data", "s
 PRODUCTS = re.compile(r"(^|/)(out|__pycache__)/|\.(o|a|so|rlib|oantt|stamp|pyc)$")
 SECTIONS = ["base", "formulas", "sheet", "session", "program", "checks"]
 MOST_LINES, MOST_BODY, MOST_COLUMNS, MOST_EDITS, MOST_THEOREMS = 800, 41, 120, 3, 200
-LEFT = "scripts/text_left"
 FUNCTION = re.compile(r"^( *)(pub(\([a-z]+\))? )?((const|unsafe|ghost) )*fn (\w+)")
 
 
 class Rules:
-    """What was found: faults, and places that break a rule that came late, by rule and crate."""
+    """The files, and the faults that were found."""
 
     def __init__(self, files):
         self.files = files
         self.faults = []
-        self.late = collections.defaultdict(list)
 
     def fault(self, text):
         self.faults.append(text)
-
-    def late_fault(self, rule, name, number, text):
-        self.late[rule, name.split("/")[1]].append(f"{name}:{number}: {text}")
 
     def all(self):
         self.places()
@@ -108,27 +100,27 @@ class Rules:
                 above -= 1
             if "#[test]" in attributes or lines[max(above, 0)].lstrip().startswith("//"):
                 continue
-            self.late_fault("function without its meaning", name, at + 1, head.group(6))
+            self.fault(f"{name}:{at + 1}: {head.group(6)} has no line of meaning")
 
     def definition_meanings(self, name, lines):
         """Each definition has its line of meaning above it."""
         for at, line in enumerate(lines):
             head = re.match(r"(?:pub )?(?:abbrev|unfoldable|data|record) (?:pub )?(\w+)", line)
             if head and not (at and lines[at - 1].lstrip().startswith("--")):
-                self.late_fault("definition without its meaning", name, at + 1, head.group(1))
+                self.fault(f"{name}:{at + 1}: {head.group(1)} has no line of meaning")
 
     def numbers(self, name, lines):
         """The last row and the longest text have names."""
         for at, line in enumerate(lines):
             code = line.split("//")[0]
             if re.search(r"(?<![\w.])(8191|8192|240)(u8|u16|u32|usize|i64)?(?![\w.])", code) and not re.match(r" *(pub(\(\w+\))? )?const ", code):
-                self.late_fault("number that has a name", name, at + 1, line.strip()[:90])
+                self.fault(f"{name}:{at + 1}: a number that has a name: {line.strip()[:90]}")
 
     def columns(self, name, lines):
         """Clauses and definitions fit the page; what is imported, and the lemmas that a proof is given, may run on."""
         for at, line in enumerate(lines):
             if len(line) > MOST_COLUMNS and not re.match(r"(pub )?(ghost )?use | *#\[tactic\(", line):
-                self.late_fault(f"line past {MOST_COLUMNS} columns", name, at + 1, f"{len(line)} columns")
+                self.fault(f"{name}:{at + 1}: {len(line)} columns")
 
     def edits(self):
         """The gate tries a few wrong bodies of each crate, and the others stand beside them."""
@@ -251,52 +243,13 @@ def check_cited(named, files, fault):
             fault(f"{crate}: its line of crates.txt names {other}, which it does not cite")
 
 
-def left_over():
-    """How many places of each late rule are still to be mended, by rule and crate."""
-    left = {}
-    try:
-        with open(LEFT, encoding="utf-8") as it:
-            for line in it:
-                if line.strip() and not line.startswith("#"):
-                    number, crate, rule = line.rstrip("\n").split(" ", 2)
-                    left[rule, crate] = int(number)
-    except FileNotFoundError:
-        pass
-    return left
-
-
-def write_left(late, left):
-    """Notes what was mended; where nothing was noted yet, all that is there."""
-    late = {key: found[: left.get(key, 0)] for key, found in late.items()} if left else late
-    with open(LEFT, "w", encoding="utf-8") as it:
-        it.write("# Places that break a rule that came after them: how many, in which crate, which rule. No crate may gain one.\n")
-        for (rule, crate), found in sorted(late.items()):
-            if found:
-                it.write(f"{len(found)} {crate} {rule}\n")
-
-
-def main(words):
+def main():
     files = [it for it in subprocess.run(["git", "ls-files"], capture_output=True, text=True).stdout.split("\n") if it]
     rules = Rules(files)
     rules.all()
-    left = left_over()
-    if words == ["--left"]:
-        for (rule, crate), found in sorted(rules.late.items()):
-            print(f"{crate}: {rule}", *(f"  {it}" for it in found), sep="\n")
-        return 0
-    if words == ["--write"]:
-        write_left(rules.late, left)
-        left = left_over()
-    for key, found in sorted(rules.late.items()):
-        if len(found) > left.get(key, 0):
-            rules.fault(f"{key[1]}: {key[0]}: {len(found)} places, and {left.get(key, 0)} are left to be mended. They are:")
-            rules.faults += [f"  {it}" for it in found]
     print("\n".join(rules.faults) if rules.faults else "text: fine")
-    many = sum(map(len, rules.late.values()))
-    if many and not rules.faults:
-        print(f"text: {many} places are still to be mended, as scripts/check_text --left tells")
     return 1 if rules.faults else 0
 
 
 if __name__ == "__main__":
-    sys.exit(main(sys.argv[1:]))
+    sys.exit(main())

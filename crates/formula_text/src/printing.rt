@@ -92,9 +92,7 @@ fn put_cell(reference: Ref, at: Cell, names: &Names, out: &mut Output)
 fn in_order(first: Cell, last: Cell) -> bool
     ensures { result ≡ in_order first last }
 {
-    first.row <= last.row
-        && first.col <= last.col
-        && first != last
+    first.row <= last.row && first.col <= last.col && first != last
 }
 
 // The name of the span between two corners, where all coordinates are alike and the corners in order.

@@ -2,7 +2,6 @@
 ghost use Rattle.std.specs.Prelude.{◌≡◌, ◌≤◌};
 ghost use Rattle.std.specs.Option.{ForSome};
 ghost use Rattle.sheet_store.specs.Grid.{number_of_width, own_width};
-ghost use Rattle.sheet_store.specs.declared.own_width.TheConstants.{MOST_WIDTH};
 
 use std::marker::Model;
 
@@ -18,6 +17,7 @@ pub struct OwnWidth {
 
 impl Model for OwnWidth {
     ghost use Rattle.std.specs.Prelude.{ℕ, ◌≤◌};
+    ghost use Rattle.sheet_store.specs.declared.own_width.TheConstants.{MOST_WIDTH};
 
     ghost Value = { ℕ };
 

@@ -44,7 +44,9 @@ use sheet_edits::{
     reformatted, refusing, state_of, target_of, write_cell, write_cells, write_evaluated,
 };
 use sheet_shifts::{Shift, names_after, refusal, store_after};
-use sheet_store::{CellState, MOST_WIDTH, Order, SavedSheet, Settings, SheetFault, Store, Writes, is_formula};
+use sheet_store::{
+    CellState, MOST_WIDTH, Order, SavedSheet, Settings, SheetFault, Store, Writes, is_formula,
+};
 use std::alloc::Global;
 use std::marker::{Model, PhantomData};
 

@@ -7,8 +7,8 @@ send_screen-requires-clause-lines g c =
     lines_to_send c.args.is_first _ _ _ _ _ c.take_all_at_first.ensures.all c.take_all_at_first.ensures.same c.requires.shows
     (c.step-stepped.ensures.lines ((c.step-stepped.ensures.more c.in-More.is).follows.spent ∙ c.requires.fresh))
 
-pub send_screen-in-Quit-requires-clause-lines : goal.send_screen-in-Quit-requires-clause-lines
-send_screen-in-Quit-requires-clause-lines g c =
+pub send_screen-requires-in-Quit-clause-lines : goal.send_screen-requires-in-Quit-clause-lines
+send_screen-requires-in-Quit-clause-lines g c =
     lines_to_send c.args.is_first _ _ _ _ _ c.take_all_at_first.ensures.all c.take_all_at_first.ensures.same c.requires.shows
     (c.step-stepped.ensures.lines ((c.step-stepped.ensures.quit c.in-Quit.is).follows.spent ∙ c.requires.fresh))
 
