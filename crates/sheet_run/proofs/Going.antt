@@ -24,14 +24,14 @@ use Rattle.screen_show.proofs.LineSets.{all_may_differ}
 use Rattle.sheet_run.specs.Displays.{Screen, Sent, Watched, last_screen, no_screen}
 use Rattle.sheet_run.specs.Driving.{ended_as, ComesNext, EndsAsTold, HasDriven, HasEnded, HasMadeStep, HasNotMadeStep, IsAfter, LeavesState}
 use Rattle.sheet_run.specs.Notation.{SpellsUpTo}
-use Rattle.sheet_run.specs.Reader.{HasPressed, HasPressedAll, Reads, RestsAsTold}
+use Rattle.sheet_run.specs.KeyFeed.{HasPressed, HasPressedAll, Reads, RestsAsTold}
 use Rattle.sheet_run.specs.Run.{after, calls_of, happened, key_in, keys_of, moments_of, outcome, outside, screens, Fit, GoOn, HasRun, Outside, RanOutOfMemory, RanToBadByte, RanToKeyFault, RanToLimit, Step}
 use Rattle.sheet_run.specs.Taking.{Ended, TakesBytes, TakesReadings}
-use Rattle.sheet_run.specs.declared.reader.KeyFeed.{KeyFeed}
+use Rattle.sheet_run.specs.declared.key_feed.KeyFeed.{KeyFeed}
 use Rattle.sheet_run.specs.declared.drive.Ending.{Ending}
 use Rattle.sheet_run.specs.declared.drive.Ending.TheVariants.{Quit}
-use Rattle.sheet_run.specs.declared.reader.Next.{Next}
-use Rattle.sheet_run.specs.declared.reader.Next.TheVariants.{Event as NextEvent, More, Bad, End, Failed}
+use Rattle.sheet_run.specs.declared.key_feed.Next.{Next}
+use Rattle.sheet_run.specs.declared.key_feed.Next.TheVariants.{Event as NextEvent, More, Bad, End, Failed}
 use Rattle.sheet_run.proofs.Coming.{coming, counted_bytes, was_read, Coming}
 use Rattle.sheet_run.proofs.Pressed.{has}
 use Rattle.sheet_run.proofs.Shown.{SentOne, each_left, last_more, sent_one, views_start}

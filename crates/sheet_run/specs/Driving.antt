@@ -16,10 +16,10 @@ use Rattle.sheet_run.specs.Displays.{Screen, Watched}
 use Rattle.sheet_run.specs.Passing.{HasSentOne, Passed}
 use Rattle.sheet_run.specs.Run.{Outside, Step, after, happened, RanToEnd, RanToQuit, RanIntoWord, RanToBadByte}
 use Rattle.sheet_run.specs.Run.{RanToKeyFault, RanToLimit, RanOutOfMemory}
-use Rattle.sheet_run.specs.Reader.{HasPressed, Reads, RestsAsTold}
-use Rattle.sheet_run.specs.declared.reader.KeyFeed.{KeyFeed}
-use Rattle.sheet_run.specs.declared.reader.Next.{Next}
-use Rattle.sheet_run.specs.declared.reader.Next.TheVariants.{Event as NextEvent}
+use Rattle.sheet_run.specs.KeyFeed.{HasPressed, Reads, RestsAsTold}
+use Rattle.sheet_run.specs.declared.key_feed.KeyFeed.{KeyFeed}
+use Rattle.sheet_run.specs.declared.key_feed.Next.{Next}
+use Rattle.sheet_run.specs.declared.key_feed.Next.TheVariants.{Event as NextEvent}
 use Rattle.sheet_run.specs.declared.drive.StepEnd.{StepEnd}
 use Rattle.sheet_run.specs.declared.drive.StepEnd.TheVariants.{Done, Quit as StepQuit, NoMemory as StepNoMemory}
 use Rattle.sheet_run.specs.declared.drive.Ending.{Ending}

@@ -11,12 +11,12 @@ ghost use Rattle.session_core.specs.Step.{is_key};
 ghost use Rattle.session_core.specs.declared.event.Event.{Event};
 ghost use Rattle.sheet_run.specs.Driving.{ComesNext, EndsAsTold, HasStepped, HasDriven};
 ghost use Rattle.sheet_run.specs.Passing.{HasSentOne, Passed};
-ghost use Rattle.sheet_run.specs.Reader.{ahead, HasPressed};
+ghost use Rattle.sheet_run.specs.KeyFeed.{ahead, HasPressed};
 ghost use Rattle.sheet_run.specs.Run.{outside};
-ghost use Rattle.sheet_run.specs.declared.reader.Next.TheVariants as Next;
+ghost use Rattle.sheet_run.specs.declared.key_feed.Next.TheVariants as Next;
 
 use crate::displays::{Work, work_on_all};
-use crate::reader::{KeyFeed, Next};
+use crate::key_feed::{KeyFeed, Next};
 use outside_world::{Clock, Keys, Shelf};
 use screen_show::{Display, LineSet, Screen};
 use session_core::{Event, Session, Stepped};

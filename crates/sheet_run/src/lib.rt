@@ -4,10 +4,10 @@
 
 mod displays;
 mod drive;
+mod key_feed;
 mod notes;
 mod opening;
 mod options;
-mod reader;
 mod runs;
 mod words;
 

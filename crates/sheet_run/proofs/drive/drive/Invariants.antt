@@ -1,6 +1,6 @@
 use Rattle.std.proofs.Common.{map, ◌≤◌, ◌+◌, ◌-◌, vec_len, vec_capacity}
 use Rattle.commands_file.specs.Calls.{shelf_view}
-use Rattle.sheet_run.specs.Reader.{ahead}
+use Rattle.sheet_run.specs.KeyFeed.{ahead}
 use Rattle.sheet_run.specs.Run.{outside}
 use Rattle.sheet_run.proofs.Going.{Going}
 use Rattle.sheet_run.proofs.drive.drive.Given as goal
