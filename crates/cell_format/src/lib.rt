@@ -8,8 +8,6 @@ mod numbers;
 mod plain;
 mod push;
 mod shape;
-#[cfg(test)]
-mod tests;
 
 pub use indicators::indicator;
 pub use labels::show_label;

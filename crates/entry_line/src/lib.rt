@@ -3,8 +3,6 @@
 
 mod event;
 mod line;
-#[cfg(test)]
-mod tests;
 
 pub use event::LineEvent;
 pub use line::EntryLine;

@@ -3,8 +3,6 @@
 
 mod codes;
 mod laws;
-#[cfg(test)]
-mod tests;
 
 pub use codes::{code_of, function_of};
 pub use laws::{codes_are_of_functions, functions_have_codes};

@@ -10,8 +10,6 @@ mod list;
 mod reading;
 mod reference;
 mod span;
-#[cfg(test)]
-mod tests;
 mod typed_span;
 
 pub use address::{AddressText, cell_text, column_text, row_text};

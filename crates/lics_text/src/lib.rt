@@ -9,8 +9,6 @@ mod line;
 mod names;
 mod places;
 mod prefix;
-#[cfg(test)]
-mod tests;
 mod text;
 mod text_line;
 mod trim;

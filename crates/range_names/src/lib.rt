@@ -4,8 +4,6 @@
 mod fault;
 mod key;
 mod names;
-#[cfg(test)]
-mod tests;
 mod words;
 
 pub use fault::NameFault;

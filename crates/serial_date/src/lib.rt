@@ -4,8 +4,6 @@
 mod calendar;
 mod fractions;
 mod moment;
-#[cfg(test)]
-mod tests;
 
 pub use calendar::{Civil, LAST_DAY, civil_of, dates_and_numbers, day_of};
 pub use fractions::{fraction_of, seconds_of, whole_day};

@@ -1,5 +1,5 @@
 // Worked rows of shown text.
-use crate::{indicator, show_label, show_number};
+use cell_format::{indicator, show_label, show_number};
 use fixed_value::Fixed;
 use grid_address::Format;
 use lics_text::{LabelPrefix, Line, MAX_LEN};

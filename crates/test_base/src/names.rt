@@ -1,6 +1,6 @@
 // Worked rows of names.
-use crate::{NameFault, Names};
 use grid_address::{Cell, Span};
+use range_names::{NameFault, Names};
 use std::process::Abort;
 use std::test::Fail;
 

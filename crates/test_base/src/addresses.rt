@@ -1,5 +1,5 @@
 // Worked rows of places and references.
-use crate::{
+use grid_address::{
     Axis, Cell, CellList, LAST_ROW, NotAnAddress, ROWS, Ref, Span, SpanList, cell_text,
     column_text, decimal_text, read_cell, read_span, row_text,
 };

@@ -2,7 +2,7 @@
 ghost use Rattle.std.specs.Prelude.{◌≤◌, length};
 ghost use Rattle.lics_text.specs.Bytes.{IsText};
 
-use crate::{EntryLine, LineEvent};
+use entry_line::{EntryLine, LineEvent};
 use key_words::Key;
 use lics_text::{MAX_LEN, TextByte};
 use std::test::Fail;

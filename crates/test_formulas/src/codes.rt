@@ -1,6 +1,6 @@
 // Rows of the table of the worksheet file format.
-use crate::{code_of, function_of};
 use formula_tree::Function;
+use function_codes::{code_of, function_of};
 use std::test::Fail;
 
 #[test]

@@ -1,5 +1,5 @@
 // Worked rows of texts.
-use crate::{Line, MAX_LEN, Text, TextFault};
+use lics_text::{Line, MAX_LEN, Text, TextFault};
 use std::cmp::Ordering;
 use std::process::Abort;
 use std::test::Fail;

@@ -1,6 +1,6 @@
 // Worked rows of the calendar.
-use crate::{Civil, civil_of, day_of, fraction_of, moment_of, seconds_of};
 use jiff::civil::{date, datetime, time};
+use serial_date::{Civil, civil_of, day_of, fraction_of, moment_of, seconds_of};
 use std::test::Fail;
 
 #[test]
