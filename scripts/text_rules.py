@@ -128,6 +128,30 @@ class Rules:
         for crate, many in sorted(count.items()):
             if many > MOST_EDITS:
                 self.fault(f"crates/{crate}/must-fail: {many} edits; the gate tries {MOST_EDITS}, and wrong-bodies/ keeps the others")
+        for name in self.files:
+            if re.match(r"crates/\w+/(must-fail|wrong-bodies)/.*\.edit$", name):
+                self.edit(name, "/".join(name.split("/")[:2]))
+
+    def edit(self, name, crate):
+        """An edit names text that stands once in its file."""
+        texts, path, old = {}, None, None
+        with open(name, encoding="utf-8") as it:
+            lines = it.read().split("\n")
+        for line in lines:
+            word, _, rest = line.partition(": ")
+            if word == "file":
+                path = f"{crate}/{rest}"
+                if path not in self.files:
+                    self.fault(f"{name}: there is no file {path}")
+                    return
+                with open(path, encoding="utf-8") as it:
+                    texts.setdefault(path, it.read())
+            elif word == "old":
+                old = rest
+            elif word == "new" or line == "new:":
+                if texts[path].count(old) != 1:
+                    self.fault(f"{name}: its text stands in {path} {texts[path].count(old)} times, not once")
+                texts[path] = texts[path].replace(old, rest)
 
     def map_of_crates(self):
         """crates.txt, the folders of crates/ and the table of docs/ARCHITECTURE.md tell the same."""
