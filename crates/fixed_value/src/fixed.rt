@@ -2,15 +2,13 @@ ghost use Rattle.std.specs.Prelude.{◌≡◌, ◌≤◌, ◌<◌, ℤ, pos, ◌
 ghost use Rattle.fixed_value.specs.Numbers.{within, rounded, signed, product, quotient, remainder, whole_part, IsNearest};
 ghost use Rattle.fixed_value.specs.Powers.{power, rounded_to};
 
-use crate::parts::{is_negative, product, ratio, size_of, wide, with_sign};
+use crate::parts::{is_negative, millionth, product, ratio, wide, with_sign};
 use crate::power::power;
 use crate::round::rounded_to;
 use std::marker::Model;
 
 /// The largest size of a number, in millionths.
 pub const MAX_SIZE: u64 = 999_999_999_999_999;
-
-const MILLION: i128 = 1_000_000;
 
 /// A number: a whole count of millionths of a size of at most 999,999,999,999,999.
 #[derive(Clone, Copy, Debug, PartialEq, Eq)]
@@ -115,7 +113,7 @@ impl Fixed {
     pub fn mul(self, other: Fixed) -> Option<Fixed>
         ensures { result ≡ product self other }
     {
-        ratio(product(self.millionths, other.millionths), MILLION)
+        millionth(product(self.millionths, other.millionths))
     }
 
     /// The quotient, rounded once; none exactly past the size or where the divisor is zero.

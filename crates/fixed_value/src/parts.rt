@@ -32,6 +32,25 @@ pub fn ratio(num: i128, den: i128) -> Option<Fixed>
     Fixed::of(with_sign(minus, size as u64))
 }
 
+// The largest product that is divided in 64 bits.
+const MOST_SMALL: u128 = 9_000_000_000_000_000_000;
+
+const MILLION: u64 = 1_000_000;
+
+/// The millionth part of a product, rounded once; in 64 bits where its size fits these.
+#[tactic(auto, using(crate::proofs::Rounding::million_rounded))]
+pub fn millionth(product: i128) -> Option<Fixed>
+    requires { nat_abs product ≤ 1000000000000000000000000000000 }
+    ensures { result ≡ within (rounded product (pos 1000000)) }
+{
+    let size = size_of(product);
+    if size > MOST_SMALL {
+        return ratio(product, i128::from(MILLION));
+    }
+    let units = (size as u64 + MILLION / 2) / MILLION;
+    Fixed::of(with_sign(is_negative(product), units))
+}
+
 /// A number in 128 bits, where products have room.
 pub fn wide(z: i64) -> i128
     ensures { result ≡ z }
