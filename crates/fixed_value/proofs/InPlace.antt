@@ -6,7 +6,8 @@ use Rattle.std.proofs.lemmas.Bool.Decides.{nat_tests}
 use Rattle.std.proofs.lemmas.List.{drop-set, length-set, take-append-drop, take-set, take-take}
 use Rattle.fixed_value.specs.Standing.{Stands}
 use Rattle.fixed_value.specs.Written.{fixed_digits, pointed, without_zeros}
-use Rattle.fixed_value.proofs.LastDigits.{by_ten, more_digits, one_digit, one_more, smaller}
+use Rattle.fixed_value.proofs.LastDigits.{below_len, by_ten, more_digits, one_digit, one_more, smaller}
+use Rattle.fixed_value.proofs.Places.{power_positive, quotient_is}
 use Rattle.fixed_value.proofs.Written.{fixed_digits_length}
 
 -- fronts that are the same have the same shorter fronts
@@ -91,11 +92,36 @@ placed_all first end count number initial from left bytes room is last p =
       size = p.size;
     }
 
-pub left_all : (first end count number : ℕ) (initial : List ℕ) (from left : ℕ) (bytes : List ℕ) → from ≤ first →
-    Placing first end count number initial from left bytes → left ≡ number / 10 ^ count
-left_all first end count number initial from left bytes last p =
-    let none : from - first ≡ 0 = omega (arith, last) in
-    (let one : left ≡ left / 10 ^ 0 = omega arith in one) ∙ ap (λ (k : ℕ). left / 10 ^ k) (sym none) ∙ p.left_is
+-- two digits at a time
+pub placing_pair : (first end count number : ℕ) (initial : List ℕ) (from left : ℕ) (bytes mid new : List ℕ) → first + 1 < from →
+    Placing first end count number initial from left bytes → Stands ((48 + left % 100 % 10) ∷ []) (from - 1) from bytes mid →
+    Stands ((48 + left % 100 / 10) ∷ []) (from - 1 - 1) (from - 1) mid new → Placing first end count number initial (from - 2) (left / 100) new
+placing_pair first end count number initial from left bytes mid new more p last front =
+    let last_is : left % 100 % 10 ≡ left % 10 = omega arith in
+    let front_is : left % 100 / 10 ≡ left / 10 % 10 = omega arith in
+    let place : from - 1 - 1 ≡ from - 2 = omega arith in
+    let rest : left / 10 / 10 ≡ left / 100 = omega arith in
+    let one = placing_goes_on first end count number initial from left bytes mid (omega (arith, more)) p (subst (λ (d : ℕ). Stands ((48 + d) ∷ []) (from - 1) from bytes mid) last_is last) in
+    let two = placing_goes_on first end count number initial (from - 1) (left / 10) mid new (omega (arith, more)) one
+    (subst (λ (d : ℕ). Stands ((48 + d) ∷ []) (from - 1 - 1) (from - 1) mid new) front_is front) in
+    subst (λ (f : ℕ). Placing first end count number initial f (left / 100) new) place (subst (λ (l : ℕ). Placing first end count number initial (from - 1 - 1) l new) rest two)
+
+-- the last digit of a number that has no more
+pub one_left : (first end count number : ℕ) (initial : List ℕ) (from left : ℕ) (bytes : List ℕ) → number < 10 ^ count → first < from → from ≤ first + 1 →
+    Placing first end count number initial from left bytes → left < 10
+one_left first end count number initial from left bytes below more last p =
+    let one : from - first ≡ 1 = omega (arith, more, last) in
+    let none : number / 10 ^ count ≡ 0 = quotient_is (10 ^ count) 0 number (power_positive count) (omega arith) (omega (arith, below)) in
+    let is : left / 10 ^ 1 ≡ 0 = ap (λ (k : ℕ). left / 10 ^ k) (sym one) ∙ p.left_is ∙ none in
+    omega (arith, is)
+
+pub one_placed : (first end count number : ℕ) (initial : List ℕ) (from left : ℕ) (bytes new : List ℕ) → count ≤ end → first ≡ end - count → number < 10 ^ count → first < from → from ≤ first + 1 →
+    Placing first end count number initial from left bytes → Stands ((48 + left) ∷ []) (from - 1) from bytes new → Stands (fixed_digits count number) (end - count) end initial new
+one_placed first end count number initial from left bytes new room is below more last p s =
+    let small : left < 10 = one_left first end count number initial from left bytes below more last p in
+    let digit : left ≡ left % 10 = omega (arith, small) in
+    placed_all first end count number initial (from - 1) (left / 10) new room is (omega (arith, last))
+    (placing_goes_on first end count number initial from left bytes new more p (subst (λ (d : ℕ). Stands ((48 + d) ∷ []) (from - 1) from bytes new) digit s))
 
 -- a point and places
 pub pointed_is : (ds : List ℕ) → 0 < length ds → pointed ds ≡ 46 ∷ ds
@@ -138,16 +164,18 @@ exact_whole (suc k) n some below = elim (cases_Bool (nat_lt n 10)) [
 ]
 
 -- a sign, whole digits and places in front of each other
-pub parts_stand : (sign : List ℕ) (number places whole left from point end taken : ℕ) (old behind front new : List ℕ) →
-    whole ≡ length (without_zeros (fixed_digits 10 (number / 10 ^ places))) → number / 10 ^ places < 10 ^ 10 → left ≡ number / 10 ^ places → taken ≡ whole →
-    Stands (pointed (fixed_digits places number)) point end old behind → Stands (fixed_digits whole left) (point - whole) point behind front →
-    Stands sign from (point - taken) front new →
-    Stands (sign ++ (without_zeros (fixed_digits 10 (number / 10 ^ places)) ++ pointed (fixed_digits places number))) from end old new
-parts_stand sign number places whole left from point end taken old behind front new long below is all p w s =
-    let part : ℕ = number / 10 ^ places in
-    let digits : fixed_digits whole left ≡ without_zeros (fixed_digits 10 part) =
-    ap (λ (k : ℕ). fixed_digits k left) long ∙ ap (fixed_digits (length (without_zeros (fixed_digits 10 part)))) is ∙ exact_whole 10 part (omega arith) below in
-    let sign_here : Stands sign from (point - whole) front new = subst (λ (k : ℕ). Stands sign from (point - k) front new) all s in
-    subst (λ (text : List ℕ). Stands (sign ++ (text ++ pointed (fixed_digits places number))) from end old new) digits
-    (stands_more sign (fixed_digits whole left ++ pointed (fixed_digits places number)) from (point - whole) end old front new sign_here
-    (stands_more (fixed_digits whole left) (pointed (fixed_digits places number)) (point - whole) point end old behind front w p))
+pub parts_stand : (sign : List ℕ) (whole behind places len from point end taken : ℕ) (old now front new : List ℕ) →
+    len ≡ length (without_zeros (fixed_digits 10 whole)) → whole < 10 ^ 10 → taken ≡ len →
+    Stands (pointed (fixed_digits places behind)) point end old now → Stands (fixed_digits len whole) (point - len) point now front → Stands sign from (point - taken) front new →
+    Stands (sign ++ (without_zeros (fixed_digits 10 whole) ++ pointed (fixed_digits places behind))) from end old new
+parts_stand sign whole behind places len from point end taken old now front new long below all p w s =
+    let digits : fixed_digits len whole ≡ without_zeros (fixed_digits 10 whole) =
+    ap (λ (k : ℕ). fixed_digits k whole) long ∙ exact_whole 10 whole (omega arith) below in
+    let sign_here : Stands sign from (point - len) front new = subst (λ (k : ℕ). Stands sign from (point - k) front new) all s in
+    subst (λ (text : List ℕ). Stands (sign ++ (text ++ pointed (fixed_digits places behind))) from end old new) digits
+    (stands_more sign (fixed_digits len whole ++ pointed (fixed_digits places behind)) from (point - len) end old front new sign_here
+    (stands_more (fixed_digits len whole) (pointed (fixed_digits places behind)) (point - len) point end old now front w p))
+
+-- the whole digits fit their count
+pub whole_fits_len : (whole len : ℕ) → len ≡ length (without_zeros (fixed_digits 10 whole)) → whole < 10 ^ 10 → whole < 10 ^ len
+whole_fits_len whole len is below = subst (λ (k : ℕ). whole < 10 ^ k) (sym is) (below_len 10 whole (omega arith) below)

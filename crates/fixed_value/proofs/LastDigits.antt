@@ -1,6 +1,6 @@
 -- Digits of a number, from its end.
-use Rattle.std.proofs.Common.{◌≡◌, ℕ, zero, suc, ◌+◌, ◌-◌, ◌*◌, ◌/◌, ◌%◌, ◌^◌, ◌≤◌, ◌<◌, true, false, List, [], ◌∷◌, ◌++◌, length, take, drop, replicate, refl, sym, ap, ◌∙◌, arith, inl, inr, append_assoc, length-append}
-use Rattle.std.specs.Prelude.{◌==◌}
+use Rattle.std.proofs.Common.{◌≡◌, ℕ, zero, suc, ◌+◌, ◌-◌, ◌*◌, ◌/◌, ◌%◌, ◌^◌, ◌≤◌, ◌<◌, true, false, List, [], ◌∷◌, ◌++◌, length, take, drop, replicate, refl, sym, ap, subst, ◌∙◌, arith, inl, inr, append_assoc, length-append}
+use Rattle.std.specs.Prelude.{◌==◌, nat_lt}
 use Rattle.std.specs.List.{list_all}
 use Rattle.std.proofs.Math.Nat.{div-div-eq-div-mul}
 use Rattle.std.proofs.lemmas.Bool.{cases_Bool, eqb-true}
@@ -135,3 +135,41 @@ digit_stays k n some other =
 pub no_digits : (k n : ℕ) → k ≡ 0 → fixed_digits k n ≡ without_last_zeros (fixed_digits k n)
 no_digits zero n none = refl
 no_digits (suc k) n none = absurd (omega (arith, none))
+
+-- how many digits a number has between two powers of ten
+pub count_is : (j k n : ℕ) → j < k → 10 ^ j ≤ n → n < 10 ^ suc j → n < 10 ^ k → suc j ≡ length (without_zeros (fixed_digits k n))
+count_is zero k n some least below most = sym (ap length (one_digit k n (omega (arith, some)) (omega (arith, below))))
+count_is (suc j) zero n some least below most = absurd (omega (arith, some))
+count_is (suc j) (suc k) n some least below most =
+    let same : suc k - 1 ≡ k = omega arith in
+    let large : 10 ≤ n = omega (arith, least, ten_more j, power_positive j) in
+    let less = count_is j k (n / 10) (omega (arith, some)) (omega (arith, least, ten_more j)) (omega (arith, below, ten_more (suc j))) (omega (arith, most, ten_more k)) in
+    omega (arith, less, count_more (suc k) n large most ∙ ap (λ i. length (without_zeros (fixed_digits i (n / 10))) + 1) same)
+
+-- the digits of a number below so many digits are its digits
+pub low_digits : (k a b : ℕ) → fixed_digits k (a * 10 ^ k + b) ≡ fixed_digits k b
+low_digits zero a b = refl
+low_digits (suc k) a b =
+    let power : a * 10 ^ suc k ≡ 10 * (a * 10 ^ k) = ap (λ m. a * m) (ten_more k) ∙ omega arith in
+    let front : (a * 10 ^ suc k + b) / 10 ≡ a * 10 ^ k + b / 10 = omega (arith, power) in
+    let last : (a * 10 ^ suc k + b) % 10 ≡ b % 10 = omega (arith, power) in
+    ap (λ (l : List ℕ). l ++ (48 + (a * 10 ^ suc k + b) % 10) ∷ []) (ap (fixed_digits k) front ∙ low_digits k a (b / 10)) ∙ ap (λ d. fixed_digits k (b / 10) ++ (48 + d) ∷ []) last
+
+-- a number is below the power of as many digits as it has
+pub below_len : (k n : ℕ) → 0 < k → n < 10 ^ k → n < 10 ^ length (without_zeros (fixed_digits k n))
+below_len zero n some below = absurd (omega (arith, some))
+below_len (suc k) n some below = elim (cases_Bool (nat_lt n 10)) [
+  | inl one ↦
+      let small : n < 10 = grind (arith, nat_tests, one) in
+      let is : 1 ≡ length (without_zeros (fixed_digits (suc k) n)) = sym (ap length (one_digit (suc k) n (omega arith) small)) in
+      subst (λ (j : ℕ). n < 10 ^ j) is (omega (arith, small))
+  | inr more ↦
+      let large : 10 ≤ n = grind (arith, nat_tests, more) in
+      let same : suc k - 1 ≡ k = omega arith in
+      let less = smaller (suc k) n large below in
+      let len : ℕ = length (without_zeros (fixed_digits k (n / 10))) in
+      let is : suc len ≡ length (without_zeros (fixed_digits (suc k) n)) =
+      omega (arith, count_more (suc k) n large below ∙ ap (λ i. length (without_zeros (fixed_digits i (n / 10))) + 1) same) in
+      let rest : n / 10 < 10 ^ len = below_len k (n / 10) (omega (arith, less.0)) (subst (λ (j : ℕ). n / 10 < 10 ^ j) same less.1) in
+      subst (λ (j : ℕ). n < 10 ^ j) is (omega (arith, rest, ten_more len))
+]

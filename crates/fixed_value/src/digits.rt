@@ -60,19 +60,32 @@ fn put_whole(text: &mut Digits, most: u8, number: u64)
 }
 
 // How many digits a number below 10,000,000,000 has.
-#[tactic(auto, using(crate::proofs::LastDigits::count_more, crate::proofs::LastDigits::smaller, crate::proofs::LastDigits::one_digit))]
-fn count_digits(number: u64) -> u8
+pub(crate) fn count_digits(number: u64) -> u8
     requires { number < 10000000000 }
     ensures len { result ≡ length (without_zeros (fixed_digits 10 number)) }
     ensures most { result ≤ 10 }
 {
-    let mut left = number;
-    let mut more: u8 = 10;
-    while left >= 10 {
-        left /= 10;
-        more -= 1;
+    if number < 10 {
+        1
+    } else if number < 100 {
+        2
+    } else if number < 1_000 {
+        3
+    } else if number < 10_000 {
+        4
+    } else if number < 100_000 {
+        5
+    } else if number < 1_000_000 {
+        6
+    } else if number < 10_000_000 {
+        7
+    } else if number < 100_000_000 {
+        8
+    } else if number < 1_000_000_000 {
+        9
+    } else {
+        10
     }
-    11 - more
 }
 
 // The number in units of the last place.
@@ -153,11 +166,12 @@ fn write(minus: bool, number: u64, places: u8, zeros: u8, most: u8) -> Digits
 
 // A number of units without the zeros at its end, of which so many may go.
 #[tactic(auto, using(crate::proofs::LastDigits::zero_gone, crate::proofs::LastDigits::digit_stays, crate::proofs::LastDigits::no_digits, crate::proofs::LastDigits::by_ten))]
-fn without_zeros_at_end(number: u64, places: u8) -> (u64, u8)
+pub(crate) fn without_zeros_at_end(number: u64, places: u8) -> (u64, u8)
     ensures places { fixed_digits result.1 result.0 ≡ without_last_zeros (fixed_digits places number) }
     ensures whole { result.0 / 10 ^ result.1 ≡ number / 10 ^ places }
     ensures zero { (result.0 == 0) ≡ (number == 0) }
     ensures size { result.1 ≤ places }
+    ensures most { result.0 ≤ number }
 {
     let mut left = number;
     let mut more = places;
@@ -170,7 +184,7 @@ fn without_zeros_at_end(number: u64, places: u8) -> (u64, u8)
 
 // The same of six places, of which most numbers have one or none: five zeros go at once.
 #[tactic(auto, using(crate::proofs::Few::few_left, crate::proofs::Few::none_left, crate::proofs::Kept::zero_raised))]
-pub(crate) fn without_zeros_of_six(number: u64) -> (u64, u8)
+fn without_zeros_of_six(number: u64) -> (u64, u8)
     ensures places { fixed_digits result.1 result.0 ≡ without_last_zeros (fixed_digits 6 number) }
     ensures whole { result.0 / 10 ^ result.1 ≡ number / 10 ^ 6 }
     ensures zero { (result.0 == 0) ≡ (number == 0) }
