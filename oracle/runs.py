@@ -1,11 +1,12 @@
-"""Random key lists through the built program and through the oracle: screens, notes, statuses, counts and the files left compared.
+"""Key lists through the built program and through the oracle: screens, notes, statuses, counts and the files left compared. First
+go the worked ones of worked/runs, each a line of the program's words, a tab and keys, as a bytes literal spells them; then random ones.
 
 python3 -B -m oracle.runs PROGRAM N [SEED] [--macros] [--processes P]
 
 With --macros each list types two to four sheets of macros, and none of data commands; P processes share the lists, as many as the machine
 has processors where P isn't given.
 
-A key list is made of what the program has built; WITHOUT and the makers of Typist and MenuKeys grow with it. Each run has a folder of
+A random key list is made of what the program has built; WITHOUT and the makers of Typist and MenuKeys grow with it. Each run has a folder of
 its own, which mostly holds a few files. The moment on a screen's last line is left out, and no formula asks for it."""
 import argparse
 import concurrent.futures
@@ -18,7 +19,7 @@ import sys
 import tempfile
 
 from .answers import leave_out
-from .cases import SEED, Texts, WORDS, is_read
+from .cases import SEED, Texts, WORDS, is_read, worked
 from .cli import run
 from .data_keys import DataKeys, file_of
 from .files import file_for_runs
@@ -371,14 +372,25 @@ def told(folder):
     return ' '.join(f'{name}={"folder" if held is None else held.hex()}' for name, held in sorted(folder.items())) or 'nothing'
 
 
-def compared(program, seed, macros_alone, number):
+def run_differs(program, options, keys, folder):
     """A run: how many screens and files came of it, and what differs, or none."""
-    typist = Typist(random.Random(f'{seed} run {number}'), macros_alone)
-    keys, options, folder = typist.keys(), typist.words(), typist.folder
     wanted, screens = expected(options, keys, folder)
     written = sum(folder.get(name, b'') != held for name, held in wanted[3].items())
     why = difference(wanted, got(program, options, keys, folder))
     return screens, written, why and f'runs: {shlex.join(options)} < {keys!r} in a folder of {told(folder)}: {why}'
+
+
+def compared(program, seed, macros_alone, number):
+    """A run of random keys."""
+    typist = Typist(random.Random(f'{seed} run {number}'), macros_alone)
+    keys, options = typist.keys(), typist.words()
+    return run_differs(program, options, keys, typist.folder)
+
+
+def worked_run(program, line):
+    """The run of a worked line, in an empty folder."""
+    options, _, keys = line.decode().partition('\t')
+    return run_differs(program, shlex.split(options), keys.encode().decode('unicode_escape').encode('latin-1'), {})
 
 
 def prepare():
@@ -397,12 +409,13 @@ def main(words):
     count, seed = asked.count, asked.seed
     one = functools.partial(compared, asked.program, seed, asked.macros)
     with concurrent.futures.ProcessPoolExecutor(asked.processes, initializer=prepare) as pool:
-        runs = list(pool.map(one, range(count), chunksize=5))
+        first = list(pool.map(functools.partial(worked_run, asked.program), worked('runs').splitlines(), chunksize=5))
+        runs = first + list(pool.map(one, range(count), chunksize=5))
     bad = [why for _, _, why in runs if why]
     for why in bad[:5]:
         print(why)
     screens, written = sum(run[0] for run in runs), sum(run[1] for run in runs)
-    print(f'runs: {count} runs of seed {seed}, {screens} screens, {written} files written, {len(bad)} differ')
+    print(f'runs: {len(first)} worked runs and {count} of seed {seed}, {screens} screens, {written} files written, {len(bad)} differ')
     return 1 if bad else 0
 
 
