@@ -165,7 +165,8 @@ def is_read(text, at, names):
 # ---------------------------------------------------------------- formulas, words, values, adjustments
 
 def formulas(r):
-    """5,000 texts, whole or broken, some with functions that are left out or names that nobody made."""
+    """5,000 texts, whole or broken, some with functions that are left out or names that nobody made, and the worked ones
+    behind them, since a text's turn says in which cell it stands."""
     names = [name for name, _ in FORMULA_NAMES if name.isalnum() or b'_' in name] + [b'NOBODY', b'IW1', b'A9000']
     texts = Texts(r, 6, 8, True, names)
     out = []
@@ -176,7 +177,7 @@ def formulas(r):
         if r.randrange(3) == 0:
             text = broken(r, text)
         out.append(text[:260].replace(b'\n', b' '))
-    return b''.join(line + b'\n' for line in out)
+    return b''.join(line + b'\n' for line in out) + worked('formulas')
 
 
 BAD_WORDS = [b'{UNDO 2}', b'{DOWN 0}', b'{DOWN 10000}', b'{DOWN  2}', b'{DWN}', b'}', b'{}', b'{ALTA}', b'{ALT  A}', b'{ALT @}',
@@ -288,7 +289,7 @@ def record_formula(r, texts):
 
 
 def values(r):
-    """The worked lines and 500 blocks of cells, with formulas up to 20,000 in all."""
+    """The worked lines and 500 blocks of cells, with formulas up to 20,000 beside those of the bounds of functions."""
     texts = Texts(r, 9, 9, False, [name for name, _ in VALUE_NAMES])
     head = worked('values')
     left = 20000 - sum(not line.startswith(b':') for line in head.splitlines())
@@ -303,7 +304,7 @@ def values(r):
         else:
             out += [held(r, texts) for _ in range(r.randrange(8, 72))]
             out += [texts.tree(r.choice([1, 1, 2, 3])) for _ in range(count)]
-    return head + b''.join(line[:240] + b'\n' for line in out)
+    return head + worked('functions') + b''.join(line[:240] + b'\n' for line in out)
 
 
 def any_cell(r):

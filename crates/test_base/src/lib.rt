@@ -1,8 +1,10 @@
-//! Tests by calls of texts, addresses, names, dates and formats.
+//! Tests by calls of texts, addresses, names, dates, formats and the functions' codes.
 #![tactic(auto)]
 
 #[cfg(test)]
 mod addresses;
+#[cfg(test)]
+mod codes;
 #[cfg(test)]
 mod dates;
 #[cfg(test)]

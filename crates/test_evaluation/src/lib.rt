@@ -1,5 +1,0 @@
-//! Tests by calls of what formulas mean.
-#![tactic(auto)]
-
-#[cfg(test)]
-mod formulas;
