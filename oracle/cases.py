@@ -214,7 +214,7 @@ def macro_word(r):
 
 
 def words(r):
-    """10,000 texts of key notation and 5,000 macro texts, which may be broken."""
+    """The worked lines, and 10,000 texts of key notation and 5,000 macro texts, which may be broken."""
     out = []
     for _ in range(10000):
         data = b''.join(key_word(r) for _ in range(r.randrange(1, 6)))
@@ -227,7 +227,7 @@ def words(r):
         data = b''.join(macro_word(r) for _ in range(r.randrange(1, 7)))
         data = (broken(r, data) if r.randrange(4) == 0 else data)[:240]
         out.append(b'm' + data.hex().encode() + b' %d' % r.choice([0, 0, 0, r.randrange(len(data) + 3)]))
-    return b''.join(line + b'\n' for line in out)
+    return worked('words') + b''.join(line + b'\n' for line in out)
 
 
 def held(r, texts):
