@@ -312,7 +312,7 @@ def any_cell(r):
 
 
 def adjustments(r):
-    """300 edits with a span and a formula each; the formula's cell goes with the edit, or stays."""
+    """The worked lines, and 300 edits with a span and a formula each; the formula's cell goes with the edit, or stays."""
     texts, names, out = Texts(r, 8, 8, True, []), Names(), []
     near = lambda: col_text(r.randrange(8)) + b'%d' % r.randrange(1, 9)
     while len(out) < 300:
@@ -325,7 +325,7 @@ def adjustments(r):
         to = near() if r.randrange(3) else any_cell(r)
         span = near() + b'..' + (near() if r.randrange(3) else any_cell(r))
         out.append(b' '.join([bytes([r.choice(b'MMrcRC')]), old_at, new_at, source, to, span, text]))
-    return b''.join(line + b'\n' for line in out)
+    return worked('adjustments') + b''.join(line + b'\n' for line in out)
 
 
 # ---------------------------------------------------------------- sheets
