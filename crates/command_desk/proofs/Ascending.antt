@@ -1,15 +1,14 @@
 -- Cells in row order, and the first of them that passes a test.
 use Rattle.std.specs.Prelude.{ℕ, zero, suc, ◌≡◌, ◌+◌, ◌<◌, Bool, true, false, cond, refl, List, [], ◌∷◌, ◌++◌, Option, None, Some}
-use Rattle.std.specs.Cmp.{nat_cmp_is}
 use Rattle.std.specs.List.{find, AllByRecursion}
 use Rattle.std.specs.List.Sorted.{IsStrictlySortedBy}
-use Rattle.std.specs.Ordering.{nat_cmp, ordering_then}
-use Rattle.std.specs.declared.cmp.Ordering.TheVariants.{Less, Equal}
+use Rattle.std.specs.declared.cmp.Ordering.TheVariants.{Less}
 use Rattle.std.proofs.Common.{sym, ◌∙◌, ap, arith, inl, inr, subst}
 use Rattle.std.proofs.lemmas.Bool.{cases_Bool, false≢true, or_cases, or_left, or_right, true≢false}
 use Rattle.grid_address.proofs.Places.{same_place_is, same_place_itself}
 use Rattle.grid_address.specs.Place.{height_of, place_cmp, same_place, width_of, Extent, Place}
 use Rattle.cell_numbers.specs.Sets.{has}
+use Rattle.natural_recalc.proofs.Filled.{less_col, less_row}
 use Rattle.work_sheet.specs.Cells.{cells_of, row_of, rows_of}
 
 -- each cell comes before those behind it
@@ -19,18 +18,6 @@ Ascends cells = IsStrictlySortedBy place_cmp cells
 -- a cell comes before all of a list
 abbrev pub Before : Place → List Place → Type 0
 Before x ys = AllByRecursion (λ y. place_cmp x y ≡ Less) ys
-
-less_col : (x y : Place) → x.row ≡ y.row → x.col < y.col → place_cmp x y ≡ Less
-less_col x y r h = (λ i. ordering_then (rows i) (cols i))
-  where
-    rows : nat_cmp x.row y.row ≡ Equal
-    rows = sym (nat_cmp_is x.row y.row Equal r)
-
-    cols : nat_cmp x.col y.col ≡ Less
-    cols = sym (nat_cmp_is x.col y.col Less h)
-
-less_row : (x y : Place) → x.row < y.row → place_cmp x y ≡ Less
-less_row x y h = ap (λ o. ordering_then o (nat_cmp x.col y.col)) (sym (nat_cmp_is x.row y.row Less h))
 
 before_row : (x p : Place) (n : ℕ) → x.row ≡ p.row → x.col < p.col → Before x (row_of n p)
 unfolding row_of

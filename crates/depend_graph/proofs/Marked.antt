@@ -7,8 +7,8 @@ use Rattle.cell_numbers.specs.Numbers.{number_at}
 use Rattle.cell_numbers.specs.Sets.{has}
 use Rattle.grid_address.proofs.Places.{same_place_is, same_place_itself}
 use Rattle.grid_address.specs.Place.{same_place, InSheet, Place}
-use Rattle.depend_graph.specs.Network.{Network}
-use Rattle.depend_graph.specs.InOrder.{AreMarked, GoesInOrder, StandsFirst}
+use Rattle.depend_graph.specs.Network.{reads, Network}
+use Rattle.depend_graph.specs.InOrder.{is_volatile_at, AreMarked, GoesInOrder, StandsFirst}
 
 pub whole_rest : (cells : List Place) (n : ℕ) → take (length cells - n) (drop n cells) ≡ drop n cells
 whole_rest cells n = take_all (length cells - n) (drop n cells) (let h = length-drop n cells in omega (arith, h))
@@ -31,7 +31,7 @@ marked_more cells i n x old new e le is inside all set d m = elim (or_cases (sam
     either true k h = refl
     either false k h = h
 
-pub goes_more : (g : Network) (cells : List Place) (i n : ℕ) (x : Place) → i ≡ suc n → i ≤ length cells → x ≡ get_or cells n x → StandsFirst g (drop n cells) x → GoesInOrder g (drop i cells) → GoesInOrder g (drop n cells)
+pub goes_more : (g : Network) (cells : List Place) (i n : ℕ) (x : Place) → i ≡ suc n → i ≤ length cells → x ≡ get_or cells n x → StandsFirst (is_volatile_at g) (reads g) (drop n cells) x → GoesInOrder g (drop i cells) → GoesInOrder g (drop n cells)
 goes_more g cells i n x e le is first rest =
     let f = front cells i n x e le is in
-    subst (GoesInOrder g) (sym f) (subst (λ l. StandsFirst g l x) f first, rest)
+    subst (GoesInOrder g) (sym f) (subst (λ l. StandsFirst (is_volatile_at g) (reads g) l x) f first, rest)

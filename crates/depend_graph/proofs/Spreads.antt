@@ -6,7 +6,7 @@ use Rattle.std.proofs.lemmas.Bool.{cases_Bool, false≢true, true≢false}
 use Rattle.cell_numbers.specs.Sets.{has}
 use Rattle.grid_address.proofs.Places.{get_removed, same_place_is, same_places}
 use Rattle.grid_address.specs.Place.{same_place, Place}
-use Rattle.depend_graph.specs.InOrder.{is_volatile, GoesInOrder, StandsFirst}
+use Rattle.depend_graph.specs.InOrder.{is_volatile, is_volatile_at, GoesInOrder, StandsFirst}
 use Rattle.depend_graph.specs.Network.{dropped, holds, is_formula, reads, IsSpread, Network, ReachesCell}
 use Rattle.depend_graph.specs.Network.ReachesCell.{direct, through}
 use Rattle.depend_graph.specs.Slots.{Nodes}
@@ -28,7 +28,7 @@ spread_along a b e cells c p = record {
   ];
 }
 
-first_along : (a b : Network) → a.formulas ≡ b.formulas → (cells : List Place) (c : Place) → StandsFirst a cells c → StandsFirst b cells c
+first_along : (a b : Network) → a.formulas ≡ b.formulas → (cells : List Place) (c : Place) → StandsFirst (is_volatile_at a) (reads a) cells c → StandsFirst (is_volatile_at b) (reads b) cells c
 first_along a b e cells c h = record {
   steady = ap (λ f. is_volatile (get f c)) (sym e) ∙ h.steady;
   ahead = λ d m. ap (λ f. holds (get f c) d) (sym e) ∙ h.ahead d m;

@@ -5,7 +5,8 @@ ghost use Rattle.cell_numbers.specs.Sets.{has};
 ghost use Rattle.grid_address.specs.Place.{is_within, same_place, whole, Place};
 ghost use Rattle.range_index.specs.Owners.{hold};
 ghost use Rattle.depend_graph.specs.Banks.{is_one};
-ghost use Rattle.depend_graph.specs.InOrder.{AreMarked, GoesInOrder, StandsFirst};
+ghost use Rattle.depend_graph.specs.InOrder.{is_volatile_at, AreMarked, GoesInOrder, StandsFirst};
+ghost use Rattle.depend_graph.specs.Network.{reads};
 
 use crate::lists::is_one;
 use crate::{Graph, Marks};
@@ -96,7 +97,7 @@ fn are_clear(marked: &Marks, cells: &[Cell], spans: &[Span]) -> bool
 // Whether the formula of a cell isn't volatile, and reads none of the cells, which are marked.
 fn stands_first(graph: &Graph, marked: &Marks, cells: &[Cell], cell: Cell) -> bool
     requires { AreMarked marked.now cells.now }
-    ensures { result ≡ true → StandsFirst graph.now cells.now cell }
+    ensures { result ≡ true → StandsFirst (is_volatile_at graph.now) (reads graph.now) cells.now cell }
 {
     match graph.get(cell) {
         Some(node) => !node.volatile && are_clear(marked, cells, node.reads.as_slice()),

@@ -65,7 +65,7 @@ has_cells s d = has_block s.first.row s.first.col (height_of s) (width_of s) d �
     ends : (x a b : ℕ) → (nat_le a x && nat_lt x (a + (b + 1 - a))) ≡ (nat_le a x && nat_le x b)
     ends x a b = grind (arith, nat_tests)
 
-less_col : (x y : Place) → x.row ≡ y.row → x.col < y.col → place_cmp x y ≡ Less
+pub less_col : (x y : Place) → x.row ≡ y.row → x.col < y.col → place_cmp x y ≡ Less
 less_col x y r h = (λ i. ordering_then (rows i) (cols i))
   where
     rows : nat_cmp x.row y.row ≡ Equal
@@ -74,7 +74,7 @@ less_col x y r h = (λ i. ordering_then (rows i) (cols i))
     cols : nat_cmp x.col y.col ≡ Less
     cols = sym (nat_cmp_is x.col y.col Less h)
 
-less_row : (x y : Place) → x.row < y.row → place_cmp x y ≡ Less
+pub less_row : (x y : Place) → x.row < y.row → place_cmp x y ≡ Less
 less_row x y h = ap (λ o. ordering_then o (nat_cmp x.col y.col)) (sym (nat_cmp_is x.row y.row Less h))
 
 after_row : (x : Place) (row col n : ℕ) → x.row ≡ row → x.col < col → After x (row_cells row col n)

@@ -5,11 +5,12 @@ use Rattle.std.proofs.Common.{sym, ◌∙◌, ap}
 use Rattle.formula_tree.specs.Tree.{Tree}
 use Rattle.grid_address.specs.Place.{Place}
 use Rattle.depend_graph.specs.InOrder as graph
-use Rattle.depend_graph.specs.Network.{holds, Network}
+use Rattle.depend_graph.specs.InOrder.{StandsFirst}
+use Rattle.depend_graph.specs.Network.{holds, reads, Network}
 use Rattle.range_index.specs.Owners.{hold}
 use Rattle.sheet_store.specs.Grid.{Grid}
-use Rattle.natural_recalc.specs.InOrder.{GoesInOrder, StandsFirst}
-use Rattle.natural_recalc.specs.Reading.{node_of, spans_in, volatile_of, Matches}
+use Rattle.natural_recalc.specs.InOrder.{is_volatile_at, GoesInOrder}
+use Rattle.natural_recalc.specs.Reading.{node_of, reads_at, spans_in, volatile_of, Matches}
 use Rattle.natural_recalc.specs.World.{formula_at}
 
 volatile_told : (o : Option Tree) (c : Place) → graph.is_volatile (node_of o c) ≡ volatile_of o
@@ -20,7 +21,7 @@ held_told : (o : Option Tree) (c d : Place) → holds (node_of o c) d ≡ hold (
 held_told None c d = refl
 held_told (Some t) c d = refl
 
-stands_first : (n : Network) (g : Grid) → Matches n g → (cells : List Place) (c : Place) → graph.StandsFirst n cells c → StandsFirst g cells c
+stands_first : (n : Network) (g : Grid) → Matches n g → (cells : List Place) (c : Place) → StandsFirst (graph.is_volatile_at n) (reads n) cells c → StandsFirst (is_volatile_at g) (reads_at g) cells c
 stands_first n g m cells c h = record {
   steady = sym (volatile_told (formula_at g c) c) ∙ ap graph.is_volatile (sym (m c)) ∙ h.steady;
   ahead = λ d k. sym (held_told (formula_at g c) c d) ∙ ap (λ o. holds o d) (sym (m c)) ∙ h.ahead d k;

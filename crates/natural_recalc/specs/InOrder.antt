@@ -1,22 +1,20 @@
 -- Formulas in an order in which each comes after all of them that it reads.
-use Rattle.std.specs.Prelude.{◌≡◌, true, false, List, [], ◌∷◌}
+use Rattle.std.specs.Prelude.{◌≡◌, Bool, false, List}
 use Rattle.grid_address.specs.Place.{same_place, Place}
 use Rattle.cell_numbers.specs.Sets.{has}
-use Rattle.range_index.specs.Owners.{hold}
+use Rattle.depend_graph.specs.InOrder.{AreInOrder}
 use Rattle.sheet_store.specs.Grid.{Grid}
 use Rattle.natural_recalc.specs.Passes.{pass, IsSound, Meaning}
-use Rattle.natural_recalc.specs.Reading.{natural_order, spans_at, volatile_of}
+use Rattle.natural_recalc.specs.Reading.{natural_order, reads_at, volatile_of}
 use Rattle.natural_recalc.specs.World.{formula_at, Context}
 
--- the formula of a cell isn't volatile, and reads none of the cells
-pub record StandsFirst (g : Grid) (cells : List Place) (c : Place) : Type 0 where
-  pub steady : volatile_of (formula_at g c) ≡ false
-  pub ahead : (d : Place) → has same_place cells d ≡ true → hold (spans_at g c) d ≡ false
+-- whether the formula of a cell is volatile
+abbrev pub is_volatile_at : Grid → Place → Bool
+is_volatile_at g c = volatile_of (formula_at g c)
 
--- no formula is volatile, and none reads itself or one that stands behind it
+-- no formula is volatile, and none reads itself or one that stands behind it, by what the grid holds
 abbrev pub GoesInOrder : Grid → List Place → Type 0
-GoesInOrder g [] = Unit {0}
-GoesInOrder g (c ∷ cs) = StandsFirst g (c ∷ cs) c × GoesInOrder g cs
+GoesInOrder g cells = AreInOrder (is_volatile_at g) (reads_at g) cells
 
 -- where all dirty formulas go in an order, a pass along it is a pass along all formulas in their natural order, and
 -- there is no circle

@@ -2,7 +2,8 @@ use Rattle.std.specs.Prelude.{ℕ, suc, ◌≡◌, ◌≤◌, ◌-◌, true, Lis
 use Rattle.std.proofs.Common.{arith, rules, subst, sym}
 use Rattle.grid_address.specs.Place.{Place}
 use Rattle.depend_graph.proofs.Marked.{goes_more, marked_more, whole_rest}
-use Rattle.depend_graph.specs.InOrder.{AreMarked, StandsFirst}
+use Rattle.depend_graph.specs.InOrder.{is_volatile_at, AreMarked, StandsFirst}
+use Rattle.depend_graph.specs.Network.{reads}
 use Rattle.depend_graph.proofs.in_order.is_in_order.Goals as goal
 
 pub stands_first-requires : goal.stands_first-requires
@@ -24,5 +25,5 @@ back-preserved c =
       within = within;
       marked = marked_more cells c.back.next n c.index-cells-next.result c.back.marked c.set.new.self e c.back.invariant.within c.index-cells-next.is c.is_on_sheet.ensures c.back.invariant.marked c.in_ok-set.ensures;
       goes = goes_more c.args.graph.now cells c.back.next n c.index-cells-next.result e c.back.invariant.within c.index-cells-next.is
-          (subst (λ (l : List Place). StandsFirst c.args.graph.now l c.index-cells-next.result) (whole_rest cells n) (c.stands_first.ensures yes)) c.back.invariant.goes;
+          (subst (λ (l : List Place). StandsFirst (is_volatile_at c.args.graph.now) (reads c.args.graph.now) l c.index-cells-next.result) (whole_rest cells n) (c.stands_first.ensures yes)) c.back.invariant.goes;
     }
