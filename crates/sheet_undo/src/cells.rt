@@ -36,7 +36,7 @@ fn is_same_value(one: &Value, other: &Value) -> bool
             Value::Num(_) | Value::Str(_) | Value::Err | Value::Na => false,
         },
         Value::Num(number) => match other {
-            Value::Num(value) => number.millionths() == value.millionths(),
+            Value::Num(value) => *number == *value,
             Value::Blank | Value::Str(_) | Value::Err | Value::Na => false,
         },
         Value::Str(text) => match other {
@@ -75,7 +75,7 @@ fn is_same_content(one: &Content, other: &Content, at: Cell) -> Result<bool, Mem
             Content::Number(_) | Content::Label(_, _) | Content::Formula(_) => Ok(false),
         },
         Content::Number(number) => match other {
-            Content::Number(value) => Ok(number.millionths() == value.millionths()),
+            Content::Number(value) => Ok(*number == *value),
             Content::Blank | Content::Label(_, _) | Content::Formula(_) => Ok(false),
         },
         Content::Label(prefix, text) => match other {
@@ -105,7 +105,7 @@ fn is_written(content: &Content)
 fn is_same_rest(one: &CellState, other: &CellState) -> bool
     ensures { result ≡ (same_value one.now.value other.now.value && nat_eq one.now.format.0 other.now.format.0) }
 {
-    is_same_value(&one.value, &other.value) && one.format.0 == other.format.0
+    is_same_value(&one.value, &other.value) && one.format == other.format
 }
 
 // Whether two states of a cell are one.
