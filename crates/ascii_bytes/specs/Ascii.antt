@@ -89,6 +89,10 @@ three = 51
 abbrev pub nine : ℕ
 nine = 57
 
+-- :
+abbrev pub colon : ℕ
+colon = 58
+
 -- ;
 abbrev pub semicolon : ℕ
 semicolon = 59
@@ -117,6 +121,10 @@ at_sign = 64
 abbrev pub capital_a : ℕ
 capital_a = 65
 
+-- B
+abbrev pub capital_b : ℕ
+capital_b = 66
+
 -- C
 abbrev pub capital_c : ℕ
 capital_c = 67
@@ -124,6 +132,10 @@ capital_c = 67
 -- D
 abbrev pub capital_d : ℕ
 capital_d = 68
+
+-- E
+abbrev pub capital_e : ℕ
+capital_e = 69
 
 -- F
 abbrev pub capital_f : ℕ
@@ -137,6 +149,10 @@ capital_g = 71
 abbrev pub capital_i : ℕ
 capital_i = 73
 
+-- J
+abbrev pub capital_j : ℕ
+capital_j = 74
+
 -- L
 abbrev pub capital_l : ℕ
 capital_l = 76
@@ -148,6 +164,10 @@ capital_m = 77
 -- N
 abbrev pub capital_n : ℕ
 capital_n = 78
+
+-- O
+abbrev pub capital_o : ℕ
+capital_o = 79
 
 -- P
 abbrev pub capital_p : ℕ
@@ -165,9 +185,25 @@ capital_r = 82
 abbrev pub capital_s : ℕ
 capital_s = 83
 
+-- T
+abbrev pub capital_t : ℕ
+capital_t = 84
+
+-- U
+abbrev pub capital_u : ℕ
+capital_u = 85
+
+-- V
+abbrev pub capital_v : ℕ
+capital_v = 86
+
 -- X
 abbrev pub capital_x : ℕ
 capital_x = 88
+
+-- Y
+abbrev pub capital_y : ℕ
+capital_y = 89
 
 -- Z
 abbrev pub capital_z : ℕ

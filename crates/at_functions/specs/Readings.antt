@@ -1,6 +1,7 @@
 -- Numbers, dates and times that texts spell.
 use Rattle.std.specs.Char.{is_ascii_digit, to_ascii_uppercase}
 use Rattle.std.specs.Prelude.{ℕ, ◌+◌, ◌-◌, ◌*◌, ◌==◌, ◌&&◌, Bool, ℤ, pos, Option, Some, None, List, [], ◌∷◌, get_or, length, if◌then◌else◌}
+use Rattle.ascii_bytes.specs.Ascii as ascii
 use Rattle.fixed_value.specs.declared.decimal.Decimal.{Decimal}
 use Rattle.fixed_value.specs.declared.decimal.Decimal.TheVariants.{Num, TooLarge, NotNumber}
 use Rattle.fixed_value.specs.Decimals.{decimal_of}
@@ -40,14 +41,14 @@ byte_at bytes at = get_or bytes at 0
 abbrev pub two_digits : List ℕ → Option ℕ
 two_digits bytes =
     if (length bytes == 2) && (is_ascii_digit (byte_at bytes 0) && is_ascii_digit (byte_at bytes 1))
-    then Some ((byte_at bytes 0 - 48) * 10 + (byte_at bytes 1 - 48))
+    then Some ((byte_at bytes 0 - ascii.zero) * 10 + (byte_at bytes 1 - ascii.zero))
     else None
 
 -- one digit, or two
 abbrev pub short_number : List ℕ → Option ℕ
 short_number bytes =
     if (length bytes == 1) && is_ascii_digit (byte_at bytes 0)
-    then Some (byte_at bytes 0 - 48)
+    then Some (byte_at bytes 0 - ascii.zero)
     else two_digits bytes
 
 -- three letters of a month's name
@@ -57,18 +58,18 @@ is_name a b c x y z = (a == x) && ((b == y) && (c == z))
 -- the month of the name, and 0 where no month has it
 unfoldable pub month_named : ℕ → ℕ → ℕ → ℕ
 month_named a b c =
-    if is_name a b c 74 65 78 then 1
-    else if is_name a b c 70 69 66 then 2
-    else if is_name a b c 77 65 82 then 3
-    else if is_name a b c 65 80 82 then 4
-    else if is_name a b c 77 65 89 then 5
-    else if is_name a b c 74 85 78 then 6
-    else if is_name a b c 74 85 76 then 7
-    else if is_name a b c 65 85 71 then 8
-    else if is_name a b c 83 69 80 then 9
-    else if is_name a b c 79 67 84 then 10
-    else if is_name a b c 78 79 86 then 11
-    else if is_name a b c 68 69 67 then 12
+    if is_name a b c ascii.capital_j ascii.capital_a ascii.capital_n then 1
+    else if is_name a b c ascii.capital_f ascii.capital_e ascii.capital_b then 2
+    else if is_name a b c ascii.capital_m ascii.capital_a ascii.capital_r then 3
+    else if is_name a b c ascii.capital_a ascii.capital_p ascii.capital_r then 4
+    else if is_name a b c ascii.capital_m ascii.capital_a ascii.capital_y then 5
+    else if is_name a b c ascii.capital_j ascii.capital_u ascii.capital_n then 6
+    else if is_name a b c ascii.capital_j ascii.capital_u ascii.capital_l then 7
+    else if is_name a b c ascii.capital_a ascii.capital_u ascii.capital_g then 8
+    else if is_name a b c ascii.capital_s ascii.capital_e ascii.capital_p then 9
+    else if is_name a b c ascii.capital_o ascii.capital_c ascii.capital_t then 10
+    else if is_name a b c ascii.capital_n ascii.capital_o ascii.capital_v then 11
+    else if is_name a b c ascii.capital_d ascii.capital_e ascii.capital_c then 12
     else 0
 
 -- three letters, folded
@@ -109,7 +110,7 @@ date_in (Some parts) other = dashed parts
 
 -- the answer of @DATEVALUE: the serial number of a date such as 1-Jun-87 or 6/1/87; none for another text
 abbrev pub datevalue : List ℕ → Option ℤ
-datevalue bytes = date_in (three 45 bytes) (three 47 bytes)
+datevalue bytes = date_in (three ascii.minus bytes) (three ascii.slash bytes)
 
 -- an hour, a minute and a second
 abbrev pub clock : Option ℕ → Option ℕ → Option ℕ → Option ℤ
@@ -126,8 +127,8 @@ with_seconds h m (Some s) = clock (short_number h) (two_digits m) (two_digits s)
 -- the time of hours with what stands behind the first colon; none without a colon
 abbrev pub with_minutes : List ℕ → Option (List ℕ) → Option ℤ
 with_minutes h None = None
-with_minutes h (Some rest) = with_seconds h (before 58 rest) (behind 58 rest)
+with_minutes h (Some rest) = with_seconds h (before ascii.colon rest) (behind ascii.colon rest)
 
 -- H:MM or H:MM:SS
 abbrev pub timevalue : List ℕ → Option ℤ
-timevalue bytes = with_minutes (before 58 bytes) (behind 58 bytes)
+timevalue bytes = with_minutes (before ascii.colon bytes) (behind ascii.colon bytes)

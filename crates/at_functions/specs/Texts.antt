@@ -1,6 +1,8 @@
 -- The functions of texts.
 use Rattle.std.specs.Prelude.{ℕ, zero, suc, ◌+◌, ◌-◌, ◌*◌, ◌==◌, ◌&&◌, nat_le, ℤ, pos, negsuc, Bool, true, false, Option, Some, None, List, [], ◌∷◌, ◌++◌, length, take, drop, if◌then◌else◌}
+use Rattle.lics_text.specs.declared.TheConstants.{MAX_LEN}
 use Rattle.fixed_value.specs.Written.{written}
+use Rattle.at_functions.specs.declared.texts.TheConstants.{FIRST_CODE, LAST_CODE}
 use Rattle.at_functions.specs.Numbers.{count_of, in_units, units, whole, within}
 
 -- a number in a text with so many decimals; none where the decimals are no count
@@ -47,7 +49,7 @@ code (b ∷ bs) = Some (units b)
 
 -- a text has at most 240 bytes
 abbrev pub if_short : List ℕ → Option (List ℕ)
-if_short bytes = if nat_le (length bytes) 240 then Some bytes else None
+if_short bytes = if nat_le (length bytes) MAX_LEN then Some bytes else None
 
 -- so many bytes from a place on replaced
 abbrev pub replace_by : List ℕ → Option ℕ → Option ℕ → List ℕ → Option (List ℕ)
@@ -67,7 +69,7 @@ again (suc n) text = text ++ again n text
 -- the answer of @REPEAT by a count: none where that is no count, or where the text would be too long
 abbrev pub repeat_by : List ℕ → Option ℕ → Option (List ℕ)
 repeat_by text None = None
-repeat_by text (Some count) = if nat_le (length text * count) 240 then Some (again count text) else None
+repeat_by text (Some count) = if nat_le (length text * count) MAX_LEN then Some (again count text) else None
 
 -- the text so many times
 abbrev pub repeat : List ℕ → ℤ → Option (List ℕ)
@@ -80,7 +82,7 @@ char_by (Some code) = Some (code ∷ [])
 
 -- the byte of a code from 32 to 255
 abbrev pub char_of : ℤ → Option (List ℕ)
-char_of code = char_by (within 32 255 (whole code))
+char_of code = char_by (within FIRST_CODE LAST_CODE (whole code))
 
 -- whether a text begins with the bytes
 abbrev pub starts : List ℕ → List ℕ → Bool

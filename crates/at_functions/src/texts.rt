@@ -8,6 +8,11 @@ use fixed_value::{Fixed, write_decimal};
 use lics_text::{Line, MAX_LEN, Memory, Text};
 use std::alloc::Global;
 
+// The codes that @CHAR has a byte for: those of the bytes that a text may hold.
+const FIRST_CODE: u16 = 32;
+
+const LAST_CODE: u16 = 255;
+
 /// A number with so many decimals, 0 to 15.
 pub fn string(alloc: Global, number: Fixed, places: Fixed) -> Result<Option<Text>, Memory>
     ensures { IfOk result (λ text. text ≡ string number places) }
@@ -139,7 +144,7 @@ pub fn repeat(text: &Text, count: Fixed) -> Result<Option<Text>, Memory>
 pub fn char_of(alloc: Global, code: Fixed) -> Result<Option<Text>, Memory>
     ensures { IfOk result (λ text. text ≡ char_of code) }
 {
-    let Some(code) = within(32, 255, whole(code)) else {
+    let Some(code) = within(FIRST_CODE, LAST_CODE, whole(code)) else {
         return Ok(None);
     };
     Ok(Some(Text::copy_of(alloc, &[code as u8])?))

@@ -27,7 +27,7 @@ impl TextByte {
         ensures which { IsSome result ↔ (32 ≤ byte) }
         ensures value { IfSome result (λ b. b ≡ byte) }
     {
-        if byte < 32 {
+        if byte < b' ' {
             None
         } else {
             Some(TextByte { byte })

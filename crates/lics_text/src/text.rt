@@ -86,7 +86,7 @@ impl Text {
         if self.bytes.len() >= MAX_LEN {
             return Err(TextFault::TooLong);
         }
-        if byte < 32 {
+        if byte < b' ' {
             return Err(TextFault::BadByte(self.bytes.len()));
         }
         match self.bytes.push(byte) {
@@ -191,5 +191,5 @@ fn fold_cmp(a: &[u8], b: &[u8]) -> Ordering
 fn first_bad(bytes: &[u8]) -> Option<usize>
     ensures { result ≡ position (λ b. nat_lt b 32) bytes.now }
 {
-    bytes.iter().position(|b| *b < 32)
+    bytes.iter().position(|b| *b < b' ')
 }

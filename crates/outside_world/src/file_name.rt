@@ -25,9 +25,9 @@ impl Ext {
         ensures { result ≡ dotted self }
     {
         match self {
-            Ext::Wk1 => [46, 87, 75, 49],
-            Ext::Prn => [46, 80, 82, 78],
-            Ext::Txt => [46, 84, 88, 84],
+            Ext::Wk1 => [b'.', b'W', b'K', b'1'],
+            Ext::Prn => [b'.', b'P', b'R', b'N'],
+            Ext::Txt => [b'.', b'T', b'X', b'T'],
         }
     }
 }

@@ -6,13 +6,10 @@ use Rattle.outside_world.specs.declared.faults.ShelfFault.TheVariants as shelf
 use Rattle.text_channel.specs.declared.attached.Access.{Access}
 use Rattle.text_channel.specs.declared.attached.Access.TheVariants.{Read, Write, Modify}
 use Rattle.text_channel.specs.declared.attached.Attached.{Attached}
+use Rattle.text_channel.specs.declared.channel.TheConstants.{LIMIT}
 use Rattle.text_channel.specs.declared.channel.ChannelFault.{ChannelFault}
 use Rattle.text_channel.specs.declared.channel.ChannelFault.TheVariants as fault
 use Rattle.text_channel.specs.Lines.{Piece}
-
--- the most bytes of a file
-abbrev pub limit : ℕ
-limit = 67108864
 
 -- whether a file that is opened so can be read
 abbrev pub reads : Access → Bool
@@ -33,7 +30,7 @@ attached name access bytes at = record { name = name; access = access; bytes = b
 -- an open file is within its bounds: its position in its bytes, and these within the most that a file may hold
 abbrev pub IsWithin : Option Attached → Type 0
 IsWithin None = Unit {0}
-IsWithin (Some a) = (a.at ≤ length a.bytes) × (length a.bytes ≤ limit)
+IsWithin (Some a) = (a.at ≤ length a.bytes) × (length a.bytes ≤ LIMIT)
 
 -- the bytes that can be read: none where nothing is attached, the access is Write, or the position is the length
 abbrev pub left_to_read : Option Attached → Option (List ℕ)
@@ -57,7 +54,7 @@ left_after next c = moved (option_map (λ left. (next left).passed) (left_to_rea
 -- a write has room: an access that writes, and a length of at most the limit
 abbrev pub can_write : List ℕ → Option Attached → Bool
 can_write bytes None = false
-can_write bytes (Some a) = writes a.access && nat_le (a.at + length bytes) limit
+can_write bytes (Some a) = writes a.access && nat_le (a.at + length bytes) LIMIT
 
 -- the bytes stand at the position, over and past the old ones
 abbrev pub with_bytes : List ℕ → Option Attached → Option Attached
@@ -123,7 +120,7 @@ HasFinished (Some a) before after now result = HasFinishedBy a.access a before a
 -- what is attached by the file that the shelf gave: nothing where there is none, or one past the limit
 abbrev pub opened : List ℕ → Access → Option (List ℕ) → Option Attached
 opened name access None = None
-opened name access (Some bytes) = if nat_le (length bytes) limit then Some (attached name access bytes 0) else None
+opened name access (Some bytes) = if nat_le (length bytes) LIMIT then Some (attached name access bytes 0) else None
 
 -- The shelf's file was asked for: false comes exactly where nothing is attached by it.
 abbrev pub HasOpened : List ℕ → Access → Option OnShelf → Option OnShelf → Option Attached

@@ -1,19 +1,24 @@
 -- Lines of a text file. A line ends at CR LF, at LF alone or at the end.
 use Rattle.std.specs.Prelude.{ℕ, ◌+◌, ◌==◌, ◌&&◌, nat_lt, Bool, false, List, [], ◌∷◌, length, min, map, take, drop, if◌then◌else◌}
+use Rattle.ascii_bytes.specs.Ascii as ascii
+use Rattle.lics_text.specs.declared.TheConstants.{MAX_LEN}
 
 -- a byte below 32 becomes a blank
 abbrev pub shown_byte : ℕ → ℕ
-shown_byte b = if nat_lt b 32 then 32 else b
+shown_byte b = if nat_lt b ascii.space then ascii.space else b
 
 -- whether bytes begin with the end of a line
 abbrev pub starts_with_lf : List ℕ → Bool
 starts_with_lf [] = false
-starts_with_lf (b ∷ rest) = b == 10
+starts_with_lf (b ∷ rest) = b == ascii.line_feed
 
 -- how many bytes of an ending stand in front
 abbrev pub ending_of : List ℕ → ℕ
 ending_of [] = 0
-ending_of (b ∷ rest) = if b == 10 then 1 else if (b == 13) && starts_with_lf rest then 2 else 0
+ending_of (b ∷ rest) =
+    if b == ascii.line_feed then 1
+    else if (b == ascii.carriage_return) && starts_with_lf rest then 2
+    else 0
 
 -- how many bytes stand before the first ending
 abbrev pub line_length : List ℕ → ℕ
@@ -35,5 +40,5 @@ next_bytes count left = piece (take count left) (min count (length left))
 
 -- the next line, and its ending; of a longer line the first 240 bytes
 abbrev pub next_line : List ℕ → Piece
-next_line left = if nat_lt 240 (line_length left) then piece (take 240 left) 240
+next_line left = if nat_lt MAX_LEN (line_length left) then piece (take MAX_LEN left) MAX_LEN
     else piece (take (line_length left) left) (line_length left + ending_of (drop (line_length left) left))

@@ -16,9 +16,9 @@ fn ending_of(bytes: &[u8]) -> usize
     ensures ending { result ≡ ending_of bytes.now }
     ensures within { result ≤ length bytes.now }
 {
-    if bytes.len() >= 1 && bytes[0] == 10 {
+    if bytes.len() >= 1 && bytes[0] == b'\n' {
         1
-    } else if bytes.len() >= 2 && bytes[0] == 13 && bytes[1] == 10 {
+    } else if bytes.len() >= 2 && bytes[0] == b'\r' && bytes[1] == b'\n' {
         2
     } else {
         0
@@ -27,11 +27,11 @@ fn ending_of(bytes: &[u8]) -> usize
 
 // How many bytes stand before the first ending, and 241 where it is more.
 fn line_length(bytes: &[u8]) -> usize
-    ensures length { result ≡ min (line_length bytes.now) 241 }
+    ensures length { result ≡ min (line_length bytes.now) (MAX_LEN + 1) }
     ensures within { result ≤ length bytes.now }
 {
     let mut at = 0;
-    while at < bytes.len() && at < 241 && ending_of(&bytes[at..]) == 0 {
+    while at < bytes.len() && at <= MAX_LEN && ending_of(&bytes[at..]) == 0 {
         at += 1;
     }
     at
@@ -76,7 +76,7 @@ pub(crate) fn next_line(left: &[u8]) -> Taken
 fn shown_byte(byte: u8) -> u8
     ensures { result ≡ shown_byte byte }
 {
-    if byte < 32 { 32 } else { byte }
+    if byte < b' ' { b' ' } else { byte }
 }
 
 // The bytes, of which those below 32 become blanks.
