@@ -8,8 +8,6 @@ mod letter;
 mod macro_word;
 mod name;
 mod reader;
-#[cfg(test)]
-mod tests;
 
 pub use command::Command;
 pub use key::Key;

@@ -5,8 +5,6 @@ mod change;
 mod kinds;
 mod laws;
 mod moves;
-#[cfg(test)]
-mod tests;
 
 pub use change::{Change, cell_shifted, shifted, span_shifted};
 pub use laws::{references_follow_a_change, references_follow_a_move};

@@ -10,8 +10,6 @@ mod protection;
 mod pushing;
 mod refusals;
 mod shift;
-#[cfg(test)]
-mod tests;
 
 pub use cells::store_after;
 pub use laws::{cells_stand_where_they_went, the_first_protected_cell_is_named};

@@ -1,1 +1,0 @@
-// The cases of key notation and of macro texts are lines of check_words.

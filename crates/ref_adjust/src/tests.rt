@@ -1,1 +1,0 @@
-// The cases of formulas and spans after an edit are lines of check_adjustments.
