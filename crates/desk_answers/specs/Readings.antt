@@ -1,6 +1,8 @@
 -- What each answer means, and why it is refused. The place is that of the answer among those of its command.
 use Rattle.std.specs.Prelude.{ℕ, ◌/◌, ◌%◌, Bool, true, false, ◌&&◌, nat_eq, nat_le, ℤ, pos, negsuc, List, [], ◌∷◌, Option, None, Some, Result, Ok, Err, if◌then◌else◌}
+use Rattle.std.specs.Char.{to_ascii_uppercase}
 use Rattle.std.specs.FinMap as map
+use Rattle.ascii_bytes.specs.Ascii as ascii
 use Rattle.fixed_value.specs.Decimals.{decimal_of}
 use Rattle.fixed_value.specs.declared.decimal.Decimal.{Decimal}
 use Rattle.fixed_value.specs.declared.decimal.Decimal.TheVariants as decimal
@@ -71,10 +73,8 @@ decimal_answer line place = number_in (decimal_of line) place
 -- A or D, in either case: whether a sort is descending
 abbrev pub order_of : ℕ → ℕ → Result Bool CommandError
 order_of b place =
-    if nat_eq b 65 then Ok false
-    else if nat_eq b 97 then Ok false
-    else if nat_eq b 68 then Ok true
-    else if nat_eq b 100 then Ok true
+    if nat_eq (to_ascii_uppercase b) ascii.capital_a then Ok false
+    else if nat_eq (to_ascii_uppercase b) ascii.capital_d then Ok true
     else Err (error.InvalidNumber place)
 
 -- one letter, and no more

@@ -48,9 +48,9 @@ pub fn decimal_answer(line: &[u8], place: usize) -> Result<Fixed, CommandError>
 fn order_of(letter: u8, place: usize) -> Result<bool, CommandError>
     ensures { result ≡ order_of letter place }
 {
-    match letter {
-        b'A' | b'a' => Ok(false),
-        b'D' | b'd' => Ok(true),
+    match letter.to_ascii_uppercase() {
+        b'A' => Ok(false),
+        b'D' => Ok(true),
         _ => Err(CommandError::InvalidNumber(place)),
     }
 }

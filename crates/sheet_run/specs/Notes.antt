@@ -1,5 +1,6 @@
 -- The notes of a run.
-use Rattle.std.specs.Prelude.{◌≡◌, ℕ, ◌+◌, ◌/◌, ◌%◌, ◌≤◌, ◌⊎◌, nat_lt, Bool, Result, Ok, Err, List, [], ◌∷◌, ◌++◌, length, take, Option, Some, None, codes, if◌then◌else◌}
+use Rattle.std.specs.Prelude.{◌≡◌, ℕ, ◌+◌, ◌-◌, ◌/◌, ◌%◌, ◌≤◌, ◌⊎◌, nat_lt, Bool, Result, Ok, Err, List, [], ◌∷◌, ◌++◌, length, take, Option, Some, None, codes, if◌then◌else◌}
+use Rattle.ascii_bytes.specs.Ascii as ascii
 use Rattle.grid_address.specs.Address.{decimal}
 use Rattle.outside_world.specs.Causes.{Rose}
 use Rattle.outside_world.specs.declared.faults.Failed.{Failed}
@@ -14,7 +15,7 @@ use Rattle.wk1_records.specs.declared.fault.Wk1Fault.TheVariants as fault
 
 -- a line that begins with the program's name
 abbrev pub note : List ℕ → List ℕ
-note text = codes "1-2-3: " ++ text ++ 10 ∷ []
+note text = codes "1-2-3: " ++ text ++ ascii.line_feed ∷ []
 
 -- the note on a refused word
 abbrev pub refused_note : List ℕ → List ℕ
@@ -26,7 +27,7 @@ memory_note = note (codes "memory full")
 
 -- a hexadecimal digit, as a capital
 abbrev pub hex_digit : ℕ → ℕ
-hex_digit d = if nat_lt d 10 then 48 + d else 55 + d
+hex_digit d = if nat_lt d 10 then ascii.zero + d else ascii.capital_a + (d - 10)
 
 -- a byte in two hexadecimal digits
 abbrev pub hex_pair : ℕ → List ℕ
@@ -45,8 +46,8 @@ fault_text (fault.BadLength place) = with_number (codes "F3 ") place
 fault_text (fault.CellOutside place) = with_number (codes "F4 ") place
 fault_text (fault.BadText place) = with_number (codes "F5 ") place
 fault_text (fault.NumberTooLarge place) = with_number (codes "F6 ") place
-fault_text (fault.BadCode place at) = with_number (codes "F7 ") place ++ 32 ∷ decimal at
-fault_text (fault.FunctionOutside place code) = with_number (codes "F8 ") place ++ 32 ∷ hex_pair code
+fault_text (fault.BadCode place at) = with_number (codes "F7 ") place ++ ascii.space ∷ decimal at
+fault_text (fault.FunctionOutside place code) = with_number (codes "F8 ") place ++ ascii.space ∷ hex_pair code
 fault_text (fault.BadName place) = with_number (codes "F9 ") place
 fault_text (fault.BadSpan place) = with_number (codes "F10 ") place
 fault_text fault.FileTooLarge = codes "F11"
