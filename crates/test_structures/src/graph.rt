@@ -1,5 +1,4 @@
 // Worked rows of the graph.
-use crate::draws::{below, cell_below};
 use depend_graph::{Graph, Node};
 use grid_address::{Cell, CellList, LAST_ROW, Span, SpanList};
 use std::alloc::Global;
@@ -106,85 +105,5 @@ fn an_offer_that_is_withdrawn_leaves_the_formula(rt: HostRuntime) -> Result<(), 
     graph.drop_cell(a(1));
     assert_eq!(&rt; count(&rt, rt.alloc(), &graph, a(0)), 0);
     assert_eq!(&rt; count(&rt, rt.alloc(), &graph, a(1)), 1);
-    Ok(())
-}
-
-// The next random cell of a small block, and the state of the generator behind it.
-fn any(state: u32) -> (Cell, u32) {
-    cell_below(state, 16, 1)
-}
-
-// Whether the formula at a cell reads one of the cells that are marked.
-fn reads_marked(pairs: &[(Cell, Span)], cell: Cell, marked: &[bool]) -> bool {
-    for (formula, span) in pairs {
-        if *formula == cell {
-            for row in 0..16 {
-                if marked.get(row).copied().unwrap_or(false)
-                    && span.contains(a(u16::try_from(row).unwrap_or(0)))
-                {
-                    return true;
-                }
-            }
-        }
-    }
-    false
-}
-
-// The marks of a cell and of all that reach it, by going over the pairs until nothing is marked any more.
-fn plain(pairs: &[(Cell, Span)], seed: Cell) -> [bool; 16] {
-    let mut marked = [false; 16];
-    marked[usize::from(seed.row.min(15))] = true;
-    for _round in 0..16 {
-        for row in 0..16 {
-            if reads_marked(pairs, a(u16::try_from(row).unwrap_or(0)), &marked) {
-                marked[row] = true;
-            }
-        }
-    }
-    marked
-}
-
-// Whether a cell is among the formulas.
-fn has_formula(pairs: &[(Cell, Span)], cell: Cell) -> bool {
-    for (formula, _) in pairs {
-        if *formula == cell {
-            return true;
-        }
-    }
-    false
-}
-
-#[test]
-fn it_agrees_with_a_plain_search(rt: HostRuntime) -> Result<(), Fail> {
-    let mut graph = Graph::new(rt.alloc());
-    let mut pairs = Vec::new(rt.alloc());
-    let mut state = 7;
-    for _turn in 0..150 {
-        let (formula, next) = any(state);
-        let (first, next) = any(next);
-        let (kind, next) = below(next, 4);
-        let (other, next) = any(next);
-        let (seed, next) = any(next);
-        state = next;
-        pairs.retain(|pair: &(Cell, Span)| pair.0 != formula);
-        if kind == 0 {
-            graph.drop_cell(formula);
-        } else {
-            let span = Span::of(first, if kind == 1 { other } else { first });
-            graph
-                .set(formula, &spans(&rt, rt.alloc(), &[span]), false)
-                .expect(&rt, "memory");
-            pairs.push((formula, span)).expect(&rt, "memory");
-        }
-        let closure = graph
-            .closure(&cells(&rt, rt.alloc(), &[seed]))
-            .expect(&rt, "memory");
-        let marked = plain(pairs.as_slice(), seed);
-        for row in 0..16 {
-            let cell = a(u16::try_from(row).unwrap_or(0));
-            let expected = marked[row] && has_formula(pairs.as_slice(), cell);
-            assert_eq!(&rt; closure.as_slice().contains(&cell), expected);
-        }
-    }
     Ok(())
 }

@@ -1,7 +1,6 @@
 // Worked rows of the store.
 ghost use Rattle.sheet_store.specs.Grid.{IsSound};
 
-use crate::draws::{below, cell_below};
 use fixed_value::Fixed;
 use formula_tree::{Content, Expr, ExprList, Formula, Function, Value};
 use grid_address::{Cell, Format, Span};
@@ -143,67 +142,5 @@ fn a_fresh_sheet_has_these_settings(rt: HostRuntime) -> Result<(), Fail> {
     assert_eq!(&rt; fresh.width, 9);
     assert_eq!(&rt; fresh.order, Order::Natural);
     assert_eq!(&rt; fresh.prefix, LabelPrefix::Left);
-    Ok(())
-}
-
-// The next random cell of a small block, and the state of the generator behind it.
-fn any(state: u32) -> (Cell, u32) {
-    cell_below(state, 9, 7)
-}
-
-// What a plain list of cells with their marks says of a span: how many of its cells are used, and how many hold
-// formulas.
-fn counts(marks: &[(Cell, bool)], span: Span) -> (usize, usize) {
-    let mut used = 0usize;
-    let mut formulas = 0usize;
-    for (cell, is_formula) in marks {
-        if span.contains(*cell) {
-            used = used.saturating_add(1);
-            if *is_formula {
-                formulas = formulas.saturating_add(1);
-            }
-        }
-    }
-    (used, formulas)
-}
-
-#[test]
-fn it_agrees_with_a_plain_list(rt: HostRuntime) -> Result<(), Fail> {
-    let mut store = Store::new(rt.alloc());
-    let mut marks = Vec::new(rt.alloc());
-    let mut state = 3;
-    for _turn in 0..200 {
-        let (cell, next) = any(state);
-        let (kind, next) = below(next, 4);
-        let (first, next) = any(next);
-        let (last, next) = any(next);
-        state = next;
-        marks.retain(|mark: &(Cell, bool)| mark.0 != cell);
-        if kind == 0 {
-            store.clear(cell);
-        } else if kind == 1 {
-            store
-                .put(cell, formula(&rt, rt.alloc()))
-                .expect(&rt, "memory");
-            marks.push((cell, true)).expect(&rt, "memory");
-        } else {
-            store.put(cell, number(5)).expect(&rt, "memory");
-            marks.push((cell, false)).expect(&rt, "memory");
-        }
-        let span = Span::of(first, last);
-        let used = store.cells_in(span).expect(&rt, "memory");
-        let formulas = store.formulas_in(span).expect(&rt, "memory");
-        assert_eq!(&rt;
-            (used.len(), formulas.len()),
-            counts(marks.as_slice(), span)
-        );
-        let mut before = None;
-        for found in used.as_slice() {
-            assert!(&rt;
-                span.contains(*found) && store.get(*found).is_some() && before < Some(*found)
-            );
-            before = Some(*found);
-        }
-    }
     Ok(())
 }
