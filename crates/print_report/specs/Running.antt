@@ -1,11 +1,13 @@
 -- The lines at the head and the foot of each page.
 use Rattle.std.specs.Prelude.{ℕ, ◌+◌, ◌-◌, ◌*◌, ◌/◌, ◌==◌, pos, List, [], ◌∷◌, ◌++◌, length, take, drop, replicate, position, Option, Some, None, if◌then◌else◌}
+use Rattle.ascii_bytes.specs.Ascii as ascii
 use Rattle.cell_format.specs.Numbers.{shown_number}
 use Rattle.grid_address.specs.Address.{decimal}
+use Rattle.grid_address.specs.Formats.{date_format}
 
 -- the place of the first `|`
 abbrev pub bar_in : List ℕ → Option ℕ
-bar_in text = position (λ b. b == 124) text
+bar_in text = position (λ b. b == ascii.bar) text
 
 -- what stands before a place, or all
 abbrev pub before : Option ℕ → List ℕ → List ℕ
@@ -28,11 +30,11 @@ behind_bar text = behind (bar_in text) text
 -- the day as 01-Jun-87, and nothing where there is none
 abbrev pub day_text : Option ℕ → List ℕ
 day_text None = []
-day_text (Some day) = take 9 (shown_number (pos (day * 1000000)) 114 10)
+day_text (Some day) = take 9 (shown_number (pos (day * 1000000)) date_format 10)
 
 -- `#` is the page's number, and `@` the day
 abbrev pub filled : ℕ → Option ℕ → ℕ → List ℕ
-filled number day b = if b == 35 then decimal number else if b == 64 then day_text day else b ∷ []
+filled number day b = if b == ascii.hash then decimal number else if b == ascii.at_sign then day_text day else b ∷ []
 
 -- the text with what its bytes stand for
 abbrev pub filled_in : ℕ → Option ℕ → List ℕ → List ℕ
@@ -69,4 +71,4 @@ overlaid number day text over =
 
 -- laid over blanks
 abbrev pub running : ℕ → ℕ → Option ℕ → List ℕ → List ℕ
-running width number day text = overlaid number day text (replicate width 32)
+running width number day text = overlaid number day text (replicate width ascii.space)

@@ -1,5 +1,6 @@
 // Lines as they are written.
 ghost use Rattle.std.specs.Prelude.{◌≡◌, ◌≤◌, ◌++◌, length, OnOk, replicate};
+ghost use Rattle.ascii_bytes.specs.Ascii as ascii;
 ghost use Rattle.print_report.specs.Lines.{empty_lines, line, line_end, trimmed, with_margin};
 
 use lics_text::Memory;
@@ -21,7 +22,7 @@ fn append(out: &mut ByteBuffer, bytes: &[u8]) -> Result<(), Memory>
 // Adds so many blanks.
 #[tactic(auto, using(crate::proofs::Lining::margin_front))]
 fn put_blanks(out: &mut ByteBuffer, count: u8) -> Result<(), Memory>
-    ensures { OnOk result (out.new ≡ out.old ++ replicate count 32) }
+    ensures { OnOk result (out.new ≡ out.old ++ replicate count ascii.space) }
 {
     append(out, &BLANKS[..usize::from(count)])
 }

@@ -39,7 +39,7 @@ fn beside(saved: &SavedSheet, row: u16, band: &[u8]) -> Row
 fn mask(byte: u8) -> u8
     ensures { result ≡ masked byte }
 {
-    if byte >= 127 { b'?' } else { byte }
+    if byte > b'~' { b'?' } else { byte }
 }
 
 // The bytes as they are printed.

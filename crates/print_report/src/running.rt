@@ -2,6 +2,7 @@
 ghost use Rattle.std.specs.Prelude.{◌≡◌, ◌≤◌, ◌<◌, ◌+◌, ◌*◌, ◌++◌, ◌==◌, [], length, pos, position, take, IfSome, OnOk};
 ghost use Rattle.std.specs.Option.{ForSome};
 ghost use Rattle.cell_format.specs.Numbers.{shown_number};
+ghost use Rattle.grid_address.specs.Formats.{date_format};
 ghost use Rattle.print_report.specs.Lines.{line};
 ghost use Rattle.print_report.specs.Running.{bar_in, before_bar, behind_bar, day_text, filled, laid, left_laid, middle_laid, overlaid, part, right_laid, running};
 
@@ -47,7 +48,7 @@ fn behind_bar(text: &[u8]) -> &[u8]
 // A day in ten bytes, of which the last is a blank.
 fn shown_day(day: u32) -> Line
     requires { day ≤ 73050 }
-    ensures text { result ≡ shown_number (pos (day * 1000000)) 114 10 }
+    ensures text { result ≡ shown_number (pos (day * 1000000)) date_format 10 }
     ensures size { length result ≡ 10 }
 {
     let Some(value) = Fixed::of(i64::from(day) * 1_000_000) else {

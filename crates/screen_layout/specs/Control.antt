@@ -1,12 +1,14 @@
 -- The control panel: what stands in the pointer's cell, the line that is typed, and the menu.
 use Rattle.std.specs.Prelude.{ℕ, ◌+◌, ◌-◌, Bool, true, false, not, List, [], ◌∷◌, ◌++◌, length, take, drop, Option, Some, None, codes, if◌then◌else◌}
 use Rattle.std.specs.FinMap as map
+use Rattle.ascii_bytes.specs.Ascii as ascii
 use Rattle.cell_format.specs.Indicator.{indicator_of}
 use Rattle.grid_address.specs.Formats.{has_protection}
 use Rattle.grid_address.specs.Address.{address_of, decimal}
 use Rattle.natural_recalc.specs.World.{format_of}
 use Rattle.sheet_store.specs.Grid.{width_of}
 use Rattle.screen_layout.specs.Lines.{filled}
+use Rattle.screen_layout.specs.declared.control.TheConstants.{CONTENT_END, LAST_COLUMN, MODE_COLUMN}
 use Rattle.work_sheet.specs.Seen.{Sheet}
 use Rattle.control_panel.specs.declared.panel.Mode.{Mode}
 use Rattle.control_panel.specs.declared.panel.Mode.TheVariants.{Ready, Label, Value, Edit, Point, Menu, Error}
@@ -31,7 +33,7 @@ mode_text (b ∷ bs) mode = take 5 (b ∷ bs)
 -- what stands there with a blank behind it
 abbrev pub with_space : List ℕ → List ℕ
 with_space [] = []
-with_space (b ∷ bs) = (b ∷ bs) ++ 32 ∷ []
+with_space (b ∷ bs) = (b ∷ bs) ++ ascii.space ∷ []
 
 -- a cell without a protection mark is told, and one with it while protection is on
 abbrev pub protection_part : Bool → ℕ → List ℕ
@@ -59,11 +61,11 @@ pointer_text s = front_text s ++ typed s.names s.grid s.settings.pointer
 
 -- it is cut after column 71, and the mode stands from column 73 on
 abbrev pub pointer_line : Sheet → Panel → List ℕ
-pointer_line s p = filled 73 (take 72 (pointer_text s)) ++ mode_text p.indicate p.mode
+pointer_line s p = filled MODE_COLUMN (take CONTENT_END (pointer_text s)) ++ mode_text p.indicate p.mode
 
 -- the line that is typed behind its prompt, from the byte that lets the cursor stand at column 79 at most
 abbrev pub typed_line : Panel → List ℕ
-typed_line p = drop (length (with_space p.prompt) + p.cursor - 79) (with_space p.prompt ++ p.typed)
+typed_line p = drop (length (with_space p.prompt) + p.cursor - LAST_COLUMN) (with_space p.prompt ++ p.typed)
 
 -- a menu stands in the panel's second and third line
 abbrev pub is_menu : Mode → Bool

@@ -3,6 +3,7 @@ use Rattle.std.specs.Prelude.{ℕ, ◌*◌, ◌/◌, ◌%◌, pos, Bool, true, f
 use Rattle.cell_format.specs.Numbers.{shown_number, two_digits}
 use Rattle.grid_address.specs.Formats.{date_format}
 use Rattle.screen_layout.specs.Lines.{filled}
+use Rattle.screen_layout.specs.declared.foot.TheConstants.{CALC_COLUMN, CIRC_COLUMN, CMD_COLUMN, END_COLUMN}
 use Rattle.work_sheet.specs.Seen.{Sheet}
 use Rattle.control_panel.specs.declared.panel.Mode.{Mode}
 use Rattle.control_panel.specs.declared.panel.Mode.TheVariants.{Ready, Label, Value, Edit, Point, Menu, Error}
@@ -13,7 +14,7 @@ abbrev pub moment_text : Option ℕ → ℕ → List ℕ
 moment_text None second = []
 moment_text (Some day) second =
     shown_number (pos (day * 1000000)) date_format 10
-    ++ two_digits (second / 3600) ++ 58 ∷ two_digits (second / 60 % 60)
+    ++ two_digits (second / 3600) ++ codes ":" ++ two_digits (second / 60 % 60)
 
 -- in ERROR the message
 abbrev pub first_part : Mode → List ℕ → Option ℕ → ℕ → List ℕ
@@ -37,5 +38,8 @@ wants_recalculation s = s.stale && not s.settings.automatic
 -- CALC from column 50 on, CIRC from 56, END from 62 and CMD from 67
 abbrev pub foot_line : Sheet → Panel → Option ℕ → ℕ → List ℕ
 foot_line s p day second =
-    marked p.running 67 (codes "CMD") (marked p.end 62 (codes "END") (marked s.circular 56 (codes "CIRC")
-    (marked (wants_recalculation s) 50 (codes "CALC") (take 50 (first_part p.mode p.message day second)))))
+    marked p.running CMD_COLUMN (codes "CMD")
+    (marked p.end END_COLUMN (codes "END")
+    (marked s.circular CIRC_COLUMN (codes "CIRC")
+    (marked (wants_recalculation s) CALC_COLUMN (codes "CALC")
+    (take CALC_COLUMN (first_part p.mode p.message day second)))))

@@ -1,6 +1,7 @@
 -- The screen: 25 lines of 80 bytes, painted from nothing, at the second of a day where the clock has a day.
 use Rattle.std.specs.Prelude.{ℕ, ◌+◌, ◌-◌, List, [], map, Option, Some, None, nat_lt, if◌then◌else◌}
 use Rattle.std.specs.List.{range_with_len}
+use Rattle.grid_address.specs.declared.TheConstants.{ROWS}
 use Rattle.grid_address.specs.Place.{Place}
 use Rattle.screen_layout.specs.Columns.{columns_line}
 use Rattle.screen_layout.specs.Control.{below_line, entry_line, pointer_line}
@@ -11,7 +12,7 @@ use Rattle.control_panel.specs.declared.panel.Panel.{Panel}
 
 -- a row of the sheet; below row 8192 there is none
 abbrev pub row_line : Sheet → ℕ → ℕ → List ℕ
-row_line s row first = if nat_lt row 8192 then columns_line s (Some row) first else []
+row_line s row first = if nat_lt row ROWS then columns_line s (Some row) first else []
 
 -- a line of the screen
 abbrev pub line_text : Sheet → Panel → Place → Option ℕ → ℕ → ℕ → List ℕ

@@ -6,7 +6,7 @@ ghost use Rattle.screen_layout.specs.Views.{viewed};
 ghost use Rattle.grid_address.specs.Address.{address_of};
 ghost use Rattle.natural_recalc.specs.World.{format_of};
 ghost use Rattle.screen_layout.specs.Control.{below_line, entry_line, front_text, is_menu, mode_name, mode_text, pointer_format, pointer_line, pointer_text, protection_part, typed_line, width_part, with_space};
-ghost use Rattle.screen_layout.specs.Lines.{filled, padded, shown_line};
+ghost use Rattle.screen_layout.specs.Lines.{filled, shown_line};
 ghost use Rattle.work_sheet.specs.Seen.{of_worksheet};
 ghost use Rattle.work_sheet.specs.Typed.{typed};
 
@@ -18,6 +18,15 @@ use formula_eval::Look;
 use grid_address::{Cell, Format, cell_text, decimal_text};
 use lics_text::Line;
 use work_sheet::Sheet;
+
+// The column before which what is told of the pointer's cell ends.
+const CONTENT_END: usize = 72;
+
+// The column from which on the mode stands.
+const MODE_COLUMN: usize = 73;
+
+// The last column of the screen.
+const LAST_COLUMN: usize = 79;
 
 // The word that tells a mode.
 fn mode_name(mode: Mode) -> &'static [u8]
@@ -114,17 +123,17 @@ fn pointer_of(sheet: &Sheet) -> Cell
 
 // What is told of the pointer's cell and its content, cut after column 71.
 fn pointer_part(sheet: &Sheet) -> PaintedLine
-    ensures text { result ≡ filled 73 (take 72 (pointer_text (of_worksheet sheet.now))) }
-    ensures width { length result ≡ 73 }
+    ensures text { result ≡ filled MODE_COLUMN (take CONTENT_END (pointer_text (of_worksheet sheet.now))) }
+    ensures width { length result ≡ MODE_COLUMN }
 {
     let mut front = Line::new();
     put_front(sheet, &mut front);
     let mut content = Line::new();
     let _ = sheet.text_of(pointer_of(sheet), &mut content);
     let mut line = PaintedLine::new();
-    line.add(72, front.bytes());
-    line.add(72, content.bytes());
-    line.fill(73);
+    line.add(CONTENT_END, front.bytes());
+    line.add(CONTENT_END, content.bytes());
+    line.fill(MODE_COLUMN);
     line
 }
 
@@ -168,7 +177,7 @@ fn typed_line(panel: &PanelView) -> [u8; 80]
     let blank = blank_behind(prompt);
     let before = prompt.len() + blank.len();
     let cursor = usize::from(cursor_of(panel));
-    let start = (before + cursor).saturating_sub(79);
+    let start = (before + cursor).saturating_sub(LAST_COLUMN);
     let mut line = PaintedLine::new();
     add_from(&mut line, prompt, start);
     add_from(&mut line, blank, start.saturating_sub(prompt.len()));

@@ -1,6 +1,7 @@
 // The last line: the moment or a message, and the indicators.
 ghost use Rattle.std.specs.Prelude.{◌≡◌, ◌≤◌, ◌+◌, ◌++◌, [], length, take, pos, ◌*◌};
 ghost use Rattle.cell_format.specs.Numbers.{shown_number, two_digits};
+ghost use Rattle.grid_address.specs.Formats.{date_format};
 ghost use Rattle.screen_layout.specs.Views.{viewed};
 ghost use Rattle.screen_layout.specs.Foot.{first_part, foot_line, marked, moment_text, wants_recalculation};
 ghost use Rattle.screen_layout.specs.Lines.{shown_line};
@@ -16,6 +17,15 @@ use lics_text::Line;
 use serial_date::Moment;
 use work_sheet::Sheet;
 
+// The columns from which on the indicators stand; what is told before them ends at the first.
+const CALC_COLUMN: usize = 50;
+
+const CIRC_COLUMN: usize = 56;
+
+const END_COLUMN: usize = 62;
+
+const CMD_COLUMN: usize = 67;
+
 // Adds the last two digits of a number.
 fn put_two_digits(number: u32, into: &mut Line)
     requires { length into.old ≤ 100 }
@@ -28,7 +38,7 @@ fn put_two_digits(number: u32, into: &mut Line)
 fn put_day(day: u32, into: &mut Line)
     requires day { day ≤ 73050 }
     requires room { into.old ≡ [] }
-    ensures text { into.new ≡ shown_number (pos (day * 1000000)) 114 10 }
+    ensures text { into.new ≡ shown_number (pos (day * 1000000)) date_format 10 }
     ensures size { length into.new ≡ 10 }
 {
     let Some(value) = Fixed::of(i64::from(day) * 1_000_000) else {
@@ -53,17 +63,18 @@ fn put_moment(now: &Moment, into: &mut Line)
 
 // The moment, or in ERROR the message.
 fn first_part(panel: &PanelView, now: &Moment) -> PaintedLine
-    ensures text { result ≡ take 50 (first_part panel.now.mode panel.now.message.now now.now.day now.now.second) }
-    ensures width { length result ≤ 50 }
+    ensures text { result
+        ≡ take CALC_COLUMN (first_part panel.now.mode panel.now.message.now now.now.day now.now.second) }
+    ensures width { length result ≤ CALC_COLUMN }
 {
     let mut line = PaintedLine::new();
     if let Mode::Error = panel.mode {
-        line.add(50, panel.message);
+        line.add(CALC_COLUMN, panel.message);
         return line;
     }
     let mut text = Line::new();
     put_moment(now, &mut text);
-    line.add(50, text.bytes());
+    line.add(CALC_COLUMN, text.bytes());
     line
 }
 
@@ -92,9 +103,9 @@ pub fn foot_line(sheet: &Sheet, panel: &PanelView, now: &Moment) -> [u8; 80]
     ensures { result ≡ shown_line (foot_line (of_worksheet sheet.now) (viewed panel.now) now.now.day now.now.second) }
 {
     let mut line = first_part(panel, now);
-    mark(&mut line, wants_recalculation(sheet), 50, b"CALC");
-    mark(&mut line, sheet.is_circular(), 56, b"CIRC");
-    mark(&mut line, panel.end, 62, b"END");
-    mark(&mut line, panel.running, 67, b"CMD");
+    mark(&mut line, wants_recalculation(sheet), CALC_COLUMN, b"CALC");
+    mark(&mut line, sheet.is_circular(), CIRC_COLUMN, b"CIRC");
+    mark(&mut line, panel.end, END_COLUMN, b"END");
+    mark(&mut line, panel.running, CMD_COLUMN, b"CMD");
     line.finish()
 }

@@ -1,5 +1,6 @@
 // A line of the screen while it is painted. What is not painted yet is blank.
 ghost use Rattle.std.specs.Prelude.{◌≡◌, ◌≤◌, ◌+◌, ◌-◌, ◌++◌, [], length, take, replicate, map, true, false};
+ghost use Rattle.ascii_bytes.specs.Ascii as ascii;
 ghost use Rattle.cell_format.specs.Numbers.{shown_number};
 ghost use Rattle.screen_layout.specs.Lines.{shown_byte, shown_line};
 
@@ -16,12 +17,13 @@ pub struct PaintedLine {
 
 impl Model for PaintedLine {
     ghost use Rattle.std.specs.Prelude.{◌≡◌, ℕ, List, ◌≤◌, ◌-◌, take, drop, replicate};
+    ghost use Rattle.ascii_bytes.specs.Ascii as ascii;
 
     ghost Value = { List ℕ };
 
     ghost view = { λ a. take a.len a.bytes };
 
-    ghost invariant = { λ a. (a.len ≤ 80) × (drop a.len a.bytes ≡ replicate (80 - a.len) 32) };
+    ghost invariant = { λ a. (a.len ≤ 80) × (drop a.len a.bytes ≡ replicate (80 - a.len) ascii.space) };
 }
 
 impl PaintedLine {
@@ -76,7 +78,7 @@ impl PaintedLine {
     /// Adds blanks up to a column.
     pub fn fill(&mut self, column: usize)
         requires { column ≤ 80 }
-        ensures { self.new ≡ self.old ++ replicate (column - length self.old) 32 }
+        ensures { self.new ≡ self.old ++ replicate (column - length self.old) ascii.space }
     {
         if self.len < column {
             self.len = column;
@@ -95,7 +97,7 @@ impl PaintedLine {
 fn shown_byte(byte: u8) -> u8
     ensures { result ≡ shown_byte byte }
 {
-    if byte >= b' ' && byte < 127 {
+    if byte >= b' ' && byte <= b'~' {
         byte
     } else {
         b'?'

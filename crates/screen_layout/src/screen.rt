@@ -12,13 +12,10 @@ use crate::control::{below_line, entry_line, pointer_line, text_line};
 use crate::foot::foot_line;
 use crate::panel_view::PanelView;
 use control_panel::Panel;
-use grid_address::Cell;
+use grid_address::{Cell, ROWS};
 use screen_show::{LineSet, Screen};
 use serial_date::Moment;
 use work_sheet::Sheet;
-
-// How many rows a sheet has.
-const ROWS: u16 = 8192;
 
 // A row of the sheet; below row 8192 there is none.
 fn row_line(sheet: &Sheet, row: u16, first: u8) -> [u8; 80]
