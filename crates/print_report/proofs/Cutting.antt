@@ -1,9 +1,9 @@
 -- Texts that are cut and filled.
-use Rattle.std.proofs.Common.{◌≡◌, ℕ, ◌-◌, ◌≤◌, List, [], ◌∷◌, ◌++◌, length, take, drop, replicate, refl, ap, sym, ◌∙◌, arith, inl, inr, append_assoc}
+use Rattle.std.proofs.Common.{◌≡◌, ℕ, ◌-◌, ◌≤◌, List, [], ◌++◌, length, take, drop, replicate, refl, ap, sym, ◌∙◌, arith, inl, inr, append_assoc}
 use Rattle.std.specs.Prelude.{min}
 use Rattle.std.proofs.lemmas.Bool.{cases_lt}
 use Rattle.std.proofs.lemmas.List.{drop_all, length-drop, take-replicate, take_all}
-use Rattle.print_report.specs.Cells.{padded}
+use Rattle.shown_cells.specs.Cells.{padded}
 
 -- a front that is cut at the text's end
 pub take_least : (n : ℕ) (xs : List ℕ) → take (min (length xs) n) xs ≡ take n xs
@@ -33,15 +33,6 @@ text_added row text width shown is narrow =
 -- a text that fills a width leaves nothing
 pub none_left : (width : ℕ) (text : List ℕ) → length text ≤ width → drop width text ≡ []
 none_left width text h = drop_all width text h
-
-pub blanks_front : (n : ℕ) → n ≤ 240 → take {A = ℕ} n (replicate 240 32) ≡ replicate n 32
-blanks_front n h = take-replicate n 240 32 h
-
-pub stars_front : (n : ℕ) → n ≤ 240 → take {A = ℕ} n (replicate 240 42) ≡ replicate n 42
-stars_front n h = take-replicate n 240 42 h
-
-pub right_word : (n : ℕ) (word : List ℕ) → ([] ++ replicate n 32 ++ word) ++ 32 ∷ [] ≡ replicate n 32 ++ (word ++ 32 ∷ [])
-right_word n word = append_assoc (replicate n 32) word (32 ∷ [])
 
 pub whole_rest : (bytes : List ℕ) (at : ℕ) → take (length bytes - at) (drop at bytes) ≡ drop at bytes
 whole_rest bytes at = take_all (length bytes - at) (drop at bytes) (omega (arith, length-drop at bytes))

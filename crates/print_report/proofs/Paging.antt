@@ -8,7 +8,8 @@ use Rattle.print_report.specs.declared.settings.PrintFault.{PrintFault}
 use Rattle.print_report.specs.declared.settings.PrintFault.TheVariants.{PageTooSmall, TooLong, Memory}
 use Rattle.print_report.specs.Adding.{Adds}
 use Rattle.print_report.specs.Bands.{width_in}
-use Rattle.print_report.specs.Cells.{cell_text, padded}
+use Rattle.shown_cells.specs.Cells.{padded}
+use Rattle.print_report.specs.Cells.{cell_text}
 use Rattle.print_report.specs.Pages.{beside, limit, page, page_rows, pages, place, row_line, rows, Printing}
 
 -- what is put before the rest

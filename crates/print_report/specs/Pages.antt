@@ -7,7 +7,8 @@ use Rattle.print_report.specs.declared.settings.PrintFault.{PrintFault}
 use Rattle.print_report.specs.declared.settings.PrintFault.TheVariants.{PageTooSmall, TooLong, Memory}
 use Rattle.print_report.specs.declared.settings.PrintSettings.{PrintSettings}
 use Rattle.print_report.specs.Bands.{bands, columns_of, width_in}
-use Rattle.print_report.specs.Cells.{cell_text, padded}
+use Rattle.shown_cells.specs.Cells.{padded}
+use Rattle.print_report.specs.Cells.{cell_text}
 use Rattle.print_report.specs.Lines.{empty_lines, line, line_end}
 use Rattle.print_report.specs.Running.{running}
 

@@ -3,7 +3,8 @@ use Rattle.std.proofs.Common.{◌≡◌, ℕ, zero, suc, ◌+◌, ◌-◌, ◌�
 use Rattle.std.specs.Prelude.{min}
 use Rattle.std.proofs.lemmas.Bool.{cases_lt}
 use Rattle.std.proofs.lemmas.List.{append-nil, length-take, length-replicate, take-append-le, take-replicate, take-append-drop, take-take, take_all}
-use Rattle.screen_layout.specs.Lines.{filled, padded, shown_byte, shown_line}
+use Rattle.shown_cells.specs.Cells.{padded}
+use Rattle.screen_layout.specs.Lines.{filled, shown_byte, shown_line}
 
 take_past : (xs ys : List ℕ) (n : ℕ) → take (length xs + n) (xs ++ ys) ≡ xs ++ take n ys
 take_past [] ys n = ap (λ (k : ℕ). take k ys) (omega arith)
@@ -102,15 +103,6 @@ none_left zero [] h = refl
 none_left zero (x ∷ xs) h = absurd (omega (arith, h))
 none_left (suc n) [] h = refl
 none_left (suc n) (x ∷ xs) h = none_left n xs (omega (arith, h))
-
-pub blanks_front : (n : ℕ) → n ≤ 240 → take {A = ℕ} n (replicate 240 32) ≡ replicate n 32
-blanks_front n h = take-replicate n 240 32 h
-
-pub stars_front : (n : ℕ) → n ≤ 240 → take {A = ℕ} n (replicate 240 42) ≡ replicate n 42
-stars_front n h = take-replicate n 240 42 h
-
-pub right_word : (n : ℕ) (word : List ℕ) → ([] ++ replicate n 32 ++ word) ++ 32 ∷ [] ≡ replicate n 32 ++ (word ++ 32 ∷ [])
-right_word n word = append_assoc (replicate n 32) word (32 ∷ [])
 
 -- a text that fills its width is added to a line that has room for it
 pub whole_added : (width : ℕ) (line shown : List ℕ) → length line + width ≤ 80 → length shown ≡ width → line ++ shown ≡ take 80 (line ++ padded width shown)

@@ -6,7 +6,8 @@ use Rattle.std.proofs.lemmas.List.Elements.{All-map}
 use Rattle.std.proofs.lemmas.List.FromFn.{get_or-map-range_with_len, length-map-range_with_len}
 use Rattle.std.specs.List.{All, range_with_len}
 use Rattle.grid_address.specs.Place.{Place}
-use Rattle.screen_layout.specs.Lines.{padded, shown_byte}
+use Rattle.shown_cells.specs.Cells.{padded}
+use Rattle.screen_layout.specs.Lines.{shown_byte}
 use Rattle.screen_layout.specs.Screen.{line_text, screen, screen_line}
 use Rattle.work_sheet.specs.Seen.{Sheet}
 use Rattle.control_panel.specs.declared.panel.Panel.{Panel}

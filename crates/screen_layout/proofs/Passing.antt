@@ -3,7 +3,7 @@ use Rattle.std.proofs.Common.{◌≡◌, ℕ, ◌≤◌, List, [], ◌∷◌, �
 use Rattle.std.specs.Prelude.{unwrap_or}
 use Rattle.std.proofs.lemmas.List.{append-nil, length-take, take_all}
 use Rattle.screen_layout.specs.Columns.{beside, column_text}
-use Rattle.screen_layout.specs.Lines.{padded}
+use Rattle.shown_cells.specs.Cells.{padded}
 use Rattle.screen_layout.specs.declared.shown_columns.Column.{Column}
 use Rattle.work_sheet.specs.Seen.{Sheet}
 use Rattle.screen_layout.proofs.Cuts.{cut_twice}

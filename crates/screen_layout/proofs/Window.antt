@@ -5,15 +5,17 @@ use Rattle.std.proofs.lemmas.Bool.Decides.{nat_tests}
 use Rattle.std.specs.FinMap.{get}
 use Rattle.control_panel.specs.declared.panel.Panel.{Panel}
 use Rattle.grid_address.specs.Place.{Place}
-use Rattle.natural_recalc.specs.World.{content_of, format_of, value_of, width_or}
+use Rattle.natural_recalc.specs.World.{width_or}
 use Rattle.range_names.specs.Names.{NameMap}
 use Rattle.sheet_store.specs.Grid.{is_hidden, own_width, width_of}
 use Rattle.sheet_store.specs.declared.state.CellState.{CellState}
 use Rattle.work_sheet.specs.Seen.{Sheet}
 use Rattle.screen_layout.specs.Alike.{AreAlike}
-use Rattle.screen_layout.specs.Cells.{cell_text, format_in, own_text}
+use Rattle.shown_cells.specs.Cells.{state_text}
+use Rattle.screen_layout.specs.Cells.{cell_text}
 use Rattle.screen_layout.specs.Columns.{beside, column_text, columns_from, columns_line, margin, shown_columns}
-use Rattle.screen_layout.specs.Lines.{padded, shown_line}
+use Rattle.shown_cells.specs.Cells.{padded}
+use Rattle.screen_layout.specs.Lines.{shown_line}
 use Rattle.screen_layout.specs.Screen.{line_text, row_line, screen_line}
 use Rattle.screen_layout.specs.Sheets.{width_in}
 use Rattle.screen_layout.specs.declared.shown_columns.Column.{Column}
@@ -49,9 +51,9 @@ module _ (touched : ℕ → Bool) (s t : Sheet) (alike : AreAlike touched s t) w
 
   cell_same : (c : Place) (width : ℕ) → touched c.row ≡ false → cell_text t c width ≡ cell_text s c width
   cell_same c width apart =
-      ap (λ (o : Option CellState). own_text t.names c (content_of o) (value_of o) (format_in t.settings.format (format_of o)) width) (alike.cells c apart)
-      ∙ ap (λ (names : NameMap). own_text names c (content_of (get s.grid.cells c)) (value_of (get s.grid.cells c)) (format_in t.settings.format (format_of (get s.grid.cells c))) width) alike.names
-      ∙ ap (λ (format : ℕ). own_text s.names c (content_of (get s.grid.cells c)) (value_of (get s.grid.cells c)) (format_in format (format_of (get s.grid.cells c))) width) alike.format
+      ap (λ (o : Option CellState). state_text t.names t.settings.format c o width) (alike.cells c apart)
+      ∙ ap (λ (names : NameMap). state_text names t.settings.format c (get s.grid.cells c) width) alike.names
+      ∙ ap (λ (format : ℕ). state_text s.names format c (get s.grid.cells c) width) alike.format
 
   column_same : (row : Option ℕ) (x : Column) → IsApart touched row → column_text t row x ≡ column_text s row x
   column_same None x apart = refl

@@ -1,9 +1,10 @@
 -- The shown columns, and the lines that show them.
 use Rattle.std.specs.Prelude.{ℕ, zero, suc, ◌+◌, ◌-◌, ◌/◌, Bool, true, false, ◌||◌, nat_le, List, [], ◌∷◌, ◌++◌, length, take, drop, replicate, Option, Some, None, codes, unwrap_or, if◌then◌else◌}
+use Rattle.ascii_bytes.specs.Ascii as ascii
 use Rattle.grid_address.specs.Address.{column_name, decimal}
 use Rattle.sheet_store.specs.Grid.{is_hidden}
 use Rattle.screen_layout.specs.Cells.{cell_text}
-use Rattle.screen_layout.specs.Lines.{padded}
+use Rattle.shown_cells.specs.Cells.{padded}
 use Rattle.work_sheet.specs.Seen.{Sheet}
 use Rattle.screen_layout.specs.Sheets.{width_in}
 use Rattle.screen_layout.specs.declared.shown_columns.Column.{Column}
@@ -28,7 +29,7 @@ columns_shown s first = length (shown_columns s first)
 
 -- a column's letters, with half of the free bytes, rounded down, on their left
 abbrev pub head_text : ℕ → ℕ → List ℕ
-head_text col width = take width (replicate ((width - length (column_name col)) / 2) 32 ++ column_name col)
+head_text col width = take width (replicate ((width - length (column_name col)) / 2) ascii.space ++ column_name col)
 
 -- what a column shows in the line of letters, or in a row
 abbrev pub column_text : Sheet → Option ℕ → Column → Option (List ℕ)
@@ -45,7 +46,7 @@ beside s row (x ∷ xs) over =
 
 -- a number, right in four bytes
 abbrev pub row_number : ℕ → List ℕ
-row_number n = replicate (4 - length (decimal n)) 32 ++ decimal n
+row_number n = replicate (4 - length (decimal n)) ascii.space ++ decimal n
 
 -- four blanks in the line of letters, and the number of a row
 abbrev pub margin : Option ℕ → List ℕ

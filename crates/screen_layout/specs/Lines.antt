@@ -1,17 +1,15 @@
 -- Lines of 80 bytes.
-use Rattle.std.specs.Prelude.{ℕ, ◌-◌, List, ◌++◌, length, take, replicate, map, nat_lt, nat_le, ◌&&◌, if◌then◌else◌}
+use Rattle.std.specs.Prelude.{ℕ, ◌-◌, List, ◌++◌, length, replicate, map, nat_lt, nat_le, ◌&&◌, if◌then◌else◌}
+use Rattle.ascii_bytes.specs.Ascii as ascii
+use Rattle.shown_cells.specs.Cells.{padded}
 
 -- a byte as it is shown: those outside 32 to 126 as a question mark
 abbrev pub shown_byte : ℕ → ℕ
-shown_byte b = if nat_le 32 b && nat_lt b 127 then b else 63
+shown_byte b = if nat_le ascii.space b && nat_lt b ascii.delete then b else ascii.question_mark
 
 -- a text filled with blanks to a width
 abbrev pub filled : ℕ → List ℕ → List ℕ
-filled width text = text ++ replicate (width - length text) 32
-
--- a text cut or filled with blanks to a width
-abbrev pub padded : ℕ → List ℕ → List ℕ
-padded width text = take width text ++ replicate (width - length text) 32
+filled width text = text ++ replicate (width - length text) ascii.space
 
 -- a line as it is shown
 abbrev pub shown_line : List ℕ → List ℕ

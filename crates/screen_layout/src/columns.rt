@@ -2,19 +2,18 @@
 ghost use Rattle.std.specs.Prelude.{◌≡◌, ◌<◌, ◌≤◌, ◌++◌, ◌+◌, ◌-◌, [], length, take, drop, unwrap_or};
 ghost use Rattle.std.specs.Option.{ForSome};
 ghost use Rattle.screen_layout.specs.Columns.{column_text, columns_line, head_text, margin};
-ghost use Rattle.screen_layout.specs.Lines.{padded, shown_line};
+ghost use Rattle.screen_layout.specs.Lines.{shown_line};
+ghost use Rattle.shown_cells.specs.Cells.{padded};
 ghost use Rattle.work_sheet.specs.Seen.{of_worksheet};
 
-use crate::cells::{add_cell, add_text, put_blanks};
+use crate::cells::{add_cell, add_text};
 use crate::painted_line::PaintedLine;
 use crate::shown_columns::{Column, Coming};
-use crate::widths::MOST_WIDTH;
-use grid_address::{Cell, column_text, row_text};
+use grid_address::{Cell, ROWS, column_text, row_text};
 use lics_text::Line;
+use sheet_store::MOST_WIDTH;
+use shown_cells::put_blanks;
 use work_sheet::Sheet;
-
-/// How many rows a sheet has.
-pub const ROWS: u16 = 8192;
 
 // Adds the letters of a column, with half of the free bytes on their left.
 #[tactic(auto, using(crate::proofs::Cuts::take_least))]

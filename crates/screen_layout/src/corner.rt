@@ -3,8 +3,9 @@ ghost use Rattle.std.specs.Prelude.{◌≡◌, ◌≤◌, ◌+◌, ◌-◌, ◌*
 ghost use Rattle.screen_layout.specs.Corner.{corner_for, first_column, first_row, nearest, wide};
 ghost use Rattle.work_sheet.specs.Seen.{of_worksheet};
 
-use crate::widths::{MOST_WIDTH, width_in};
+use crate::widths::width_in;
 use grid_address::Cell;
+use sheet_store::MOST_WIDTH;
 use work_sheet::Sheet;
 
 // The first of 20 shown rows, as near to the one before as lets the pointer's be among them.

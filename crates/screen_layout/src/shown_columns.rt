@@ -4,7 +4,8 @@ ghost use Rattle.screen_layout.specs.Columns.{columns_shown};
 ghost use Rattle.screen_layout.specs.Coming.{ComesNext};
 ghost use Rattle.work_sheet.specs.Seen.{of_worksheet};
 
-use crate::widths::{MOST_WIDTH, width_in};
+use crate::widths::width_in;
+use sheet_store::MOST_WIDTH;
 use work_sheet::Sheet;
 
 // How many bytes of a line stand behind the four of the row's number.

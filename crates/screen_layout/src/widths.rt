@@ -3,10 +3,8 @@ ghost use Rattle.std.specs.Prelude.{◌≡◌, ◌≤◌};
 ghost use Rattle.work_sheet.specs.Seen.{of_worksheet};
 ghost use Rattle.screen_layout.specs.Sheets.{width_in};
 
+use sheet_store::MOST_WIDTH;
 use work_sheet::Sheet;
-
-/// The widest that a column can be.
-pub const MOST_WIDTH: u8 = 240;
 
 /// A column's width, 1 to 240: its own or the sheet's.
 pub fn width_in(sheet: &Sheet, col: u8) -> u8

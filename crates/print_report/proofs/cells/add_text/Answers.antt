@@ -1,5 +1,5 @@
 use Rattle.std.proofs.Common.{ℕ, ◌-◌, ◌++◌, List, take, drop, replicate, ap, ◌∙◌, arith}
-use Rattle.print_report.specs.Cells.{padded}
+use Rattle.shown_cells.specs.Cells.{padded}
 use Rattle.print_report.proofs.Cutting.{drop_least, text_added, whole_rest}
 use Rattle.print_report.proofs.cells.add_text.Goals as goal
 

@@ -1,0 +1,132 @@
+// What a cell shows.
+ghost use Rattle.std.specs.Prelude.{◌≡◌, option_copied, option_map};
+ghost use Rattle.formula_text.specs.Printed.{printed};
+ghost use Rattle.shown_cells.specs.Cells as spec;
+ghost use Rattle.shown_cells.specs.Parts.{shown_text};
+
+use crate::fitting::Fitting;
+use formula_tree::{Content, Formula, Value};
+use grid_address::{Cell, Format};
+use lics_text::LabelPrefix;
+use range_names::Names;
+use sheet_store::CellState;
+
+/// What a cell shows from its left edge on.
+#[derive(Clone, Copy)]
+pub enum Shown<'a> {
+    /// A text at the left, of which the column shows what fits; the rest runs on over blank cells to the right.
+    RunsOn(&'a [u8]),
+    /// What is shown within the column.
+    Fits(Fitting<'a>),
+}
+
+// Whether a label goes on through its cell.
+fn is_repeated(prefix: LabelPrefix) -> bool
+    ensures { result ≡ spec.is_repeated prefix }
+{
+    match prefix {
+        LabelPrefix::Repeat => true,
+        LabelPrefix::Left | LabelPrefix::Right | LabelPrefix::Center => false,
+        LabelPrefix::Unprinted => false,
+    }
+}
+
+// What a label shows: one that is longer than its cell runs on, unless it is repeated.
+fn label_in<'a>(prefix: LabelPrefix, text: &'a [u8], width: u8) -> Shown<'a>
+    ensures { shown_text result width ≡ spec.label_text prefix text.now width }
+{
+    if !is_repeated(prefix) && text.len() > usize::from(width) {
+        Shown::RunsOn(text)
+    } else {
+        Shown::Fits(Fitting::Label(prefix, text))
+    }
+}
+
+// What a value shows.
+fn value_in<'a>(value: &'a Value, format: Format, width: u8) -> Shown<'a>
+    ensures { shown_text result width ≡ spec.value_text value.now format.0 width }
+{
+    match value {
+        Value::Blank => Shown::RunsOn(b""),
+        Value::Str(text) => label_in(LabelPrefix::Left, text.bytes(), width),
+        Value::Num(number) => Shown::Fits(Fitting::Number(*number, format)),
+        Value::Err => Shown::Fits(Fitting::Err),
+        Value::Na => Shown::Fits(Fitting::Na),
+    }
+}
+
+// What a formula shows: its text in the format Text, and else its value.
+fn formula_in<'a>(
+    formula: &'a Formula,
+    value: &'a Value,
+    names: &'a Names,
+    cell: Cell,
+    format: Format,
+    width: u8,
+) -> Shown<'a>
+    ensures { shown_text result width
+        ≡ spec.formula_text (printed names.now cell formula.now) value.now format.0 width }
+{
+    if format.is_shown_as(Format::TEXT) {
+        Shown::Fits(Fitting::Printed(formula, cell, names))
+    } else {
+        value_in(value, format, width)
+    }
+}
+
+// What a cell that isn't blank shows in a format, which is nothing in the format Hidden.
+fn content_in<'a>(
+    state: &'a CellState,
+    names: &'a Names,
+    cell: Cell,
+    format: Format,
+    width: u8,
+) -> Shown<'a>
+    ensures { shown_text result width
+        ≡ spec.visible_text names.now cell state.now.content state.now.value format.0 width }
+{
+    if format.is_shown_as(Format::HIDDEN) {
+        return Shown::RunsOn(b"");
+    }
+    match &state.content {
+        Content::Blank => Shown::RunsOn(b""),
+        Content::Number(_) => value_in(&state.value, format, width),
+        Content::Label(prefix, text) => label_in(*prefix, text.bytes(), width),
+        Content::Formula(formula) => {
+            formula_in(formula, &state.value, names, cell, format, width)
+        }
+    }
+}
+
+// The format of a cell: its own, or the sheet's in its place.
+fn format_in(global: Format, own: Format) -> Format
+    ensures { result.0 ≡ spec.format_in global.0 own.0 }
+{
+    if own.is_shown_as(Format::DEFAULT) {
+        global
+    } else {
+        own
+    }
+}
+
+/// What a cell shows in a column's width, by what is kept of it, the sheet's names and the format that stands in for
+/// the default one. None comes exactly where it is blank: a text from the left may run on over it.
+pub fn shown_in<'a>(
+    state: Option<&'a CellState>,
+    names: &'a Names,
+    global: Format,
+    cell: Cell,
+    width: u8,
+) -> Option<Shown<'a>>
+    ensures { option_map (λ shown. shown_text shown width) result
+        ≡ spec.state_text names.now global.0 cell (option_copied state.entry) width }
+{
+    let state = state?;
+    match state.content {
+        Content::Blank => None,
+        Content::Number(_) | Content::Label(_, _) | Content::Formula(_) => {
+            let format = format_in(global, state.format);
+            Some(content_in(state, names, cell, format, width))
+        }
+    }
+}
