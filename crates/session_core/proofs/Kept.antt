@@ -1,48 +1,118 @@
 -- The lines that are the same from step to step.
-use Rattle.std.proofs.Common.{◌≡◌, ℕ, zero, suc, ◌≤◌, ◌<◌, Bool, true, false, List, [], Option, Some, None, refl, ap, sym, subst, ◌∙◌, arith, inl, inr}
-use Rattle.std.specs.FinMap.{get}
-use Rattle.std.specs.Prelude.{slice_get}
-use Rattle.std.proofs.lemmas.Bool.{cases_eq, cases_lt, true≢false}
-use Rattle.std.proofs.lemmas.Option.{slice_get-get_or, slice_get_past, slice_get_within}
+use Rattle.std.proofs.Common.{◌≡◌, ℕ, zero, suc, ◌+◌, ◌-◌, ◌/◌, ◌%◌, ◌≤◌, ◌<◌, Bool, true, false, List, [], ◌++◌, Option, Some, None, refl, ap, sym, subst, ◌∙◌, arith, inl, inr}
+use Rattle.std.specs.Prelude.{codes, is_some, slice_get, take}
+use Rattle.std.proofs.lemmas.Bool.{cases_lt, false≢true, true≢false}
+use Rattle.std.proofs.lemmas.Option.{slice_get-get_or, slice_get_past}
+use Rattle.control_panel.specs.declared.panel.Mode.{Mode}
+use Rattle.control_panel.specs.declared.panel.Mode.TheVariants as mode
+use Rattle.control_panel.specs.declared.panel.Panel.{Panel}
 use Rattle.grid_address.specs.Place.{Place}
 use Rattle.screen_layout.proofs.Painted.{line_at, shaped}
 use Rattle.screen_layout.proofs.Window.{letters_same, row_same}
 use Rattle.screen_layout.specs.Alike.{AreAlike}
+use Rattle.screen_layout.specs.Control.{below_line, entry_line, mode_name, mode_text, pointer_line, pointer_text}
+use Rattle.screen_layout.specs.Foot.{first_part, foot_line, marked, moment_text}
+use Rattle.screen_layout.specs.Lines.{filled, shown_line}
 use Rattle.screen_layout.specs.Screen.{screen_line}
-use Rattle.screen_show.proofs.LineSets.{all_may_differ}
 use Rattle.screen_show.specs.Changes.{Unchanged}
+use Rattle.session_rooms.specs.declared.rooms.Room.{Room}
+use Rattle.session_rooms.specs.declared.rooms.Room.TheVariants as room
+use Rattle.session_rooms.specs.declared.rooms.TypingMode.{TypingMode}
+use Rattle.session_rooms.specs.declared.rooms.TypingMode.TheVariants.{Label, Value, Edit}
+use Rattle.typing_room.specs.Room.{told_mode}
 use Rattle.work_sheet.specs.Seen.{Sheet}
+use Rattle.session_core.specs.Glances.{glance_of, marks_of, plain_mode, IsKept}
 use Rattle.session_core.specs.Machine.{sheet_of, State}
-use Rattle.session_core.specs.Moving.{IsMoved}
-use Rattle.session_core.specs.Screen.{changed_lines, panel_lines, panel_of, screen}
+use Rattle.session_core.specs.Pressing.{room_panel}
+use Rattle.session_core.specs.Screen.{panel_of, screen}
+use Rattle.session_core.specs.Touches.{touches_row, Touches}
+use Rattle.session_core.specs.declared.glance.Foot.{Foot}
+use Rattle.session_core.specs.declared.glance.Glance.{Glance}
+use Rattle.session_core.specs.declared.glance.Marks.{Marks}
+use Rattle.session_core.specs.declared.touched.Touched.{Touched}
+use Rattle.session_core.specs.declared.touched.Touched.TheVariants as touched
+use Rattle.session_core.proofs.Touching.{touched_alike}
 
--- no row
-abbrev no_row : ℕ → Bool
-no_row row = false
+-- whether a room is READY, or a line is typed there
+abbrev IsPlain : Room → Type 0
+IsPlain r = is_some (plain_mode r) ≡ true
 
--- a sheet whose pointer moved is alike
-moved_alike : (s t : Sheet) → IsMoved s t → AreAlike no_row s t
-moved_alike s t (p, is) = record {
-  cells = λ c apart. ap (λ (u : Sheet). get u.grid.cells c) is;
-  widths = ap (λ (u : Sheet). u.grid.widths) is;
-  hidden = ap (λ (u : Sheet). u.grid.hidden) is;
-  width = ap (λ (u : Sheet). u.settings.width) is;
-  format = ap (λ (u : Sheet). u.settings.format) is;
-  names = ap (λ (u : Sheet). u.names) is;
-}
+no_room : {P : Type 0} → false ≡ true → P
+no_room h = absurd (false≢true h)
 
--- a line that isn't the panel's
-beside_panel : (n : ℕ) → slice_get panel_lines n ≡ Some false → (3 ≤ n) × (n < 24)
-beside_panel zero h = let no : Some true ≡ Some false = h in absurd cc
-beside_panel (suc zero) h = let no : Some true ≡ Some false = h in absurd cc
-beside_panel (suc (suc zero)) h = let no : Some true ≡ Some false = h in absurd cc
-beside_panel (suc (suc (suc k))) h = elim (cases_lt (suc (suc (suc k))) 24) [
-  | inl below ↦ (omega arith, below)
-  | inr past ↦ elim (cases_eq (suc (suc (suc k))) 24) [
-    | inl last ↦ (let no : Some true ≡ Some false = subst (λ (n : ℕ). slice_get panel_lines n ≡ Some false) last h in absurd cc)
-    | inr behind ↦ absurd (omega (arith, slice_get_within panel_lines (suc (suc (suc k))) false h))
-  ]
-]
+-- the mode of a room, where it is told
+abbrev told_in : Option Mode → List ℕ
+told_in None = []
+told_in (Some m) = mode_name m
+
+mode_told : (r : Room) → IsPlain r → mode_text (room_panel r).indicate (room_panel r).mode ≡ told_in (plain_mode r)
+mode_told room.Ready plain = refl
+mode_told (room.Typing r) plain = refl
+mode_told (room.Pointing r) plain = no_room plain
+mode_told (room.Menu r) plain = no_room plain
+mode_told (room.Asking r) plain = no_room plain
+mode_told (room.Failed message) plain = no_room plain
+
+-- the pointer's line, by the sheet and the mode
+abbrev pointer_by : Sheet → Option Mode → List ℕ
+pointer_by s m = filled 73 (take 72 (pointer_text s)) ++ told_in m
+
+pointer_is : (s : State) → IsPlain s.room → pointer_line (sheet_of s) (panel_of s) ≡ pointer_by (sheet_of s) (plain_mode s.room)
+pointer_is s plain = ap (λ (told : List ℕ). filled 73 (take 72 (pointer_text (sheet_of s))) ++ told) (mode_told s.room plain)
+
+typed_ready : (m : TypingMode) → Some (told_mode m) ≡ Some mode.Ready → ⊥
+typed_ready Label h = let no : mode.Label ≡ mode.Ready = cc in absurd cc
+typed_ready Value h = let no : mode.Value ≡ mode.Ready = cc in absurd cc
+typed_ready Edit h = let no : mode.Edit ≡ mode.Ready = cc in absurd cc
+
+-- in READY no line is typed
+typed_none : (r : Room) (end running : Bool) → plain_mode r ≡ Some mode.Ready → entry_line (record (room_panel r) { end = end; running = running }) ≡ []
+typed_none room.Ready end running ready = refl
+typed_none (room.Typing r) end running ready = absurd (typed_ready r.mode ready)
+typed_none (room.Pointing r) end running ready = absurd (let no : None ≡ Some mode.Ready = ready in cc)
+typed_none (room.Menu r) end running ready = absurd (let no : None ≡ Some mode.Ready = ready in cc)
+typed_none (room.Asking r) end running ready = absurd (let no : None ≡ Some mode.Ready = ready in cc)
+typed_none (room.Failed message) end running ready = absurd (let no : None ≡ Some mode.Ready = ready in cc)
+
+below_typed : (m : TypingMode) (p : Panel) → below_line (record p { mode = told_mode m }) ≡ []
+below_typed Label p = refl
+below_typed Value p = refl
+below_typed Edit p = refl
+
+-- no menu stands there
+below_none : (r : Room) (end running : Bool) → IsPlain r → below_line (record (room_panel r) { end = end; running = running }) ≡ []
+below_none room.Ready end running plain = refl
+below_none (room.Typing r) end running plain = below_typed r.mode (record (room_panel (room.Typing r)) { end = end; running = running })
+below_none (room.Pointing r) end running plain = no_room plain
+below_none (room.Menu r) end running plain = no_room plain
+below_none (room.Asking r) end running plain = no_room plain
+below_none (room.Failed message) end running plain = no_room plain
+
+first_typed : (m : TypingMode) (message : List ℕ) (day : Option ℕ) (second : ℕ) → first_part (told_mode m) message day second ≡ moment_text day second
+first_typed Label message day second = refl
+first_typed Value message day second = refl
+first_typed Edit message day second = refl
+
+-- no message is told
+first_moment : (r : Room) (day : Option ℕ) (second : ℕ) → IsPlain r → first_part (room_panel r).mode (room_panel r).message day second ≡ moment_text day second
+first_moment room.Ready day second plain = refl
+first_moment (room.Typing r) day second plain = first_typed r.mode [] day second
+first_moment (room.Pointing r) day second plain = no_room plain
+first_moment (room.Menu r) day second plain = no_room plain
+first_moment (room.Asking r) day second plain = no_room plain
+first_moment (room.Failed message) day second plain = no_room plain
+
+-- the moment hangs on the day, the hour and the minute
+moment_same : (day : Option ℕ) (x y : ℕ) → x / 3600 ≡ y / 3600 → x / 60 % 60 ≡ y / 60 % 60 → moment_text day x ≡ moment_text day y
+moment_same None x y hours minutes = refl
+moment_same (Some day) x y hours minutes = rw (hours, minutes) refl
+
+-- the last line by what it marks and its beginning
+abbrev foot_by : Marks → List ℕ → List ℕ
+foot_by k first = marked k.running 67 (codes "CMD") (marked k.end 62 (codes "END") (marked k.circ 56 (codes "CIRC") (marked k.calc 50 (codes "CALC") (take 50 first))))
+
+foot_is : (s : State) → IsPlain s.room → foot_line (sheet_of s) (panel_of s) s.day s.second ≡ foot_by (marks_of s) (moment_text s.day s.second)
+foot_is s plain = ap (foot_by (marks_of s)) (first_moment s.room s.day s.second plain)
 
 -- a line of the screen
 abbrev line_of : State → ℕ → List ℕ
@@ -53,21 +123,72 @@ line_in s n inside =
     slice_get-get_or (screen s) n [] (omega (arith, (shaped (sheet_of s) (panel_of s) s.corner s.day s.second).lines, inside))
     ∙ ap Some (line_at (sheet_of s) (panel_of s) s.corner s.day s.second n inside)
 
--- the lines that are kept
-line_kept : (s t : State) → IsMoved (sheet_of s) (sheet_of t) → t.corner ≡ s.corner → (n : ℕ) → 3 ≤ n → n < 24 → line_of s n ≡ line_of t n
-line_kept s t moved stays n least most =
-    let alike : AreAlike no_row (sheet_of s) (sheet_of t) = moved_alike (sheet_of s) (sheet_of t) moved in
-    elim (cases_eq n 3) [
-      | inl letters ↦ rw letters (letters_same no_row (sheet_of s) (sheet_of t) alike (panel_of s) (panel_of t) s.corner t.corner s.day t.day s.second t.second
-          (ap (λ (c : Place). c.col) (sym stays)))
-      | inr row ↦ ap (λ (c : Place). screen_line (sheet_of s) (panel_of s) c s.day s.second n) (sym stays)
-          ∙ row_same no_row (sheet_of s) (sheet_of t) alike (panel_of s) (panel_of t) t.corner s.day t.day s.second t.second n (omega arith) most refl
-    ]
+sure_of : (x : Touched) (row : ℕ) → touches_row x row ≡ false → x ≡ touched.Anything → ⊥
+sure_of x row apart is = true≢false (sym (ap (λ (y : Touched). touches_row y row) is) ∙ apart)
 
-pub lines_kept : (s t : State) (kept : Bool) → (kept ≡ true → IsMoved (sheet_of s) (sheet_of t) × (t.corner ≡ s.corner)) →
-    Unchanged (changed_lines kept) (screen s) (screen t)
-lines_kept s t false h = all_may_differ (screen s) (screen t)
-lines_kept s t true h = λ n out.
-    let among : (3 ≤ n) × (n < 24) = beside_panel n out in
-    let k : IsMoved (sheet_of s) (sheet_of t) × (t.corner ≡ s.corner) = h refl in
-    line_in s n (omega (arith, among.1)) ∙ ap Some (line_kept s t k.0 k.1 n among.0 among.1) ∙ sym (line_in t n (omega (arith, among.1)))
+module _ (s t : State) (x : Touched) (touch : Touches x (sheet_of s) (sheet_of t)) where
+  pointer_kept : IsKept x (glance_of s) (glance_of t) 0 → line_of s 0 ≡ line_of t 0
+  pointer_kept kept =
+      let is = kept.pointer refl in
+      let sheets : sheet_of t ≡ sheet_of s = subst (λ (y : Touched). Touches y (sheet_of s) (sheet_of t)) is.0 touch in
+      let plain : IsPlain t.room = ap (λ (m : Option Mode). is_some m) is.1.1 ∙ is.1.0 in
+      ap shown_line (pointer_is s is.1.0 ∙ ap (λ (u : Sheet). pointer_by u (plain_mode s.room)) (sym sheets)
+      ∙ ap (pointer_by (sheet_of t)) (sym is.1.1) ∙ sym (pointer_is t plain))
+
+  typed_kept : IsKept x (glance_of s) (glance_of t) 1 → line_of s 1 ≡ line_of t 1
+  typed_kept kept =
+      let is = kept.typed refl in
+      ap shown_line (typed_none s.room (panel_of s).end (panel_of s).running is.0 ∙ sym (typed_none t.room (panel_of t).end (panel_of t).running is.1))
+
+  below_kept : IsKept x (glance_of s) (glance_of t) 2 → line_of s 2 ≡ line_of t 2
+  below_kept kept =
+      let is = kept.below refl in
+      ap shown_line (below_none s.room (panel_of s).end (panel_of s).running is.0 ∙ sym (below_none t.room (panel_of t).end (panel_of t).running is.1))
+
+  letters_kept : IsKept x (glance_of s) (glance_of t) 3 → line_of s 3 ≡ line_of t 3
+  letters_kept kept =
+      let is = kept.letters refl in
+      letters_same (touches_row x) (sheet_of s) (sheet_of t) (touched_alike x (sheet_of s) (sheet_of t) is.0 touch) (panel_of s) (panel_of t) s.corner t.corner s.day t.day s.second t.second
+      (sym is.1)
+
+  row_kept : (n : ℕ) → 4 ≤ n → n < 24 → IsKept x (glance_of s) (glance_of t) n → line_of s n ≡ line_of t n
+  row_kept n least most kept =
+      let is = kept.rows least most in
+      let alike : AreAlike (touches_row x) (sheet_of s) (sheet_of t) = touched_alike x (sheet_of s) (sheet_of t) (sure_of x (s.corner.row + (n - 4)) is.0) touch in
+      row_same (touches_row x) (sheet_of s) (sheet_of t) alike (panel_of s) (panel_of t) s.corner s.day t.day s.second t.second n least most is.0
+      ∙ ap (λ (c : Place). screen_line (sheet_of t) (panel_of t) c t.day t.second n) (sym is.1)
+
+  foot_kept : IsKept x (glance_of s) (glance_of t) 24 → line_of s 24 ≡ line_of t 24
+  foot_kept kept =
+      let is = kept.foot refl in
+      ap shown_line (foot_is s is.0 ∙ ap (λ (k : Marks). foot_by k (moment_text s.day s.second)) (ap (λ (f : Foot). f.marks) (sym is.1.1))
+      ∙ ap (foot_by (marks_of t)) (ap (λ (day : Option ℕ). moment_text day s.second) (ap (λ (f : Foot). f.minute.day) (sym is.1.1))
+      ∙ moment_same t.day s.second t.second (ap (λ (f : Foot). f.minute.hour) (sym is.1.1)) (ap (λ (f : Foot). f.minute.minute) (sym is.1.1)))
+      ∙ sym (foot_is t is.1.0))
+
+  line_kept : (n : ℕ) → n < 25 → IsKept x (glance_of s) (glance_of t) n → line_of s n ≡ line_of t n
+  line_kept zero inside kept = pointer_kept kept
+  line_kept (suc zero) inside kept = typed_kept kept
+  line_kept (suc (suc zero)) inside kept = below_kept kept
+  line_kept (suc (suc (suc zero))) inside kept = letters_kept kept
+  line_kept (suc (suc (suc (suc k)))) inside kept = elim (cases_lt (suc (suc (suc (suc k)))) 24) [
+    | inl below ↦ row_kept (suc (suc (suc (suc k)))) (omega arith) below kept
+    | inr past ↦
+        let last : suc (suc (suc (suc k))) ≡ 24 = omega (arith, past, inside) in
+        subst (λ (n : ℕ). line_of s n ≡ line_of t n) (sym last) (foot_kept (subst (λ (n : ℕ). IsKept x (glance_of s) (glance_of t) n) last kept))
+  ]
+
+  -- the lines that aren't told are the same
+  pub lines_kept : (lines : List Bool) → ((n : ℕ) → slice_get lines n ≡ Some false → IsKept x (glance_of s) (glance_of t) n) → Unchanged lines (screen s) (screen t)
+  lines_kept lines told n out = elim (cases_lt n 25) [
+    | inl inside ↦ line_in s n inside ∙ ap Some (line_kept n inside (told n out)) ∙ sym (line_in t n inside)
+    | inr past ↦ slice_get_past (screen s) n (omega (arith, (shaped (sheet_of s) (panel_of s) s.corner s.day s.second).lines, past))
+        ∙ sym (slice_get_past (screen t) n (omega (arith, (shaped (sheet_of t) (panel_of t) t.corner t.day t.second).lines, past)))
+  ]
+
+-- the same, by what a step touched before the screen followed it
+pub lines_told : (s mid t : State) (x : Touched) (a b : Glance) (lines : List Bool) → Touches x (sheet_of s) (sheet_of mid) → sheet_of t ≡ sheet_of mid → a ≡ glance_of s → b ≡ glance_of t →
+    ((n : ℕ) → slice_get lines n ≡ Some false → IsKept x a b n) → Unchanged lines (screen s) (screen t)
+lines_told s mid t x a b lines touch followed before after told =
+    lines_kept s t x (subst (λ (u : Sheet). Touches x (sheet_of s) u) (sym followed) touch) lines
+    (λ n out. subst (λ (g : Glance). IsKept x (glance_of s) g n) after (subst (λ (g : Glance). IsKept x g b n) before (told n out)))

@@ -6,4 +6,6 @@ pub mod Few
 pub mod Kept
 pub mod Looking
 pub mod Prefixed
+pub mod Settled
 pub mod Stepping
+pub mod Touching

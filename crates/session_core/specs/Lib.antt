@@ -1,8 +1,10 @@
 pub mod Carrying
 pub mod Entering
 pub mod Faults
+pub mod Glances
 pub mod Machine
 pub mod Moving
 pub mod Pressing
 pub mod Screen
 pub mod Step
+pub mod Touches

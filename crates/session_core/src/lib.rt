@@ -4,9 +4,11 @@
 mod entering;
 mod event;
 mod faults;
+mod glance;
 mod machine;
 mod pressing;
 mod session;
+mod touched;
 
 pub use event::{Event, Stepped};
 pub use key_words::Key;

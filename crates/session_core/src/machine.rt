@@ -11,14 +11,18 @@ ghost use Rattle.session_core.specs.Machine.{begun_with, in_room, pointer_of, po
 ghost use Rattle.session_core.specs.Machine.{Leads, LeadsBy, LeadsOver};
 ghost use Rattle.session_core.specs.Moving.{IsMoved, OnlyMoves, OnlyMovesBy, OnlyMovesByKey};
 ghost use Rattle.session_core.specs.Pressing.{room_panel};
+ghost use Rattle.session_core.specs.Glances.{glance_of, marks_of, minute_of};
 ghost use Rattle.session_core.specs.Screen.{screen};
 ghost use Rattle.session_core.specs.Step.{come_to, event_taken, framed, is_key, loaded, taken, timed};
+ghost use Rattle.session_core.specs.Touches.{IsSettled, Touches};
 ghost use Rattle.work_sheet.specs.Did.{work_of};
 
 use crate::entering::{Meant, meaning_of};
 use crate::event::Event;
 use crate::faults::fault_message;
-use crate::pressing::{plain_view, room_panel, turn_of};
+use crate::glance::{Foot, Glance, Marks, Minute};
+use crate::pressing::{plain_mode, plain_view, room_panel, turn_of};
+use crate::touched::{Taken, Touched};
 use cell_pointer::{Way, moved};
 use command_desk::settle;
 use desk_errors::CommandError;
@@ -32,9 +36,10 @@ use macro_engine::{Engine, StepEnd, macro_named};
 use macro_text::MacroFault;
 use menu_room::menu_or_ready;
 use menu_tree::{Action, back};
+use natural_recalc::pass_is_cut;
 use outside_world::Shelf;
 use prompt_room::{WhatFollows, opening};
-use screen_layout::{PanelView, columns_shown, corner_for, paint_lines};
+use screen_layout::{PanelView, columns_shown, corner_for, paint_lines, wants_recalculation};
 use screen_show::{LineSet, Screen};
 use serial_date::Moment;
 use session_rooms::{AnsweredCommand, Answering, PromptRoom, Room, Turn, TypingMode, TypingRoom};
@@ -80,37 +85,23 @@ impl Model for Machine {
     } };
 }
 
-/// What a key may have changed of the sheet.
-#[derive(Clone, Copy, Debug, PartialEq, Eq)]
-pub enum Touched {
-    Pointer,
-    Anything,
-}
+// Nothing of the sheet was touched.
+const UNTOUCHED: Taken = Taken {
+    touched: Touched::Nothing,
+    ends: false,
+};
 
-/// What an event came to: what it may have changed of the sheet, and whether the run ends.
-#[derive(Clone, Copy, Debug, PartialEq, Eq)]
-pub struct Taken {
-    pub touched: Touched,
-    pub ends: bool,
-}
+// The pointer moved.
+const MOVED: Taken = Taken {
+    touched: Touched::Pointer,
+    ends: false,
+};
 
-// A macro's word was carried out.
+// Anything of the sheet may have been touched.
 const WORKED: Taken = Taken {
     touched: Touched::Anything,
     ends: false,
 };
-
-// What a turn may change of the sheet, where a macro runs or doesn't.
-fn touched_by(turn: &Turn, engine: &Engine) -> Touched
-    ensures { result ≡ Touched.Pointer → OnlyMoves turn.now engine.now }
-{
-    match turn {
-        Turn::Become(_) | Turn::Move(_) | Turn::Mark => Touched::Pointer,
-        Turn::Fail(_) if !engine.is_running() => Touched::Pointer,
-        Turn::Fail(_) | Turn::Finish(_, _) | Turn::Ask(_) | Turn::Act(_) => Touched::Anything,
-        Turn::Recalculate | Turn::Start(_) | Turn::Undo => Touched::Anything,
-    }
-}
 
 impl Machine {
     /// The machine of a session that begins with a desk.
@@ -213,17 +204,18 @@ impl Machine {
         self.enter_room(Room::Failed(message));
     }
 
-    // A macro that runs goes on at its place for errors; without one it stops, and the error is told. It takes memory
-    // in a macro alone.
+    // A macro that runs goes on at its place for errors; without one it stops, and the error is told, which touches
+    // nothing of the sheet. It takes memory in a macro alone.
     #[tactic(auto, unfolding(crate::specs::Carrying::failed), using(crate::proofs::Failing::failed_untold))]
-    fn fail(&mut self, error: CommandError, scene: &Scene) -> Result<(), Memory>
+    fn fail(&mut self, error: CommandError, scene: &Scene) -> Result<Touched, Memory>
         ensures failed { OnOk result (Leads (failed error scene.entry.now self.old.state) false self.old self.new) }
-        ensures sure { self.old.state.running ≡ None → result ≡ Ok tt }
+        ensures sure { self.old.state.running ≡ None → IsOk result }
         ensures sheet { self.old.state.running ≡ None → IsMoved (sheet_of self.old.state) (sheet_of self.new.state) }
+        ensures touched { IfOk result (λ t. Touches t (sheet_of self.old.state) (sheet_of self.new.state)) }
     {
         if !self.engine.handles_errors() {
             self.tell(error.message());
-            return Ok(());
+            return Ok(Touched::Nothing);
         }
         self.enter_room(Room::Ready);
         let message = error.message();
@@ -232,7 +224,8 @@ impl Machine {
             &mut self.desk.sheet,
             scene,
             &mut self.tally,
-        )
+        )?;
+        Ok(Touched::Anything)
     }
 
     // A command goes back to its menu or to READY, ends the run, or fails; whether the run ends.
@@ -347,6 +340,17 @@ impl Machine {
         Ok(())
     }
 
+    // Whether a recalculation follows an edit by itself, and leaves all values as they are, since no formula is dirty.
+    fn is_settled(&self) -> bool
+        ensures { result ≡ true → IsSettled (sheet_of self.now.state) }
+    {
+        let sheet = &self.desk.sheet;
+        // Both are called for their clauses.
+        sheet.is_kept();
+        pass_is_cut::<Tally>();
+        sheet.settings().automatic && sheet.dirty_count() == 0
+    }
+
     // In Automatic mode all is recalculated.
     fn settle(&mut self, now: &Moment) -> Result<(), Memory>
         ensures { OnOk result (LeadsBy settling now.now false self.old self.new) }
@@ -382,28 +386,32 @@ impl Machine {
     }
 
     // Enters a content into the pointer's cell, and then the pointer moves.
-    fn enter(&mut self, content: Content, way: Way, now: &Moment) -> Result<(), Memory>
-        ensures { OnOk result (LeadsBy (entered content way) now.now false self.old self.new) }
+    fn enter(&mut self, content: Content, way: Way, now: &Moment) -> Result<Touched, Memory>
+        ensures entered { OnOk result (LeadsBy (entered content way) now.now false self.old self.new) }
+        ensures touched { IfOk result (λ t. Touches t (sheet_of self.old.state) (sheet_of self.new.state)) }
     {
         if self.is_protected() {
             let scene = self.scene(now);
             return self.fail(CommandError::Protected(scene.cursor), &scene);
         }
+        let row = self.pointer().row;
         self.write(content, now)?;
+        let settled = self.is_settled();
         self.settle(now)?;
         self.go(way);
-        Ok(())
+        Ok(Touched::Row(row).if_sure(settled))
     }
 
     // Enters what a line means into the pointer's cell; a fault goes to EDIT.
-    fn finish(&mut self, way: Way, line: EntryLine, now: &Moment) -> Result<(), Memory>
-        ensures { OnOk result (LeadsBy (finished way line) now.now false self.old self.new) }
+    fn finish(&mut self, way: Way, line: EntryLine, now: &Moment) -> Result<Touched, Memory>
+        ensures finished { OnOk result (LeadsBy (finished way line) now.now false self.old self.new) }
+        ensures touched { IfOk result (λ t. Touches t (sheet_of self.old.state) (sheet_of self.new.state)) }
     {
         match meaning_of(line.text(), &self.desk.sheet, self.pointer())? {
             Meant::Means(content) => self.enter(content, way, now),
             Meant::Faulty(at) => {
                 self.edit_at(at, line);
-                Ok(())
+                Ok(Touched::Nothing)
             }
         }
     }
@@ -422,34 +430,60 @@ impl Machine {
         }
     }
 
-    // What a key came to is carried out; whether the run ends.
-    fn carry<S: Shelf>(&mut self, turn: Turn, now: &Moment, shelf: &mut S) -> Result<bool, Memory>
-        ensures ok { IfOk result (λ ends. LeadsOver (carried turn) now.now ends self.old self.new
+    // What a key came to is carried out.
+    fn carry<S: Shelf>(&mut self, turn: Turn, now: &Moment, shelf: &mut S) -> Result<Taken, Memory>
+        ensures ok { IfOk result (λ t. LeadsOver (carried turn) now.now t.ends self.old self.new
             (shelf_view (S.holds shelf.old) (S.faults shelf.old))
             (shelf_view (S.holds shelf.new) (S.faults shelf.new))) }
         ensures memory { OnErr result (HasBrokenOff
             (shelf_view (S.holds shelf.old) (S.faults shelf.old))
             (shelf_view (S.holds shelf.new) (S.faults shelf.new))) }
-        ensures moves { OnlyMoves turn self.old.state.running → result ≡ Ok false }
+        ensures moves { OnlyMoves turn self.old.state.running → IsOk result }
+        ensures stays { OnlyMoves turn self.old.state.running → IfOk result (λ t. t.ends ≡ false) }
         ensures sheet { OnlyMoves turn self.old.state.running →
             IsMoved (sheet_of self.old.state) (sheet_of self.new.state) }
+        ensures touched { IfOk result (λ t. Touches t.touched (sheet_of self.old.state) (sheet_of self.new.state)) }
     {
         match turn {
-            Turn::Become(room) => self.enter_room(room),
-            Turn::Move(way) => self.go(way),
-            Turn::Mark => self.mark(),
-            Turn::Finish(way, line) => self.finish(way, line, now)?,
-            Turn::Ask(command) => return self.ask(command, now, shelf),
-            Turn::Act(command) => return self.act(command, now, shelf),
-            Turn::Recalculate => self.calculate(now)?,
-            Turn::Start(letter) => self.start(letter),
-            Turn::Undo => {}
+            Turn::Become(room) => {
+                self.enter_room(room);
+                Ok(UNTOUCHED)
+            }
+            Turn::Move(way) => {
+                self.go(way);
+                Ok(MOVED)
+            }
+            Turn::Mark => {
+                self.mark();
+                Ok(UNTOUCHED)
+            }
+            Turn::Finish(way, line) => {
+                let touched = self.finish(way, line, now)?;
+                Ok(Taken { touched, ..WORKED })
+            }
+            Turn::Ask(command) => {
+                let ends = self.ask(command, now, shelf)?;
+                Ok(Taken { ends, ..WORKED })
+            }
+            Turn::Act(command) => {
+                let ends = self.act(command, now, shelf)?;
+                Ok(Taken { ends, ..WORKED })
+            }
+            Turn::Recalculate => {
+                self.calculate(now)?;
+                Ok(WORKED)
+            }
+            Turn::Start(letter) => {
+                self.start(letter);
+                Ok(WORKED)
+            }
+            Turn::Undo => Ok(UNTOUCHED),
             Turn::Fail(error) => {
                 let scene = self.scene(now);
-                self.fail(error, &scene)?;
+                let touched = self.fail(error, &scene)?;
+                Ok(Taken { touched, ..WORKED })
             }
         }
-        Ok(false)
     }
 
     /// Takes a key, pressed or typed by a macro, before the screen follows it. A key that only moves the pointer, types
@@ -465,16 +499,13 @@ impl Machine {
         ensures stays { OnlyMovesByKey key self.old.state → IfOk result (λ t. t.ends ≡ false) }
         ensures sheet { OnlyMovesByKey key self.old.state →
             IsMoved (sheet_of self.old.state) (sheet_of self.new.state) }
-        ensures touched { IfOk result
-            (λ t. t.touched ≡ Touched.Pointer → IsMoved (sheet_of self.old.state) (sheet_of self.new.state)) }
+        ensures touched { IfOk result (λ t. Touches t.touched (sheet_of self.old.state) (sheet_of self.new.state)) }
     {
         let end = self.end;
         let room = mem::replace(&mut self.room, Room::Ready);
         self.end = false;
         let turn = turn_of(key, room, end, &self.desk)?;
-        let touched = touched_by(&turn, &self.engine);
-        let ends = self.carry(turn, now, shelf)?;
-        Ok(Taken { touched, ends })
+        self.carry(turn, now, shelf)
     }
 
     // What follows behind a macro's step, by what it came to: a key that the macro types is taken, a fault stops the
@@ -491,7 +522,7 @@ impl Machine {
         ensures memory { OnErr result (HasBrokenOff
             (shelf_view (S.holds shelf.old) (S.faults shelf.old))
             (shelf_view (S.holds shelf.new) (S.faults shelf.new))) }
-        ensures touched { IfOk result (λ t. t.touched ≡ Touched.Pointer → ⊥) }
+        ensures touched { IfOk result (λ t. t.touched ≡ Touched.Anything) }
     {
         match end {
             StepEnd::Types(key) => {
@@ -522,7 +553,7 @@ impl Machine {
         ensures memory { OnErr result (HasBrokenOff
             (shelf_view (S.holds shelf.old) (S.faults shelf.old))
             (shelf_view (S.holds shelf.new) (S.faults shelf.new))) }
-        ensures touched { IfOk result (λ t. t.touched ≡ Touched.Pointer → ⊥) }
+        ensures touched { IfOk result (λ t. Touches t.touched (sheet_of self.old.state) (sheet_of self.new.state)) }
     {
         let scene = self.scene(now);
         let end = self
@@ -549,8 +580,7 @@ impl Machine {
         ensures stays { OnlyMovesBy event self.old.state → IfOk result (λ t. t.ends ≡ false) }
         ensures sheet { OnlyMovesBy event self.old.state →
             IsMoved (sheet_of self.old.state) (sheet_of self.new.state) }
-        ensures touched { IfOk result
-            (λ t. t.touched ≡ Touched.Pointer → IsMoved (sheet_of self.old.state) (sheet_of self.new.state)) }
+        ensures touched { IfOk result (λ t. Touches t.touched (sheet_of self.old.state) (sheet_of self.new.state)) }
     {
         match event {
             Event::Key(key) => self.take(key, now, shelf),
@@ -576,11 +606,42 @@ impl Machine {
         self.moment = *now;
     }
 
-    /// The cell at the top left of the screen.
-    pub fn corner(&self) -> Cell
-        ensures { result ≡ self.now.state.corner }
+    // The minute of the last step.
+    fn minute(&self) -> Minute
+        ensures { result ≡ minute_of self.now.state }
     {
-        self.corner
+        let Moment { day, second } = self.moment;
+        Minute {
+            day,
+            hour: second / 3600,
+            minute: second / 60 % 60,
+        }
+    }
+
+    // What the last line marks.
+    fn marks(&self) -> Marks
+        ensures { result ≡ marks_of self.now.state }
+    {
+        Marks {
+            calc: wants_recalculation(&self.desk.sheet),
+            circ: self.desk.sheet.is_circular(),
+            end: self.end,
+            running: self.is_running(),
+        }
+    }
+
+    /// What the lines of the screen hang on beside the cells and the line that is typed.
+    pub fn glance(&self) -> Glance
+        ensures { result ≡ glance_of self.now.state }
+    {
+        Glance {
+            corner: self.corner,
+            mode: plain_mode(&self.room),
+            foot: Foot {
+                minute: self.minute(),
+                marks: self.marks(),
+            },
+        }
     }
 
     // Paints lines of the screen with what is shown of the room.

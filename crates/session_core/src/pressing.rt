@@ -2,16 +2,17 @@
 ghost use Rattle.std.specs.Prelude.{◌≡◌, IfOk, IfSome, IsOk};
 ghost use Rattle.command_desk.specs.Desks.{of_desk};
 ghost use Rattle.screen_layout.specs.Views.{viewed};
+ghost use Rattle.session_core.specs.Glances.{plain_mode};
 ghost use Rattle.session_core.specs.Moving.{KeepsNoAnswer, TakesNoMemory};
 ghost use Rattle.session_core.specs.Pressing.{pressed, room_panel, turn_of};
-ghost use Rattle.typing_room.specs.Room.{told_mode};
 
 use command_desk::Desk;
 use control_panel::{Mode, Panel};
 use key_words::Key;
 use lics_text::Memory;
 use screen_layout::PanelView;
-use session_rooms::{Room, Turn, TypingMode};
+use session_rooms::{Room, Turn};
+use typing_room::told_mode;
 
 // What a key comes to in a room.
 fn pressed(room: Room, key: Key, end: bool, desk: &Desk) -> Result<Turn, Memory>
@@ -56,14 +57,14 @@ pub(crate) fn room_panel(room: &Room) -> Panel
     }
 }
 
-// The mode that is told while a line is typed.
-fn told_mode(mode: TypingMode) -> Mode
-    ensures { result ≡ told_mode mode }
+/// The mode that is told in READY and while a line is typed into a cell; none elsewhere.
+pub(crate) fn plain_mode(room: &Room) -> Option<Mode>
+    ensures { result ≡ plain_mode room.now }
 {
-    match mode {
-        TypingMode::Label => Mode::Label,
-        TypingMode::Value => Mode::Value,
-        TypingMode::Edit => Mode::Edit,
+    match room {
+        Room::Ready => Some(Mode::Ready),
+        Room::Typing(room) => Some(told_mode(room.mode)),
+        Room::Pointing(_) | Room::Menu(_) | Room::Asking(_) | Room::Failed(_) => None,
     }
 }
 

@@ -6,42 +6,18 @@ ghost use Rattle.screen_show.specs.Changes.{Unchanged};
 ghost use Rattle.screen_show.specs.Screen.{IsScreen, IsPrinted};
 ghost use Rattle.session_core.specs.Machine.{begun, sheet_of, wants_key, Follows};
 ghost use Rattle.session_core.specs.Moving.{IsMoved, OnlyMovesBy};
-ghost use Rattle.session_core.specs.Screen.{changed_lines, screen};
+ghost use Rattle.session_core.specs.Screen.{screen};
 ghost use Rattle.session_core.specs.Step.{is_key, loaded, HasTakenStep};
 ghost use Rattle.work_sheet.specs.Did.{work_of};
 
-use crate::machine::{Machine, Touched};
+use crate::glance::changed_lines;
+use crate::machine::Machine;
 use crate::{Event, Stepped};
-use grid_address::Cell;
 use outside_world::{Memory, Shelf};
 use screen_show::{LineSet, Screen};
 use serial_date::Moment;
 use sheet_commands::Desk;
 use std::marker::Model;
-
-// Whether the lines of the columns and the rows are the same as before, by what a step may have touched and the cell at
-// the top left before and after it.
-fn keeps_rows(touched: Touched, before: Cell, after: Cell) -> bool
-    ensures { result ≡ true → (touched ≡ Touched.Pointer) × (after ≡ before) }
-{
-    touched == Touched::Pointer && after == before
-}
-
-// The lines that may be others than before, where the cells and the corner are the same or not: in the first case those
-// of the panel alone.
-fn changed_lines(kept: bool) -> LineSet
-    ensures { result ≡ changed_lines kept }
-{
-    if !kept {
-        return LineSet::all();
-    }
-    let mut lines = LineSet::none();
-    lines.insert(0);
-    lines.insert(1);
-    lines.insert(2);
-    lines.insert(24);
-    lines
-}
 
 /// A session: the worksheet, the pointer, and what is being typed, pointed at or asked for. It keeps its screen, and
 /// paints anew what a step may change.
@@ -149,13 +125,13 @@ impl Session {
         ensures sheet { OnlyMovesBy event self.old.state → IsMoved (sheet_of self.old.state) (sheet_of self.new.state) }
         ensures lines { self.new.spent ≡ false → Unchanged changed.new (screen self.old.state) (screen self.new.state) }
     {
-        let corner = self.machine.corner();
+        let before = self.machine.glance();
         match self.machine.take_event(event, now, shelf) {
             Ok(taken) => {
                 let stepped = Stepped::of(taken.ends);
                 self.machine.follow(now);
-                let kept = keeps_rows(taken.touched, corner, self.machine.corner());
-                *changed = changed_lines(kept);
+                let after = self.machine.glance();
+                *changed = changed_lines(taken.touched, &before, &after);
                 self.machine.paint_lines(changed, &mut self.shown);
                 stepped
             }

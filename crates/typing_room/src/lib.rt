@@ -3,4 +3,4 @@
 
 mod typing;
 
-pub use typing::{panel, press};
+pub use typing::{panel, press, told_mode};

@@ -136,8 +136,8 @@ pub fn press(key: Key, columns: &Store, pointer: Cell, room: TypingRoom) -> Turn
     }
 }
 
-// The mode that is told.
-fn told_mode(mode: TypingMode) -> Mode
+/// The mode that is told while a line is typed (Release 2 manual).
+pub fn told_mode(mode: TypingMode) -> Mode
     ensures { result ≡ told_mode mode }
 {
     match mode {

@@ -6,13 +6,13 @@ use Rattle.session_core.proofs.Failing.{failed_calls}
 use Rattle.session_core.proofs.machine.Machine.carry.Goals as goal
 
 -- no call was made of the shelf
-pub returns-in_err-finish-in-Finish-clause-memory : goal.returns-in_err-finish-in-Finish-clause-memory
-returns-in_err-finish-in-Finish-clause-memory g c = on_err c.from_residual.result (none_broken _ _)
+pub returns-in_err-touched-in-Finish-clause-memory : goal.returns-in_err-touched-in-Finish-clause-memory
+returns-in_err-touched-in-Finish-clause-memory g c = on_err _ (none_broken _ _)
 
 pub returns-in_err-calculate-in-Recalculate-clause-memory :
     goal.returns-in_err-calculate-in-Recalculate-clause-memory
 returns-in_err-calculate-in-Recalculate-clause-memory g c =
-    on_err c.from_residual-in_err-calculate-in-Recalculate.result (none_broken _ _)
+    on_err _ (none_broken _ _)
 
 pub returns-in-Become-clause-ok : goal.returns-in-Become-clause-ok
 returns-in-Become-clause-ok g c = rw c.in-Become.is (alone _ _ _ _ _ _ (search rules) refl)
@@ -23,8 +23,8 @@ returns-in-Move-clause-ok g c = rw c.in-Move.is (alone _ _ _ _ _ _ (search rules
 pub returns-in-Mark-clause-ok : goal.returns-in-Mark-clause-ok
 returns-in-Mark-clause-ok g c = rw c.in-Mark.is (alone _ _ _ _ _ _ (search rules) refl)
 
-pub returns-in_ok-finish-in-Finish-clause-ok : goal.returns-in_ok-finish-in-Finish-clause-ok
-returns-in_ok-finish-in-Finish-clause-ok g c =
+pub returns-in_ok-touched-in-Finish-clause-ok : goal.returns-in_ok-touched-in-Finish-clause-ok
+returns-in_ok-touched-in-Finish-clause-ok g c =
     rw c.in-Finish.is (alone _ _ _ _ _ _ (search rules)
     (finish_calls c.in-Finish.way c.in-Finish.line (scene_at c.args.self.now.state c.args.now.now) c.args.self.now.state))
 
@@ -38,9 +38,9 @@ returns-in-Start-clause-ok g c = rw c.in-Start.is (alone _ _ _ _ _ _ (search rul
 pub returns-in-Undo-clause-ok : goal.returns-in-Undo-clause-ok
 returns-in-Undo-clause-ok g c = rw c.in-Undo.is (alone _ _ _ _ _ _ (search rules) refl)
 
-pub returns-in_ok-fail-in-Fail-clause-ok : goal.returns-in_ok-fail-in-Fail-clause-ok
-returns-in_ok-fail-in-Fail-clause-ok g c =
+pub returns-in_ok-touched-in-Fail-clause-ok : goal.returns-in_ok-touched-in-Fail-clause-ok
+returns-in_ok-touched-in-Fail-clause-ok g c =
     rw c.in-Fail.is (alone _ _ _ _ _ _ (search rules) (failed_calls c.in-Fail.error (scene_at c.args.self.now.state c.args.now.now) c.args.self.now.state))
 
-pub returns-in_err-fail-in-Fail-clause-memory : goal.returns-in_err-fail-in-Fail-clause-memory
-returns-in_err-fail-in-Fail-clause-memory g c = on_err _ (none_broken _ _)
+pub returns-in_err-touched-in-Fail-clause-memory : goal.returns-in_err-touched-in-Fail-clause-memory
+returns-in_err-touched-in-Fail-clause-memory g c = on_err _ (none_broken _ _)

@@ -1,0 +1,56 @@
+-- How the session keeps in mind what the lines of its screen hang on beside the cells: it paints only the lines for
+-- which that is otherwise than before.
+use Rattle.std.specs.Prelude.{◌≡◌, ℕ, ◌+◌, ◌-◌, ◌/◌, ◌%◌, ◌≤◌, ◌<◌, true, false, not, is_some, Option, None, Some}
+use Rattle.control_panel.specs.declared.panel.Mode.{Mode}
+use Rattle.control_panel.specs.declared.panel.Mode.TheVariants.{Ready}
+use Rattle.screen_layout.specs.Foot.{wants_recalculation}
+use Rattle.session_rooms.specs.declared.rooms.Room.{Room}
+use Rattle.session_rooms.specs.declared.rooms.Room.TheVariants as room
+use Rattle.typing_room.specs.Room.{told_mode}
+use Rattle.session_core.specs.Machine.{sheet_of, wants_key, State}
+use Rattle.session_core.specs.Touches.{touches_row}
+use Rattle.session_core.specs.declared.glance.Glance.{Glance}
+use Rattle.session_core.specs.declared.glance.Marks.{Marks}
+use Rattle.session_core.specs.declared.glance.Minute.{Minute}
+use Rattle.session_core.specs.declared.touched.Touched.{Touched}
+use Rattle.session_core.specs.declared.touched.Touched.TheVariants.{Nothing, Anything}
+
+-- the mode that is told in READY and while a line is typed into a cell, where the panel shows nothing else of the room
+-- but that line
+abbrev pub plain_mode : Room → Option Mode
+plain_mode room.Ready = Some Ready
+plain_mode (room.Typing r) = Some (told_mode r.mode)
+plain_mode (room.Pointing r) = None
+plain_mode (room.Menu r) = None
+plain_mode (room.Asking r) = None
+plain_mode (room.Failed message) = None
+
+-- the minute of the last step
+abbrev pub minute_of : State → Minute
+minute_of s = record { day = s.day; hour = s.second / 3600; minute = s.second / 60 % 60 }
+
+-- what the last line marks
+abbrev pub marks_of : State → Marks
+marks_of s = record {
+  calc = wants_recalculation (sheet_of s);
+  circ = (sheet_of s).circular;
+  end = s.end;
+  running = not (wants_key s);
+}
+
+-- what the lines hang on beside the cells and the line that is typed
+abbrev pub glance_of : State → Glance
+glance_of s = record {
+  corner = s.corner;
+  mode = plain_mode s.room;
+  foot = record { minute = minute_of s; marks = marks_of s };
+}
+
+-- what a line of the screen hangs on is before and after a step the same
+pub record IsKept (touched : Touched) (a b : Glance) (n : ℕ) : Type 0 where
+  pub pointer : n ≡ 0 → (touched ≡ Nothing) × ((is_some a.mode ≡ true) × (b.mode ≡ a.mode))
+  pub typed : n ≡ 1 → (a.mode ≡ Some Ready) × (b.mode ≡ Some Ready)
+  pub below : n ≡ 2 → (is_some a.mode ≡ true) × (is_some b.mode ≡ true)
+  pub letters : n ≡ 3 → (touched ≡ Anything → ⊥) × (b.corner.col ≡ a.corner.col)
+  pub rows : 4 ≤ n → n < 24 → (touches_row touched (a.corner.row + (n - 4)) ≡ false) × (b.corner ≡ a.corner)
+  pub foot : n ≡ 24 → (is_some a.mode ≡ true) × ((is_some b.mode ≡ true) × (b.foot ≡ a.foot))
