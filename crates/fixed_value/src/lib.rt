@@ -22,10 +22,3 @@ pub use doubles::{DoubleRead, from_double_bits, to_double_bits};
 pub use fixed::{Fixed, MAX_SIZE, rounding_is_nearest};
 pub use front::Digits;
 pub use in_place::put_exact;
-
-#[cfg(test)]
-mod double_rows;
-#[cfg(test)]
-mod rows;
-#[cfg(test)]
-mod tests;

@@ -1,5 +1,5 @@
 // Rows over the whole range, computed by an independent program.
-use crate::Fixed;
+use fixed_value::Fixed;
 use std::process::Abort;
 use std::test::Fail;
 

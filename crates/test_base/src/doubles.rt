@@ -1,5 +1,5 @@
 // Doubles of the host's floating-point unit, as data: its conversion rounds to the nearest double.
-use crate::{DoubleRead, Fixed, from_double_bits, to_double_bits};
+use fixed_value::{DoubleRead, Fixed, from_double_bits, to_double_bits};
 use std::process::Abort;
 use std::test::Fail;
 

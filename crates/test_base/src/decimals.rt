@@ -1,5 +1,5 @@
 // Worked rows of decimals. Those of arithmetic are lines of check_values.
-use crate::{Decimal, Fixed, read_decimal, write_decimal, write_hundredfold, write_short};
+use fixed_value::{Decimal, Fixed, read_decimal, write_decimal, write_hundredfold, write_short};
 use std::process::Abort;
 use std::test::Fail;
 
