@@ -1,5 +1,5 @@
 // The numbers of places.
-ghost use Rattle.std.specs.Prelude.{◌≡◌, false, ℕ, ◌<◌, ◌≤◌, ◌+◌, ◌*◌, ◌/◌, ◌%◌, cond, length, map, [], ◌∷◌, get_or, OnOk, List};
+ghost use Rattle.std.specs.Prelude.{◌≡◌, false, true, ℕ, ◌<◌, ◌≤◌, ◌+◌, ◌*◌, ◌/◌, ◌%◌, cond, length, map, [], ◌∷◌, get_or, OnOk, List};
 ghost use Rattle.grid_address.specs.Place.{same_place, InSheet, Place};
 ghost use Rattle.cell_numbers.specs.Numbers.{band_of, number_at, page_of, place_of, HasRoom, items_of};
 
@@ -131,8 +131,19 @@ impl PlaceTable {
         col
     }
 
-    /// Makes room for the number of a cell. No number changes.
-    pub fn make_room(&mut self, cell: Cell) -> Result<(), AllocError>
+    // Whether a cell has room for a number.
+    fn has_room(&self, cell: Cell) -> bool
+        ensures { result ≡ true → HasRoom self.now cell }
+    {
+        match self.pages.get(page_of(cell)) {
+            Some(page) => place_of(cell) < page.len(),
+            None => false,
+        }
+    }
+
+    // Adds room for the number of a cell.
+    #[inline(never)]
+    fn add_room(&mut self, cell: Cell) -> Result<(), AllocError>
         ensures same { (d : Place) → number_at self.new d ≡ number_at self.old d }
         ensures room { OnOk result (HasRoom self.new cell) }
     {
@@ -141,6 +152,17 @@ impl PlaceTable {
         add_pages(&mut self.pages, self.alloc, at)?;
         fill_page(&mut self.pages[at])?;
         Ok(())
+    }
+
+    /// Makes room for the number of a cell. No number changes.
+    pub fn make_room(&mut self, cell: Cell) -> Result<(), AllocError>
+        ensures same { (d : Place) → number_at self.new d ≡ number_at self.old d }
+        ensures room { OnOk result (HasRoom self.new cell) }
+    {
+        if self.has_room(cell) {
+            return Ok(());
+        }
+        self.add_room(cell)
     }
 
     /// Sets the number of a cell that has room for it.

@@ -195,7 +195,7 @@ fn recalc_in_order<E: Means>(
     ensures count { OnOk result (E.count tally.new ≡ raised_by (length dirty.old.keys) (E.count tally.old)) }
 {
     pass_over(store, dirty.as_slice(), names, settings, scene, tally)?;
-    *dirty = CellSet::new(store.alloc());
+    dirty.truncate(0);
     Ok(())
 }
 

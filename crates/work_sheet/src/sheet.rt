@@ -191,6 +191,13 @@ impl<E: Means> SheetOf<E> {
         self.dirty.len()
     }
 
+    /// The formulas that are dirty, in no order.
+    pub fn dirty_cells(&self) -> &[Cell]
+        ensures { result.now ≡ self.now.dirty }
+    {
+        self.dirty.as_slice()
+    }
+
     /// Tells what the sheet keeps, and does nothing else: only formulas are dirty; a formula that reads a dirty one is
     /// dirty; a formula that isn't dirty isn't volatile and doesn't reach itself, and its value is its meaning,
     /// whatever the moment, the pointer, the names and the settings are. In another order than the natural one all

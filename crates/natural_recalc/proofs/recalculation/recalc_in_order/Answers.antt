@@ -37,7 +37,7 @@ returns-clause-stays g c =
     let ctx : Context = context_of c.args.names.now c.args.settings.now c.args.scene.now in
     let meaning : IsMeaning mean = record { reads = g.met.E.Means.reads_alone } in
     let is : c.pass_over.new.store ≡ pass mean ctx c.args.dirty.now.keys c.args.store.now = c.in_ok-pass_over.ensures.values ∙ ap (λ (cs : List Place). pass mean ctx cs c.args.store.now) c.as_slice.ensures.keys in
-    subst (λ (ks : List Place). IsWhatStays c.pass_over.new.store (has same_place ks)) (sym c.new.ensures)
+    subst (λ (ks : List Place). IsWhatStays c.pass_over.new.store (has same_place ks)) (sym c.truncate.ensures)
     (subst (λ (h : Grid). IsWhatStays h (has same_place [])) (sym is) (stays_after mean ctx meaning c.args.store.now c.args.dirty.now.keys c.requires.sound c.requires.order))
 
 pub returns-clause-sound : goal.returns-clause-sound
@@ -46,5 +46,5 @@ returns-clause-sound g c =
     let ctx : Context = context_of c.args.names.now c.args.settings.now c.args.scene.now in
     let meaning : IsMeaning mean = record { reads = g.met.E.Means.reads_alone } in
     let is : c.pass_over.new.store ≡ pass mean ctx c.args.dirty.now.keys c.args.store.now = c.in_ok-pass_over.ensures.values ∙ ap (λ (cs : List Place). pass mean ctx cs c.args.store.now) c.as_slice.ensures.keys in
-    subst (λ (ks : List Place). IsSound mean ctx c.pass_over.new.store (has same_place ks)) (sym c.new.ensures)
+    subst (λ (ks : List Place). IsSound mean ctx c.pass_over.new.store (has same_place ks)) (sym c.truncate.ensures)
     (subst (λ (h : Grid). IsSound mean ctx h (has same_place [])) (sym is) (sound_after mean ctx meaning c.args.store.now c.args.dirty.now.keys c.requires.sound c.requires.order))

@@ -2,7 +2,7 @@ use Rattle.std.proofs.Common.{◌≡◌, ◌<◌, ap, sym, ◌∙◌, subst, get
 use Rattle.std.specs.Global.{Vec}
 use Rattle.cell_numbers.specs.Numbers.{page_of, items_of, number_at, HasRoom}
 use Rattle.cell_numbers.proofs.Tables.{place_below, refill, refilled}
-use Rattle.cell_numbers.proofs.table.PlaceTable.make_room.Goals as goal
+use Rattle.cell_numbers.proofs.table.PlaceTable.add_room.Goals as goal
 
 pub returns-clause-same : goal.returns-clause-same
 returns-clause-same c = λ d.
