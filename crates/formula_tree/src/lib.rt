@@ -11,8 +11,6 @@ mod reads;
 mod redirect;
 mod shape;
 mod table;
-#[cfg(test)]
-mod tests;
 mod value;
 mod walk;
 

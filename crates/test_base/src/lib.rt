@@ -1,4 +1,4 @@
-//! Tests by calls of texts, addresses, numbers, names, dates, formats and the functions' codes.
+//! Tests by calls of texts, addresses, numbers, names, dates, formats, formulas' trees and the functions' codes.
 #![tactic(auto)]
 
 #[cfg(test)]
@@ -19,3 +19,5 @@ mod formats;
 mod names;
 #[cfg(test)]
 mod texts;
+#[cfg(test)]
+mod trees;

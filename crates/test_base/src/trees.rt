@@ -1,6 +1,6 @@
 // Worked trees: which ones are formulas, what these read, and copies.
-use crate::{Content, Expr, ExprList, Formula, Function, Op, TreeFault, Value};
 use fixed_value::Fixed;
+use formula_tree::{Content, Expr, ExprList, Formula, Function, Op, TreeFault, Value};
 use grid_address::{Cell, Ref, Span};
 use lics_text::{LabelPrefix, MAX_LEN, Text};
 use std::alloc::Global;
