@@ -1,5 +1,6 @@
 -- What ERROR tells.
 use Rattle.std.specs.Prelude.{ℕ, Bool, nat_le, List, [], ◌++◌, codes}
+use Rattle.ascii_bytes.specs.Ascii as ascii
 use Rattle.grid_address.specs.Address.{decimal}
 use Rattle.desk_errors.specs.declared.error.CommandError.{CommandError}
 use Rattle.desk_errors.specs.declared.error.CommandError.TheVariants as error
@@ -43,4 +44,4 @@ message_of e = words_of e ++ number_of e
 
 -- a byte that a text may hold
 abbrev pub is_printed : ℕ → Bool
-is_printed b = nat_le 32 b
+is_printed b = nat_le ascii.space b

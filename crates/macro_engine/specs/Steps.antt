@@ -1,5 +1,6 @@
 -- One step of a macro: its next unit, carried out over the sheet.
 use Rattle.std.specs.Prelude.{◌≡◌, ℕ, [], ◌∷◌, Option, None, Some, Ok, Err}
+use Rattle.ascii_bytes.specs.Ascii as ascii
 use Rattle.formula_eval.specs.declared.look.Scene.{Scene}
 use Rattle.formula_text.specs.Words.{named_span}
 use Rattle.grid_address.specs.Place.{Extent, Place}
@@ -94,4 +95,4 @@ first_of (Some span) = Some span.first
 
 -- the macro of a letter begins at the first cell of the name that is a backslash and the letter
 abbrev pub macro_named : NameMap → ℕ → Option Place
-macro_named names letter = first_of (named_span names (92 ∷ letter ∷ []))
+macro_named names letter = first_of (named_span names (ascii.backslash ∷ letter ∷ []))

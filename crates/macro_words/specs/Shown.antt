@@ -1,5 +1,6 @@
 -- What a cell shows in a width that is given.
 use Rattle.std.specs.Prelude.{ℕ, ◌-◌, ◌&&◌, nat_le, nat_lt, if◌then◌else◌, List, ◌++◌, length, map, take, Option, Some, None, codes}
+use Rattle.ascii_bytes.specs.Ascii as ascii
 use Rattle.cell_format.specs.Labels.{shown_label}
 use Rattle.cell_format.specs.Numbers.{placed, shown_number, spaces}
 use Rattle.formula_eval.specs.World.{Sight}
@@ -49,7 +50,7 @@ visible_content names c x v format width =
 
 -- bytes other than 32 to 126 are shown as a question mark
 abbrev pub visible : ℕ → ℕ
-visible b = if nat_le 32 b && nat_lt b 127 then b else 63
+visible b = if nat_le ascii.space b && nat_lt b ascii.delete then b else ascii.question_mark
 
 -- what a cell shows in a width and by a format byte
 abbrev pub shown_cell : Sight → ℕ → Place → ℕ → ℕ → List ℕ

@@ -1,5 +1,6 @@
 // What a cell shows in a width that is given.
 ghost use Rattle.std.specs.Prelude.{◌≡◌, ◌≤◌, ◌++◌, ◌+◌, [], length, map, replicate, Some, IfOk};
+ghost use Rattle.ascii_bytes.specs.Ascii as ascii;
 ghost use Rattle.cell_format.specs.Numbers.{placed};
 ghost use Rattle.formula_text.specs.Printed.{printed};
 ghost use Rattle.macro_words.specs.Shown as spec;
@@ -23,7 +24,7 @@ static STARS: [u8; MAX_LEN] = [b'*'; MAX_LEN];
 #[tactic(auto, using(crate::proofs::Showing::blanks_front))]
 fn put_blanks(count: usize, into: &mut Line)
     requires { length into.old + count ≤ MAX_LEN }
-    ensures { into.new ≡ into.old ++ replicate count 32 }
+    ensures { into.new ≡ into.old ++ replicate count ascii.space }
 {
     into.put_all(&BLANKS[..count]);
 }
@@ -32,7 +33,7 @@ fn put_blanks(count: usize, into: &mut Line)
 #[tactic(auto, using(crate::proofs::Showing::stars_front))]
 fn put_stars(count: usize, into: &mut Line)
     requires { length into.old + count ≤ MAX_LEN }
-    ensures { into.new ≡ into.old ++ replicate count 42 }
+    ensures { into.new ≡ into.old ++ replicate count ascii.star }
 {
     into.put_all(&STARS[..count]);
 }
@@ -145,7 +146,11 @@ fn format_in(global: Format, own: Format) -> Format
 fn visible(byte: u8) -> u8
     ensures { result ≡ spec.visible byte }
 {
-    if 32 <= byte && byte < 127 { byte } else { b'?' }
+    if b' ' <= byte && byte <= b'~' {
+        byte
+    } else {
+        b'?'
+    }
 }
 
 // The text of bytes as they are shown.

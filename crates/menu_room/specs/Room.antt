@@ -5,6 +5,7 @@ use Rattle.control_panel.specs.declared.panel.Mode.TheVariants as mode
 use Rattle.control_panel.specs.declared.panel.Panel.{Panel}
 use Rattle.key_words.specs.declared.key.Key.{Key}
 use Rattle.key_words.specs.declared.key.Key.TheVariants as key
+use Rattle.lics_text.specs.declared.TheConstants.{MAX_LEN}
 use Rattle.menu_tree.specs.Levels.{parent}
 use Rattle.menu_tree.specs.Shown.{shown}
 use Rattle.menu_tree.specs.Tree.{chosen, item_name}
@@ -12,7 +13,6 @@ use Rattle.menu_tree.specs.declared.menu.Item.{Item}
 use Rattle.menu_tree.specs.declared.menu.Item.TheVariants as item
 use Rattle.menu_tree.specs.declared.menu.Menu.{Menu}
 use Rattle.menu_room.specs.Ring.{highlighted, items_line, listed}
-use Rattle.session_rooms.specs.Bytes.{max_line}
 use Rattle.session_rooms.specs.declared.rooms.MenuRoom.{MenuRoom}
 use Rattle.session_rooms.specs.declared.rooms.Room.{Room}
 use Rattle.session_rooms.specs.declared.rooms.Room.TheVariants as room
@@ -63,6 +63,6 @@ names_below (Some (item.Menu m)) = names_of m
 -- the items, of which the highlighted one is marked, and below them what it leads to
 abbrev pub panel : MenuRoom → Panel
 panel r = record (plain_panel mode.Menu) {
-  menu = take max_line (items_line r.highlight (names_of r.menu));
-  below = take max_line (listed (names_below (slice_get (shown r.menu) r.highlight)));
+  menu = take MAX_LEN (items_line r.highlight (names_of r.menu));
+  below = take MAX_LEN (listed (names_below (slice_get (shown r.menu) r.highlight)));
 }

@@ -2,14 +2,13 @@
 ghost use Rattle.std.specs.Prelude.{◌≡◌, ◌++◌, codes, map, nat_eq, take};
 ghost use Rattle.menu_room.specs.Ring.{items_line, listed, marked, set_off};
 ghost use Rattle.menu_tree.specs.Tree.{item_name};
-ghost use Rattle.session_rooms.specs.Bytes.{max_line};
 
 use lics_text::{Line, MAX_LEN};
 use menu_tree::Item;
 
 // Adds as many bytes as there is room for.
 fn put_cut(line: &mut Line, bytes: &[u8])
-    ensures { line.new ≡ take max_line (line.old ++ bytes.now) }
+    ensures { line.new ≡ take MAX_LEN (line.old ++ bytes.now) }
 {
     let room = (MAX_LEN - line.bytes().len()).min(bytes.len());
     line.put_all(&bytes[..room]);
@@ -17,7 +16,7 @@ fn put_cut(line: &mut Line, bytes: &[u8])
 
 // Adds a name, between brackets where it is highlighted and else between spaces.
 fn put_item(line: &mut Line, name: &[u8], is_highlighted: bool)
-    ensures { line.new ≡ take max_line (line.old ++ marked is_highlighted name.now) }
+    ensures { line.new ≡ take MAX_LEN (line.old ++ marked is_highlighted name.now) }
 {
     if is_highlighted {
         put_cut(line, b"[");
@@ -33,7 +32,7 @@ fn put_item(line: &mut Line, name: &[u8], is_highlighted: bool)
 /// The names of items, the highlighted one between brackets and the others between spaces; what goes past 240 bytes is
 /// cut.
 pub(crate) fn items_line(items: &[Item], highlight: usize) -> Line
-    ensures { result ≡ take max_line (items_line highlight (map item_name items.now)) }
+    ensures { result ≡ take MAX_LEN (items_line highlight (map item_name items.now)) }
 {
     let mut line = Line::new();
     for place in 0..items.len() {
@@ -45,7 +44,7 @@ pub(crate) fn items_line(items: &[Item], highlight: usize) -> Line
 
 // Adds a name behind two spaces.
 fn put_set_off(line: &mut Line, name: &[u8])
-    ensures { line.new ≡ take max_line (line.old ++ (codes "  " ++ name.now)) }
+    ensures { line.new ≡ take MAX_LEN (line.old ++ (codes "  " ++ name.now)) }
 {
     put_cut(line, b"  ");
     put_cut(line, name);
@@ -53,7 +52,7 @@ fn put_set_off(line: &mut Line, name: &[u8])
 
 // The name of an item, and those of others with two spaces before each.
 fn listed_behind(first: Item, others: &[Item]) -> Line
-    ensures { result ≡ take max_line (item_name first ++ set_off (map item_name others.now)) }
+    ensures { result ≡ take MAX_LEN (item_name first ++ set_off (map item_name others.now)) }
 {
     let mut line = Line::new();
     put_cut(&mut line, first.name());
@@ -66,7 +65,7 @@ fn listed_behind(first: Item, others: &[Item]) -> Line
 
 /// The names of items with two spaces between them; what goes past 240 bytes is cut.
 pub(crate) fn listed(items: &[Item]) -> Line
-    ensures { result ≡ take max_line (listed (map item_name items.now)) }
+    ensures { result ≡ take MAX_LEN (listed (map item_name items.now)) }
 {
     if items.is_empty() {
         Line::new()

@@ -1,5 +1,6 @@
 -- A span while it is pointed at, and what each key does with it.
 use Rattle.std.specs.Prelude.{ℕ, ◌+◌, Bool, true, false, List, [], ◌++◌, codes, Option, None, Some, if◌then◌else◌, nat_eq}
+use Rattle.ascii_bytes.specs.Ascii as ascii
 use Rattle.grid_address.specs.Address.{column_name, decimal}
 use Rattle.grid_address.specs.Place.{Place}
 use Rattle.key_words.specs.declared.key.Key.{Key}
@@ -8,7 +9,6 @@ use Rattle.sheet_store.specs.Grid.{Grid}
 use Rattle.cell_pointer.specs.Keys.{arrow_of}
 use Rattle.cell_pointer.specs.Steps.{stepped}
 use Rattle.cell_pointer.specs.declared.way.Arrow.{Arrow}
-use Rattle.session_rooms.specs.Bytes.{dot}
 use Rattle.session_rooms.specs.declared.pointed.Pointed.{Pointed}
 use Rattle.session_rooms.specs.declared.pointed.Signs.{Signs}
 use Rattle.session_rooms.specs.declared.pointed.Signs.TheVariants as signs
@@ -52,7 +52,7 @@ moved_corner (Some a) g p = record p { corner = stepped a g p.corner }
 
 -- arrows move the corner, a dot anchors, ESC and BS loosen, ABS changes the signs
 abbrev pub steered : Key → Grid → Place → Pointed → Pointed
-steered (key.Byte b) g pointer p = if nat_eq b dot then anchored p else p
+steered (key.Byte b) g pointer p = if nat_eq b ascii.dot then anchored p else p
 steered key.Esc g pointer p = loosened pointer p
 steered key.Bs g pointer p = loosened pointer p
 steered key.Abs g pointer p = signed p

@@ -1,6 +1,7 @@
 // A pointed reference as text.
 ghost use Rattle.std.specs.Prelude.{◌≡◌, ◌≤◌, ◌+◌, ◌++◌, length};
 ghost use Rattle.std.specs.List.{All};
+ghost use Rattle.ascii_bytes.specs.Ascii as ascii;
 ghost use Rattle.point_room.specs.Pointing.{answer_text, fixes_column, fixes_row, reference_by, reference_text, sign_if, signed_address};
 
 use byte_list::ByteList;
@@ -69,7 +70,7 @@ fn reference_by(signs: Signs, anchor: Option<Cell>, corner: Cell) -> ReferenceTe
 #[tactic(auto, using(crate::proofs::Printable::reference_prints))]
 pub fn reference_text(pointed: &Pointed) -> ReferenceText
     ensures text { result ≡ reference_text pointed.now }
-    ensures bytes { All (λ b. 32 ≤ b) (reference_text pointed.now) }
+    ensures bytes { All (λ b. ascii.space ≤ b) (reference_text pointed.now) }
 {
     reference_by(pointed.signs, pointed.anchor, pointed.corner)
 }
@@ -78,7 +79,7 @@ pub fn reference_text(pointed: &Pointed) -> ReferenceText
 #[tactic(auto, using(crate::proofs::Printable::reference_prints))]
 pub fn answer_text(pointed: &Pointed) -> ReferenceText
     ensures text { result ≡ answer_text pointed.now }
-    ensures bytes { All (λ b. 32 ≤ b) (answer_text pointed.now) }
+    ensures bytes { All (λ b. ascii.space ≤ b) (answer_text pointed.now) }
 {
     reference_by(Signs::None, pointed.anchor, pointed.corner)
 }

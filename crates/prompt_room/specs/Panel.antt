@@ -3,13 +3,13 @@ use Rattle.std.specs.Prelude.{ℕ, List, length, take, Option}
 use Rattle.control_panel.specs.Panels.{line_panel, plain_panel}
 use Rattle.control_panel.specs.declared.panel.Panel.{Panel}
 use Rattle.control_panel.specs.declared.panel.Mode.TheVariants as mode
+use Rattle.lics_text.specs.declared.TheConstants.{MAX_LEN}
 use Rattle.menu_tree.specs.Tree.{prompt_name}
 use Rattle.menu_tree.specs.declared.menu.Ask.{Ask}
 use Rattle.menu_room.specs.Ring.{items_line}
 use Rattle.point_room.specs.Pointing.{reference_text}
 use Rattle.prompt_room.specs.Opening.{next_ask}
 use Rattle.prompt_room.specs.Room.{choice_names}
-use Rattle.session_rooms.specs.Bytes.{max_line}
 use Rattle.session_rooms.specs.declared.answers.AnsweredCommand.{AnsweredCommand}
 use Rattle.session_rooms.specs.declared.rooms.Answering.{Answering}
 use Rattle.session_rooms.specs.declared.rooms.Answering.TheVariants as answering
@@ -17,7 +17,7 @@ use Rattle.session_rooms.specs.declared.rooms.PromptRoom.{PromptRoom}
 
 -- the name of the present prompt
 abbrev pub name_of : AnsweredCommand → List ℕ
-name_of c = take max_line (prompt_name c.action (length c.answers))
+name_of c = take MAX_LEN (prompt_name c.action (length c.answers))
 
 -- the items of a choice
 abbrev pub choice_line : Option Ask → ℕ → List ℕ

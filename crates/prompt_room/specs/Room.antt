@@ -1,5 +1,6 @@
 -- What a key comes to in a prompt.
 use Rattle.std.specs.Prelude.{ℕ, zero, suc, Bool, true, false, nat_eq, List, [], ◌∷◌, ◌++◌, codes, length, position, Option, None, Some, if◌then◌else◌}
+use Rattle.ascii_bytes.specs.Ascii as ascii
 use Rattle.key_words.specs.declared.key.Key.{Key}
 use Rattle.key_words.specs.declared.key.Key.TheVariants as key
 use Rattle.entry_line.specs.Line.{after, event, Entry}
@@ -14,7 +15,6 @@ use Rattle.desk_answers.specs.Readings.{refusal_of}
 use Rattle.menu_room.specs.Ring.{highlighted}
 use Rattle.point_room.specs.Pointing.{answer_text, steered}
 use Rattle.prompt_room.specs.Opening.{line_in, next_ask}
-use Rattle.session_rooms.specs.Bytes.{dot}
 use Rattle.session_rooms.specs.Lines.{line_of}
 use Rattle.session_rooms.specs.declared.answers.AnsweredCommand.{AnsweredCommand}
 use Rattle.session_rooms.specs.declared.pointed.Pointed.{Pointed}
@@ -81,7 +81,7 @@ steered_prompt k s c p = asking c (answering.Pointing (steered k s.grid s.settin
 -- a dot anchors, and any other byte begins a typed answer
 abbrev pub typed_byte : ℕ → Sheet → AnsweredCommand → Pointed → Turn
 typed_byte b s c p =
-    if nat_eq b dot then steered_prompt (key.Byte b) s c p else asking c (answering.Typing (line_of (b ∷ [])))
+    if nat_eq b ascii.dot then steered_prompt (key.Byte b) s c p else asking c (answering.Typing (line_of (b ∷ [])))
 
 -- Enter takes the span
 abbrev pub press_pointing : Key → Sheet → AnsweredCommand → Pointed → Turn

@@ -1,5 +1,6 @@
 -- READY.
 use Rattle.std.specs.Prelude.{ℕ, Bool, true, false, nat_eq, List, [], ◌∷◌, Option, None, Some, if◌then◌else◌}
+use Rattle.ascii_bytes.specs.Ascii as ascii
 use Rattle.cell_pointer.specs.Keys.{move_after_end, move_of}
 use Rattle.cell_pointer.specs.declared.way.Way.{Way}
 use Rattle.control_panel.specs.Panels.{plain_panel}
@@ -17,7 +18,7 @@ use Rattle.menu_tree.specs.declared.menu.DataAction.{DataAction}
 use Rattle.menu_tree.specs.declared.menu.DataAction.TheVariants as records
 use Rattle.menu_tree.specs.declared.menu.Menu.TheVariants as menu
 use Rattle.menu_room.specs.Room.{opened}
-use Rattle.session_rooms.specs.Bytes.{begins_value, slash}
+use Rattle.session_rooms.specs.Bytes.{begins_value}
 use Rattle.session_rooms.specs.Lines.{fits_line, line_of}
 use Rattle.session_rooms.specs.declared.rooms.Room.{Room}
 use Rattle.session_rooms.specs.declared.rooms.Room.TheVariants as room
@@ -35,7 +36,7 @@ begun_mode b = if begins_value b then typing.Value else typing.Label
 -- a slash opens the main menu, and any other byte begins a line
 abbrev pub begun : ℕ → Room
 begun b =
-    if nat_eq b slash
+    if nat_eq b ascii.slash
     then opened menu.Main
     else room.Typing (record { mode = begun_mode b; line = line_of (b ∷ []) })
 

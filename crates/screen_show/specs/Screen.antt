@@ -1,5 +1,6 @@
 -- A screen as its lines.
 use Rattle.std.specs.Prelude.{◌≡◌, ℕ, ◌+◌, ◌≤◌, List, ◌++◌, length, take, drop, replicate, slice_set, slice_index_or, [], All}
+use Rattle.ascii_bytes.specs.Ascii as ascii
 
 -- 25 lines of 80 bytes
 pub record IsScreen (screen : List (List ℕ)) : Type 0 where
@@ -10,9 +11,9 @@ pub record IsScreen (screen : List (List ℕ)) : Type 0 where
 abbrev pub empty_screen : List (List ℕ)
 empty_screen = replicate 25 (replicate 80 0)
 
--- no byte is below 32, so that the screen differs from the empty one at each place
+-- no byte is below a space, so that the screen differs from the empty one at each place
 abbrev pub IsPrinted : List (List ℕ) → Type 0
-IsPrinted screen = All (λ line. All (λ b. 32 ≤ b) line) screen
+IsPrinted screen = All (λ line. All (λ b. ascii.space ≤ b) line) screen
 
 -- the line with these bytes from a column on
 abbrev pub put_in_line : ℕ → List ℕ → List ℕ → List ℕ

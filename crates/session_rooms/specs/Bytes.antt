@@ -1,14 +1,6 @@
--- Bytes by their names, and sets of them.
+-- Sets of bytes by what they do in a line.
 use Rattle.std.specs.Prelude.{ℕ, Bool, nat_eq, List, codes}
 use Rattle.std.specs.List.{list_any}
-
--- the byte that begins a menu
-abbrev pub slash : ℕ
-slash = 47
-
--- the byte that anchors
-abbrev pub dot : ℕ
-dot = 46
 
 -- the byte is one of a text's
 abbrev pub is_among : List ℕ → ℕ → Bool
@@ -25,7 +17,3 @@ wants_operand = is_among (codes "^*/+-=<>&#(,")
 -- the bytes that put a pointed reference into the line
 abbrev pub ends_reference : ℕ → Bool
 ends_reference = is_among (codes "^*/+-=<>&#),")
-
--- the bytes of a line
-abbrev pub max_line : ℕ
-max_line = 240

@@ -1,6 +1,7 @@
 // Lines with the cursor at the end.
 ghost use Rattle.std.specs.Prelude.{◌≡◌, ◌≤◌, ◌∷◌, [], length, nat_le, true};
 ghost use Rattle.std.specs.List.{All, list_all};
+ghost use Rattle.ascii_bytes.specs.Ascii as ascii;
 ghost use Rattle.lics_text.specs.Bytes.{IsText};
 ghost use Rattle.session_rooms.specs.Lines.{extended, fits_line, last_byte, line_of};
 
@@ -16,7 +17,7 @@ pub fn line_of_byte(byte: TextByte) -> EntryLine
 
 /// The line with more bytes at its end, and the cursor behind them. Bytes that would stand past 240 are passed over.
 pub fn extended(line: &EntryLine, bytes: &[u8]) -> EntryLine
-    requires { All (λ b. 32 ≤ b) bytes.now }
+    requires { All (λ b. ascii.space ≤ b) bytes.now }
     ensures { result ≡ extended line.now bytes.now }
 {
     let text = line.text();
@@ -37,14 +38,14 @@ pub fn last_byte(line: &EntryLine) -> u8
     }
 }
 
-// Whether no byte is below 32.
+// Whether no byte is below a space.
 fn are_printable(bytes: &[u8]) -> bool
-    ensures { result ≡ list_all (nat_le 32) bytes.now }
+    ensures { result ≡ list_all (nat_le ascii.space) bytes.now }
 {
-    bytes.iter().all(|byte| 32 <= *byte)
+    bytes.iter().all(|byte| b' ' <= *byte)
 }
 
-/// Whether bytes are a line's: at most 240, each at least 32.
+/// Whether bytes are a line's: at most 240, none below a space.
 pub fn fits_line(bytes: &[u8]) -> bool
     ensures fits { result ≡ fits_line bytes.now }
     ensures text { result ≡ true → IsText bytes.now }

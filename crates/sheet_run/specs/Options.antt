@@ -3,6 +3,7 @@ use Rattle.std.specs.Char.{is_ascii_digit}
 use Rattle.std.specs.Prelude.{ℕ, Bool, true, false, ◌&&◌, nat_lt, nat_le, if◌then◌else◌, List, [], ◌∷◌, length, take, drop, slice_index, Option, Some, None, Result, Ok, Err, codes, is_some, unwrap_or}
 use Rattle.std.specs.List.{list_all}
 use Rattle.std.specs.Str.{bytes_eq}
+use Rattle.ascii_bytes.specs.Ascii as ascii
 use Rattle.fixed_value.specs.Decimals.{number_of}
 use Rattle.outside_world.specs.FileNames.{file_name}
 use Rattle.outside_world.specs.declared.file_name.Ext.TheVariants.{Wk1}
@@ -26,7 +27,7 @@ shown_kind o = unwrap_or o.show Pages
 
 -- digits without a leading zero, of a number that is not 0
 abbrev pub is_number : List ℕ → Bool
-is_number digits = nat_lt 48 (slice_index digits 0) && list_all is_ascii_digit digits
+is_number digits = nat_lt ascii.zero (slice_index digits 0) && list_all is_ascii_digit digits
 
 -- a number of at most 10,000,000
 unfoldable pub steps_of : List ℕ → Option ℕ

@@ -1,8 +1,8 @@
 use Rattle.std.specs.Prelude.{◌≡◌, map, take}
+use Rattle.lics_text.specs.declared.TheConstants.{MAX_LEN}
 use Rattle.menu_room.specs.Ring.{marked_from}
 use Rattle.menu_tree.specs.Tree.{item_name}
-use Rattle.session_rooms.specs.Bytes.{max_line}
 use Rattle.menu_room.proofs.lines.items_line.Given as goal
 
 abbrev pub invariant-loop-place : goal.invariant-loop-place
-invariant-loop-place l = l.line ≡ take max_line (marked_from 0 l.highlight (map item_name (take l.place l.items)))
+invariant-loop-place l = l.line ≡ take MAX_LEN (marked_from 0 l.highlight (map item_name (take l.place l.items)))
