@@ -1,7 +1,7 @@
 // Writes of contents, and copies of cells.
 ghost use Rattle.std.specs.Prelude.{◌≡◌, ◌≤◌, ◌<◌, ◌+◌, ◌++◌, ◌∷◌, [], length, map, IfOk, OnOk};
 ghost use Rattle.grid_address.specs.Place.{height_of, width_of, Place};
-ghost use Rattle.formula_eval.specs.World.{Sight};
+ghost use Rattle.formula_eval.specs.Outlook.{Sight};
 ghost use Rattle.block_writes.specs.Writing.{at, columns_of, content_or_blank, copied, row_copied, rows_copied, rows_of, written};
 
 use formula_eval::Look;

@@ -3,7 +3,7 @@ ghost use Rattle.std.specs.Prelude.{◌≡◌, IfOk, Ok};
 ghost use Rattle.formula_tree.specs.Formulas.{formula_of};
 ghost use Rattle.formula_tree.specs.Tree.{call, no_trees};
 ghost use Rattle.formula_tree.specs.View.{tree_of};
-ghost use Rattle.formula_eval.specs.World.{Sight};
+ghost use Rattle.formula_eval.specs.Outlook.{Sight};
 ghost use Rattle.block_writes.specs.Writing.{as_content, value_copied};
 
 use formula_eval::Look;

@@ -3,7 +3,7 @@ use Rattle.std.proofs.Common.{◌≡◌, ℕ, zero, suc, ◌+◌, Bool, true, fa
 use Rattle.std.specs.List.{filter}
 use Rattle.std.proofs.lemmas.List.{append-nil}
 use Rattle.grid_address.specs.Place.{Place}
-use Rattle.formula_eval.specs.World.{block_cells, row_cells}
+use Rattle.formula_eval.specs.Outlook.{block_cells, row_cells}
 
 one_more_cell : (row col count : ℕ) → row_cells row col (suc count) ≡ row_cells row col count ++ record { row = row; col = col + count } ∷ []
 one_more_cell row col zero = ap (λ k. record { row = row; col = k } ∷ []) (let e : col ≡ col + 0 = omega arith in e)

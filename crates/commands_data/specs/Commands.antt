@@ -24,8 +24,8 @@ use Rattle.desk_errors.specs.declared.error.CommandError.TheVariants as error
 use Rattle.desk_ranges.specs.declared.ranges.DeskRanges.{DeskRanges}
 use Rattle.desk_ranges.specs.declared.ranges.LastQuery.{LastQuery}
 use Rattle.desk_ranges.specs.declared.ranges.LastQuery.TheVariants as query
-use Rattle.formula_eval.specs.Scenes.{world_of}
-use Rattle.formula_eval.specs.World.{World}
+use Rattle.formula_eval.specs.Outlook.{Outlook}
+use Rattle.formula_eval.specs.Scenes.{outlook_of}
 use Rattle.formula_eval.specs.declared.look.Scene.{Scene}
 use Rattle.grid_address.specs.Place.{Extent}
 use Rattle.menu_tree.specs.declared.menu.DataAction.{DataAction}
@@ -79,13 +79,13 @@ abbrev pub sorted : DeskRanges → Scene → Sheet → Acted
 sorted r scene s = sorted_with r.sort r.primary r.secondary scene s
 
 -- what a query looks at
-abbrev pub world_in : Scene → Sheet → World
-world_in scene s = world_of (sight_in s) scene
+abbrev pub outlook_in : Scene → Sheet → Outlook
+outlook_in scene s = outlook_of (sight_in s) scene
 
 -- the records that match, or those of them that differ, are written into the output
 abbrev pub extracted_into : Bool → Extent → Extent → Extent → Scene → Sheet → Acted
 extracted_into unique input criterion output scene s =
-    made query_error (extraction (world_in scene s) input criterion output unique) scene s
+    made query_error (extraction (outlook_in scene s) input criterion output unique) scene s
 
 -- all three ranges are needed
 abbrev pub extracted : Bool → Option Extent → Option Extent → Option Extent → Scene → Sheet → Acted
@@ -97,7 +97,7 @@ extracted unique None criterion output scene s = refused error.QueryRangeMissing
 
 -- the records that match are taken out of the input
 abbrev pub deleted_from : Extent → Extent → Scene → Sheet → Acted
-deleted_from input criterion scene s = made query_error (deletion (world_in scene s) input criterion) scene s
+deleted_from input criterion scene s = made query_error (deletion (outlook_in scene s) input criterion) scene s
 
 -- the input and the criterion are needed
 abbrev pub deleted : Option Extent → Option Extent → Scene → Sheet → Acted

@@ -4,7 +4,7 @@ use Rattle.std.proofs.Common.{append_assoc, ap, arith, sym, ◌∙◌}
 use Rattle.std.proofs.lemmas.List.{append-nil, map-append}
 use Rattle.commands_range.specs.Valued.{value_of, values_of}
 use Rattle.commands_range.specs.declared.values.Layout.{Layout}
-use Rattle.formula_eval.specs.World.{Sight}
+use Rattle.formula_eval.specs.Outlook.{Sight}
 use Rattle.grid_address.specs.Place.{Extent, Place}
 use Rattle.sheet_edits.specs.Spans.{written_cells}
 use Rattle.sheet_store.specs.declared.writes.Write.{Write}

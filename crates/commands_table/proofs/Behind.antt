@@ -15,7 +15,7 @@ use Rattle.grid_address.specs.Formats.{has_protection}
 use Rattle.grid_address.specs.Place.{same_place, Place}
 use Rattle.grid_address.specs.declared.format.Format.{Format}
 use Rattle.cell_numbers.specs.Sets.{has}
-use Rattle.natural_recalc.specs.World.{content_of, format_of}
+use Rattle.natural_recalc.specs.Context.{content_of, format_of}
 use Rattle.sheet_edits.proofs.Gathering.{format_changed}
 use Rattle.sheet_edits.proofs.Overlaid.{get_put}
 use Rattle.sheet_edits.specs.Edits.{just}

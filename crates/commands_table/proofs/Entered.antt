@@ -13,8 +13,8 @@ use Rattle.formula_tree.specs.declared.value.Content.{Content}
 use Rattle.grid_address.specs.Place.{same_place, Place}
 use Rattle.lics_text.specs.declared.faults.Memory.{Memory}
 use Rattle.cell_numbers.specs.Sets.{has}
+use Rattle.natural_recalc.specs.Context.{format_of}
 use Rattle.natural_recalc.specs.Passes.{SameContents}
-use Rattle.natural_recalc.specs.World.{format_of}
 use Rattle.sheet_edits.specs.Edits.{just, written_state}
 use Rattle.sheet_edits.specs.Spans.{written_cells}
 use Rattle.sheet_store.specs.Grid.{Grid}

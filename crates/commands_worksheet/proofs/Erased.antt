@@ -9,8 +9,8 @@ use Rattle.formula_eval.specs.Mean.{mean}
 use Rattle.formula_eval.specs.declared.look.Scene.{Scene}
 use Rattle.grid_address.specs.Place.{place_cmp, same_place, Place}
 use Rattle.cell_numbers.specs.Sets.{has}
+use Rattle.natural_recalc.specs.Context.{formula_of}
 use Rattle.natural_recalc.specs.Reading.{is_formula_at}
-use Rattle.natural_recalc.specs.World.{formula_of}
 use Rattle.work_sheet.proofs.Done.{did_both}
 use Rattle.work_sheet.specs.Did.{work_of, Did, DidEdit}
 use Rattle.work_sheet.specs.Doing.{settled}

@@ -4,7 +4,7 @@ ghost use Rattle.std.specs.Int.RustNames.{int_lt};
 ghost use Rattle.std.specs.List.{count_by};
 ghost use Rattle.grid_address.specs.Place.{height_of};
 ghost use Rattle.value_functions.specs.Values.{counted};
-ghost use Rattle.formula_eval.specs.World.{filled, Sight};
+ghost use Rattle.formula_eval.specs.Outlook.{filled, Sight};
 ghost use Rattle.block_writes.specs.Writing.{as_content, at, written};
 ghost use Rattle.data_blocks.specs.Distribution.{bin_of, distributed, distribution, has_no_room, is_above, is_in_bin, number_of, numbers_in};
 

@@ -3,7 +3,7 @@ use Rattle.std.proofs.Common.{◌≡◌, ℕ, ◌-◌, ◌≤◌, List, map, len
 use Rattle.std.specs.Prelude.{Bool, true, false}
 use Rattle.std.proofs.lemmas.List.{length-map}
 use Rattle.grid_address.specs.Place.{Extent, Place}
-use Rattle.formula_eval.specs.World.{World}
+use Rattle.formula_eval.specs.Outlook.{Outlook}
 use Rattle.block_writes.specs.Writing.{at}
 use Rattle.formula_eval.specs.Criteria.{record_matches}
 use Rattle.data_query.specs.Extraction.{extracted_rows, same_record, without_repeats}
@@ -13,7 +13,7 @@ use Rattle.data_query.specs.declared.output.OutputField.{OutputField}
 use Rattle.data_query.proofs.Distinct.{fewer}
 use Rattle.data_query.proofs.Records.{cells_fit, row_of, rows_back}
 
-module _ (w : World) (input criterion : Extent) where
+module _ (w : Outlook) (input criterion : Extent) where
   -- there are no more cells than the sheet has rows behind its first
   pub few_cells : (cells : List Place) → cells ≡ map (λ row. at row input.first.col) (chosen w input criterion) → input.last.row ≤ last_row → length cells ≤ last_row
   few_cells cells are inside =

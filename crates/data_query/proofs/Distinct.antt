@@ -10,7 +10,7 @@ use Rattle.std.proofs.lemmas.Slice.Eq.{bytes_eq-Decides}
 use Rattle.grid_address.specs.Place.{Place}
 use Rattle.formula_tree.specs.declared.value.Value.{Value}
 use Rattle.formula_tree.specs.declared.value.Value.TheVariants as value
-use Rattle.formula_eval.specs.World.{Sight}
+use Rattle.formula_eval.specs.Outlook.{Sight}
 use Rattle.block_writes.specs.Writing.{at}
 use Rattle.data_query.specs.Extraction.{same_record, same_value, without_repeats}
 use Rattle.data_query.specs.declared.output.OutputField.{OutputField}

@@ -5,7 +5,7 @@ use Rattle.std.specs.Result.{result_and}
 use Rattle.std.proofs.lemmas.Bool.{le-ltb, lt-ltb}
 use Rattle.std.proofs.lemmas.List.{append-nil, drop_all, drop_more}
 use Rattle.grid_address.specs.Place.{Extent}
-use Rattle.formula_eval.specs.World.{Sight, World}
+use Rattle.formula_eval.specs.Outlook.{Outlook, Sight}
 use Rattle.sheet_store.specs.declared.writes.Write.{Write}
 use Rattle.data_query.specs.Extraction.{extraction, fields_extracted, labelled, output_written, room_of, rows_extracted, taken_fields}
 use Rattle.data_query.specs.Selection.{asked}
@@ -43,7 +43,7 @@ module _ (sight : Sight) (output : Extent) (fields : List OutputField) (rows : L
       ap (λ (b : Bool). cond b (Err (fault.OutputFull (length rows))) (Ok (output_written sight output fields rows))) (le-ltb (room_of output) (length rows) fewer)
       ∙ ap (λ (l : List Write). Ok l) (sym is)
 
-module _ (w : World) (input criterion output : Extent) (unique : Bool) where
+module _ (w : Outlook) (input criterion output : Extent) (unique : Bool) where
   -- an extraction without a fault of its input, criterion or headers
   pub goes_on : asked {X = Unit {0}} w.sight input criterion tt ≡ Ok tt → labelled {X = Unit {0}} w.sight input output tt ≡ Ok tt → extraction w input criterion output unique ≡ fields_extracted w input criterion output unique (taken_fields w.sight input output)
   goes_on asks labels =

@@ -7,7 +7,7 @@ use Rattle.std.specs.Str.{bytes_eq}
 use Rattle.grid_address.specs.Place.{Extent}
 use Rattle.formula_tree.specs.declared.value.Value.{Value}
 use Rattle.formula_tree.specs.declared.value.Value.TheVariants as value
-use Rattle.formula_eval.specs.World.{Sight, World}
+use Rattle.formula_eval.specs.Outlook.{Outlook, Sight}
 use Rattle.block_writes.specs.Writing.{at, columns_of, numbers_from, value_copied}
 use Rattle.sheet_store.specs.declared.writes.Write.{Write}
 use Rattle.formula_eval.specs.Fields.{field_named, is_label_at, is_no_field}
@@ -68,7 +68,7 @@ without_repeats same [] = []
 without_repeats same (row ∷ rows) = row ∷ filter (λ other. not (same row other)) (without_repeats same rows)
 
 -- the rows of the records that are extracted: all that match, or those of them that differ
-abbrev pub extracted_rows : World → Extent → Extent → Bool → List OutputField → List ℕ
+abbrev pub extracted_rows : Outlook → Extent → Extent → Bool → List OutputField → List ℕ
 extracted_rows w input criterion unique fields =
     if unique then without_repeats (same_record w.sight fields) (chosen w input criterion)
     else chosen w input criterion
@@ -103,13 +103,13 @@ rows_extracted sight output fields rows =
     else Ok (output_written sight output fields rows)
 
 -- what the records that match write, where the output's columns take these fields
-abbrev pub fields_extracted : World → Extent → Extent → Extent → Bool → List OutputField →
+abbrev pub fields_extracted : Outlook → Extent → Extent → Extent → Bool → List OutputField →
     Result (List Write) QueryFault
 fields_extracted w input criterion output unique fields =
     rows_extracted w.sight output fields (extracted_rows w input criterion unique fields)
 
 -- the faults in their order, of the input, the criterion, the output's headers and its room; or what is written
-abbrev pub extraction : World → Extent → Extent → Extent → Bool → Result (List Write) QueryFault
+abbrev pub extraction : Outlook → Extent → Extent → Extent → Bool → Result (List Write) QueryFault
 extraction w input criterion output unique =
     result_and {T = Unit {0}} (asked w.sight input criterion tt) (
     result_and {T = Unit {0}} (labelled w.sight input output tt) (

@@ -3,7 +3,7 @@ use Rattle.std.specs.Prelude.{ℕ, Bool, List, map}
 use Rattle.std.specs.Cmp.Lexicographic.{pointwise}
 use Rattle.formula_tree.specs.declared.value.Value.{Value}
 use Rattle.formula_tree.specs.declared.value.Value.TheVariants as value
-use Rattle.formula_eval.specs.World.{Sight}
+use Rattle.formula_eval.specs.Outlook.{Sight}
 use Rattle.block_writes.specs.Writing.{at}
 use Rattle.data_query.specs.Extraction.{same_value}
 use Rattle.data_query.specs.declared.output.OutputField.{OutputField}

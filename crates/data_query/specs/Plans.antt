@@ -4,7 +4,7 @@ use Rattle.std.specs.List.{filter}
 use Rattle.grid_address.specs.Place.{Extent}
 use Rattle.range_lines.specs.Rows.{at, rows_below}
 use Rattle.formula_eval.specs.Criteria.{record_matches}
-use Rattle.formula_eval.specs.World.{World}
+use Rattle.formula_eval.specs.Outlook.{Outlook}
 
 -- a range without its first row
 abbrev pub behind_first : Extent → Extent
@@ -16,6 +16,6 @@ is_wanted true matches = matches
 is_wanted false matches = not matches
 
 -- the rows of the wanted records, in order
-abbrev pub records : World → Extent → Extent → Bool → List ℕ
+abbrev pub records : Outlook → Extent → Extent → Bool → List ℕ
 records w input criterion wanted =
     filter (λ row. is_wanted wanted (record_matches w input criterion row)) (rows_below input)

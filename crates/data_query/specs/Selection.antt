@@ -2,7 +2,7 @@
 use Rattle.std.specs.Prelude.{ℕ, ◌+◌, ◌-◌, not, Option, None, Some, List, ◌++◌, length, map, Result, Ok, Err, if◌then◌else◌}
 use Rattle.std.specs.List.{filter, flat_map}
 use Rattle.grid_address.specs.Place.{Extent, Place}
-use Rattle.formula_eval.specs.World.{Sight, World}
+use Rattle.formula_eval.specs.Outlook.{Outlook, Sight}
 use Rattle.block_writes.specs.Writing.{across, at, columns_of, erased, numbers_from, rows_below, rows_copied}
 use Rattle.sheet_store.specs.declared.writes.Write.{Write}
 use Rattle.formula_eval.specs.Criteria.{missing, record_matches}
@@ -11,7 +11,7 @@ use Rattle.data_query.specs.declared.fault.QueryFault.{QueryFault}
 use Rattle.data_query.specs.declared.fault.QueryFault.TheVariants as fault
 
 -- the rows of the records that match, in order
-abbrev pub chosen : World → Extent → Extent → List ℕ
+abbrev pub chosen : Outlook → Extent → Extent → List ℕ
 chosen w input criterion = filter (record_matches w input criterion) (rows_below input)
 
 -- an answer, unless the input names no fields, or a header of the criterion names none of them
@@ -25,7 +25,7 @@ asked sight input criterion x =
     if has_fields sight input then unless_missing criterion (missing sight input criterion) x else Err fault.NoFieldRow
 
 -- the first cells of the chosen records
-abbrev pub selection : World → Extent → Extent → Result (List Place) QueryFault
+abbrev pub selection : Outlook → Extent → Extent → Result (List Place) QueryFault
 selection w input criterion =
     asked w.sight input criterion (map (λ row. at row input.first.col) (chosen w input criterion))
 
@@ -34,7 +34,7 @@ abbrev pub rows_erased : List ℕ → List ℕ → List Write
 rows_erased columns rows = flat_map (λ row. map erased (across row columns)) rows
 
 -- the rows of the records that stay, in order
-abbrev pub kept : World → Extent → Extent → List ℕ
+abbrev pub kept : Outlook → Extent → Extent → List ℕ
 kept w input criterion = filter (λ row. not (record_matches w input criterion row)) (rows_below input)
 
 -- the records that stay move up, and the rest is erased
@@ -45,5 +45,5 @@ moved_up sight input rows =
     (numbers_from (input.first.row + 1 + length rows) (input.last.row - input.first.row - length rows))
 
 -- the faults, or what is written
-abbrev pub deletion : World → Extent → Extent → Result (List Write) QueryFault
+abbrev pub deletion : Outlook → Extent → Extent → Result (List Write) QueryFault
 deletion w input criterion = asked w.sight input criterion (moved_up w.sight input (kept w input criterion))

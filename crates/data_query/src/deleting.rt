@@ -1,8 +1,8 @@
 // What deleting the records that match writes.
 ghost use Rattle.std.specs.Prelude.{◌≡◌, ◌⊎◌, ◌<◌, ◌≤◌, ◌+◌, ◌-◌, IfOk, IfErr, Ok, Err, length, map};
 ghost use Rattle.grid_address.specs.Place.{Place};
-ghost use Rattle.formula_eval.specs.Scenes.{world_of};
-ghost use Rattle.formula_eval.specs.World.{Sight};
+ghost use Rattle.formula_eval.specs.Outlook.{Sight};
+ghost use Rattle.formula_eval.specs.Scenes.{outlook_of};
 ghost use Rattle.data_query.specs.Plans.{behind_first};
 ghost use Rattle.data_query.specs.Selection.{deletion, kept, moved_up};
 
@@ -61,7 +61,7 @@ fn deleted<K: Look>(
     scene: &Scene,
 ) -> Result<Writes, Memory>
     requires { input.first.row < input.last.row }
-    ensures { let w = world_of (K.sight look.now) scene.entry.now in
+    ensures { let w = outlook_of (K.sight look.now) scene.entry.now in
         IfOk result (λ l. l ≡ moved_up w.sight input (kept w input criterion)) }
 {
     let kept = records(alloc, look, scene, input, criterion, false)?;
@@ -80,9 +80,9 @@ pub fn deletion<K: Look>(
     look: &K,
     scene: &Scene,
 ) -> Result<Writes, QueryFault>
-    ensures found { let w = world_of (K.sight look.now) scene.entry.now in
+    ensures found { let w = outlook_of (K.sight look.now) scene.entry.now in
         IfOk result (λ l. deletion w input criterion ≡ Ok l) }
-    ensures fault { let w = world_of (K.sight look.now) scene.entry.now in
+    ensures fault { let w = outlook_of (K.sight look.now) scene.entry.now in
         IfErr result (λ f. (f ≡ QueryFault.Memory) ⊎ (deletion w input criterion ≡ Err f)) }
 {
     asked(look, input, criterion)?;

@@ -2,8 +2,8 @@
 ghost use Rattle.std.specs.Prelude.{◌≡◌, ◌⊎◌, ◌≤◌, ◌+◌, ◌++◌, ◌∷◌, [], IfOk, IfErr, OnOk, Ok, Err, length, map};
 ghost use Rattle.grid_address.specs.Place.{Place};
 ghost use Rattle.range_lines.specs.Rows.{last_row};
-ghost use Rattle.formula_eval.specs.Scenes.{world_of};
-ghost use Rattle.formula_eval.specs.World.{Sight};
+ghost use Rattle.formula_eval.specs.Outlook.{Sight};
+ghost use Rattle.formula_eval.specs.Scenes.{outlook_of};
 ghost use Rattle.block_writes.specs.Writing.{at, numbers_from, value_copied};
 ghost use Rattle.data_query.specs.Extraction.{extracted_rows, extraction, fields_extracted, output_written, record_written, records_written, room_of, rows_extracted};
 
@@ -142,7 +142,7 @@ fn extracted_cells<K: Look>(
     look: &K,
     scene: &Scene,
 ) -> Result<CellList, Memory>
-    ensures rows { let w = world_of (K.sight look.now) scene.entry.now in
+    ensures rows { let w = outlook_of (K.sight look.now) scene.entry.now in
         IfOk result (λ l. map (λ (p : Place). p.row) l ≡ extracted_rows w input criterion unique fields.now) }
     ensures count { IfOk result (λ l. length l ≤ last_row) }
 {
@@ -166,9 +166,9 @@ fn fields_extracted<K: Look>(
     look: &K,
     scene: &Scene,
 ) -> Result<Writes, QueryFault>
-    ensures found { let w = world_of (K.sight look.now) scene.entry.now in
+    ensures found { let w = outlook_of (K.sight look.now) scene.entry.now in
         IfOk result (λ l. fields_extracted w input criterion output unique fields.now ≡ Ok l) }
-    ensures fault { let w = world_of (K.sight look.now) scene.entry.now in IfErr result (λ f.
+    ensures fault { let w = outlook_of (K.sight look.now) scene.entry.now in IfErr result (λ f.
         (f ≡ QueryFault.Memory) ⊎ (fields_extracted w input criterion output unique fields.now ≡ Err f)) }
 {
     match extracted_cells(alloc, input, criterion, unique, fields, look, scene) {
@@ -194,9 +194,9 @@ pub fn extract<K: Look>(
     look: &K,
     scene: &Scene,
 ) -> Result<Writes, QueryFault>
-    ensures found { let w = world_of (K.sight look.now) scene.entry.now in
+    ensures found { let w = outlook_of (K.sight look.now) scene.entry.now in
         IfOk result (λ l. extraction w input criterion output unique ≡ Ok l) }
-    ensures fault { let w = world_of (K.sight look.now) scene.entry.now in
+    ensures fault { let w = outlook_of (K.sight look.now) scene.entry.now in
         IfErr result (λ f. (f ≡ QueryFault.Memory) ⊎ (extraction w input criterion output unique ≡ Err f)) }
 {
     asked(look, input, criterion)?;

@@ -1,6 +1,6 @@
 // What a query is refused for: its input names no fields, or a header of its criterion names none of them.
 ghost use Rattle.std.specs.Prelude.{◌≡◌};
-ghost use Rattle.formula_eval.specs.World.{Sight};
+ghost use Rattle.formula_eval.specs.Outlook.{Sight};
 ghost use Rattle.data_query.specs.Selection.{asked};
 
 use crate::QueryFault;

@@ -3,7 +3,7 @@ ghost use Rattle.std.specs.Prelude.{◌≡◌, ◌≤◌, ◌<◌, ◌+◌, ◌+
 ghost use Rattle.grid_address.specs.Place.{width_of};
 ghost use Rattle.range_lines.specs.Rows.{last_row};
 ghost use Rattle.formula_eval.specs.Fields.{field_named};
-ghost use Rattle.formula_eval.specs.World.{Sight};
+ghost use Rattle.formula_eval.specs.Outlook.{Sight};
 ghost use Rattle.block_writes.specs.Writing.{at};
 ghost use Rattle.data_query.specs.Extraction.{is_unknown, labelled, room_of, taken, taken_fields, unknown_label};
 

@@ -2,8 +2,8 @@
 ghost use Rattle.std.specs.Prelude.{◌≡◌, IfOk, map};
 ghost use Rattle.range_lines.specs.Rows.{at};
 ghost use Rattle.formula_eval.specs.Criteria.{fields_of};
-ghost use Rattle.formula_eval.specs.Scenes.{world_of};
-ghost use Rattle.formula_eval.specs.World.{Sight};
+ghost use Rattle.formula_eval.specs.Outlook.{Sight};
+ghost use Rattle.formula_eval.specs.Scenes.{outlook_of};
 ghost use Rattle.data_query.specs.Plans.{is_wanted, records};
 
 use formula_eval::{Look, Scene, fields_of, record_matches};
@@ -30,7 +30,7 @@ fn records_of<K: Look>(
     wanted: bool,
 ) -> Result<CellList, Memory>
     requires { fields.now ≡ fields_of (K.sight look.now) input criterion }
-    ensures { let w = world_of (K.sight look.now) scene.entry.now in
+    ensures { let w = outlook_of (K.sight look.now) scene.entry.now in
         IfOk result (λ l. l ≡ map (λ row. at row input.first.col) (records w input criterion wanted)) }
 {
     let mut cells = CellList::new(alloc);
@@ -53,7 +53,7 @@ pub fn records<K: Look>(
     criterion: Span,
     wanted: bool,
 ) -> Result<CellList, Memory>
-    ensures { let w = world_of (K.sight look.now) scene.entry.now in
+    ensures { let w = outlook_of (K.sight look.now) scene.entry.now in
         IfOk result (λ l. l ≡ map (λ row. at row input.first.col) (records w input criterion wanted)) }
 {
     let fields = fields_of(alloc, look, input, criterion)?;

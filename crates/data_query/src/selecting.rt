@@ -1,7 +1,7 @@
 // The records that a criterion chooses.
 ghost use Rattle.std.specs.Prelude.{◌≡◌, ◌⊎◌, IfOk, IfErr, Ok, Err, map};
-ghost use Rattle.formula_eval.specs.Scenes.{world_of};
-ghost use Rattle.formula_eval.specs.World.{Sight};
+ghost use Rattle.formula_eval.specs.Outlook.{Sight};
+ghost use Rattle.formula_eval.specs.Scenes.{outlook_of};
 ghost use Rattle.block_writes.specs.Writing.{at};
 ghost use Rattle.data_query.specs.Selection.{chosen, selection};
 
@@ -21,7 +21,7 @@ pub fn chosen<K: Look>(
     look: &K,
     scene: &Scene,
 ) -> Result<CellList, Memory>
-    ensures { let w = world_of (K.sight look.now) scene.entry.now in
+    ensures { let w = outlook_of (K.sight look.now) scene.entry.now in
         IfOk result (λ l. l ≡ map (λ row. at row input.first.col) (chosen w input criterion)) }
 {
     let cells = records(alloc, look, scene, input, criterion, true)?;
@@ -39,9 +39,9 @@ pub fn select<K: Look>(
     look: &K,
     scene: &Scene,
 ) -> Result<CellList, QueryFault>
-    ensures found { let w = world_of (K.sight look.now) scene.entry.now in
+    ensures found { let w = outlook_of (K.sight look.now) scene.entry.now in
         IfOk result (λ l. selection w input criterion ≡ Ok l) }
-    ensures fault { let w = world_of (K.sight look.now) scene.entry.now in
+    ensures fault { let w = outlook_of (K.sight look.now) scene.entry.now in
         IfErr result (λ f. (f ≡ QueryFault.Memory) ⊎ (selection w input criterion ≡ Err f)) }
 {
     asked(look, input, criterion)?;

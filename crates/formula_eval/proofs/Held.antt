@@ -2,14 +2,14 @@
 use Rattle.std.proofs.Common.{◌≡◌, ℕ, ◌+◌, ◌-◌, ◌<◌, List, get_or, sym, ap, ◌∙◌}
 use Rattle.std.specs.Prelude.{Bool, Option}
 use Rattle.grid_address.specs.Place.{width_of, Extent}
-use Rattle.formula_eval.specs.World.{World}
+use Rattle.formula_eval.specs.Outlook.{Outlook}
 use Rattle.range_lines.specs.Rows.{at, rows_down}
 use Rattle.formula_eval.specs.Criteria.{condition_holds, holds_at, value_of_field}
 use Rattle.formula_eval.specs.Fields.{field_named}
 use Rattle.formula_eval.specs.Criteria.{fields_of}
 use Rattle.range_lines.proofs.Scans.{made_at}
 
-pub held : (w : World) (input criterion : Extent) (fields : List (Option ℕ)) (row conditions col place count index : ℕ) (d : Option ℕ) (b : Bool) →
+pub held : (w : Outlook) (input criterion : Extent) (fields : List (Option ℕ)) (row conditions col place count index : ℕ) (d : Option ℕ) (b : Bool) →
     fields ≡ fields_of w.sight input criterion → col < width_of criterion → place ≡ criterion.first.col + col → count ≡ row - (input.first.row + 1) → index ≡ col →
     b ≡ condition_holds w (w.sight.contents (at conditions place)) (rows_down count (at conditions place)) (value_of_field w.sight (get_or fields index d) row) →
     holds_at w input criterion row (at conditions (criterion.first.col + col)) ≡ b

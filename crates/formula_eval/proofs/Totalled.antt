@@ -17,8 +17,8 @@ use Rattle.formula_eval.specs.declared.items.Item.{Item}
 use Rattle.formula_eval.specs.declared.items.Item.TheVariants as item
 use Rattle.formula_eval.specs.declared.totals.Total.{Total}
 use Rattle.formula_eval.specs.Lists.{in_range, is_err, is_na, items_in, larger, list_row, list_value, size_of, smaller}
+use Rattle.formula_eval.specs.Outlook.{block_cells, row_cells}
 use Rattle.formula_eval.specs.Totals.{IsTotal}
-use Rattle.formula_eval.specs.World.{block_cells, row_cells}
 
 -- blank cells have no items
 pub unfiltered : (values : Place → Value) (ps : List Place) → items_in values (filter (λ p. is_filled (values p)) ps) ≡ items_in values ps

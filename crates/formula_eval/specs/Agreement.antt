@@ -1,4 +1,4 @@
--- Worlds whose values agree in the ranges of a function's arguments.
+-- Outlooks whose values agree in the ranges of a function's arguments.
 use Rattle.std.specs.Prelude.{◌≡◌, ℕ, zero, suc, ◌+◌, ◌≤◌, ◌<◌, ◌&&◌, ◌||◌, nat_lt, refl, Bool, true, false, cond, List, [], ◌∷◌, ◌++◌}
 use Rattle.std.specs.List.{filter, list_all, list_any}
 use Rattle.std.proofs.Common.{ap, sym, ◌∙◌, arith, inl, inr}
@@ -11,7 +11,7 @@ use Rattle.formula_eval.specs.declared.argument.Operand.{Operand}
 use Rattle.formula_eval.specs.declared.argument.Operand.TheVariants as operand
 use Rattle.formula_eval.specs.Lists.{alone, in_range, items_by, items_in, items_of}
 use Rattle.formula_tree.specs.Values.{is_filled}
-use Rattle.formula_eval.specs.World.{block_cells, cells_of, row_cells}
+use Rattle.formula_eval.specs.Outlook.{block_cells, cells_of, row_cells}
 
 -- a place is in the range of an argument
 abbrev pub in_operand : Operand → Place → Bool

@@ -15,7 +15,7 @@ use Rattle.formula_eval.specs.declared.attributes.Attribute.{Attribute}
 use Rattle.formula_eval.specs.declared.attributes.Attribute.TheVariants.{Address, Col, Row, Contents, Format, Prefix, Protect, CellType, Width}
 use Rattle.formula_eval.specs.Lookups.{on_range, range_of}
 use Rattle.value_functions.specs.Values.{counted, on_text, stop_one, text_in, texted, truth, unless_stopped}
-use Rattle.formula_eval.specs.World.{Sight}
+use Rattle.formula_eval.specs.Outlook.{Sight}
 
 -- letters of either case are the same
 unfoldable pub attribute_named : List ℕ → Option Attribute

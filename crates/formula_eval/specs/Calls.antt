@@ -11,10 +11,10 @@ use Rattle.formula_eval.specs.Lookups.{extent_value, index_value, lookup_value, 
 use Rattle.value_functions.specs.Operators.{is_zero}
 use Rattle.value_functions.specs.Scalars.{changed, char_value, constant_value, cut_value, exact_value, find_value, mid_value, of_number, of_numbers, of_parts, of_text, replace_value, string_value, test_value}
 use Rattle.value_functions.specs.Values.{number_in, stop_one}
-use Rattle.formula_eval.specs.World.{World}
+use Rattle.formula_eval.specs.Outlook.{Outlook}
 
 -- functions of one argument
-abbrev pub one_value : Function → World → Argument → Value
+abbrev pub one_value : Function → Outlook → Argument → Value
 one_value function.Abs w a = of_number function.Abs a.value
 one_value function.Int w a = of_number function.Int a.value
 one_value function.Day w a = of_number function.Day a.value
@@ -41,7 +41,7 @@ one_value function.Rows w a = on_range (range_of a.operand) (extent_value functi
 one_value f w a = test_value f a.value
 
 -- functions of two arguments
-abbrev pub two_value : Function → World → Argument → Argument → Value
+abbrev pub two_value : Function → Outlook → Argument → Argument → Value
 two_value function.Repeat w a b = cut_value function.Repeat a.value b.value
 two_value function.Left w a b = cut_value function.Left a.value b.value
 two_value function.Right w a b = cut_value function.Right a.value b.value
@@ -51,7 +51,7 @@ two_value function.Cell w a b = cell_value w.sight a.value b.operand
 two_value f w a b = of_numbers f a.value b.value
 
 -- functions of three arguments
-abbrev pub three_value : Function → World → Argument → Argument → Argument → Value
+abbrev pub three_value : Function → Outlook → Argument → Argument → Argument → Value
 three_value function.Mid w a b c = mid_value a.value b.value c.value
 three_value function.Find w a b c = find_value a.value b.value c.value
 three_value function.VLookup w a b c = lookup_value w.sight.values false a.value b.operand c.value
@@ -60,7 +60,7 @@ three_value function.Index w a b c = index_value w.sight.values a.operand b.valu
 three_value f w a b c = of_parts f a.value b.value c.value
 
 -- functions by the number of their arguments
-abbrev pub called : Function → World → List Argument → Value
+abbrev pub called : Function → Outlook → List Argument → Value
 called f w [] = constant_value f w.day w.second
 called f w (a ∷ []) = one_value f w a
 called f w (a ∷ b ∷ []) = two_value f w a b

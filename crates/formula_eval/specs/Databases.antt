@@ -14,7 +14,7 @@ use Rattle.formula_eval.specs.Criteria.{missing, record_matches}
 use Rattle.formula_eval.specs.Fields.{has_fields}
 use Rattle.formula_eval.specs.Lists.{items_in, list_value}
 use Rattle.formula_eval.specs.Lookups.{on_place, on_range, place_in, range_of}
-use Rattle.formula_eval.specs.World.{Sight, World}
+use Rattle.formula_eval.specs.Outlook.{Outlook, Sight}
 
 -- the function of a list that each is
 abbrev pub list_function : Function → Function
@@ -34,25 +34,25 @@ abbrev pub is_asked : Sight → Extent → Extent → Bool
 is_asked sight input criterion = has_fields sight input && none_missing (missing sight input criterion)
 
 -- the cells of a column in the records that match, taken as those of a range
-abbrev pub record_items : World → Extent → Extent → ℕ → List Item
+abbrev pub record_items : Outlook → Extent → Extent → ℕ → List Item
 record_items w input criterion col =
     items_in w.sight.values (map (λ row. at row col) (filter (record_matches w input criterion) (rows_below input)))
 
 -- over a column, counted from the first
-abbrev pub over_column : Function → World → Extent → Extent → ℕ → Value
+abbrev pub over_column : Function → Outlook → Extent → Extent → ℕ → Value
 over_column f w input criterion k =
     if is_asked w.sight input criterion
     then list_value (list_function f) (record_items w input criterion (input.first.col + k))
     else value.Err
 
 -- the second argument is the column's number
-abbrev pub by_column : Function → World → Extent → Extent → Value → Value
+abbrev pub by_column : Function → Outlook → Extent → Extent → Value → Value
 by_column f w input criterion n =
     unless_stopped (stop_one n) (on_number (number_in n) (λ x.
     on_place (place_in x (width_of input)) (over_column f w input criterion)))
 
 -- of an input, a column and a criterion
-abbrev pub database_value : Function → World → List Argument → Value
+abbrev pub database_value : Function → Outlook → List Argument → Value
 database_value f w [] = value.Err
 database_value f w (a ∷ []) = value.Err
 database_value f w (a ∷ b ∷ []) = value.Err

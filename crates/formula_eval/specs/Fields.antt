@@ -7,7 +7,7 @@ use Rattle.formula_tree.specs.declared.value.Content.{Content}
 use Rattle.formula_tree.specs.declared.value.Content.TheVariants as content
 use Rattle.value_functions.specs.Operators.{order_of_texts}
 use Rattle.range_lines.specs.Rows.{at, columns_of}
-use Rattle.formula_eval.specs.World.{Sight}
+use Rattle.formula_eval.specs.Outlook.{Sight}
 
 -- the text of a label
 abbrev pub label_in : Option Content → Option (List ℕ)

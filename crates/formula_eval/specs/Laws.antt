@@ -23,7 +23,7 @@ use Rattle.formula_eval.specs.Mean.{mean, Reads}
 use Rattle.formula_eval.specs.Parts.{arguments_by, call_value, filled_in, operand_of, value_by, Database}
 use Rattle.value_functions.specs.Operators.{binary_value, denied, negated}
 use Rattle.value_functions.specs.Scalars.{constant_value}
-use Rattle.formula_eval.specs.World.{World}
+use Rattle.formula_eval.specs.Outlook.{Outlook}
 
 not_blank : (v : Value) → filled_in v ≡ value.Blank → ⊥
 not_blank value.Blank h = absurd cc
@@ -32,7 +32,7 @@ not_blank (value.Str t) h = absurd cc
 not_blank value.Err h = absurd cc
 not_blank value.Na h = absurd cc
 
-pub never_blank : (t : Tree) (at : Place) (w : World) → mean t at w ≡ value.Blank → ⊥
+pub never_blank : (t : Tree) (at : Place) (w : Outlook) → mean t at w ≡ value.Blank → ⊥
 unfolding mean
 never_blank t at w h = not_blank (value_by database_value t at w) h
 
@@ -41,46 +41,46 @@ either_false true b h = absurd cc
 either_false false b h = (refl, h)
 
 -- values agree where a function's arguments are
-abbrev AgreeOn : List Argument → World → World → Type 0
+abbrev AgreeOn : List Argument → Outlook → Outlook → Type 0
 AgreeOn args w u = (p : Place) → in_arguments args p ≡ true → w.sight.values p ≡ u.sight.values p
 
-same_constant : (f : Function) (w u : World) → is_volatile_function f ≡ false →
+same_constant : (f : Function) (w u : Outlook) → is_volatile_function f ≡ false →
     constant_value f w.day w.second ≡ constant_value f u.day u.second
 same_constant function.Now w u s = absurd cc
 same_constant f w u s = refl
 
-same_one : (f : Function) (w u : World) (a : Argument) → is_volatile_function f ≡ false →
+same_one : (f : Function) (w u : Outlook) (a : Argument) → is_volatile_function f ≡ false →
     one_value f w a ≡ one_value f u a
 same_one function.CellPointer w u a s = absurd cc
 same_one function.Pointed w u a s = absurd cc
 same_one f w u a s = refl
 
-same_two : (f : Function) (w u : World) (a b : Argument) → is_volatile_function f ≡ false →
+same_two : (f : Function) (w u : Outlook) (a b : Argument) → is_volatile_function f ≡ false →
     two_value f w a b ≡ two_value f u a b
 same_two function.Cell w u a b s = absurd cc
 same_two f w u a b s = refl
 
-among : (args : List Argument) (a : Argument) (p : Place) (w u : World) → AgreeOn (a ∷ args) w u →
+among : (args : List Argument) (a : Argument) (p : Place) (w u : Outlook) → AgreeOn (a ∷ args) w u →
     in_operand a.operand p ≡ true → w.sight.values p ≡ u.sight.values p
 among args a p w u agree h = agree p (first (in_operand a.operand p) (in_arguments args p) h)
   where
     first : (a b : Bool) → a ≡ true → (a || b) ≡ true
     first a b h = grind arith
 
-behind : (args : List Argument) (a : Argument) (w u : World) → AgreeOn (a ∷ args) w u → AgreeOn args w u
+behind : (args : List Argument) (a : Argument) (w u : Outlook) → AgreeOn (a ∷ args) w u → AgreeOn args w u
 behind args a w u agree = λ p h. agree p (second (in_operand a.operand p) (in_arguments args p) h)
   where
     second : (a b : Bool) → b ≡ true → (a || b) ≡ true
     second a b h = grind arith
 
-same_table : (w u : World) (across : Bool) (a b c : Argument) → AgreeOn (a ∷ b ∷ c ∷ []) w u →
+same_table : (w u : Outlook) (across : Bool) (a b c : Argument) → AgreeOn (a ∷ b ∷ c ∷ []) w u →
     lookup_value w.sight.values across a.value b.operand c.value ≡
     lookup_value u.sight.values across a.value b.operand c.value
 same_table w u across a b c agree =
     let within = behind (b ∷ c ∷ []) a w u agree in
     same_lookup w.sight.values u.sight.values across a.value b.operand c.value (λ p h. among (c ∷ []) b p w u within h)
 
-same_three : (f : Function) (w u : World) (a b c : Argument) → AgreeOn (a ∷ b ∷ c ∷ []) w u →
+same_three : (f : Function) (w u : Outlook) (a b c : Argument) → AgreeOn (a ∷ b ∷ c ∷ []) w u →
     three_value f w a b c ≡ three_value f u a b c
 same_three function.VLookup w u a b c agree = same_table w u false a b c agree
 same_three function.HLookup w u a b c agree = same_table w u true a b c agree
@@ -88,8 +88,8 @@ same_three function.Index w u a b c agree =
     same_index w.sight.values u.sight.values a.operand b.value c.value (λ p h. among (b ∷ c ∷ []) a p w u agree h)
 same_three f w u a b c agree = refl
 
-same_called : (f : Function) (w u : World) (args : List Argument) → is_volatile_function f ≡ false → AgreeOn args w u →
-    called f w args ≡ called f u args
+same_called : (f : Function) (w u : Outlook) (args : List Argument) → is_volatile_function f ≡ false →
+    AgreeOn args w u → called f w args ≡ called f u args
 same_called f w u [] s agree = same_constant f w u s
 same_called f w u (a ∷ []) s agree = same_one f w u a s
 same_called f w u (a ∷ b ∷ []) s agree = same_two f w u a b s
@@ -97,11 +97,11 @@ same_called f w u (a ∷ b ∷ c ∷ []) s agree = same_three f w u a b c agree
 same_called f w u (a ∷ b ∷ c ∷ d ∷ []) s agree = refl
 same_called f w u (a ∷ b ∷ c ∷ d ∷ e ∷ more) s agree = refl
 
-same_list : (f : Function) (w u : World) (args : List Argument) → AgreeOn args w u →
+same_list : (f : Function) (w u : Outlook) (args : List Argument) → AgreeOn args w u →
     list_value f (items_of w.sight.values args) ≡ list_value f (items_of u.sight.values args)
 same_list f w u args agree = ap (list_value f) (same_of w.sight.values u.sight.values args agree)
 
-same_call : (d : Database) (f : Function) (w u : World) (args : List Argument) → is_volatile_function f ≡ false →
+same_call : (d : Database) (f : Function) (w u : Outlook) (args : List Argument) → is_volatile_function f ≡ false →
     AgreeOn args w u →
     call_value d f w args ≡ call_value d f u args
 same_call d function.Choose w u args s agree = refl
@@ -148,10 +148,10 @@ read_operand (binary op a b) at p h = absurd cc
 read_operand (call f ts) at p h = absurd cc
 
 -- values agree on the cells that are read
-abbrev AgreeFor : List Extent → World → World → Type 0
+abbrev AgreeFor : List Extent → Outlook → Outlook → Type 0
 AgreeFor spans w u = (c : Place) → list_any (λ s. is_within s c) spans ≡ true → w.sight.values c ≡ u.sight.values c
 
-read_arguments : (d : Database) (ts : Trees) (at : Place) (w : World) (p : Place) →
+read_arguments : (d : Database) (ts : Trees) (at : Place) (w : Outlook) (p : Place) →
     in_arguments (arguments_by d ts at w) p ≡ true → list_any (λ s. is_within s p) (spans_of_all ts at) ≡ true
 read_arguments d no_trees at w p h = absurd cc
 read_arguments d (trees a ts) at w p h = elim (cases_Bool (in_operand (operand_of a at) p)) [
@@ -160,14 +160,14 @@ read_arguments d (trees a ts) at w p h = elim (cases_Bool (in_operand (operand_o
       (read_arguments d ts at w p (sym (ap (λ b. b || in_arguments (arguments_by d ts at w) p) later) ∙ h))
 ]
 
-for_left : (xs ys : List Extent) (w u : World) → AgreeFor (xs ++ ys) w u → AgreeFor xs w u
+for_left : (xs ys : List Extent) (w u : Outlook) → AgreeFor (xs ++ ys) w u → AgreeFor xs w u
 for_left xs ys w u h = λ c r. h c (any_here c xs ys r)
 
-for_right : (xs ys : List Extent) (w u : World) → AgreeFor (xs ++ ys) w u → AgreeFor ys w u
+for_right : (xs ys : List Extent) (w u : Outlook) → AgreeFor (xs ++ ys) w u → AgreeFor ys w u
 for_right xs ys w u h = λ c r. h c (any_there c xs ys r)
 
 mutual
-  value_reads : (d : Database) (t : Tree) (at : Place) (w u : World) → is_volatile t ≡ false →
+  value_reads : (d : Database) (t : Tree) (at : Place) (w u : Outlook) → is_volatile t ≡ false →
       AgreeFor (spans_of t at) w u → value_by d t at w ≡ value_by d t at u
   value_reads d (num v) at w u s h = refl
   value_reads d (str v) at w u s h = refl
@@ -186,7 +186,7 @@ mutual
       same_call d f w u (arguments_by d ts at w) parts.0 (λ p r. h p (read_arguments d ts at w p r))
       ∙ ap (call_value d f u) (arguments_read d ts at w u parts.1 h)
 
-  arguments_read : (d : Database) (ts : Trees) (at : Place) (w u : World) → any_volatile ts ≡ false →
+  arguments_read : (d : Database) (ts : Trees) (at : Place) (w u : Outlook) → any_volatile ts ≡ false →
       AgreeFor (spans_of_all ts at) w u → arguments_by d ts at w ≡ arguments_by d ts at u
   arguments_read d no_trees at w u s h = refl
   arguments_read d (trees a ts) at w u s h =
@@ -195,7 +195,7 @@ mutual
       let more = arguments_read d ts at w u parts.1 (for_right (spans_of a at) (spans_of_all ts at) w u h) in
       λ i. record { value = here i; operand = operand_of a at } ∷ more i
 
-pub reads_alone : (t : Tree) (at : Place) (w u : World) → is_volatile t ≡ false →
+pub reads_alone : (t : Tree) (at : Place) (w u : Outlook) → is_volatile t ≡ false →
     ((c : Place) → Reads t at c → w.sight.values c ≡ u.sight.values c) → mean t at w ≡ mean t at u
 unfolding mean
 reads_alone t at w u s h = ap filled_in (value_reads database_value t at w u s h)

@@ -10,7 +10,7 @@ pub mod Lookalike
 pub mod Lookups
 pub mod Mean
 pub mod Numbers
+pub mod Outlook
 pub mod Parts
 pub mod Scenes
 pub mod Totals
-pub mod World

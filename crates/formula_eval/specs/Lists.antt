@@ -16,7 +16,7 @@ use Rattle.formula_eval.specs.declared.items.Item.{Item}
 use Rattle.formula_eval.specs.declared.items.Item.TheVariants as item
 use Rattle.value_functions.specs.Operators.{binary_value}
 use Rattle.value_functions.specs.Values.{answer, counted, stop, unless_stopped}
-use Rattle.formula_eval.specs.World.{filled}
+use Rattle.formula_eval.specs.Outlook.{filled}
 
 -- a cell of a range: a blank one is passed over, and a label counts as 0
 abbrev pub in_range : Value → List Item

@@ -6,11 +6,11 @@ use Rattle.formula_tree.specs.Spans.{spans_of}
 use Rattle.formula_tree.specs.Tree.{Tree}
 use Rattle.formula_tree.specs.declared.value.Value.{Value}
 use Rattle.formula_eval.specs.Databases.{database_value}
+use Rattle.formula_eval.specs.Outlook.{Outlook}
 use Rattle.formula_eval.specs.Parts.{filled_in, value_by}
-use Rattle.formula_eval.specs.World.{World}
 
 -- its value, with the records that its functions of records speak of
-unfoldable pub mean : Tree → Place → World → Value
+unfoldable pub mean : Tree → Place → Outlook → Value
 mean t at w = filled_in (value_by database_value t at w)
 
 -- a formula that stands in a cell reads another

@@ -4,22 +4,22 @@ use Rattle.grid_address.specs.Place.{Extent, Place}
 use Rattle.formula_tree.specs.Tree.{Tree, Trees}
 use Rattle.formula_tree.specs.declared.function.Function.{Function}
 use Rattle.formula_tree.specs.declared.value.Value.TheVariants as value
+use Rattle.formula_eval.specs.Outlook.{Sight}
 use Rattle.formula_eval.specs.declared.argument.Argument.{Argument}
 use Rattle.formula_eval.specs.declared.argument.Operand.TheVariants as operand
 use Rattle.formula_eval.specs.declared.look.Scene.{Scene}
 use Rattle.formula_eval.specs.Parts.{arguments_by, call_value, value_by, Database}
-use Rattle.formula_eval.specs.Scenes.{world_of}
-use Rattle.formula_eval.specs.World.{Sight}
+use Rattle.formula_eval.specs.Scenes.{outlook_of}
 
 -- a part has that number in every scene and whatever functions of records answer
 abbrev pub IsNumber : Tree → Place → Sight → ℤ → Type 0
-IsNumber t at sight n = (d : Database) (s : Scene) → value_by d t at (world_of sight s) ≡ value.Num n
+IsNumber t at sight n = (d : Database) (s : Scene) → value_by d t at (outlook_of sight s) ≡ value.Num n
 
 -- so has a function of those arguments
 abbrev pub IsCallNumber : Function → Trees → Place → Sight → ℤ → Type 0
 IsCallNumber f ts at sight n =
     (d : Database) (s : Scene) →
-    call_value d f (world_of sight s) (arguments_by d ts at (world_of sight s)) ≡ value.Num n
+    call_value d f (outlook_of sight s) (arguments_by d ts at (outlook_of sight s)) ≡ value.Num n
 
 -- a range as the only argument of a function
 abbrev pub ranged : Extent → List Argument

@@ -13,18 +13,18 @@ use Rattle.formula_eval.specs.declared.argument.Operand.TheVariants as operand
 use Rattle.formula_eval.specs.Calls.{called, chosen}
 use Rattle.formula_eval.specs.Lists.{items_of, list_value}
 use Rattle.value_functions.specs.Operators.{binary_value, denied, negated}
-use Rattle.formula_eval.specs.World.{World}
+use Rattle.formula_eval.specs.Outlook.{Outlook}
 
 -- what the functions of records answer, by their arguments
 abbrev pub Database : Type 0
-Database = Function → World → List Argument → Value
+Database = Function → Outlook → List Argument → Value
 
 -- within a criterion they are ERR
 abbrev pub refused : Database
 refused f w args = value.Err
 
 -- one of the arguments alone is wanted beside the first, a list of all cells, records, or the arguments
-abbrev pub call_value : Database → Function → World → List Argument → Value
+abbrev pub call_value : Database → Function → Outlook → List Argument → Value
 call_value d function.Choose w args = chosen function.Choose args
 call_value d function.If w args = chosen function.If args
 call_value d function.Sum w args = list_value function.Sum (items_of w.sight.values args)
@@ -53,7 +53,7 @@ operand_of (call f ts) at = operand.Other
 
 -- the value of a part, which may be Blank, by what the functions of records answer
 abbrev mutual
-  pub value_by : Database → Tree → Place → World → Value
+  pub value_by : Database → Tree → Place → Outlook → Value
   value_by d (num v) at w = value.Num v
   value_by d (str t) at w = value.Str t
   value_by d (cell r) at w = w.sight.values (resolve r at)
@@ -64,7 +64,7 @@ abbrev mutual
   value_by d (binary op a b) at w = binary_value op (value_by d a at w) (value_by d b at w)
   value_by d (call f ts) at w = call_value d f w (arguments_by d ts at w)
 
-  pub arguments_by : Database → Trees → Place → World → List Argument
+  pub arguments_by : Database → Trees → Place → Outlook → List Argument
   arguments_by d no_trees at w = []
   arguments_by d (trees a ts) at w =
       record { value = value_by d a at w; operand = operand_of a at } ∷ arguments_by d ts at w
@@ -78,5 +78,5 @@ filled_in value.Err = value.Err
 filled_in value.Na = value.Na
 
 -- what a formula means within a criterion, where its functions of records are ERR
-unfoldable pub mean_within : Tree → Place → World → Value
+unfoldable pub mean_within : Tree → Place → Outlook → Value
 mean_within t at w = filled_in (value_by refused t at w)

@@ -3,7 +3,7 @@ ghost use Rattle.std.specs.Prelude.{◌≡◌, ◌≤◌, ◌<◌, ◌+◌, ◌+
 ghost use Rattle.std.specs.Str.{str_eq_ignore_ascii_case};
 ghost use Rattle.formula_eval.specs.Attributes.{attribute_named, attribute_value, cell_value, on_attribute, prefix_in, prefix_of, told_value, type_in, type_of, without_brackets};
 ghost use Rattle.value_functions.specs.Values.{texted};
-ghost use Rattle.formula_eval.specs.World.{Sight};
+ghost use Rattle.formula_eval.specs.Outlook.{Sight};
 ghost use Rattle.grid_address.specs.Address.{column_name, decimal};
 
 use crate::argument::Operand;

@@ -3,8 +3,8 @@ ghost use Rattle.std.specs.Prelude.{◌≡◌, IfOk};
 ghost use Rattle.at_functions.specs.Numbers.{count_of};
 ghost use Rattle.formula_eval.specs.Calls.{behind_first, called, choice, one_value, place_for, three_value, two_value};
 ghost use Rattle.formula_eval.specs.Lookups.{extent_value, on_range, range_of};
-ghost use Rattle.formula_eval.specs.Scenes.{world_of};
-ghost use Rattle.formula_eval.specs.World.{Sight};
+ghost use Rattle.formula_eval.specs.Outlook.{Sight};
+ghost use Rattle.formula_eval.specs.Scenes.{outlook_of};
 
 use crate::argument::Argument;
 use crate::attributes::{cell_value, told_value};
@@ -39,7 +39,7 @@ fn one_value<K: Look>(
     look: &K,
     scene: &Scene,
 ) -> Result<Value, Memory>
-    ensures { IfOk result (λ v. v ≡ one_value function (world_of (K.sight look.now) scene.entry.now) a.now) }
+    ensures { IfOk result (λ v. v ≡ one_value function (outlook_of (K.sight look.now) scene.entry.now) a.now) }
 {
     match function {
         Function::Abs
@@ -74,7 +74,7 @@ fn two_value<K: Look>(
     look: &K,
     scene: &Scene,
 ) -> Result<Value, Memory>
-    ensures { IfOk result (λ v. v ≡ two_value function (world_of (K.sight look.now) scene.entry.now) a.now b.now) }
+    ensures { IfOk result (λ v. v ≡ two_value function (outlook_of (K.sight look.now) scene.entry.now) a.now b.now) }
 {
     match function {
         Function::Repeat | Function::Left | Function::Right => {
@@ -96,7 +96,7 @@ fn three_value<K: Look>(
     look: &K,
     scene: &Scene,
 ) -> Result<Value, Memory>
-    ensures { let w = world_of (K.sight look.now) scene.entry.now in
+    ensures { let w = outlook_of (K.sight look.now) scene.entry.now in
         IfOk result (λ v. v ≡ three_value function w a.now b.now c.now) }
 {
     match function {
@@ -117,7 +117,7 @@ pub fn called<K: Look>(
     look: &K,
     scene: &Scene,
 ) -> Result<Value, Memory>
-    ensures { IfOk result (λ v. v ≡ called function (world_of (K.sight look.now) scene.entry.now) arguments.now) }
+    ensures { IfOk result (λ v. v ≡ called function (outlook_of (K.sight look.now) scene.entry.now) arguments.now) }
 {
     match arguments {
         [] => Ok(constant_value(function, scene.now)),

@@ -2,8 +2,8 @@
 ghost use Rattle.std.specs.Prelude.{◌≡◌, ◌<◌, ◌≤◌, IfOk};
 ghost use Rattle.range_lines.specs.Rows.{last_row, rows_down};
 ghost use Rattle.formula_eval.specs.Criteria.{condition_holds, content_holds, fields_of, record_matches, row_holds, value_of_field};
-ghost use Rattle.formula_eval.specs.Scenes.{world_of};
-ghost use Rattle.formula_eval.specs.World.{Sight};
+ghost use Rattle.formula_eval.specs.Outlook.{Sight};
+ghost use Rattle.formula_eval.specs.Scenes.{outlook_of};
 
 use crate::fields::field_named;
 use crate::look::{Look, Scene};
@@ -25,7 +25,7 @@ pub fn content_holds<K: Look>(
     look: &K,
     scene: &Scene,
 ) -> Result<bool, Memory>
-    ensures { let w = world_of (K.sight look.now) scene.entry.now in
+    ensures { let w = outlook_of (K.sight look.now) scene.entry.now in
         IfOk result (λ b. b ≡ content_holds w content.now place value.now) }
 {
     match content {
@@ -66,7 +66,7 @@ fn holds<K: Look>(
 ) -> Result<bool, Memory>
     requires row { row ≤ last_row }
     requires count { count ≤ last_row }
-    ensures { let w = world_of (K.sight look.now) scene.entry.now in let field = value_of_field w.sight field row in
+    ensures { let w = outlook_of (K.sight look.now) scene.entry.now in let field = value_of_field w.sight field row in
         IfOk result (λ b. b ≡ condition_holds w (w.sight.contents cell) (rows_down count cell) field) }
 {
     let Some(content) = look.content(cell) else {
@@ -93,7 +93,7 @@ fn row_holds<K: Look>(
     requires record { input.first.row < row }
     requires row { row ≤ last_row }
     requires conditions { conditions ≤ last_row }
-    ensures { let w = world_of (K.sight look.now) scene.entry.now in
+    ensures { let w = outlook_of (K.sight look.now) scene.entry.now in
         IfOk result (λ b. b ≡ row_holds w input criterion row conditions) }
 {
     let count = rows_behind(input, row);
@@ -122,7 +122,7 @@ pub fn record_matches<K: Look>(
     requires fields { fields.now ≡ fields_of (K.sight look.now) input criterion }
     requires record { input.first.row < row }
     requires row { row ≤ last_row }
-    ensures { let w = world_of (K.sight look.now) scene.entry.now in
+    ensures { let w = outlook_of (K.sight look.now) scene.entry.now in
         IfOk result (λ b. b ≡ record_matches w input criterion row) }
 {
     for place in 0..count_below(criterion) {

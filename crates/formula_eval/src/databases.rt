@@ -1,9 +1,9 @@
 // How the functions of records are answered: within a criterion by ERR, and elsewhere by the records.
 ghost use Rattle.std.specs.Prelude.{◌≡◌, IfOk};
 ghost use Rattle.formula_eval.specs.Databases.{database_value};
+ghost use Rattle.formula_eval.specs.Outlook.{Sight};
 ghost use Rattle.formula_eval.specs.Parts.{refused, Database};
-ghost use Rattle.formula_eval.specs.Scenes.{world_of};
-ghost use Rattle.formula_eval.specs.World.{Sight};
+ghost use Rattle.formula_eval.specs.Scenes.{outlook_of};
 
 use crate::argument::Argument;
 use crate::look::{Look, Scene};
@@ -25,7 +25,7 @@ pub trait Databases {
         look: &K,
         scene: &Scene,
     ) -> Result<Value, Memory>
-        ensures { let w = world_of (K.sight look.now) scene.entry.now in
+        ensures { let w = outlook_of (K.sight look.now) scene.entry.now in
             IfOk result (λ v. v ≡ answers function w arguments.now) };
 }
 

@@ -3,7 +3,7 @@ ghost use Rattle.std.specs.Prelude.{◌≡◌, IfSome, IfNone, Some, None};
 ghost use Rattle.std.specs.List.{list_all};
 ghost use Rattle.range_lines.specs.Rows.{at, columns_of};
 ghost use Rattle.formula_eval.specs.Fields.{field_named, has_fields, is_label_at, is_no_field, label_in, same_label};
-ghost use Rattle.formula_eval.specs.World.{Sight};
+ghost use Rattle.formula_eval.specs.Outlook.{Sight};
 
 use crate::look::Look;
 use formula_tree::Content;

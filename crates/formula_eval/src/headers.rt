@@ -4,7 +4,7 @@ ghost use Rattle.std.specs.List.{list_any};
 ghost use Rattle.grid_address.specs.Place.{width_of};
 ghost use Rattle.range_lines.specs.Rows.{at, rows_below};
 ghost use Rattle.formula_eval.specs.Criteria.{asks_field, is_missing, missing};
-ghost use Rattle.formula_eval.specs.World.{Sight};
+ghost use Rattle.formula_eval.specs.Outlook.{Sight};
 
 use crate::fields::is_no_field;
 use crate::look::Look;

@@ -4,7 +4,7 @@ ghost use Rattle.std.specs.Int.RustNames.{int_lt};
 ghost use Rattle.std.specs.List.{list_any};
 ghost use Rattle.fixed_value.specs.Numbers.{within};
 ghost use Rattle.formula_eval.specs.Lists.{alone, in_range, is_err, is_na, items_by, items_in, items_of, larger, list_row, list_value, scalar, size_of, smaller, sum};
-ghost use Rattle.formula_eval.specs.World.{filled, Sight};
+ghost use Rattle.formula_eval.specs.Outlook.{filled, Sight};
 
 use crate::argument::{Argument, Operand};
 use crate::look::Look;

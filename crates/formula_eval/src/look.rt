@@ -1,7 +1,7 @@
 // What formulas look at.
 ghost use Rattle.std.specs.Prelude.{◌≡◌, ◌≤◌, IfOk, IfNone, IfSome, Some, None, ℕ, pos};
 ghost use Rattle.grid_address.specs.Place.{Place};
-ghost use Rattle.formula_eval.specs.World.{filled, Sight, World};
+ghost use Rattle.formula_eval.specs.Outlook.{filled, Outlook, Sight};
 
 use formula_tree::{Content, Value};
 use grid_address::{Cell, CellList, Format, Span};

@@ -5,7 +5,7 @@ ghost use Rattle.std.specs.List.{prefix_len};
 ghost use Rattle.std.specs.Option.{ForSome};
 ghost use Rattle.grid_address.specs.Place.{height_of, width_of};
 ghost use Rattle.formula_eval.specs.Lookups.{by_number, by_text, cell_or_name, depth_of, extent_value, firsts, index_value, is_label, line_cell, lines_of, looked_up, lookup_value, passes, place_in, pointed_value, range_of, spelled_cell};
-ghost use Rattle.formula_eval.specs.World.{Sight};
+ghost use Rattle.formula_eval.specs.Outlook.{Sight};
 
 use crate::argument::Operand;
 use crate::look::Look;

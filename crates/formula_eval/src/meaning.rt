@@ -6,8 +6,8 @@ ghost use Rattle.formula_eval.specs.Calls.{chosen};
 ghost use Rattle.formula_eval.specs.Mean.{mean};
 ghost use Rattle.formula_eval.specs.Parts.{arguments_by, call_value, filled_in, mean_within, operand_of, value_by};
 ghost use Rattle.value_functions.specs.Operators.{binary_value, denied, negated};
-ghost use Rattle.formula_eval.specs.Scenes.{world_of};
-ghost use Rattle.formula_eval.specs.World.{Sight};
+ghost use Rattle.formula_eval.specs.Outlook.{Sight};
+ghost use Rattle.formula_eval.specs.Scenes.{outlook_of};
 ghost use Rattle.formula_tree.specs.declared.value.Value.TheVariants as value;
 
 use crate::argument::{Argument, Operand};
@@ -67,7 +67,7 @@ fn arguments_of<D: Databases, K: Look>(
     look: &K,
     scene: &Scene,
 ) -> Result<Vec<Argument>, Memory>
-    ensures { let w = world_of (K.sight look.now) scene.entry.now in
+    ensures { let w = outlook_of (K.sight look.now) scene.entry.now in
         IfOk result (λ v. v.items ≡ arguments_by D.answers (listed (map tree_of exprs.now)) at w) }
 {
     let mut arguments = Vec::new(alloc);
@@ -90,7 +90,7 @@ fn chosen<D: Databases, K: Look>(
     look: &K,
     scene: &Scene,
 ) -> Result<Value, Memory>
-    ensures { let w = world_of (K.sight look.now) scene.entry.now in let ts = listed (map tree_of exprs.now) in
+    ensures { let w = outlook_of (K.sight look.now) scene.entry.now in let ts = listed (map tree_of exprs.now) in
         IfOk result (λ v. v ≡ chosen function (arguments_by D.answers ts at w)) }
 {
     if exprs.len() == 0 {
@@ -120,7 +120,7 @@ fn listed_value<D: Databases, K: Look>(
     look: &K,
     scene: &Scene,
 ) -> Result<Value, Memory>
-    ensures { let w = world_of (K.sight look.now) scene.entry.now in let ts = listed (map tree_of exprs.now) in
+    ensures { let w = outlook_of (K.sight look.now) scene.entry.now in let ts = listed (map tree_of exprs.now) in
         let items = items_of (K.sight look.now).values (arguments_by D.answers ts at w) in
         IfOk result (λ v. v ≡ list_value function items) }
 {
@@ -140,7 +140,7 @@ fn call_value<D: Databases, K: Look>(
     look: &K,
     scene: &Scene,
 ) -> Result<Value, Memory>
-    ensures { let w = world_of (K.sight look.now) scene.entry.now in let ts = listed (map tree_of exprs.now) in
+    ensures { let w = outlook_of (K.sight look.now) scene.entry.now in let ts = listed (map tree_of exprs.now) in
         IfOk result (λ v. v ≡ call_value D.answers function w (arguments_by D.answers ts at w)) }
 {
     match function {
@@ -178,7 +178,7 @@ fn negated_value<D: Databases, K: Look>(
     look: &K,
     scene: &Scene,
 ) -> Result<Value, Memory>
-    ensures { let w = world_of (K.sight look.now) scene.entry.now in
+    ensures { let w = outlook_of (K.sight look.now) scene.entry.now in
         IfOk result (λ v. v ≡ negated (value_by D.answers (tree_of inner.now) at w)) }
 {
     let value = value_of(alloc, databases, inner, at, look, scene)?;
@@ -195,7 +195,7 @@ fn denied_value<D: Databases, K: Look>(
     look: &K,
     scene: &Scene,
 ) -> Result<Value, Memory>
-    ensures { let w = world_of (K.sight look.now) scene.entry.now in
+    ensures { let w = outlook_of (K.sight look.now) scene.entry.now in
         IfOk result (λ v. v ≡ denied (value_by D.answers (tree_of inner.now) at w)) }
 {
     let value = value_of(alloc, databases, inner, at, look, scene)?;
@@ -214,7 +214,7 @@ fn binary_value<D: Databases, K: Look>(
     look: &K,
     scene: &Scene,
 ) -> Result<Value, Memory>
-    ensures { let w = world_of (K.sight look.now) scene.entry.now in
+    ensures { let w = outlook_of (K.sight look.now) scene.entry.now in
         let a = value_by D.answers (tree_of left.now) at w in let b = value_by D.answers (tree_of right.now) at w in
         IfOk result (λ v. v ≡ binary_value op a b) }
 {
@@ -233,7 +233,7 @@ fn value_of<D: Databases, K: Look>(
     look: &K,
     scene: &Scene,
 ) -> Result<Value, Memory>
-    ensures { let w = world_of (K.sight look.now) scene.entry.now in
+    ensures { let w = outlook_of (K.sight look.now) scene.entry.now in
         IfOk result (λ v. v ≡ value_by D.answers (tree_of expr.now) at w) }
 {
     match expr {
@@ -269,7 +269,7 @@ fn composed<D: Databases, K: Look>(
     look: &K,
     scene: &Scene,
 ) -> Result<Value, Memory>
-    ensures { let w = world_of (K.sight look.now) scene.entry.now in
+    ensures { let w = outlook_of (K.sight look.now) scene.entry.now in
         IfOk result (λ v. v ≡ value_by D.answers (tree_of expr.now) at w) }
 {
     match number_of(expr, at, look) {
@@ -296,7 +296,7 @@ pub fn glance_within<K: Look>(
     look: &K,
     scene: &Scene,
 ) -> Result<Value, Memory>
-    ensures { IfOk result (λ v. v ≡ mean_within formula.now at (world_of (K.sight look.now) scene.entry.now)) }
+    ensures { IfOk result (λ v. v ≡ mean_within formula.now at (outlook_of (K.sight look.now) scene.entry.now)) }
 {
     let value = composed(formula.alloc(), &Refused, formula.expr(), at, look, scene)?;
     Ok(filled_in(value))
@@ -310,7 +310,7 @@ pub fn glance<K: Look>(
     look: &K,
     scene: &Scene,
 ) -> Result<Value, Memory>
-    ensures { IfOk result (λ v. v ≡ mean formula.now at (world_of (K.sight look.now) scene.entry.now)) }
+    ensures { IfOk result (λ v. v ≡ mean formula.now at (outlook_of (K.sight look.now) scene.entry.now)) }
 {
     let value = composed(formula.alloc(), &Recorded, formula.expr(), at, look, scene)?;
     Ok(filled_in(value))
@@ -324,7 +324,7 @@ pub fn evaluate<K: Look>(
     scene: &Scene,
     tally: &mut Tally,
 ) -> Result<Value, Memory>
-    ensures value { IfOk result (λ v. v ≡ mean formula.now at (world_of (K.sight look.now) scene.entry.now)) }
+    ensures value { IfOk result (λ v. v ≡ mean formula.now at (outlook_of (K.sight look.now) scene.entry.now)) }
     ensures counted { tally.new.count ≡ min (tally.old.count + 1) (2 ^ 64 - 1) }
 {
     tally.count = tally.count.saturating_add(1);

@@ -7,8 +7,8 @@ ghost use Rattle.formula_tree.specs.declared.value.Value.{Value};
 ghost use Rattle.formula_tree.specs.declared.value.Value.TheVariants as value;
 ghost use Rattle.formula_eval.specs.Laws.{never_blank, reads_alone};
 ghost use Rattle.formula_eval.specs.Mean.{mean, Reads};
-ghost use Rattle.formula_eval.specs.Scenes.{world_of};
-ghost use Rattle.formula_eval.specs.World.{World};
+ghost use Rattle.formula_eval.specs.Outlook.{Outlook};
+ghost use Rattle.formula_eval.specs.Scenes.{outlook_of};
 
 use crate::look::{Look, Scene};
 use crate::meaning::{Tally, evaluate};
@@ -19,7 +19,7 @@ use lics_text::Memory;
 /// What a sheet evaluates with: it gives each formula its meaning, and counts how often it did. Its meaning is never
 /// blank, and what a formula means that isn't volatile hangs on the values of the cells alone that the formula reads.
 pub trait Means {
-    ghost meaning: { Tree → Place → World → Value };
+    ghost meaning: { Tree → Place → Outlook → Value };
 
     ghost count: { Self → ℕ };
 
@@ -31,12 +31,12 @@ pub trait Means {
         look: &K,
         scene: &Scene,
     ) -> Result<Value, Memory>
-        ensures value { IfOk result (λ v. v ≡ meaning formula.now at (world_of (K.sight look.now) scene.entry.now)) }
+        ensures value { IfOk result (λ v. v ≡ meaning formula.now at (outlook_of (K.sight look.now) scene.entry.now)) }
         ensures counted { count self.new ≡ min (count self.old + 1) (2 ^ 64 - 1) };
 
-    ghost never_blank: { (t : Tree) (at : Place) (w : World) → meaning t at w ≡ value.Blank → ⊥ };
+    ghost never_blank: { (t : Tree) (at : Place) (w : Outlook) → meaning t at w ≡ value.Blank → ⊥ };
 
-    ghost reads_alone: { (t : Tree) (at : Place) (w u : World) → is_volatile t ≡ false
+    ghost reads_alone: { (t : Tree) (at : Place) (w u : Outlook) → is_volatile t ≡ false
         → ((c : Place) → Reads t at c → w.sight.values c ≡ u.sight.values c) → meaning t at w ≡ meaning t at u };
 }
 

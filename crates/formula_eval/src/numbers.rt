@@ -2,8 +2,8 @@
 ghost use Rattle.std.specs.Prelude.{◌≡◌, map, IfSome};
 ghost use Rattle.formula_tree.specs.View.{listed, tree_of};
 ghost use Rattle.formula_eval.specs.Numbers.{ranged, IsCallNumber, IsNumber};
+ghost use Rattle.formula_eval.specs.Outlook.{Outlook, Sight};
 ghost use Rattle.formula_eval.specs.Parts.{arguments_by, Database};
-ghost use Rattle.formula_eval.specs.World.{Sight, World};
 
 use crate::look::Look;
 use crate::totals::range_number;
@@ -30,7 +30,7 @@ fn number_at<K: Look>(expr: &Expr, at: Cell, look: &K) -> Option<Fixed>
 // The range that is the only argument of a function.
 fn only_range(exprs: &[Expr], at: Cell) -> Option<Span>
     ensures { let ts = listed (map tree_of exprs.now) in
-        IfSome result (λ s. (d : Database) (w : World) → arguments_by d ts at w ≡ ranged s) }
+        IfSome result (λ s. (d : Database) (w : Outlook) → arguments_by d ts at w ≡ ranged s) }
 {
     match exprs {
         [Expr::Span(first, last)] => Some(Span::of(first.resolve(at), last.resolve(at))),

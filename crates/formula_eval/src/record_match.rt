@@ -1,8 +1,8 @@
 // When a record matches a criterion.
 ghost use Rattle.std.specs.Prelude.{◌≡◌, ◌≤◌, IfOk};
 ghost use Rattle.formula_eval.specs.Criteria.{matching};
-ghost use Rattle.formula_eval.specs.Scenes.{world_of};
-ghost use Rattle.formula_eval.specs.World.{Sight};
+ghost use Rattle.formula_eval.specs.Outlook.{Sight};
+ghost use Rattle.formula_eval.specs.Scenes.{outlook_of};
 
 use crate::criteria::{fields_of, record_matches};
 use crate::fields::has_fields;
@@ -37,7 +37,7 @@ pub fn matches<K: Look>(
 ) -> Result<Match, Memory>
     requires first { input.first.row ≤ row }
     requires last { row ≤ input.last.row }
-    ensures { let w = world_of (K.sight look.now) scene.entry.now in
+    ensures { let w = outlook_of (K.sight look.now) scene.entry.now in
         IfOk result (λ m. m ≡ matching w input criterion row) }
 {
     if !has_fields(look, input) {

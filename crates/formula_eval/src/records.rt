@@ -3,8 +3,8 @@ ghost use Rattle.std.specs.Prelude.{◌≡◌, ◌<◌, ◌+◌, IfOk};
 ghost use Rattle.grid_address.specs.Place.{width_of};
 ghost use Rattle.formula_eval.specs.Criteria.{fields_of};
 ghost use Rattle.formula_eval.specs.Databases.{by_column, database_value, is_asked, list_function, over_column, record_items};
-ghost use Rattle.formula_eval.specs.Scenes.{world_of};
-ghost use Rattle.formula_eval.specs.World.{Sight};
+ghost use Rattle.formula_eval.specs.Outlook.{Sight};
+ghost use Rattle.formula_eval.specs.Scenes.{outlook_of};
 
 use crate::argument::Argument;
 use crate::criteria::{fields_of, record_matches};
@@ -57,7 +57,7 @@ fn items_of_records<K: Look>(
     col: u8,
 ) -> Result<Vec<Item>, Memory>
     requires { fields.now ≡ fields_of (K.sight look.now) input criterion }
-    ensures { let w = world_of (K.sight look.now) scene.entry.now in
+    ensures { let w = outlook_of (K.sight look.now) scene.entry.now in
         IfOk result (λ v. v.items ≡ record_items w input criterion col) }
 {
     let mut items = Vec::new(alloc);
@@ -80,7 +80,7 @@ fn record_items<K: Look>(
     criterion: Span,
     col: u8,
 ) -> Result<Vec<Item>, Memory>
-    ensures { let w = world_of (K.sight look.now) scene.entry.now in
+    ensures { let w = outlook_of (K.sight look.now) scene.entry.now in
         IfOk result (λ v. v.items ≡ record_items w input criterion col) }
 {
     let fields = fields_of(alloc, look, input, criterion)?;
@@ -98,7 +98,7 @@ fn over_column<K: Look>(
     scene: &Scene,
 ) -> Result<Value, Memory>
     requires { place < width_of input }
-    ensures { let w = world_of (K.sight look.now) scene.entry.now in
+    ensures { let w = outlook_of (K.sight look.now) scene.entry.now in
         IfOk result (λ v. v ≡ over_column function w input criterion place) }
 {
     if !is_asked(look, input, criterion) {
@@ -119,7 +119,7 @@ fn by_column<K: Look>(
     look: &K,
     scene: &Scene,
 ) -> Result<Value, Memory>
-    ensures { let w = world_of (K.sight look.now) scene.entry.now in
+    ensures { let w = outlook_of (K.sight look.now) scene.entry.now in
         IfOk result (λ v. v ≡ by_column function w input criterion number.now) }
 {
     if let Some(stopped) = stop_one(number) {
@@ -145,7 +145,7 @@ pub fn database_value<K: Look>(
     look: &K,
     scene: &Scene,
 ) -> Result<Value, Memory>
-    ensures { let w = world_of (K.sight look.now) scene.entry.now in
+    ensures { let w = outlook_of (K.sight look.now) scene.entry.now in
         IfOk result (λ v. v ≡ database_value function w arguments.now) }
 {
     match arguments {

@@ -4,8 +4,8 @@ ghost use Rattle.grid_address.specs.Place.{height_of, width_of};
 ghost use Rattle.formula_tree.specs.declared.value.Value.TheVariants as value;
 ghost use Rattle.formula_eval.specs.declared.items.Item.{Item};
 ghost use Rattle.formula_eval.specs.Lists.{in_range, items_in, list_value};
+ghost use Rattle.formula_eval.specs.Outlook.{filled, row_cells, Sight};
 ghost use Rattle.formula_eval.specs.Totals.{IsTotal};
-ghost use Rattle.formula_eval.specs.World.{filled, row_cells, Sight};
 
 use crate::items::{Item, larger, smaller};
 use crate::look::Look;

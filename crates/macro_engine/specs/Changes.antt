@@ -1,7 +1,7 @@
 -- What a word's change leaves of the sheet.
 use Rattle.std.specs.Prelude.{ℕ, zero, suc, Bool, false, List, [], ◌∷◌, Option, None, Some, if◌then◌else◌}
 use Rattle.formula_eval.specs.Mean.{mean}
-use Rattle.formula_eval.specs.World.{World}
+use Rattle.formula_eval.specs.Outlook.{Outlook}
 use Rattle.formula_eval.specs.declared.look.Scene.{Scene}
 use Rattle.formula_tree.specs.declared.value.Value.{Value}
 use Rattle.grid_address.specs.Place.{Place}
@@ -10,7 +10,7 @@ use Rattle.macro_words.specs.Rows.{is_true}
 use Rattle.macro_words.specs.declared.running.Change.{Change}
 use Rattle.macro_words.specs.declared.running.Change.TheVariants as change
 use Rattle.macro_words.specs.declared.running.Sweep.{Sweep}
-use Rattle.natural_recalc.specs.World.{world_at}
+use Rattle.natural_recalc.specs.Context.{outlook_at}
 use Rattle.sheet_edits.specs.Spans.{sooner, written_cells}
 use Rattle.sheet_store.specs.Grid.{Grid}
 use Rattle.work_sheet.specs.Cells.{cells_of}
@@ -20,8 +20,8 @@ use Rattle.work_sheet.specs.Seen.{Sheet}
 use Rattle.work_sheet.specs.Spans.{span_recalculated}
 
 -- what macros see of a sheet
-abbrev pub world_in : Scene → Sheet → World
-world_in scene s = world_at (context_in scene s) s.grid
+abbrev pub outlook_in : Scene → Sheet → Outlook
+outlook_in scene s = outlook_at (context_in scene s) s.grid
 
 -- a value is a number other than 0; without a value it is not
 abbrev pub is_number_told : Option Value → Bool
@@ -30,7 +30,7 @@ is_number_told (Some v) = is_true v
 
 -- whether the condition of a recalculation is a number other than 0; one that isn't given never is
 abbrev pub is_met : Scene → Sweep → Sheet → Bool
-is_met scene sweep s = is_number_told (meaning_of (world_in scene s) sweep.at sweep.until)
+is_met scene sweep s = is_number_told (meaning_of (outlook_in scene s) sweep.at sweep.until)
 
 -- So many passes over the formulas of a span, but none behind the first one after which the condition is met.
 unfoldable pub swept_within : ℕ → Scene → Sweep → Sheet → Done

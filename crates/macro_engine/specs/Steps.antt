@@ -18,7 +18,7 @@ use Rattle.work_sheet.specs.Did.{Did}
 use Rattle.work_sheet.specs.Doing.{quiet, Done}
 use Rattle.work_sheet.specs.Seen.{Sheet}
 use Rattle.work_sheet.specs.Sheets.{Worksheet}
-use Rattle.macro_engine.specs.Changes.{changed, changed_cells, first_protected, world_in}
+use Rattle.macro_engine.specs.Changes.{changed, changed_cells, first_protected, outlook_in}
 use Rattle.macro_engine.specs.declared.steps.StepEnd.{StepEnd}
 use Rattle.macro_engine.specs.declared.steps.StepEnd.TheVariants.{Faulty, Refused, Types, Works}
 
@@ -62,9 +62,9 @@ format_in s = s.settings.format
 -- A unit of a macro, which stands behind it already. A key is typed, and changes nothing itself.
 abbrev pub unit_step : Scene → Running → Unit → Sheet → MacroStep
 unit_step scene r (unit.Key k) s = idle (Types k) r s
-unit_step scene r (unit.Command at) s = row_step scene r at.cell (row (world_in scene s) (format_in s) r at) s
+unit_step scene r (unit.Command at) s = row_step scene r at.cell (row (outlook_in scene s) (format_in s) r at) s
 unit_step scene r unit.Down s = idle Works r s
-unit_step scene r unit.Return s = row_step scene r (cell_of r) (return_row (world_in scene s) r) s
+unit_step scene r unit.Return s = row_step scene r (cell_of r) (return_row (outlook_in scene s) r) s
 unit_step scene r (unit.Fault f) s = faulty f (cell_of r) s
 
 -- the macro goes on at a position
@@ -78,7 +78,7 @@ next_step scene r n s = unit_step scene (placed r n.1) n.0 s
 -- One step of the macro that runs, by the sheet as it now stands. Where none runs there is nothing to do.
 unfoldable pub macro_step : Scene → Option Running → Sheet → MacroStep
 macro_step scene None s = record { end = Works; running = None; done = quiet s }
-macro_step scene (Some r) s = next_step scene r (next_unit (world_in scene s) r.position) s
+macro_step scene (Some r) s = next_step scene r (next_unit (outlook_in scene s) r.position) s
 
 -- A step that came to this end left this macro, made of a worksheet another, and of a count of evaluations another.
 pub record HasStepped (x : MacroStep) (came : StepEnd) (now : Option Running) (v w : Worksheet) (m n : ℕ) : Type 0 where

@@ -1,7 +1,7 @@
 -- The next unit of a macro, as its text now stands.
 use Rattle.std.specs.Prelude.{ℕ, zero, suc, ℤ, ◌+◌, Bool, true, false, nat_lt, List, Option, Some, None, if◌then◌else◌}
 use Rattle.at_functions.specs.Numbers.{count_of}
-use Rattle.formula_eval.specs.World.{World}
+use Rattle.formula_eval.specs.Outlook.{Outlook}
 use Rattle.formula_text.specs.Words.{named_span}
 use Rattle.grid_address.specs.Place.{Extent, Place}
 use Rattle.key_words.specs.declared.command.Command.{Command}
@@ -103,7 +103,7 @@ abbrev pub now : Next → Turn
 now n = Now n.0 n.1
 
 -- a word that ends at this offset; the number of a repeated key is read anew each time
-abbrev pub word_turn : World → List ℕ → MacroWord → ℕ → Position → Turn
+abbrev pub word_turn : Outlook → List ℕ → MacroWord → ℕ → Position → Turn
 word_turn w text (word.Key k) end p = Now (unit.Key k) (behind end p)
 word_turn w text (word.Repeated k c) end p = repeated_turn k (number_of w p.spot.cell (part text c)) end p
 word_turn w text (word.Command c args) end p = now (command_unit c end p)
@@ -113,12 +113,12 @@ word_turn w text word.End end p = now (down p)
 word_turn w text word.Bad end p = now (unknown p)
 
 -- a cell without a text ends the routine
-abbrev pub text_turn : World → Option (List ℕ) → Position → Turn
+abbrev pub text_turn : Outlook → Option (List ℕ) → Position → Turn
 text_turn w None p = Now unit.Return p
 text_turn w (Some text) p = word_turn w text (unit_at text p.spot.offset).0 (unit_at text p.spot.offset).1 p
 
 -- the word at the place, as the text now stands
-unfoldable pub turn_at : World → Position → Turn
+unfoldable pub turn_at : Outlook → Position → Turn
 turn_at w p = text_turn w (macro_text w.sight p.spot.cell) p
 
 -- what the macro does, or what it does behind a word that it passes
@@ -127,7 +127,7 @@ go_on (Now u p) rest = (u, p)
 go_on (Passed p) rest = rest p
 
 -- within so many words
-unfoldable pub unit_within : ℕ → World → Position → Next
+unfoldable pub unit_within : ℕ → Outlook → Position → Next
 unit_within zero w p = (unit.Return, p)
 unit_within (suc n) w p = go_on (turn_at w p) (unit_within n w)
 
@@ -137,5 +137,5 @@ most_words = 241
 
 -- The next unit of a macro, and where it goes on: that of the word at its place, or behind the repeated keys that were
 -- typed as often as they are to be.
-abbrev pub next_unit : World → Position → Next
+abbrev pub next_unit : Outlook → Position → Next
 next_unit w p = unit_within most_words w p

@@ -1,7 +1,7 @@
 // Arguments that are expressions.
 ghost use Rattle.std.specs.Prelude.{◌≡◌, ◌≤◌, IfOk, IfSome};
 ghost use Rattle.at_functions.specs.Numbers as numbers;
-ghost use Rattle.formula_eval.specs.Scenes.{world_of};
+ghost use Rattle.formula_eval.specs.Scenes.{outlook_of};
 ghost use Rattle.macro_text.specs.Arguments as spec;
 
 use at_functions::whole;
@@ -21,8 +21,8 @@ pub fn formula_in<K: Look>(
     look: &K,
     scene: &Scene,
 ) -> Result<Option<Formula>, Memory>
-    ensures { let world = world_of (K.sight look.now) scene.entry.now in
-        IfOk result (λ f. f ≡ spec.formula_in world at text.now) }
+    ensures { let outlook = outlook_of (K.sight look.now) scene.entry.now in
+        IfOk result (λ f. f ≡ spec.formula_in outlook at text.now) }
 {
     match read(alloc, text, at, look.names()) {
         Ok(formula) => Ok(Some(formula)),
@@ -39,8 +39,8 @@ pub fn expression_value<K: Look>(
     look: &K,
     scene: &Scene,
 ) -> Result<Option<Value>, Memory>
-    ensures { let world = world_of (K.sight look.now) scene.entry.now in
-        IfOk result (λ v. v ≡ spec.expression_value world at text.now) }
+    ensures { let outlook = outlook_of (K.sight look.now) scene.entry.now in
+        IfOk result (λ v. v ≡ spec.expression_value outlook at text.now) }
 {
     match formula_in(alloc, text, at, look, scene)? {
         Some(formula) => Ok(Some(glance(&formula, at, look, scene)?)),
@@ -70,8 +70,8 @@ pub fn number_of<K: Look>(
     look: &K,
     scene: &Scene,
 ) -> Result<Option<Fixed>, Memory>
-    ensures { let world = world_of (K.sight look.now) scene.entry.now in
-        IfOk result (λ n. n ≡ spec.number_of world at text.now) }
+    ensures { let outlook = outlook_of (K.sight look.now) scene.entry.now in
+        IfOk result (λ n. n ≡ spec.number_of outlook at text.now) }
 {
     let value = expression_value(alloc, text, at, look, scene)?;
     Ok(number_or_none(&value))

@@ -1,6 +1,6 @@
 // The next unit of a macro.
 ghost use Rattle.std.specs.Prelude.{◌≡◌, IfOk};
-ghost use Rattle.formula_eval.specs.Scenes.{world_of};
+ghost use Rattle.formula_eval.specs.Scenes.{outlook_of};
 ghost use Rattle.formula_text.specs.Words.{named_span};
 ghost use Rattle.lics_text.specs.Bytes.{IsText};
 ghost use Rattle.macro_text.specs.Units as spec;
@@ -180,8 +180,8 @@ fn word_turn<K: Look>(
     word: MacroWord,
     end: usize,
 ) -> Result<Turn, Memory>
-    ensures { let world = world_of (K.sight look.now) scene.entry.now in
-        IfOk result (λ t. t ≡ spec.word_turn world text.now word end position.now) }
+    ensures { let outlook = outlook_of (K.sight look.now) scene.entry.now in
+        IfOk result (λ t. t ≡ spec.word_turn outlook text.now word end position.now) }
 {
     match word {
         MacroWord::Key(key) => Ok(Turn::Now(Unit::Key(key), behind(end, position))),
@@ -209,8 +209,8 @@ fn turn_at<K: Look>(
     kept: &mut KeptWords,
     position: &Position,
 ) -> Result<Turn, Memory>
-    ensures { let world = world_of (K.sight look.now) scene.entry.now in
-        IfOk result (λ t. t ≡ spec.turn_at world position.now) }
+    ensures { let outlook = outlook_of (K.sight look.now) scene.entry.now in
+        IfOk result (λ t. t ≡ spec.turn_at outlook position.now) }
 {
     let Some(text) = macro_text(look, position.spot.cell) else {
         return Ok(Turn::Now(Unit::Return, *position));
@@ -235,8 +235,8 @@ pub fn next_unit<K: Look>(
     kept: &mut KeptWords,
     position: &Position,
 ) -> Result<(Unit, Position), Memory>
-    ensures { let world = world_of (K.sight look.now) scene.entry.now in
-        IfOk result (λ n. n ≡ spec.next_unit world position.now) }
+    ensures { let outlook = outlook_of (K.sight look.now) scene.entry.now in
+        IfOk result (λ n. n ≡ spec.next_unit outlook position.now) }
 {
     let mut place = *position;
     for turn in 0..MOST_WORDS {

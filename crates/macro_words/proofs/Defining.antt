@@ -1,7 +1,7 @@
 -- What DEFINE finds, one call and one argument at a time.
 use Rattle.std.proofs.Common.{◌≡◌, ℕ, Option, None, Some, List, [], ◌∷◌, ◌++◌, append_assoc, refl, sym, ap, ◌∙◌}
 use Rattle.std.proofs.lemmas.List.{append-nil}
-use Rattle.formula_eval.specs.World.{World}
+use Rattle.formula_eval.specs.Outlook.{Outlook}
 use Rattle.grid_address.specs.Place.{Place}
 use Rattle.macro_words.specs.Rows.{defined, defined_all, in_front, or_else}
 use Rattle.macro_text.specs.declared.position.Spot.{Spot}
@@ -30,12 +30,12 @@ joined_by ws e None = refl
 joined_by ws e (Some more) = ap (λ (l : List Write). Some l) (sym (append_assoc ws (e ∷ []) more))
 
 -- one more cell takes one more argument
-pub joined_more : (w : World) (at : Place) (ws new : List Write) (e : Write) (t g : List ℕ) (ts gs : List (List ℕ)) (all : Option (List Write)) → Some e ≡ defined w at t g → new ≡ ws ++ e ∷ [] → joined ws (defined_all w at (t ∷ ts) (g ∷ gs)) ≡ all → joined new (defined_all w at ts gs) ≡ all
+pub joined_more : (w : Outlook) (at : Place) (ws new : List Write) (e : Write) (t g : List ℕ) (ts gs : List (List ℕ)) (all : Option (List Write)) → Some e ≡ defined w at t g → new ≡ ws ++ e ∷ [] → joined ws (defined_all w at (t ∷ ts) (g ∷ gs)) ≡ all → joined new (defined_all w at ts gs) ≡ all
 joined_more w at ws new e t g ts gs all is more so_far =
     ap (λ (l : List Write). joined l (defined_all w at ts gs)) more ∙ sym (joined_by ws e (defined_all w at ts gs)) ∙ ap (λ (d : Option Write). joined ws (in_front d (defined_all w at ts gs))) is ∙ so_far
 
 -- an argument that a cell can't take
-pub joined_none : (w : World) (at : Place) (ws : List Write) (t g : List ℕ) (ts gs : List (List ℕ)) (all : Option (List Write)) → None ≡ defined w at t g → joined ws (defined_all w at (t ∷ ts) (g ∷ gs)) ≡ all → None ≡ all
+pub joined_none : (w : Outlook) (at : Place) (ws : List Write) (t g : List ℕ) (ts gs : List (List ℕ)) (all : Option (List Write)) → None ≡ defined w at t g → joined ws (defined_all w at (t ∷ ts) (g ∷ gs)) ≡ all → None ≡ all
 joined_none w at ws t g ts gs all is so_far = ap (λ (d : Option Write). joined ws (in_front d (defined_all w at ts gs))) is ∙ so_far
 
 -- no argument is left

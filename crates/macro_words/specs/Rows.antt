@@ -3,7 +3,7 @@ use Rattle.std.specs.Prelude.{ℕ, zero, ℤ, pos, ◌+◌, ◌&&◌, nat_le, na
 use Rattle.std.specs.Int.RustNames.{int_lt}
 use Rattle.at_functions.specs.Numbers.{count_of}
 use Rattle.block_writes.specs.Writing.{as_content, written}
-use Rattle.formula_eval.specs.World.{World}
+use Rattle.formula_eval.specs.Outlook.{Outlook}
 use Rattle.formula_text.specs.Words.{named_span}
 use Rattle.formula_tree.specs.Tree.{Tree}
 use Rattle.formula_tree.specs.declared.ast.Op.TheVariants.{Add}
@@ -70,15 +70,15 @@ on_some None f = bad
 on_some (Some x) f = f x
 
 -- a place, a range, and a number
-abbrev pub on_place : World → List ℕ → (Place → Row) → Row
+abbrev pub on_place : Outlook → List ℕ → (Place → Row) → Row
 on_place w text f = on_some (place_of w.sight.names text) f
 
 -- a range
-abbrev pub on_range : World → List ℕ → (Extent → Row) → Row
+abbrev pub on_range : Outlook → List ℕ → (Extent → Row) → Row
 on_range w text f = on_some (range_of w.sight.names text) f
 
 -- a number
-abbrev pub on_number : World → Place → List ℕ → (ℤ → Row) → Row
+abbrev pub on_number : Outlook → Place → List ℕ → (ℤ → Row) → Row
 on_number w at text f = on_some (number_of w at text) f
 
 -- the whole number that a number is, cut toward zero; none below 0
@@ -87,7 +87,7 @@ count_in None = None
 count_in (Some n) = count_of n
 
 -- a whole number that isn't below 0, cut toward zero
-abbrev pub on_count : World → Place → List ℕ → (ℕ → Row) → Row
+abbrev pub on_count : Outlook → Place → List ℕ → (ℕ → Row) → Row
 on_count w at text f = on_some (count_in (number_of w at text)) f
 
 -- ---- going and calling
@@ -97,16 +97,16 @@ abbrev pub goes : Place → Row
 goes c = moves (move.Go (start_of c))
 
 -- BRANCH
-abbrev pub branch_row : World → List (List ℕ) → Row
+abbrev pub branch_row : Outlook → List (List ℕ) → Row
 branch_row w args = on_place w (arg args 0) goes
 
 -- a text spells a place
-abbrev pub dispatched : World → Option (List ℕ) → Row
+abbrev pub dispatched : Outlook → Option (List ℕ) → Row
 dispatched w None = Err NotText
 dispatched w (Some text) = on_place w text goes
 
 -- DISPATCH: the text that a cell has as its value spells the place
-abbrev pub dispatch_row : World → List (List ℕ) → Row
+abbrev pub dispatch_row : Outlook → List (List ℕ) → Row
 dispatch_row w args = on_place w (arg args 0) (λ c. dispatched w (text_in (w.sight.values c)))
 
 -- calls and loops nest so deep
@@ -138,17 +138,17 @@ round l value.Err = move.Leave l.behind
 round l value.Na = move.Leave l.behind
 
 -- the step is added to the count as by +
-abbrev pub next_count : World → Loop → Value
+abbrev pub next_count : Outlook → Loop → Value
 next_count w l = binary_value Add (w.sight.values l.counter) (value.Num l.step)
 
 -- back to a frame
-abbrev pub returned : World → Option Frame → Row
+abbrev pub returned : Outlook → Option Frame → Row
 returned w None = moves move.Stop
 returned w (Some (frame.Call word back)) = moves (move.Leave back)
 returned w (Some (frame.Loop l)) = puts_value l.counter (next_count w l) (round l (next_count w l))
 
 -- RETURN, and the end of a routine: back to the caller, or on with the loop; without either the macro stops
-abbrev pub return_row : World → Running → Row
+abbrev pub return_row : Outlook → Running → Row
 return_row w r = returned w (innermost r.frames)
 
 -- a number other than 0
@@ -158,7 +158,7 @@ is_true (value.Num n) = true
 is_true _ = false
 
 -- IF: where the condition isn't true the macro goes on in the cell below
-abbrev pub if_row : World → Spot → List (List ℕ) → Row
+abbrev pub if_row : Outlook → Spot → List (List ℕ) → Row
 if_row w at args =
     on_some (expression_value w at.cell (arg args 0)) (λ v.
     moves (if is_true v then move.Stay else move.Go (below at.cell)))
@@ -171,7 +171,7 @@ begins r first l =
     else Err TooDeep
 
 -- FOR: a step of 0 is a fault
-abbrev pub for_row : World → Running → Spot → List (List ℕ) → Row
+abbrev pub for_row : Outlook → Running → Spot → List (List ℕ) → Row
 for_row w r at args =
     on_place w (arg args 0) (λ k. on_number w at.cell (arg args 1) (λ first. on_number w at.cell (arg args 2) (λ bound.
     on_number w at.cell (arg args 3) (λ step. on_place w (arg args 4) (λ p.
@@ -186,20 +186,20 @@ broken (Some (frame.Call word back)) = bad
 broken None = bad
 
 -- a cell for the message may be given
-abbrev pub message_row : World → List (List ℕ) → Place → Row
+abbrev pub message_row : Outlook → List (List ℕ) → Place → Row
 message_row w args c =
     if nat_lt 1 (length args)
     then on_place w (arg args 1) (λ q. moves (move.Handle (record { place = c; message = Some q })))
     else moves (move.Handle (record { place = c; message = None }))
 
 -- ONERROR
-abbrev pub onerror_row : World → List (List ℕ) → Row
+abbrev pub onerror_row : Outlook → List (List ℕ) → Row
 onerror_row w args = on_place w (arg args 0) (message_row w args)
 
 -- ---- writing
 
 -- LET
-abbrev pub let_row : World → Spot → List (List ℕ) → Row
+abbrev pub let_row : Outlook → Spot → List (List ℕ) → Row
 let_row w at args = on_place w (arg args 0) (λ c. puts_value c (let_value w at.cell (arg args 1)) move.Stay)
 
 -- a cell of a range by its column and row, each from 0 on
@@ -210,13 +210,13 @@ cell_in s col row =
     else None
 
 -- PUT
-abbrev pub put_row : World → Spot → List (List ℕ) → Row
+abbrev pub put_row : Outlook → Spot → List (List ℕ) → Row
 put_row w at args =
     on_range w (arg args 0) (λ s. on_count w at.cell (arg args 1) (λ col. on_count w at.cell (arg args 2) (λ row.
     on_some (cell_in s col row) (λ c. puts_value c (let_value w at.cell (arg args 3)) move.Stay))))
 
 -- BLANK
-abbrev pub blank_row : World → List (List ℕ) → Row
+abbrev pub blank_row : Outlook → List (List ℕ) → Row
 blank_row w args = on_range w (arg args 0) (λ s. Ok (record { change = change.Erase s; after = move.Stay }))
 
 -- a whole number within bounds
@@ -225,7 +225,7 @@ within low high None = None
 within low high (Some n) = if nat_le low n && nat_le n high then Some n else None
 
 -- an argument that may be left out: a whole number within bounds, cut toward zero
-abbrev pub given_count : World → Spot → List (List ℕ) → ℕ → ℕ → ℕ → ℕ → Option ℕ
+abbrev pub given_count : Outlook → Spot → List (List ℕ) → ℕ → ℕ → ℕ → ℕ → Option ℕ
 given_count w at args k low high left_out =
     if nat_lt k (length args) then within low high (count_in (number_of w at.cell (arg args k))) else Some left_out
 
@@ -234,7 +234,7 @@ abbrev pub most_width : ℕ
 most_width = 240
 
 -- CONTENTS: what a cell shows, in its column's width and its format or in those that are given
-abbrev pub contents_row : World → ℕ → Spot → List (List ℕ) → Row
+abbrev pub contents_row : Outlook → ℕ → Spot → List (List ℕ) → Row
 contents_row w global at args =
     on_place w (arg args 0) (λ c. on_place w (arg args 1) (λ q.
     on_some (given_count w at args 2 1 most_width (w.sight.widths q.col)) (λ width.
@@ -275,7 +275,7 @@ given_by names offset None = None
 given_by names offset (Some text) = given_in names text (unit_at text offset).0
 
 -- the arguments of the call whose word stands at a place, as its text now stands
-abbrev pub given_at : World → Option Spot → Option (List (List ℕ))
+abbrev pub given_at : Outlook → Option Spot → Option (List (List ℕ))
 given_at w None = None
 given_at w (Some s) = given_by w.sight.names s.offset (macro_text w.sight s.cell)
 
@@ -290,7 +290,7 @@ abbrev pub plain_target : List ℕ → List ℕ
 plain_target target = if ends_in as_string target then without as_string target else target
 
 -- a cell takes an argument as a label, or behind :value the value of its formula
-abbrev pub defined : World → Place → List ℕ → List ℕ → Option Write
+abbrev pub defined : Outlook → Place → List ℕ → List ℕ → Option Write
 defined w at target given =
     if ends_in as_value target
     then entered (place_of w.sight.names (without as_value target)) (expression_value w at given)
@@ -303,14 +303,14 @@ in_front (Some e) None = None
 in_front (Some e) (Some ws) = Some (e ∷ ws)
 
 -- as many cells as arguments
-abbrev pub defined_all : World → Place → List (List ℕ) → List (List ℕ) → Option (List Write)
+abbrev pub defined_all : Outlook → Place → List (List ℕ) → List (List ℕ) → Option (List Write)
 defined_all w at [] [] = Some []
 defined_all w at [] (g ∷ gs) = None
 defined_all w at (t ∷ ts) [] = None
 defined_all w at (t ∷ ts) (g ∷ gs) = in_front (defined w at t g) (defined_all w at ts gs)
 
 -- DEFINE
-abbrev pub define_row : World → Running → Spot → List (List ℕ) → Row
+abbrev pub define_row : Outlook → Running → Spot → List (List ℕ) → Row
 define_row w r at args =
     on_some (given_at w (present_call r.frames)) (λ given.
     on_some (defined_all w at.cell args given) (λ ws. puts ws move.Stay))
@@ -331,7 +331,7 @@ condition_of None = None
 condition_of (Some t) = Some (Some t)
 
 -- a condition may be left out; one that is given is a formula
-abbrev pub condition_in : World → Spot → List (List ℕ) → Option (Option Tree)
+abbrev pub condition_in : Outlook → Spot → List (List ℕ) → Option (Option Tree)
 condition_in w at args = if nat_lt 1 (length args) then condition_of (formula_in w at.cell (arg args 1)) else Some None
 
 -- the formulas of a range are evaluated
@@ -339,7 +339,7 @@ abbrev pub sweeps : Sweep → Row
 sweeps s = Ok (record { change = change.Recalculate s; after = move.Stay })
 
 -- RECALC, and RECALCCOL by columns
-abbrev pub recalc_row : World → Spot → Bool → List (List ℕ) → Row
+abbrev pub recalc_row : Outlook → Spot → Bool → List (List ℕ) → Row
 recalc_row w at by_columns args =
     on_range w (arg args 0) (λ s. on_some (condition_in w at args) (λ c.
     on_some (given_count w at args 2 1 most_passes (passes_left_out args)) (λ most.
@@ -368,7 +368,7 @@ counts command.RecalcCol = (1, 3)
 counts _ = (0, 0)
 
 -- a command with as many arguments as it takes
-unfoldable pub command_row : World → ℕ → Running → Spot → Command → List (List ℕ) → Row
+unfoldable pub command_row : Outlook → ℕ → Running → Spot → Command → List (List ℕ) → Row
 command_row w global r at command.Branch args = branch_row w args
 command_row w global r at command.Dispatch args = dispatch_row w args
 command_row w global r at command.Define args = define_row w r at args
@@ -392,22 +392,22 @@ abbrev pub is_taken : ℕ × ℕ → ℕ → Bool
 is_taken c n = nat_le c.0 n && nat_le n c.1
 
 -- a command, where its arguments are as many as it takes
-unfoldable pub counted_row : World → ℕ → Running → Spot → Command → List (List ℕ) → Row
+unfoldable pub counted_row : Outlook → ℕ → Running → Spot → Command → List (List ℕ) → Row
 counted_row w global r at c args = if is_taken (counts c) (length args) then command_row w global r at c args else bad
 
 -- a word of a text that stands at a place
-abbrev pub word_row : World → ℕ → Running → Spot → List ℕ → MacroWord → Row
+abbrev pub word_row : Outlook → ℕ → Running → Spot → List ℕ → MacroWord → Row
 word_row w global r at text (word.Command c args) = counted_row w global r at c (arguments_of false text args)
 word_row w global r at text (word.Call name args) = call_row r at (named_span w.sight.names (part text name))
 word_row w global r at text (word.PlaceCall c) = on_place w (part text c) (calls r at)
 word_row w global r at text _ = bad
 
 -- the word at a place of a text
-abbrev pub text_row : World → ℕ → Running → Spot → Option (List ℕ) → Row
+abbrev pub text_row : Outlook → ℕ → Running → Spot → Option (List ℕ) → Row
 text_row w global r at None = bad
 text_row w global r at (Some text) = word_row w global r at text (unit_at text at.offset).0
 
 -- What the word at a place does, as its text now stands, where the sheet's format is this one. A place without a
 -- command or a call is a fault.
-unfoldable pub row : World → ℕ → Running → Spot → Row
+unfoldable pub row : Outlook → ℕ → Running → Spot → Row
 row w global r at = text_row w global r at (macro_text w.sight at.cell)

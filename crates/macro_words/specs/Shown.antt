@@ -3,7 +3,7 @@ use Rattle.std.specs.Prelude.{ℕ, ◌-◌, ◌&&◌, nat_le, nat_lt, if◌then�
 use Rattle.ascii_bytes.specs.Ascii as ascii
 use Rattle.cell_format.specs.Labels.{shown_label}
 use Rattle.cell_format.specs.Numbers.{placed, shown_number, spaces}
-use Rattle.formula_eval.specs.World.{Sight}
+use Rattle.formula_eval.specs.Outlook.{Sight}
 use Rattle.formula_text.specs.Printed.{printed}
 use Rattle.formula_tree.specs.declared.value.Content.{Content}
 use Rattle.formula_tree.specs.declared.value.Content.TheVariants as content

@@ -1,7 +1,7 @@
 -- What is put into cells.
 use Rattle.std.specs.Prelude.{ℕ, ◌-◌, List, codes, length, drop, take, Bool, Option, None, Some, if◌then◌else◌}
 use Rattle.std.specs.Str.{str_eq_ignore_ascii_case}
-use Rattle.formula_eval.specs.World.{World}
+use Rattle.formula_eval.specs.Outlook.{Outlook}
 use Rattle.formula_tree.specs.declared.value.Content.{Content}
 use Rattle.formula_tree.specs.declared.value.Content.TheVariants as content
 use Rattle.formula_tree.specs.declared.value.Value.{Value}
@@ -36,11 +36,11 @@ value_or_bytes text None = value.Str text
 value_or_bytes text (Some v) = v
 
 -- behind :string, or where it is no formula, a text is its bytes
-abbrev pub typed_value : World → Place → List ℕ → Value
+abbrev pub typed_value : Outlook → Place → List ℕ → Value
 typed_value w at text =
     if ends_in as_string text then value.Str (without as_string text)
     else value_or_bytes text (expression_value w at text)
 
 -- What LET puts: an ending :value is dropped first; behind it :string, or no formula, gives the bytes.
-abbrev pub let_value : World → Place → List ℕ → Value
+abbrev pub let_value : Outlook → Place → List ℕ → Value
 let_value w at text = typed_value w at (if ends_in as_value text then without as_value text else text)

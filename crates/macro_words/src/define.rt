@@ -1,6 +1,6 @@
 // DEFINE, which reads the arguments of the present routine's call.
 ghost use Rattle.std.specs.Prelude.{◌≡◌, ◌∷◌, [], length, IfOk, Some};
-ghost use Rattle.formula_eval.specs.Scenes.{world_of};
+ghost use Rattle.formula_eval.specs.Scenes.{outlook_of};
 ghost use Rattle.formula_tree.specs.declared.value.Value.TheVariants as value;
 ghost use Rattle.lics_text.specs.Bytes.{IsText};
 ghost use Rattle.macro_words.specs.Rows as spec;
@@ -63,8 +63,8 @@ fn given_at<K: Look>(
     scene: &Scene,
     call: Option<Spot>,
 ) -> Result<Option<TextList>, Memory>
-    ensures { let world = world_of (K.sight look.now) scene.entry.now in
-        IfOk result (λ l. l ≡ spec.given_at world call) }
+    ensures { let outlook = outlook_of (K.sight look.now) scene.entry.now in
+        IfOk result (λ l. l ≡ spec.given_at outlook call) }
 {
     let Some(spot) = call else {
         return Ok(None);
@@ -115,8 +115,8 @@ fn defined<K: Look>(
     given: &[u8],
 ) -> Result<Option<Write>, Memory>
     requires { IsText given.now }
-    ensures { let world = world_of (K.sight look.now) scene.entry.now in
-        IfOk result (λ e. e ≡ spec.defined world at target.now given.now) }
+    ensures { let outlook = outlook_of (K.sight look.now) scene.entry.now in
+        IfOk result (λ e. e ≡ spec.defined outlook at target.now given.now) }
 {
     if ends_in(target, AS_VALUE) {
         let value = expression_value(alloc, given, at, look, scene)?;
@@ -139,8 +139,8 @@ fn defined_all<K: Look>(
     mut targets: &[Text],
     mut given: &[Text],
 ) -> Result<Option<Writes>, Memory>
-    ensures { let world = world_of (K.sight look.now) scene.entry.now in
-        IfOk result (λ ws. ws ≡ spec.defined_all world at targets.entry.now given.entry.now) }
+    ensures { let outlook = outlook_of (K.sight look.now) scene.entry.now in
+        IfOk result (λ ws. ws ≡ spec.defined_all outlook at targets.entry.now given.entry.now) }
 {
     let mut writes = Writes::new(alloc);
     while let [target, more @ ..] = targets {
@@ -170,8 +170,8 @@ pub fn define_row<K: Look>(
     at: &Spot,
     args: &TextList,
 ) -> Result<Row, Memory>
-    ensures { let world = world_of (K.sight look.now) scene.entry.now in
-        IfOk result (λ r. r ≡ spec.define_row world running.now at.now args.now) }
+    ensures { let outlook = outlook_of (K.sight look.now) scene.entry.now in
+        IfOk result (λ r. r ≡ spec.define_row outlook running.now at.now args.now) }
 {
     let call = present_call(running.frames.items());
     let Some(given) = given_at(alloc, look, scene, call)? else {

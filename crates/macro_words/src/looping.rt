@@ -1,6 +1,6 @@
 // Loops, and what a return goes back to.
 ghost use Rattle.std.specs.Prelude.{◌≡◌, Some, IfOk, not};
-ghost use Rattle.formula_eval.specs.Scenes.{world_of};
+ghost use Rattle.formula_eval.specs.Scenes.{outlook_of};
 ghost use Rattle.formula_tree.specs.declared.value.Value.TheVariants as value;
 ghost use Rattle.macro_words.specs.Moves as moving;
 ghost use Rattle.macro_words.specs.Rows as spec;
@@ -55,8 +55,8 @@ fn next_count<K: Look>(
     scene: &Scene,
     repeated: &Loop,
 ) -> Result<Value, Memory>
-    ensures { let world = world_of (K.sight look.now) scene.entry.now in
-        IfOk result (λ v. v ≡ spec.next_count world repeated.now) }
+    ensures { let outlook = outlook_of (K.sight look.now) scene.entry.now in
+        IfOk result (λ v. v ≡ spec.next_count outlook repeated.now) }
 {
     let step = Value::Num(repeated.step);
     binary(alloc, Op::Add, look.value(repeated.counter), &step)
@@ -64,8 +64,8 @@ fn next_count<K: Look>(
 
 // A loop's next round, or its end.
 fn loop_row<K: Look>(alloc: Global, look: &K, scene: &Scene, repeated: &Loop) -> Result<Row, Memory>
-    ensures { let world = world_of (K.sight look.now) scene.entry.now in
-        IfOk result (λ r. r ≡ spec.returned world (Some (frame.Loop repeated.now))) }
+    ensures { let outlook = outlook_of (K.sight look.now) scene.entry.now in
+        IfOk result (λ r. r ≡ spec.returned outlook (Some (frame.Loop repeated.now))) }
 {
     let count = next_count(alloc, look, scene, repeated)?;
     let after = round(repeated, &count);
@@ -80,8 +80,8 @@ pub fn return_row<K: Look>(
     scene: &Scene,
     running: &Running,
 ) -> Result<Row, Memory>
-    ensures { let world = world_of (K.sight look.now) scene.entry.now in
-        IfOk result (λ r. r ≡ spec.return_row world running.now) }
+    ensures { let outlook = outlook_of (K.sight look.now) scene.entry.now in
+        IfOk result (λ r. r ≡ spec.return_row outlook running.now) }
 {
     match running.frames.innermost() {
         None => Ok(moves(Move::Stop)),
@@ -131,8 +131,8 @@ pub fn for_row<K: Look>(
     at: &Spot,
     args: &TextList,
 ) -> Result<Row, Memory>
-    ensures { let world = world_of (K.sight look.now) scene.entry.now in
-        IfOk result (λ r. r ≡ spec.for_row world running.now at.now args.now) }
+    ensures { let outlook = outlook_of (K.sight look.now) scene.entry.now in
+        IfOk result (λ r. r ≡ spec.for_row outlook running.now at.now args.now) }
 {
     let Some(counter) = place_of(look.names(), args.get(0)) else {
         return Ok(bad());

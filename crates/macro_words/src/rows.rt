@@ -1,6 +1,6 @@
 // Words that go, call and stop.
 ghost use Rattle.std.specs.Prelude.{◌≡◌, IfOk};
-ghost use Rattle.formula_eval.specs.Scenes.{world_of};
+ghost use Rattle.formula_eval.specs.Scenes.{outlook_of};
 ghost use Rattle.macro_words.specs.Moves as moving;
 ghost use Rattle.macro_words.specs.Rows as spec;
 
@@ -40,7 +40,7 @@ fn goes(cell: Cell) -> Row
 
 /// BRANCH.
 pub fn branch_row<K: Look>(look: &K, scene: &Scene, args: &TextList) -> Row
-    ensures { result ≡ spec.branch_row (world_of (K.sight look.now) scene.entry.now) args.now }
+    ensures { result ≡ spec.branch_row (outlook_of (K.sight look.now) scene.entry.now) args.now }
 {
     match place_of(look.names(), args.get(0)) {
         Some(cell) => goes(cell),
@@ -50,7 +50,7 @@ pub fn branch_row<K: Look>(look: &K, scene: &Scene, args: &TextList) -> Row
 
 /// DISPATCH.
 pub fn dispatch_row<K: Look>(look: &K, scene: &Scene, args: &TextList) -> Row
-    ensures { result ≡ spec.dispatch_row (world_of (K.sight look.now) scene.entry.now) args.now }
+    ensures { result ≡ spec.dispatch_row (outlook_of (K.sight look.now) scene.entry.now) args.now }
 {
     let Some(cell) = place_of(look.names(), args.get(0)) else {
         return bad();
@@ -136,8 +136,8 @@ pub fn if_row<K: Look>(
     at: &Spot,
     args: &TextList,
 ) -> Result<Row, Memory>
-    ensures { let world = world_of (K.sight look.now) scene.entry.now in
-        IfOk result (λ r. r ≡ spec.if_row world at.now args.now) }
+    ensures { let outlook = outlook_of (K.sight look.now) scene.entry.now in
+        IfOk result (λ r. r ≡ spec.if_row outlook at.now args.now) }
 {
     let value = expression_value(alloc, args.get(0), at.cell, look, scene)?;
     match &value {
@@ -154,7 +154,7 @@ pub fn if_row<K: Look>(
 
 /// ONERROR.
 pub fn onerror_row<K: Look>(look: &K, scene: &Scene, args: &TextList) -> Row
-    ensures { result ≡ spec.onerror_row (world_of (K.sight look.now) scene.entry.now) args.now }
+    ensures { result ≡ spec.onerror_row (outlook_of (K.sight look.now) scene.entry.now) args.now }
 {
     let Some(place) = place_of(look.names(), args.get(0)) else {
         return bad();

@@ -1,6 +1,6 @@
 // The table of commands.
 ghost use Rattle.std.specs.Prelude.{◌≡◌, IfOk};
-ghost use Rattle.formula_eval.specs.Scenes.{world_of};
+ghost use Rattle.formula_eval.specs.Scenes.{outlook_of};
 ghost use Rattle.lics_text.specs.Bytes.{IsText};
 ghost use Rattle.macro_words.specs.Rows as spec;
 
@@ -61,8 +61,8 @@ fn command_row<K: Look>(
     command: Command,
     args: &TextList,
 ) -> Result<Row, Memory>
-    ensures { let world = world_of (K.sight look.now) scene.entry.now in
-        IfOk result (λ r. r ≡ spec.command_row world global.0 running.now at.now command args.now) }
+    ensures { let outlook = outlook_of (K.sight look.now) scene.entry.now in
+        IfOk result (λ r. r ≡ spec.command_row outlook global.0 running.now at.now command args.now) }
 {
     match command {
         Command::Branch => Ok(branch_row(look, scene, args)),
@@ -104,8 +104,8 @@ fn counted_row<K: Look>(
     command: Command,
     args: &TextList,
 ) -> Result<Row, Memory>
-    ensures { let world = world_of (K.sight look.now) scene.entry.now in
-        IfOk result (λ r. r ≡ spec.counted_row world global.0 running.now at.now command args.now) }
+    ensures { let outlook = outlook_of (K.sight look.now) scene.entry.now in
+        IfOk result (λ r. r ≡ spec.counted_row outlook global.0 running.now at.now command args.now) }
 {
     if is_taken(command, args.len()) {
         command_row(alloc, look, scene, global, running, at, command, args)
@@ -126,8 +126,8 @@ fn word_row<K: Look>(
     word: MacroWord,
 ) -> Result<Row, Memory>
     requires { IsText text.now }
-    ensures { let world = world_of (K.sight look.now) scene.entry.now in
-        IfOk result (λ r. r ≡ spec.word_row world global.0 running.now at.now text.now word) }
+    ensures { let outlook = outlook_of (K.sight look.now) scene.entry.now in
+        IfOk result (λ r. r ≡ spec.word_row outlook global.0 running.now at.now text.now word) }
 {
     match word {
         MacroWord::Command(command, args) => {
@@ -163,8 +163,8 @@ pub fn row<K: Look>(
     running: &Running,
     at: &Spot,
 ) -> Result<Row, Memory>
-    ensures { let world = world_of (K.sight look.now) scene.entry.now in
-        IfOk result (λ r. r ≡ spec.row world global.0 running.now at.now) }
+    ensures { let outlook = outlook_of (K.sight look.now) scene.entry.now in
+        IfOk result (λ r. r ≡ spec.row outlook global.0 running.now at.now) }
 {
     let Some(text) = macro_text(look, at.cell) else {
         return Ok(bad());

@@ -1,7 +1,7 @@
 // What is put into cells.
 ghost use Rattle.std.specs.Prelude.{◌≡◌, ◌∷◌, [], IfOk};
 ghost use Rattle.block_writes.specs.Writing.{as_content, written};
-ghost use Rattle.formula_eval.specs.Scenes.{world_of};
+ghost use Rattle.formula_eval.specs.Scenes.{outlook_of};
 ghost use Rattle.formula_tree.specs.declared.value.Value.TheVariants as value;
 ghost use Rattle.lics_text.specs.Bytes.{IsText};
 ghost use Rattle.macro_words.specs.Rows as rows;
@@ -88,8 +88,8 @@ fn typed_value<K: Look>(
     text: &[u8],
 ) -> Result<Value, Memory>
     requires { IsText text.now }
-    ensures { let world = world_of (K.sight look.now) scene.entry.now in
-        IfOk result (λ v. v ≡ spec.typed_value world at text.now) }
+    ensures { let outlook = outlook_of (K.sight look.now) scene.entry.now in
+        IfOk result (λ v. v ≡ spec.typed_value outlook at text.now) }
 {
     if ends_in(text, AS_STRING) {
         return text_value(alloc, without(text, AS_STRING));
@@ -107,8 +107,8 @@ pub fn let_value<K: Look>(
     text: &[u8],
 ) -> Result<Value, Memory>
     requires { IsText text.now }
-    ensures { let world = world_of (K.sight look.now) scene.entry.now in
-        IfOk result (λ v. v ≡ spec.let_value world at text.now) }
+    ensures { let outlook = outlook_of (K.sight look.now) scene.entry.now in
+        IfOk result (λ v. v ≡ spec.let_value outlook at text.now) }
 {
     if ends_in(text, AS_VALUE) {
         typed_value(alloc, look, scene, at, without(text, AS_VALUE))

@@ -1,6 +1,6 @@
 // Words that write, erase or recalculate cells.
 ghost use Rattle.std.specs.Prelude.{◌≡◌, IfOk};
-ghost use Rattle.formula_eval.specs.Scenes.{world_of};
+ghost use Rattle.formula_eval.specs.Scenes.{outlook_of};
 ghost use Rattle.macro_words.specs.Rows as spec;
 ghost use Rattle.macro_text.specs.Arguments as arguments;
 
@@ -24,8 +24,8 @@ pub fn let_row<K: Look>(
     at: &Spot,
     args: &TextList,
 ) -> Result<Row, Memory>
-    ensures { let world = world_of (K.sight look.now) scene.entry.now in
-        IfOk result (λ r. r ≡ spec.let_row world at.now args.now) }
+    ensures { let outlook = outlook_of (K.sight look.now) scene.entry.now in
+        IfOk result (λ r. r ≡ spec.let_row outlook at.now args.now) }
 {
     let Some(cell) = place_of(look.names(), args.get(0)) else {
         return Ok(bad());
@@ -52,8 +52,8 @@ fn count_given<K: Look>(
     at: Cell,
     text: &[u8],
 ) -> Result<Option<u32>, Memory>
-    ensures { let world = world_of (K.sight look.now) scene.entry.now in
-        IfOk result (λ n. n ≡ spec.count_in (arguments.number_of world at text.now)) }
+    ensures { let outlook = outlook_of (K.sight look.now) scene.entry.now in
+        IfOk result (λ n. n ≡ spec.count_in (arguments.number_of outlook at text.now)) }
 {
     let number = number_of(alloc, text, at, look, scene)?;
     Ok(count_in(number))
@@ -81,8 +81,8 @@ pub fn put_row<K: Look>(
     at: &Spot,
     args: &TextList,
 ) -> Result<Row, Memory>
-    ensures { let world = world_of (K.sight look.now) scene.entry.now in
-        IfOk result (λ r. r ≡ spec.put_row world at.now args.now) }
+    ensures { let outlook = outlook_of (K.sight look.now) scene.entry.now in
+        IfOk result (λ r. r ≡ spec.put_row outlook at.now args.now) }
 {
     let Some(span) = range_of(look.names(), args.get(0)) else {
         return Ok(bad());
@@ -102,7 +102,7 @@ pub fn put_row<K: Look>(
 
 /// BLANK.
 pub fn blank_row<K: Look>(look: &K, scene: &Scene, args: &TextList) -> Row
-    ensures { result ≡ spec.blank_row (world_of (K.sight look.now) scene.entry.now) args.now }
+    ensures { result ≡ spec.blank_row (outlook_of (K.sight look.now) scene.entry.now) args.now }
 {
     match range_of(look.names(), args.get(0)) {
         Some(span) => Ok(Deed {
@@ -147,8 +147,9 @@ fn given_count<K: Look>(
     args: &TextList,
     asked: Asked,
 ) -> Result<Option<u8>, Memory>
-    ensures { let world = world_of (K.sight look.now) scene.entry.now in
-        IfOk result (λ n. n ≡ spec.given_count world at.now args.now asked.place asked.low asked.high asked.left_out) }
+    ensures { let outlook = outlook_of (K.sight look.now) scene.entry.now in
+        IfOk result (λ n.
+        n ≡ spec.given_count outlook at.now args.now asked.place asked.low asked.high asked.left_out) }
 {
     if args.len() <= asked.place {
         return Ok(Some(asked.left_out));
@@ -172,9 +173,9 @@ fn width_given<K: Look>(
     args: &TextList,
     cell: Cell,
 ) -> Result<Option<u8>, Memory>
-    ensures { let world = world_of (K.sight look.now) scene.entry.now in
+    ensures { let outlook = outlook_of (K.sight look.now) scene.entry.now in
         IfOk result
-        (λ n. n ≡ spec.given_count world at.now args.now 2 1 spec.most_width (world.sight.widths cell.col)) }
+        (λ n. n ≡ spec.given_count outlook at.now args.now 2 1 spec.most_width (outlook.sight.widths cell.col)) }
 {
     let asked = Asked {
         place: 2,
@@ -194,8 +195,8 @@ fn format_given<K: Look>(
     args: &TextList,
     cell: Cell,
 ) -> Result<Option<u8>, Memory>
-    ensures { let world = world_of (K.sight look.now) scene.entry.now in
-        IfOk result (λ n. n ≡ spec.given_count world at.now args.now 3 0 255 (world.sight.formats cell)) }
+    ensures { let outlook = outlook_of (K.sight look.now) scene.entry.now in
+        IfOk result (λ n. n ≡ spec.given_count outlook at.now args.now 3 0 255 (outlook.sight.formats cell)) }
 {
     let asked = Asked {
         place: 3,
@@ -215,8 +216,8 @@ pub fn contents_row<K: Look>(
     at: &Spot,
     args: &TextList,
 ) -> Result<Row, Memory>
-    ensures { let world = world_of (K.sight look.now) scene.entry.now in
-        IfOk result (λ r. r ≡ spec.contents_row world global.0 at.now args.now) }
+    ensures { let outlook = outlook_of (K.sight look.now) scene.entry.now in
+        IfOk result (λ r. r ≡ spec.contents_row outlook global.0 at.now args.now) }
 {
     let Some(target) = place_of(look.names(), args.get(0)) else {
         return Ok(bad());
@@ -254,9 +255,9 @@ fn passes_given<K: Look>(
     at: &Spot,
     args: &TextList,
 ) -> Result<Option<u8>, Memory>
-    ensures { let world = world_of (K.sight look.now) scene.entry.now in
+    ensures { let outlook = outlook_of (K.sight look.now) scene.entry.now in
         IfOk result
-        (λ n. n ≡ spec.given_count world at.now args.now 2 1 spec.most_passes (spec.passes_left_out args.now)) }
+        (λ n. n ≡ spec.given_count outlook at.now args.now 2 1 spec.most_passes (spec.passes_left_out args.now)) }
 {
     let asked = Asked {
         place: 2,
@@ -275,8 +276,8 @@ fn condition_given<K: Look>(
     at: &Spot,
     args: &TextList,
 ) -> Result<Option<Option<Formula>>, Memory>
-    ensures { let world = world_of (K.sight look.now) scene.entry.now in
-        IfOk result (λ f. f ≡ spec.condition_in world at.now args.now) }
+    ensures { let outlook = outlook_of (K.sight look.now) scene.entry.now in
+        IfOk result (λ f. f ≡ spec.condition_in outlook at.now args.now) }
 {
     if args.len() <= 1 {
         return Ok(Some(None));
@@ -296,8 +297,8 @@ pub fn recalc_row<K: Look>(
     by_columns: bool,
     args: &TextList,
 ) -> Result<Row, Memory>
-    ensures { let world = world_of (K.sight look.now) scene.entry.now in
-        IfOk result (λ r. r ≡ spec.recalc_row world at.now by_columns args.now) }
+    ensures { let outlook = outlook_of (K.sight look.now) scene.entry.now in
+        IfOk result (λ r. r ≡ spec.recalc_row outlook at.now by_columns args.now) }
 {
     let Some(span) = range_of(look.names(), args.get(0)) else {
         return Ok(bad());

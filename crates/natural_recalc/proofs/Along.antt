@@ -25,11 +25,11 @@ use Rattle.natural_recalc.proofs.First.{rest_of, what_stays_along}
 use Rattle.natural_recalc.proofs.Members.{has_pre}
 use Rattle.natural_recalc.proofs.Rest.{formulas_all, further, onto, onto-has, onto-seen, right_all, settled_pass, IsRight}
 use Rattle.natural_recalc.proofs.Valued.{told_valued, with_value}
+use Rattle.natural_recalc.specs.Context.{formula_at, outlook_at, value_at, value_of, Context}
 use Rattle.natural_recalc.specs.InOrder.{GoesInOrder}
 use Rattle.natural_recalc.specs.Laws.{has_formula}
 use Rattle.natural_recalc.specs.Passes.{evaluated, pass, passes, revalued, IsMeaning, IsPlain, IsRest, IsSound, IsWhatStays, Meaning, SameContents}
 use Rattle.natural_recalc.specs.Reading.{is_formula_at, natural_order, pre, spans_at, spans_in, volatile_of}
-use Rattle.natural_recalc.specs.World.{formula_at, value_at, value_of, world_at, Context}
 
 -- no formula
 abbrev pub none : Place → Bool
@@ -110,7 +110,7 @@ value_blind v (Some s) w = refl
 module _ (mean : Meaning) (ctx : Context) where
   rest_evaluated : (v : Value) (g : Grid) (c : Place) (o : Option Tree) (d : Place) → with_value (get (revalued mean ctx g c o).cells d) v ≡ with_value (get g.cells d) v
   rest_evaluated v g c None d = refl
-  rest_evaluated v g c (Some t) d = told_valued (λ o. with_value o v) (value_blind v) g.cells (get g.cells c) c (mean t c (world_at ctx g)) d refl
+  rest_evaluated v g c (Some t) d = told_valued (λ o. with_value o v) (value_blind v) g.cells (get g.cells c) c (mean t c (outlook_at ctx g)) d refl
 
   -- a pass writes values alone
   rest_passed : (v : Value) (cs : List Place) (g : Grid) (d : Place) → with_value (get (pass mean ctx cs g).cells d) v ≡ with_value (get g.cells d) v
@@ -207,7 +207,7 @@ module _ (mean : Meaning) (ctx : Context) where
     same_formulas : (cs : List Place) (c : Place) (t : Tree) → formula_at g c ≡ Some t → formula_at (pass mean ctx cs g) c ≡ Some t
     same_formulas cs c t e = ap (λ (k : Place → Option Tree). k c) (formulas_all mean ctx none meaning cs g) ∙ e
 
-    right_one : (c : Place) (t : Tree) → formula_at g c ≡ Some t → value_at one_pass c ≡ mean t c (world_at ctx one_pass)
+    right_one : (c : Place) (t : Tree) → formula_at g c ≡ Some t → value_at one_pass c ≡ mean t c (outlook_at ctx one_pass)
     right_one c t e =
         let right = right_all mean ctx none meaning keys clean g rest_none right_first (precedes g keys clean goes clean_has) in
         let seen : has same_place (onto mean ctx none meaning keys clean) c ≡ true =
@@ -220,7 +220,7 @@ module _ (mean : Meaning) (ctx : Context) where
     settled : IsSound mean ctx whole_pass none
     settled = settled_pass mean ctx none meaning g rest_none
 
-    right_whole : (c : Place) (t : Tree) → formula_at g c ≡ Some t → value_at whole_pass c ≡ mean t c (world_at ctx whole_pass)
+    right_whole : (c : Place) (t : Tree) → formula_at g c ≡ Some t → value_at whole_pass c ≡ mean t c (outlook_at ctx whole_pass)
     right_whole c t e = settled.right c t (same_formulas (natural_order g).done c t e) refl
 
     -- a clean cell keeps its value in both
@@ -247,7 +247,7 @@ module _ (mean : Meaning) (ctx : Context) where
         here None e = absurd (false≢true (formed None e))
         here (Some t) e =
             right_one c t e
-            ∙ meaning.reads t c (world_at ctx one_pass) (world_at ctx whole_pass) (steady c t e)
+            ∙ meaning.reads t c (outlook_at ctx one_pass) (outlook_at ctx whole_pass) (steady c t e)
             (λ x m. h x (false_from_ne_true _ (λ k. true≢false (sym (read t e x m) ∙ o.0.ahead x k))))
             ∙ sym (right_whole c t e)
           where

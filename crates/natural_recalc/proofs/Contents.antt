@@ -9,9 +9,9 @@ use Rattle.depend_graph.specs.Network.{Network}
 use Rattle.sheet_store.specs.Grid.{Grid}
 use Rattle.sheet_store.specs.declared.state.CellState.{CellState}
 use Rattle.natural_recalc.proofs.Valued.{content_blind, format_blind, told_valued}
+use Rattle.natural_recalc.specs.Context.{content_of, format_of, formula_at, formula_in, formula_of, outlook_at, Context}
 use Rattle.natural_recalc.specs.Passes.{evaluated, revalued, Meaning, SameContents}
 use Rattle.natural_recalc.specs.Reading.{node_of, Matches}
-use Rattle.natural_recalc.specs.World.{content_of, format_of, formula_at, formula_in, formula_of, world_at, Context}
 
 pub same_itself : (g : Grid) → SameContents g g
 same_itself g = record { contents = λ c. refl; formats = λ c. refl; widths = refl; hidden = refl }
@@ -31,8 +31,8 @@ module _ (mean : Meaning) (ctx : Context) where
       with : (o : Option Tree) → SameContents g (revalued mean ctx g c o)
       with None = same_itself g
       with (Some t) = record {
-        contents = λ d. told_valued content_of content_blind g.cells (get g.cells c) c (mean t c (world_at ctx g)) d refl;
-        formats = λ d. told_valued format_of format_blind g.cells (get g.cells c) c (mean t c (world_at ctx g)) d refl;
+        contents = λ d. told_valued content_of content_blind g.cells (get g.cells c) c (mean t c (outlook_at ctx g)) d refl;
+        formats = λ d. told_valued format_of format_blind g.cells (get g.cells c) c (mean t c (outlook_at ctx g)) d refl;
         widths = refl;
         hidden = refl;
       }

@@ -8,7 +8,7 @@ use Rattle.std.proofs.Common.{sym, ◌∙◌, ap, subst, refl, inl, inr, arith, 
 use Rattle.std.proofs.lemmas.Bool.{true≢false, cases_Bool, false_from_ne_true}
 use Rattle.grid_address.proofs.Places.{same_place_is}
 use Rattle.grid_address.specs.Place.{same_place, Place}
-use Rattle.formula_eval.specs.World.{World}
+use Rattle.formula_eval.specs.Outlook.{Outlook}
 use Rattle.formula_tree.specs.Spans.{spans_of}
 use Rattle.formula_tree.specs.Tree.{Tree}
 use Rattle.cell_numbers.specs.Sets.{has}
@@ -17,26 +17,26 @@ use Rattle.range_index.specs.Owners.{hold}
 use Rattle.sheet_store.specs.Grid.{set_value_at, Grid}
 use Rattle.natural_recalc.proofs.Members.{has_pre, pre_along}
 use Rattle.natural_recalc.proofs.Valued.{formula_blind, told_valued, value_valued, valued_same}
+use Rattle.natural_recalc.specs.Context.{formula_at, formula_of, outlook_at, value_at, Context}
 use Rattle.natural_recalc.specs.Passes.{evaluated, pass, revalued, IsMeaning, IsSound, Meaning, PassIsCut}
 use Rattle.natural_recalc.specs.Reading.{is_formula_at, pre, spans_in}
-use Rattle.natural_recalc.specs.World.{formula_at, formula_of, value_at, world_at, Context}
 
 pub read_formula : (g : Grid) (d c : Place) (t : Tree) → formula_at g d ≡ Some t → hold (spans_of t d) c ≡ true → is_formula_at g c ≡ true → has same_place (pre g d) c ≡ true
 read_formula g d c t h m k = has_pre g d c ∙ (λ i. k i && hold (spans_in (h i) d) c) ∙ m
 
 module _ (mean : Meaning) (ctx : Context) where
-  abbrev pub world : Grid → World
-  world g = world_at ctx g
+  abbrev pub outlook : Grid → Outlook
+  outlook g = outlook_at ctx g
 
   pub formula_revalued : (g : Grid) (c : Place) (o : Option Tree) (d : Place) → formula_at (revalued mean ctx g c o) d ≡ formula_at g d
   formula_revalued g c None d = refl
-  formula_revalued g c (Some f) d = told_valued formula_of formula_blind g.cells (get g.cells c) c (mean f c (world g)) d refl
+  formula_revalued g c (Some f) d = told_valued formula_of formula_blind g.cells (get g.cells c) c (mean f c (outlook g)) d refl
 
   pub value_revalued : (g : Grid) (c : Place) (o : Option Tree) (d : Place) → same_place d c ≡ false → value_at (revalued mean ctx g c o) d ≡ value_at g d
   value_revalued g c None d h = refl
-  value_revalued g c (Some f) d h = value_valued g.cells (get g.cells c) c (mean f c (world g)) d refl h
+  value_revalued g c (Some f) d h = value_valued g.cells (get g.cells c) c (mean f c (outlook g)) d refl h
 
-  pub revalued_same : (g : Grid) (c : Place) (o : Option Tree) → ((f : Tree) → o ≡ Some f → value_at g c ≡ mean f c (world g)) → revalued mean ctx g c o ≡ g
+  pub revalued_same : (g : Grid) (c : Place) (o : Option Tree) → ((f : Tree) → o ≡ Some f → value_at g c ≡ mean f c (outlook g)) → revalued mean ctx g c o ≡ g
   revalued_same g c None h = refl
   revalued_same g c (Some f) h =
       ap (set_value_at g c) (sym (h f refl)) ∙ ap (λ m. record g { cells = m }) (valued_same g.cells (get g.cells c) c refl)
@@ -65,7 +65,7 @@ module _ (mean : Meaning) (ctx : Context) where
           right = λ d f h e.
               let here : formula_at g d ≡ Some f = sym (ap (λ (k : Place → Option Tree). k d) (formulas_stay g c)) ∙ h in
               value_revalued g c (formula_at g c) d (apart c d t e) ∙ s.right d f here e
-              ∙ meaning.reads f d (world g) (world g') (s.calm d f here e) (λ r m. sym (value_revalued g c (formula_at g c) r (false_from_ne_true _ (λ q.
+              ∙ meaning.reads f d (outlook g) (outlook g') (s.calm d f here e) (λ r m. sym (value_revalued g c (formula_at g c) r (false_from_ne_true _ (λ q.
               true≢false (sym (s.up d c (read_formula g d c f here (subst (λ x. hold (spans_of f d) x ≡ true) (same_place_is r c q) m) (s.only c t)) t) ∙ e)))));
         }
 

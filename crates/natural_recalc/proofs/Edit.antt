@@ -13,9 +13,9 @@ use Rattle.range_index.specs.Owners.{hold}
 use Rattle.sheet_store.specs.Grid.{Grid}
 use Rattle.natural_recalc.proofs.First.{reads_formula}
 use Rattle.natural_recalc.proofs.Members.{has_pre, pre_of_read, read_of_pre}
+use Rattle.natural_recalc.specs.Context.{formula_at, formula_of, outlook_at, value_of, Context}
 use Rattle.natural_recalc.specs.Passes.{EditKeepsSound, IsMeaning, IsSpread, Meaning}
 use Rattle.natural_recalc.specs.Reading.{is_formula_at, pre, reads_at, spans_at, spans_in}
-use Rattle.natural_recalc.specs.World.{formula_at, formula_of, value_of, world_at, Context}
 
 module _ (old new : Grid) (written dirty spread : Place → Bool) (s : IsSpread old new written dirty spread) where
   formula_other : (c : Place) → written c ≡ false → formula_at new c ≡ formula_at old c
@@ -77,7 +77,7 @@ edit_keeps_sound mean ctx meaning old new written dirty spread sound s = record 
       let p = calm_old old new written dirty spread s c (ap is_some here) e in
       let there : formula_at old c ≡ Some f = sym (formula_other old new written dirty spread s c p.0) ∙ here in
       ap value_of (s.others c p.0) ∙ sound.right c f there p.1
-      ∙ meaning.reads f c (world_at ctx old) (world_at ctx new) (sound.calm c f there p.1) (λ d m. sym (ap value_of (s.others d
+      ∙ meaning.reads f c (outlook_at ctx old) (outlook_at ctx new) (sound.calm c f there p.1) (λ d m. sym (ap value_of (s.others d
       (false_from_ne_true _ (λ w. true≢false (sym (s.reaching c d w (direct (ap (λ o. hold (spans_in o c) d) here ∙ m))) ∙ e))))));
 }
   where

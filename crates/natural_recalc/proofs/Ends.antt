@@ -19,11 +19,11 @@ use Rattle.natural_recalc.proofs.Cut.{sound_all}
 use Rattle.natural_recalc.proofs.First.{filter_twice, rest_of, stays_along, stays_formula, stays_in, what_stays_along}
 use Rattle.natural_recalc.proofs.Members.{pre_along}
 use Rattle.natural_recalc.proofs.Rest.{formulas_all, further, settled_pass}
+use Rattle.natural_recalc.specs.Context.{formula_at, Context}
 use Rattle.natural_recalc.specs.Laws.{has_formula, Ascends}
 use Rattle.natural_recalc.specs.Passes.{IsPlain, IsRight, pass, passes, IsMeaning, IsSound, IsWhatStays, Meaning}
 use Rattle.natural_recalc.specs.Reading.{is_formula_at, natural_order, pre, StaysDirty}
 use Rattle.natural_recalc.specs.Reading.StaysDirty.{circle, reading, volatile}
-use Rattle.natural_recalc.specs.World.{formula_at, Context}
 
 module _ (mean : Meaning) (ctx : Context) (meaning : IsMeaning mean) where
   -- passes write no contents

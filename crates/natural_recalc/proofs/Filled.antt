@@ -14,7 +14,7 @@ use Rattle.std.proofs.lemmas.List.Kept.{IsStrictlySortedBy-filter}
 use Rattle.grid_address.proofs.Places.{same_place_is}
 use Rattle.grid_address.specs.Place.{height_of, is_within, place_cmp, same_place, width_of, Extent, Place}
 use Rattle.formula_tree.specs.Values.{is_filled}
-use Rattle.formula_eval.specs.World.{block_cells, cells_of, row_cells}
+use Rattle.formula_eval.specs.Outlook.{block_cells, cells_of, row_cells}
 use Rattle.natural_order.proofs.Cut.{filter_passes, has-filter}
 use Rattle.cell_numbers.specs.Sets.{has}
 use Rattle.sheet_store.specs.Grid.{any_state, cells_within, Grid}
@@ -22,7 +22,7 @@ use Rattle.sheet_store.specs.declared.state.CellState.{CellState}
 use Rattle.natural_recalc.specs.Laws.{has_picked, passes_at, Ascends}
 use Rattle.natural_recalc.proofs.Ascending.{picked_ascends}
 use Rattle.natural_recalc.proofs.Members.{same_members}
-use Rattle.natural_recalc.specs.World.{value_at, value_of}
+use Rattle.natural_recalc.specs.Context.{value_at, value_of}
 
 pub has_filtered : (p : Place → Bool) (xs : List Place) (d : Place) → has same_place (filter p xs) d ≡ (p d && has same_place xs d)
 has_filtered p xs d = elim (cases_Bool (p d)) [

@@ -18,10 +18,10 @@ use Rattle.range_index.specs.Owners.{hold}
 use Rattle.sheet_store.specs.Grid.{formulas, Grid}
 use Rattle.natural_recalc.specs.Laws.{has_formula, has_in}
 use Rattle.natural_recalc.proofs.Members.{pre_along, pre_formulas}
+use Rattle.natural_recalc.specs.Context.{formula_at, Context}
 use Rattle.natural_recalc.specs.Passes.{IsRest, IsSound, IsWhatStays, Meaning}
 use Rattle.natural_recalc.specs.Reading.{is_formula_at, natural_order, pre, spans_at, spans_in, StaysDirty}
 use Rattle.natural_recalc.specs.Reading.StaysDirty.{volatile, circle, reading}
-use Rattle.natural_recalc.specs.World.{formula_at, Context}
 
 -- what holds of the dirty formulas splits the order
 pub split_of : (mean : Meaning) (ctx : Context) (g : Grid) (dirty : Place → Bool) → IsSound mean ctx g dirty → IsSplit same_place (pre g) dirty

@@ -18,9 +18,9 @@ use Rattle.natural_order.specs.Walk.Reaches.{more, one}
 use Rattle.sheet_store.specs.Grid.{is_kept, put_state, Grid}
 use Rattle.sheet_store.specs.declared.state.CellState.{CellState}
 use Rattle.natural_recalc.proofs.First.{reads_formula}
+use Rattle.natural_recalc.specs.Context.{formula_at, formula_in, formula_of, Context}
 use Rattle.natural_recalc.specs.Passes.{IsSound, Meaning}
 use Rattle.natural_recalc.specs.Reading.{is_formula_at, node_of, pre, with_formula, Matches}
-use Rattle.natural_recalc.specs.World.{formula_at, formula_in, formula_of, Context}
 
 start : (g : Grid) {c d : Place} → Reaches same_place (pre g) c d → is_formula_at g c ≡ true
 start g {c} {d} (one m) = reads_formula g c d m

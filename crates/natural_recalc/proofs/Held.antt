@@ -12,10 +12,10 @@ use Rattle.cell_numbers.specs.Sets.{has}
 use Rattle.natural_order.specs.Walk.{Precedes, Reaches}
 use Rattle.natural_order.specs.Walk.Reaches.{one, more}
 use Rattle.sheet_store.specs.Grid.{Grid}
+use Rattle.natural_recalc.specs.Context.{formula_at}
 use Rattle.natural_recalc.specs.Passes.{is_held, LeftSoFar}
 use Rattle.natural_recalc.specs.Reading.{pre, volatile_of, StaysDirty}
 use Rattle.natural_recalc.specs.Reading.StaysDirty.{volatile, circle, reading}
-use Rattle.natural_recalc.specs.World.{formula_at}
 
 pub precedes_at : (p : Place → List Place) (seen xs : List Place) (i : ℕ) (x any : Place) → Precedes same_place p seen xs → i < length xs → x ≡ get_or xs i any → (d : Place) → has same_place (p x) d ≡ true
     → ((has same_place seen d || has same_place (take i xs) d) ≡ true) ⊎ Reaches same_place p x x

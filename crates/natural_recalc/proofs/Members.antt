@@ -12,9 +12,9 @@ use Rattle.cell_numbers.specs.Sets.{has}
 use Rattle.range_index.specs.Owners.{hold}
 use Rattle.sheet_store.specs.Grid.{formulas, formulas_within, holds_formula, Grid}
 use Rattle.natural_recalc.proofs.Ascending.{formulas_ascend, picked_ascends}
+use Rattle.natural_recalc.specs.Context.{formula_at}
 use Rattle.natural_recalc.specs.Reading.{formulas_in, is_formula_at, pre, spans_at, spans_in}
 use Rattle.natural_recalc.specs.Laws.{has_formula, has_in, has_within, Ascends}
-use Rattle.natural_recalc.specs.World.{formula_at}
 
 -- lists in row order with the same members are one
 pub same_members : (xs ys : List Place) → Ascends xs → Ascends ys → ((d : Place) → has same_place xs d ≡ has same_place ys d) → xs ≡ ys

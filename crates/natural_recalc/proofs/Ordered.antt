@@ -9,9 +9,9 @@ use Rattle.depend_graph.specs.InOrder.{StandsFirst}
 use Rattle.depend_graph.specs.Network.{holds, reads, Network}
 use Rattle.range_index.specs.Owners.{hold}
 use Rattle.sheet_store.specs.Grid.{Grid}
+use Rattle.natural_recalc.specs.Context.{formula_at}
 use Rattle.natural_recalc.specs.InOrder.{is_volatile_at, GoesInOrder}
 use Rattle.natural_recalc.specs.Reading.{node_of, reads_at, spans_in, volatile_of, Matches}
-use Rattle.natural_recalc.specs.World.{formula_at}
 
 volatile_told : (o : Option Tree) (c : Place) → graph.is_volatile (node_of o c) ≡ volatile_of o
 volatile_told None c = refl

@@ -21,38 +21,38 @@ use Rattle.natural_recalc.proofs.Cut.{formulas_stay, pass_is_cut, pre_stays, rea
 use Rattle.natural_recalc.specs.Laws.{has_formula}
 use Rattle.natural_recalc.proofs.Members.{pre_formulas}
 use Rattle.natural_recalc.proofs.Valued.{get_valued, with_value}
+use Rattle.natural_recalc.specs.Context.{formula_at, formula_of, outlook_at, value_at, value_of, Context}
 use Rattle.natural_recalc.specs.Passes.{evaluated, pass, passes, revalued, IsMeaning, IsRest, IsSound, Meaning, RecalculationIsCut}
 use Rattle.natural_recalc.specs.Reading.{is_formula_at, natural_order, pre}
-use Rattle.natural_recalc.specs.World.{formula_at, formula_of, value_at, value_of, world_at, Context}
 
 module _ (mean : Meaning) (ctx : Context) (rest : Place → Bool) (meaning : IsMeaning mean) where
   -- the calm formulas among the seen have their meaning, and read only what was seen
   pub record IsRight (seen : List Place) (g : Grid) : Type 0 where
-    pub value : (x : Place) (f : Tree) → has same_place seen x ≡ true → rest x ≡ false → formula_at g x ≡ Some f → value_at g x ≡ mean f x (world_at ctx g)
+    pub value : (x : Place) (f : Tree) → has same_place seen x ≡ true → rest x ≡ false → formula_at g x ≡ Some f → value_at g x ≡ mean f x (outlook_at ctx g)
     pub closed : (x d : Place) → has same_place seen x ≡ true → rest x ≡ false → has same_place (pre g x) d ≡ true → has same_place seen d ≡ true
 
   value_kept : (g : Grid) (c : Place) (o : Option Tree) (d : Place) → (is_some o ≡ true → same_place d c ≡ false) → value_at (revalued mean ctx g c o) d ≡ value_at g d
   value_kept g c None d h = refl
   value_kept g c (Some f) d h = value_revalued mean ctx g c (Some f) d (h refl)
 
-  value_set : (g : Grid) (c : Place) (o : Option Tree) (f : Tree) → formula_at g c ≡ o → o ≡ Some f → value_at (revalued mean ctx g c o) c ≡ mean f c (world_at ctx g)
+  value_set : (g : Grid) (c : Place) (o : Option Tree) (f : Tree) → formula_at g c ≡ o → o ≡ Some f → value_at (revalued mean ctx g c o) c ≡ mean f c (outlook_at ctx g)
   value_set g c None f is e = absurd (false≢true (ap is_some e))
   value_set g c (Some f') f is e =
-      let v : Value = mean f' c (world_at ctx g) in
+      let v : Value = mean f' c (outlook_at ctx g) in
       ap value_of (get_valued g.cells (get g.cells c) c v c refl ∙ cond-true _ (with_value (get g.cells c) v) (get g.cells c) (same_place_itself c))
       ∙ taken (get g.cells c) v is ∙ ap (λ (h : Option Tree). meant h) e
     where
       meant : Option Tree → Value
-      meant None = mean f c (world_at ctx g)
-      meant (Some h) = mean h c (world_at ctx g)
+      meant None = mean f c (outlook_at ctx g)
+      meant (Some h) = mean h c (outlook_at ctx g)
 
       taken : (o : Option CellState) (v : Value) → formula_of o ≡ Some f' → value_of (with_value o v) ≡ v
       taken None v h = absurd (false≢true (ap is_some h))
       taken (Some s) v h = refl
 
   mean_kept : (g : Grid) → IsRest g rest → (c x : Place) (f : Tree) → formula_at g x ≡ Some f → rest x ≡ false → (is_formula_at g c ≡ true → hold (spans_of f x) c ≡ true → ⊥)
-      → mean f x (world_at ctx g) ≡ mean f x (world_at ctx (evaluated mean ctx g c))
-  mean_kept g r c x f here e free = meaning.reads f x (world_at ctx g) (world_at ctx (evaluated mean ctx g c)) (r.volatile x f here e)
+      → mean f x (outlook_at ctx g) ≡ mean f x (outlook_at ctx (evaluated mean ctx g c))
+  mean_kept g r c x f here e free = meaning.reads f x (outlook_at ctx g) (outlook_at ctx (evaluated mean ctx g c)) (r.volatile x f here e)
       (λ d m. sym (value_kept g c (formula_at g c) d (λ k. false_from_ne_true _ (λ q. free k (subst (λ y. hold (spans_of f x) y ≡ true) (same_place_is d c q) m)))))
 
   right_idle : (seen : List Place) (c : Place) (g : Grid) → IsRight seen g → has same_place seen c ≡ true → rest c ≡ false → IsRight (c ∷ seen) (evaluated mean ctx g c)
@@ -74,10 +74,10 @@ module _ (mean : Meaning) (ctx : Context) (rest : Place → Bool) (meaning : IsM
               let xc : x ≡ c = same_place_is x c q in
               let e' : rest c ≡ false = sym (ap rest xc) ∙ e in
               let here' : formula_at g c ≡ Some f = sym (ap (formula_at g) xc) ∙ here in
-              let at : value_at (evaluated mean ctx g c) c ≡ mean f c (world_at ctx (evaluated mean ctx g c)) =
+              let at : value_at (evaluated mean ctx g c) c ≡ mean f c (outlook_at ctx (evaluated mean ctx g c)) =
               value_set g c (formula_at g c) f refl here'
               ∙ mean_kept g r c c f here' e' (λ k w. r.acyclic c e' (one (read_formula g c c f here' w k))) in
-              subst (λ y. value_at (evaluated mean ctx g c) y ≡ mean f y (world_at ctx (evaluated mean ctx g c))) (sym xc) at
+              subst (λ y. value_at (evaluated mean ctx g c) y ≡ mean f y (outlook_at ctx (evaluated mean ctx g c))) (sym xc) at
           | inr q ↦
               let s : has same_place seen x ≡ true = elim (or_cases (same_place x c) (has same_place seen x) m) [ inl w ↦ absurd (true≢false (sym w ∙ q)) | inr w ↦ w ] in
               value_kept g c (formula_at g c) x (λ _. q) ∙ i.value x f s e here

@@ -4,9 +4,9 @@ use Rattle.grid_address.specs.Place.{same_place, Place}
 use Rattle.cell_numbers.specs.Sets.{has}
 use Rattle.depend_graph.specs.InOrder.{AreInOrder}
 use Rattle.sheet_store.specs.Grid.{Grid}
+use Rattle.natural_recalc.specs.Context.{formula_at, Context}
 use Rattle.natural_recalc.specs.Passes.{pass, IsSound, Meaning}
 use Rattle.natural_recalc.specs.Reading.{natural_order, reads_at, volatile_of}
-use Rattle.natural_recalc.specs.World.{formula_at, Context}
 
 -- whether the formula of a cell is volatile
 abbrev pub is_volatile_at : Grid → Place → Bool

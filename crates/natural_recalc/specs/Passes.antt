@@ -7,29 +7,29 @@ use Rattle.formula_tree.specs.Spans.{is_volatile}
 use Rattle.formula_tree.specs.Tree.{Tree}
 use Rattle.formula_tree.specs.declared.value.Value.{Value}
 use Rattle.formula_eval.specs.Mean.{Reads}
-use Rattle.formula_eval.specs.World.{World}
+use Rattle.formula_eval.specs.Outlook.{Outlook}
 use Rattle.depend_graph.specs.Network.{ReachesCell}
 use Rattle.cell_numbers.specs.Sets.{has}
 use Rattle.natural_order.specs.Walk.{Reaches}
 use Rattle.sheet_store.specs.Grid.{set_value_at, Grid}
 use Rattle.sheet_store.specs.declared.order.Order.{Order}
 use Rattle.sheet_store.specs.declared.order.Order.TheVariants as orders
+use Rattle.natural_recalc.specs.Context.{content_of, format_of, formula_at, outlook_at, value_at, Context}
 use Rattle.natural_recalc.specs.Reading.{is_formula_at, natural_order, pre, reads_at, volatile_of, StaysDirty}
-use Rattle.natural_recalc.specs.World.{content_of, format_of, formula_at, value_at, world_at, Context}
 
--- what a formula in a cell is worth in a world
+-- what a formula in a cell is worth in an outlook
 abbrev pub Meaning : Type 0
-Meaning = Tree → Place → World → Value
+Meaning = Tree → Place → Outlook → Value
 
 -- a meaning that hangs on the values that are read alone, where the formula isn't volatile
 pub record IsMeaning (mean : Meaning) : Type 0 where
-  pub reads : (t : Tree) (at : Place) (w u : World) → is_volatile t ≡ false →
+  pub reads : (t : Tree) (at : Place) (w u : Outlook) → is_volatile t ≡ false →
       ((c : Place) → Reads t at c → w.sight.values c ≡ u.sight.values c) → mean t at w ≡ mean t at u
 
 -- the value of a cell becomes what its formula is worth now; a cell without one stays as it is
 abbrev pub revalued : Meaning → Context → Grid → Place → Option Tree → Grid
 revalued mean x g c None = g
-revalued mean x g c (Some t) = set_value_at g c (mean t c (world_at x g))
+revalued mean x g c (Some t) = set_value_at g c (mean t c (outlook_at x g))
 
 -- a cell takes the meaning of its formula over the values as they stand
 abbrev pub evaluated : Meaning → Context → Grid → Place → Grid
@@ -55,7 +55,7 @@ pub record IsSound (mean : Meaning) (x : Context) (g : Grid) (dirty : Place → 
   pub calm : (c : Place) (t : Tree) → formula_at g c ≡ Some t → dirty c ≡ false → is_volatile t ≡ false
   pub acyclic : (c : Place) → dirty c ≡ false → Reaches same_place (pre g) c c → ⊥
   pub right : (c : Place) (t : Tree) → formula_at g c ≡ Some t → dirty c ≡ false →
-      value_at g c ≡ mean t c (world_at x g)
+      value_at g c ≡ mean t c (outlook_at x g)
 
 -- these are just the formulas that a recalculation leaves dirty
 abbrev pub IsWhatStays : Grid → (Place → Bool) → Type 0
@@ -82,7 +82,7 @@ pub record IsPlain (g : Grid) : Type 0 where
 
 -- each formula has its meaning over the sheet's values
 abbrev pub IsRight : Meaning → Context → Grid → Type 0
-IsRight mean x g = (c : Place) (t : Tree) → formula_at g c ≡ Some t → value_at g c ≡ mean t c (world_at x g)
+IsRight mean x g = (c : Place) (t : Tree) → formula_at g c ≡ Some t → value_at g c ≡ mean t c (outlook_at x g)
 
 -- one pass over the dirty formulas is one pass over all
 abbrev pub PassIsCut : Meaning → Context → Type 0

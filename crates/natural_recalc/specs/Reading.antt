@@ -15,7 +15,7 @@ use Rattle.range_index.specs.Owners.{hold}
 use Rattle.sheet_store.specs.Grid.{formulas, formulas_within, Grid}
 use Rattle.sheet_store.specs.declared.order.Order.{Order}
 use Rattle.sheet_store.specs.declared.order.Order.TheVariants as orders
-use Rattle.natural_recalc.specs.World.{formula_at}
+use Rattle.natural_recalc.specs.Context.{formula_at}
 
 -- whether a cell holds a formula
 abbrev pub is_formula_at : Grid → Place → Bool

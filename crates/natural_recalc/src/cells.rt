@@ -2,7 +2,7 @@
 ghost use Rattle.std.specs.Prelude.{◌≡◌, IfNone, IfSome, Some, None};
 ghost use Rattle.std.specs.FinMap as map;
 ghost use Rattle.sheet_store.specs.Grid as grid;
-ghost use Rattle.natural_recalc.specs.World.{content_of, format_of, value_at, width_or};
+ghost use Rattle.natural_recalc.specs.Context.{content_of, format_of, value_at, width_or};
 
 use crate::Missing;
 use formula_tree::{Content, Value};

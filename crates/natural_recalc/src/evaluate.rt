@@ -2,9 +2,9 @@
 ghost use Rattle.std.specs.Prelude.{◌≡◌, ◌*◌, Bool, length, OnErr, OnOk, true};
 ghost use Rattle.grid_address.specs.Place.{same_place, Place};
 ghost use Rattle.cell_numbers.specs.Sets.{has};
+ghost use Rattle.natural_recalc.specs.Context.{context_of};
 ghost use Rattle.natural_recalc.specs.Passes.{evaluated, pass, passes, raised_by, IsSound, SameContents};
 ghost use Rattle.natural_recalc.specs.Reading.{is_formula_at};
-ghost use Rattle.natural_recalc.specs.World.{context_of};
 
 use crate::{Missing, View};
 use formula_eval::{Means, Scene};

@@ -1,7 +1,7 @@
 // Laws of recalculation. Each function does nothing, and stands for its clause.
+ghost use Rattle.natural_recalc.specs.Context.{Context};
 ghost use Rattle.natural_recalc.specs.InOrder.{AnyOrderServes};
 ghost use Rattle.natural_recalc.specs.Passes.{EditKeepsSound, PassIsCut, RecalculationIsCut};
-ghost use Rattle.natural_recalc.specs.World.{Context};
 
 use formula_eval::Means;
 

@@ -1,5 +1,5 @@
 // What a cell that isn't there has.
-ghost use Rattle.natural_recalc.specs.World.{IsBlank};
+ghost use Rattle.natural_recalc.specs.Context.{IsBlank};
 
 use formula_tree::Value;
 use std::marker::Model;
@@ -11,7 +11,7 @@ pub struct Missing {
 }
 
 impl Model for Missing {
-    ghost use Rattle.natural_recalc.specs.World.{IsBlank};
+    ghost use Rattle.natural_recalc.specs.Context.{IsBlank};
 
     ghost Value = { Unit {0} };
 

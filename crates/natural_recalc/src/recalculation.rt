@@ -8,11 +8,11 @@ ghost use Rattle.cell_numbers.specs.Sets.{has};
 ghost use Rattle.natural_order.specs.Walk.{IsSplit, Precedes};
 ghost use Rattle.sheet_store.specs.Grid.{formulas};
 ghost use Rattle.sheet_store.specs.declared.order.Order.TheVariants.{Natural};
+ghost use Rattle.natural_recalc.specs.Context.{context_of};
 ghost use Rattle.natural_recalc.specs.InOrder.{GoesInOrder};
 ghost use Rattle.natural_recalc.specs.Passes as whole;
 ghost use Rattle.natural_recalc.specs.Passes.{pass, passes, raised_by, IsDirtyAfter, IsPlain, IsRight, IsSound, IsWhatStays, SameContents};
 ghost use Rattle.natural_recalc.specs.Reading.{is_formula_at, natural_order, order_in, plain_order, pre, Matches, StaysDirty};
-ghost use Rattle.natural_recalc.specs.World.{context_of};
 
 use crate::columns::by_columns;
 use crate::evaluate::{further, pass_over};

@@ -4,9 +4,9 @@ ghost use Rattle.std.specs.List.{filter};
 ghost use Rattle.grid_address.specs.Place.{same_place, Place};
 ghost use Rattle.cell_numbers.specs.Sets.{has};
 ghost use Rattle.sheet_store.specs.Grid.{formulas_within};
+ghost use Rattle.natural_recalc.specs.Context.{context_of};
 ghost use Rattle.natural_recalc.specs.Passes.{pass, raised_by, IsSound, SameContents};
 ghost use Rattle.natural_recalc.specs.Spans.{span_order};
-ghost use Rattle.natural_recalc.specs.World.{context_of};
 
 use crate::columns::by_columns;
 use crate::evaluate::pass_over;

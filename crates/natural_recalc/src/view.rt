@@ -3,7 +3,7 @@ ghost use Rattle.std.specs.Prelude.{◌≡◌, ◌++◌, ◌∷◌, [], IfOk, On
 ghost use Rattle.std.specs.List.{filter};
 ghost use Rattle.grid_address.specs.Place.{Place};
 ghost use Rattle.formula_tree.specs.Values.{is_filled};
-ghost use Rattle.natural_recalc.specs.World.{sight_of, value_at};
+ghost use Rattle.natural_recalc.specs.Context.{sight_of, value_at};
 
 use crate::Missing;
 use crate::cells::{content_of, format_of, value_of, width_of};

@@ -5,8 +5,8 @@ use Rattle.cell_numbers.specs.Sets.{has}
 use Rattle.formula_eval.specs.Mean.{mean}
 use Rattle.formula_eval.specs.declared.look.Scene.{Scene}
 use Rattle.grid_address.specs.Place.{same_place, Place}
+use Rattle.natural_recalc.specs.Context.{Context}
 use Rattle.natural_recalc.specs.Passes.{pass, passes, IsSound, Meaning, PassIsCut}
-use Rattle.natural_recalc.specs.World.{Context}
 use Rattle.sheet_store.specs.Grid.{Grid}
 use Rattle.work_sheet.specs.Doing.{all_passed, context_in, ordered}
 use Rattle.work_sheet.specs.Seen.{Sheet}

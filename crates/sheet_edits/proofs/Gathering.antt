@@ -12,7 +12,7 @@ use Rattle.formula_tree.specs.declared.value.Content.{Content}
 use Rattle.formula_tree.specs.declared.value.Content.TheVariants as content
 use Rattle.formula_tree.specs.declared.value.Value.{Value}
 use Rattle.cell_numbers.specs.Sets.{has}
-use Rattle.natural_recalc.specs.World.{format_of}
+use Rattle.natural_recalc.specs.Context.{format_of}
 use Rattle.sheet_store.specs.Grid.{Cells, Grid, IsSound}
 use Rattle.sheet_store.specs.declared.state.CellState.{CellState}
 use Rattle.sheet_store.specs.declared.writes.Write.{Write}

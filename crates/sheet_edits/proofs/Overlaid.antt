@@ -13,8 +13,8 @@ use Rattle.formula_tree.specs.declared.value.Value.{Value}
 use Rattle.depend_graph.specs.Network.{taken, IsSpread, Network}
 use Rattle.depend_graph.specs.declared.node.Node.{Node}
 use Rattle.cell_numbers.specs.Sets.{has}
+use Rattle.natural_recalc.specs.Context.{formula_at, formula_in, formula_of}
 use Rattle.natural_recalc.specs.Reading.{is_formula_at, node_of, Matches}
-use Rattle.natural_recalc.specs.World.{formula_at, formula_in, formula_of}
 use Rattle.sheet_store.specs.Grid.{is_kept, put_state, Cells, Grid}
 use Rattle.sheet_store.specs.declared.state.CellState.{CellState}
 use Rattle.depend_graph.proofs.Spreads.{spread_along}

@@ -10,8 +10,8 @@ use Rattle.grid_address.specs.declared.format.Format.{Format}
 use Rattle.depend_graph.specs.Network.{Network}
 use Rattle.depend_graph.specs.declared.node.Node.{Node}
 use Rattle.cell_numbers.specs.Sets.{has}
+use Rattle.natural_recalc.specs.Context.{format_of, formula_at, formula_in}
 use Rattle.natural_recalc.specs.Reading.{node_of}
-use Rattle.natural_recalc.specs.World.{format_of, formula_at, formula_in}
 use Rattle.sheet_store.specs.Choices.{Choices}
 use Rattle.sheet_store.specs.Grid.{blank_state, formatted, is_formula, is_kept, put_state, Cells, Grid, IsSound}
 use Rattle.sheet_store.specs.contracts.state.CellState as state

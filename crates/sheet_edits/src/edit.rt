@@ -5,8 +5,8 @@ ghost use Rattle.grid_address.specs.Place.{same_place, Place};
 ghost use Rattle.depend_graph.specs.Network.{IsSpread};
 ghost use Rattle.depend_graph.specs.Within.{Extends};
 ghost use Rattle.cell_numbers.specs.Sets.{has};
+ghost use Rattle.natural_recalc.specs.Context.{formula_in};
 ghost use Rattle.natural_recalc.specs.Reading.{is_formula_at, node_of, Matches};
-ghost use Rattle.natural_recalc.specs.World.{formula_in};
 ghost use Rattle.sheet_store.specs.Grid.{is_formula, is_kept, put_state, IsSound};
 ghost use Rattle.sheet_edits.specs.Edits.{just, kept_at, settled, AreDirtied, WithReached};
 

@@ -4,9 +4,9 @@ ghost use Rattle.std.specs.FinMap as map;
 ghost use Rattle.std.specs.Option.{ForSome};
 ghost use Rattle.grid_address.specs.Place.{same_place, Place};
 ghost use Rattle.cell_numbers.specs.Sets.{has};
+ghost use Rattle.natural_recalc.specs.Context.{context_of};
 ghost use Rattle.natural_recalc.specs.Passes.{evaluated, raised_by};
 ghost use Rattle.natural_recalc.specs.Reading.{is_formula_at, Matches};
-ghost use Rattle.natural_recalc.specs.World.{context_of};
 ghost use Rattle.sheet_store.specs.Grid.{is_formula, is_kept, put_state, IsSound};
 ghost use Rattle.sheet_edits.specs.Edits.{just, put_back, AreDirtied, IsOldState};
 

@@ -3,7 +3,7 @@ ghost use Rattle.std.specs.Prelude.{◌≡◌, ◌≤◌, ◌<◌, ◌+◌, ◌-
 ghost use Rattle.std.specs.FinMap as map;
 ghost use Rattle.grid_address.specs.Place.{is_within, same_place, Place};
 ghost use Rattle.cell_numbers.specs.Sets.{has};
-ghost use Rattle.natural_recalc.specs.World.{format_of};
+ghost use Rattle.natural_recalc.specs.Context.{format_of};
 ghost use Rattle.sheet_store.specs.Grid.{AreHeld};
 ghost use Rattle.sheet_store.specs.Choices.{Choices};
 ghost use Rattle.sheet_edits.specs.Spans.{blanked, block_at, copied_state, given_at, in_columns, in_rows, reformatted_state, repeated, rule_of, sooner, source_of, target_of, AreGiven, AreSound, HasCode, IsFirstMarked, IsFirstProtected, NoneMarked, NoneProtected};

@@ -2,7 +2,7 @@
 ghost use Rattle.std.specs.Prelude.{◌≡◌, IfOk, true};
 ghost use Rattle.grid_address.specs.Formats.{has_protection};
 ghost use Rattle.sheet_store.specs.Grid.{is_formula, is_kept, IsSound};
-ghost use Rattle.natural_recalc.specs.World.{format_of};
+ghost use Rattle.natural_recalc.specs.Context.{format_of};
 ghost use Rattle.sheet_edits.specs.Edits.{first_value, written_state};
 ghost use Rattle.std.specs.FinMap as map;
 

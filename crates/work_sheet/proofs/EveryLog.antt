@@ -14,11 +14,11 @@ use Rattle.natural_order.specs.Walk.{Reaches}
 use Rattle.natural_order.specs.Walk.Reaches.{one, more}
 use Rattle.natural_recalc.proofs.First.{reads_formula, stays_formula}
 use Rattle.natural_recalc.proofs.Members.{pre_of_read, read_of_pre}
+use Rattle.natural_recalc.specs.Context.{formula_at}
 use Rattle.natural_recalc.specs.Laws.{has_formula}
 use Rattle.natural_recalc.specs.Passes.{raised_by, IsDirtyAfter, IsWhatStays}
 use Rattle.natural_recalc.specs.Reading.{is_formula_at, pre, reads_at, spans_at, spans_in, volatile_of, StaysDirty}
 use Rattle.natural_recalc.specs.Reading.StaysDirty.{circle, reading, volatile}
-use Rattle.natural_recalc.specs.World.{formula_at}
 use Rattle.range_index.specs.Owners.{hold}
 use Rattle.sheet_edits.proofs.Reaching.{reaching_formula}
 use Rattle.sheet_edits.specs.Edits.{AreDirtied, IsDirtied, ReachesWritten}

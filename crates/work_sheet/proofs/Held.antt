@@ -18,9 +18,9 @@ use Rattle.natural_recalc.proofs.Cut.{sound_all}
 use Rattle.natural_recalc.proofs.Edit.{edit_keeps_sound}
 use Rattle.natural_recalc.proofs.First.{reads_formula}
 use Rattle.natural_recalc.proofs.Members.{pre_along}
+use Rattle.natural_recalc.specs.Context.{formula_at, formula_of, outlook_at, value_of, Context}
 use Rattle.natural_recalc.specs.Passes.{evaluated, IsDirtyAfter, IsMeaning, IsSound, IsSpread, Meaning, SameContents}
 use Rattle.natural_recalc.specs.Reading.{is_formula_at, node_of, pre, Matches}
-use Rattle.natural_recalc.specs.World.{formula_at, formula_of, value_of, world_at, Context}
 use Rattle.sheet_edits.proofs.Beside.{beside}
 use Rattle.sheet_edits.proofs.Reaching.{reaching_formula}
 use Rattle.sheet_edits.specs.Edits.{just, AreDirtied}
@@ -38,7 +38,7 @@ module _ (mean : Meaning) (meaning : IsMeaning mean) where
         acyclic = λ c k r. s.acyclic c k (subst (λ (p : Place → List Place). Reaches same_place p c c) (pre_along h g formulas) r);
         right = λ c t here k.
             let there : formula_at g c ≡ Some t = sym (formula_same c) ∙ here in
-            values c ∙ s.right c t there k ∙ meaning.reads t c (world_at x g) (world_at y h) (s.calm c t there k) (λ d _. sym (values d));
+            values c ∙ s.right c t there k ∙ meaning.reads t c (outlook_at x g) (outlook_at y h) (s.calm c t there k) (λ d _. sym (values d));
       }
 
   -- so it does whatever the columns are

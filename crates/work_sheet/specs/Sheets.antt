@@ -15,9 +15,9 @@ use Rattle.sheet_store.specs.declared.writes.SheetFault.TheVariants as faults
 use Rattle.sheet_store.specs.contracts.settings.Settings as settings
 use Rattle.sheet_store.specs.declared.order.Order.{Order}
 use Rattle.sheet_store.specs.declared.order.Order.TheVariants as orders
+use Rattle.natural_recalc.specs.Context.{Context}
 use Rattle.natural_recalc.specs.Passes.{IsSound, Meaning}
 use Rattle.natural_recalc.specs.Reading.{is_formula_at, Matches}
-use Rattle.natural_recalc.specs.World.{Context}
 
 -- the cells and columns, the dirty formulas, whether the last recalculation told a circle, whether a change was made
 -- since then, the names and the settings

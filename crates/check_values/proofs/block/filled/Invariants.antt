@@ -1,7 +1,7 @@
 use Rattle.std.proofs.Common.{◌≡◌}
 use Rattle.std.specs.List.{filter}
 use Rattle.formula_tree.specs.Values.{is_filled}
-use Rattle.formula_eval.specs.World.{block_cells}
+use Rattle.formula_eval.specs.Outlook.{block_cells}
 use Rattle.check_values.specs.Blocks.{held_at, value_of}
 use Rattle.check_values.proofs.block.filled.Given as goal
 

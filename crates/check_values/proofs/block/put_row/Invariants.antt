@@ -1,7 +1,7 @@
 use Rattle.std.proofs.Common.{◌≡◌, ◌++◌}
 use Rattle.std.specs.List.{filter}
 use Rattle.formula_tree.specs.Values.{is_filled}
-use Rattle.formula_eval.specs.World.{row_cells}
+use Rattle.formula_eval.specs.Outlook.{row_cells}
 use Rattle.check_values.specs.Blocks.{held_at, value_of}
 use Rattle.check_values.proofs.block.put_row.Given as goal
 

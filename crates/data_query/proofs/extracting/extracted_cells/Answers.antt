@@ -1,20 +1,20 @@
 use Rattle.std.proofs.Common.{arith}
-use Rattle.formula_eval.specs.Scenes.{world_of}
+use Rattle.formula_eval.specs.Scenes.{outlook_of}
 use Rattle.data_query.proofs.Differing.{all_rows, few_cells, few_kept, rows_that_differ}
 use Rattle.data_query.proofs.extracting.extracted_cells.Goals as goal
 
 pub returns-in_ok-kept : goal.returns-in_ok-kept
 returns-in_ok-kept g c =
-    let world = world_of (g.K.Look.sight c.args.look.now) c.args.scene.now in
+    let outlook = outlook_of (g.K.Look.sight c.args.look.now) c.args.scene.now in
     record {
-      rows = rows_that_differ world c.args.input c.args.criterion c.args.unique c.args.fields.now c.in_ok-kept.kept c.as_slice.result.now c.in_ok-cells.cells c.in_ok-kept.ensures c.as_slice.ensures c.in_ok-cells.ensures c.if-unique.true;
-      count = few_kept world c.args.input c.args.criterion c.args.fields.now c.in_ok-kept.kept c.as_slice.result.now c.in_ok-cells.cells c.in_ok-kept.ensures c.as_slice.ensures c.in_ok-cells.ensures (omega arith);
+      rows = rows_that_differ outlook c.args.input c.args.criterion c.args.unique c.args.fields.now c.in_ok-kept.kept c.as_slice.result.now c.in_ok-cells.cells c.in_ok-kept.ensures c.as_slice.ensures c.in_ok-cells.ensures c.if-unique.true;
+      count = few_kept outlook c.args.input c.args.criterion c.args.fields.now c.in_ok-kept.kept c.as_slice.result.now c.in_ok-cells.cells c.in_ok-kept.ensures c.as_slice.ensures c.in_ok-cells.ensures (omega arith);
     }
 
 pub returns-else-unique : goal.returns-else-unique
 returns-else-unique g c =
-    let world = world_of (g.K.Look.sight c.args.look.now) c.args.scene.now in
+    let outlook = outlook_of (g.K.Look.sight c.args.look.now) c.args.scene.now in
     record {
-      rows = all_rows world c.args.input c.args.criterion c.args.unique c.args.fields.now c.in_ok-cells.cells c.in_ok-cells.ensures c.if-unique.false;
-      count = few_cells world c.args.input c.args.criterion c.in_ok-cells.cells c.in_ok-cells.ensures (omega arith);
+      rows = all_rows outlook c.args.input c.args.criterion c.args.unique c.args.fields.now c.in_ok-cells.cells c.in_ok-cells.ensures c.if-unique.false;
+      count = few_cells outlook c.args.input c.args.criterion c.in_ok-cells.cells c.in_ok-cells.ensures (omega arith);
     }

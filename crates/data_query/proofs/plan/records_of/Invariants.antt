@@ -1,5 +1,5 @@
 use Rattle.std.proofs.Common.{◌≡◌, ◌+◌, ◌-◌, ◌++◌, map}
-use Rattle.formula_eval.specs.Scenes.{world_of}
+use Rattle.formula_eval.specs.Scenes.{outlook_of}
 use Rattle.block_writes.specs.Writing.{at}
 use Rattle.formula_eval.specs.Criteria.{record_matches}
 use Rattle.data_query.specs.Plans.{is_wanted, records}
@@ -8,5 +8,5 @@ use Rattle.data_query.proofs.plan.records_of.Given as goal
 
 abbrev pub invariant-loop-place : goal.invariant-loop-place
 invariant-loop-place g l =
-    l.cells ++ passed (λ row. at row l.input.first.col) (λ row. is_wanted l.wanted (record_matches (world_of (g.K.Look.sight l.look) l.scene) l.input l.criterion row)) (l.input.first.row + 1) (l.input.last.row - l.input.first.row) l.place
-    ≡ map (λ row. at row l.input.first.col) (records (world_of (g.K.Look.sight l.look) l.scene) l.input l.criterion l.wanted)
+    l.cells ++ passed (λ row. at row l.input.first.col) (λ row. is_wanted l.wanted (record_matches (outlook_of (g.K.Look.sight l.look) l.scene) l.input l.criterion row)) (l.input.first.row + 1) (l.input.last.row - l.input.first.row) l.place
+    ≡ map (λ row. at row l.input.first.col) (records (outlook_of (g.K.Look.sight l.look) l.scene) l.input l.criterion l.wanted)

@@ -1,11 +1,11 @@
 use Rattle.std.proofs.Common.{◌≡◌, ◌+◌, ◌-◌}
 use Rattle.std.specs.List.{list_any}
-use Rattle.formula_eval.specs.Scenes.{world_of}
+use Rattle.formula_eval.specs.Scenes.{outlook_of}
 use Rattle.formula_eval.specs.Criteria.{record_matches, row_holds}
 use Rattle.range_lines.proofs.Scans.{left}
 use Rattle.formula_eval.proofs.criteria.record_matches.Given as goal
 
 abbrev pub invariant-loop-place : goal.invariant-loop-place
 invariant-loop-place g l =
-    list_any (row_holds (world_of (g.K.Look.sight l.look) l.scene) l.input l.criterion l.row) (left (l.criterion.first.row + 1) (l.criterion.last.row - l.criterion.first.row) l.place)
-    ≡ record_matches (world_of (g.K.Look.sight l.look) l.scene) l.input l.criterion l.row
+    list_any (row_holds (outlook_of (g.K.Look.sight l.look) l.scene) l.input l.criterion l.row) (left (l.criterion.first.row + 1) (l.criterion.last.row - l.criterion.first.row) l.place)
+    ≡ record_matches (outlook_of (g.K.Look.sight l.look) l.scene) l.input l.criterion l.row

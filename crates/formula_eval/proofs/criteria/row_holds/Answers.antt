@@ -1,7 +1,7 @@
 use Rattle.std.proofs.Common.{ℕ, ◌<◌, ◌≡◌, length, ap, ◌∙◌, arith}
 use Rattle.std.specs.List.{list_all}
 use Rattle.grid_address.specs.Place.{width_of}
-use Rattle.formula_eval.specs.Scenes.{world_of}
+use Rattle.formula_eval.specs.Scenes.{outlook_of}
 use Rattle.range_lines.specs.Rows.{at}
 use Rattle.formula_eval.specs.Criteria.{holds_at, row_holds}
 use Rattle.formula_eval.specs.Fields.{field_named}
@@ -18,39 +18,39 @@ bounds-fields-from g c =
 
 pub loop-col-init : goal.loop-col-init
 loop-col-init g c =
-    let world = world_of (g.K.Look.sight c.args.look.now) c.args.scene.now in
+    let outlook = outlook_of (g.K.Look.sight c.args.look.now) c.args.scene.now in
     let input = c.args.input in
     let criterion = c.args.criterion in
-    let f = λ (col : ℕ). holds_at world input criterion c.args.row (at c.args.conditions col) in
+    let f = λ (col : ℕ). holds_at outlook input criterion c.args.row (at c.args.conditions col) in
     ap (list_all f) (left_first criterion.first.col (width_of criterion))
 
 pub loop-col-preserved : goal.loop-col-preserved
 loop-col-preserved g c =
-    let world = world_of (g.K.Look.sight c.args.look.now) c.args.scene.now in
+    let outlook = outlook_of (g.K.Look.sight c.args.look.now) c.args.scene.now in
     let input = c.args.input in
     let criterion = c.args.criterion in
-    let f = λ (col : ℕ). holds_at world input criterion c.args.row (at c.args.conditions col) in
+    let f = λ (col : ℕ). holds_at outlook input criterion c.args.row (at c.args.conditions col) in
     let inside : c.loop-col.col < width_of criterion = omega (arith, c.loop-col-test.true, c.width-col-end.ensures.width) in
     let indexed : c.from.result ≡ c.loop-col.col = omega (arith, c.from.ensures) in
-    let is = held world input criterion c.args.fields.now c.args.row c.args.conditions c.loop-col.col c.column_at.result c.rows_behind-count.result c.from.result _ c.in_ok-held.held c.requires.fields inside c.column_at.ensures c.rows_behind-count.ensures indexed c.in_ok-held.ensures in
-    all_more f criterion.first.col (width_of criterion) c.loop-col.col (row_holds world input criterion c.args.row c.args.conditions) inside (is ∙ c.if-not-held.false) c.loop-col.invariant
+    let is = held outlook input criterion c.args.fields.now c.args.row c.args.conditions c.loop-col.col c.column_at.result c.rows_behind-count.result c.from.result _ c.in_ok-held.held c.requires.fields inside c.column_at.ensures c.rows_behind-count.ensures indexed c.in_ok-held.ensures in
+    all_more f criterion.first.col (width_of criterion) c.loop-col.col (row_holds outlook input criterion c.args.row c.args.conditions) inside (is ∙ c.if-not-held.false) c.loop-col.invariant
 
 pub returns-then-not-held : goal.returns-then-not-held
 returns-then-not-held g c =
-    let world = world_of (g.K.Look.sight c.args.look.now) c.args.scene.now in
+    let outlook = outlook_of (g.K.Look.sight c.args.look.now) c.args.scene.now in
     let input = c.args.input in
     let criterion = c.args.criterion in
-    let f = λ (col : ℕ). holds_at world input criterion c.args.row (at c.args.conditions col) in
+    let f = λ (col : ℕ). holds_at outlook input criterion c.args.row (at c.args.conditions col) in
     let inside : c.loop-col.col < width_of criterion = omega (arith, c.loop-col-test.true, c.width-col-end.ensures.width) in
     let indexed : c.from.result ≡ c.loop-col.col = omega (arith, c.from.ensures) in
-    let is = held world input criterion c.args.fields.now c.args.row c.args.conditions c.loop-col.col c.column_at.result c.rows_behind-count.result c.from.result _ c.in_ok-held.held c.requires.fields inside c.column_at.ensures c.rows_behind-count.ensures indexed c.in_ok-held.ensures in
-    all_stop f criterion.first.col (width_of criterion) c.loop-col.col (row_holds world input criterion c.args.row c.args.conditions) inside (is ∙ c.if-not-held.true) c.loop-col.invariant
+    let is = held outlook input criterion c.args.fields.now c.args.row c.args.conditions c.loop-col.col c.column_at.result c.rows_behind-count.result c.from.result _ c.in_ok-held.held c.requires.fields inside c.column_at.ensures c.rows_behind-count.ensures indexed c.in_ok-held.ensures in
+    all_stop f criterion.first.col (width_of criterion) c.loop-col.col (row_holds outlook input criterion c.args.row c.args.conditions) inside (is ∙ c.if-not-held.true) c.loop-col.invariant
 
 pub returns : goal.returns
 returns g c =
-    let world = world_of (g.K.Look.sight c.args.look.now) c.args.scene.now in
+    let outlook = outlook_of (g.K.Look.sight c.args.look.now) c.args.scene.now in
     let input = c.args.input in
     let criterion = c.args.criterion in
-    let f = λ (col : ℕ). holds_at world input criterion c.args.row (at c.args.conditions col) in
-    all_end f criterion.first.col (width_of criterion) c.loop-col.col (row_holds world input criterion c.args.row c.args.conditions)
+    let f = λ (col : ℕ). holds_at outlook input criterion c.args.row (at c.args.conditions col) in
+    all_end f criterion.first.col (width_of criterion) c.loop-col.col (row_holds outlook input criterion c.args.row c.args.conditions)
     (omega (arith, c.loop-col-test.false, c.width-col-end.ensures.width)) c.loop-col.invariant

@@ -1,7 +1,7 @@
 use Rattle.std.proofs.Common.{◌≡◌}
 use Rattle.std.specs.List.{list_all}
 use Rattle.grid_address.specs.Place.{width_of}
-use Rattle.formula_eval.specs.Scenes.{world_of}
+use Rattle.formula_eval.specs.Scenes.{outlook_of}
 use Rattle.range_lines.specs.Rows.{at}
 use Rattle.formula_eval.specs.Criteria.{holds_at, row_holds}
 use Rattle.range_lines.proofs.Scans.{left}
@@ -9,5 +9,5 @@ use Rattle.formula_eval.proofs.criteria.row_holds.Given as goal
 
 abbrev pub invariant-loop-col : goal.invariant-loop-col
 invariant-loop-col g l =
-    list_all (λ col. holds_at (world_of (g.K.Look.sight l.look) l.scene) l.fn.input l.criterion l.row (at l.conditions col)) (left l.criterion.first.col (width_of l.criterion) l.col)
-    ≡ row_holds (world_of (g.K.Look.sight l.look) l.scene) l.fn.input l.criterion l.row l.conditions
+    list_all (λ col. holds_at (outlook_of (g.K.Look.sight l.look) l.scene) l.fn.input l.criterion l.row (at l.conditions col)) (left l.criterion.first.col (width_of l.criterion) l.col)
+    ≡ row_holds (outlook_of (g.K.Look.sight l.look) l.scene) l.fn.input l.criterion l.row l.conditions

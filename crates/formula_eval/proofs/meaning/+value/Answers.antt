@@ -6,7 +6,7 @@ use Rattle.formula_tree.proofs.Rows.{fewer_nodes, tree_of-Call}
 use Rattle.formula_eval.specs.Calls.{choice}
 use Rattle.formula_eval.specs.Parts.{arguments_by, call_value, value_by}
 use Rattle.formula_eval.specs.declared.argument.Argument.{Argument}
-use Rattle.formula_eval.specs.Scenes.{world_of}
+use Rattle.formula_eval.specs.Scenes.{outlook_of}
 use Rattle.formula_eval.proofs.Places.{argument, nth_is, nth_past, one_more, stopped, taken}
 use Rattle.formula_eval.proofs.meaning.+value.Goals as goal
 
@@ -18,7 +18,7 @@ arguments_of-composed-requires g t c κs within =
 
 pub arguments_of-loop-expr-preserved : goal.arguments_of-loop-expr-preserved
 arguments_of-loop-expr-preserved g t c =
-    let w = world_of (g.K.Look.sight c.args.look.now) c.args.scene.now in
+    let w = outlook_of (g.K.Look.sight c.args.look.now) c.args.scene.now in
     let at = c.args.at in
     let es = c.args.exprs.now in
     let item = c.expr-item.result in
@@ -38,7 +38,7 @@ chosen-composed-requires-then-place-exprs g t c κs within =
 
 pub chosen-returns-then-place-exprs : goal.chosen-returns-then-place-exprs
 chosen-returns-then-place-exprs g t c =
-    let w = world_of (g.K.Look.sight c.args.look.now) c.args.scene.now in
+    let w = outlook_of (g.K.Look.sight c.args.look.now) c.args.scene.now in
     let at = c.args.at in
     let es = c.args.exprs.now in
     let f = c.args.function in
@@ -53,7 +53,7 @@ chosen-returns-then-place-exprs g t c =
 
 pub chosen-returns-in-Ok : goal.chosen-returns-in-Ok
 chosen-returns-in-Ok g t c =
-    let w = world_of (g.K.Look.sight c.args.look.now) c.args.scene.now in
+    let w = outlook_of (g.K.Look.sight c.args.look.now) c.args.scene.now in
     let at = c.args.at in
     let es = c.args.exprs.now in
     let f = c.args.function in
@@ -67,7 +67,7 @@ chosen-returns-in-Ok g t c =
 
 pub chosen-returns : goal.chosen-returns
 chosen-returns g t c =
-    let w = world_of (g.K.Look.sight c.args.look.now) c.args.scene.now in
+    let w = outlook_of (g.K.Look.sight c.args.look.now) c.args.scene.now in
     let at = c.args.at in
     let es = c.args.exprs.now in
     let f = c.args.function in
@@ -87,7 +87,7 @@ value_of-call_value-requires g t c κs within =
 
 pub value_of-returns-in-Call : goal.value_of-returns-in-Call
 value_of-returns-in-Call g t c =
-    let w = world_of (g.K.Look.sight c.args.look.now) c.args.scene.now in
+    let w = outlook_of (g.K.Look.sight c.args.look.now) c.args.scene.now in
     let at = c.args.at in
     let f = c.in-Call.function in
     let args = c.in-Call.exprs in

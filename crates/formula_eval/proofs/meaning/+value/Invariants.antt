@@ -2,7 +2,7 @@ use Rattle.std.proofs.Common.{◌≡◌, ◌+◌, ◌*◌, map, take}
 use Rattle.formula_tree.specs.Nodes.{all_nodes, nodes}
 use Rattle.formula_tree.specs.View.{listed, tree_of}
 use Rattle.formula_eval.specs.Parts.{arguments_by}
-use Rattle.formula_eval.specs.Scenes.{world_of}
+use Rattle.formula_eval.specs.Scenes.{outlook_of}
 use Rattle.formula_eval.proofs.meaning.+value.Given as goal
 
 abbrev pub decreases-value_of : goal.decreases-value_of
@@ -33,4 +33,4 @@ abbrev pub decreases-binary_value : goal.decreases-binary_value
 decreases-binary_value g l = 5 * (nodes (tree_of l.left.now) + nodes (tree_of l.right.now)) + 1
 
 abbrev pub invariant-arguments_of-loop-expr : goal.invariant-arguments_of-loop-expr
-invariant-arguments_of-loop-expr g l = l.arguments.items ≡ arguments_by g.D.Databases.answers (listed (map tree_of (take l.expr-index l.exprs))) l.at (world_of (g.K.Look.sight l.look) l.scene)
+invariant-arguments_of-loop-expr g l = l.arguments.items ≡ arguments_by g.D.Databases.answers (listed (map tree_of (take l.expr-index l.exprs))) l.at (outlook_of (g.K.Look.sight l.look) l.scene)

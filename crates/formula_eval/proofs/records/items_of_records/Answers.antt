@@ -2,28 +2,28 @@ use Rattle.std.proofs.Common.{◌<◌, ◌+◌, ◌-◌, ◌++◌, List, sym, ap
 use Rattle.formula_eval.specs.declared.items.Item.{Item}
 use Rattle.formula_eval.specs.Criteria.{record_matches}
 use Rattle.formula_eval.specs.Databases.{record_items}
-use Rattle.formula_eval.specs.Scenes.{world_of}
+use Rattle.formula_eval.specs.Scenes.{outlook_of}
 use Rattle.formula_eval.proofs.Columns.{behind, behind_all, no_record, pass_record, put_record}
 use Rattle.formula_eval.proofs.records.items_of_records.Goals as goal
 use Rattle.formula_eval.proofs.records.items_of_records.Goals.{then-found+in_ok-put_cell, else-found}
 
 pub loop-place-init : goal.loop-place-init
 loop-place-init g c =
-    let world = world_of (g.K.Look.sight c.args.look.now) c.args.scene.now in
-    let values = world.sight.values in
+    let outlook = outlook_of (g.K.Look.sight c.args.look.now) c.args.scene.now in
+    let values = outlook.sight.values in
     let input = c.args.input in
-    let test = record_matches world input c.args.criterion in
+    let test = record_matches outlook input c.args.criterion in
     ap (λ (l : List Item). l ++ behind values c.args.col test (input.first.row + 1) (input.last.row - input.first.row) 0) c.new-items.ensures.items
     ∙ behind_all values c.args.col test (input.first.row + 1) (input.last.row - input.first.row)
 
 pub loop-place-preserved : goal.loop-place-preserved
 loop-place-preserved g c =
-    let world = world_of (g.K.Look.sight c.args.look.now) c.args.scene.now in
-    let values = world.sight.values in
+    let outlook = outlook_of (g.K.Look.sight c.args.look.now) c.args.scene.now in
+    let values = outlook.sight.values in
     let input = c.args.input in
     let col = c.args.col in
-    let test = record_matches world input c.args.criterion in
-    let all = record_items world input c.args.criterion col in
+    let test = record_matches outlook input c.args.criterion in
+    let all = record_items outlook input c.args.criterion col in
     let n = input.first.row + 1 in
     let count = input.last.row - input.first.row in
     let place = c.loop-place.place in
@@ -39,7 +39,7 @@ loop-place-preserved g c =
 
 pub returns : goal.returns
 returns g c =
-    let world = world_of (g.K.Look.sight c.args.look.now) c.args.scene.now in
+    let outlook = outlook_of (g.K.Look.sight c.args.look.now) c.args.scene.now in
     let input = c.args.input in
-    let test = record_matches world input c.args.criterion in
-    no_record world.sight.values c.args.col test (input.first.row + 1) (input.last.row - input.first.row) c.loop-place.place c.loop-place.items.items (record_items world input c.args.criterion c.args.col) (omega (arith, c.loop-place-test.false, c.count_below-place-end.ensures.count)) c.loop-place.invariant
+    let test = record_matches outlook input c.args.criterion in
+    no_record outlook.sight.values c.args.col test (input.first.row + 1) (input.last.row - input.first.row) c.loop-place.place c.loop-place.items.items (record_items outlook input c.args.criterion c.args.col) (omega (arith, c.loop-place-test.false, c.count_below-place-end.ensures.count)) c.loop-place.invariant

@@ -1,8 +1,8 @@
 use Rattle.std.proofs.Common.{◌≡◌, sym, ap, ◌∙◌, subst, arith}
 use Rattle.grid_address.specs.Place.{height_of, width_of}
 use Rattle.formula_eval.specs.Lists.{items_in}
+use Rattle.formula_eval.specs.Outlook.{block_cells, cells_of}
 use Rattle.formula_eval.specs.Totals.{IsTotal}
-use Rattle.formula_eval.specs.World.{block_cells, cells_of}
 use Rattle.formula_eval.proofs.Totalled.{row_put, unfiltered}
 use Rattle.formula_eval.proofs.totals.total_in.Goals as goal
 

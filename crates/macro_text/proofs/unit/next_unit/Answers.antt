@@ -1,5 +1,5 @@
 use Rattle.std.proofs.Common.{◌≡◌, suc, ◌+◌, ◌-◌, ◌<◌, refl, sym, ◌∙◌, arith}
-use Rattle.formula_eval.specs.Scenes.{world_of}
+use Rattle.formula_eval.specs.Scenes.{outlook_of}
 use Rattle.macro_text.proofs.Turns.{within_none, within_now, within_passed}
 use Rattle.macro_text.proofs.unit.next_unit.Goals as goal
 
@@ -8,18 +8,18 @@ loop-turn-init g c = refl
 
 pub returns-in-Now : goal.returns-in-Now
 returns-in-Now g c =
-    let w = world_of (g.K.Look.sight c.args.look.now) c.args.scene.now in
+    let w = outlook_of (g.K.Look.sight c.args.look.now) c.args.scene.now in
     let left : 0 < 241 - c.loop-turn.turn = omega (arith, c.loop-turn-test.true) in
     sym (within_now (241 - c.loop-turn.turn) w c.loop-turn.place c.in-Now.unit c.in-Now.next left (sym c.in_ok-unit.ensures ∙ c.in-Now.is)) ∙ c.loop-turn.invariant
 
 pub loop-turn-preserved : goal.loop-turn-preserved
 loop-turn-preserved g c =
-    let w = world_of (g.K.Look.sight c.args.look.now) c.args.scene.now in
+    let w = outlook_of (g.K.Look.sight c.args.look.now) c.args.scene.now in
     let left : 241 - c.loop-turn.turn ≡ suc (241 - (c.loop-turn.turn + 1)) = omega (arith, c.loop-turn-test.true) in
     sym (within_passed (241 - c.loop-turn.turn) (241 - (c.loop-turn.turn + 1)) w c.loop-turn.place c.in-Passed.next left (sym c.in_ok-unit.ensures ∙ c.in-Passed.is)) ∙ c.loop-turn.invariant
 
 pub returns : goal.returns
 returns g c =
-    let w = world_of (g.K.Look.sight c.args.look.now) c.args.scene.now in
+    let w = outlook_of (g.K.Look.sight c.args.look.now) c.args.scene.now in
     let none : 241 - c.loop-turn.turn ≡ 0 = omega (arith, c.loop-turn-test.false) in
     within_none (241 - c.loop-turn.turn) w c.loop-turn.place none ∙ c.loop-turn.invariant

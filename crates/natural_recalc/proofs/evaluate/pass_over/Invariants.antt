@@ -1,8 +1,8 @@
 use Rattle.std.specs.Prelude.{◌≡◌, drop, Bool}
 use Rattle.grid_address.specs.Place.{Place}
+use Rattle.natural_recalc.specs.Context.{context_of}
 use Rattle.natural_recalc.specs.Passes.{pass, raised_by, IsSound, SameContents}
 use Rattle.natural_recalc.specs.Reading.{is_formula_at}
-use Rattle.natural_recalc.specs.World.{context_of}
 use Rattle.natural_recalc.proofs.evaluate.pass_over.Given as goal
 
 abbrev pub invariant-loop-cell : goal.invariant-loop-cell

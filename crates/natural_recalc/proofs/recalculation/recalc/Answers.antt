@@ -2,7 +2,7 @@ use Rattle.grid_address.specs.Place.{same_place}
 use Rattle.cell_numbers.specs.Sets.{has}
 use Rattle.natural_recalc.proofs.Contents.{formulas_same}
 use Rattle.natural_recalc.proofs.Ends.{right_plain}
-use Rattle.natural_recalc.specs.World.{context_of}
+use Rattle.natural_recalc.specs.Context.{context_of}
 use Rattle.natural_recalc.proofs.recalculation.recalc.Goals as goal
 
 pub returns-in_ok-circular-in-Natural-clause-right : goal.returns-in_ok-circular-in-Natural-clause-right

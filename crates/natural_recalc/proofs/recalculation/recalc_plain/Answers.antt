@@ -7,9 +7,9 @@ use Rattle.cell_numbers.specs.Sets.{has}
 use Rattle.sheet_store.specs.Grid.{Grid}
 use Rattle.natural_recalc.proofs.Rest.{further}
 use Rattle.natural_recalc.proofs.Ends.{as_many_dirty}
+use Rattle.natural_recalc.specs.Context.{context_of, Context}
 use Rattle.natural_recalc.specs.Passes.{passes, raised_by, IsMeaning, Meaning}
 use Rattle.natural_recalc.specs.Reading.{plain_order}
-use Rattle.natural_recalc.specs.World.{context_of, Context}
 use Rattle.natural_recalc.proofs.recalculation.recalc_plain.Goals as goal
 
 pub further-requires : goal.further-requires

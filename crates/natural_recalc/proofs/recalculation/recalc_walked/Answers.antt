@@ -7,9 +7,9 @@ use Rattle.sheet_store.specs.Grid.{Grid}
 use Rattle.natural_recalc.proofs.Contents.{matches_on}
 use Rattle.natural_recalc.proofs.Counts.{raised_more}
 use Rattle.natural_recalc.proofs.Ends.{all1, as_many_rest, formulas_rest, order1, sound_end, stays_end, values}
+use Rattle.natural_recalc.specs.Context.{context_of, Context}
 use Rattle.natural_recalc.specs.Passes.{raised_by, IsMeaning, IsWhatStays, Meaning}
 use Rattle.natural_recalc.specs.Reading.{pre}
-use Rattle.natural_recalc.specs.World.{context_of, Context}
 use Rattle.natural_recalc.proofs.recalculation.recalc_walked.Goals as goal
 
 pub rest_of-requires-clause-matches : goal.rest_of-requires-clause-matches

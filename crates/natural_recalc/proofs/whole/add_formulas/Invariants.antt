@@ -2,8 +2,8 @@ use Rattle.std.specs.Prelude.{◌≡◌, ◌&&◌, cond, take}
 use Rattle.std.specs.FinMap as map
 use Rattle.grid_address.specs.Place.{same_place, Place}
 use Rattle.cell_numbers.specs.Sets.{has}
+use Rattle.natural_recalc.specs.Context.{formula_at}
 use Rattle.natural_recalc.specs.Reading.{is_formula_at, node_of}
-use Rattle.natural_recalc.specs.World.{formula_at}
 use Rattle.natural_recalc.proofs.whole.add_formulas.Given as goal
 
 abbrev pub invariant-loop-cell : goal.invariant-loop-cell

@@ -3,7 +3,7 @@ use Rattle.std.specs.List.{filter}
 use Rattle.grid_address.specs.Place.{Place}
 use Rattle.formula_tree.specs.Values.{is_filled}
 use Rattle.natural_recalc.proofs.Filled.{filled_is}
-use Rattle.natural_recalc.specs.World.{value_at}
+use Rattle.natural_recalc.specs.Context.{value_at}
 use Rattle.natural_recalc.proofs.view.ViewLook.filled.Goals as goal
 
 pub returns : goal.returns

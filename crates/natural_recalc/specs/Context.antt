@@ -12,8 +12,8 @@ use Rattle.formula_tree.specs.declared.value.Value.TheVariants as value
 use Rattle.sheet_store.specs.Choices.{Choices}
 use Rattle.sheet_store.specs.Grid.{width_of, Grid}
 use Rattle.sheet_store.specs.declared.state.CellState.{CellState}
-use Rattle.formula_eval.specs.Scenes.{world_of}
-use Rattle.formula_eval.specs.World.{Sight, World}
+use Rattle.formula_eval.specs.Outlook.{Outlook, Sight}
+use Rattle.formula_eval.specs.Scenes.{outlook_of}
 use Rattle.formula_eval.specs.declared.look.Scene.{Scene}
 
 -- what formulas look at beside the cells and the columns
@@ -82,5 +82,5 @@ sight_of names settings g = record {
 }
 
 -- what formulas see of the sheet, with the moment and the machine outside it
-abbrev pub world_at : Context → Grid → World
-world_at x g = world_of (sight_of x.names x.settings g) x.scene
+abbrev pub outlook_at : Context → Grid → Outlook
+outlook_at x g = outlook_of (sight_of x.names x.settings g) x.scene

@@ -16,7 +16,7 @@ pub record Sight : Type 0 where
   pub names : NameMap
 
 -- these, the pointer, and the day number and the second of the moment
-pub record World : Type 0 where
+pub record Outlook : Type 0 where
   pub sight : Sight
   pub cursor : Place
   pub day : Option ℕ
