@@ -11,7 +11,7 @@ use lics_text::{LabelPrefix, Line, MAX_LEN};
 fn mask(byte: u8) -> u8
     ensures { result ≡ masked byte }
 {
-    if byte >= 127 { b'?' } else { byte }
+    if byte > b'~' { b'?' } else { byte }
 }
 
 // Adds the bytes, masked.

@@ -1,5 +1,6 @@
 // Single bytes that a text may hold.
 ghost use Rattle.std.specs.Prelude.{◌≡◌, ◌≤◌, ◌↔◌, IsTrue, IsSome, IfSome};
+ghost use Rattle.ascii_bytes.specs.Ascii as ascii;
 
 use std::marker::Model;
 
@@ -11,12 +12,13 @@ pub struct TextByte {
 
 impl Model for TextByte {
     ghost use Rattle.std.specs.Prelude.{ℕ, ◌≤◌};
+    ghost use Rattle.ascii_bytes.specs.Ascii as ascii;
 
     ghost Value = { ℕ };
 
     ghost view = { λ b. b.byte };
 
-    ghost invariant = { λ b. 32 ≤ b.byte };
+    ghost invariant = { λ b. ascii.space ≤ b.byte };
 
     ghost inverse = { λ n. record { byte = n } };
 }
@@ -24,7 +26,7 @@ impl Model for TextByte {
 impl TextByte {
     /// The byte, and none exactly below 32.
     pub fn of(byte: u8) -> Option<TextByte>
-        ensures which { IsSome result ↔ (32 ≤ byte) }
+        ensures which { IsSome result ↔ (ascii.space ≤ byte) }
         ensures value { IfSome result (λ b. b ≡ byte) }
     {
         if byte < b' ' {
@@ -37,7 +39,7 @@ impl TextByte {
     /// The byte itself.
     pub fn get(self) -> u8
         ensures value { result ≡ self }
-        ensures in_range { 32 ≤ self }
+        ensures in_range { ascii.space ≤ self }
     {
         self.byte
     }

@@ -2,6 +2,7 @@ ghost use Rattle.std.specs.Char.{to_ascii_lowercase, to_ascii_uppercase};
 ghost use Rattle.std.specs.Prelude.{◌≡◌, ◌≤◌, ◌<◌, map, IfOk, OnErr, IfSome, IfNone, position, nat_lt};
 ghost use Rattle.std.specs.Ordering.{nat_cmp};
 ghost use Rattle.std.specs.Cmp.Lexicographic.{slice_cmp};
+ghost use Rattle.ascii_bytes.specs.Ascii as ascii;
 ghost use Rattle.lics_text.specs.Answer.{Gives};
 ghost use Rattle.lics_text.specs.Texts.{text_of, pushed_text, proper_of, trimmed, IsFirstPlace, IsNoPlace};
 
@@ -189,7 +190,7 @@ fn fold_cmp(a: &[u8], b: &[u8]) -> Ordering
 
 // The place of the first byte below 32.
 fn first_bad(bytes: &[u8]) -> Option<usize>
-    ensures { result ≡ position (λ b. nat_lt b 32) bytes.now }
+    ensures { result ≡ position (λ b. nat_lt b ascii.space) bytes.now }
 {
     bytes.iter().position(|b| *b < b' ')
 }

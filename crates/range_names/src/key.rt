@@ -1,5 +1,6 @@
 // Names as keys: folded, with zeros up to 15 bytes.
 ghost use Rattle.std.specs.Prelude.{◌≡◌, ◌≤◌, ◌<◌, ◌==◌, get_or, length, Some, None, IfNone, IfOk, IfErr, OnOk, position, nat_lt};
+ghost use Rattle.ascii_bytes.specs.Ascii as ascii;
 ghost use Rattle.range_names.specs.Names.{bad_place, fault_of, key_of, name_in};
 
 use crate::NameFault;
@@ -18,14 +19,14 @@ pub fn key_of(name: &[u8]) -> [u8; 15]
 
 // The first byte below 32.
 fn first_small(name: &[u8]) -> Option<usize>
-    ensures { result ≡ position (λ b. nat_lt b 32) name.now }
+    ensures { result ≡ position (λ b. nat_lt b ascii.space) name.now }
 {
-    name.iter().position(|byte| *byte < 32)
+    name.iter().position(|byte| *byte < b' ')
 }
 
 // Whether a space stands in front; no bytes begin with none.
 fn starts_with_space(name: &[u8]) -> bool
-    ensures { result ≡ (get_or name.now 0 0 == 32) }
+    ensures { result ≡ (get_or name.now 0 0 == ascii.space) }
 {
     name.len() > 0 && name[0] == b' '
 }

@@ -170,7 +170,7 @@ pub fn before_zero(bytes: &[u8]) -> Option<&[u8]>
 fn are_text_bytes(bytes: &[u8]) -> bool
     ensures { result ≡ list_all (λ b. nat_le ascii.space b) bytes.now }
 {
-    bytes.iter().all(|byte| *byte >= 32)
+    bytes.iter().all(|byte| *byte >= b' ')
 }
 
 /// Whether bytes are a text's: at most 240, each at least 32.
