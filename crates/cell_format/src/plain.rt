@@ -27,6 +27,13 @@ fn is_general(shape: Shape) -> bool
     }
 }
 
+// Whether a format shows numbers with as many decimals as fit. The usual format is looked at first, for speed.
+fn shows_decimals_that_fit(format: Format) -> bool
+    ensures { result ≡ true → (v : ℤ) (room : ℕ) → number_text (shape_of format.0) v room ≡ fitting 6 v room }
+{
+    format.is_shown_as(Format::GENERAL) || is_general(shape_of(format))
+}
+
 /// Puts a number into a blank cell, where its format shows as many decimals as fit and those that it has do fit.
 /// Whether it did; where it didn't, the cell is as it was, and `show_number` tells what it shows.
 pub fn put_plain(value: Fixed, format: Format, cell: &mut [u8]) -> bool
@@ -36,7 +43,7 @@ pub fn put_plain(value: Fixed, format: Format, cell: &mut [u8]) -> bool
     ensures size { length cell.new ≡ length cell.old }
 {
     let width = cell.len();
-    if width == 0 || !is_general(shape_of(format)) {
+    if width == 0 || !shows_decimals_that_fit(format) {
         return false;
     }
     put_exact(value, cell, width - 1)
