@@ -33,18 +33,3 @@ impl<W: Write + Drop> Notes for HostNotes<W> {
         }
     }
 }
-
-#[cfg(test)]
-mod tests {
-    use super::*;
-    use std::test::Fail;
-
-    #[test]
-    fn host_notes_pass_bytes_on(rt: HostRuntime) -> Result<(), Fail> {
-        let mut notes = HostNotes::new(Vec::new(rt.alloc()));
-        assert_eq!(rt; notes.write(b"1-2-3: keys "), Ok(()));
-        assert_eq!(rt; notes.write(b"failed\n"), Ok(()));
-        assert_eq!(rt; notes.writer.as_slice(), b"1-2-3: keys failed\n".as_slice());
-        Ok(())
-    }
-}

@@ -29,6 +29,3 @@ pub use lics_text::Memory;
 pub use map_shelf::MapShelf;
 pub use notes::{ListNotes, Notes};
 pub use shelf::Shelf;
-
-#[cfg(test)]
-mod tests;

@@ -1,8 +1,10 @@
-//! Tests by calls of sheet_run, of what the worked runs of the built program can't reach: calls that fail, numbers of
-//! puts, the moment, and files byte by byte.
+//! Tests by calls of the outside's forms and of sheet_run, of what the worked runs of the built program can't
+//! reach: calls that fail, numbers of puts, the moment, and files byte by byte.
 #![tactic(auto)]
 
 #[cfg(test)]
 mod failures;
 #[cfg(test)]
 mod files;
+#[cfg(test)]
+mod outside;
