@@ -91,6 +91,33 @@ fn equal_parts(before: &[u8], after: &[u8]) -> usize
     len
 }
 
+// The bytes that are compared at once behind the last whole part.
+const HALF: usize = 4;
+
+// Half as many bytes from a place on.
+fn half(bytes: &[u8], at: usize) -> &[u8; HALF]
+    requires { at + 4 ≤ length bytes.now }
+    ensures { result.now ≡ take 4 (drop at bytes.now) }
+{
+    match rest(bytes, at).first_chunk::<HALF>() {
+        Some(half) => half,
+        None => unreachable!(),
+    }
+}
+
+// How far two lines are equal from their beginning on, by whole parts and half of one.
+fn equal_halves(before: &[u8], after: &[u8]) -> usize
+    requires { length before.now ≡ length after.now }
+    ensures equal { take result before.now ≡ take result after.now }
+    ensures within { result ≤ length before.now }
+{
+    let len = equal_parts(before, after);
+    if before.len() - len >= HALF && *half(before, len) == *half(after, len) {
+        return len + HALF;
+    }
+    len
+}
+
 // How far two lines are equal from their beginning on.
 fn equal_len(before: &[u8], after: &[u8]) -> usize
     requires { length before.now ≡ length after.now }
@@ -98,7 +125,7 @@ fn equal_len(before: &[u8], after: &[u8]) -> usize
     ensures within { result ≤ length before.now }
     ensures whole { result < length before.now → 0 < differing_front (drop result before.now) (drop result after.now) }
 {
-    let mut len = equal_parts(before, after);
+    let mut len = equal_halves(before, after);
     while len < before.len() && before[len] == after[len] {
         len += 1;
     }
