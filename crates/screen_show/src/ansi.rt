@@ -82,23 +82,3 @@ impl<W: Write + Drop> Display for AnsiDisplay<W> {
         Ok(())
     }
 }
-
-#[cfg(test)]
-mod tests {
-    use super::*;
-    use std::test::Fail;
-
-    #[test]
-    fn each_run_is_placed(rt: HostRuntime) -> Result<(), Fail> {
-        let mut display = AnsiDisplay::new(Vec::new(rt.alloc()));
-        display.put(0, 4, b"A1")?;
-        display.put(24, 79, b"!")?;
-        display.done()?;
-        display.close()?;
-        assert_eq!(rt;
-            display.writer.as_slice(),
-            b"\x1b[1;5HA1\x1b[25;80H!".as_slice()
-        );
-        Ok(())
-    }
-}

@@ -78,25 +78,3 @@ impl<W: Write + Drop> Display for LastDisplay<W> {
         written
     }
 }
-
-#[cfg(test)]
-mod tests {
-    use super::*;
-    use std::test::Fail;
-
-    #[test]
-    fn the_last_frame_alone_is_a_page(rt: HostRuntime) -> Result<(), Fail> {
-        let mut display = LastDisplay::new(Vec::new(rt.alloc()));
-        display.close()?;
-        assert_eq!(rt; display.writer.len(), 0);
-        display.put(0, 0, b"first")?;
-        display.done()?;
-        display.put(0, 0, b"final")?;
-        display.done()?;
-        display.put(0, 0, b"never")?;
-        display.close()?;
-        assert_eq!(rt; display.writer.len(), 2030);
-        assert_eq!(rt; &display.writer[..5], b"final".as_slice());
-        Ok(())
-    }
-}

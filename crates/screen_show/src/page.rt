@@ -76,22 +76,3 @@ impl<W: Write + Drop> Display for PageDisplay<W> {
         Ok(())
     }
 }
-
-#[cfg(test)]
-mod tests {
-    use super::*;
-    use std::test::Fail;
-
-    #[test]
-    fn a_frame_is_a_page(rt: HostRuntime) -> Result<(), Fail> {
-        let mut display = PageDisplay::new(Vec::new(rt.alloc()));
-        for row in 0..25u8 {
-            display.put(row, 0, &[b'a' + row; 80])?;
-        }
-        display.done()?;
-        assert_eq!(rt; display.writer.len(), 2030);
-        assert_eq!(rt; &display.writer[160..164], b"b\ncc".as_slice());
-        assert_eq!(rt; &display.writer[2023..], b"y\n----\n".as_slice());
-        Ok(())
-    }
-}

@@ -1,6 +1,6 @@
 use Rattle.std.proofs.Common.{refl}
 use Rattle.screen_show.proofs.LineSets.{all_may_differ}
-use Rattle.screen_show.proofs.tests.changed_runs_alone_are_put.Goals as goal
+use Rattle.test_runs.proofs.displays.changed_runs_alone_are_put.Goals as goal
 
 pub send_lines-requires : goal.send_lines-requires
 send_lines-requires g c = rw (c.all-all.ensures) (all_may_differ _ _)
