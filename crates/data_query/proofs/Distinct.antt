@@ -8,11 +8,12 @@ use Rattle.std.proofs.lemmas.Bool.{and_parts, false≢true}
 use Rattle.std.proofs.lemmas.Bool.Decides.{Decides-int_eq}
 use Rattle.std.proofs.lemmas.Slice.Eq.{bytes_eq-Decides}
 use Rattle.grid_address.specs.Place.{Place}
+use Rattle.formula_tree.specs.Values.{same_value}
 use Rattle.formula_tree.specs.declared.value.Value.{Value}
 use Rattle.formula_tree.specs.declared.value.Value.TheVariants as value
 use Rattle.formula_eval.specs.Outlook.{Sight}
 use Rattle.block_writes.specs.Writing.{at}
-use Rattle.data_query.specs.Extraction.{same_record, same_value, without_repeats}
+use Rattle.data_query.specs.Extraction.{same_record, without_repeats}
 use Rattle.data_query.specs.declared.output.OutputField.{OutputField}
 use Rattle.data_query.proofs.Records.{filter_count, row_of}
 

@@ -7,10 +7,11 @@ use Rattle.std.specs.List.{list_any}
 use Rattle.std.proofs.lemmas.Cmp.{int_eq_equiv, nat_list_eq_equiv}
 use Rattle.std.proofs.lemmas.List.{map-append}
 use Rattle.grid_address.specs.Place.{Place}
+use Rattle.formula_tree.specs.Values.{same_value}
 use Rattle.formula_tree.specs.declared.value.Value.{Value}
 use Rattle.formula_eval.specs.Outlook.{Sight}
 use Rattle.block_writes.specs.Writing.{at}
-use Rattle.data_query.specs.Extraction.{same_record, same_value}
+use Rattle.data_query.specs.Extraction.{same_record}
 use Rattle.data_query.specs.Keys.{all_keyed, keyed, record_values, same_values}
 use Rattle.data_query.specs.declared.output.OutputField.{OutputField}
 use Rattle.data_query.specs.declared.repeats.ValueKey.{ValueKey}

@@ -1,12 +1,9 @@
 -- What an extraction of records writes into an output range.
 use Rattle.std.specs.Prelude.{ℕ, ◌+◌, ◌-◌, ◌&&◌, nat_eq, nat_lt, not, Bool, true, false, Option, None, Some, List, [], ◌∷◌, ◌++◌, length, map, Result, Ok, Err, if◌then◌else◌}
 use Rattle.std.specs.List.{filter, filter_map, find, flat_map, list_all, zip}
-use Rattle.std.specs.Ordering.{int_eq}
 use Rattle.std.specs.Result.{result_and}
-use Rattle.std.specs.Str.{bytes_eq}
 use Rattle.grid_address.specs.Place.{Extent}
-use Rattle.formula_tree.specs.declared.value.Value.{Value}
-use Rattle.formula_tree.specs.declared.value.Value.TheVariants as value
+use Rattle.formula_tree.specs.Values.{same_value}
 use Rattle.formula_eval.specs.Outlook.{Outlook, Sight}
 use Rattle.block_writes.specs.Writing.{at, columns_of, numbers_from, value_copied}
 use Rattle.sheet_store.specs.declared.writes.Write.{Write}
@@ -47,15 +44,6 @@ room_of output = last_of_output output - output.first.row
 -- the rows below the headers of an output
 abbrev pub rows_of_output : Extent → List ℕ
 rows_of_output output = numbers_from (output.first.row + 1) (room_of output)
-
--- equal values; letters are not folded
-abbrev pub same_value : Value → Value → Bool
-same_value value.Blank value.Blank = true
-same_value (value.Num x) (value.Num y) = int_eq x y
-same_value (value.Str s) (value.Str t) = bytes_eq s t
-same_value value.Err value.Err = true
-same_value value.Na value.Na = true
-same_value a b = false
 
 -- two records have equal values in the fields that the output takes
 abbrev pub same_record : Sight → List OutputField → ℕ → ℕ → Bool

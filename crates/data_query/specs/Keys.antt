@@ -1,11 +1,11 @@
 -- What records are looked up by, where those that are the same as an earlier one are left out.
 use Rattle.std.specs.Prelude.{ℕ, Bool, List, map}
 use Rattle.std.specs.Cmp.Lexicographic.{pointwise}
+use Rattle.formula_tree.specs.Values.{same_value}
 use Rattle.formula_tree.specs.declared.value.Value.{Value}
 use Rattle.formula_tree.specs.declared.value.Value.TheVariants as value
 use Rattle.formula_eval.specs.Outlook.{Sight}
 use Rattle.block_writes.specs.Writing.{at}
-use Rattle.data_query.specs.Extraction.{same_value}
 use Rattle.data_query.specs.declared.output.OutputField.{OutputField}
 use Rattle.data_query.specs.declared.repeats.ValueKey.{ValueKey}
 use Rattle.data_query.specs.declared.repeats.ValueKey.TheVariants as key

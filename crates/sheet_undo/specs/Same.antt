@@ -4,25 +4,15 @@ use Rattle.std.specs.Prelude.{◌≡◌, ℕ, nat_eq, Bool, true, false, ◌&&�
 use Rattle.std.specs.Ordering.{int_eq}
 use Rattle.formula_tree.specs.Ranges.{is_ranged}
 use Rattle.formula_tree.specs.Shape.{every, IsFormula}
+use Rattle.formula_tree.specs.Values.{same_value}
 use Rattle.formula_tree.specs.declared.value.Content.{Content}
 use Rattle.formula_tree.specs.declared.value.Content.TheVariants as content
-use Rattle.formula_tree.specs.declared.value.Value.{Value}
-use Rattle.formula_tree.specs.declared.value.Value.TheVariants as value
 use Rattle.grid_address.specs.Place.{same_place, Extent, Place}
 use Rattle.lics_text.specs.Prefixes.{prefix_byte}
 use Rattle.range_names.specs.Names.{same_extent}
 use Rattle.sheet_store.specs.Grid.{Grid}
 use Rattle.sheet_store.specs.declared.state.CellState.{CellState}
 use Rattle.wk1_formula.specs.Written.{code_of}
-
--- whether two values are one
-abbrev pub same_value : Value → Value → Bool
-same_value value.Blank value.Blank = true
-same_value (value.Num x) (value.Num y) = int_eq x y
-same_value (value.Str s) (value.Str t) = bytes_eq s t
-same_value value.Err value.Err = true
-same_value value.Na value.Na = true
-same_value v w = false
 
 -- whether two contents of a cell are one
 abbrev pub same_content : Place → Content → Content → Bool
