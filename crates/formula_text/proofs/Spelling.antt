@@ -8,6 +8,7 @@ use Rattle.formula_tree.specs.Tree.{Tree, num, str, cell, span, group, neg, not,
 use Rattle.formula_tree.specs.Shape.{every, every_one, is_bracketed, level, lowest, top}
 use Rattle.formula_tree.specs.Table.{counts_of, takes}
 use Rattle.formula_tree.specs.View.{listed}
+use Rattle.formula_tree.proofs.Levels.{level_below}
 use Rattle.grid_address.specs.Place.{Place}
 use Rattle.range_names.specs.Names.{NameMap}
 use Rattle.formula_text.specs.declared.fault.ParseFault.{ParseFault}
@@ -97,27 +98,11 @@ beside_top op (binary o a b) x n h k = either (nat_le (level op) (lowest (binary
 well_binary : (op : Op) (a b : Tree) → every is_bracketed a ≡ true → every is_bracketed b ≡ true → nat_le (level op) (lowest a) ≡ true → nat_lt (level op) (top b) ≡ true → every is_bracketed (binary op a b) ≡ true
 well_binary op a b p q h k = pair _ _ (pair _ _ h k) (pair _ _ p q)
 
-level_small : (op : Op) → level op < 8
-level_small Pow = omega arith
-level_small Mul = omega arith
-level_small Div = omega arith
-level_small Add = omega arith
-level_small Sub = omega arith
-level_small Eq = omega arith
-level_small Ne = omega arith
-level_small Lt = omega arith
-level_small Gt = omega arith
-level_small Le = omega arith
-level_small Ge = omega arith
-level_small And = omega arith
-level_small Or = omega arith
-level_small Join = omega arith
-
 level_within : (op : Op) → nat_le (level op) 8 ≡ true
-level_within op = let h = level_small op in grind (arith, nat_tests, h)
+level_within op = let h = level_below op in grind (arith, nat_tests, h)
 
 tight : (op : Op) (x : Tree) → top x ≡ 8 → nat_lt (level op) (top x) ≡ true
-tight op x e = below _ _ (omega (arith, e, level_small op))
+tight op x e = below _ _ (omega (arith, e, level_below op))
 
 -- brackets stay right
 beside_well : (op : Op) (t x : Tree) → every is_bracketed t ≡ true → every is_bracketed x ≡ true → top x ≡ 8 → every is_bracketed (beside op t x) ≡ true

@@ -1,4 +1,5 @@
 pub mod Edges
+pub mod Levels
 pub mod Parts
 pub mod Ranged
 pub mod Redirected
