@@ -17,11 +17,11 @@ use Rattle.formula_tree.specs.Values.{is_filled}
 use Rattle.formula_eval.specs.Outlook.{block_cells, cells_of, row_cells}
 use Rattle.natural_order.proofs.Cut.{filter_passes, has-filter}
 use Rattle.cell_numbers.specs.Sets.{has}
+use Rattle.sheet_store.proofs.RowOrder.{same_members}
 use Rattle.sheet_store.specs.Grid.{any_state, cells_within, Grid}
 use Rattle.sheet_store.specs.declared.state.CellState.{CellState}
 use Rattle.natural_recalc.specs.Laws.{has_picked, passes_at, Ascends}
 use Rattle.natural_recalc.proofs.Ascending.{picked_ascends}
-use Rattle.natural_recalc.proofs.Members.{same_members}
 use Rattle.natural_recalc.specs.Context.{value_at, value_of}
 
 pub has_filtered : (p : Place → Bool) (xs : List Place) (d : Place) → has same_place (filter p xs) d ≡ (p d && has same_place xs d)

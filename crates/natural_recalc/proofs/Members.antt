@@ -1,28 +1,17 @@
 -- Which cells the formulas of a span are, and that nothing but the formulas and their places decides them.
-use Rattle.std.specs.Prelude.{◌≡◌, ◌&&◌, ◌||◌, Bool, true, false, is_some, refl, List, [], ◌∷◌, ◌++◌, Option}
-use Rattle.std.specs.BTreeMap.{is_at}
-use Rattle.std.specs.List.{list_any}
+use Rattle.std.specs.Prelude.{◌≡◌, ◌&&◌, Bool, true, false, is_some, refl, List, [], ◌∷◌, ◌++◌, Option}
 use Rattle.std.proofs.Common.{sym, ◌∙◌, ap}
 use Rattle.std.proofs.lemmas.Bool.{and_from, and_parts}
-use Rattle.std.proofs.lemmas.Map.Lookups.{btree_set_from_contains}
-use Rattle.grid_address.proofs.Places.{cells_exact, cells_total, place_tied}
-use Rattle.grid_address.specs.Place.{is_within, place_cmp, same_place, Extent, Place}
+use Rattle.grid_address.specs.Place.{is_within, same_place, Extent, Place}
 use Rattle.formula_tree.specs.Tree.{Tree}
 use Rattle.cell_numbers.specs.Sets.{has}
 use Rattle.range_index.specs.Owners.{hold}
+use Rattle.sheet_store.proofs.RowOrder.{same_members}
 use Rattle.sheet_store.specs.Grid.{formulas, formulas_within, holds_formula, Grid}
 use Rattle.natural_recalc.proofs.Ascending.{formulas_ascend, picked_ascends}
 use Rattle.natural_recalc.specs.Context.{formula_at}
 use Rattle.natural_recalc.specs.Reading.{formulas_in, is_formula_at, pre, spans_at, spans_in}
-use Rattle.natural_recalc.specs.Laws.{has_formula, has_in, has_within, Ascends}
-
--- lists in row order with the same members are one
-pub same_members : (xs ys : List Place) → Ascends xs → Ascends ys → ((d : Place) → has same_place xs d ≡ has same_place ys d) → xs ≡ ys
-same_members xs ys a b h = btree_set_from_contains cells_total (record { keys = xs }) (record { keys = ys }) a b (λ q. tied q xs ∙ h q ∙ sym (tied q ys)) cells_exact
-  where
-    tied : (q : Place) (zs : List Place) → list_any (is_at (place_cmp q)) zs ≡ has same_place zs q
-    tied q [] = refl
-    tied q (z ∷ zs) = ap (λ b. b || list_any (is_at (place_cmp q)) zs) (place_tied q z) ∙ ap (λ b. same_place q z || b) (tied q zs)
+use Rattle.natural_recalc.specs.Laws.{has_formula, has_in, has_within}
 
 module _ (a b : Grid) (same : formula_at a ≡ formula_at b) where
   pub formula_along : (c : Place) → is_formula_at a c ≡ is_formula_at b c

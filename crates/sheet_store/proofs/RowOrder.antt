@@ -24,7 +24,7 @@ use Rattle.sheet_store.specs.Grid.{picked, Cells}
 use Rattle.sheet_store.specs.declared.state.CellState.{CellState}
 
 -- each after those before it, by row and then by column
-abbrev Ascends : List Place → Type 0
+abbrev pub Ascends : List Place → Type 0
 Ascends xs = IsStrictlySortedBy place_cmp xs
 
 -- no place has two entries
@@ -55,7 +55,7 @@ filled_apart (h ∷ hs) once = with (item_in h) (filled_apart hs (λ i j c a b. 
     with (Some s) rest = (none_at (cell_in h) hs (λ i k. (let e : suc i ≡ 0 = once (suc i) 0 (cell_in h) k refl in absurd (omega (arith, e)))), rest)
 
 -- lists in row order with the same members are one
-same_members : (xs ys : List Place) → Ascends xs → Ascends ys → ((q : Place) → has same_place xs q ≡ has same_place ys q) → xs ≡ ys
+pub same_members : (xs ys : List Place) → Ascends xs → Ascends ys → ((q : Place) → has same_place xs q ≡ has same_place ys q) → xs ≡ ys
 same_members xs ys a b h = btree_set_from_contains cells_total (record { keys = xs }) (record { keys = ys }) a b (λ q. tied q xs ∙ h q ∙ sym (tied q ys)) cells_exact
   where
     tied : (q : Place) (zs : List Place) → list_any (is_at (place_cmp q)) zs ≡ has same_place zs q
@@ -73,7 +73,7 @@ dedup_all [] h = refl
 dedup_all (x ∷ xs) h = dedup_same x xs h
 
 -- distinct places, sorted
-sorted_ascends : (xs ys : List Place) → IsDistinct same_place xs → IsPermutation xs ys → IsSorted place_cmp ys → Ascends ys
+pub sorted_ascends : (xs ys : List Place) → IsDistinct same_place xs → IsPermutation xs ys → IsSorted place_cmp ys → Ascends ys
 sorted_ascends xs ys d p s = subst Ascends (dedup_all ys (IsDistinct-IsPermutation same_place same_place_laws.symm xs ys p d))
     (IsStrictlySortedBy-dedup cells_total {E = same_place} (λ x y. sym (place_tied x y)) ys s)
 

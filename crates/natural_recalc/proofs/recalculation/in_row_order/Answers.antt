@@ -4,7 +4,7 @@ use Rattle.std.proofs.Common.{sym, ◌∙◌, ap, subst}
 use Rattle.std.proofs.lemmas.List.Sorted.{list_any-IsPermutation}
 use Rattle.grid_address.specs.Place.{same_place, Place}
 use Rattle.cell_numbers.specs.Sets.{has}
-use Rattle.natural_recalc.proofs.RowOrder.{sorted_ascends}
+use Rattle.sheet_store.proofs.RowOrder.{sorted_ascends}
 use Rattle.natural_recalc.proofs.recalculation.in_row_order.Goals as goal
 
 pub returns-clause-ascends : goal.returns-clause-ascends
