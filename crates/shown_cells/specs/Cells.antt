@@ -1,5 +1,6 @@
 -- What a cell shows in a column's width.
-use Rattle.std.specs.Prelude.{ℕ, ◌-◌, Bool, true, false, not, ◌&&◌, nat_lt, if◌then◌else◌, List, [], ◌++◌, length, take, Option, Some, None, codes}
+use Rattle.std.specs.Prelude.{ℕ, ◌-◌, Bool, true, false, not, ◌&&◌, nat_le, nat_lt, if◌then◌else◌, List, [], ◌++◌, length, take, Option, Some, None, codes}
+use Rattle.ascii_bytes.specs.Ascii as ascii
 use Rattle.cell_format.specs.Labels.{shown_label}
 use Rattle.cell_format.specs.Numbers.{placed, shown_number, spaces}
 use Rattle.formula_text.specs.Printed.{printed}
@@ -17,6 +18,10 @@ use Rattle.sheet_store.specs.declared.state.CellState.{CellState}
 -- a text cut or filled with blanks to a width
 abbrev pub padded : ℕ → List ℕ → List ℕ
 padded width text = take width text ++ spaces (width - length text)
+
+-- a byte as it is shown: those outside 32 to 126 as a question mark
+abbrev pub shown_byte : ℕ → ℕ
+shown_byte b = if nat_le ascii.space b && nat_lt b ascii.delete then b else ascii.question_mark
 
 -- the sheet's format stands in for the default one
 abbrev pub format_in : ℕ → ℕ → ℕ
@@ -47,14 +52,14 @@ value_text value.Na format width = placed (Some (codes "NA")) width
 abbrev pub formula_text : List ℕ → Value → ℕ → ℕ → List ℕ
 formula_text text v format width = if is_shown_as format text_format then take width text else value_text v format width
 
--- what a content that isn't blank shows in a format that isn't Hidden
+-- what a content shows in a format that isn't Hidden: nothing where it is blank
 abbrev pub content_text : NameMap → Place → Content → Value → ℕ → ℕ → List ℕ
 content_text names c content.Blank v format width = []
 content_text names c (content.Number x) v format width = value_text v format width
 content_text names c (content.Label prefix text) v format width = label_text prefix text width
 content_text names c (content.Formula t) v format width = formula_text (printed names c t) v format width
 
--- what a content that isn't blank lets see of itself: nothing where its format is Hidden
+-- what a content lets see of itself: nothing where its format is Hidden
 abbrev pub visible_text : NameMap → Place → Content → Value → ℕ → ℕ → List ℕ
 visible_text names c x v format width =
     if is_shown_as format hidden_format then [] else content_text names c x v format width

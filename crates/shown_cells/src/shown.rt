@@ -74,32 +74,34 @@ fn formula_in<'a>(
     }
 }
 
-// What a cell that isn't blank shows in a format, which is nothing in the format Hidden.
-fn content_in<'a>(
-    state: &'a CellState,
+/// What a content and its value show in a width from 0 to 255, in the format that stands for the cell. A blank content
+/// shows nothing, and so does any content in the format Hidden; a formula shows its value, and in the format Text
+/// itself, as it is printed with the sheet's names. (Release 2 manual.)
+pub fn shown_content<'a>(
+    content: &'a Content,
+    value: &'a Value,
     names: &'a Names,
     cell: Cell,
     format: Format,
     width: u8,
 ) -> Shown<'a>
     ensures { shown_text result width
-        ≡ spec.visible_text names.now cell state.now.content state.now.value format.0 width }
+        ≡ spec.visible_text names.now cell content.now value.now format.0 width }
 {
     if format.is_shown_as(Format::HIDDEN) {
         return Shown::RunsOn(b"");
     }
-    match &state.content {
+    match content {
         Content::Blank => Shown::RunsOn(b""),
-        Content::Number(_) => value_in(&state.value, format, width),
+        Content::Number(_) => value_in(value, format, width),
         Content::Label(prefix, text) => label_in(*prefix, text.bytes(), width),
-        Content::Formula(formula) => {
-            formula_in(formula, &state.value, names, cell, format, width)
-        }
+        Content::Formula(formula) => formula_in(formula, value, names, cell, format, width),
     }
 }
 
-// The format of a cell: its own, or the sheet's in its place.
-fn format_in(global: Format, own: Format) -> Format
+/// The format that stands for a cell: its own, or the sheet's in its place where it is the default one. (Release 2
+/// manual.)
+pub fn format_in(global: Format, own: Format) -> Format
     ensures { result.0 ≡ spec.format_in global.0 own.0 }
 {
     if own.is_shown_as(Format::DEFAULT) {
@@ -126,7 +128,20 @@ pub fn shown_in<'a>(
         Content::Blank => None,
         Content::Number(_) | Content::Label(_, _) | Content::Formula(_) => {
             let format = format_in(global, state.format);
-            Some(content_in(state, names, cell, format, width))
+            let shown = shown_content(&state.content, &state.value, names, cell, format, width);
+            Some(shown)
         }
+    }
+}
+
+/// A byte as it is shown: those from 32 to 126 as they are, and each other one as a question mark. (This project's
+/// choice.)
+pub fn shown_byte(byte: u8) -> u8
+    ensures { result ≡ spec.shown_byte byte }
+{
+    if b' ' <= byte && byte <= b'~' {
+        byte
+    } else {
+        b'?'
     }
 }
