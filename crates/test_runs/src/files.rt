@@ -298,11 +298,12 @@ const COMMANDS: &[Row<'static>] = &[
         left: &[("X", None)],
         ..PLAIN
     },
+    // The keys go on, and no name is offered.
     Row {
-        keys: b"/FSX~~A",
+        keys: b"/FSX~~/FS",
         failing: &[2],
-        frames: 7,
-        shown: &[(0, 73, "LABEL"), (1, 0, "A ")],
+        frames: 9,
+        shown: &[(0, 73, "EDIT "), (1, 0, "Save      ")],
         ..PLAIN
     },
     Row {

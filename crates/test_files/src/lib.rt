@@ -1,5 +1,0 @@
-//! Tests of the commands on files.
-#![tactic(auto)]
-
-#[cfg(test)]
-mod commands;
