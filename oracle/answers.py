@@ -11,6 +11,7 @@ from .gen import generate
 from .keys import COMMANDS, FILE_WORDS, KeyReader, SLASH, fold, word_at
 from .names import Names
 from .sheet import Sheet, SheetFault, State
+from .undo import History
 from .values import BLANK, C_BLANK, first_value, num, string
 
 FAULTS = {1: b'Unexpected', 2: b'Ended', 3: b'UnknownFunction', 4: b'FunctionOutside', 5: b'ArgCount', 6: b'BadNumber',
@@ -461,17 +462,43 @@ class Desk:
         elif head == b'+':
             span, _, name = line[1:].partition(b' ')
             self.sheet.create_name(name, read_span(span))
+        elif head == b'-':
+            self.sheet.delete_name(line[1:])
         else:
             return self.screen_line(line)
         return before + self.shown() + b'\n'
 
 
+class Commands(Desk):
+    """A desk with the history of its sheet."""
+
+    def __init__(self):
+        super().__init__()
+        self.history = History()
+
+    def told(self, line):
+        """What came of a line that begins, ends or undoes a command."""
+        if line == b'(':
+            self.history.begin(self.sheet)
+            return b'begun'
+        if line == b'<':
+            return b'undone' if self.history.undo(self.sheet) else b'none'
+        if not self.history.has_begun():
+            return b'none'
+        return b'kept' if self.history.end(self.sheet) else b'alike'
+
+    def line(self, line):
+        if line not in (b'(', b')', b'<'):
+            return super().line(line)
+        return b'%s %d ' % (self.told(line), len(self.history)) + self.shown() + b'\n'
+
+
 def sheets(lines):
-    """The values and evaluations after each edit of small sheets, and whole screens."""
-    desk = Desk()
+    """The values and evaluations after each edit of small sheets, what comes of undos, and whole screens."""
+    desk = Commands()
     for line in lines:
         if line == b':':
-            desk = Desk()
+            desk = Commands()
             yield b''
         else:
             yield desk.line(line)

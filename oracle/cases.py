@@ -4,7 +4,7 @@ import random
 
 from . import fixed, formula
 from .address import cell_text, col_text, height_of, read_cell, span_text, width_of
-from .answers import FORMULA_NAMES, VALUE_CELL, VALUE_NAMES, Desk
+from .answers import FORMULA_NAMES, VALUE_CELL, VALUE_NAMES, Commands, Desk
 from .formula import COUNTED, FUNCTIONS, LEFT_OUT_NAMES
 from .keys import COMMANDS, NAMES as KEYS, SLASH
 from .names import Names
@@ -435,6 +435,50 @@ class Sheets:
             count -= many
         return out
 
+    def do(self, *lines):
+        """Lines, which are done as they come."""
+        for line in lines:
+            self.desk.line(line)
+        return list(lines)
+
+    def command(self):
+        """A command of up to two edits, one that changes the pointer or nothing, or one that is given up for the next."""
+        r = self.r
+        out = self.do(b'(')
+        for _ in range(r.choice([0, 1, 1, 1, 1, 2])):
+            name = r.choice([name for name, _ in self.desk.sheet.names.items()] or [b''])
+            out += self.do(r.choice([self.edit] * 8 + [
+                self.column, lambda: b'a' + self.cell(), lambda: b'-' + name if name else b'!',
+                lambda: b'g%d %d' % (r.choice([113, 2]), r.choice([9, 10]))])())
+        return out + self.do(b')') if r.randrange(16) else out
+
+    def commands(self, count):
+        """So many commands with undos between them: a fresh sheet for each few, whose commands are undone at its end."""
+        r, out = self.r, []
+        while count:
+            many = min(count, r.choice([1, 3, 6, 12, 26]))
+            self.desk = Commands()
+            out += [b':'] + self.do(b'x' + b'\t'.join(self.write() for _ in range(r.randrange(1, 9))))
+            for _ in range(many):
+                out += self.command()
+                if r.randrange(6) == 0:
+                    out += self.do(b'<') + (self.do(b'!') if r.randrange(2) else [])
+            out += self.do(b'?', *[b'<'] * r.choice([0, 1, len(self.desk.history) + 1]), b'?', b'!')
+            count -= many
+        return out
+
+    def wide(self, formulas):
+        """The lines of 2,000 cells, row by row, numbers or by turns a number and a formula that adds one to it; and 20
+        commands that each enter a number, all of which are undone."""
+        out = [b':']
+        for row in range(40):
+            texts = [b'%d' % (row * 50 + col + 1) for col in range(50)]
+            texts[1::2] = [b'+' + cell_text((col - 1, row)) + b'+1' for col in range(1, 50, 2)] if formulas else texts[1::2]
+            out.append(b'x' + b'\t'.join(cell_text((col, row)) + b' - ' + text for col, text in enumerate(texts)))
+        for command in range(20):
+            out += [b'(', b'=A%d %d' % (2 * command + 1, command + 2), b')']
+        return out + [b'<'] * 10 + [b'?'] + [b'<'] * 11 + [b'?']
+
     def sheet(self):
         """A sheet around a corner with cells, formats, widths and marks."""
         r = self.r
@@ -497,9 +541,10 @@ class Sheets:
 
 
 def sheets(r):
-    """The worked lines, 10,000 random edits and 2,000 screens."""
+    """The worked lines, 10,000 random edits, 2,000 screens, 1,000 commands with undos, and 40 over wider sheets."""
     of = Sheets(r)
-    return worked('sheets') + b''.join(line + b'\n' for line in of.edits(10000) + of.screens(2000))
+    lines = of.edits(10000) + of.screens(2000) + of.commands(1000) + of.wide(False) + of.wide(True)
+    return worked('sheets') + b''.join(line + b'\n' for line in lines)
 
 
 # ---------------------------------------------------------------- data commands

@@ -1,11 +1,13 @@
 // What each line does.
 
 use crate::edits::{Desk, calculate, copy, enter, erase, format, protect, set, write};
+use crate::history::{begin, end, undo};
 use crate::screens::work_screen;
-use crate::shifts::{delete, insert, move_span, name};
+use crate::shifts::{delete, insert, move_span, name, unname};
 use crate::show::{show, show_fault, show_states};
 use check_cases::{Stop, Subject};
 use sheet_store::SheetFault;
+use sheet_undo::History;
 use std::alloc::Global;
 use std::io::Write;
 
@@ -55,17 +57,41 @@ fn work<W: Write>(desk: &mut Desk, line: &[u8], out: &mut W) -> Result<(), Stop>
         [b'u', rest @ ..] => protect(desk, rest, false)?,
         [b's', rest @ ..] => set(desk, rest)?,
         [b'+', rest @ ..] => name(desk, rest)?,
+        [b'-', rest @ ..] => unname(desk, rest)?,
         _ => return work_screen(desk, line, out),
     }
     show(desk, out)
 }
 
-impl Subject for Desk {
-    fn answer(&mut self, alloc: Global, line: &[u8], answer: &mut Vec<u8>) -> Result<(), Stop> {
-        if line == b":".as_slice() {
-            *self = Desk::new(alloc);
-            return Ok(());
+/// A desk, and the history of its sheet.
+#[derive(Drop)]
+pub struct Kept {
+    desk: Desk,
+    history: History,
+}
+
+impl Kept {
+    /// A fresh desk, and no state is kept.
+    pub fn new(alloc: Global) -> Kept {
+        Kept {
+            desk: Desk::new(alloc),
+            history: History::new(alloc),
         }
-        work(self, line, answer)
+    }
+}
+
+impl Subject for Kept {
+    fn answer(&mut self, alloc: Global, line: &[u8], answer: &mut Vec<u8>) -> Result<(), Stop> {
+        match line {
+            [b':'] => {
+                *self = Kept::new(alloc);
+                return Ok(());
+            }
+            [b'('] => begin(&mut self.history, &self.desk.sheet, answer)?,
+            [b')'] => end(&mut self.history, &self.desk.sheet, answer)?,
+            [b'<'] => undo(&mut self.history, &mut self.desk.sheet, answer)?,
+            _ => return work(&mut self.desk, line, answer),
+        }
+        show(&self.desk, answer)
     }
 }

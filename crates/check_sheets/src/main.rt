@@ -4,11 +4,15 @@
 //! `uA1..B2` takes protection away. `xA1 CODE TEXT` makes a list of writes, which tabs part; the code is a format
 //! byte, or `-` for the cell's own. `>A1..B2 C3` moves so that the first corner comes to the cell; `irA2..A3` and
 //! `icB1..C1` insert rows and columns in front of a span, as many as it has, and `drA2..A3` and `dcB1..C1` delete its
-//! own. `+A1..B2 NAME` names a span. `sLETTERS` changes settings letter by letter: A and M are the modes Automatic
-//! and Manual, P and Q protection on and off, N, C and R the orders, and a digit the passes. `!` recalculates, and so
-//! does each edit of contents in Automatic mode. `?` prints all cells with format, text and value, the columns' own
-//! widths and marks, and the names. The stored run begins with worked edits and compares 10,000 random ones with
-//! another program's.
+//! own. `+A1..B2 NAME` names a span and `-NAME` takes a name away. `sLETTERS` changes settings letter by letter: A and
+//! M are the modes Automatic and Manual, P and Q protection on and off, N, C and R the orders, and a digit the passes.
+//! `!` recalculates, and so does each edit of contents in Automatic mode. `?` prints all cells with format, text and
+//! value, the columns' own widths and marks, and the names. The stored run begins with worked edits and compares
+//! 10,000 random ones with another program's.
+//!
+//! `(` begins a command, `)` ends it and `<` undoes one. In front of its answer stands what came of it and how many
+//! states are kept: a command is `begun`, its state is `kept` or the sheet `alike`, one is `undone`, or there is
+//! `none`. The stored run compares 1,000 random commands, with undos between them, with another program's.
 //!
 //! Other lines paint the screen. `wB1 12` gives column B a width of its own, or takes it away at 0; `hB1` hides it
 //! and `vB1` shows it. `g113 9` sets the sheet's format byte and width, `aB7` the pointer, `kB7` the cell at the top
@@ -19,16 +23,17 @@
 #![tactic(auto)]
 
 mod edits;
+mod history;
 mod lines;
 mod screens;
 mod shifts;
 mod show;
 
 use check_cases::check;
-use edits::Desk;
+use lines::Kept;
 use std::process::ExitCode;
 
 fn main(rt: HostRuntime) -> ExitCode {
     let alloc = rt.alloc();
-    check(alloc, &mut Desk::new(alloc), rt.reader(), &mut rt.stdout())
+    check(alloc, &mut Kept::new(alloc), rt.reader(), &mut rt.stdout())
 }

@@ -71,3 +71,11 @@ pub fn name(desk: &mut Desk, bytes: &[u8]) -> Result<(), Stop> {
         Err(_) => Err(Stop::Line),
     }
 }
+
+/// Takes a name away.
+pub fn unname(desk: &mut Desk, name: &[u8]) -> Result<(), Stop> {
+    match desk.sheet.delete_name(name) {
+        Ok(()) => Ok(()),
+        Err(_) => Err(Stop::Line),
+    }
+}

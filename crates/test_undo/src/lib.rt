@@ -1,5 +1,0 @@
-//! Tests of undo by calls.
-#![tactic(auto)]
-
-#[cfg(test)]
-mod undos;
