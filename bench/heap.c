@@ -1,13 +1,11 @@
-/* Loaded before the C library: it counts the bytes that a program asked for and did not give back. At the first request of
-   ROOM bytes it tells how many are held on standard error, and at the end the most that ever were. */
+/* Loaded before the C library: it counts the bytes that a program asked for and did not give back. Where the program first
+   writes to standard output it tells on standard error how many are held, and at the end the most that ever were. */
 #define _GNU_SOURCE
 #include <dlfcn.h>
 #include <stdio.h>
 #include <stdlib.h>
 #include <string.h>
 #include <unistd.h>
-
-#define ROOM ((size_t)268435456)
 
 /* What stands before each block: its bytes. The size keeps what follows aligned. */
 struct head {
@@ -18,6 +16,8 @@ struct head {
 static size_t held, most;
 static void *(*next_malloc)(size_t);
 static void (*next_free)(void *);
+static ssize_t (*next_write)(int, const void *, size_t);
+static int is_told;
 
 static void tell(const char *name, size_t bytes)
 {
@@ -27,14 +27,28 @@ static void tell(const char *name, size_t bytes)
         _exit(1);
 }
 
+ssize_t write(int stream, const void *bytes, size_t length)
+{
+    if (!next_write)
+        next_write = dlsym(RTLD_NEXT, "write");
+    if (stream == 1 && !is_told) {
+        is_told = 1;
+        tell("held", held);
+    }
+    return next_write(stream, bytes, length);
+}
+
+ssize_t __write(int stream, const void *bytes, size_t length)
+{
+    return write(stream, bytes, length);
+}
+
 void *malloc(size_t bytes)
 {
     if (!next_malloc) {
         next_malloc = dlsym(RTLD_NEXT, "malloc");
         next_free = dlsym(RTLD_NEXT, "free");
     }
-    if (bytes == ROOM)
-        tell("held", held);
     struct head *block = next_malloc(sizeof *block + bytes);
     if (!block)
         return NULL;
