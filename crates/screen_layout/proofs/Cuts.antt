@@ -3,8 +3,8 @@ use Rattle.std.proofs.Common.{◌≡◌, ℕ, zero, suc, ◌+◌, ◌-◌, ◌�
 use Rattle.std.specs.Prelude.{min}
 use Rattle.std.proofs.lemmas.Bool.{cases_lt}
 use Rattle.std.proofs.lemmas.List.{append-nil, length-take, length-replicate, take-append-le, take-replicate, take-append-drop, take-take, take_all}
-use Rattle.shown_cells.specs.Cells.{padded}
-use Rattle.screen_layout.specs.Lines.{filled, shown_byte, shown_line}
+use Rattle.shown_cells.specs.Cells.{padded, shown_byte}
+use Rattle.screen_layout.specs.Lines.{filled, shown_line}
 
 take_past : (xs ys : List ℕ) (n : ℕ) → take (length xs + n) (xs ++ ys) ≡ xs ++ take n ys
 take_past [] ys n = ap (λ (k : ℕ). take k ys) (omega arith)

@@ -2,11 +2,13 @@
 ghost use Rattle.std.specs.Prelude.{◌≡◌, ◌≤◌, ◌+◌, ◌-◌, ◌++◌, [], length, take, replicate, map, true, false};
 ghost use Rattle.ascii_bytes.specs.Ascii as ascii;
 ghost use Rattle.cell_format.specs.Numbers.{shown_number};
-ghost use Rattle.screen_layout.specs.Lines.{shown_byte, shown_line};
+ghost use Rattle.screen_layout.specs.Lines.{shown_line};
+ghost use Rattle.shown_cells.specs.Cells.{shown_byte};
 
 use cell_format::put_plain;
 use fixed_value::Fixed;
 use grid_address::Format;
+use shown_cells::shown_byte;
 use std::marker::Model;
 
 #[derive(Drop)]
@@ -90,17 +92,6 @@ impl PaintedLine {
         ensures { result ≡ shown_line self }
     {
         shown(&self.bytes)
-    }
-}
-
-// A byte as it is shown.
-fn shown_byte(byte: u8) -> u8
-    ensures { result ≡ shown_byte byte }
-{
-    if byte >= b' ' && byte <= b'~' {
-        byte
-    } else {
-        b'?'
     }
 }
 

@@ -1,5 +1,5 @@
 use Rattle.std.proofs.Common.{◌≡◌, ◌++◌, take, drop, map}
-use Rattle.screen_layout.specs.Lines.{shown_byte}
+use Rattle.shown_cells.specs.Cells.{shown_byte}
 use Rattle.screen_layout.proofs.painted_line.shown.Given as goal
 
 abbrev pub invariant-loop-column : goal.invariant-loop-column
