@@ -123,14 +123,14 @@ line_in s n inside =
     slice_get-get_or (screen s) n [] (omega (arith, (shaped (sheet_of s) (panel_of s) s.corner s.day s.second).lines, inside))
     ∙ ap Some (line_at (sheet_of s) (panel_of s) s.corner s.day s.second n inside)
 
-sure_of : (x : Touched) (row : ℕ) → touches_row x row ≡ false → x ≡ touched.Anything → ⊥
-sure_of x row apart is = true≢false (sym (ap (λ (y : Touched). touches_row y row) is) ∙ apart)
+sure_of : (x : Touched) (first row : ℕ) → touches_row x first row ≡ false → x ≡ touched.Anything → ⊥
+sure_of x first row apart is = true≢false (sym (ap (λ (y : Touched). touches_row y first row) is) ∙ apart)
 
-module _ (s t : State) (x : Touched) (touch : Touches x (sheet_of s) (sheet_of t)) where
+module _ (s t : State) (x : Touched) (touch : Touches x s.corner.row (sheet_of s) (sheet_of t)) where
   pointer_kept : IsKept x (glance_of s) (glance_of t) 0 → line_of s 0 ≡ line_of t 0
   pointer_kept kept =
       let is = kept.pointer refl in
-      let sheets : sheet_of t ≡ sheet_of s = subst (λ (y : Touched). Touches y (sheet_of s) (sheet_of t)) is.0 touch in
+      let sheets : sheet_of t ≡ sheet_of s = subst (λ (y : Touched). Touches y s.corner.row (sheet_of s) (sheet_of t)) is.0 touch in
       let plain : IsPlain t.room = ap (λ (m : Option Mode). is_some m) is.1.1 ∙ is.1.0 in
       ap shown_line (pointer_is s is.1.0 ∙ ap (λ (u : Sheet). pointer_by u (plain_mode s.room)) (sym sheets)
       ∙ ap (pointer_by (sheet_of t)) (sym is.1.1) ∙ sym (pointer_is t plain))
@@ -148,14 +148,14 @@ module _ (s t : State) (x : Touched) (touch : Touches x (sheet_of s) (sheet_of t
   letters_kept : IsKept x (glance_of s) (glance_of t) 3 → line_of s 3 ≡ line_of t 3
   letters_kept kept =
       let is = kept.letters refl in
-      letters_same (touches_row x) (sheet_of s) (sheet_of t) (touched_alike x (sheet_of s) (sheet_of t) is.0 touch) (panel_of s) (panel_of t) s.corner t.corner s.day t.day s.second t.second
+      letters_same (touches_row x s.corner.row) (sheet_of s) (sheet_of t) (touched_alike x s.corner.row (sheet_of s) (sheet_of t) is.0 touch) (panel_of s) (panel_of t) s.corner t.corner s.day t.day s.second t.second
       (sym is.1)
 
   row_kept : (n : ℕ) → 4 ≤ n → n < 24 → IsKept x (glance_of s) (glance_of t) n → line_of s n ≡ line_of t n
   row_kept n least most kept =
       let is = kept.rows least most in
-      let alike : AreAlike (touches_row x) (sheet_of s) (sheet_of t) = touched_alike x (sheet_of s) (sheet_of t) (sure_of x (s.corner.row + (n - 4)) is.0) touch in
-      row_same (touches_row x) (sheet_of s) (sheet_of t) alike (panel_of s) (panel_of t) s.corner s.day t.day s.second t.second n least most is.0
+      let alike : AreAlike (touches_row x s.corner.row) (sheet_of s) (sheet_of t) = touched_alike x s.corner.row (sheet_of s) (sheet_of t) (sure_of x s.corner.row (s.corner.row + (n - 4)) is.0) touch in
+      row_same (touches_row x s.corner.row) (sheet_of s) (sheet_of t) alike (panel_of s) (panel_of t) s.corner s.day t.day s.second t.second n least most is.0
       ∙ ap (λ (c : Place). screen_line (sheet_of t) (panel_of t) c t.day t.second n) (sym is.1)
 
   foot_kept : IsKept x (glance_of s) (glance_of t) 24 → line_of s 24 ≡ line_of t 24
@@ -187,8 +187,8 @@ module _ (s t : State) (x : Touched) (touch : Touches x (sheet_of s) (sheet_of t
   ]
 
 -- the same, by what a step touched before the screen followed it
-pub lines_told : (s mid t : State) (x : Touched) (a b : Glance) (lines : List Bool) → Touches x (sheet_of s) (sheet_of mid) → sheet_of t ≡ sheet_of mid → a ≡ glance_of s → b ≡ glance_of t →
+pub lines_told : (s mid t : State) (x : Touched) (a b : Glance) (lines : List Bool) → Touches x s.corner.row (sheet_of s) (sheet_of mid) → sheet_of t ≡ sheet_of mid → a ≡ glance_of s → b ≡ glance_of t →
     ((n : ℕ) → slice_get lines n ≡ Some false → IsKept x a b n) → Unchanged lines (screen s) (screen t)
 lines_told s mid t x a b lines touch followed before after told =
-    lines_kept s t x (subst (λ (u : Sheet). Touches x (sheet_of s) u) (sym followed) touch) lines
+    lines_kept s t x (subst (λ (u : Sheet). Touches x s.corner.row (sheet_of s) u) (sym followed) touch) lines
     (λ n out. subst (λ (g : Glance). IsKept x (glance_of s) g n) after (subst (λ (g : Glance). IsKept x g b n) before (told n out)))

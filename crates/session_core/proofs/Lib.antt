@@ -7,5 +7,6 @@ pub mod Kept
 pub mod Looking
 pub mod Prefixed
 pub mod Settled
+pub mod ShownRows
 pub mod Stepping
 pub mod Touching

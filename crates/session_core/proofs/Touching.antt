@@ -1,8 +1,8 @@
 -- What a key may have touched of the sheet.
 use Rattle.std.proofs.Common.{◌≡◌, ℕ, Bool, true, false, refl, ap, sym, subst, ◌∙◌}
 use Rattle.std.specs.FinMap.{get}
-use Rattle.std.specs.Prelude.{◌&&◌, if◌then◌else◌, nat_eq, not}
-use Rattle.std.proofs.lemmas.Bool.{eq-eqb, false_from_ne_true, true≢false}
+use Rattle.std.specs.Prelude.{◌&&◌, if◌then◌else◌, not}
+use Rattle.std.proofs.lemmas.Bool.{false_from_ne_true, false≢true, true≢false}
 use Rattle.formula_eval.specs.Mean.{mean}
 use Rattle.formula_eval.specs.declared.look.Scene.{Scene}
 use Rattle.formula_tree.specs.declared.value.Content.{Content}
@@ -11,28 +11,33 @@ use Rattle.grid_address.specs.Place.{same_place, Place}
 use Rattle.screen_layout.specs.Alike.{AreAlike}
 use Rattle.sheet_edits.proofs.Beside.{beside}
 use Rattle.sheet_edits.specs.Edits.{entered, written, written_state}
-use Rattle.sheet_store.specs.Choices.{Choices}
 use Rattle.sheet_store.specs.Grid.{is_formula, Grid}
 use Rattle.work_sheet.specs.Doing.{context_in, put, quiet, recalculated, settled}
 use Rattle.work_sheet.specs.Seen.{Sheet}
 use Rattle.session_core.specs.Moving.{IsMoved}
-use Rattle.session_core.specs.Touches.{touches_row, IsSettled, Touches}
+use Rattle.session_core.specs.Touches.{touches_row, IsSettled, Settles, Touches}
 use Rattle.session_core.specs.declared.touched.Touched.{Touched}
 use Rattle.session_core.specs.declared.touched.Touched.TheVariants as touched
 
-pub if_sure : (sure : Bool) (x : Touched) (s t : Sheet) → (sure ≡ true → Touches x s t) → Touches (if sure then x else touched.Anything) s t
-if_sure true x s t h = h refl
-if_sure false x s t h = tt
-
-pub anything_touches : (x : Touched) (s t : Sheet) → x ≡ touched.Anything → Touches x s t
-anything_touches x s t any = subst (λ (y : Touched). Touches y s t) (sym any) tt
+pub anything_touches : (x : Touched) (first : ℕ) (s t : Sheet) → x ≡ touched.Anything → Touches x first s t
+anything_touches x first s t any = subst (λ (y : Touched). Touches y first s t) (sym any) tt
 
 same_alike : (rows : ℕ → Bool) (s : Sheet) → AreAlike rows s s
 same_alike rows s = record { cells = λ c apart. refl; widths = refl; hidden = refl; width = refl; format = refl; names = refl }
 
+alike_on : (rows : ℕ → Bool) (s m t : Sheet) → AreAlike rows s m → AreAlike rows m t → AreAlike rows s t
+alike_on rows s m t a b = record {
+  cells = λ c apart. b.cells c apart ∙ a.cells c apart;
+  widths = b.widths ∙ a.widths;
+  hidden = b.hidden ∙ a.hidden;
+  width = b.width ∙ a.width;
+  format = b.format ∙ a.format;
+  names = b.names ∙ a.names;
+}
+
 -- a sheet whose pointer moved
-pub moved_touches : (s t : Sheet) → IsMoved s t → Touches touched.Pointer s t
-moved_touches s t (p, is) = record {
+moved_alike : (rows : ℕ → Bool) (s t : Sheet) → IsMoved s t → AreAlike rows s t
+moved_alike rows s t (p, is) = record {
   cells = λ c apart. ap (λ (u : Sheet). get u.grid.cells c) is;
   widths = ap (λ (u : Sheet). u.grid.widths) is;
   hidden = ap (λ (u : Sheet). u.grid.hidden) is;
@@ -42,44 +47,47 @@ moved_touches s t (p, is) = record {
 }
 
 -- whatever was touched, but anything
-pub touched_alike : (x : Touched) (s t : Sheet) → (x ≡ touched.Anything → ⊥) → Touches x s t → AreAlike (touches_row x) s t
-touched_alike touched.Nothing s t sure h = subst (λ (u : Sheet). AreAlike (touches_row touched.Nothing) s u) (sym h) (same_alike (touches_row touched.Nothing) s)
-touched_alike touched.Pointer s t sure h = h
-touched_alike (touched.Row r) s t sure h = h
-touched_alike touched.Anything s t sure h = absurd (sure refl)
+pub touched_alike : (x : Touched) (first : ℕ) (s t : Sheet) → (x ≡ touched.Anything → ⊥) → Touches x first s t → AreAlike (touches_row x first) s t
+touched_alike touched.Nothing first s t sure h = subst (λ (u : Sheet). AreAlike (touches_row touched.Nothing first) s u) (sym h) (same_alike (touches_row touched.Nothing first) s)
+touched_alike touched.Pointer first s t sure h = h
+touched_alike (touched.Rows lines) first s t sure h = h
+touched_alike touched.Anything first s t sure h = absurd (sure refl)
 
-apart_rows : (c d : Place) → nat_eq c.row d.row ≡ false → same_place d c ≡ false
-apart_rows c d apart = false_from_ne_true (same_place d c) (λ e.
-    true≢false (sym (eq-eqb c.row d.row (ap (λ (p : Place). p.row) (sym (same_place_is d c e)))) ∙ apart))
-
--- Content was written into a cell, the recalculation that follows by itself left all values, and the pointer moved.
-module _ (s m n t : Sheet) (scene there : Scene) (c : Place) (x : Content) (entry : m ≡ (put mean scene c x s).sheet) (clean : IsSettled m)
+-- Content was written into a cell, what follows by itself was done, and the pointer moved.
+module _ (s m n t : Sheet) (scene there : Scene) (c : Place) (x : Content) (entry : m ≡ (put mean scene c x s).sheet)
     (after : n ≡ (settled mean there m).sheet) (moved : IsMoved n t) where
-  automatic : s.settings.automatic ≡ true
-  automatic = sym (ap (λ (u : Sheet). u.settings.automatic) entry) ∙ clean.automatic
+  -- a recalculation was, and left all but some rows, of which the cell's is one
+  module _ (rows : ℕ → Bool) (row : rows c.row ≡ true) (settles : IsSettled rows m) where
+    automatic : s.settings.automatic ≡ true
+    automatic = sym (ap (λ (u : Sheet). u.settings.automatic) entry) ∙ settles.automatic
 
-  grid_written : m.grid ≡ written s.grid c x
-  grid_written = ap (λ (u : Sheet). u.grid) entry
-      ∙ ap (λ (b : Bool). entered mean (context_in scene s) (not b && is_formula x) s.grid c x) automatic
+    grid_written : m.grid ≡ written s.grid c x
+    grid_written = ap (λ (u : Sheet). u.grid) entry
+        ∙ ap (λ (b : Bool). entered mean (context_in scene s) (not b && is_formula x) s.grid c x) automatic
 
-  after_is : n ≡ (recalculated mean there m).sheet
-  after_is = after ∙ ap (λ (b : Bool). (if b then recalculated mean there m else quiet m).sheet) clean.automatic
+    apart_rows : (d : Place) → rows d.row ≡ false → same_place d c ≡ false
+    apart_rows d apart = false_from_ne_true (same_place d c) (λ e. true≢false (sym row ∙ ap (λ (p : Place). rows p.row) (sym (same_place_is d c e)) ∙ apart))
 
-  grid_stays : n.grid ≡ m.grid
-  grid_stays = ap (λ (u : Sheet). u.grid) after_is ∙ clean.same there
+    written_alike : AreAlike rows s m
+    written_alike = record {
+      cells = λ d apart. ap (λ (g : Grid). get g.cells d) grid_written ∙ beside s.grid c (written_state s.grid c x) d (apart_rows d apart);
+      widths = ap (λ (g : Grid). g.widths) grid_written;
+      hidden = ap (λ (g : Grid). g.hidden) grid_written;
+      width = ap (λ (u : Sheet). u.settings.width) entry;
+      format = ap (λ (u : Sheet). u.settings.format) entry;
+      names = ap (λ (u : Sheet). u.names) entry;
+    }
 
-  grid_is : t.grid ≡ written s.grid c x
-  grid_is = ap (λ (u : Sheet). u.grid) moved.1 ∙ grid_stays ∙ grid_written
+    after_is : n ≡ (recalculated mean there m).sheet
+    after_is = after ∙ ap (λ (b : Bool). (if b then recalculated mean there m else quiet m).sheet) settles.automatic
 
-  settings_are : n.settings ≡ s.settings
-  settings_are = ap (λ (u : Sheet). u.settings) after_is ∙ ap (λ (u : Sheet). u.settings) entry
+    entry_alike : AreAlike rows s t
+    entry_alike =
+        let recalculated_too : AreAlike rows m n = subst (AreAlike rows m) (sym after_is) (settles.alike there) in
+        alike_on rows s n t (alike_on rows s m n written_alike recalculated_too) (moved_alike rows n t moved)
 
-  pub entry_touches : Touches (touched.Row c.row) s t
-  entry_touches = record {
-    cells = λ d apart. ap (λ (g : Grid). get g.cells d) grid_is ∙ beside s.grid c (written_state s.grid c x) d (apart_rows c d apart);
-    widths = ap (λ (g : Grid). g.widths) grid_is;
-    hidden = ap (λ (g : Grid). g.hidden) grid_is;
-    width = ap (λ (u : Sheet). u.settings.width) moved.1 ∙ ap (λ (k : Choices). k.width) settings_are;
-    format = ap (λ (u : Sheet). u.settings.format) moved.1 ∙ ap (λ (k : Choices). k.format) settings_are;
-    names = ap (λ (u : Sheet). u.names) moved.1 ∙ ap (λ (u : Sheet). u.names) after_is ∙ ap (λ (u : Sheet). u.names) entry;
-  }
+  pub entry_touches : (y : Touched) (first : ℕ) → touches_row y first c.row ≡ true → Settles y first m → Touches y first s t
+  entry_touches touched.Nothing first row settles = absurd (false≢true row)
+  entry_touches touched.Pointer first row settles = absurd (false≢true row)
+  entry_touches (touched.Rows lines) first row settles = entry_alike (touches_row (touched.Rows lines) first) row settles
+  entry_touches touched.Anything first row settles = tt

@@ -52,5 +52,6 @@ pub record IsKept (touched : Touched) (a b : Glance) (n : ℕ) : Type 0 where
   pub typed : n ≡ 1 → (a.mode ≡ Some Ready) × (b.mode ≡ Some Ready)
   pub below : n ≡ 2 → (is_some a.mode ≡ true) × (is_some b.mode ≡ true)
   pub letters : n ≡ 3 → (touched ≡ Anything → ⊥) × (b.corner.col ≡ a.corner.col)
-  pub rows : 4 ≤ n → n < 24 → (touches_row touched (a.corner.row + (n - 4)) ≡ false) × (b.corner ≡ a.corner)
+  pub rows : 4 ≤ n → n < 24 →
+      (touches_row touched a.corner.row (a.corner.row + (n - 4)) ≡ false) × (b.corner ≡ a.corner)
   pub foot : n ≡ 24 → (is_some a.mode ≡ true) × ((is_some b.mode ≡ true) × (b.foot ≡ a.foot))

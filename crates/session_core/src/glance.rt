@@ -1,9 +1,10 @@
 // Which lines of the screen may be others after a step.
-ghost use Rattle.std.specs.Prelude.{◌≡◌, ◌≤◌, ◌<◌, ◌+◌, ◌-◌, ℕ, false, true, is_some, nat_eq, slice_get, Some};
+ghost use Rattle.std.specs.Prelude.{◌≡◌, ◌≤◌, ◌<◌, ◌+◌, ◌-◌, ℕ, false, true, is_some, slice_get, Some};
 ghost use Rattle.control_panel.specs.declared.panel.Mode.TheVariants.{Ready};
 ghost use Rattle.session_core.specs.Glances.{IsKept};
 ghost use Rattle.session_core.specs.Touches.{touches_row};
 
+use crate::rows::{FOOT, insert_rows};
 use crate::touched::Touched;
 use control_panel::Mode;
 use grid_address::Cell;
@@ -42,19 +43,12 @@ pub struct Glance {
     pub foot: Foot,
 }
 
-// How many rows the screen shows, and the first line that shows one.
-const ROWS: u16 = 20;
-
-const FIRST_ROW: u8 = 4;
-
-const FOOT: u8 = 24;
-
 // Whether the pointer's line is the same: the sheet and the mode are.
-fn keeps_pointer(touched: Touched, before: &Glance, after: &Glance) -> bool
+fn keeps_pointer(touched: &Touched, before: &Glance, after: &Glance) -> bool
     ensures { result ≡ true →
-        (touched ≡ Touched.Nothing) × ((is_some before.now.mode ≡ true) × (after.now.mode ≡ before.now.mode)) }
+        (touched.now ≡ Touched.Nothing) × ((is_some before.now.mode ≡ true) × (after.now.mode ≡ before.now.mode)) }
 {
-    touched == Touched::Nothing && before.mode.is_some() && after.mode == before.mode
+    touched.is_nothing() && before.mode.is_some() && after.mode == before.mode
 }
 
 // Whether no line is typed before and after.
@@ -72,11 +66,11 @@ fn are_plain(before: &Glance, after: &Glance) -> bool
 }
 
 // Whether the columns' letters are the same.
-fn keeps_letters(touched: Touched, before: &Glance, after: &Glance) -> bool
+fn keeps_letters(touched: &Touched, before: &Glance, after: &Glance) -> bool
     ensures { result ≡ true →
-        (touched ≡ Touched.Anything → ⊥) × (after.now.corner.col ≡ before.now.corner.col) }
+        (touched.now ≡ Touched.Anything → ⊥) × (after.now.corner.col ≡ before.now.corner.col) }
 {
-    touched != Touched::Anything && after.corner.col == before.corner.col
+    !touched.is_anything() && after.corner.col == before.corner.col
 }
 
 // Whether the last line hangs on the same.
@@ -105,41 +99,23 @@ fn insert_unless(kept: bool, line: u8, lines: &mut LineSet)
     }
 }
 
-// Adds the line of a row of the sheet, where it is one of those that are shown from a row on.
-fn insert_row(row: u16, first: u16, lines: &mut LineSet)
-    ensures stay { (n : ℕ) → slice_get lines.new n ≡ Some false → slice_get lines.old n ≡ Some false }
-    ensures told { (n : ℕ) → 4 ≤ n → n < 24 → slice_get lines.new n ≡ Some false →
-        nat_eq row (first + (n - 4)) ≡ false }
+// The lines of the rows that may be others.
+fn row_lines(touched: Touched, before: Cell, after: Cell) -> LineSet
+    ensures { (n : ℕ) → 4 ≤ n → n < 24 → slice_get result n ≡ Some false →
+        (touches_row touched before.row (before.row + (n - 4)) ≡ false) × (after ≡ before) }
 {
-    if first <= row && row - first < ROWS {
-        lines.insert(FIRST_ROW + (row - first) as u8);
-    }
-}
-
-// Adds the lines of all rows that are shown.
-fn insert_rows(lines: &mut LineSet)
-    ensures stay { (n : ℕ) → slice_get lines.new n ≡ Some false → slice_get lines.old n ≡ Some false }
-    ensures told { (n : ℕ) → 4 ≤ n → n < 24 → slice_get lines.new n ≡ Some false → ⊥ }
-{
-    for line in FIRST_ROW..FOOT {
-        lines.insert(line);
-    }
-}
-
-// Adds the lines of the rows that may be others.
-fn insert_touched(touched: Touched, before: Cell, after: Cell, lines: &mut LineSet)
-    ensures stay { (n : ℕ) → slice_get lines.new n ≡ Some false → slice_get lines.old n ≡ Some false }
-    ensures told { (n : ℕ) → 4 ≤ n → n < 24 → slice_get lines.new n ≡ Some false →
-        (touches_row touched (before.row + (n - 4)) ≡ false) × (after ≡ before) }
-{
+    let mut lines = LineSet::none();
     if after != before {
-        insert_rows(lines);
-        return;
+        insert_rows(&mut lines);
+        return lines;
     }
     match touched {
-        Touched::Nothing | Touched::Pointer => {}
-        Touched::Row(row) => insert_row(row, before.row, lines),
-        Touched::Anything => insert_rows(lines),
+        Touched::Nothing | Touched::Pointer => lines,
+        Touched::Rows(rows) => rows,
+        Touched::Anything => {
+            insert_rows(&mut lines);
+            lines
+        }
     }
 }
 
@@ -148,12 +124,13 @@ fn insert_touched(touched: Touched, before: Cell, after: Cell, lines: &mut LineS
 pub fn changed_lines(touched: Touched, before: &Glance, after: &Glance) -> LineSet
     ensures { (n : ℕ) → slice_get result n ≡ Some false → IsKept touched before.now after.now n }
 {
-    let mut lines = LineSet::none();
-    insert_unless(keeps_pointer(touched, before, after), 0, &mut lines);
+    let pointer = keeps_pointer(&touched, before, after);
+    let letters = keeps_letters(&touched, before, after);
+    let mut lines = row_lines(touched, before.corner, after.corner);
+    insert_unless(pointer, 0, &mut lines);
     insert_unless(keeps_typed(before, after), 1, &mut lines);
     insert_unless(are_plain(before, after), 2, &mut lines);
-    insert_unless(keeps_letters(touched, before, after), 3, &mut lines);
-    insert_touched(touched, before.corner, after.corner, &mut lines);
+    insert_unless(letters, 3, &mut lines);
     insert_unless(keeps_foot(before, after), FOOT, &mut lines);
     lines
 }

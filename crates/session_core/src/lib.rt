@@ -7,6 +7,7 @@ mod faults;
 mod glance;
 mod machine;
 mod pressing;
+mod rows;
 mod session;
 mod touched;
 

@@ -14,7 +14,7 @@ ghost use Rattle.session_core.specs.Pressing.{room_panel};
 ghost use Rattle.session_core.specs.Glances.{glance_of, marks_of, minute_of};
 ghost use Rattle.session_core.specs.Screen.{screen};
 ghost use Rattle.session_core.specs.Step.{come_to, event_taken, framed, is_key, loaded, taken, timed};
-ghost use Rattle.session_core.specs.Touches.{IsSettled, Touches};
+ghost use Rattle.session_core.specs.Touches.{touches_row, HasTouched, Settles};
 ghost use Rattle.work_sheet.specs.Did.{work_of};
 
 use crate::entering::{Meant, meaning_of};
@@ -22,6 +22,7 @@ use crate::event::Event;
 use crate::faults::fault_message;
 use crate::glance::{Foot, Glance, Marks, Minute};
 use crate::pressing::{plain_mode, plain_view, room_panel, turn_of};
+use crate::rows::{insert_cells, insert_row};
 use crate::touched::{Taken, Touched};
 use cell_pointer::{Way, moved};
 use command_desk::settle;
@@ -36,7 +37,7 @@ use macro_engine::{Engine, StepEnd, macro_named};
 use macro_text::MacroFault;
 use menu_room::menu_or_ready;
 use menu_tree::{Action, back};
-use natural_recalc::pass_is_cut;
+use natural_recalc::recalculation_is_cut;
 use outside_world::Shelf;
 use prompt_room::{WhatFollows, opening};
 use screen_layout::{PanelView, columns_shown, corner_for, paint_lines, wants_recalculation};
@@ -211,7 +212,7 @@ impl Machine {
         ensures failed { OnOk result (Leads (failed error scene.entry.now self.old.state) false self.old self.new) }
         ensures sure { self.old.state.running ≡ None → IsOk result }
         ensures sheet { self.old.state.running ≡ None → IsMoved (sheet_of self.old.state) (sheet_of self.new.state) }
-        ensures touched { IfOk result (λ t. Touches t (sheet_of self.old.state) (sheet_of self.new.state)) }
+        ensures touched { IfOk result (λ t. HasTouched t self.old.state self.new.state) }
     {
         if !self.engine.handles_errors() {
             self.tell(error.message());
@@ -340,15 +341,24 @@ impl Machine {
         Ok(())
     }
 
-    // Whether a recalculation follows an edit by itself, and leaves all values as they are, since no formula is dirty.
-    fn is_settled(&self) -> bool
-        ensures { result ≡ true → IsSettled (sheet_of self.now.state) }
+    // What is touched behind a write into a cell of a row, where a recalculation then follows by itself: the cells of
+    // that row, and those of the formulas that are dirty.
+    fn touched_behind(&self, row: u16) -> Touched
+        ensures row { touches_row result self.now.state.corner.row row ≡ true }
+        ensures settles { Settles result self.now.state.corner.row (sheet_of self.now.state) }
     {
         let sheet = &self.desk.sheet;
+        if !sheet.settings().automatic {
+            return Touched::Anything;
+        }
         // Both are called for their clauses.
         sheet.is_kept();
-        pass_is_cut::<Tally>();
-        sheet.settings().automatic && sheet.dirty_count() == 0
+        recalculation_is_cut::<Tally>();
+        let first = self.corner.row;
+        let mut lines = LineSet::none();
+        insert_row(row, first, &mut lines);
+        insert_cells(sheet.dirty_cells(), first, &mut lines);
+        Touched::Rows(lines)
     }
 
     // In Automatic mode all is recalculated.
@@ -388,7 +398,7 @@ impl Machine {
     // Enters a content into the pointer's cell, and then the pointer moves.
     fn enter(&mut self, content: Content, way: Way, now: &Moment) -> Result<Touched, Memory>
         ensures entered { OnOk result (LeadsBy (entered content way) now.now false self.old self.new) }
-        ensures touched { IfOk result (λ t. Touches t (sheet_of self.old.state) (sheet_of self.new.state)) }
+        ensures touched { IfOk result (λ t. HasTouched t self.old.state self.new.state) }
     {
         if self.is_protected() {
             let scene = self.scene(now);
@@ -396,16 +406,16 @@ impl Machine {
         }
         let row = self.pointer().row;
         self.write(content, now)?;
-        let settled = self.is_settled();
+        let touched = self.touched_behind(row);
         self.settle(now)?;
         self.go(way);
-        Ok(Touched::Row(row).if_sure(settled))
+        Ok(touched)
     }
 
     // Enters what a line means into the pointer's cell; a fault goes to EDIT.
     fn finish(&mut self, way: Way, line: EntryLine, now: &Moment) -> Result<Touched, Memory>
         ensures finished { OnOk result (LeadsBy (finished way line) now.now false self.old self.new) }
-        ensures touched { IfOk result (λ t. Touches t (sheet_of self.old.state) (sheet_of self.new.state)) }
+        ensures touched { IfOk result (λ t. HasTouched t self.old.state self.new.state) }
     {
         match meaning_of(line.text(), &self.desk.sheet, self.pointer())? {
             Meant::Means(content) => self.enter(content, way, now),
@@ -442,7 +452,7 @@ impl Machine {
         ensures stays { OnlyMoves turn self.old.state.running → IfOk result (λ t. t.ends ≡ false) }
         ensures sheet { OnlyMoves turn self.old.state.running →
             IsMoved (sheet_of self.old.state) (sheet_of self.new.state) }
-        ensures touched { IfOk result (λ t. Touches t.touched (sheet_of self.old.state) (sheet_of self.new.state)) }
+        ensures touched { IfOk result (λ t. HasTouched t.touched self.old.state self.new.state) }
     {
         match turn {
             Turn::Become(room) => {
@@ -499,7 +509,7 @@ impl Machine {
         ensures stays { OnlyMovesByKey key self.old.state → IfOk result (λ t. t.ends ≡ false) }
         ensures sheet { OnlyMovesByKey key self.old.state →
             IsMoved (sheet_of self.old.state) (sheet_of self.new.state) }
-        ensures touched { IfOk result (λ t. Touches t.touched (sheet_of self.old.state) (sheet_of self.new.state)) }
+        ensures touched { IfOk result (λ t. HasTouched t.touched self.old.state self.new.state) }
     {
         let end = self.end;
         let room = mem::replace(&mut self.room, Room::Ready);
@@ -553,7 +563,7 @@ impl Machine {
         ensures memory { OnErr result (HasBrokenOff
             (shelf_view (S.holds shelf.old) (S.faults shelf.old))
             (shelf_view (S.holds shelf.new) (S.faults shelf.new))) }
-        ensures touched { IfOk result (λ t. Touches t.touched (sheet_of self.old.state) (sheet_of self.new.state)) }
+        ensures touched { IfOk result (λ t. HasTouched t.touched self.old.state self.new.state) }
     {
         let scene = self.scene(now);
         let end = self
@@ -580,7 +590,7 @@ impl Machine {
         ensures stays { OnlyMovesBy event self.old.state → IfOk result (λ t. t.ends ≡ false) }
         ensures sheet { OnlyMovesBy event self.old.state →
             IsMoved (sheet_of self.old.state) (sheet_of self.new.state) }
-        ensures touched { IfOk result (λ t. Touches t.touched (sheet_of self.old.state) (sheet_of self.new.state)) }
+        ensures touched { IfOk result (λ t. HasTouched t.touched self.old.state self.new.state) }
     {
         match event {
             Event::Key(key) => self.take(key, now, shelf),

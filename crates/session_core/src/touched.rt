@@ -1,26 +1,42 @@
 // What a key may have touched of the sheet.
-ghost use Rattle.std.specs.Prelude.{◌≡◌, if◌then◌else◌};
+ghost use Rattle.std.specs.Prelude.{◌≡◌, false, true};
 
-/// What a key may have touched of the sheet: nothing, the pointer's place, beside it the cells of one row, or anything.
-#[derive(Clone, Copy, Debug, PartialEq, Eq)]
+use screen_show::LineSet;
+
+/// What a key may have touched of the sheet: nothing, the pointer's place, beside it the cells of the rows that these
+/// lines showed before and of those that weren't shown, or anything.
+#[derive(Drop)]
 pub enum Touched {
     Nothing,
     Pointer,
-    Row(u16),
+    Rows(LineSet),
     Anything,
 }
 
 impl Touched {
-    /// This where it is sure, and else anything.
-    pub(crate) fn if_sure(self, sure: bool) -> Touched
-        ensures { result ≡ (if sure then self else Touched.Anything) }
+    // Whether nothing was touched.
+    pub(crate) fn is_nothing(&self) -> bool
+        ensures { result ≡ true → self.now ≡ Touched.Nothing }
     {
-        if sure { self } else { Touched::Anything }
+        match self {
+            Touched::Nothing => true,
+            Touched::Pointer | Touched::Rows(_) | Touched::Anything => false,
+        }
+    }
+
+    // Whether anything may have been touched.
+    pub(crate) fn is_anything(&self) -> bool
+        ensures { result ≡ false → self.now ≡ Touched.Anything → ⊥ }
+    {
+        match self {
+            Touched::Anything => true,
+            Touched::Nothing | Touched::Pointer | Touched::Rows(_) => false,
+        }
     }
 }
 
 /// What an event came to: what it may have touched of the sheet, and whether the run ends.
-#[derive(Clone, Copy, Debug, PartialEq, Eq)]
+#[derive(Drop)]
 pub struct Taken {
     pub touched: Touched,
     pub ends: bool,

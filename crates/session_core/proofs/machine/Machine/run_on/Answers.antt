@@ -16,7 +16,7 @@ returns-clause-ok g c =
 
 -- a macro's step may have touched anything
 pub returns-clause-touched : goal.returns-clause-touched
-returns-clause-touched g c = ok_map c.come_to.result (λ t any. anything_touches t.touched _ _ any) c.come_to.ensures.touched
+returns-clause-touched g c = ok_map c.come_to.result (λ t any. anything_touches t.touched _ _ _ any) c.come_to.ensures.touched
 
 -- no call was made of the shelf
 pub returns-in_err-end-clause-memory : goal.returns-in_err-end-clause-memory

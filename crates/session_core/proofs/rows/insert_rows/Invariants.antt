@@ -1,6 +1,6 @@
 use Rattle.std.proofs.Common.{◌≡◌, ◌≤◌, ◌<◌, ℕ, false, Some}
 use Rattle.std.specs.Prelude.{slice_get}
-use Rattle.session_core.proofs.glance.insert_rows.Given as goal
+use Rattle.session_core.proofs.rows.insert_rows.Given as goal
 
 abbrev pub invariant-loop-line : goal.invariant-loop-line
 invariant-loop-line l = record {
