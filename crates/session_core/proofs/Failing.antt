@@ -8,14 +8,14 @@ use Rattle.commands_file.specs.Calls.{HaveAnswered, ShelfView}
 use Rattle.desk_errors.specs.declared.error.CommandError.{CommandError}
 use Rattle.desk_errors.specs.Messages.{message_of}
 use Rattle.formula_eval.specs.declared.look.Scene.{Scene}
-use Rattle.macro_engine.specs.Catching.{caught, caught_by, handler_of, handles_errors, Caught}
+use Rattle.macro_engine.specs.Catching.{caught, caught_by, handles_errors, Caught}
 use Rattle.macro_words.specs.declared.running.Handler.{Handler}
 use Rattle.macro_words.specs.declared.running.Running.{Running}
 use Rattle.menu_tree.specs.declared.menu.Action.{Action}
 use Rattle.work_sheet.specs.Doing.{quiet as undone}
 use Rattle.work_sheet.specs.Seen.{Sheet}
 use Rattle.session_core.specs.Carrying.{caught_as, failed, left_by, room_behind, told}
-use Rattle.session_core.specs.Machine.{quiet, sheet_of, Outcome, State}
+use Rattle.session_core.specs.Machine.{quiet, sheet_of, State}
 
 -- the macro stops, and nothing is done to the sheet
 abbrev stopped : Sheet → Caught

@@ -1,5 +1,5 @@
 -- A command makes at most one call of the shelf, so that no file but one may have changed behind it.
-use Rattle.std.proofs.Common.{◌≡◌, ℕ, List, [], ◌∷◌, Option, None, Some, Result, Ok, Err, sym, subst}
+use Rattle.std.proofs.Common.{ℕ, List, [], ◌∷◌, Option, None, Some, Result, Ok, Err, sym, subst}
 use Rattle.command_desk.specs.Answered.{span_at}
 use Rattle.command_desk.specs.Desks.{Desk}
 use Rattle.commands_file.specs.Calls.{Asked, HasBrokenOff, HaveAnswered, Reply, ShelfView}

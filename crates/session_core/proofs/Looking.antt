@@ -1,7 +1,7 @@
 -- A look for a file changes no file.
 use Rattle.std.proofs.Common.{◌≡◌, ℕ, ◌≤◌, List, Option, None, Some, subst, arith}
 use Rattle.outside_world.specs.Shelf.{answered, done, failed as call_failed, file_in, OnShelf, ShelfAnswer}
-use Rattle.commands_file.specs.Calls.{asks, failed, loaded, there, written, HasAnswered, HasBrokenOff, HaveAnswered, IsCounted, IsTold, KeepsOthers, Reply, ShelfView}
+use Rattle.commands_file.specs.Calls.{asks, failed, loaded, there, written, HasBrokenOff, HaveAnswered, IsCounted, IsTold, KeepsOthers, Reply, ShelfView}
 use Rattle.commands_file.specs.Commands.{looked, looked_at, named}
 
 -- one answer more changes no file

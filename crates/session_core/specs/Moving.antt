@@ -10,7 +10,7 @@ use Rattle.session_rooms.specs.declared.turn.Turn.{Turn}
 use Rattle.session_rooms.specs.declared.turn.Turn.TheVariants as turn
 use Rattle.work_sheet.specs.Doing.{with_pointer}
 use Rattle.work_sheet.specs.Seen.{Sheet}
-use Rattle.session_core.specs.Machine.{sheet_of, State}
+use Rattle.session_core.specs.Machine.{State}
 use Rattle.session_core.specs.Pressing.{turn_of}
 use Rattle.session_core.specs.declared.event.Event.{Event}
 use Rattle.session_core.specs.declared.event.Event.TheVariants.{Key as KeyEvent, Unit as UnitEvent}
