@@ -22,7 +22,7 @@ use crate::event::Event;
 use crate::faults::fault_message;
 use crate::glance::{Foot, Glance, Marks, Minute};
 use crate::pressing::{plain_mode, plain_view, room_panel, turn_of};
-use crate::rows::{insert_cells, insert_row};
+use crate::rows::{ROWS, insert_cells, insert_row};
 use crate::touched::{Taken, Touched};
 use cell_pointer::{Way, moved};
 use command_desk::settle;
@@ -342,13 +342,14 @@ impl Machine {
     }
 
     // What is touched behind a write into a cell of a row, where a recalculation then follows by itself: the cells of
-    // that row, and those of the formulas that are dirty.
+    // that row, and those of the formulas that are dirty. Where there are more of these than rows that are shown, they
+    // mostly lie in all of these rows, and aren't looked at.
     fn touched_behind(&self, row: u16) -> Touched
         ensures row { touches_row result self.now.state.corner.row row ≡ true }
         ensures settles { Settles result self.now.state.corner.row (sheet_of self.now.state) }
     {
         let sheet = &self.desk.sheet;
-        if !sheet.settings().automatic {
+        if !sheet.settings().automatic || sheet.dirty_count() > usize::from(ROWS) {
             return Touched::Anything;
         }
         // Both are called for their clauses.
