@@ -77,6 +77,7 @@ fn formula_in<'a>(
 /// What a content and its value show in a width from 0 to 255, in the format that stands for the cell. A blank content
 /// shows nothing, and so does any content in the format Hidden; a formula shows its value, and in the format Text
 /// itself, as it is printed with the sheet's names. (Release 2 manual.)
+#[inline(always)]
 pub fn shown_content<'a>(
     content: &'a Content,
     value: &'a Value,
