@@ -1,9 +1,9 @@
 -- Addresses read byte by byte.
 use Rattle.std.specs.Char.{is_ascii_digit, is_ascii_uppercase, to_ascii_uppercase}
-use Rattle.std.proofs.Common.{◌≡◌, ℕ, zero, suc, ◌+◌, ◌-◌, ◌*◌, ◌/◌, ◌%◌, ◌≤◌, ◌<◌, Bool, true, false, Option, Some, None, List, [], ◌∷◌, ◌++◌, length, get_or, map, refl, take, ap, sym, subst, ◌∙◌, arith, ◌⊎◌, inl, inr, append_assoc, length-append}
+use Rattle.std.proofs.Common.{◌≡◌, ℕ, zero, suc, ◌+◌, ◌-◌, ◌*◌, ◌/◌, ◌%◌, ◌≤◌, ◌<◌, true, false, Option, Some, None, List, [], ◌∷◌, ◌++◌, length, get_or, map, refl, take, ap, sym, subst, ◌∙◌, arith, ◌⊎◌, inl, inr, append_assoc, length-append}
 use Rattle.std.specs.Prelude.{◌&&◌, nat_le, nat_lt, fold}
 use Rattle.std.specs.List.{list_all}
-use Rattle.std.proofs.lemmas.Bool.{cases_Bool}
+use Rattle.std.proofs.lemmas.Bool.{and_parts, cases_Bool}
 use Rattle.std.proofs.lemmas.Bool.Decides.{nat_tests}
 use Rattle.std.proofs.lemmas.List.{append-nil, map-append, take_all, take_more}
 use Rattle.std.proofs.lemmas.List.Folds.{list_all-append}
@@ -29,14 +29,6 @@ grows n (d ∷ ds) = omega (arith, grows (n * 10 + (d - 48)) ds)
 fold-append : (n : ℕ) (xs ys : List ℕ) → fold digit_more n (xs ++ ys) ≡ fold digit_more (fold digit_more n xs) ys
 fold-append n [] ys = refl
 fold-append n (x ∷ xs) ys = fold-append (digit_more n x) xs ys
-
-pub left_of : (a b : Bool) → (a && b) ≡ true → a ≡ true
-left_of true b h = refl
-left_of false b h = absurd cc
-
-pub right_of : (a b : Bool) → (a && b) ≡ true → b ≡ true
-right_of true b h = h
-right_of false b h = absurd cc
 
 -- a row's number: its digits stand for it, and begin with 1 to 9
 record IsNumber (n : ℕ) : Type 0 where
@@ -90,7 +82,7 @@ goes_far m n b rest more is large =
     let all : (list_all is_ascii_digit (decimal n) && (is_ascii_digit b && list_all is_ascii_digit rest)) ≡ true = sym (list_all-append is_ascii_digit (decimal n) (b ∷ rest)) ∙ ap (list_all is_ascii_digit) (sym is) ∙ all_upto m m (omega arith) in
     let stands : m ≡ fold digit_more (n * 10 + (b - 48)) rest =
     sym (number m large).stands ∙ ap (fold digit_more 0) is ∙ fold-append 0 (decimal n) (b ∷ rest) ∙ ap (λ k. fold digit_more k (b ∷ rest)) (number n more).stands in
-    (left_of (is_ascii_digit b) (list_all is_ascii_digit rest) (right_of (list_all is_ascii_digit (decimal n)) (is_ascii_digit b && list_all is_ascii_digit rest) all), omega (arith, stands, grows (n * 10 + (b - 48)) rest))
+    ((and_parts (is_ascii_digit b) (list_all is_ascii_digit rest) (and_parts (list_all is_ascii_digit (decimal n)) (is_ascii_digit b && list_all is_ascii_digit rest) all).1).0, omega (arith, stands, grows (n * 10 + (b - 48)) rest))
 
 capital_in : (x : ℕ) → is_ascii_uppercase x ≡ true → (65 ≤ x) × (x ≤ 90)
 capital_in x h = (grind (arith, nat_tests, h), grind (arith, nat_tests, h))

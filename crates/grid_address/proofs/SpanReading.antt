@@ -3,7 +3,7 @@ use Rattle.std.specs.Char.{is_ascii_digit, to_ascii_uppercase}
 use Rattle.std.proofs.Common.{◌≡◌, ℕ, zero, suc, ◌+◌, ◌/◌, ◌%◌, ◌≤◌, ◌<◌, Bool, true, false, None, List, [], ◌∷◌, ◌++◌, length, get_or, map, refl, take, drop, ap, sym, subst, ◌∙◌, arith, ◌⊎◌, inl, inr, append_assoc}
 use Rattle.std.specs.Prelude.{◌==◌, nat_lt}
 use Rattle.std.specs.List.{list_all}
-use Rattle.std.proofs.lemmas.Bool.{cases_Bool}
+use Rattle.std.proofs.lemmas.Bool.{and_parts, cases_Bool}
 use Rattle.std.proofs.lemmas.Bool.Decides.{nat_tests}
 use Rattle.std.proofs.lemmas.List.{drop-drop, length-drop, take-append-drop, take_all, take_more}
 use Rattle.std.proofs.lemmas.List.Folds.{list_all-append}
@@ -14,7 +14,7 @@ use Rattle.grid_address.specs.Address.{column_name, decimal}
 use Rattle.grid_address.specs.Place.{spanned, Place}
 use Rattle.grid_address.specs.Progress.{count_dots, whole_cell, IsFront, IsRead}
 use Rattle.grid_address.specs.Reading.{AreDots, Begins, IsAddress, IsSpan, SpellsCell, SpellsSpan, StopsAt}
-use Rattle.grid_address.proofs.AddressReading.{all_upto, begun, front_ends, left_of, one_letter, right_of, two_letters, unfinished, BeginsAddress}
+use Rattle.grid_address.proofs.AddressReading.{all_upto, begun, front_ends, one_letter, two_letters, unfinished, BeginsAddress}
 
 abbrev is_past_dot : ℕ → Bool
 is_past_dot x = nat_lt 46 x
@@ -26,9 +26,9 @@ no_dot xs = list_all is_past_dot (map to_ascii_uppercase xs)
 digits_no_dot : (xs : List ℕ) → list_all is_ascii_digit xs ≡ true → list_all is_past_dot xs ≡ true
 digits_no_dot [] h = refl
 digits_no_dot (x ∷ xs) h =
-    let digit : is_ascii_digit x ≡ true = left_of (is_ascii_digit x) (list_all is_ascii_digit xs) h in
+    let digit : is_ascii_digit x ≡ true = (and_parts (is_ascii_digit x) (list_all is_ascii_digit xs) h).0 in
     let past : is_past_dot x ≡ true = grind (arith, nat_tests, digit) in
-    rw (past, digits_no_dot xs (right_of (is_ascii_digit x) (list_all is_ascii_digit xs) h)) refl
+    rw (past, digits_no_dot xs (and_parts (is_ascii_digit x) (list_all is_ascii_digit xs) h).1) refl
 
 column_no_dot : (c : ℕ) → list_all is_past_dot (column_name c) ≡ true
 column_no_dot c = elim (cases_Bool (nat_lt c 26)) [
@@ -53,7 +53,7 @@ read_no_dot (Row c n) xs is = ap (list_all is_past_dot) is.0 ∙ number_no_dot c
 -- bytes with a dot among them
 has_dot : (xs ys : List ℕ) → no_dot (xs ++ 46 ∷ ys) ≡ true → ⊥
 has_dot [] ys h = absurd cc
-has_dot (x ∷ xs) ys h = has_dot xs ys (right_of (is_past_dot (to_ascii_uppercase x)) (no_dot (xs ++ 46 ∷ ys)) h)
+has_dot (x ∷ xs) ys h = has_dot xs ys (and_parts (is_past_dot (to_ascii_uppercase x)) (no_dot (xs ++ 46 ∷ ys)) h).1
 
 -- where the first dot stands, seen from bytes without one
 record IsBefore (b : ℕ) (rest more xs left : List ℕ) : Type 0 where
@@ -74,7 +74,7 @@ split b rest more (x ∷ xs) [] none e =
 split b rest more (x ∷ xs) (l ∷ ls) none e =
     let head : l ≡ x = cc in
     let tail : xs ++ b ∷ rest ≡ ls ++ 46 ∷ more = cc in
-    elim (split b rest more xs ls (right_of (is_past_dot (to_ascii_uppercase x)) (no_dot xs) none) tail) [
+    elim (split b rest more xs ls (and_parts (is_past_dot (to_ascii_uppercase x)) (no_dot xs) none).1 tail) [
       | inl before ↦ inl (record { last = before.last; is = ap (λ h. h ∷ ls) head ∙ ap (λ (t : List ℕ). x ∷ t) before.is })
       | inr at ↦ inr (record { same = ap (λ h. h ∷ ls) head ∙ ap (λ (t : List ℕ). x ∷ t) at.same; dot = at.dot; behind = at.behind })
     ]
