@@ -3,6 +3,7 @@ use Rattle.std.specs.Prelude.{ℕ, ◌+◌, ◌-◌, ◌<◌, refl, Bool, ◌&&�
 use Rattle.std.specs.declared.cmp.Ordering.{Ordering}
 use Rattle.std.specs.Ordering.{nat_cmp, ordering_then}
 use Rattle.std.specs.Coded.{Coded, code_by, coded×, coded_ℕ}
+use Rattle.grid_address.specs.declared.TheConstants.{COLUMNS, LAST_COLUMN, LAST_ROW, ROWS}
 
 -- a cell of the sheet, by its row and its column from 0 on
 pub record Place : Type 0 where
@@ -16,7 +17,7 @@ coded_place =
 
 -- a place that a cell can have
 abbrev pub InSheet : Place → Type 0
-InSheet p = (p.row < 8192) × (p.col < 256)
+InSheet p = (p.row < ROWS) × (p.col < COLUMNS)
 
 -- the order of cells row by row, and within a row by columns
 abbrev pub place_cmp : Place → Place → Ordering
@@ -59,4 +60,4 @@ spanned a b = record {
 
 -- the whole sheet
 abbrev pub whole : Extent
-whole = record { first = record { row = 0; col = 0 }; last = record { row = 8191; col = 255 } }
+whole = record { first = record { row = 0; col = 0 }; last = record { row = LAST_ROW; col = LAST_COLUMN } }

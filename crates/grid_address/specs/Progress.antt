@@ -2,6 +2,7 @@
 use Rattle.std.specs.Char.{is_ascii_digit, is_ascii_uppercase, to_ascii_uppercase}
 use Rattle.std.specs.Prelude.{ℕ, ◌≡◌, ◌≤◌, ◌<◌, ◌+◌, ◌-◌, ◌*◌, ◌/◌, ◌%◌, ◌&&◌, ◌==◌, nat_le, nat_lt, get_or, length, take, Option, Some, None, List, [], ◌∷◌, ◌++◌, map, if◌then◌else◌, fold, ⊤}
 use Rattle.ascii_bytes.specs.Ascii as ascii
+use Rattle.grid_address.specs.declared.TheConstants.{COLUMNS, ROWS}
 use Rattle.grid_address.specs.declared.reading.Progress.{Progress}
 use Rattle.grid_address.specs.declared.reading.Progress.TheVariants.{Nothing, Letter, Column, Row}
 use Rattle.grid_address.specs.Address.{before_a, column_name, decimal}
@@ -13,8 +14,8 @@ abbrev pub IsRead : Progress → List ℕ → Type 0
 IsRead Nothing bytes = bytes ≡ []
 IsRead (Letter c) bytes = (map to_ascii_uppercase bytes ≡ (ascii.capital_a + c) ∷ []) × (c < 26)
 IsRead (Column c) bytes =
-    (map to_ascii_uppercase bytes ≡ (before_a + c / 26) ∷ (ascii.capital_a + c % 26) ∷ []) × (26 ≤ c) × (c < 256)
-IsRead (Row c n) bytes = (map to_ascii_uppercase bytes ≡ column_name c ++ decimal n) × (c < 256) × (1 ≤ n) × (n ≤ 8192)
+    (map to_ascii_uppercase bytes ≡ (before_a + c / 26) ∷ (ascii.capital_a + c % 26) ∷ []) × (26 ≤ c) × (c < COLUMNS)
+IsRead (Row c n) bytes = (map to_ascii_uppercase bytes ≡ column_name c ++ decimal n) × (c < COLUMNS) × (1 ≤ n) × (n ≤ ROWS)
 
 -- a row's number begins with 1 to 9
 abbrev pub first_digit : ℕ → ℕ → Option Progress
@@ -23,12 +24,12 @@ first_digit c b = if nat_le ascii.one b && nat_le b ascii.nine then Some (Row c 
 -- a column behind its second letter; none past the last column
 abbrev pub second_letter : ℕ → ℕ → Option Progress
 second_letter c b =
-    if nat_lt ((c + 1) * 26 + (b - ascii.capital_a)) 256
+    if nat_lt ((c + 1) * 26 + (b - ascii.capital_a)) COLUMNS
     then Some (Column ((c + 1) * 26 + (b - ascii.capital_a))) else None
 
 -- a row behind a further digit; none past the last row
 abbrev pub later_digit : ℕ → ℕ → Option Progress
-later_digit c n = if nat_le n 8192 then Some (Row c n) else None
+later_digit c n = if nat_le n ROWS then Some (Row c n) else None
 
 -- how far it is read with one byte more; none where no address goes on with it
 abbrev pub next_of : Progress → ℕ → Option Progress
@@ -45,7 +46,7 @@ abbrev pub IsRowOfSheet : Progress → Type 0
 IsRowOfSheet Nothing = ⊤
 IsRowOfSheet (Letter c) = ⊤
 IsRowOfSheet (Column c) = ⊤
-IsRowOfSheet (Row c n) = (c < 256) × (1 ≤ n) × (n ≤ 8192)
+IsRowOfSheet (Row c n) = (c < COLUMNS) × (1 ≤ n) × (n ≤ ROWS)
 
 -- the cell, where its row is read
 abbrev pub whole_cell : Progress → Option Place

@@ -14,7 +14,7 @@ pub struct Cell {
 impl Model for Cell {
     ghost use Rattle.std.specs.Prelude.{◌<◌};
     ghost use Rattle.grid_address.specs.Place.{Place, coded_place};
-    ghost use Rattle.grid_address.specs.declared.TheConstants.{ROWS};
+    ghost use Rattle.grid_address.specs.declared.TheConstants.{COLUMNS, ROWS};
 
     ghost Value = { Place };
 
@@ -22,7 +22,7 @@ impl Model for Cell {
 
     ghost view = { λ c. record { row = c.row; col = c.col } };
 
-    ghost invariant = { λ c. (c.row < ROWS) × (c.col < 256) };
+    ghost invariant = { λ c. (c.row < ROWS) × (c.col < COLUMNS) };
 
     ghost inverse = { λ p. record { row = p.row; col = p.col } };
 }

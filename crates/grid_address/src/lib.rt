@@ -27,3 +27,9 @@ pub const ROWS: u16 = 8192;
 
 /// The last row, counted from 0.
 pub const LAST_ROW: u16 = 8191;
+
+/// How many columns the sheet has (Release 2 manual).
+pub const COLUMNS: u16 = 256;
+
+/// The last column, counted from 0.
+pub const LAST_COLUMN: u8 = 255;

@@ -5,7 +5,7 @@ ghost use Rattle.grid_address.specs.Progress.{address_in, count_dots, first_digi
 ghost use Rattle.grid_address.specs.Reading.{IsAddress, IsSpan, SpellsCell, SpellsSpan, StopsAt};
 ghost use Rattle.grid_address.specs.declared.reading.Progress.TheVariants.{Letter, Row};
 
-use crate::{Cell, ROWS, Span};
+use crate::{COLUMNS, Cell, ROWS, Span};
 
 /// The bytes are no address, or no span: `at` is the first byte that can't go on, or the number of bytes where they end
 /// too early.
@@ -41,7 +41,7 @@ fn after_letter(col: u8, byte: u8) -> Option<Progress>
     let capital = byte.to_ascii_uppercase();
     if capital >= b'A' && capital <= b'Z' {
         let column = (u16::from(col) + 1) * 26 + u16::from(capital - b'A');
-        if column < 256 {
+        if column < COLUMNS {
             Some(Progress::Column(column as u8))
         } else {
             None

@@ -2,7 +2,7 @@ ghost use Rattle.std.specs.Prelude.{◌≡◌, ◌≤◌, ◌<◌};
 ghost use Rattle.grid_address.specs.Axes.{axis_to, is_fixed, number_of, resolved};
 ghost use Rattle.grid_address.specs.Leads.{reference_to, resolve};
 
-use crate::{Cell, ROWS};
+use crate::{COLUMNS, Cell, ROWS};
 use std::marker::Model;
 
 /// A coordinate of a reference: an absolute number, or an offset that is added and wraps at the edge of
@@ -23,13 +23,13 @@ pub struct Ref {
 impl Model for Ref {
     ghost use Rattle.std.specs.Prelude.{◌<◌};
     ghost use Rattle.grid_address.specs.Axes.{number_of, Reference};
-    ghost use Rattle.grid_address.specs.declared.TheConstants.{ROWS};
+    ghost use Rattle.grid_address.specs.declared.TheConstants.{COLUMNS, ROWS};
 
     ghost Value = { Reference };
 
     ghost view = { λ r. record { col = r.col; row = r.row } };
 
-    ghost invariant = { λ r. (number_of r.col < 256) × (number_of r.row < ROWS) };
+    ghost invariant = { λ r. (number_of r.col < COLUMNS) × (number_of r.row < ROWS) };
 
     ghost inverse = { λ p. record { col = p.col; row = p.row } };
 }
@@ -40,7 +40,7 @@ impl Ref {
     pub fn resolve(self, at: Cell) -> Cell
         ensures { result ≡ resolve self at }
     {
-        let col = along(self.col, at.col as u16, 256);
+        let col = along(self.col, at.col as u16, COLUMNS);
         let row = along(self.row, at.row, ROWS);
         Cell {
             row,
@@ -57,7 +57,7 @@ impl Ref {
         ensures fixed_row { is_fixed result.row ≡ fixed_row }
     {
         Ref {
-            col: back(fixed_col, target.col as u16, at.col as u16, 256),
+            col: back(fixed_col, target.col as u16, at.col as u16, COLUMNS),
             row: back(fixed_row, target.row, at.row, ROWS),
         }
     }

@@ -1,7 +1,7 @@
 ghost use Rattle.std.specs.Prelude.{◌≡◌, ◌≤◌, ◌+◌};
 ghost use Rattle.grid_address.specs.Place.{height_of, is_within, spanned, whole, width_of};
 
-use crate::{Cell, LAST_ROW, ROWS};
+use crate::{COLUMNS, Cell, LAST_COLUMN, LAST_ROW, ROWS};
 use std::marker::Model;
 
 /// A rectangle of cells by its corners, of which the first is at the top left.
@@ -41,7 +41,7 @@ impl Span {
     pub fn width(self) -> u16
         ensures width { result ≡ width_of self }
         ensures some { 1 ≤ result }
-        ensures fits { self.first.col + result ≤ 256 }
+        ensures fits { self.first.col + result ≤ COLUMNS }
     {
         u16::from(self.last.col) + 1 - u16::from(self.first.col)
     }
@@ -78,7 +78,7 @@ impl Span {
             first: Cell { row: 0, col: 0 },
             last: Cell {
                 row: LAST_ROW,
-                col: 255,
+                col: LAST_COLUMN,
             },
         }
     }
