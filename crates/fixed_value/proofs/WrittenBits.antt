@@ -21,6 +21,10 @@ raised n k h =
     let more : n * 2 ^ (k + 1) ≡ n * (2 * 2 ^ k) = ap (λ p. n * p) (two_more k) in
     omega (arith, more, h)
 
+-- the unit of a double that isn't as far below
+pub unit_small : (k : ℕ) → k ≤ 73 → 2 ^ k ≤ 2 ^ 73
+unit_small k h = pow-le-pow_right {n = 2} (omega arith) {i = k} {j = 73} h
+
 -- a double far below a millionth
 pub tiny : (m e : ℕ) → m < 9007199254740992 → 74 ≤ 1075 - e → size_by m e ≡ 0
 tiny m e h far =

@@ -32,16 +32,6 @@ fn mantissa_of(exponent: u64, fraction: u64) -> u64
     }
 }
 
-// A power of two.
-fn two_to(exponent: u32) -> u128
-    requires { exponent ≤ 73 }
-    ensures value { result ≡ 2 ^ exponent }
-    ensures least { 1 ≤ result }
-    ensures most { result ≤ 9444732965739290427392 }
-{
-    2u128.pow(exponent)
-}
-
 // The size in millionths; none past the size of a number.
 fn size_by(mantissa: u64, exponent: u64) -> Option<u64>
     requires mantissa { mantissa < 9007199254740992 }
@@ -57,7 +47,7 @@ fn size_by(mantissa: u64, exponent: u64) -> Option<u64>
     if scale >= 74 {
         return Some(0);
     }
-    let unit = two_to(scale as u32);
+    let unit = 1u128 << scale;
     let size = (2 * (u128::from(mantissa) * 1_000_000) + unit) / (2 * unit);
     if size > 999_999_999_999_999 {
         return None;
@@ -94,7 +84,7 @@ fn scale_of(size: u64) -> u32
     ensures below { size * 2 ^ result < 9007199254740992 * 1000000 }
 {
     let mut scale = 23;
-    while scale < 72 && u128::from(size) * two_to(scale) < 4_503_599_627_370_496_000_000 {
+    while scale < 72 && (u128::from(size) << scale) < 4_503_599_627_370_496_000_000 {
         scale += 1;
     }
     scale
@@ -135,7 +125,7 @@ fn written_bits(value: Fixed) -> u64
 {
     let size = value.millionths().unsigned_abs();
     let scale = scale_of(size);
-    let mantissa = nearest_even(u128::from(size) * two_to(scale));
+    let mantissa = nearest_even(u128::from(size) << scale);
     sign_bit(value) + (u64::from(1075 - scale) * FRACTIONS + (mantissa - FRACTIONS))
 }
 
