@@ -2,7 +2,7 @@
 use Rattle.std.proofs.Common.{◌≡◌, ◌≤◌, ◌<◌, ◌+◌, ◌-◌, ℕ, ℤ, pos, negsuc, zero, suc, Bool, true, false, List, [], ◌∷◌, take, drop, length, Some, None, refl, sym, ap, ◌∙◌, arith, inl, inr}
 use Rattle.std.specs.Prelude.{◌==◌, ◌&&◌, nat_le}
 use Rattle.std.specs.Option.{unwrap_or}
-use Rattle.std.proofs.lemmas.Bool.{cases_Bool}
+use Rattle.std.proofs.lemmas.Bool.{and_parts, cases_Bool}
 use Rattle.std.proofs.lemmas.Bool.Decides.{nat_tests}
 use Rattle.std.proofs.lemmas.List.{drop-drop, length-drop}
 use Rattle.lics_text.specs.Texts.{IsFirstPlace, IsNoPlace, StandsAt}
@@ -18,14 +18,6 @@ starts_with (w ∷ ws) (b ∷ bs) fits is =
     let test : (w == b) ≡ true = grind (arith, nat_tests, head) in
     rw (test, starts_with ws bs (omega (arith, fits)) tail) refl
 
-left_of : (a b : Bool) → (a && b) ≡ true → a ≡ true
-left_of true b h = refl
-left_of false b h = absurd cc
-
-right_of : (a b : Bool) → (a && b) ≡ true → b ≡ true
-right_of true b h = h
-right_of false b h = absurd cc
-
 record IsFront (what text : List ℕ) : Type 0 where
   fits : length what ≤ length text
   is : take (length what) text ≡ what
@@ -34,8 +26,8 @@ front_of : (what text : List ℕ) → starts what text ≡ true → IsFront what
 front_of [] text h = record { fits = omega arith; is = refl }
 front_of (w ∷ ws) [] h = absurd cc
 front_of (w ∷ ws) (b ∷ bs) h =
-    let head : w ≡ b = (let test : (w == b) ≡ true = left_of (w == b) (starts ws bs) h in grind (arith, nat_tests, test)) in
-    let tail : IsFront ws bs = front_of ws bs (right_of (w == b) (starts ws bs) h) in
+    let head : w ≡ b = (let test : (w == b) ≡ true = (and_parts (w == b) (starts ws bs) h).0 in grind (arith, nat_tests, test)) in
+    let tail : IsFront ws bs = front_of ws bs (and_parts (w == b) (starts ws bs) h).1 in
     record { fits = omega (arith, tail.fits); is = ap (λ c. c ∷ take (length ws) bs) (sym head) ∙ ap (λ (l : List ℕ). w ∷ l) tail.is }
 
 first_found : (what rest : List ℕ) (at k : ℕ) → k ≤ length rest → starts what (drop k rest) ≡ true → ((j : ℕ) → j < k → starts what (drop j rest) ≡ false) → first_place what rest at ≡ Some (at + k)

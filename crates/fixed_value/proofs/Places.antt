@@ -5,7 +5,7 @@ use Rattle.std.proofs.Math.Nat.{pow-suc, pow-le-pow_right, mul-le-mul_right}
 use native.Mathlib.Nat.{div-eq_of_lt-le, div-div-eq-div-mul, add-mul-div_right}
 use Rattle.std.specs.Prelude.{fold, ◌&&◌, nat_le}
 use Rattle.std.specs.List.{list_all}
-use Rattle.std.proofs.lemmas.Bool.{cases_Bool}
+use Rattle.std.proofs.lemmas.Bool.{and_parts, cases_Bool}
 use Rattle.std.proofs.lemmas.Bool.Decides.{nat_tests}
 use Rattle.std.proofs.lemmas.List.{take_more, take-append-drop}
 use Rattle.std.proofs.lemmas.List.Folds.{list_all-append}
@@ -58,15 +58,6 @@ fraction_rounded w f p h =
     ∙ ap (λ k. (k + 5) / 10) (add-mul-div_right (f * 10000000) (w * 10000000) h)
     ∙ (let e : (f * 10000000 / p + w * 10000000 + 5) / 10 ≡ w * 1000000 + (f * 10000000 / p + 5) / 10 = omega arith in e)
 
--- both sides of an `and`
-pub left_of : (a b : Bool) → (a && b) ≡ true → a ≡ true
-left_of true b h = refl
-left_of false b h = absurd cc
-
-pub right_of : (a b : Bool) → (a && b) ≡ true → b ≡ true
-right_of true b h = h
-right_of false b h = absurd cc
-
 digit_small : (d : ℕ) → is_ascii_digit d ≡ true → d - 48 ≤ 9
 digit_small d h = grind (arith, nat_tests)
 
@@ -74,8 +65,8 @@ digit_small d h = grind (arith, nat_tests)
 below_power : (ds : List ℕ) → list_all is_ascii_digit ds ≡ true → number_of ds < 10 ^ length ds
 below_power [] h = omega arith
 below_power (d ∷ ds) h =
-    let small : d - 48 ≤ 9 = digit_small d (left_of (is_ascii_digit d) (list_all is_ascii_digit ds) h) in
-    let later : number_of ds < 10 ^ length ds = below_power ds (right_of (is_ascii_digit d) (list_all is_ascii_digit ds) h) in
+    let small : d - 48 ≤ 9 = digit_small d (and_parts (is_ascii_digit d) (list_all is_ascii_digit ds) h).0 in
+    let later : number_of ds < 10 ^ length ds = below_power ds (and_parts (is_ascii_digit d) (list_all is_ascii_digit ds) h).1 in
     let split : number_of (d ∷ ds) ≡ (0 * 10 + (d - 48)) * 10 ^ length ds + number_of ds = folded_on (0 * 10 + (d - 48)) ds in
     let bound : (d - 48) * 10 ^ length ds ≤ 9 * 10 ^ length ds = mul-le-mul_right (10 ^ length ds) small in
     omega (arith, ten_more (length ds), split, bound, later)
@@ -90,7 +81,7 @@ seven_first places h =
     let all : list_all is_ascii_digit xs ≡ true = list_all-append is_ascii_digit places (replicate 7 48) ∙ ap (λ b. b && true) h in
     let parts : take 7 xs ++ drop 7 xs ≡ xs = take-append-drop 7 xs in
     let rest : list_all is_ascii_digit (drop 7 xs) ≡ true =
-    right_of (list_all is_ascii_digit (take 7 xs)) (list_all is_ascii_digit (drop 7 xs)) (sym (list_all-append is_ascii_digit (take 7 xs) (drop 7 xs)) ∙ ap (list_all is_ascii_digit) parts ∙ all) in
+    (and_parts (list_all is_ascii_digit (take 7 xs)) (list_all is_ascii_digit (drop 7 xs)) (sym (list_all-append is_ascii_digit (take 7 xs) (drop 7 xs)) ∙ ap (list_all is_ascii_digit) parts ∙ all)).1 in
     let long : length (drop 7 xs) ≡ length places = omega (arith, length-drop 7 xs, length-append places (replicate 7 48)) in
     let p : ℕ = 10 ^ length places in
     let small : number_of (drop 7 xs) < p = rw (← long) (below_power (drop 7 xs) rest) in

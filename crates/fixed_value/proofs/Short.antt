@@ -3,7 +3,7 @@ use Rattle.std.specs.Char.{is_ascii_digit}
 use Rattle.std.proofs.Common.{◌≡◌, ℕ, ◌+◌, ◌-◌, ◌*◌, ◌/◌, ◌^◌, ◌≤◌, ◌<◌, Bool, true, false, Some, List, [], ◌∷◌, ◌++◌, length, take, drop, get_or, refl, ap, sym, ◌∙◌, arith, inl, inr, append_assoc}
 use Rattle.std.specs.Prelude.{◌==◌, ◌&&◌, nat_le, ℤ, nat_abs}
 use Rattle.std.specs.List.{list_all}
-use Rattle.std.proofs.lemmas.Bool.{cases_Bool, eqb-true}
+use Rattle.std.proofs.lemmas.Bool.{and_parts, cases_Bool, eqb-true}
 use Rattle.std.proofs.lemmas.Bool.Decides.{nat_tests}
 use Rattle.std.proofs.lemmas.List.{append-nil}
 use Rattle.std.proofs.lemmas.Nat.{pow-add}
@@ -11,7 +11,7 @@ use Rattle.fixed_value.specs.declared.decimal.Decimal.TheVariants.{Num}
 use Rattle.fixed_value.specs.Decimals.{behind_digits, decimal_from, decimal_of, fraction_of, number_of, places_of, whole_digits}
 use Rattle.fixed_value.specs.Numbers.{nearest, signed}
 use Rattle.fixed_value.specs.Written.{fixed_digits, minus_sign, pointed, scaled, short, without_last_zeros, without_zeros}
-use Rattle.fixed_value.proofs.Places.{left_of, number_of-append, power_positive, quotient_is, right_of}
+use Rattle.fixed_value.proofs.Places.{number_of-append, power_positive, quotient_is}
 use Rattle.fixed_value.proofs.Written as long
 
 -- no digit stands first
@@ -26,8 +26,8 @@ digits_stop (b ∷ bs) h = (rw h refl, rw h refl)
 pub front_digits : (ds rest : List ℕ) → list_all is_ascii_digit ds ≡ true → Stops rest → (whole_digits (ds ++ rest) ≡ ds) × (behind_digits (ds ++ rest) ≡ rest)
 front_digits [] rest all h = digits_stop rest h
 front_digits (d ∷ ds) rest all h =
-    let digit : is_ascii_digit d ≡ true = left_of (is_ascii_digit d) (list_all is_ascii_digit ds) all in
-    let more = front_digits ds rest (right_of (is_ascii_digit d) (list_all is_ascii_digit ds) all) h in
+    let digit : is_ascii_digit d ≡ true = (and_parts (is_ascii_digit d) (list_all is_ascii_digit ds) all).0 in
+    let more = front_digits ds rest (and_parts (is_ascii_digit d) (list_all is_ascii_digit ds) all).1 h in
     (rw digit (ap (λ (l : List ℕ). d ∷ l) more.0), rw digit more.1)
 
 pub point_stops : (ds rest : List ℕ) → Stops rest → Stops (pointed ds ++ rest)
@@ -55,8 +55,8 @@ read_signed false whole places h all later =
 only_zeros : (ds : List ℕ) → list_all (λ e. e == 48) ds ≡ true → (number_of ds ≡ 0) × (list_all is_ascii_digit ds ≡ true)
 only_zeros [] h = (refl, refl)
 only_zeros (d ∷ ds) h =
-    let nought : d ≡ 48 = eqb-true d 48 (left_of (d == 48) (list_all (λ e. e == 48) ds) h) in
-    let more = only_zeros ds (right_of (d == 48) (list_all (λ e. e == 48) ds) h) in
+    let nought : d ≡ 48 = eqb-true d 48 (and_parts (d == 48) (list_all (λ e. e == 48) ds) h).0 in
+    let more = only_zeros ds (and_parts (d == 48) (list_all (λ e. e == 48) ds) h).1 in
     (rw nought more.0, rw nought more.1)
 
 -- what the zeros at the end stand for
@@ -81,7 +81,7 @@ cut (d ∷ ds) = elim (cases_Bool (list_all (λ e. e == 48) (d ∷ ds))) [
     value = λ front. rw other (
         ap (λ (l : List ℕ). number_of l * 10 ^ more.count) (sym (append_assoc front (d ∷ []) (without_last_zeros ds))) ∙ more.value (front ++ d ∷ [])
         ∙ ap number_of (append_assoc front (d ∷ []) ds));
-    digits = λ h. rw other (long_digits d ds (left_of (is_ascii_digit d) (list_all is_ascii_digit ds) h) (more.digits (right_of (is_ascii_digit d) (list_all is_ascii_digit ds) h)));
+    digits = λ h. rw other (long_digits d ds (and_parts (is_ascii_digit d) (list_all is_ascii_digit ds) h).0 (more.digits (and_parts (is_ascii_digit d) (list_all is_ascii_digit ds) h).1));
   })
 ]
   where
@@ -119,10 +119,10 @@ module _ (v : ℤ) (places : ℕ) (within : nat_abs v ≤ 999999999999999) (enou
   some = long.stripped_stays (take 10 (digits v places)) (omega (arith, long.front_long v places within enough))
 
   pub all_whole : list_all is_ascii_digit (whole v places) ≡ true
-  all_whole = long.all_stripped (take 10 (digits v places)) (left_of _ _ both)
+  all_whole = long.all_stripped (take 10 (digits v places)) (and_parts _ _ both).0
 
   pub all_shown : list_all is_ascii_digit (shown v places) ≡ true
-  all_shown = cut_off.digits (right_of _ _ both)
+  all_shown = cut_off.digits (and_parts _ _ both).1
 
   size : nearest (number_of ((whole v places) ++ (shown v places)) * 1000000) (10 ^ length (shown v places)) ≡ nat_abs v
   size =

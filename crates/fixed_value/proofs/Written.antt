@@ -5,7 +5,7 @@ use Rattle.std.proofs.Math.Nat.{mul-le-mul_right}
 use Rattle.std.specs.Int.RustNames.{int_lt}
 use Rattle.std.specs.Prelude.{◌==◌, ◌&&◌, not, nat_le, ℤ, pos, negsuc, nat_abs}
 use Rattle.std.specs.List.{list_all}
-use Rattle.std.proofs.lemmas.Bool.{cases_Bool, eqb-true}
+use Rattle.std.proofs.lemmas.Bool.{and_parts, cases_Bool, eqb-true}
 use Rattle.std.proofs.lemmas.Bool.Decides.{nat_tests}
 use Rattle.std.proofs.lemmas.Nat.{pow-add}
 use Rattle.std.proofs.lemmas.Int.{ints}
@@ -15,7 +15,7 @@ use Rattle.fixed_value.specs.declared.decimal.Decimal.TheVariants.{Num}
 use Rattle.fixed_value.specs.Decimals.{behind_digits, decimal_from, decimal_of, fraction_of, is_minus, number_of, whole_digits, without_sign}
 use Rattle.fixed_value.specs.Numbers.{nearest, signed}
 use Rattle.fixed_value.specs.Written.{fixed_digits, minus_sign, pointed, scaled, without_zeros, written}
-use Rattle.fixed_value.proofs.Places.{left_of, number_of-append, number_of-more, power_positive, quotient_is, right_of, ten_more}
+use Rattle.fixed_value.proofs.Places.{number_of-append, number_of-more, power_positive, quotient_is, ten_more}
 
 pub fixed_digits_length : (k n : ℕ) → length (fixed_digits k n) ≡ k
 fixed_digits_length zero n = refl
@@ -45,7 +45,7 @@ pub all_stripped : (ds : List ℕ) → list_all is_ascii_digit ds ≡ true → l
 all_stripped [] h = refl
 all_stripped (d ∷ []) h = h
 all_stripped (d ∷ e ∷ ds) h = elim (cases_Bool (d == 48)) [
-  | inl nought ↦ rw nought (all_stripped (e ∷ ds) (right_of (is_ascii_digit d) (list_all is_ascii_digit (e ∷ ds)) h))
+  | inl nought ↦ rw nought (all_stripped (e ∷ ds) (and_parts (is_ascii_digit d) (list_all is_ascii_digit (e ∷ ds)) h).1)
   | inr other ↦ rw other h
 ]
 
@@ -61,14 +61,14 @@ stripped_stays (d ∷ e ∷ ds) h = elim (cases_Bool (d == 48)) [
 whole_to_point : (ds rest : List ℕ) → list_all is_ascii_digit ds ≡ true → whole_digits (ds ++ 46 ∷ rest) ≡ ds
 whole_to_point [] rest h = refl
 whole_to_point (d ∷ ds) rest h =
-    let digit : is_ascii_digit d ≡ true = left_of (is_ascii_digit d) (list_all is_ascii_digit ds) h in
-    rw digit (ap (λ (l : List ℕ). d ∷ l) (whole_to_point ds rest (right_of (is_ascii_digit d) (list_all is_ascii_digit ds) h)))
+    let digit : is_ascii_digit d ≡ true = (and_parts (is_ascii_digit d) (list_all is_ascii_digit ds) h).0 in
+    rw digit (ap (λ (l : List ℕ). d ∷ l) (whole_to_point ds rest (and_parts (is_ascii_digit d) (list_all is_ascii_digit ds) h).1))
 
 behind_to_point : (ds rest : List ℕ) → list_all is_ascii_digit ds ≡ true → behind_digits (ds ++ 46 ∷ rest) ≡ 46 ∷ rest
 behind_to_point [] rest h = refl
 behind_to_point (d ∷ ds) rest h =
-    let digit : is_ascii_digit d ≡ true = left_of (is_ascii_digit d) (list_all is_ascii_digit ds) h in
-    rw digit (behind_to_point ds rest (right_of (is_ascii_digit d) (list_all is_ascii_digit ds) h))
+    let digit : is_ascii_digit d ≡ true = (and_parts (is_ascii_digit d) (list_all is_ascii_digit ds) h).0 in
+    rw digit (behind_to_point ds rest (and_parts (is_ascii_digit d) (list_all is_ascii_digit ds) h).1)
 
 pub from_digits : (minus : Bool) (whole places : List ℕ) → 0 < length whole → decimal_from minus whole (Some places) ≡ fraction_of minus whole places
 from_digits minus [] places h = absurd (omega arith)
@@ -78,7 +78,7 @@ from_digits minus (w ∷ ws) places h = refl
 pub no_sign : (ds rest : List ℕ) → 0 < length ds → list_all is_ascii_digit ds ≡ true → (without_sign (ds ++ rest) ≡ ds ++ rest) × (is_minus (ds ++ rest) ≡ false)
 no_sign [] rest h all = absurd (omega arith)
 no_sign (d ∷ ds) rest h all =
-    let digit : is_ascii_digit d ≡ true = left_of (is_ascii_digit d) (list_all is_ascii_digit ds) all in
+    let digit : is_ascii_digit d ≡ true = (and_parts (is_ascii_digit d) (list_all is_ascii_digit ds) all).0 in
     let plus : (d == 43) ≡ false = grind (arith, nat_tests, digit) in
     let minus : (d == 45) ≡ false = grind (arith, nat_tests, digit) in
     (rw (plus, minus) refl, minus)
@@ -164,7 +164,7 @@ module _ (v : ℤ) (places : ℕ) (within : nat_abs v ≤ 999999999999999) (enou
   read_back =
       let minus : Bool = sign_with v (scaled v places) in
       let read : decimal_of (minus_sign minus ++ (whole ++ 46 ∷ behind)) ≡ fraction_of minus whole behind =
-      read_signed minus whole behind (stripped_stays (take 10 digits) (omega (arith, front_long))) (all_stripped (take 10 digits) (left_of _ _ both)) (right_of _ _ both) in
+      read_signed minus whole behind (stripped_stays (take 10 digits) (omega (arith, front_long))) (all_stripped (take 10 digits) (and_parts _ _ both).0) (and_parts _ _ both).1 in
       let point : pointed behind ≡ 46 ∷ behind = pointed_more behind (omega (arith, long)) in
       let value : fraction_of minus whole behind ≡ Num (signed minus (nat_abs v)) = (let test : nat_le (nat_abs v) 999999999999999 ≡ true = grind (arith, nat_tests, within) in rw (size, test) refl) in
       ap (λ (l : List ℕ). decimal_of (minus_sign minus ++ (whole ++ l))) point ∙ read ∙ value ∙ ap (λ z. Num z) (signed_back v (scaled v places) unit (power_positive (places - 6)) exact)

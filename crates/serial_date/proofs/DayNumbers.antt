@@ -1,7 +1,7 @@
 -- Dates by their day numbers.
 use Rattle.std.proofs.Common.{◌≡◌, ℕ, zero, suc, ◌+◌, ◌-◌, ◌*◌, ◌/◌, ◌%◌, ◌≤◌, ◌<◌, nat_le, Bool, true, false, refl, sym, ap, ◌∙◌, subst, arith, ℤ, pos, negsuc, inl, inr, Option, Some, None}
 use Rattle.std.specs.Prelude.{◌&&◌, unsigned_abs}
-use Rattle.std.proofs.lemmas.Bool.{cases_Bool}
+use Rattle.std.proofs.lemmas.Bool.{and_parts, cases_Bool}
 use Rattle.std.proofs.lemmas.Bool.Decides.{nat_tests}
 use Rattle.serial_date.specs.declared.calendar.Civil.{Civil}
 use Rattle.serial_date.specs.Calendar.{date_at, date_of, day_number, days_in_month, days_in_year, is_between, is_date, is_leap, number_of, piece_of, total}
@@ -87,14 +87,6 @@ has_date n more below =
       number = omega (arith, year.is, month.is, ap (total days_in_year 1900) year_is, ap (total (days_in_month y) 1) month_is);
     }
 
-left_of : (a b : Bool) → (a && b) ≡ true → a ≡ true
-left_of true b h = refl
-left_of false b h = absurd cc
-
-right_of : (a b : Bool) → (a && b) ≡ true → b ≡ true
-right_of true b h = h
-right_of false b h = absurd cc
-
 -- a signed number within bounds
 pub record IsSmall (low high : ℕ) (z : ℤ) : Type 0 where
   pub n : ℕ
@@ -121,10 +113,10 @@ pub record IsTested (y m d : ℤ) : Type 0 where
 
 pub tested : (y m d : ℤ) → is_date y m d ≡ true → IsTested y m d
 tested y m d h =
-    let later : (is_between 1 12 m && is_between 1 (days_in_month (unsigned_abs y) (unsigned_abs m)) d) ≡ true = right_of (is_between 1900 2099 y) (is_between 1 12 m && is_between 1 (days_in_month (unsigned_abs y) (unsigned_abs m)) d) h in
-    let year : IsSmall 1900 2099 y = is_small 1900 2099 y (left_of (is_between 1900 2099 y) (is_between 1 12 m && is_between 1 (days_in_month (unsigned_abs y) (unsigned_abs m)) d) h) in
-    let month : IsSmall 1 12 m = is_small 1 12 m (left_of (is_between 1 12 m) (is_between 1 (days_in_month (unsigned_abs y) (unsigned_abs m)) d) later) in
-    let day : IsSmall 1 (days_in_month (unsigned_abs y) (unsigned_abs m)) d = is_small 1 (days_in_month (unsigned_abs y) (unsigned_abs m)) d (right_of (is_between 1 12 m) (is_between 1 (days_in_month (unsigned_abs y) (unsigned_abs m)) d) later) in
+    let later : (is_between 1 12 m && is_between 1 (days_in_month (unsigned_abs y) (unsigned_abs m)) d) ≡ true = (and_parts (is_between 1900 2099 y) (is_between 1 12 m && is_between 1 (days_in_month (unsigned_abs y) (unsigned_abs m)) d) h).1 in
+    let year : IsSmall 1900 2099 y = is_small 1900 2099 y (and_parts (is_between 1900 2099 y) (is_between 1 12 m && is_between 1 (days_in_month (unsigned_abs y) (unsigned_abs m)) d) h).0 in
+    let month : IsSmall 1 12 m = is_small 1 12 m (and_parts (is_between 1 12 m) (is_between 1 (days_in_month (unsigned_abs y) (unsigned_abs m)) d) later).0 in
+    let day : IsSmall 1 (days_in_month (unsigned_abs y) (unsigned_abs m)) d = is_small 1 (days_in_month (unsigned_abs y) (unsigned_abs m)) d (and_parts (is_between 1 12 m) (is_between 1 (days_in_month (unsigned_abs y) (unsigned_abs m)) d) later).1 in
     record {
       year = year.n;
       month = month.n;
