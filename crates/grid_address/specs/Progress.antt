@@ -15,7 +15,8 @@ IsRead Nothing bytes = bytes ≡ []
 IsRead (Letter c) bytes = (map to_ascii_uppercase bytes ≡ (ascii.capital_a + c) ∷ []) × (c < 26)
 IsRead (Column c) bytes =
     (map to_ascii_uppercase bytes ≡ (before_a + c / 26) ∷ (ascii.capital_a + c % 26) ∷ []) × (26 ≤ c) × (c < COLUMNS)
-IsRead (Row c n) bytes = (map to_ascii_uppercase bytes ≡ column_name c ++ decimal n) × (c < COLUMNS) × (1 ≤ n) × (n ≤ ROWS)
+IsRead (Row c n) bytes =
+    (map to_ascii_uppercase bytes ≡ column_name c ++ decimal n) × (c < COLUMNS) × (1 ≤ n) × (n ≤ ROWS)
 
 -- a row's number begins with 1 to 9
 abbrev pub first_digit : ℕ → ℕ → Option Progress
