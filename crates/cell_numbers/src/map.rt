@@ -7,7 +7,7 @@ ghost use Rattle.grid_address.specs.Place.{same_place, InSheet, Place};
 ghost use Rattle.cell_numbers.specs.Numbers.{band_of, number_at};
 
 use crate::{Held, PlaceTable};
-use grid_address::Cell;
+use grid_address::{COLUMNS, Cell};
 use std::alloc::{AllocError, Global};
 use std::marker::Model;
 
@@ -98,7 +98,7 @@ impl<T> CellMap<T> {
     /// A column from the cell's on, up to 256, before which no cell of its band of 256 rows has an item, from its own
     /// column on.
     pub fn next_column(&self, cell: Cell) -> u16
-        ensures within { (cell.col ≤ result) × (result ≤ 256) }
+        ensures within { (cell.col ≤ result) × (result ≤ COLUMNS) }
         ensures none { (c : Place) → InSheet c → band_of c ≡ band_of cell → cell.col ≤ c.col → c.col < result →
             map.get self.now c ≡ None }
     {

@@ -3,24 +3,21 @@ ghost use Rattle.std.specs.Prelude.{◌≡◌, false, true, ℕ, ◌<◌, ◌≤
 ghost use Rattle.grid_address.specs.Place.{same_place, InSheet, Place};
 ghost use Rattle.cell_numbers.specs.Numbers.{band_of, number_at, page_of, place_of, HasRoom, items_of};
 
-use grid_address::Cell;
+use grid_address::{COLUMNS, Cell};
 use std::alloc::{AllocError, Global};
 use std::marker::Model;
 
 /// How many rows a page has.
-const ROWS: u16 = 256;
+const PAGE_ROWS: u16 = 256;
 
 /// How many columns a page has.
-const COLUMNS: u8 = 4;
+const PAGE_COLUMNS: u8 = 4;
 
 /// How many pages lie side by side.
 const PAGES: usize = 64;
 
 /// How many places a page has.
 const PLACES: usize = 1_024;
-
-/// How many columns a sheet has.
-const ALL_COLUMNS: u16 = 256;
 
 /// A number for each place of the sheet; 0 stands for none. The places lie in pages of 256 rows and 4 columns, and a
 /// page without a number takes no room but its head's.
@@ -43,7 +40,7 @@ impl Model for PlaceTable {
 fn page_of(cell: Cell) -> usize
     ensures { result ≡ page_of cell }
 {
-    usize::from(cell.row / ROWS) * PAGES + usize::from(cell.col / COLUMNS)
+    usize::from(cell.row / PAGE_ROWS) * PAGES + usize::from(cell.col / PAGE_COLUMNS)
 }
 
 // The place of a cell in its page.
@@ -51,7 +48,7 @@ fn place_of(cell: Cell) -> usize
     ensures place { result ≡ place_of cell }
     ensures below { result < 1024 }
 {
-    usize::from(cell.row % ROWS) * 4 + usize::from(cell.col % COLUMNS)
+    usize::from(cell.row % PAGE_ROWS) * 4 + usize::from(cell.col % PAGE_COLUMNS)
 }
 
 // Adds empty pages, up to this one.
@@ -113,12 +110,12 @@ impl PlaceTable {
     /// A column from the cell's on, up to 256, before which no place of the cell's band of 256 rows has a number, from
     /// the cell's column on.
     pub fn next_column(&self, cell: Cell) -> u16
-        ensures within { (cell.col ≤ result) × (result ≤ 256) }
+        ensures within { (cell.col ≤ result) × (result ≤ COLUMNS) }
         ensures none { (d : Place) → InSheet d → band_of d ≡ band_of cell → cell.col ≤ d.col → d.col < result →
             number_at self.now d ≡ 0 }
     {
         let mut col = u16::from(cell.col);
-        while col < ALL_COLUMNS {
+        while col < COLUMNS {
             let place = Cell {
                 row: cell.row,
                 col: col as u8,
