@@ -8,13 +8,10 @@ ghost use Rattle.range_index.specs.Registered.{has_place, owned, registration_cm
 use crate::block::{Block, Size, block_at};
 use crate::owners::owns;
 use crate::register::Registration;
-use grid_address::{Cell, CellList, LAST_ROW, SpanList};
+use grid_address::{Cell, CellList, LAST_COLUMN, LAST_ROW, SpanList};
 use lics_text::Memory;
 use std::alloc::Global;
 use std::collections::{BTreeMap, BTreeSet};
-
-// The last column of the sheet.
-const LAST_COLUMN: u8 = 255;
 
 // Adds an owner to those that were found.
 fn add(found: &mut BTreeSet<Cell>, owner: Cell) -> Result<(), Memory>
