@@ -10,7 +10,7 @@ use Rattle.std.specs.FinMap.{empty, entries, entries_sorted, find, get, get-empt
 use Rattle.std.specs.FinMap.Entries.{below_all, find_tied}
 use Rattle.std.specs.Cmp.{tied_itself}
 use Rattle.std.specs.Cmp.Lexicographic.{nat_list_cmp_total}
-use Rattle.std.proofs.lemmas.Bool.{cases_Bool}
+use Rattle.std.proofs.lemmas.Bool.{and_parts, cases_Bool}
 use Rattle.std.proofs.lemmas.Bool.Decides.{nat_tests}
 use Rattle.std.proofs.lemmas.List.{length-map}
 use Rattle.grid_address.specs.Place.{Extent}
@@ -18,12 +18,6 @@ use Rattle.range_names.specs.declared.fault.NameFault.{NameFault}
 use Rattle.range_names.specs.declared.fault.NameFault.TheVariants.{Empty, TooLong}
 use Rattle.range_names.proofs.NameMaps.{names_exact, some_is_none}
 use Rattle.range_names.specs.Names.{bad_byte, bad_place, fault_of, key_of, is_plain, name_cmp, name_in, name_of_span, named, same_extent, AreKeys, IsKey, NameMap}
-
-left : (a b : Bool) → (a && b) ≡ true → a ≡ true
-left a b p = grind arith
-
-right : (a b : Bool) → (a && b) ≡ true → b ≡ true
-right a b p = grind arith
 
 -- no byte is 0
 abbrev Filled : List ℕ → Type 0
@@ -170,9 +164,9 @@ entry_of [] span name s h = absurd cc
 entry_of (e ∷ es) span name s h = elim (cases_Bool (same_extent e.1 span && is_plain (name_in e.0))) [
   | inl same ↦ (let is : name_in e.0 ≡ name = some_is _ _ (sym (ap (λ c. cond c (Some (name_in e.0)) (named span es)) same) ∙ h) in record {
     key = e.0;
-    found = ap (λ c. cond c (Some e.1) (find name_cmp e.0 es)) (ap is_eq (tied_itself nat_list_cmp_total e.0)) ∙ ap (λ x. Some x) (same_is e.1 span (left _ _ same));
+    found = ap (λ c. cond c (Some e.1) (find name_cmp e.0 es)) (ap is_eq (tied_itself nat_list_cmp_total e.0)) ∙ ap (λ x. Some x) (same_is e.1 span (and_parts _ _ same).0);
     named = is;
-    plain = ap is_plain (sym is) ∙ right _ _ same;
+    plain = ap is_plain (sym is) ∙ (and_parts _ _ same).1;
   })
   | inr other ↦ (
       let order = parted (below_all name_cmp e.0 es) (is_sorted name_cmp es) s in
