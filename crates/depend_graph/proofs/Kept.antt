@@ -14,7 +14,8 @@ use Rattle.grid_address.proofs.Places.{cells_exact, cells_total, same_place_is, 
 use Rattle.grid_address.specs.Place.{place_cmp, same_place, Extent, Place}
 use Rattle.range_index.specs.Owners.{Owners}
 use Rattle.depend_graph.specs.Banks.{spans_at, wide, AreOthersKept}
-use Rattle.depend_graph.specs.Slots.{filled, had, offer_in, offering, picked, placed, side, somes, turned, turned_to, with_some, without_node, without_offer, AreRegistered, IsRegistered, Slots, Stands}
+use Rattle.depend_graph.specs.Slots.{filled, had, offer_in, offering, picked, placed, side, somes, turned, turned_to, with_some, without, AreRegistered, IsRegistered, Slots, Stands}
+use Rattle.depend_graph.specs.declared.slots.Part.TheVariants.{Formula, Offer}
 use Rattle.depend_graph.specs.declared.node.Node.{Node}
 use Rattle.depend_graph.specs.declared.slots.Slot.{Slot}
 use Rattle.depend_graph.proofs.Placed.{get_placed, placed_same}
@@ -102,7 +103,7 @@ module _ (m : Slots) (even odd even' odd' : Owners) (b : Bool) (c : Place) (kept
   pub offer_stands : (s : Slot) → get m c ≡ Some s → b ≡ s.is_odd → Stands s.offer (spans_at even' odd' (not s.is_odd) c)
   offer_stands s e own = stands_at s.offer _ _ (kept (not s.is_odd) c (inr (λ x. apart_not s.is_odd (sym (x ∙ own))))) (all c s e).offer
 
-  unoffered : (o : Option Slot) → get m c ≡ o → b ≡ not (side o) → (s : Slot) → without_offer o ≡ Some s → IsRegistered even' odd' c s
+  unoffered : (o : Option Slot) → get m c ≡ o → b ≡ not (side o) → (s : Slot) → without Offer o ≡ Some s → IsRegistered even' odd' c s
   unoffered None e other s h = absurd (none_some s h)
   unoffered (Some x) e other s h = with x.node (node_stands x e other) h
     where
@@ -111,10 +112,10 @@ module _ (m : Slots) (even odd even' odd' : Owners) (b : Bool) (c : Place) (kept
       with (Some k) n h = subst (λ (t : Slot). IsRegistered even' odd' c t) (some_is _ _ h) (record { node = n; offer = tt })
 
   -- without its offer, where the other index changed
-  pub unoffered_registered : b ≡ not (side (get m c)) → AreRegistered (placed m c (without_offer (get m c))) even' odd'
-  unoffered_registered other = placed_registered (without_offer (get m c)) (unoffered (get m c) refl other)
+  pub unoffered_registered : b ≡ not (side (get m c)) → AreRegistered (placed m c (without Offer (get m c))) even' odd'
+  unoffered_registered other = placed_registered (without Offer (get m c)) (unoffered (get m c) refl other)
 
-  unformed : (o : Option Slot) → get m c ≡ o → b ≡ side o → (s : Slot) → without_node o ≡ Some s → IsRegistered even' odd' c s
+  unformed : (o : Option Slot) → get m c ≡ o → b ≡ side o → (s : Slot) → without Formula o ≡ Some s → IsRegistered even' odd' c s
   unformed None e own s h = absurd (none_some s h)
   unformed (Some x) e own s h = with x.offer (offer_stands x e own) h
     where
@@ -123,8 +124,8 @@ module _ (m : Slots) (even odd even' odd' : Owners) (b : Bool) (c : Place) (kept
       with (Some k) n h = subst (λ (t : Slot). IsRegistered even' odd' c t) (some_is _ _ h) (record { node = tt; offer = n })
 
   -- without its formula, where its own index changed
-  pub unformed_registered : b ≡ side (get m c) → AreRegistered (placed m c (without_node (get m c))) even' odd'
-  unformed_registered own = placed_registered (without_node (get m c)) (unformed (get m c) refl own)
+  pub unformed_registered : b ≡ side (get m c) → AreRegistered (placed m c (without Formula (get m c))) even' odd'
+  unformed_registered own = placed_registered (without Formula (get m c)) (unformed (get m c) refl own)
 
   turned_here : (o : Option Slot) → get m c ≡ o → is_some (had offer_in o) ≡ true → b ≡ side o → (s : Slot) → turned o ≡ Some s → IsRegistered even' odd' c s
   turned_here None e some own s h = absurd (none_some s h)

@@ -15,7 +15,8 @@ use Rattle.range_index.specs.Owners.{hold}
 use Rattle.depend_graph.proofs.Placed.{get_placed}
 use Rattle.depend_graph.specs.Banks.{is_one}
 use Rattle.depend_graph.specs.Lists.{items_in, list_at, AreInLists, AreKept, IsInLists, IsInListsOf, IsListed, Lists}
-use Rattle.depend_graph.specs.Slots.{filled, offering, placed, turned, turned_to, without_node, without_offer, Slots}
+use Rattle.depend_graph.specs.Slots.{filled, offering, placed, turned, turned_to, without, Slots}
+use Rattle.depend_graph.specs.declared.slots.Part.TheVariants.{Formula, Offer}
 use Rattle.depend_graph.specs.declared.node.Node.{Node}
 use Rattle.depend_graph.specs.declared.slots.Slot.{Slot}
 
@@ -118,7 +119,7 @@ module _ (m : Slots) (lists : Lists) (all : AreInLists m lists) (c : Place) wher
     | inr f ↦ all d s (sym (get_placed m c o d ∙ ap (λ x. cond x o (get m d)) f) ∙ h)
   ]
 
-  unoffered : (o : Option Slot) → get m c ≡ o → (s : Slot) → without_offer o ≡ Some s → IsInLists lists c s
+  unoffered : (o : Option Slot) → get m c ≡ o → (s : Slot) → without Offer o ≡ Some s → IsInLists lists c s
   unoffered None e s h = absurd (none_some s h)
   unoffered (Some x) e s h = with x.node (all c x e).node h
     where
@@ -127,10 +128,10 @@ module _ (m : Slots) (lists : Lists) (all : AreInLists m lists) (c : Place) wher
       with (Some k) n h = subst (λ (t : Slot). IsInLists lists c t) (some_is _ _ h) (record { node = n; offer = tt })
 
   -- without its offer
-  pub unoffered_listed : AreInLists (placed m c (without_offer (get m c))) lists
-  unoffered_listed = placed_listed (without_offer (get m c)) (unoffered (get m c) refl)
+  pub unoffered_listed : AreInLists (placed m c (without Offer (get m c))) lists
+  unoffered_listed = placed_listed (without Offer (get m c)) (unoffered (get m c) refl)
 
-  unformed : (o : Option Slot) → get m c ≡ o → (s : Slot) → without_node o ≡ Some s → IsInLists lists c s
+  unformed : (o : Option Slot) → get m c ≡ o → (s : Slot) → without Formula o ≡ Some s → IsInLists lists c s
   unformed None e s h = absurd (none_some s h)
   unformed (Some x) e s h = with x.offer (all c x e).offer h
     where
@@ -139,8 +140,8 @@ module _ (m : Slots) (lists : Lists) (all : AreInLists m lists) (c : Place) wher
       with (Some k) n h = subst (λ (t : Slot). IsInLists lists c t) (some_is _ _ h) (record { node = tt; offer = n })
 
   -- without its formula
-  pub unformed_listed : AreInLists (placed m c (without_node (get m c))) lists
-  unformed_listed = placed_listed (without_node (get m c)) (unformed (get m c) refl)
+  pub unformed_listed : AreInLists (placed m c (without Formula (get m c))) lists
+  unformed_listed = placed_listed (without Formula (get m c)) (unformed (get m c) refl)
 
   turned_here : (o : Option Slot) → get m c ≡ o → (s : Slot) → turned o ≡ Some s → IsInLists lists c s
   turned_here None e s h = absurd (none_some s h)
@@ -163,5 +164,5 @@ module _ (m : Slots) (lists : Lists) (all : AreInLists m lists) (c : Place) wher
   offering_listed n l = placed_listed (Some (offering (get m c) n)) (offering_here (get m c) n refl l)
 
 -- without its offer, where lists have grown
-pub listed_on : (m m1 : Slots) (a b : Lists) (c : Place) → m1 ≡ placed m c (without_offer (get m c)) → AreInLists m a → AreKept a b → AreInLists m1 b
+pub listed_on : (m m1 : Slots) (a b : Lists) (c : Place) → m1 ≡ placed m c (without Offer (get m c)) → AreInLists m a → AreKept a b → AreInLists m1 b
 listed_on m m1 a b c is all kept = all_kept m1 a b kept (subst (λ (x : Slots). AreInLists x a) (sym is) (unoffered_listed m a all c))

@@ -5,8 +5,9 @@ use Rattle.std.proofs.Common.{sym, ◌∙◌, ap, inl, inr}
 use Rattle.std.proofs.lemmas.Bool.{cases_Bool, true≢false}
 use Rattle.grid_address.proofs.Places.{get_inserted, get_removed, same_place_is, same_places}
 use Rattle.grid_address.specs.Place.{place_cmp, same_place, Place}
-use Rattle.depend_graph.specs.Slots.{filled, had, node_in, offer_in, placed, without_node, without_offer}
+use Rattle.depend_graph.specs.Slots.{cleared, filled, had, other_in, placed, without}
 use Rattle.depend_graph.specs.declared.node.Node.{Node}
+use Rattle.depend_graph.specs.declared.slots.Part.{Part}
 use Rattle.depend_graph.specs.declared.slots.Slot.{Slot}
 
 pub get_placed : {X : Type 0} (m : FinMap place_cmp X) (c : Place) (o : Option X) (q : Place) → get (placed m c o) q ≡ cond (same_place q c) o (get m q)
@@ -27,16 +28,11 @@ filled_none : (o : Option Node) (s : Slot) → is_some o ≡ false → filled o 
 filled_none None s h = refl
 filled_none (Some n) s h = absurd (true≢false h)
 
-pub node_out : (o : Option Slot) → is_some (had offer_in o) ≡ false → without_node o ≡ None
-node_out None h = refl
-node_out (Some s) h = filled_none s.offer (record s { node = None }) h
+-- a slot that has only the one is taken out with it
+pub part_out : (p : Part) (o : Option Slot) → is_some (had (other_in p) o) ≡ false → without p o ≡ None
+part_out p None h = refl
+part_out p (Some s) h = filled_none (other_in p s) (cleared p s) h
 
-pub node_cleared : (s : Slot) → is_some s.offer ≡ true → without_node (Some s) ≡ Some (record s { node = None })
-node_cleared s h = filled_some s.offer (record s { node = None }) h
-
-pub offer_out : (o : Option Slot) → is_some (had node_in o) ≡ false → without_offer o ≡ None
-offer_out None h = refl
-offer_out (Some s) h = filled_none s.node (record s { offer = None }) h
-
-pub offer_cleared : (s : Slot) → is_some s.node ≡ true → without_offer (Some s) ≡ Some (record s { offer = None })
-offer_cleared s h = filled_some s.node (record s { offer = None }) h
+-- and one that has the other stays
+pub part_cleared : (p : Part) (s : Slot) → is_some (other_in p s) ≡ true → without p (Some s) ≡ Some (cleared p s)
+part_cleared p s h = filled_some (other_in p s) (cleared p s) h

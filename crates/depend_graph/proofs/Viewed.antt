@@ -6,7 +6,8 @@ use Rattle.std.proofs.lemmas.Bool.{true≢false}
 use Rattle.grid_address.proofs.Places.{get_inserted, get_removed, same_place_itself, same_places}
 use Rattle.grid_address.specs.Place.{same_place, Place}
 use Rattle.depend_graph.specs.Network.{accepted, dropped, network_of, offered, put, taken, withdrawn, Network}
-use Rattle.depend_graph.specs.Slots.{filled, had, node_in, offer_in, offering, picked, placed, turned, turned_to, without_node, without_offer, Nodes, Slots}
+use Rattle.depend_graph.specs.Slots.{filled, had, node_in, offer_in, offering, picked, placed, turned, turned_to, without, Nodes, Slots}
+use Rattle.depend_graph.specs.declared.slots.Part.TheVariants.{Formula, Offer}
 use Rattle.depend_graph.specs.declared.node.Node.{Node}
 use Rattle.depend_graph.specs.declared.slots.Slot.{Slot}
 use Rattle.depend_graph.proofs.Kept.{get_picked, picked_placed, picked_same}
@@ -14,7 +15,7 @@ use Rattle.depend_graph.proofs.Kept.{get_picked, picked_placed, picked_same}
 both : {a b : Nodes} {x y : Nodes} → a ≡ b → x ≡ y → ◌≡◌ {A = Network} (record { formulas = a; offers = x }) (record { formulas = b; offers = y })
 both {b = b} {x = x} e f = ap {B = Network} (λ (m : Nodes). record { formulas = m; offers = x }) e ∙ ap {B = Network} (λ (m : Nodes). record { formulas = b; offers = m }) f
 
-node_without : (o : Option Slot) → had node_in (without_offer o) ≡ had node_in o
+node_without : (o : Option Slot) → had node_in (without Offer o) ≡ had node_in o
 node_without None = refl
 node_without (Some s) = with s.node
   where
@@ -22,7 +23,7 @@ node_without (Some s) = with s.node
     with None = refl
     with (Some n) = refl
 
-offer_without : (o : Option Slot) → had offer_in (without_offer o) ≡ None
+offer_without : (o : Option Slot) → had offer_in (without Offer o) ≡ None
 offer_without None = refl
 offer_without (Some s) = with s.node
   where
@@ -30,7 +31,7 @@ offer_without (Some s) = with s.node
     with None = refl
     with (Some n) = refl
 
-offer_with : (o : Option Slot) → had offer_in (without_node o) ≡ had offer_in o
+offer_with : (o : Option Slot) → had offer_in (without Formula o) ≡ had offer_in o
 offer_with None = refl
 offer_with (Some s) = with s.offer
   where
@@ -38,7 +39,7 @@ offer_with (Some s) = with s.offer
     with None = refl
     with (Some n) = refl
 
-node_with : (o : Option Slot) → had node_in (without_node o) ≡ None
+node_with : (o : Option Slot) → had node_in (without Formula o) ≡ None
 node_with None = refl
 node_with (Some s) = with s.offer
   where
@@ -46,13 +47,13 @@ node_with (Some s) = with s.offer
     with None = refl
     with (Some n) = refl
 
-pub viewed_withdrawn : (m : Slots) (c : Place) → network_of (placed m c (without_offer (get m c))) ≡ withdrawn (network_of m) c
-viewed_withdrawn m c = both (picked_same node_in m c (without_offer (get m c)) (node_without (get m c)))
-    (picked_placed offer_in m c (without_offer (get m c)) ∙ ap (placed (picked offer_in m) c) (offer_without (get m c)))
+pub viewed_withdrawn : (m : Slots) (c : Place) → network_of (placed m c (without Offer (get m c))) ≡ withdrawn (network_of m) c
+viewed_withdrawn m c = both (picked_same node_in m c (without Offer (get m c)) (node_without (get m c)))
+    (picked_placed offer_in m c (without Offer (get m c)) ∙ ap (placed (picked offer_in m) c) (offer_without (get m c)))
 
-pub viewed_dropped : (m : Slots) (c : Place) → network_of (placed m c (without_node (get m c))) ≡ dropped (network_of m) c
-viewed_dropped m c = both (picked_placed node_in m c (without_node (get m c)) ∙ ap (placed (picked node_in m) c) (node_with (get m c)))
-    (picked_same offer_in m c (without_node (get m c)) (offer_with (get m c)))
+pub viewed_dropped : (m : Slots) (c : Place) → network_of (placed m c (without Formula (get m c))) ≡ dropped (network_of m) c
+viewed_dropped m c = both (picked_placed node_in m c (without Formula (get m c)) ∙ ap (placed (picked node_in m) c) (node_with (get m c)))
+    (picked_same offer_in m c (without Formula (get m c)) (offer_with (get m c)))
 
 node_offering : (o : Option Slot) (n : Node) → had node_in (Some (offering o n)) ≡ had node_in o
 node_offering None n = refl

@@ -5,6 +5,8 @@ use Rattle.grid_address.specs.Place.{place_cmp, Extent, Place}
 use Rattle.range_index.specs.Owners.{Owners}
 use Rattle.depend_graph.specs.Banks.{spans_at, wide}
 use Rattle.depend_graph.specs.declared.node.Node.{Node}
+use Rattle.depend_graph.specs.declared.slots.Part.{Part}
+use Rattle.depend_graph.specs.declared.slots.Part.TheVariants.{Formula, Offer}
 use Rattle.depend_graph.specs.declared.slots.Slot.{Slot}
 
 -- all cells that have a formula or an offer, in one map
@@ -72,15 +74,20 @@ abbrev pub filled : Option Node → Slot → Option Slot
 filled None s = None
 filled (Some n) s = Some s
 
--- what is left of a slot whose offer is given up
-abbrev pub without_offer : Option Slot → Option Slot
-without_offer None = None
-without_offer (Some s) = filled s.node (record s { offer = None })
+-- the other of the two that a slot may have
+abbrev pub other_in : Part → Slot → Option Node
+other_in Formula s = s.offer
+other_in Offer s = s.node
 
--- what is left of a slot whose formula is dropped
-abbrev pub without_node : Option Slot → Option Slot
-without_node None = None
-without_node (Some s) = filled s.offer (record s { node = None })
+-- a slot without one of the two
+abbrev pub cleared : Part → Slot → Slot
+cleared Formula s = record s { node = None }
+cleared Offer s = record s { offer = None }
+
+-- what is left of a slot whose formula is dropped, or whose offer is given up
+abbrev pub without : Part → Option Slot → Option Slot
+without part None = None
+without part (Some s) = filled (other_in part s) (cleared part s)
 
 -- the wide spans of a node, if there is one, are these
 abbrev pub Stands : Option Node → List Extent → Type 0

@@ -13,7 +13,7 @@ use crate::closure::closure;
 use crate::in_order::is_in_order;
 use crate::lists::{Lists, add_all};
 use crate::readers::add_readers;
-use crate::slots::{Slot, drop_node, drop_offer, has_offer, node_of, put_offer, side, turn};
+use crate::slots::{Part, Slot, drop_part, has_offer, node_of, put_offer, side, turn};
 use crate::spread::{Spread, are_same, is_of, list_of, spread_of};
 use cell_numbers::CellMap;
 use grid_address::{Cell, CellList, SpanList};
@@ -87,7 +87,7 @@ impl Graph {
         ensures err { OnErr result (self.new ≡ withdrawn self.old cell) }
     {
         self.spread = None;
-        drop_offer(&mut self.slots, cell);
+        drop_part(&mut self.slots, cell, Part::Offer);
         add_all(&mut self.lists, self.alloc, node.reads.as_slice(), cell)?;
         let is_odd = !side(&self.slots, cell);
         self.banks.fill(is_odd, cell, &node.reads)?;
@@ -112,7 +112,7 @@ impl Graph {
         ensures { self.new ≡ withdrawn self.old cell }
     {
         let is_odd = !side(&self.slots, cell);
-        drop_offer(&mut self.slots, cell);
+        drop_part(&mut self.slots, cell, Part::Offer);
         self.banks.clear(is_odd, cell);
     }
 
@@ -125,7 +125,7 @@ impl Graph {
         }
         self.spread = None;
         let is_odd = side(&self.slots, cell);
-        drop_node(&mut self.slots, cell);
+        drop_part(&mut self.slots, cell, Part::Formula);
         self.banks.clear(is_odd, cell);
     }
 

@@ -1,7 +1,7 @@
 // The formula of each cell, with the one that it will have.
 ghost use Rattle.std.specs.Prelude.{◌≡◌, OnOk, OnErr, option_copied, Some, None, is_some};
 ghost use Rattle.std.specs.FinMap as map;
-ghost use Rattle.depend_graph.specs.Slots.{had, node_in, offer_in, offering, placed, side, turned, turned_to, without_node, without_offer};
+ghost use Rattle.depend_graph.specs.Slots.{cleared, had, node_in, offer_in, offering, other_in, placed, side, turned, turned_to, without};
 
 use crate::Node;
 use cell_numbers::CellMap;
@@ -14,6 +14,13 @@ pub struct Slot {
     pub node: Option<Node>,
     pub offer: Option<Node>,
     pub is_odd: bool,
+}
+
+/// One of the two that a slot may have: the formula in force, or the offer.
+#[derive(Clone, Copy)]
+pub enum Part {
+    Formula,
+    Offer,
 }
 
 /// In which index the spans of the cell's formula are.
@@ -33,16 +40,6 @@ pub fn node_of(slots: &CellMap<Slot>, cell: Cell) -> Option<&Node>
     match slots.get(cell) {
         Some(slot) => slot.node.as_ref(),
         None => None,
-    }
-}
-
-// Whether the cell has a formula in force.
-fn has_node(slots: &CellMap<Slot>, cell: Cell) -> bool
-    ensures { result ≡ is_some (had node_in (map.get slots.now cell)) }
-{
-    match slots.get(cell) {
-        Some(slot) => slot.node.is_some(),
-        None => false,
     }
 }
 
@@ -105,44 +102,39 @@ pub fn turn(slots: &mut CellMap<Slot>, cell: Cell)
     }
 }
 
-// The formula in force stays.
-fn clear_offer(slot: &mut Slot)
-    ensures { slot.new ≡ record slot.old { offer = None } }
+// Whether the cell has the other of the two.
+fn has_other(slots: &CellMap<Slot>, cell: Cell, part: Part) -> bool
+    ensures { result ≡ is_some (had (other_in part) (map.get slots.now cell)) }
 {
-    slot.offer = None;
+    match slots.get(cell) {
+        Some(slot) => match part {
+            Part::Formula => slot.offer.is_some(),
+            Part::Offer => slot.node.is_some(),
+        },
+        None => false,
+    }
 }
 
-/// Takes the cell's offer away. It takes no memory.
-pub fn drop_offer(slots: &mut CellMap<Slot>, cell: Cell)
-    ensures { slots.new ≡ placed slots.old cell (without_offer (map.get slots.old cell)) }
+// The other of the two stays, and so does the side.
+fn clear(slot: &mut Slot, part: Part)
+    ensures { slot.new ≡ cleared part slot.old }
 {
-    if !has_node(slots, cell) {
+    match part {
+        Part::Formula => slot.node = None,
+        Part::Offer => slot.offer = None,
+    }
+}
+
+/// Takes the cell's formula or its offer away. It takes no memory.
+pub fn drop_part(slots: &mut CellMap<Slot>, cell: Cell, part: Part)
+    ensures { slots.new ≡ placed slots.old cell (without part (map.get slots.old cell)) }
+{
+    if !has_other(slots, cell, part) {
         slots.remove(cell);
         return;
     }
     match slots.get_mut(cell) {
-        Some(slot) => clear_offer(slot),
-        None => {}
-    }
-}
-
-// The offer stays, and so does the side.
-fn clear_node(slot: &mut Slot)
-    ensures { slot.new ≡ record slot.old { node = None } }
-{
-    slot.node = None;
-}
-
-/// Takes the cell's formula away. It takes no memory.
-pub fn drop_node(slots: &mut CellMap<Slot>, cell: Cell)
-    ensures { slots.new ≡ placed slots.old cell (without_node (map.get slots.old cell)) }
-{
-    if !has_offer(slots, cell) {
-        slots.remove(cell);
-        return;
-    }
-    match slots.get_mut(cell) {
-        Some(slot) => clear_node(slot),
+        Some(slot) => clear(slot, part),
         None => {}
     }
 }
