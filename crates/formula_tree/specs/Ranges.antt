@@ -3,6 +3,7 @@ use Rattle.std.specs.Prelude.{ℕ, Bool, true, nat_abs, ◌&&◌, nat_le, nat_lt
 use Rattle.std.specs.List.{list_all}
 use Rattle.lics_text.specs.declared.TheConstants.{MAX_LEN}
 use Rattle.ascii_bytes.specs.Ascii as ascii
+use Rattle.grid_address.specs.declared.TheConstants.{COLUMNS, ROWS}
 use Rattle.grid_address.specs.Axes.{number_of, Reference}
 use Rattle.formula_tree.specs.Tree.{Tree, num, str, cell, span, group, neg, not, binary, call}
 
@@ -12,7 +13,7 @@ is_text t = nat_le (length t) MAX_LEN && list_all (λ b. nat_le ascii.space b) t
 
 -- what a reference keeps: its numbers are those of a column and a row of the sheet, or offsets as small
 abbrev pub is_reference : Reference → Bool
-is_reference r = nat_lt (number_of r.col) 256 && nat_lt (number_of r.row) 8192
+is_reference r = nat_lt (number_of r.col) COLUMNS && nat_lt (number_of r.row) ROWS
 
 -- a number's size, a text's bytes and the coordinates of references are in their ranges
 abbrev pub is_ranged : Tree → Bool
