@@ -5,6 +5,7 @@ use Rattle.std.specs.Prelude.{flat_map, ◌++◌, ◌||◌, length}
 use Rattle.grid_address.specs.Place.{Place}
 use Rattle.formula_tree.specs.Spans.{any_volatile, is_volatile, spans_of, spans_of_all}
 use Rattle.std.proofs.lemmas.Bool.Decides.{nat_tests}
+use Rattle.std.proofs.lemmas.List.{length-map}
 use mathlib.Core.Former.{Count}
 use Rattle.formula_tree.specs.declared.function.Function.{Function}
 use Rattle.formula_tree.specs.declared.ast.ExprList.{ExprList}
@@ -29,9 +30,12 @@ tree_of-Call f args =
     let row = row_of (Call f args) in
     ap (call f) (row_is row.0 row.1 ∙ ap (λ es. listed (map tree_of es)) (items_hidden-the_row-Expr-0 args.items))
 
+pub counted_list : (ts : List Tree) → count (listed ts) ≡ length ts
+counted_list [] = refl
+counted_list (t ∷ ts) = omega (arith, counted_list ts)
+
 pub count_listed : (es : List Expr) → length es ≡ count (listed (map tree_of es))
-count_listed [] = refl
-count_listed (e ∷ es) = omega (arith, count_listed es)
+count_listed es = sym (counted_list (map tree_of es) ∙ length-map es tree_of)
 
 pub volatile_listed : (es : List Expr) → list_any (λ e. is_volatile (tree_of e)) es ≡ any_volatile (listed (map tree_of es))
 volatile_listed [] = refl
