@@ -1,5 +1,6 @@
 -- Where places are after lines, rows or columns, were inserted or deleted.
 use Rattle.std.specs.Prelude.{ℕ, ◌+◌, ◌-◌, ◌≤◌, nat_lt, Option, Some, None, if◌then◌else◌}
+use Rattle.grid_address.specs.declared.TheConstants.{COLUMNS, ROWS}
 use Rattle.grid_address.specs.Place.{Extent, Place}
 use Rattle.ref_adjust.specs.declared.change.Change.{Change}
 use Rattle.ref_adjust.specs.declared.change.Change.TheVariants.{InsertRows, InsertColumns, DeleteRows, DeleteColumns}
@@ -29,8 +30,8 @@ with_col p None = None
 
 -- where a cell comes to by inserted or deleted rows or columns; none where it is deleted or pushed off the sheet
 abbrev pub place_shifted : Change → Place → Option Place
-place_shifted (InsertRows first count) p = with_row p (line_inserted 8192 first count p.row)
-place_shifted (InsertColumns first count) p = with_col p (line_inserted 256 first count p.col)
+place_shifted (InsertRows first count) p = with_row p (line_inserted ROWS first count p.row)
+place_shifted (InsertColumns first count) p = with_col p (line_inserted COLUMNS first count p.col)
 place_shifted (DeleteRows first count) p = with_row p (line_deleted first count p.row)
 place_shifted (DeleteColumns first count) p = with_col p (line_deleted first count p.col)
 
@@ -58,10 +59,10 @@ count_of (DeleteColumns first count) = count
 
 -- how many rows or columns a sheet has, as the change is one of rows or of columns
 abbrev pub lines_of : Change → ℕ
-lines_of (InsertRows first count) = 8192
-lines_of (InsertColumns first count) = 256
-lines_of (DeleteRows first count) = 8192
-lines_of (DeleteColumns first count) = 256
+lines_of (InsertRows first count) = ROWS
+lines_of (InsertColumns first count) = COLUMNS
+lines_of (DeleteRows first count) = ROWS
+lines_of (DeleteColumns first count) = COLUMNS
 
 -- a change that a sheet has room for: its lines lie on the sheet
 abbrev pub IsChange : Change → Type 0

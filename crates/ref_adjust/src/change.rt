@@ -5,7 +5,7 @@ ghost use Rattle.ref_adjust.specs.Lines.{line_deleted, line_inserted, place_shif
 
 use crate::kinds::{reference_like, span_of_corners};
 use formula_tree::{Formula, Redirect};
-use grid_address::{Cell, ROWS, Ref, Span};
+use grid_address::{COLUMNS, Cell, ROWS, Ref, Span};
 
 /// Lines inserted or deleted: the first line and the count.
 #[derive(Clone, Copy, Debug, PartialEq, Eq)]
@@ -63,7 +63,7 @@ fn with_row(cell: Cell, row: Option<u16>) -> Option<Cell>
 
 // A cell in another column; none where there is no column.
 fn with_col(cell: Cell, col: Option<u16>) -> Option<Cell>
-    requires { IfSome col (λ c. c < 256) }
+    requires { IfSome col (λ c. c < COLUMNS) }
     ensures { result ≡ with_col cell col }
 {
     match col {
@@ -87,10 +87,13 @@ pub fn cell_shifted(change: Change, cell: Cell) -> Option<Cell>
         Change::InsertRows(first, count) => with_row(cell, line_inserted(ROWS, first, count, row)),
         Change::InsertColumns(first, count) => with_col(
             cell,
-            line_inserted(256, first, count, col),
+            line_inserted(COLUMNS, first, count, col),
         ),
         Change::DeleteRows(first, count) => with_row(cell, line_deleted(ROWS, first, count, row)),
-        Change::DeleteColumns(first, count) => with_col(cell, line_deleted(256, first, count, col)),
+        Change::DeleteColumns(first, count) => with_col(
+            cell,
+            line_deleted(COLUMNS, first, count, col),
+        ),
     }
 }
 
