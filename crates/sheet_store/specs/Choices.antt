@@ -6,6 +6,7 @@ use Rattle.grid_address.specs.Formats.{general_format}
 use Rattle.grid_address.specs.Place.{Place}
 use Rattle.sheet_store.specs.declared.order.Order.{Order}
 use Rattle.sheet_store.specs.declared.order.Order.TheVariants.{Natural}
+use Rattle.sheet_store.specs.declared.own_width.TheConstants.{MOST_WIDTH}
 
 -- a sheet's settings: whether it recalculates by itself, and by how many passes; the prefix of new labels; the format
 -- and the width where a cell or a column has none of its own; whether it is protected; the cell that the pointer is on;
@@ -33,7 +34,7 @@ pub record AreWithin (s : Choices) : Type 0 where
   pub some_passes : 1 ≤ s.passes
   pub few_passes : s.passes ≤ 50
   pub some_width : 1 ≤ s.width
-  pub most_width : s.width ≤ 240
+  pub most_width : s.width ≤ MOST_WIDTH
   pub known_prefix : is_global_prefix s.prefix ≡ true
 
 -- a fresh sheet's

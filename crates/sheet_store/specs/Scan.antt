@@ -2,6 +2,7 @@
 use Rattle.std.specs.Prelude.{ℕ, ◌+◌, ◌*◌, ◌-◌, Bool, true, cond, List, [], ◌∷◌, Option, None, Some}
 use Rattle.std.specs.List.{filter}
 use Rattle.std.specs.Ordering.{is_le}
+use Rattle.grid_address.specs.declared.TheConstants.{COLUMNS}
 use Rattle.grid_address.specs.Place.{place_cmp, Place}
 use Rattle.sheet_store.specs.Grid.{holds_formula}
 use Rattle.sheet_store.specs.declared.state.CellState.{CellState}
@@ -21,7 +22,7 @@ passed_at test c (Some s) = cond (test s) (c ∷ []) []
 
 -- the places in their order, as numbers
 abbrev pub number_of : Place → ℕ
-number_of p = p.row * 256 + p.col
+number_of p = p.row * COLUMNS + p.col
 
 -- what is left from a place on, if there is one
 abbrev pub left_from : Option Place → List (Place × CellState) → List (Place × CellState)

@@ -7,7 +7,7 @@ ghost use Rattle.sheet_store.specs.RowOrder.{entries_behind, NextHeld, NoneHeldB
 ghost use Rattle.sheet_store.specs.Scan.{left_from, number_of};
 
 use crate::{CellState, Store};
-use grid_address::{Cell, LAST_ROW};
+use grid_address::{COLUMNS, Cell, LAST_COLUMN, LAST_ROW};
 use std::marker::Model;
 
 /// The cells of a store that are still to come, with their states, in row order.
@@ -62,9 +62,6 @@ impl Store {
     }
 }
 
-/// How many columns a row has.
-const COLUMNS: u16 = 256;
-
 // The first place of a row, if there is such a row.
 fn row_start(row: u16) -> Option<Cell>
     ensures some { IfSome result (λ c. (c ≡ record { row = row; col = 0 }) × InSheet c) }
@@ -83,7 +80,7 @@ fn place_after(place: Cell) -> Option<Cell>
     ensures behind { IfSome result (λ c. number_of place < number_of c) }
     ensures none { IfNone result ((p : Place) → InSheet p → is_lt (place_cmp place p) ≡ false) }
 {
-    if place.col < 255 {
+    if place.col < LAST_COLUMN {
         return Some(Cell {
             row: place.row,
             col: place.col + 1,
