@@ -42,6 +42,22 @@ abbrev pub missing : ℕ → Bracket → ParseFault
 missing at Plain = Unexpected at
 missing at (Call f n) = if takes (counts_of f) n then Unexpected at else ArgCount at
 
+-- why a part is refused that isn't wanted where it stands
+abbrev pub refusal : Kind → ℕ → ParseFault
+refusal (Bad f) at = f
+refusal (Num v) at = Unexpected at
+refusal (Str t) at = Unexpected at
+refusal (Cell r) at = Unexpected at
+refusal (Span a b) at = Unexpected at
+refusal (Constant f) at = Unexpected at
+refusal (Function f) at = Unexpected at
+refusal (Infix op) at = Unexpected at
+refusal Not at = Unexpected at
+refusal Open at = Unexpected at
+refusal Close at = Unexpected at
+refusal Comma at = Unexpected at
+refusal Unclosed at = Unexpected at
+
 -- an operator where an operand is wanted
 abbrev pub front_row : Op → ℕ → Brackets → (Brackets → Verdict) → Verdict
 front_row Add at bs operand = operand bs

@@ -1,6 +1,6 @@
 // What follows an operand or stands before one, part by part.
 ghost use Rattle.std.specs.Prelude.{◌≡◌, ◌<◌, ◌+◌, drop, length, IfOk, IfErr, IfSome, IfNone, [], ◌∷◌, false, Ok, Err};
-ghost use Rattle.formula_text.specs.Accepts.{after, bracket_first, missing, next_level, operator_first, operator_of};
+ghost use Rattle.formula_text.specs.Accepts.{after, bracket_first, missing, next_level, operator_first, operator_of, refusal};
 ghost use Rattle.formula_text.specs.Reads.{comma_first, Closes, Completes, Continues, NoOperator, Opens};
 ghost use Rattle.formula_text.specs.declared.parse.Bracket.TheVariants.{Call};
 
@@ -49,6 +49,22 @@ pub fn missing(at: usize, inside: Bracket) -> ParseFault
     }
 }
 
+// Why a part is refused that isn't wanted here: by its own fault, or as one that isn't expected.
+fn refusal(part: &Lexeme) -> ParseFault
+    ensures { result ≡ refusal part.now.kind part.now.at }
+{
+    match &part.kind {
+        Kind::Bad(fault) => *fault,
+        Kind::Num(_) | Kind::Str(_) | Kind::Cell(_) | Kind::Span(_, _) | Kind::Constant(_) => {
+            ParseFault::Unexpected(part.at)
+        }
+        Kind::Function(_) | Kind::Infix(_) | Kind::Not | Kind::Open | Kind::Close => {
+            ParseFault::Unexpected(part.at)
+        }
+        Kind::Comma | Kind::Unclosed => ParseFault::Unexpected(part.at),
+    }
+}
+
 // What follows the bracket that opens a function's arguments.
 pub fn opening(lexemes: &[Lexeme], function: Function) -> Result<&[Lexeme], ParseFault>
     ensures ok { IfOk result (λ rest. Opens lexemes.now function rest.now) }
@@ -59,14 +75,9 @@ pub fn opening(lexemes: &[Lexeme], function: Function) -> Result<&[Lexeme], Pars
     };
     match &first.kind {
         Kind::Open => Ok(rest),
-        Kind::Bad(fault) => Err(*fault),
-        Kind::Num(_) | Kind::Str(_) | Kind::Cell(_) | Kind::Span(_, _) | Kind::Constant(_) => {
-            Err(ParseFault::Unexpected(first.at))
-        }
-        Kind::Function(_) | Kind::Infix(_) | Kind::Not | Kind::Close => {
-            Err(ParseFault::Unexpected(first.at))
-        }
-        Kind::Comma | Kind::Unclosed => Err(ParseFault::Unexpected(first.at)),
+        Kind::Num(_) | Kind::Str(_) | Kind::Cell(_) | Kind::Span(_, _) => Err(refusal(first)),
+        Kind::Constant(_) | Kind::Function(_) | Kind::Infix(_) | Kind::Not => Err(refusal(first)),
+        Kind::Close | Kind::Comma | Kind::Unclosed | Kind::Bad(_) => Err(refusal(first)),
     }
 }
 
@@ -81,14 +92,9 @@ pub fn closing(lexemes: &[Lexeme]) -> Result<&[Lexeme], ParseFault>
     };
     match &first.kind {
         Kind::Close => Ok(rest),
-        Kind::Bad(fault) => Err(*fault),
-        Kind::Num(_) | Kind::Str(_) | Kind::Cell(_) | Kind::Span(_, _) | Kind::Constant(_) => {
-            Err(ParseFault::Unexpected(first.at))
-        }
-        Kind::Function(_) | Kind::Infix(_) | Kind::Not | Kind::Open => {
-            Err(ParseFault::Unexpected(first.at))
-        }
-        Kind::Comma | Kind::Unclosed => Err(ParseFault::Unexpected(first.at)),
+        Kind::Num(_) | Kind::Str(_) | Kind::Cell(_) | Kind::Span(_, _) => Err(refusal(first)),
+        Kind::Constant(_) | Kind::Function(_) | Kind::Infix(_) | Kind::Not => Err(refusal(first)),
+        Kind::Open | Kind::Comma | Kind::Unclosed | Kind::Bad(_) => Err(refusal(first)),
     }
 }
 
@@ -129,14 +135,9 @@ pub fn behind_last(
                 Err(ParseFault::ArgCount(first.at))
             }
         }
-        Kind::Bad(fault) => Err(*fault),
-        Kind::Num(_) | Kind::Str(_) | Kind::Cell(_) | Kind::Span(_, _) | Kind::Constant(_) => {
-            Err(ParseFault::Unexpected(first.at))
-        }
-        Kind::Function(_) | Kind::Infix(_) | Kind::Not | Kind::Open => {
-            Err(ParseFault::Unexpected(first.at))
-        }
-        Kind::Comma | Kind::Unclosed => Err(ParseFault::Unexpected(first.at)),
+        Kind::Num(_) | Kind::Str(_) | Kind::Cell(_) | Kind::Span(_, _) => Err(refusal(first)),
+        Kind::Constant(_) | Kind::Function(_) | Kind::Infix(_) | Kind::Not => Err(refusal(first)),
+        Kind::Open | Kind::Comma | Kind::Unclosed | Kind::Bad(_) => Err(refusal(first)),
     }
 }
 
@@ -149,14 +150,5 @@ pub fn ended(lexemes: &[Lexeme]) -> Result<(), ParseFault>
     let Some((first, _)) = lexemes.split_first() else {
         return Ok(());
     };
-    match &first.kind {
-        Kind::Bad(fault) => Err(*fault),
-        Kind::Num(_) | Kind::Str(_) | Kind::Cell(_) | Kind::Span(_, _) | Kind::Constant(_) => {
-            Err(ParseFault::Unexpected(first.at))
-        }
-        Kind::Function(_) | Kind::Infix(_) | Kind::Not | Kind::Open | Kind::Close => {
-            Err(ParseFault::Unexpected(first.at))
-        }
-        Kind::Comma | Kind::Unclosed => Err(ParseFault::Unexpected(first.at)),
-    }
+    Err(refusal(first))
 }
