@@ -3,6 +3,7 @@ use Rattle.std.specs.Char.{is_ascii_alphabetic}
 use Rattle.std.proofs.Common.{◌≡◌, ℕ, ◌+◌, ◌≤◌, Bool, true, false, ◌&&◌, ◌||◌, cond, ◌==◌, List, [], ◌∷◌, ◌++◌, length, get_or, Ok, Err, refl, sym, ap, ◌∙◌, subst, arith, append_assoc, append-nil, length-append, pos, negsuc}
 use Rattle.std.specs.Prelude.{codes}
 use Rattle.std.proofs.lemmas.Bool.Decides.{nat_tests}
+use Rattle.std.proofs.lemmas.Bool.{and_from, and_parts}
 use Rattle.fixed_value.specs.Written.{short}
 use Rattle.grid_address.specs.Place.{InSheet, Place}
 use Rattle.range_names.specs.Names.{AreKeys, NameMap}
@@ -22,15 +23,12 @@ use Rattle.formula_text.specs.Lexed.{lexed}
 use Rattle.formula_text.specs.Printed.{cell_text, more_text, op_text, printed, sign_for, span_text, text_of}
 use Rattle.formula_text.specs.Texts.{SpelledBy}
 use Rattle.formula_text.specs.Tokens.{Token, called, closing, comma, front_minus, front_not, infix_op, more_tokens, opening, tokens}
-use Rattle.formula_text.proofs.Cuts.{left, part_cut, right, IsPart, Starts, Stops}
+use Rattle.formula_text.proofs.Cuts.{part_cut, IsPart, Starts, Stops}
 use Rattle.formula_text.proofs.FunctionsRead.{function_part, kind_of, some_taken}
 use Rattle.formula_text.proofs.Grows.{after-after}
 use Rattle.formula_text.proofs.Leaves.{number_part, text_part}
 use Rattle.formula_text.proofs.PlacesRead.{cell_part, span_part}
 use Rattle.formula_text.proofs.SignsRead.{close_cut, comma_cut, minus_read, not_read, op_read, op_stops, open_cut, plus_read}
-
-pair : (a b : Bool) → a ≡ true → b ≡ true → (a && b) ≡ true
-pair a b p q = grind arith
 
 -- a test that each node passes, and a weaker one
 mutual
@@ -39,17 +37,17 @@ mutual
   every_weaker p q w (str v) h = w (str v) h
   every_weaker p q w (cell v) h = w (cell v) h
   every_weaker p q w (span a b) h = w (span a b) h
-  every_weaker p q w (group a) h = pair _ _ (w (group a) (left (p (group a)) (every p a) h)) (every_weaker p q w a (right (p (group a)) (every p a) h))
-  every_weaker p q w (neg a) h = pair _ _ (w (neg a) (left (p (neg a)) (every p a) h)) (every_weaker p q w a (right (p (neg a)) (every p a) h))
-  every_weaker p q w (negation a) h = pair _ _ (w (negation a) (left (p (negation a)) (every p a) h)) (every_weaker p q w a (right (p (negation a)) (every p a) h))
+  every_weaker p q w (group a) h = and_from _ _ (w (group a) (and_parts (p (group a)) (every p a) h).0) (every_weaker p q w a (and_parts (p (group a)) (every p a) h).1)
+  every_weaker p q w (neg a) h = and_from _ _ (w (neg a) (and_parts (p (neg a)) (every p a) h).0) (every_weaker p q w a (and_parts (p (neg a)) (every p a) h).1)
+  every_weaker p q w (negation a) h = and_from _ _ (w (negation a) (and_parts (p (negation a)) (every p a) h).0) (every_weaker p q w a (and_parts (p (negation a)) (every p a) h).1)
   every_weaker p q w (binary op a b) h =
-      let more = right (p (binary op a b)) (every p a && every p b) h in
-      pair _ _ (w (binary op a b) (left (p (binary op a b)) (every p a && every p b) h)) (pair _ _ (every_weaker p q w a (left (every p a) (every p b) more)) (every_weaker p q w b (right (every p a) (every p b) more)))
-  every_weaker p q w (call f ts) h = pair _ _ (w (call f ts) (left (p (call f ts)) (every_one p ts) h)) (all_weaker p q w ts (right (p (call f ts)) (every_one p ts) h))
+      let more = (and_parts (p (binary op a b)) (every p a && every p b) h).1 in
+      and_from _ _ (w (binary op a b) (and_parts (p (binary op a b)) (every p a && every p b) h).0) (and_from _ _ (every_weaker p q w a (and_parts (every p a) (every p b) more).0) (every_weaker p q w b (and_parts (every p a) (every p b) more).1))
+  every_weaker p q w (call f ts) h = and_from _ _ (w (call f ts) (and_parts (p (call f ts)) (every_one p ts) h).0) (all_weaker p q w ts (and_parts (p (call f ts)) (every_one p ts) h).1)
 
   all_weaker : (p q : Tree → Bool) → ((t : Tree) → p t ≡ true → q t ≡ true) → (ts : Trees) → every_one p ts ≡ true → every_one q ts ≡ true
   all_weaker p q w no_trees h = refl
-  all_weaker p q w (trees a ts) h = pair _ _ (every_weaker p q w a (left (every p a) (every_one p ts) h)) (all_weaker p q w ts (right (every p a) (every_one p ts) h))
+  all_weaker p q w (trees a ts) h = and_from _ _ (every_weaker p q w a (and_parts (every p a) (every_one p ts) h).0) (all_weaker p q w ts (and_parts (every p a) (every_one p ts) h).1)
 
 module _ (names : NameMap) (at_cell : Place) (keyed : AreKeys names) (inside : InSheet at_cell) where
   abbrev parts : ℕ → List ℕ → List Lexeme
@@ -59,16 +57,16 @@ module _ (names : NameMap) (at_cell : Place) (keyed : AreKeys names) (inside : I
   number_small n h = grind (arith, nat_tests, h)
 
   plain : (t : Tree) → is_fine t ≡ true → is_plain t ≡ true
-  plain t h = right (is_counted t) (is_plain t) (right (is_bracketed t) (is_counted t && is_plain t) h)
+  plain t h = (and_parts (is_counted t) (is_plain t) (and_parts (is_bracketed t) (is_counted t && is_plain t) h).1).1
 
   counted : (t : Tree) → is_fine t ≡ true → is_counted t ≡ true
-  counted t h = left (is_counted t) (is_plain t) (right (is_bracketed t) (is_counted t && is_plain t) h)
+  counted t h = (and_parts (is_counted t) (is_plain t) (and_parts (is_bracketed t) (is_counted t && is_plain t) h).1).0
 
   number_leaf : (n : ℕ) → is_ranged (num (pos n)) ≡ true → IsPart names at_cell (short (pos n) 6) (Num (pos n))
   number_leaf n h = number_part names at_cell n (number_small n h)
 
   span_leaf : (a b : _) → is_ranged (span a b) ≡ true → IsPart names at_cell (span_text names at_cell a b) (Span a b)
-  span_leaf a b h = span_part names at_cell a b keyed inside (left (is_reference a) (is_reference b) h) (right (is_reference a) (is_reference b) h)
+  span_leaf a b h = span_part names at_cell a b keyed inside (and_parts (is_reference a) (is_reference b) h).0 (and_parts (is_reference a) (is_reference b) h).1
 
   -- the first byte of a tree's text
   pub text_starts : (t : Tree) (rest : List ℕ) → every is_fine t ≡ true → every is_ranged t ≡ true → Starts (get_or (text_of names at_cell t ++ rest) 0 0)
@@ -85,7 +83,7 @@ module _ (names : NameMap) (at_cell : Place) (keyed : AreKeys names) (inside : I
   text_starts (negation a) rest f r = record { space = refl; equal = refl; greater = refl }
   text_starts (binary op a b) rest f r =
       subst (λ (l : List ℕ). Starts (get_or l 0 0)) (sym (append_assoc (text_of names at_cell a) (op_text op ++ text_of names at_cell b) rest)) (
-      text_starts a ((op_text op ++ text_of names at_cell b) ++ rest) (left (every is_fine a) (every is_fine b) (right (is_fine (binary op a b)) _ f)) (left (every is_ranged a) (every is_ranged b) r))
+      text_starts a ((op_text op ++ text_of names at_cell b) ++ rest) (and_parts (every is_fine a) (every is_fine b) (and_parts (is_fine (binary op a b)) _ f).1).0 (and_parts (every is_ranged a) (every is_ranged b) r).0)
   text_starts (call f no_trees) rest g r = record { space = refl; equal = refl; greater = refl }
   text_starts (call f (trees a ts)) rest g r = record { space = refl; equal = refl; greater = refl }
 
@@ -134,45 +132,45 @@ module _ (names : NameMap) (at_cell : Place) (keyed : AreKeys names) (inside : I
         ap (λ ls. operand_first ls bs) (open_cut names at_cell ((inner ++ 41 ∷ []) ++ rest) at)
         ∙ ap (λ (l : List ℕ). after (opening ∷ []) (operand_first (parts (at + 1) l) (Plain ∷ bs))) (append_assoc inner (41 ∷ []) rest)
         ∙ ap (after (opening ∷ [])) (
-        read_again a (41 ∷ rest) (at + 1) (Plain ∷ bs) (right (is_fine (group a)) (every is_fine a) f) r (close_stops rest)
+        read_again a (41 ∷ rest) (at + 1) (Plain ∷ bs) (and_parts (is_fine (group a)) (every is_fine a) f).1 r (close_stops rest)
         ∙ ap (λ ls. after (tokens a) (operator_first ls (Plain ∷ bs))) (close_cut names at_cell rest (at + 1 + length inner))
         ∙ after-after (tokens a) (closing ∷ []) (operator_first (parts (at + 1 + length inner + 1) rest) bs))
         ∙ after-after (opening ∷ []) (tokens a ++ closing ∷ []) (operator_first (parts (at + 1 + length inner + 1) rest) bs)
         ∙ ap (λ k. behind (opening ∷ (tokens a ++ closing ∷ [])) k rest bs) end
     read_again (neg a) rest at bs f r stops =
         let inner : List ℕ = text_of names at_cell a in
-        minus_read names at_cell (inner ++ rest) at bs ∙ ap (after (front_minus ∷ [])) (read_again a rest (at + 1) bs (right (is_fine (neg a)) (every is_fine a) f) r stops)
+        minus_read names at_cell (inner ++ rest) at bs ∙ ap (after (front_minus ∷ [])) (read_again a rest (at + 1) bs (and_parts (is_fine (neg a)) (every is_fine a) f).1 r stops)
         ∙ after-after (front_minus ∷ []) (tokens a) (operator_first (parts (at + 1 + length inner) rest) bs)
         ∙ ap (λ k. behind (front_minus ∷ tokens a) k rest bs) (let e : at + 1 + length inner ≡ at + length (45 ∷ inner) = omega arith in e)
     read_again (negation a) rest at bs f r stops =
         let inner : List ℕ = text_of names at_cell a in
-        not_read names at_cell (inner ++ rest) at bs ∙ ap (after (front_not ∷ [])) (read_again a rest (at + 5) bs (right (is_fine (negation a)) (every is_fine a) f) r stops)
+        not_read names at_cell (inner ++ rest) at bs ∙ ap (after (front_not ∷ [])) (read_again a rest (at + 5) bs (and_parts (is_fine (negation a)) (every is_fine a) f).1 r stops)
         ∙ after-after (front_not ∷ []) (tokens a) (operator_first (parts (at + 5 + length inner) rest) bs)
         ∙ ap (λ k. behind (front_not ∷ tokens a) k rest bs) (let e : at + 5 + length inner ≡ at + length (codes "#NOT#" ++ inner) = omega arith in e)
     read_again (binary op a b) rest at bs f r stops =
         let one : List ℕ = text_of names at_cell a in
         let two : List ℕ = text_of names at_cell b in
-        let fs = right (is_fine (binary op a b)) (every is_fine a && every is_fine b) f in
+        let fs = (and_parts (is_fine (binary op a b)) (every is_fine a && every is_fine b) f).1 in
         let mid : ℕ = at + length one in
         let end : mid + length (op_text op) + length two ≡ at + length (one ++ (op_text op ++ two)) = omega (arith, length-append one (op_text op ++ two), length-append (op_text op) two) in
         ap (λ (l : List ℕ). operand_first (parts at l) bs) (append_assoc one (op_text op ++ two) rest ∙ ap (λ (l : List ℕ). one ++ l) (append_assoc (op_text op) two rest))
-        ∙ read_again a (op_text op ++ (two ++ rest)) at bs (left (every is_fine a) (every is_fine b) fs) (left (every is_ranged a) (every is_ranged b) r) (op_stops op (two ++ rest))
+        ∙ read_again a (op_text op ++ (two ++ rest)) at bs (and_parts (every is_fine a) (every is_fine b) fs).0 (and_parts (every is_ranged a) (every is_ranged b) r).0 (op_stops op (two ++ rest))
         ∙ ap (after (tokens a)) (
-        op_read names at_cell op (two ++ rest) mid bs (text_starts b rest (right (every is_fine a) (every is_fine b) fs) (right (every is_ranged a) (every is_ranged b) r))
-        ∙ ap (after (infix_op op ∷ [])) (read_again b rest (mid + length (op_text op)) bs (right (every is_fine a) (every is_fine b) fs) (right (every is_ranged a) (every is_ranged b) r) stops)
+        op_read names at_cell op (two ++ rest) mid bs (text_starts b rest (and_parts (every is_fine a) (every is_fine b) fs).1 (and_parts (every is_ranged a) (every is_ranged b) r).1)
+        ∙ ap (after (infix_op op ∷ [])) (read_again b rest (mid + length (op_text op)) bs (and_parts (every is_fine a) (every is_fine b) fs).1 (and_parts (every is_ranged a) (every is_ranged b) r).1 stops)
         ∙ after-after (infix_op op ∷ []) (tokens b) (operator_first (parts (mid + length (op_text op) + length two) rest) bs))
         ∙ after-after (tokens a) (infix_op op ∷ tokens b) (operator_first (parts (mid + length (op_text op) + length two) rest) bs)
         ∙ ap (λ k. behind (tokens a ++ (infix_op op ∷ tokens b)) k rest bs) end
     read_again (call f no_trees) rest at bs g r stops =
-        let none = counted (call f no_trees) (left (is_fine (call f no_trees)) true g) in
+        let none = counted (call f no_trees) (and_parts (is_fine (call f no_trees)) true g).0 in
         leaf (codes "@" ++ name_of f) rest (kind_of f) at bs (function_part names at_cell f) stops
         ∙ ap (λ k. operand_first (record { at = at; kind = k } ∷ parts (at + length (codes "@" ++ name_of f)) rest) bs) (no_args f none)
     read_again (call f (trees a ts)) rest at bs g r stops =
         let name : List ℕ = codes "@" ++ name_of f in
         let one : List ℕ = text_of names at_cell a in
         let more : List ℕ = more_text names at_cell ts in
-        let gs = right (is_fine (call f (trees a ts))) (every is_fine a && every_one is_fine ts) g in
-        let taken : takes (counts_of f) (1 + count ts) ≡ true = counted (call f (trees a ts)) (left (is_fine (call f (trees a ts))) (every is_fine a && every_one is_fine ts) g) in
+        let gs = (and_parts (is_fine (call f (trees a ts))) (every is_fine a && every_one is_fine ts) g).1 in
+        let taken : takes (counts_of f) (1 + count ts) ≡ true = counted (call f (trees a ts)) (and_parts (is_fine (call f (trees a ts))) (every is_fine a && every_one is_fine ts) g).0 in
         let begin : ℕ = at + length name + 1 in
         let last : ℕ = begin + length one + length more in
         let end : last ≡ at + length (name ++ (40 ∷ (one ++ more))) = omega (arith, length-append name (40 ∷ (one ++ more)), length-append one more) in
@@ -182,8 +180,8 @@ module _ (names : NameMap) (at_cell : Place) (keyed : AreKeys names) (inside : I
         ∙ ap (after (called f ∷ [])) (
         bracket_open f ((one ++ more) ++ rest) (at + length name) bs
         ∙ ap (λ (l : List ℕ). operand_first (parts begin l) (Call f 0 ∷ bs)) (append_assoc one more rest)
-        ∙ read_again a (more ++ rest) begin (Call f 0 ∷ bs) (left (every is_fine a) (every_one is_fine ts) gs) (left (every is_ranged a) (every_one is_ranged ts) r) (more_stops ts rest)
-        ∙ ap (after (tokens a)) (more_again ts rest (begin + length one) f 0 bs (right (every is_fine a) (every_one is_fine ts) gs) (right (every is_ranged a) (every_one is_ranged ts) r) taken)
+        ∙ read_again a (more ++ rest) begin (Call f 0 ∷ bs) (and_parts (every is_fine a) (every_one is_fine ts) gs).0 (and_parts (every is_ranged a) (every_one is_ranged ts) r).0 (more_stops ts rest)
+        ∙ ap (after (tokens a)) (more_again ts rest (begin + length one) f 0 bs (and_parts (every is_fine a) (every_one is_fine ts) gs).1 (and_parts (every is_ranged a) (every_one is_ranged ts) r).1 taken)
         ∙ after-after (tokens a) (more_tokens ts) (operator_first (parts last rest) bs))
         ∙ after-after (called f ∷ []) (tokens a ++ more_tokens ts) (operator_first (parts last rest) bs)
         ∙ ap (λ k. behind (called f ∷ (tokens a ++ more_tokens ts)) k rest bs) end
@@ -203,8 +201,8 @@ module _ (names : NameMap) (at_cell : Place) (keyed : AreKeys names) (inside : I
         ap (λ ls. operator_first ls (Call f n ∷ bs)) (comma_cut names at_cell ((one ++ more) ++ rest) at)
         ∙ ap (λ (l : List ℕ). after (comma ∷ []) (operand_first (parts (at + 1) l) (Call f (n + 1) ∷ bs))) (append_assoc one more rest)
         ∙ ap (after (comma ∷ [])) (
-        read_again a (more ++ rest) (at + 1) (Call f (n + 1) ∷ bs) (left (every is_fine a) (every_one is_fine ts) g) (left (every is_ranged a) (every_one is_ranged ts) r) (more_stops ts rest)
-        ∙ ap (after (tokens a)) (more_again ts rest (at + 1 + length one) f (n + 1) bs (right (every is_fine a) (every_one is_fine ts) g) (right (every is_ranged a) (every_one is_ranged ts) r) taken)
+        read_again a (more ++ rest) (at + 1) (Call f (n + 1) ∷ bs) (and_parts (every is_fine a) (every_one is_fine ts) g).0 (and_parts (every is_ranged a) (every_one is_ranged ts) r).0 (more_stops ts rest)
+        ∙ ap (after (tokens a)) (more_again ts rest (at + 1 + length one) f (n + 1) bs (and_parts (every is_fine a) (every_one is_fine ts) g).1 (and_parts (every is_ranged a) (every_one is_ranged ts) r).1 taken)
         ∙ after-after (tokens a) (more_tokens ts) (operator_first (parts last rest) bs))
         ∙ after-after (comma ∷ []) (tokens a ++ more_tokens ts) (operator_first (parts last rest) bs)
         ∙ ap (λ k. behind (comma ∷ (tokens a ++ more_tokens ts)) k rest bs) end
@@ -215,7 +213,7 @@ module _ (names : NameMap) (at_cell : Place) (keyed : AreKeys names) (inside : I
       let bytes : List ℕ = text_of names at_cell t in
       let again : (at : ℕ) → operand_first (parts at bytes) [] ≡ Ok (tokens t) =
       λ at. ap (λ l. operand_first (parts at l) []) (sym (append-nil bytes)) ∙ read_again t [] at [] f r (record { word = refl; point = refl }) ∙ ap Ok (append-nil (tokens t)) in
-      (short, record { same = behind_sign bytes (again 0) (again 1); well = every_weaker is_fine is_bracketed (λ x h. left (is_bracketed x) (is_counted x && is_plain x) h) t f })
+      (short, record { same = behind_sign bytes (again 0) (again 1); well = every_weaker is_fine is_bracketed (λ x h. (and_parts (is_bracketed x) (is_counted x && is_plain x) h).0) t f })
     where
       signed : (c : Bool) (bytes : List ℕ) (v : Verdict) → operand_first (parts 0 bytes) [] ≡ v → operand_first (parts 1 bytes) [] ≡ v → operand_first (parts 0 (cond c (codes "+") [] ++ bytes)) [] ≡ v
       signed true bytes v zeroth first = plus_read names at_cell bytes 0 [] ∙ first

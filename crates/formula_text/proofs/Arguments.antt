@@ -1,5 +1,7 @@
 -- A function's arguments are read one by one.
 use Rattle.std.proofs.Common.{◌≡◌, ℕ, ◌+◌, ◌≤◌, Bool, true, ◌&&◌, List, [], ◌∷◌, ◌++◌, length, Option, Some, None, refl, sym, ap, ◌∙◌, arith, append_assoc, length-append}
+use Rattle.std.proofs.lemmas.Bool.{and_from, and_parts}
+use Rattle.formula_tree.proofs.Rows.{counted_list}
 use Rattle.formula_tree.specs.declared.ast.Op.{Op}
 use Rattle.formula_tree.specs.declared.ast.Op.TheVariants.{Pow, Mul, Div, Add, Sub, Eq, Ne, Lt, Gt, Le, Ge, And, Or, Join}
 use Rattle.formula_tree.specs.declared.function.Function.{Function as AtFunction}
@@ -57,30 +59,17 @@ more_listed (t ∷ ts) = ap (λ x. comma ∷ (tokens t ++ x)) (more_listed ts) �
 call_tokens : (f : AtFunction) (t : Tree) (ts : List Tree) → tokens (call f (listed (t ∷ ts))) ≡ called f ∷ (joined (t ∷ ts) ++ closing ∷ [])
 call_tokens f t ts = ap (λ x. called f ∷ (tokens t ++ x)) (more_listed ts) ∙ ap (λ x. called f ∷ x) (sym (append_assoc (tokens t) (commaed ts) (closing ∷ [])))
 
-pair : (a b : Bool) → a ≡ true → b ≡ true → (a && b) ≡ true
-pair a b p q = grind arith
-
-second : (a b : Bool) → (a && b) ≡ true → b ≡ true
-second a b p = grind arith
-
-first : (a b : Bool) → (a && b) ≡ true → a ≡ true
-first a b p = grind arith
-
 every_more : (test : Tree → Bool) (ts : List Tree) (u : Tree) → every_one test (listed ts) ≡ true → every test u ≡ true → every_one test (listed (ts ++ u ∷ [])) ≡ true
-every_more test [] u p q = pair _ _ q refl
-every_more test (t ∷ ts) u p q = pair _ _ (first (every test t) (every_one test (listed ts)) p) (every_more test ts u (second (every test t) (every_one test (listed ts)) p) q)
-
-counted_list : (ts : List Tree) → count (listed ts) ≡ length ts
-counted_list [] = refl
-counted_list (t ∷ ts) = ap (λ n. 1 + n) (counted_list ts) ∙ (let e : 1 + length ts ≡ length (t ∷ ts) = omega arith in e)
+every_more test [] u p q = and_from _ _ q refl
+every_more test (t ∷ ts) u p q = and_from _ _ (and_parts (every test t) (every_one test (listed ts)) p).0 (every_more test ts u (and_parts (every test t) (every_one test (listed ts)) p).1 q)
 
 -- the first argument
 pub one_listed : (ls : List Lexeme) (f : AtFunction) (behind : List Lexeme) (t : Tree) (rest : List Lexeme) → Opens ls f behind → Reads behind 1 t rest → Listed ls f 0 (t ∷ []) rest
 one_listed ls f behind t rest o r =
     record {
       spelled = λ bs. o.spelled bs ∙ r.spelled (Call f 0 ∷ bs) ∙ ap (λ x. after x (operator_first rest (Call f 0 ∷ bs))) (sym (no_more (tokens t)));
-      well = pair _ _ r.well refl;
-      counted = pair _ _ r.counted refl;
+      well = and_from _ _ r.well refl;
+      counted = and_from _ _ r.counted refl;
       many = refl;
       ended = omega (arith, r.ended);
       shorter = omega (arith, o.shorter, r.shorter);
@@ -112,7 +101,7 @@ call_is_read ls f n (t ∷ ts) rest behind l c =
           ∙ after-after (called f ∷ []) (joined (t ∷ ts) ++ closing ∷ []) (operator_first behind bs)
           ∙ ap (λ x. after x (operator_first behind bs)) (sym (call_tokens f t ts));
       well = l.well;
-      counted = pair _ _ (ap (takes (counts_of f)) (counted_list (t ∷ ts) ∙ l.many) ∙ c.taken) l.counted;
+      counted = and_from _ _ (ap (takes (counts_of f)) (counted_list (t ∷ ts) ∙ l.many) ∙ c.taken) l.counted;
       tight = refl;
       edge = small (operator_of behind);
       shorter = omega (arith, l.shorter, c.shorter);

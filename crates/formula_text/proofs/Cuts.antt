@@ -1,6 +1,7 @@
 -- A part that stands in front of other bytes.
 use Rattle.std.specs.Char.{is_ascii_alphabetic, is_ascii_digit}
 use Rattle.std.proofs.Common.{◌≡◌, ℕ, ◌+◌, ◌<◌, Bool, true, false, ◌&&◌, cond, ◌==◌, List, [], ◌∷◌, ◌++◌, take, drop, length, get_or, refl, sym, ap, ◌∙◌, arith, length-append}
+use Rattle.std.proofs.lemmas.Bool.{and_parts}
 use Rattle.std.specs.List.{list_all, prefix_len}
 use Rattle.grid_address.specs.Place.{Place}
 use Rattle.range_names.specs.Names.{NameMap}
@@ -10,12 +11,6 @@ use Rattle.formula_text.specs.Lexed.{found_by, lexed, part_found}
 use Rattle.formula_text.specs.Operands.{number_len}
 use Rattle.formula_text.specs.Words.{is_word_byte}
 use Rattle.formula_text.proofs.Lexing.{here}
-
-pub left : (a b : Bool) → (a && b) ≡ true → a ≡ true
-left a b p = grind arith
-
-pub right : (a b : Bool) → (a && b) ≡ true → b ≡ true
-right a b p = grind arith
 
 pub first_of : List ℕ → ℕ
 first_of bytes = get_or bytes 0 0
@@ -53,8 +48,8 @@ none_first p (b ∷ bs) h = ap (λ c. cond c (1 + prefix_len p bs) 0) h
 pub front_len : (p : ℕ → Bool) (xs rest : List ℕ) → list_all p xs ≡ true → p (get_or rest 0 0) ≡ false → prefix_len p (xs ++ rest) ≡ length xs
 front_len p [] rest all h = none_first p rest h
 front_len p (x ∷ xs) rest all h =
-    ap (λ c. cond c (1 + prefix_len p (xs ++ rest)) 0) (left (p x) (list_all p xs) all)
-    ∙ ap (λ k. 1 + k) (front_len p xs rest (right (p x) (list_all p xs) all) h) ∙ (let e : 1 + length xs ≡ length (x ∷ xs) = omega arith in e)
+    ap (λ c. cond c (1 + prefix_len p (xs ++ rest)) 0) (and_parts (p x) (list_all p xs) all).0
+    ∙ ap (λ k. 1 + k) (front_len p xs rest (and_parts (p x) (list_all p xs) all).1 h) ∙ (let e : 1 + length xs ≡ length (x ∷ xs) = omega arith in e)
 
 -- the text is one part, whatever stops it
 pub record IsPart (names : NameMap) (cell : Place) (text : List ℕ) (kind : Kind) : Type 0 where

@@ -2,7 +2,7 @@
 use Rattle.std.proofs.Common.{◌≡◌, ℕ, ◌+◌, ◌<◌, Bool, true, false, ◌&&◌, cond, ◌==◌, nat_lt, List, [], ◌∷◌, ◌++◌, take, length, get_or, Some, refl, sym, ap, ◌∙◌, subst, arith, inl, inr, ◌⊎◌}
 use Rattle.std.specs.Prelude.{codes, if◌then◌else◌}
 use Rattle.std.specs.List.{list_all}
-use Rattle.std.proofs.lemmas.Bool.{cases_Bool}
+use Rattle.std.proofs.lemmas.Bool.{and_parts, cases_Bool}
 use Rattle.std.proofs.lemmas.Bool.Decides.{nat_tests}
 use Rattle.grid_address.specs.Place.{Place}
 use Rattle.range_names.specs.Names.{NameMap}
@@ -17,7 +17,7 @@ use Rattle.formula_text.specs.Functions.{function_named, name_of}
 use Rattle.formula_text.specs.Lexed.{found_by, part_found}
 use Rattle.formula_text.specs.Operands.{called_kind, function_found, function_kind, is_name_byte}
 use Rattle.formula_text.specs.Words.{is_word_byte}
-use Rattle.formula_text.proofs.Cuts.{front_len, left, right, take_front, IsPart}
+use Rattle.formula_text.proofs.Cuts.{front_len, take_front, IsPart}
 
 -- a function is found by its name, which is of letters and digits
 record IsNamed (f : AtFunction) : Type 0 where
@@ -57,7 +57,7 @@ named_found : (at : ℕ) (f : AtFunction) (name rest : List ℕ) → 0 < length 
     function_found at (64 ∷ (name ++ rest)) ≡ record { kind = kind_of f; len = 1 + length name }
 named_found at f [] rest some all h stops = absurd (omega arith)
 named_found at f (b ∷ bs) rest some all h stops =
-    let apart = no_at b (left (is_name_byte b) (list_all is_name_byte bs) all) in
+    let apart = no_at b (and_parts (is_name_byte b) (list_all is_name_byte bs) all).0 in
     let long = front_len is_name_byte (b ∷ bs) rest all (name_stops (get_or rest 0 0) stops) in
     rw (apart) (
     ap (λ k. record { kind = called_kind at (take k (b ∷ (bs ++ rest))); len = 1 + k }) long

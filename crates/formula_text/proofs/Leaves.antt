@@ -6,6 +6,7 @@ use Rattle.std.specs.List.{list_all, list_any, prefix_len}
 use Rattle.std.specs.Int.RustNames.{int_lt}
 use Rattle.std.proofs.lemmas.Bool.Decides.{nat_tests}
 use Rattle.std.proofs.lemmas.Int.{ints}
+use Rattle.std.proofs.lemmas.Bool.{and_parts}
 use Rattle.lics_text.specs.Texts.{text_of}
 use Rattle.fixed_value.specs.declared.decimal.Decimal.TheVariants.{Num as decimal}
 use Rattle.fixed_value.specs.Decimals.{behind_digits, decimal_of}
@@ -18,7 +19,7 @@ use Rattle.formula_text.specs.declared.lexeme.Kind.TheVariants.{Num, Str}
 use Rattle.formula_text.specs.Lexed.{found_by, part_found}
 use Rattle.formula_text.specs.Operands.{closed, digits_len, number_kind, number_len, point_len, text_kind}
 use Rattle.formula_tree.specs.Shape.{has_no_quote}
-use Rattle.formula_text.proofs.Cuts.{left, no_digit, right, take_front, IsPart, Starts, Stops}
+use Rattle.formula_text.proofs.Cuts.{no_digit, take_front, IsPart, Starts, Stops}
 
 point_none : (rest : List ℕ) → (get_or rest 0 0 == 46) ≡ false → point_len rest ≡ 0
 point_none [] h = refl
@@ -37,7 +38,7 @@ starts_digit d h = record { space = grind (arith, nat_tests, h); equal = grind (
 
 digit_first : (ds rest : List ℕ) → 0 < length ds → list_all is_ascii_digit ds ≡ true → Starts (get_or (ds ++ rest) 0 0)
 digit_first [] rest h all = absurd (omega arith)
-digit_first (d ∷ ds) rest h all = starts_digit d (left (is_ascii_digit d) (list_all is_ascii_digit ds) all)
+digit_first (d ∷ ds) rest h all = starts_digit d (and_parts (is_ascii_digit d) (list_all is_ascii_digit ds) all).0
 
 no_minus : (n : ℕ) → short (pos n) 6 ≡ whole (pos n) 6 ++ pointed (shown (pos n) 6)
 no_minus n =
@@ -97,14 +98,14 @@ quote_at t rest h =
 all_len : (p : ℕ → Bool) (t : List ℕ) → list_all p t ≡ true → prefix_len p t ≡ length t
 all_len p [] h = refl
 all_len p (b ∷ bs) h =
-    ap (λ c. cond c (1 + prefix_len p bs) 0) (left (p b) (list_all p bs) h) ∙ ap (λ k. 1 + k) (all_len p bs (right (p b) (list_all p bs) h)) ∙ (let e : 1 + length bs ≡ length (b ∷ bs) = omega arith in e)
+    ap (λ c. cond c (1 + prefix_len p bs) 0) (and_parts (p b) (list_all p bs) h).0 ∙ ap (λ k. 1 + k) (all_len p bs (and_parts (p b) (list_all p bs) h).1) ∙ (let e : 1 + length bs ≡ length (b ∷ bs) = omega arith in e)
 
 not_low : (t : List ℕ) → list_all (λ b. nat_le 32 b) t ≡ true → list_all (λ b. not (nat_lt b 32)) t ≡ true
 not_low [] h = refl
 not_low (b ∷ bs) h =
-    let first = left (nat_le 32 b) (list_all (λ b. nat_le 32 b) bs) h in
+    let first = (and_parts (nat_le 32 b) (list_all (λ b. nat_le 32 b) bs) h).0 in
     let more : not (nat_lt b 32) ≡ true = grind (arith, nat_tests, first) in
-    rw more (not_low bs (right (nat_le 32 b) (list_all (λ b. nat_le 32 b) bs) h))
+    rw more (not_low bs (and_parts (nat_le 32 b) (list_all (λ b. nat_le 32 b) bs) h).1)
 
 none_low : (t : List ℕ) → list_all (λ b. nat_le 32 b) t ≡ true → position (λ b. nat_lt b 32) t ≡ None
 none_low t h =
@@ -113,8 +114,8 @@ none_low t h =
 
 kept : (t : List ℕ) → is_text t ≡ true → text_of t ≡ Ok t
 kept t h =
-    let low = none_low t (right (nat_le (length t) 240) (list_all (λ b. nat_le 32 b) t) h) in
-    let short = left (nat_le (length t) 240) (list_all (λ b. nat_le 32 b) t) h in
+    let low = none_low t (and_parts (nat_le (length t) 240) (list_all (λ b. nat_le 32 b) t) h).1 in
+    let short = (and_parts (nat_le (length t) 240) (list_all (λ b. nat_le 32 b) t) h).0 in
     let fits : nat_lt 240 (length t) ≡ false = grind (arith, nat_tests, short) in
     rw (fits, low) refl
 

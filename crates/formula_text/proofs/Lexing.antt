@@ -2,6 +2,7 @@
 use Rattle.std.proofs.Common.{◌≡◌, ℕ, zero, suc, ◌+◌, ◌-◌, ◌≤◌, ◌<◌, Bool, true, false, ◌&&◌, cond, ◌==◌, List, [], ◌∷◌, ◌++◌, drop, length, refl, sym, ap, ◌∙◌, arith, append_assoc}
 use Rattle.std.proofs.lemmas.List.{drop-drop, get_or-drop}
 use Rattle.std.proofs.lemmas.Bool.Decides.{nat_tests}
+use Rattle.std.proofs.lemmas.Bool.{and_from, and_parts}
 use Rattle.std.specs.Prelude.{slice_index}
 use Rattle.grid_address.specs.Place.{Place}
 use Rattle.range_names.specs.Names.{NameMap}
@@ -41,15 +42,6 @@ one_part names cell text at len h n e p q =
 pub kept : (before : List Lexeme) (l : Lexeme) (rest : List Lexeme) (now all : List Lexeme) → before ++ now ≡ all → now ≡ l ∷ rest → (before ++ l ∷ []) ++ rest ≡ all
 kept before l rest now all e f = append_assoc before (l ∷ []) rest ∙ ap (λ x. before ++ x) (sym f) ∙ e
 
-right : (a b : Bool) → (a && b) ≡ true → b ≡ true
-right a b p = grind arith
-
-left : (a b : Bool) → (a && b) ≡ true → a ≡ true
-left a b p = grind arith
-
-pair : (a b : Bool) → a ≡ true → b ≡ true → (a && b) ≡ true
-pair a b p q = grind arith
-
 pub all_fine : (before : List Lexeme) (l : Lexeme) → are_fine before ≡ true → is_fine_kind l.kind ≡ true → are_fine (before ++ l ∷ []) ≡ true
-all_fine [] l p q = pair _ _ q refl
-all_fine (b ∷ bs) l p q = pair _ _ (left (is_fine_kind b.kind) (are_fine bs) p) (all_fine bs l (right (is_fine_kind b.kind) (are_fine bs) p) q)
+all_fine [] l p q = and_from _ _ q refl
+all_fine (b ∷ bs) l p q = and_from _ _ (and_parts (is_fine_kind b.kind) (are_fine bs) p).0 (all_fine bs l (and_parts (is_fine_kind b.kind) (are_fine bs) p).1 q)

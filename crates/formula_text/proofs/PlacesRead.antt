@@ -5,6 +5,7 @@ use Rattle.std.specs.Prelude.{codes, is_some, max, min}
 use Rattle.std.specs.List.{list_all}
 use Rattle.std.proofs.lemmas.Bool.Decides.{nat_tests}
 use Rattle.std.proofs.lemmas.List.{take-append-drop}
+use Rattle.std.proofs.lemmas.Bool.{and_parts}
 use Rattle.grid_address.specs.Address.{column_name, decimal}
 use Rattle.grid_address.specs.Axes.{is_fixed, Reference}
 use Rattle.grid_address.specs.Leads.{reference_to, resolve}
@@ -19,7 +20,7 @@ use Rattle.formula_text.specs.declared.lexeme.Found.{Found}
 use Rattle.formula_text.specs.Lexed.{found_by, part_found}
 use Rattle.formula_text.specs.Printed.{alike, cell_text, in_order, mark, name_of_cell, name_of_corners, named_or, reference_text, same, span_text}
 use Rattle.formula_text.specs.Words.{corner_behind, dotted, has_dollar, is_word_byte, letters_len, marked, named_span, plain_address, reference_from, reference_in, span_kind, with_corner, without_dollar, word_found, word_len, word_or_address}
-use Rattle.formula_text.proofs.Cuts.{by_first, drop_front, front_len, left, right, take_front, IsPart, Starts}
+use Rattle.formula_text.proofs.Cuts.{by_first, drop_front, front_len, take_front, IsPart, Starts}
 use Rattle.formula_text.proofs.WordsRead.{all_two, all_weaker, column_letters, column_some, first_passes, leads_inside, letter_no_dollar, mark_off, mark_words, plain_first, reference_back, reference_read, reference_words}
 
 -- what an address or a name begins with
@@ -131,23 +132,23 @@ letter_fits b h = (grind (arith, nat_tests, h), grind (arith, nat_tests, h))
 is_named : (name : List ℕ) → is_plain name ≡ true → IsNamed name
 is_named [] h = absurd cc
 is_named (b ∷ bs) h =
-    let word = left (is_word (b ∷ bs)) (not (is_some (address_in (b ∷ bs)))) h in
-    let first = left (is_ascii_alphabetic b) (list_all names_byte bs) word in
-    let more = right (is_ascii_alphabetic b) (list_all names_byte bs) word in
+    let word = (and_parts (is_word (b ∷ bs)) (not (is_some (address_in (b ∷ bs)))) h).0 in
+    let first = (and_parts (is_ascii_alphabetic b) (list_all names_byte bs) word).0 in
+    let more = (and_parts (is_ascii_alphabetic b) (list_all names_byte bs) word).1 in
     let fits = letter_fits b first in
     record {
       some = omega arith;
       letter = first;
       words = rw fits.0 (all_weaker names_byte is_word_byte bs (λ b h. (word_fits b h).0) more);
       undollared = rw fits.1 (all_weaker names_byte (λ b. not (b == 36)) bs (λ b h. (word_fits b h).1) more);
-      unread = no_some (address_in (b ∷ bs)) (right (is_word (b ∷ bs)) (not (is_some (address_in (b ∷ bs)))) h);
+      unread = no_some (address_in (b ∷ bs)) (and_parts (is_word (b ∷ bs)) (not (is_some (address_in (b ∷ bs)))) h).1;
     }
 
 dropped_first : (k : ℕ) (bs : List ℕ) → list_all (λ b. not (b == 36)) bs ≡ true → (get_or (drop k bs) 0 0 == 36) ≡ false
 dropped_first zero [] h = refl
-dropped_first zero (b ∷ bs) h = (let first = left (not (b == 36)) (list_all (λ b. not (b == 36)) bs) h in grind (arith, first))
+dropped_first zero (b ∷ bs) h = (let first = (and_parts (not (b == 36)) (list_all (λ b. not (b == 36)) bs) h).0 in grind (arith, first))
 dropped_first (suc k) [] h = refl
-dropped_first (suc k) (b ∷ bs) h = dropped_first k bs (right (not (b == 36)) (list_all (λ b. not (b == 36)) bs) h)
+dropped_first (suc k) (b ∷ bs) h = dropped_first k bs (and_parts (not (b == 36)) (list_all (λ b. not (b == 36)) bs) h).1
 
 either_none : {X : Type 0} (c : Bool) (o : Option X) → o ≡ None → cond c o None ≡ None
 either_none true o h = h
@@ -209,7 +210,7 @@ same_itself p = grind (arith, nat_tests)
 cell_kind : (cell : Place) (r : Reference) (at : ℕ) → InSheet cell → is_reference r ≡ true → alike r r ≡ true → span_kind cell at (is_fixed r.col) (Some (spanned (resolve r cell) (resolve r cell))) ≡ Cell r
 cell_kind cell r at inside h a =
     let p : Place = resolve r cell in
-    let row : is_fixed r.row ≡ is_fixed r.col = same_is (is_fixed r.row) (is_fixed r.col) (left (same (is_fixed r.row) (is_fixed r.col)) _ a) in
+    let row : is_fixed r.row ≡ is_fixed r.col = same_is (is_fixed r.row) (is_fixed r.col) (and_parts (same (is_fixed r.row) (is_fixed r.col)) _ a).0 in
     ap (λ s. span_kind cell at (is_fixed r.col) (Some s)) (corners p p (omega arith) (omega arith))
     ∙ ap (λ c. cond c (Cell (reference_to p cell (is_fixed r.col) (is_fixed r.col))) (Span (reference_to p cell (is_fixed r.col) (is_fixed r.col)) (reference_to p cell (is_fixed r.col) (is_fixed r.col)))) (same_itself p)
     ∙ ap (λ b. Cell (reference_to p cell (is_fixed r.col) b)) (sym row)
@@ -240,10 +241,10 @@ span_kind_is cell a b at inside h g like order =
     let q : Place = resolve b cell in
     let fixed : Bool = is_fixed a.col in
     let o = ordered p q order in
-    let more = right (same (is_fixed a.row) fixed) (same (is_fixed b.col) fixed && same (is_fixed b.row) fixed) like in
-    let row : is_fixed a.row ≡ fixed = same_is (is_fixed a.row) fixed (left (same (is_fixed a.row) fixed) _ like) in
-    let other_col : is_fixed b.col ≡ fixed = same_is (is_fixed b.col) fixed (left (same (is_fixed b.col) fixed) _ more) in
-    let other_row : is_fixed b.row ≡ fixed = same_is (is_fixed b.row) fixed (right (same (is_fixed b.col) fixed) _ more) in
+    let more = (and_parts (same (is_fixed a.row) fixed) (same (is_fixed b.col) fixed && same (is_fixed b.row) fixed) like).1 in
+    let row : is_fixed a.row ≡ fixed = same_is (is_fixed a.row) fixed (and_parts (same (is_fixed a.row) fixed) _ like).0 in
+    let other_col : is_fixed b.col ≡ fixed = same_is (is_fixed b.col) fixed (and_parts (same (is_fixed b.col) fixed) _ more).0 in
+    let other_row : is_fixed b.row ≡ fixed = same_is (is_fixed b.row) fixed (and_parts (same (is_fixed b.col) fixed) _ more).1 in
     let one : reference_to p cell fixed fixed ≡ a = ap (λ x. reference_to p cell fixed x) (sym row) ∙ reference_back a cell inside h in
     let two : reference_to q cell fixed fixed ≡ b = ap (λ x. reference_to q cell x fixed) (sym other_col) ∙ ap (λ x. reference_to q cell (is_fixed b.col) x) (sym other_row) ∙ reference_back b cell inside g in
     ap (λ s. span_kind cell at fixed (Some s)) (corners p q o.rows o.cols)
@@ -256,8 +257,8 @@ span_by names cell a b None keyed inside h g is = corners_part names cell a b in
 span_by names cell a b (Some name) keyed inside h g is =
     let s : Extent = spanned (resolve a cell) (resolve b cell) in
     let parts = if_some (alike a b && in_order (resolve a cell) (resolve b cell)) (name_of_span names s) name is in
-    let like = left (alike a b) (in_order (resolve a cell) (resolve b cell)) parts.0 in
-    let order = right (alike a b) (in_order (resolve a cell) (resolve b cell)) parts.0 in
+    let like = (and_parts (alike a b) (in_order (resolve a cell) (resolve b cell)) parts.0).0 in
+    let order = (and_parts (alike a b) (in_order (resolve a cell) (resolve b cell)) parts.0).1 in
     name_part names cell (is_fixed a.col) name s (Span a b) (finds names s name keyed parts.1) (λ at. span_kind_is cell a b at inside h g like order)
 
 pub span_part : (names : NameMap) (cell : Place) (a b : Reference) → AreKeys names → InSheet cell → is_reference a ≡ true → is_reference b ≡ true → IsPart names cell (span_text names cell a b) (Span a b)

@@ -1,6 +1,7 @@
 -- The tree of a text that is accepted is a formula's.
 use Rattle.std.proofs.Common.{◌≡◌, ℕ, suc, ◌+◌, ◌*◌, ◌≤◌, Bool, true, false, cond, ◌&&◌, nat_le, List, [], ◌∷◌, ◌++◌, length, Ok, Err, refl, subst, arith, length-append}
 use Rattle.std.proofs.lemmas.Bool.Decides.{nat_tests}
+use Rattle.std.proofs.lemmas.Bool.{and_from, and_parts}
 use Rattle.std.specs.List.{list_all}
 use Rattle.formula_tree.specs.declared.function.Function.{Function as AtFunction}
 use Rattle.formula_tree.specs.declared.ast.Op.{Op}
@@ -21,22 +22,13 @@ use Rattle.formula_tree.specs.Shape.{has_no_quote}
 use Rattle.formula_text.specs.Fine.{are_fine, is_fine_kind, is_fine_token}
 use Rattle.formula_text.specs.Reads.{is_called}
 
-left : (a b : Bool) → (a && b) ≡ true → a ≡ true
-left a b p = grind arith
-
-right : (a b : Bool) → (a && b) ≡ true → b ≡ true
-right a b p = grind arith
-
-pair : (a b : Bool) → a ≡ true → b ≡ true → (a && b) ≡ true
-pair a b p q = grind arith
-
 -- so few tokens, and each keeps what the parts keep
 abbrev Fine : ℕ → Verdict → Type 0
 Fine n (Ok ts) = (length ts ≤ n) × (list_all is_fine_token ts ≡ true)
 Fine n (Err f) = Unit {0}
 
 one_more : (x : Token) (n : ℕ) (v : Verdict) → is_fine_token x ≡ true → Fine n v → Fine (suc n) (after (x ∷ []) v)
-one_more x n (Ok ts) p h = (omega (arith, h.0), pair _ _ p h.1)
+one_more x n (Ok ts) p h = (omega (arith, h.0), and_from _ _ p h.1)
 one_more x n (Err f) p h = tt
 
 no_more : (n : ℕ) (v : Verdict) → Fine n v → Fine (suc n) v
@@ -129,16 +121,16 @@ mutual
   operands_fine : (ls : List Lexeme) → are_fine ls ≡ true → (bs : Brackets) → Fine (length ls) (operand_first ls bs)
   operands_fine [] p bs = tt
   operands_fine (l ∷ ls) p bs =
-      operand_fine l.kind l.at bs (length ls) (operand_first ls) (operator_first ls) (bracket_first ls) (left (is_fine_kind l.kind) (are_fine ls) p) (operands_fine ls (right (is_fine_kind l.kind) (are_fine ls) p)) (operators_fine ls (right (is_fine_kind l.kind) (are_fine ls) p)) (brackets_fine ls (right (is_fine_kind l.kind) (are_fine ls) p))
+      operand_fine l.kind l.at bs (length ls) (operand_first ls) (operator_first ls) (bracket_first ls) (and_parts (is_fine_kind l.kind) (are_fine ls) p).0 (operands_fine ls (and_parts (is_fine_kind l.kind) (are_fine ls) p).1) (operators_fine ls (and_parts (is_fine_kind l.kind) (are_fine ls) p).1) (brackets_fine ls (and_parts (is_fine_kind l.kind) (are_fine ls) p).1)
 
   operators_fine : (ls : List Lexeme) → are_fine ls ≡ true → (bs : Brackets) → Fine (length ls) (operator_first ls bs)
   operators_fine [] p bs = at_end_fine bs
   operators_fine (l ∷ ls) p bs =
-      operator_fine l.kind l.at bs (length ls) (operand_first ls) (operator_first ls) (operands_fine ls (right (is_fine_kind l.kind) (are_fine ls) p)) (operators_fine ls (right (is_fine_kind l.kind) (are_fine ls) p))
+      operator_fine l.kind l.at bs (length ls) (operand_first ls) (operator_first ls) (operands_fine ls (and_parts (is_fine_kind l.kind) (are_fine ls) p).1) (operators_fine ls (and_parts (is_fine_kind l.kind) (are_fine ls) p).1)
 
   brackets_fine : (ls : List Lexeme) → are_fine ls ≡ true → (f : AtFunction) (bs : Brackets) → Fine (length ls) (bracket_first ls f bs)
   brackets_fine [] p f bs = tt
-  brackets_fine (l ∷ ls) p f bs = bracket_fine l.kind l.at (length ls) (operand_first ls (Call f 0 ∷ bs)) (operands_fine ls (right (is_fine_kind l.kind) (are_fine ls) p) (Call f 0 ∷ bs))
+  brackets_fine (l ∷ ls) p f bs = bracket_fine l.kind l.at (length ls) (operand_first ls (Call f 0 ∷ bs)) (operands_fine ls (and_parts (is_fine_kind l.kind) (are_fine ls) p).1 (Call f 0 ∷ bs))
 
 -- the tokens of a text that is accepted
 pub few_and_fine : (ls : List Lexeme) (ts : List Token) → are_fine ls ≡ true → operand_first ls [] ≡ Ok ts → (length ts ≤ length ls) × (list_all is_fine_token ts ≡ true)
@@ -147,8 +139,8 @@ few_and_fine ls ts p h = subst (Fine (length ls)) h (operands_fine ls p [])
 all_parts : (xs ys : List Token) → list_all is_fine_token (xs ++ ys) ≡ true → (list_all is_fine_token xs ≡ true) × (list_all is_fine_token ys ≡ true)
 all_parts [] ys p = (refl, p)
 all_parts (x ∷ xs) ys p =
-    let rest = all_parts xs ys (right (is_fine_token x) (list_all is_fine_token (xs ++ ys)) p) in
-    (pair _ _ (left (is_fine_token x) (list_all is_fine_token (xs ++ ys)) p) rest.0, rest.1)
+    let rest = all_parts xs ys (and_parts (is_fine_token x) (list_all is_fine_token (xs ++ ys)) p).1 in
+    (and_from _ _ (and_parts (is_fine_token x) (list_all is_fine_token (xs ++ ys)) p).0 rest.0, rest.1)
 
 -- what a tree takes for its tokens
 record Bounded (t : Tree) : Type 0 where
@@ -177,10 +169,10 @@ length_part n p = grind (arith, nat_tests)
 
 mutual
   bounded : (t : Tree) → list_all is_fine_token (tokens t) ≡ true → every is_bracketed t ≡ true → every is_called t ≡ true → Bounded t
-  bounded (num v) p w c = record { fine = left (not_negative v) true p; sized = omega (arith, three_or_nine (is_short v)); shallow = omega arith }
+  bounded (num v) p w c = record { fine = (and_parts (not_negative v) true p).0; sized = omega (arith, three_or_nine (is_short v)); shallow = omega arith }
   bounded (str t) p w c =
-      let q = left (has_no_quote t && nat_le (length t) 240) true p in
-      record { fine = left (has_no_quote t) (nat_le (length t) 240) q; sized = omega (arith, length_part (length t) (right (has_no_quote t) (nat_le (length t) 240) q)); shallow = omega arith }
+      let q = (and_parts (has_no_quote t && nat_le (length t) 240) true p).0 in
+      record { fine = (and_parts (has_no_quote t) (nat_le (length t) 240) q).0; sized = omega (arith, length_part (length t) (and_parts (has_no_quote t) (nat_le (length t) 240) q).1); shallow = omega arith }
   bounded (cell r) p w c = record { fine = refl; sized = omega arith; shallow = omega arith }
   bounded (span a b) p w c = record { fine = refl; sized = omega arith; shallow = omega arith }
   bounded (group a) p w c =
@@ -188,32 +180,32 @@ mutual
       let e = length-append (tokens a) (closing ∷ []) in
       record { fine = r.fine; sized = omega (arith, r.sized, e); shallow = omega (arith, r.shallow, e) }
   bounded (neg a) p w c =
-      let r = bounded a p (right (is_bracketed (neg a)) (every is_bracketed a) w) c in
-      record { fine = pair _ _ (pair _ _ (left (is_bracketed (neg a)) (every is_bracketed a) w) refl) r.fine; sized = omega (arith, r.sized); shallow = omega (arith, r.shallow) }
+      let r = bounded a p (and_parts (is_bracketed (neg a)) (every is_bracketed a) w).1 c in
+      record { fine = and_from _ _ (and_from _ _ (and_parts (is_bracketed (neg a)) (every is_bracketed a) w).0 refl) r.fine; sized = omega (arith, r.sized); shallow = omega (arith, r.shallow) }
   bounded (not a) p w c =
-      let r = bounded a p (right (is_bracketed (not a)) (every is_bracketed a) w) c in
-      record { fine = pair _ _ (pair _ _ (left (is_bracketed (not a)) (every is_bracketed a) w) refl) r.fine; sized = omega (arith, r.sized); shallow = omega (arith, r.shallow) }
+      let r = bounded a p (and_parts (is_bracketed (not a)) (every is_bracketed a) w).1 c in
+      record { fine = and_from _ _ (and_from _ _ (and_parts (is_bracketed (not a)) (every is_bracketed a) w).0 refl) r.fine; sized = omega (arith, r.sized); shallow = omega (arith, r.shallow) }
   bounded (binary op a b) p w c =
       let ps = all_parts (tokens a) (infix_op op ∷ tokens b) p in
-      let ws = right (is_bracketed (binary op a b)) (every is_bracketed a && every is_bracketed b) w in
-      let r = bounded a ps.0 (left (every is_bracketed a) (every is_bracketed b) ws) (left (every is_called a) (every is_called b) c) in
-      let s = bounded b ps.1 (right (every is_bracketed a) (every is_bracketed b) ws) (right (every is_called a) (every is_called b) c) in
+      let ws = (and_parts (is_bracketed (binary op a b)) (every is_bracketed a && every is_bracketed b) w).1 in
+      let r = bounded a ps.0 (and_parts (every is_bracketed a) (every is_bracketed b) ws).0 (and_parts (every is_called a) (every is_called b) c).0 in
+      let s = bounded b ps.1 (and_parts (every is_bracketed a) (every is_bracketed b) ws).1 (and_parts (every is_called a) (every is_called b) c).1 in
       let e = length-append (tokens a) (infix_op op ∷ tokens b) in
       record {
-        fine = pair _ _ (pair _ _ (left (is_bracketed (binary op a b)) (every is_bracketed a && every is_bracketed b) w) refl) (pair _ _ r.fine s.fine);
+        fine = and_from _ _ (and_from _ _ (and_parts (is_bracketed (binary op a b)) (every is_bracketed a && every is_bracketed b) w).0 refl) (and_from _ _ r.fine s.fine);
         sized = omega (arith, r.sized, s.sized, e);
         shallow = omega (arith, r.shallow, s.shallow, e);
       }
   bounded (call f no_trees) p w c =
-      record { fine = pair _ _ (pair _ _ (left (takes (counts_of f) 0) true p) refl) refl; sized = omega (arith, call_small f); shallow = omega arith }
+      record { fine = and_from _ _ (and_from _ _ (and_parts (takes (counts_of f) 0) true p).0 refl) refl; sized = omega (arith, call_small f); shallow = omega arith }
   bounded (call f (trees a rest)) p w c =
       let ps = all_parts (tokens a) (more_tokens rest) p in
-      let cs = right (is_called (call f (trees a rest))) (every is_called a && every_one is_called rest) c in
-      let r = bounded a ps.0 (left (every is_bracketed a) (every_one is_bracketed rest) w) (left (every is_called a) (every_one is_called rest) cs) in
-      let s = all_bounded rest ps.1 (right (every is_bracketed a) (every_one is_bracketed rest) w) (right (every is_called a) (every_one is_called rest) cs) in
+      let cs = (and_parts (is_called (call f (trees a rest))) (every is_called a && every_one is_called rest) c).1 in
+      let r = bounded a ps.0 (and_parts (every is_bracketed a) (every_one is_bracketed rest) w).0 (and_parts (every is_called a) (every_one is_called rest) cs).0 in
+      let s = all_bounded rest ps.1 (and_parts (every is_bracketed a) (every_one is_bracketed rest) w).1 (and_parts (every is_called a) (every_one is_called rest) cs).1 in
       let e = length-append (tokens a) (more_tokens rest) in
       record {
-        fine = pair _ _ (pair _ _ (left (is_called (call f (trees a rest))) (every is_called a && every_one is_called rest) c) refl) (pair _ _ r.fine s.fine);
+        fine = and_from _ _ (and_from _ _ (and_parts (is_called (call f (trees a rest))) (every is_called a && every_one is_called rest) c).0 refl) (and_from _ _ r.fine s.fine);
         sized = omega (arith, r.sized, s.sized, e, call_small f);
         shallow = omega (arith, r.shallow, s.shallow, e);
       }
@@ -222,10 +214,10 @@ mutual
   all_bounded no_trees p w c = record { fine = refl; sized = omega arith; shallow = omega arith }
   all_bounded (trees a rest) p w c =
       let ps = all_parts (tokens a) (more_tokens rest) p in
-      let r = bounded a ps.0 (left (every is_bracketed a) (every_one is_bracketed rest) w) (left (every is_called a) (every_one is_called rest) c) in
-      let s = all_bounded rest ps.1 (right (every is_bracketed a) (every_one is_bracketed rest) w) (right (every is_called a) (every_one is_called rest) c) in
+      let r = bounded a ps.0 (and_parts (every is_bracketed a) (every_one is_bracketed rest) w).0 (and_parts (every is_called a) (every_one is_called rest) c).0 in
+      let s = all_bounded rest ps.1 (and_parts (every is_bracketed a) (every_one is_bracketed rest) w).1 (and_parts (every is_called a) (every_one is_called rest) c).1 in
       let e = length-append (tokens a) (more_tokens rest) in
-      record { fine = pair _ _ r.fine s.fine; sized = omega (arith, r.sized, s.sized, e); shallow = omega (arith, r.shallow, s.shallow, e) }
+      record { fine = and_from _ _ r.fine s.fine; sized = omega (arith, r.sized, s.sized, e); shallow = omega (arith, r.shallow, s.shallow, e) }
 
 few_bytes : (n m : ℕ) → n ≤ 242 * m → m ≤ 240 → nat_le (1 + n) 65520 ≡ true
 few_bytes n m p q = grind (arith, nat_tests)
@@ -237,5 +229,5 @@ is_formula ls t n p h w c =
     let b = bounded t ts.1 w c in
     record {
       shallow = omega (arith, n, ts.0, b.shallow);
-      shaped = pair _ _ b.fine (few_bytes (nodes_size t) (length (tokens t)) b.sized (omega (arith, n, ts.0)));
+      shaped = and_from _ _ b.fine (few_bytes (nodes_size t) (length (tokens t)) b.sized (omega (arith, n, ts.0)));
     }

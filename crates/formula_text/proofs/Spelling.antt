@@ -1,6 +1,7 @@
 -- A text that has no fault spells the tree of its tokens.
 use Rattle.std.proofs.Common.{◌≡◌, ℕ, ◌+◌, ◌≤◌, ◌<◌, min, Bool, true, false, cond, ◌&&◌, nat_le, nat_lt, List, [], ◌∷◌, ◌++◌, length, Result, Ok, Err, IfOk, refl, sym, ap, ◌∙◌, subst, arith, append_assoc, append-nil}
 use Rattle.std.proofs.lemmas.Bool.Decides.{nat_tests}
+use Rattle.std.proofs.lemmas.Bool.{and_from, and_parts}
 use Rattle.formula_tree.specs.declared.function.Function.{Function as AtFunction}
 use Rattle.formula_tree.specs.declared.ast.Op.{Op}
 use Rattle.formula_tree.specs.declared.ast.Op.TheVariants.{Pow, Mul, Div, Add, Sub, Eq, Ne, Lt, Gt, Le, Ge, And, Or, Join}
@@ -62,15 +63,6 @@ is_below a b h = grind (arith, nat_tests)
 below : (a b : ℕ) → a < b → nat_lt a b ≡ true
 below a b h = grind (arith, nat_tests)
 
-pair : (a b : Bool) → a ≡ true → b ≡ true → (a && b) ≡ true
-pair a b p q = grind arith
-
-left : (a b : Bool) → (a && b) ≡ true → a ≡ true
-left a b p = grind arith
-
-right : (a b : Bool) → (a && b) ≡ true → b ≡ true
-right a b p = grind arith
-
 -- the operator at the top stays, or is the new one
 beside_top : (op : Op) (t x : Tree) (n : ℕ) → n < top t → min (lowest t) n < level op → n < top (beside op t x)
 beside_top op (num v) x n h k = omega (arith, h, k)
@@ -96,7 +88,7 @@ beside_top op (binary o a b) x n h k = either (nat_le (level op) (lowest (binary
     either false e = h
 
 well_binary : (op : Op) (a b : Tree) → every is_bracketed a ≡ true → every is_bracketed b ≡ true → nat_le (level op) (lowest a) ≡ true → nat_lt (level op) (top b) ≡ true → every is_bracketed (binary op a b) ≡ true
-well_binary op a b p q h k = pair _ _ (pair _ _ h k) (pair _ _ p q)
+well_binary op a b p q h k = and_from _ _ (and_from _ _ h k) (and_from _ _ p q)
 
 level_within : (op : Op) → nat_le (level op) 8 ≡ true
 level_within op = let h = level_below op in grind (arith, nat_tests, h)
@@ -112,27 +104,27 @@ beside_well op (cell v) x w u e = well_binary op (cell v) x w u (level_within op
 beside_well op (span v z) x w u e = well_binary op (span v z) x w u (level_within op) (tight op x e)
 beside_well op (group a) x w u e = well_binary op (group a) x w u (level_within op) (tight op x e)
 beside_well op (call f ts) x w u e = well_binary op (call f ts) x w u (level_within op) (tight op x e)
-beside_well op (neg a) x w u e = either (nat_le (level op) (lowest (neg a))) refl (beside_well op a x (right (nat_lt 6 (top a)) (every is_bracketed a) w) u e)
+beside_well op (neg a) x w u e = either (nat_le (level op) (lowest (neg a))) refl (beside_well op a x (and_parts (nat_lt 6 (top a)) (every is_bracketed a) w).1 u e)
   where
     either : (b : Bool) → nat_le (level op) (lowest (neg a)) ≡ b → every is_bracketed (beside op a x) ≡ true → every is_bracketed (cond b (binary op (neg a) x) (neg (beside op a x))) ≡ true
     either true k h = well_binary op (neg a) x w u k (tight op x e)
-    either false k h = pair _ _ (below _ _ (beside_top op a x 6 (is_below _ _ (left (nat_lt 6 (top a)) (every is_bracketed a) w)) (is_more _ _ k))) h
-beside_well op (not a) x w u e = either (nat_le (level op) (lowest (not a))) refl (beside_well op a x (right (nat_lt 2 (top a)) (every is_bracketed a) w) u e)
+    either false k h = and_from _ _ (below _ _ (beside_top op a x 6 (is_below _ _ (and_parts (nat_lt 6 (top a)) (every is_bracketed a) w).0) (is_more _ _ k))) h
+beside_well op (not a) x w u e = either (nat_le (level op) (lowest (not a))) refl (beside_well op a x (and_parts (nat_lt 2 (top a)) (every is_bracketed a) w).1 u e)
   where
     either : (b : Bool) → nat_le (level op) (lowest (not a)) ≡ b → every is_bracketed (beside op a x) ≡ true → every is_bracketed (cond b (binary op (not a) x) (not (beside op a x))) ≡ true
     either true k h = well_binary op (not a) x w u k (tight op x e)
-    either false k h = pair _ _ (below _ _ (beside_top op a x 2 (is_below _ _ (left (nat_lt 2 (top a)) (every is_bracketed a) w)) (is_more _ _ k))) h
+    either false k h = and_from _ _ (below _ _ (beside_top op a x 2 (is_below _ _ (and_parts (nat_lt 2 (top a)) (every is_bracketed a) w).0) (is_more _ _ k))) h
 beside_well op (binary o a b) x w u e =
-    let node = left (is_bracketed (binary o a b)) (every is_bracketed a && every is_bracketed b) w in
-    let parts = right (is_bracketed (binary o a b)) (every is_bracketed a && every is_bracketed b) w in
-    either node parts (nat_le (level op) (lowest (binary o a b))) refl (beside_well op b x (right (every is_bracketed a) (every is_bracketed b) parts) u e)
+    let node = (and_parts (is_bracketed (binary o a b)) (every is_bracketed a && every is_bracketed b) w).0 in
+    let parts = (and_parts (is_bracketed (binary o a b)) (every is_bracketed a && every is_bracketed b) w).1 in
+    either node parts (nat_le (level op) (lowest (binary o a b))) refl (beside_well op b x (and_parts (every is_bracketed a) (every is_bracketed b) parts).1 u e)
   where
     either : is_bracketed (binary o a b) ≡ true → (every is_bracketed a && every is_bracketed b) ≡ true → (c : Bool) → nat_le (level op) (lowest (binary o a b)) ≡ c → every is_bracketed (beside op b x) ≡ true →
         every is_bracketed (cond c (binary op (binary o a b) x) (binary o a (beside op b x))) ≡ true
     either node parts true k h = well_binary op (binary o a b) x w u k (tight op x e)
     either node parts false k h =
-        well_binary o a (beside op b x) (left (every is_bracketed a) (every is_bracketed b) parts) h (left (nat_le (level o) (lowest a)) (nat_lt (level o) (top b)) node)
-        (below _ _ (beside_top op b x (level o) (is_below _ _ (right (nat_le (level o) (lowest a)) (nat_lt (level o) (top b)) node)) (is_more _ _ k)))
+        well_binary o a (beside op b x) (and_parts (every is_bracketed a) (every is_bracketed b) parts).0 h (and_parts (nat_le (level o) (lowest a)) (nat_lt (level o) (top b)) node).0
+        (below _ _ (beside_top op b x (level o) (is_below _ _ (and_parts (nat_le (level o) (lowest a)) (nat_lt (level o) (top b)) node).1) (is_more _ _ k)))
 
 -- ---- what stands before an operand
 
@@ -155,13 +147,13 @@ high n x h e = below _ _ (omega (arith, h, e))
 behind_minus : (f : Tree → Tree) (front : List Token) → IsFront f front → IsFront (λ x. f (neg x)) (front ++ front_minus ∷ [])
 behind_minus f front i = record {
   same = λ x. i.same (neg x) ∙ sym (append_assoc front (front_minus ∷ []) (tokens x));
-  well = λ x u e. i.well (neg x) (pair _ _ (high 6 x (omega arith) e) u) refl;
+  well = λ x u e. i.well (neg x) (and_from _ _ (high 6 x (omega arith) e) u) refl;
 }
 
 behind_not : (f : Tree → Tree) (front : List Token) → IsFront f front → IsFront (λ x. f (not x)) (front ++ front_not ∷ [])
 behind_not f front i = record {
   same = λ x. i.same (not x) ∙ sym (append_assoc front (front_not ∷ []) (tokens x));
-  well = λ x u e. i.well (not x) (pair _ _ (high 2 x (omega arith) e) u) refl;
+  well = λ x u e. i.well (not x) (and_from _ _ (high 2 x (omega arith) e) u) refl;
 }
 
 -- ---- the tokens of complete arguments, each with its comma
@@ -183,8 +175,8 @@ call_tokens g [] t = refl
 call_tokens g (u ∷ us) t = ap (λ x. called g ∷ (tokens u ++ x)) (last_more us t) ∙ ap (λ x. called g ∷ x) (sym (append_assoc (tokens u) (comma ∷ with_commas us) (tokens t ++ closing ∷ [])))
 
 all_well : (us : List Tree) (t : Tree) → every_one is_bracketed (listed us) ≡ true → every is_bracketed t ≡ true → every_one is_bracketed (listed (us ++ t ∷ [])) ≡ true
-all_well [] t p q = pair _ _ q refl
-all_well (u ∷ us) t p q = pair _ _ (left (every is_bracketed u) (every_one is_bracketed (listed us)) p) (all_well us t (right (every is_bracketed u) (every_one is_bracketed (listed us)) p) q)
+all_well [] t p q = and_from _ _ q refl
+all_well (u ∷ us) t p q = and_from _ _ (and_parts (every is_bracketed u) (every_one is_bracketed (listed us)) p).0 (all_well us t (and_parts (every is_bracketed u) (every_one is_bracketed (listed us)) p).1 q)
 
 -- ---- the open brackets, and the tokens before the innermost one's
 

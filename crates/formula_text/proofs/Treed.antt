@@ -1,6 +1,7 @@
 -- What the tree of tokens is.
 use Rattle.std.proofs.Common.{◌≡◌, ℕ, ◌≤◌, ◌<◌, min, Bool, true, false, cond, ◌&&◌, nat_le, nat_lt, List, [], ◌∷◌, ◌++◌, refl, sym, ap, ◌∙◌, arith, append_assoc, append-nil}
 use Rattle.std.proofs.lemmas.Bool.Decides.{nat_tests}
+use Rattle.std.proofs.lemmas.Bool.{and_parts}
 use Rattle.formula_tree.specs.declared.ast.Op.{Op}
 use Rattle.formula_tree.specs.declared.ast.Op.TheVariants.{Pow, Mul, Div, Add, Sub, Eq, Ne, Lt, Gt, Le, Ge, And, Or, Join}
 use Rattle.formula_tree.specs.declared.function.Function.{Function as AtFunction}
@@ -146,12 +147,6 @@ lowest_below (not a) = omega arith
 lowest_below (binary op a b) = omega arith
 lowest_below (call f ts) = omega arith
 
--- the parts of a well bracketed tree
-both : (a b : Bool) → (a && b) ≡ true → (a ≡ true) × (b ≡ true)
-both true true h = (refl, refl)
-both true false h = absurd (let e : false ≡ true = h in cc)
-both false b h = absurd (let e : false ≡ true = h in cc)
-
 record Parts (op : Op) (a b : Tree) : Type 0 where
   left : every is_bracketed a ≡ true
   right : every is_bracketed b ≡ true
@@ -160,9 +155,9 @@ record Parts (op : Op) (a b : Tree) : Type 0 where
 
 parts : (op : Op) (a b : Tree) → every is_bracketed (binary op a b) ≡ true → Parts op a b
 parts op a b h =
-    let p = both (is_bracketed (binary op a b)) (every is_bracketed a && every is_bracketed b) h in
-    let q = both (nat_le (level op) (lowest a)) (nat_lt (level op) (top b)) p.0 in
-    let r = both (every is_bracketed a) (every is_bracketed b) p.1 in
+    let p = and_parts (is_bracketed (binary op a b)) (every is_bracketed a && every is_bracketed b) h in
+    let q = and_parts (nat_le (level op) (lowest a)) (nat_lt (level op) (top b)) p.0 in
+    let r = and_parts (every is_bracketed a) (every is_bracketed b) p.1 in
     record { left = r.0; right = r.1; edge = at_most _ _ q.0; tight = is_below _ _ q.1 }
 
 -- the arguments behind others
@@ -198,10 +193,10 @@ mutual
       ap (λ ts. wanting (λ x. x) (plain f ∷ outer) ts) (append_assoc (tokens a) (closing ∷ []) rest)
       ∙ found a (λ x. x) 0 (plain f ∷ outer) (closing ∷ rest) w passes_none (one_top a)
   found (neg a) f n outer rest w p h =
-      let q = both (nat_lt 6 (top a)) (every is_bracketed a) w in
+      let q = and_parts (nat_lt 6 (top a)) (every is_bracketed a) w in
       found a (λ x. f (neg x)) 6 outer rest q.1 (passes_neg f n p) (is_below _ _ q.0)
   found (not a) f n outer rest w p h =
-      let q = both (nat_lt 2 (top a)) (every is_bracketed a) w in
+      let q = and_parts (nat_lt 2 (top a)) (every is_bracketed a) w in
       found a (λ x. f (not x)) 2 outer rest q.1 (passes_not f n p) (is_below _ _ q.0)
   found (binary op a b) f n outer rest w p h =
       let q = parts op a b w in
@@ -211,7 +206,7 @@ mutual
       ∙ ap (λ x. having x outer rest) (p op a b (omega (arith, h)) ∙ ap f (taken op a b q.edge))
   found (call g no_trees) f n outer rest w p h = refl
   found (call g (trees a ts)) f n outer rest w p h =
-      let q = both (every is_bracketed a) (every_one is_bracketed ts) w in
+      let q = and_parts (every is_bracketed a) (every_one is_bracketed ts) w in
       ap (λ us. wanting (λ x. x) (function f g [] ∷ outer) us) (append_assoc (tokens a) (more_tokens ts) rest)
       ∙ found a (λ x. x) 0 (function f g [] ∷ outer) (more_tokens ts ++ rest) q.0 passes_none (one_top a)
       ∙ more_found ts a f g [] outer rest q.1
@@ -221,7 +216,7 @@ mutual
       having a (function f g us ∷ outer) (more_tokens ts ++ rest) ≡ having (f (call g (listed (further (us ++ a ∷ []) ts)))) outer rest
   more_found no_trees a f g us outer rest w = refl
   more_found (trees b ts) a f g us outer rest w =
-      let q = both (every is_bracketed b) (every_one is_bracketed ts) w in
+      let q = and_parts (every is_bracketed b) (every_one is_bracketed ts) w in
       ap (λ vs. wanting (λ x. x) (function f g (us ++ a ∷ []) ∷ outer) vs) (append_assoc (tokens b) (more_tokens ts) rest)
       ∙ found b (λ x. x) 0 (function f g (us ++ a ∷ []) ∷ outer) (more_tokens ts ++ rest) q.0 passes_none (one_top b)
       ∙ more_found ts b f g (us ++ a ∷ []) outer rest q.1

@@ -2,7 +2,7 @@
 use Rattle.std.specs.Char.{is_ascii_alphabetic, is_ascii_digit}
 use Rattle.std.proofs.Common.{◌≡◌, ◌⊎◌, ℕ, ◌+◌, ◌-◌, ◌*◌, ◌%◌, ◌/◌, ◌≤◌, ◌<◌, Bool, true, false, ◌&&◌, cond, ◌==◌, nat_le, nat_lt, List, [], ◌∷◌, ◌++◌, take, drop, length, get_or, Some, None, refl, ap, ◌∙◌, arith, inl, inr}
 use Rattle.std.specs.List.{list_all}
-use Rattle.std.proofs.lemmas.Bool.{cases_Bool}
+use Rattle.std.proofs.lemmas.Bool.{and_parts, cases_Bool}
 use Rattle.std.proofs.lemmas.Bool.Decides.{nat_tests}
 use Rattle.std.proofs.lemmas.Nat.{mod-mul-add, mod_below}
 use Rattle.std.proofs.lemmas.List.Folds.{list_all-append}
@@ -17,7 +17,7 @@ use Rattle.grid_address.proofs.Written.{address_written, decimal_digits, decimal
 use Rattle.formula_tree.specs.Ranges.{is_reference}
 use Rattle.formula_text.specs.Printed.{mark, reference_text}
 use Rattle.formula_text.specs.Words.{behind_letters, has_dollar, is_word_byte, letters_len, marked, plain_address, reference_from, reference_in, without_dollar}
-use Rattle.formula_text.proofs.Cuts.{drop_front, front_len, left, right, take_front}
+use Rattle.formula_text.proofs.Cuts.{drop_front, front_len, take_front}
 
 -- an offset leads back to itself
 wraps : (t at n count : ℕ) → at < count → n < count → (t ≡ at + n) ⊎ (t + count ≡ at + n) → axis_to false t at count ≡ Offset n
@@ -42,7 +42,7 @@ axis_back (Fixed n) at count h g = refl
 axis_back (Offset n) at count h g = wraps ((at + n) % count) at n count h g (once (at + n) count (omega (arith, h)) (omega (arith, h, g)))
 
 low : (n m k l : ℕ) → (nat_lt n k && nat_lt m l) ≡ true → (n < k) × (m < l)
-low n m k l h = (let p = left (nat_lt n k) (nat_lt m l) h in let q = right (nat_lt n k) (nat_lt m l) h in (grind (arith, nat_tests, p), grind (arith, nat_tests, q)))
+low n m k l h = (let p = (and_parts (nat_lt n k) (nat_lt m l) h).0 in let q = (and_parts (nat_lt n k) (nat_lt m l) h).1 in (grind (arith, nat_tests, p), grind (arith, nat_tests, q)))
 
 pub reference_back : (r : Reference) (cell : Place) → InSheet cell → is_reference r ≡ true → reference_to (resolve r cell) cell (is_fixed r.col) (is_fixed r.row) ≡ r
 reference_back r cell inside h =
@@ -95,11 +95,11 @@ digit_no_letter b h = grind (arith, nat_tests, h)
 -- the first byte of bytes that all pass
 pub first_passes : (p : ℕ → Bool) (xs rest : List ℕ) → 0 < length xs → list_all p xs ≡ true → p (get_or (xs ++ rest) 0 0) ≡ true
 first_passes p [] rest some all = absurd (omega arith)
-first_passes p (x ∷ xs) rest some all = left (p x) (list_all p xs) all
+first_passes p (x ∷ xs) rest some all = (and_parts (p x) (list_all p xs) all).0
 
 first_alone : (p : ℕ → Bool) (xs : List ℕ) → 0 < length xs → list_all p xs ≡ true → p (get_or xs 0 0) ≡ true
 first_alone p [] some all = absurd (omega arith)
-first_alone p (x ∷ xs) some all = left (p x) (list_all p xs) all
+first_alone p (x ∷ xs) some all = (and_parts (p x) (list_all p xs) all).0
 
 -- behind a mark or none
 pub mark_off : (fixed : Bool) (rest : List ℕ) → (get_or rest 0 0 == 36) ≡ false → (has_dollar (mark fixed ++ rest) ≡ fixed) × (without_dollar (mark fixed ++ rest) ≡ rest)
@@ -147,7 +147,7 @@ digit_word b h = grind (arith, h)
 
 pub all_weaker : (p q : ℕ → Bool) (xs : List ℕ) → ((b : ℕ) → p b ≡ true → q b ≡ true) → list_all p xs ≡ true → list_all q xs ≡ true
 all_weaker p q [] f h = refl
-all_weaker p q (x ∷ xs) f h = (let first = f x (left (p x) (list_all p xs) h) in rw first (all_weaker p q xs f (right (p x) (list_all p xs) h)))
+all_weaker p q (x ∷ xs) f h = (let first = f x (and_parts (p x) (list_all p xs) h).0 in rw first (all_weaker p q xs f (and_parts (p x) (list_all p xs) h).1))
 
 pub mark_words : (fixed : Bool) → list_all is_word_byte (mark fixed) ≡ true
 mark_words true = refl

@@ -1,11 +1,11 @@
 use Rattle.std.proofs.Common.{◌≡◌, ◌≤◌, ◌++◌, ◌&&◌, true, false, nat_le, List, ℕ, length, take, sym, ap, ◌∙◌, subst, arith}
 use Rattle.std.proofs.lemmas.Bool.Decides.{nat_tests}
 use Rattle.std.proofs.lemmas.List.{take_all}
+use Rattle.std.proofs.lemmas.Bool.{and_parts}
 use Rattle.formula_tree.specs.Shape.{code_size, every, is_fine}
 use Rattle.formula_text.specs.Printed.{printed, text_of}
 use Rattle.formula_text.specs.Texts.{SpelledBy}
 use Rattle.formula_text.proofs.Again.{spelled}
-use Rattle.formula_text.proofs.Cuts.{left}
 use Rattle.formula_text.proofs.Spelling.{reads}
 use Rattle.formula_text.proofs.Ends.{printed_line, printed_whole}
 use Rattle.formula_text.proofs.printing.print.Goals as goal
@@ -49,7 +49,7 @@ returns-then-out-clause-again c = λ told.
     let fits : nat_le (length text) 240 ≡ true = sym (returns-then-out-clause-whole c) ∙ told in
     let short : length text ≤ 240 = grind (arith, nat_tests, fits) in
     let line : c.put_all.new.self ≡ text = returns-then-out-clause-line c ∙ take_all 240 text short in
-    let fine = left (every is_fine tree) (nat_le (code_size tree) 65520) c.expr.ensures.shape.shaped in
+    let fine = (and_parts (every is_fine tree) (nat_le (code_size tree) 65520) c.expr.ensures.shape.shaped).0 in
     reads names cell c.put_all.new.self tree (subst (λ (l : List ℕ). SpelledBy names cell l tree) (sym line) (spelled names cell c.are_keyed.ensures c.is_on_sheet.ensures tree fine c.expr.ensures.ranges short)))
 
 pub returns-else-out-clause-again : goal.returns-else-out-clause-again
