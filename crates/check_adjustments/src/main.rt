@@ -15,7 +15,7 @@ use check_cases::{Stop, Subject, Words, check};
 use formula_text::{print, read};
 use formula_tree::Formula;
 use grid_address::{Cell, ROWS, Span, cell_text};
-use lics_text::Line;
+use lics_text::{Line, Memory};
 use range_names::Names;
 use ref_adjust::{Change, moved, shifted, span_moved, span_shifted};
 use std::alloc::Global;
@@ -53,7 +53,12 @@ fn change_of(edit: &Edit) -> Option<Change>
 }
 
 // The formula after an edit.
-fn formula_after(edit: &Edit, formula: Formula, old_at: Cell, new_at: Cell) -> Formula {
+fn formula_after(
+    edit: &Edit,
+    formula: &Formula,
+    old_at: Cell,
+    new_at: Cell,
+) -> Result<Formula, Memory> {
     match change_of(edit) {
         Some(change) => shifted(formula, old_at, new_at, change),
         None => {
@@ -62,7 +67,7 @@ fn formula_after(edit: &Edit, formula: Formula, old_at: Cell, new_at: Cell) -> F
             if fits(from, to) {
                 moved(formula, old_at, new_at, from, to)
             } else {
-                formula
+                formula.copy()
             }
         }
     }
@@ -152,7 +157,7 @@ impl Subject for Adjustments {
         let row = row_of(&mut words)?;
         match read(alloc, words.rest(), row.old_at, &self.names) {
             Ok(formula) => {
-                let formula = formula_after(&row.edit, formula, row.old_at, row.new_at);
+                let formula = formula_after(&row.edit, &formula, row.old_at, row.new_at)?;
                 write_span(span_after(&row.edit, row.span), answer)?;
                 write_formula(&formula, row.new_at, &self.names, answer)?;
             }

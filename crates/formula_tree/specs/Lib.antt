@@ -3,6 +3,7 @@ pub mod Formulas
 pub mod Nodes
 pub mod Ranges
 pub mod Redirected
+pub mod Seen
 pub mod Shape
 pub mod Spans
 pub mod Table

@@ -7,16 +7,16 @@ ghost use Rattle.formula_tree.specs.Shape.{every, IsFormula};
 ghost use Rattle.formula_tree.specs.Spans.{is_volatile, spans_of};
 ghost use Rattle.formula_tree.specs.View.{tree_of};
 
-use crate::copies::copy_expr;
 use crate::depth::depth_within;
 use crate::reads::{collect, is_volatile};
-use crate::redirect::redirect_tree;
+use crate::redirect::{keeps_references, redirected_copy};
 use crate::walk::has_shape;
 use crate::{Expr, Redirect};
 use grid_address::{Cell, SpanList};
 use lics_text::Memory;
 use std::alloc::Global;
 use std::marker::Model;
+use std::rc::Rc;
 
 /// Why a tree is no formula's: it is deeper than 256, or it has no formula's shape.
 #[derive(Clone, Copy, Debug, PartialEq, Eq)]
@@ -27,10 +27,11 @@ pub enum TreeFault {
 }
 
 /// A tree that a formula may have. It is at most 256 deep and well bracketed, its functions have the arguments
-/// that they take, its numbers aren't negative, its texts hold no quote, and its code has at most 65,520 bytes.
+/// that they take, its numbers aren't negative, its texts hold no quote, and its code has at most 65,520 bytes. Copies
+/// of a formula share one tree.
 #[derive(Drop)]
 pub struct Formula {
-    expr: Expr,
+    expr: Rc<Expr>,
     alloc: Global,
 }
 
@@ -45,12 +46,12 @@ impl Model for Formula {
     ghost use Rattle.formula_tree.specs.View.{tree_of};
     ghost use Rattle.formula_tree.specs.Shape.{every, IsFormula};
 
-    ghost view = { λ f. tree_of f.expr };
+    ghost view = { λ f. tree_of f.expr.value };
 
     ghost use Rattle.std.specs.Prelude.{◌≡◌, true};
     ghost use Rattle.formula_tree.specs.Ranges.{is_ranged};
 
-    ghost invariant = { λ f. IsFormula (tree_of f.expr) × (every is_ranged (tree_of f.expr) ≡ true) };
+    ghost invariant = { λ f. IsFormula (tree_of f.expr.value) × (every is_ranged (tree_of f.expr.value) ≡ true) };
 }
 
 impl Formula {
@@ -68,7 +69,10 @@ impl Formula {
         if !depth_within(&expr, 256) {
             return Err(TreeFault::TooDeep);
         }
-        Ok(Formula { expr, alloc })
+        match Rc::new(alloc, expr) {
+            Ok(expr) => Ok(Formula { expr, alloc }),
+            Err(_) => Err(TreeFault::Memory),
+        }
     }
 
     /// The tree.
@@ -85,27 +89,30 @@ impl Formula {
         self.alloc
     }
 
-    /// An equal formula.
+    /// An equal formula, which shares this one's tree.
     pub fn copy(&self) -> Result<Formula, Memory>
         ensures { IfOk result (λ f. f ≡ self.now) }
     {
-        match copy_expr(self.alloc, &self.expr) {
-            Ok(expr) => Ok(Formula {
-                expr,
-                alloc: self.alloc,
-            }),
-            Err(Memory) => Err(Memory),
-        }
+        let expr = self.expr.clone()?;
+        Ok(Formula {
+            expr,
+            alloc: self.alloc,
+        })
     }
 
-    /// The formula with each reference redirected, and `@ERR` in the place of an operand that is lost. It takes no
-    /// memory: the tree is changed where it lies.
-    pub fn redirected<R: Redirect>(self, by: &R) -> Formula
-        ensures { result ≡ redirected (R.new_reference by.now) self }
+    /// The formula with each reference redirected, and `@ERR` in the place of an operand that is lost. Where no
+    /// reference changes, its tree is shared with this one's.
+    pub fn redirected<R: Redirect>(&self, by: &R) -> Result<Formula, Memory>
+        ensures { IfOk result (λ f. f ≡ redirected (R.new_reference by.now) self.now) }
     {
-        let Formula { mut expr, alloc } = self;
-        redirect_tree(alloc, &mut expr, by);
-        Formula { expr, alloc }
+        if keeps_references(&self.expr, by) {
+            return self.copy();
+        }
+        let expr = redirected_copy(self.alloc, &self.expr, by)?;
+        Ok(Formula {
+            expr,
+            alloc: self.alloc,
+        })
     }
 
     /// The spans that the formula reads where it stands in the cell, from left to right.

@@ -20,4 +20,4 @@ pub use function::Function;
 pub use redirect::Redirect;
 pub use shape::{level, top};
 pub use table::{Counts, call_size, counts_of, is_volatile_function, takes};
-pub use value::{Content, Value};
+pub use value::{Content, ContentRef, Value, ValueRef};

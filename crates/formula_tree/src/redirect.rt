@@ -1,16 +1,19 @@
 // References that lead elsewhere.
-ghost use Rattle.std.specs.Prelude.{◌≡◌, true, map};
+ghost use Rattle.std.specs.Prelude.{◌≡◌, true, map, Some, IfOk};
 ghost use Rattle.std.specs.List.{list_all};
 ghost use Rattle.formula_tree.specs.Ranges.{is_ranged};
 ghost use Rattle.formula_tree.specs.Redirected.{cell_or_error, error_call, redirected, span_or_error};
 ghost use Rattle.formula_tree.specs.Shape.{every};
 ghost use Rattle.formula_tree.specs.View.{tree_of, trees_in};
 
+use crate::copies::copy_expr;
 use crate::ranges::reference_is_ranged;
 use crate::{Expr, ExprList, Function};
 use grid_address::Ref;
+use lics_text::Memory;
 use std::alloc::Global;
 use std::mem;
+use std::rc::Rc;
 
 /// What references become.
 pub trait Redirect {
@@ -106,4 +109,55 @@ fn redirect_all<R: Redirect>(alloc: Global, args: &mut ExprList, by: &R)
     for i in 0..args.items.len() {
         redirect_tree(alloc, &mut args.items[i], by);
     }
+}
+
+/// A redirected copy of a tree.
+pub fn redirected_copy<R: Redirect>(alloc: Global, expr: &Expr, by: &R) -> Result<Rc<Expr>, Memory>
+    ensures tree { IfOk result (λ e. tree_of e.value ≡ redirected (R.new_reference by.now) (tree_of expr.now)) }
+    ensures ranged { IfOk result (λ e. every is_ranged (tree_of expr.now) ≡ true
+        → every is_ranged (tree_of e.value) ≡ true) }
+{
+    let mut copy = copy_expr(alloc, expr)?;
+    redirect_tree(alloc, &mut copy, by);
+    let shared = Rc::new(alloc, copy)?;
+    Ok(shared)
+}
+
+// Whether a reference stays as it is.
+fn stays<R: Redirect>(reference: Ref, by: &R) -> bool
+    ensures { result ≡ true → R.new_reference by.now reference ≡ Some reference }
+{
+    match by.redirect(reference) {
+        Some(new) => new == reference,
+        None => false,
+    }
+}
+
+/// Whether each reference of a tree stays as it is.
+#[cycle(keeps_references)]
+pub fn keeps_references<R: Redirect>(expr: &Expr, by: &R) -> bool
+    ensures { result ≡ true → redirected (R.new_reference by.now) (tree_of expr.now) ≡ tree_of expr.now }
+{
+    match expr {
+        Expr::Num(_) | Expr::Str(_) => true,
+        Expr::Cell(reference) => stays(*reference, by),
+        Expr::Span(first, last) => stays(*first, by) && stays(*last, by),
+        Expr::Group(inner) | Expr::Neg(inner) | Expr::Not(inner) => keeps_references(inner, by),
+        Expr::Binary(_, left, right) => keeps_references(left, by) && keeps_references(right, by),
+        Expr::Call(_, args) => all_keep(&args.items, by),
+    }
+}
+
+// Whether each reference in the arguments of a call stays as it is.
+#[cycle(keeps_references)]
+fn all_keep<R: Redirect>(args: &[Expr], by: &R) -> bool
+    ensures { result ≡ true
+        → map (λ e. redirected (R.new_reference by.now) (tree_of e)) args.now ≡ map tree_of args.now }
+{
+    for arg in args {
+        if !keeps_references(arg, by) {
+            return false;
+        }
+    }
+    true
 }

@@ -1,5 +1,6 @@
 // What cells hold, and their values.
 ghost use Rattle.std.specs.Prelude.{◌≡◌, IfOk};
+ghost use Rattle.formula_tree.specs.Seen.{seen_content, seen_value};
 ghost use Rattle.formula_tree.specs.Values.{is_filled};
 
 use crate::Formula;
@@ -39,6 +40,54 @@ impl Value {
             Value::Na => Ok(Value::Na),
         }
     }
+
+    /// The value, to be looked at.
+    pub fn as_ref(&self) -> ValueRef<'_>
+        ensures { seen_value result ≡ self.now }
+    {
+        match self {
+            Value::Blank => ValueRef::Blank,
+            Value::Num(number) => ValueRef::Num(*number),
+            Value::Str(text) => ValueRef::Str(text),
+            Value::Err => ValueRef::Err,
+            Value::Na => ValueRef::Na,
+        }
+    }
+}
+
+/// A value that is looked at, however it is kept.
+#[derive(Clone, Copy)]
+pub enum ValueRef<'a> {
+    Blank,
+    Num(Fixed),
+    Str(&'a Text),
+    Err,
+    Na,
+}
+
+impl<'a> ValueRef<'a> {
+    /// Whether it isn't blank.
+    pub fn is_filled(&self) -> bool
+        ensures { result ≡ is_filled (seen_value self.now) }
+    {
+        match self {
+            ValueRef::Blank => false,
+            ValueRef::Num(_) | ValueRef::Str(_) | ValueRef::Err | ValueRef::Na => true,
+        }
+    }
+
+    /// The value itself, in memory of its own.
+    pub fn copy(&self) -> Result<Value, Memory>
+        ensures { IfOk result (λ v. v ≡ seen_value self.now) }
+    {
+        match self {
+            ValueRef::Blank => Ok(Value::Blank),
+            ValueRef::Num(number) => Ok(Value::Num(*number)),
+            ValueRef::Str(text) => Ok(Value::Str(text.copy()?)),
+            ValueRef::Err => Ok(Value::Err),
+            ValueRef::Na => Ok(Value::Na),
+        }
+    }
 }
 
 /// What a cell holds: nothing, a number, a label with its prefix and the text behind it, or a formula.
@@ -60,6 +109,41 @@ impl Content {
             Content::Number(number) => Ok(Content::Number(*number)),
             Content::Label(prefix, text) => Ok(Content::Label(*prefix, text.copy()?)),
             Content::Formula(formula) => Ok(Content::Formula(formula.copy()?)),
+        }
+    }
+
+    /// The content, to be looked at.
+    pub fn as_ref(&self) -> ContentRef<'_>
+        ensures { seen_content result ≡ self.now }
+    {
+        match self {
+            Content::Blank => ContentRef::Blank,
+            Content::Number(number) => ContentRef::Number(*number),
+            Content::Label(prefix, text) => ContentRef::Label(*prefix, text),
+            Content::Formula(formula) => ContentRef::Formula(formula),
+        }
+    }
+}
+
+/// A content that is looked at, however it is kept.
+#[derive(Clone, Copy)]
+pub enum ContentRef<'a> {
+    Blank,
+    Number(Fixed),
+    Label(LabelPrefix, &'a Text),
+    Formula(&'a Formula),
+}
+
+impl<'a> ContentRef<'a> {
+    /// The content itself. A formula is shared with the one that is looked at.
+    pub fn copy(&self) -> Result<Content, Memory>
+        ensures { IfOk result (λ c. c ≡ seen_content self.now) }
+    {
+        match self {
+            ContentRef::Blank => Ok(Content::Blank),
+            ContentRef::Number(number) => Ok(Content::Number(*number)),
+            ContentRef::Label(prefix, text) => Ok(Content::Label(*prefix, text.copy()?)),
+            ContentRef::Formula(formula) => Ok(Content::Formula(formula.copy()?)),
         }
     }
 }

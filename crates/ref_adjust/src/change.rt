@@ -1,11 +1,12 @@
 // Rows and columns inserted or deleted.
-ghost use Rattle.std.specs.Prelude.{◌≡◌, ◌≤◌, ◌<◌, IfSome};
+ghost use Rattle.std.specs.Prelude.{◌≡◌, ◌≤◌, ◌<◌, IfOk, IfSome};
 ghost use Rattle.ref_adjust.specs.Adjusted.{adjusted, formula_shifted};
 ghost use Rattle.ref_adjust.specs.Lines.{line_deleted, line_inserted, place_shifted, span_shifted, with_col, with_row, AreLines, IsChange};
 
 use crate::kinds::{reference_like, span_of_corners};
 use formula_tree::{Formula, Redirect};
 use grid_address::{COLUMNS, Cell, ROWS, Ref, Span};
+use lics_text::Memory;
 
 /// Lines inserted or deleted: the first line and the count.
 #[derive(Clone, Copy, Debug, PartialEq, Eq)]
@@ -120,10 +121,16 @@ impl Redirect for Shift {
 
 /// A formula whose cell has gone from `old_at` to `new_at`, after rows or columns were inserted or deleted: at least
 /// one, and none past the last. References follow their cells. A reference to a cell that was deleted or has left the
-/// sheet becomes `@ERR`, and so does a span with such a corner. It takes no memory.
-pub fn shifted(formula: Formula, old_at: Cell, new_at: Cell, change: Change) -> Formula
+/// sheet becomes `@ERR`, and so does a span with such a corner. A formula that doesn't change shares its tree
+/// with the given one.
+pub fn shifted(
+    formula: &Formula,
+    old_at: Cell,
+    new_at: Cell,
+    change: Change,
+) -> Result<Formula, Memory>
     requires { IsChange change }
-    ensures { result ≡ formula_shifted change old_at new_at formula }
+    ensures { IfOk result (λ f. f ≡ formula_shifted change old_at new_at formula.now) }
 {
     let by = Shift {
         old_at,

@@ -1,5 +1,5 @@
 // Moves of a span.
-ghost use Rattle.std.specs.Prelude.{◌≡◌, true};
+ghost use Rattle.std.specs.Prelude.{◌≡◌, true, IfOk};
 ghost use Rattle.grid_address.specs.Place.{is_within};
 ghost use Rattle.ref_adjust.specs.Adjusted.{adjusted, formula_moved};
 ghost use Rattle.ref_adjust.specs.Moves.{carried, place_moved, span_moved, target, FitsAt};
@@ -7,6 +7,7 @@ ghost use Rattle.ref_adjust.specs.Moves.{carried, place_moved, span_moved, targe
 use crate::kinds::{reference_like, span_of_corners};
 use formula_tree::{Formula, Redirect};
 use grid_address::{Cell, Ref, Span};
+use lics_text::Memory;
 
 // Where a cell of the span comes.
 fn carried(from: Span, to: Cell, cell: Cell) -> Cell
@@ -71,10 +72,17 @@ impl Redirect for Move {
 
 /// A formula whose cell has gone from `old_at` to `new_at`, after the span `from` was moved so that its first corner
 /// came to `to`. References to moved cells follow them. A reference to an overwritten cell becomes `@ERR`, and so does
-/// a span with a corner that was overwritten. All others name the cells that they named. It takes no memory.
-pub fn moved(formula: Formula, old_at: Cell, new_at: Cell, from: Span, to: Cell) -> Formula
+/// a span with a corner that was overwritten. All others name the cells that they named. A formula that doesn't
+/// change shares its tree with the given one.
+pub fn moved(
+    formula: &Formula,
+    old_at: Cell,
+    new_at: Cell,
+    from: Span,
+    to: Cell,
+) -> Result<Formula, Memory>
     requires { FitsAt from to }
-    ensures { result ≡ formula_moved from to old_at new_at formula }
+    ensures { IfOk result (λ f. f ≡ formula_moved from to old_at new_at formula.now) }
 {
     let by = Move {
         old_at,
