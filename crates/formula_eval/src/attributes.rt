@@ -1,6 +1,7 @@
 // What CELL and CELLPOINTER tell of a cell.
 ghost use Rattle.std.specs.Prelude.{◌≡◌, ◌≤◌, ◌<◌, ◌+◌, ◌++◌, length, nat_le, IfOk, codes};
 ghost use Rattle.std.specs.Str.{str_eq_ignore_ascii_case};
+ghost use Rattle.formula_tree.specs.Seen.{seen_content};
 ghost use Rattle.formula_eval.specs.Attributes.{attribute_named, attribute_value, cell_value, on_attribute, prefix_in, prefix_of, told_value, type_in, type_of, without_brackets};
 ghost use Rattle.value_functions.specs.Values.{texted};
 ghost use Rattle.formula_eval.specs.Outlook.{Sight};
@@ -10,7 +11,7 @@ use crate::argument::Operand;
 use crate::look::Look;
 use crate::lookups::range_of;
 use cell_format::indicator;
-use formula_tree::{Content, Value};
+use formula_tree::{ContentRef, Value};
 use grid_address::{Cell, column_text, row_text};
 use lics_text::{Line, Memory};
 use std::alloc::Global;
@@ -90,23 +91,25 @@ fn without_brackets(bytes: &[u8]) -> &[u8]
 }
 
 // The prefix of a label as a text, and the empty text of anything else.
-fn prefix_value(alloc: Global, content: &Content) -> Result<Value, Memory>
-    ensures { IfOk result (λ v. v ≡ texted (prefix_in content.now)) }
+fn prefix_value(alloc: Global, content: &ContentRef<'_>) -> Result<Value, Memory>
+    ensures { IfOk result (λ v. v ≡ texted (prefix_in (seen_content content.now))) }
 {
     match content {
-        Content::Label(prefix, _) => texted(alloc, &[prefix.byte()]),
-        Content::Blank | Content::Number(_) | Content::Formula(_) => texted(alloc, b""),
+        ContentRef::Label(prefix, _) => texted(alloc, &[prefix.byte()]),
+        ContentRef::Blank | ContentRef::Number(_) | ContentRef::Formula(_) => {
+            texted(alloc, b"")
+        },
     }
 }
 
 // The letter of a content: blank, label or value.
-fn type_value(alloc: Global, content: &Content) -> Result<Value, Memory>
-    ensures { IfOk result (λ v. v ≡ texted (type_in content.now)) }
+fn type_value(alloc: Global, content: &ContentRef<'_>) -> Result<Value, Memory>
+    ensures { IfOk result (λ v. v ≡ texted (type_in (seen_content content.now))) }
 {
     match content {
-        Content::Label(_, _) => texted(alloc, b"l"),
-        Content::Number(_) | Content::Formula(_) => texted(alloc, b"v"),
-        Content::Blank => texted(alloc, b"b"),
+        ContentRef::Label(_, _) => texted(alloc, b"l"),
+        ContentRef::Number(_) | ContentRef::Formula(_) => texted(alloc, b"v"),
+        ContentRef::Blank => texted(alloc, b"b"),
     }
 }
 
@@ -115,7 +118,7 @@ fn prefix_there<K: Look>(alloc: Global, cell: Cell, look: &K) -> Result<Value, M
     ensures { IfOk result (λ v. v ≡ texted (prefix_of ((K.sight look.now).contents cell))) }
 {
     match look.content(cell) {
-        Some(content) => prefix_value(alloc, content),
+        Some(content) => prefix_value(alloc, &content),
         None => texted(alloc, b""),
     }
 }
@@ -125,7 +128,7 @@ fn type_there<K: Look>(alloc: Global, cell: Cell, look: &K) -> Result<Value, Mem
     ensures { IfOk result (λ v. v ≡ texted (type_of ((K.sight look.now).contents cell))) }
 {
     match look.content(cell) {
-        Some(content) => type_value(alloc, content),
+        Some(content) => type_value(alloc, &content),
         None => texted(alloc, b"b"),
     }
 }

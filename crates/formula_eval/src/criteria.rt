@@ -1,6 +1,7 @@
 // Which records match a criterion.
 ghost use Rattle.std.specs.Prelude.{◌≡◌, ◌<◌, ◌≤◌, IfOk};
 ghost use Rattle.range_lines.specs.Rows.{last_row, rows_down};
+ghost use Rattle.formula_tree.specs.Seen.{seen_content, seen_value};
 ghost use Rattle.formula_eval.specs.Criteria.{condition_holds, content_holds, fields_of, record_matches, row_holds, value_of_field};
 ghost use Rattle.formula_eval.specs.Outlook.{Sight};
 ghost use Rattle.formula_eval.specs.Scenes.{outlook_of};
@@ -8,7 +9,7 @@ ghost use Rattle.formula_eval.specs.Scenes.{outlook_of};
 use crate::fields::field_named;
 use crate::look::{Look, Scene};
 use crate::meaning::glance_within;
-use formula_tree::{Content, Value};
+use formula_tree::{ContentRef, ValueRef};
 use grid_address::{Cell, Span};
 use lics_text::Memory;
 use range_lines::{column_at, count_below, header, row_below, rows_behind, rows_down};
@@ -19,20 +20,20 @@ use value_conditions::{equals_number, fits, is_true};
 /// fits it, and a formula where its value at `place` is a number other than 0; a function of records in it is ERR.
 /// (Release 2 manual; the last is this project's own choice.)
 pub fn content_holds<K: Look>(
-    content: &Content,
+    content: &ContentRef<'_>,
     place: Cell,
-    value: &Value,
+    value: &ValueRef<'_>,
     look: &K,
     scene: &Scene,
 ) -> Result<bool, Memory>
     ensures { let w = outlook_of (K.sight look.now) scene.entry.now in
-        IfOk result (λ b. b ≡ content_holds w content.now place value.now) }
+        IfOk result (λ b. b ≡ content_holds w (seen_content content.now) place (seen_value value.now)) }
 {
     match content {
-        Content::Blank => Ok(true),
-        Content::Number(number) => Ok(equals_number(*number, value)),
-        Content::Label(_, pattern) => Ok(fits(pattern, value)),
-        Content::Formula(formula) => {
+        ContentRef::Blank => Ok(true),
+        ContentRef::Number(number) => Ok(equals_number(*number, value)),
+        ContentRef::Label(_, pattern) => Ok(fits(pattern, value)),
+        ContentRef::Formula(formula) => {
             let value = glance_within(formula, place, look, scene)?;
             Ok(is_true(&value))
         }
@@ -74,8 +75,11 @@ fn holds<K: Look>(
     };
     let place = rows_down(count, cell);
     match field {
-        Some(col) => content_holds(content, place, look.value(Cell { row, col }), look, scene),
-        None => content_holds(content, place, &Value::Blank, look, scene),
+        Some(col) => {
+            let value = look.value(Cell { row, col });
+            content_holds(&content, place, &value, look, scene)
+        },
+        None => content_holds(&content, place, &ValueRef::Blank, look, scene),
     }
 }
 

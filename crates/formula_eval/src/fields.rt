@@ -6,7 +6,7 @@ ghost use Rattle.formula_eval.specs.Fields.{field_named, has_fields, is_label_at
 ghost use Rattle.formula_eval.specs.Outlook.{Sight};
 
 use crate::look::Look;
-use formula_tree::Content;
+use formula_tree::ContentRef;
 use grid_address::{Cell, Span};
 use lics_text::Text;
 use range_lines::{column_at, header};
@@ -17,8 +17,8 @@ fn label_at<K: Look>(look: &K, cell: Cell) -> Option<&Text>
     ensures none { IfNone result (label_in ((K.sight look.now).contents cell) ≡ None) }
 {
     match look.content(cell) {
-        Some(Content::Label(_, text)) => Some(text),
-        Some(Content::Blank | Content::Number(_) | Content::Formula(_)) | None => None,
+        Some(ContentRef::Label(_, text)) => Some(text),
+        Some(ContentRef::Blank | ContentRef::Number(_) | ContentRef::Formula(_)) | None => None,
     }
 }
 

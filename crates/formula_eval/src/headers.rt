@@ -8,7 +8,7 @@ ghost use Rattle.formula_eval.specs.Outlook.{Sight};
 
 use crate::fields::is_no_field;
 use crate::look::Look;
-use formula_tree::Content;
+use formula_tree::ContentRef;
 use grid_address::{Cell, Span};
 use range_lines::{column_at, count_below, header, row_below};
 
@@ -17,8 +17,8 @@ fn asks_field<K: Look>(look: &K, cell: Cell) -> bool
     ensures { result ≡ asks_field ((K.sight look.now).contents cell) }
 {
     match look.content(cell) {
-        Some(Content::Number(_) | Content::Label(_, _)) => true,
-        Some(Content::Blank | Content::Formula(_)) | None => false,
+        Some(ContentRef::Number(_) | ContentRef::Label(_, _)) => true,
+        Some(ContentRef::Blank | ContentRef::Formula(_)) | None => false,
     }
 }
 

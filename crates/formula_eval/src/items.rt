@@ -3,13 +3,14 @@ ghost use Rattle.std.specs.Prelude.{◌≡◌, ◌≤◌, ◌++◌, ◌∷◌, [
 ghost use Rattle.std.specs.Int.RustNames.{int_lt};
 ghost use Rattle.std.specs.List.{list_any};
 ghost use Rattle.fixed_value.specs.Numbers.{within};
+ghost use Rattle.formula_tree.specs.Seen.{seen_value};
 ghost use Rattle.formula_eval.specs.Lists.{alone, in_range, is_err, is_na, items_by, items_in, items_of, larger, list_row, list_value, scalar, size_of, smaller, sum};
 ghost use Rattle.formula_eval.specs.Outlook.{filled, Sight};
 
 use crate::argument::{Argument, Operand};
 use crate::look::Look;
 use fixed_value::{Fixed, MAX_SIZE};
-use formula_tree::{Function, Value};
+use formula_tree::{Function, Value, ValueRef};
 use grid_address::Span;
 use lics_text::Memory;
 use std::alloc::Global;
@@ -24,14 +25,14 @@ pub enum Item {
 }
 
 // A cell that is given alone: a blank one and a label count as 0.
-fn alone(value: &Value) -> Item
-    ensures { result ≡ alone value.now }
+fn alone(value: &ValueRef<'_>) -> Item
+    ensures { result ≡ alone (seen_value value.now) }
 {
     match value {
-        Value::Num(number) => Item::Is(*number),
-        Value::Blank | Value::Str(_) => Item::Is(Fixed::ZERO),
-        Value::Err => Item::Err,
-        Value::Na => Item::Na,
+        ValueRef::Num(number) => Item::Is(*number),
+        ValueRef::Blank | ValueRef::Str(_) => Item::Is(Fixed::ZERO),
+        ValueRef::Err => Item::Err,
+        ValueRef::Na => Item::Na,
     }
 }
 
@@ -48,15 +49,15 @@ fn scalar(value: &Value) -> Item
 }
 
 /// A cell of a range: a blank one is passed over, and a label counts as 0.
-pub fn put_cell(items: &mut Vec<Item>, value: &Value) -> Result<(), Memory>
-    ensures { OnOk result (items.new.items ≡ items.old.items ++ in_range value.now) }
+pub fn put_cell(items: &mut Vec<Item>, value: &ValueRef<'_>) -> Result<(), Memory>
+    ensures { OnOk result (items.new.items ≡ items.old.items ++ in_range (seen_value value.now)) }
 {
     match value {
-        Value::Blank => {}
-        Value::Num(number) => items.push(Item::Is(*number))?,
-        Value::Str(_) => items.push(Item::Is(Fixed::ZERO))?,
-        Value::Err => items.push(Item::Err)?,
-        Value::Na => items.push(Item::Na)?,
+        ValueRef::Blank => {}
+        ValueRef::Num(number) => items.push(Item::Is(*number))?,
+        ValueRef::Str(_) => items.push(Item::Is(Fixed::ZERO))?,
+        ValueRef::Err => items.push(Item::Err)?,
+        ValueRef::Na => items.push(Item::Na)?,
     }
     Ok(())
 }
@@ -70,7 +71,7 @@ fn put_range<K: Look>(items: &mut Vec<Item>, span: Span, look: &K) -> Result<(),
     let cells = look.filled(span)?;
     for place in 0..cells.len() {
         if let Some(cell) = cells.get(place) {
-            put_cell(items, look.value(*cell))?;
+            put_cell(items, &look.value(*cell))?;
         }
     }
     Ok(())
@@ -83,7 +84,7 @@ fn put_argument<K: Look>(items: &mut Vec<Item>, argument: &Argument, look: &K) -
 {
     match argument.operand {
         Operand::Other => items.push(scalar(&argument.value))?,
-        Operand::Cell(cell) => items.push(alone(look.value(cell)))?,
+        Operand::Cell(cell) => items.push(alone(&look.value(cell)))?,
         Operand::Span(span) => put_range(items, span, look)?,
     }
     Ok(())

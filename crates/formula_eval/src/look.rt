@@ -1,9 +1,10 @@
 // What formulas look at.
 ghost use Rattle.std.specs.Prelude.{◌≡◌, ◌≤◌, IfOk, IfNone, IfSome, Some, None, ℕ, pos};
 ghost use Rattle.grid_address.specs.Place.{Place};
+ghost use Rattle.formula_tree.specs.Seen.{seen_content, seen_value};
 ghost use Rattle.formula_eval.specs.Outlook.{filled, Outlook, Sight};
 
-use formula_tree::{Content, Value};
+use formula_tree::{ContentRef, ValueRef};
 use grid_address::{Cell, CellList, Format, Span};
 use lics_text::Memory;
 use range_names::Names;
@@ -14,12 +15,12 @@ pub trait Look {
     ghost sight: { Self → Sight };
 
     /// The value of a cell.
-    fn value(&self, cell: Cell) -> &Value
-        ensures { result.now ≡ (sight self.now).values cell };
+    fn value(&self, cell: Cell) -> ValueRef<'_>
+        ensures { seen_value result ≡ (sight self.now).values cell };
 
     /// What a cell holds; none where nothing is kept of it.
-    fn content(&self, cell: Cell) -> Option<&Content>
-        ensures some { IfSome result (λ c. (sight self.now).contents cell ≡ Some c.now) }
+    fn content(&self, cell: Cell) -> Option<ContentRef<'_>>
+        ensures some { IfSome result (λ c. (sight self.now).contents cell ≡ Some (seen_content c)) }
         ensures none { IfNone result ((sight self.now).contents cell ≡ None) };
 
     /// The format of a cell.

@@ -4,6 +4,7 @@ ghost use Rattle.std.specs.Int.RustNames.{int_lt};
 ghost use Rattle.std.specs.List.{prefix_len};
 ghost use Rattle.std.specs.Option.{ForSome};
 ghost use Rattle.grid_address.specs.Place.{height_of, width_of};
+ghost use Rattle.formula_tree.specs.Seen.{seen_value};
 ghost use Rattle.formula_eval.specs.Lookups.{by_number, by_text, cell_or_name, depth_of, extent_value, firsts, index_value, is_label, line_cell, lines_of, looked_up, lookup_value, passes, place_in, pointed_value, range_of, spelled_cell};
 ghost use Rattle.formula_eval.specs.Outlook.{Sight};
 
@@ -11,7 +12,7 @@ use crate::argument::Operand;
 use crate::look::Look;
 use at_functions::whole;
 use fixed_value::Fixed;
-use formula_tree::{Function, Value};
+use formula_tree::{Function, Value, ValueRef};
 use grid_address::{Cell, Span, read_cell};
 use lics_text::{Memory, Text};
 use range_names::Names;
@@ -92,23 +93,23 @@ fn is_at_most(x: Fixed, y: Fixed) -> bool
 }
 
 // Whether the lookup of a number goes on past a value.
-fn passes(x: Fixed, value: &Value) -> bool
-    ensures { result ≡ passes x value.now }
+fn passes(x: Fixed, value: &ValueRef<'_>) -> bool
+    ensures { result ≡ passes x (seen_value value.now) }
 {
     match value {
-        Value::Num(y) => is_at_most(*y, x),
-        Value::Blank | Value::Str(_) => is_at_most(Fixed::ZERO, x),
-        Value::Err | Value::Na => false,
+        ValueRef::Num(y) => is_at_most(*y, x),
+        ValueRef::Blank | ValueRef::Str(_) => is_at_most(Fixed::ZERO, x),
+        ValueRef::Err | ValueRef::Na => false,
     }
 }
 
 // Whether a value is that label, letters of either case being the same.
-fn is_label(text: &Text, value: &Value) -> bool
-    ensures { result ≡ is_label text.now value.now }
+fn is_label(text: &Text, value: &ValueRef<'_>) -> bool
+    ensures { result ≡ is_label text.now (seen_value value.now) }
 {
     match value {
-        Value::Str(label) => label.fold_cmp(text) == Ordering::Equal,
-        Value::Blank | Value::Num(_) | Value::Err | Value::Na => false,
+        ValueRef::Str(label) => label.fold_cmp(text) == Ordering::Equal,
+        ValueRef::Blank | ValueRef::Num(_) | ValueRef::Err | ValueRef::Na => false,
     }
 }
 
@@ -122,7 +123,7 @@ fn passed<K: Look>(across: bool, span: Span, x: Fixed, look: &K) -> u16
     let lines = lines_of(across, span);
     let mut line = 0;
     while line < lines {
-        if !passes(x, look.value(line_cell(across, span, line, 0))) {
+        if !passes(x, &look.value(line_cell(across, span, line, 0))) {
             return line;
         }
         line += 1;
@@ -140,7 +141,7 @@ fn first_line<K: Look>(across: bool, span: Span, text: &Text, look: &K) -> Optio
     let lines = lines_of(across, span);
     let mut line = 0;
     while line < lines {
-        if is_label(text, look.value(line_cell(across, span, line, 0))) {
+        if is_label(text, &look.value(line_cell(across, span, line, 0))) {
             return Some(line);
         }
         line += 1;

@@ -8,7 +8,7 @@ ghost use Rattle.formula_eval.specs.Parts.{arguments_by, Database};
 use crate::look::Look;
 use crate::totals::range_number;
 use fixed_value::Fixed;
-use formula_tree::{Expr, Function, Value};
+use formula_tree::{Expr, Function, ValueRef};
 use grid_address::{Cell, Span};
 use value_functions::binary_numbers;
 
@@ -19,8 +19,8 @@ fn number_at<K: Look>(expr: &Expr, at: Cell, look: &K) -> Option<Fixed>
     match expr {
         Expr::Num(number) => Some(*number),
         Expr::Cell(reference) => match look.value(reference.resolve(at)) {
-            Value::Num(number) => Some(*number),
-            Value::Blank | Value::Str(_) | Value::Err | Value::Na => None,
+            ValueRef::Num(number) => Some(number),
+            ValueRef::Blank | ValueRef::Str(_) | ValueRef::Err | ValueRef::Na => None,
         },
         Expr::Str(_) | Expr::Span(_, _) | Expr::Group(_) | Expr::Neg(_) => None,
         Expr::Not(_) | Expr::Binary(_, _, _) | Expr::Call(_, _) => None,

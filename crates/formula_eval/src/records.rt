@@ -65,7 +65,7 @@ fn items_of_records<K: Look>(
         let row = row_below(input, place);
         let found = record_matches(look, scene, input, criterion, fields, row)?;
         if found {
-            put_cell(&mut items, look.value(Cell { row, col }))?;
+            put_cell(&mut items, &look.value(Cell { row, col }))?;
         }
     }
     Ok(items)

@@ -1,6 +1,7 @@
 // Functions of lists over a range, without a list of its items.
 ghost use Rattle.std.specs.Prelude.{◌≡◌, ◌<◌, ◌≤◌, ◌+◌, ◌++◌, [], IfSome, List, Bool, true};
 ghost use Rattle.grid_address.specs.Place.{height_of, width_of};
+ghost use Rattle.formula_tree.specs.Seen.{seen_value};
 ghost use Rattle.formula_tree.specs.declared.value.Value.TheVariants as value;
 ghost use Rattle.formula_eval.specs.declared.items.Item.{Item};
 ghost use Rattle.formula_eval.specs.Lists.{in_range, items_in, list_value};
@@ -11,7 +12,7 @@ use crate::items::{Item, larger, smaller};
 use crate::look::Look;
 use crate::lookups::cell_at;
 use fixed_value::Fixed;
-use formula_tree::{Function, Op, Value};
+use formula_tree::{Function, Op, ValueRef};
 use grid_address::Span;
 use value_functions::{binary_numbers, whole_number};
 
@@ -56,14 +57,15 @@ fn add_number(total: Total, number: Fixed) -> Option<Total>
 }
 
 // The total with a cell more; none where it is ERR or NA.
-fn add_value(total: Total, value: &Value) -> Option<Total>
-    ensures { IfSome result (λ t. (l : List Item) → IsTotal total l → IsTotal t (l ++ in_range value.now)) }
+fn add_value(total: Total, value: &ValueRef<'_>) -> Option<Total>
+    ensures { let value = seen_value value.now in
+        IfSome result (λ t. (l : List Item) → IsTotal total l → IsTotal t (l ++ in_range value)) }
 {
     match value {
-        Value::Blank => Some(total),
-        Value::Num(number) => add_number(total, *number),
-        Value::Str(_) => add_number(total, Fixed::ZERO),
-        Value::Err | Value::Na => None,
+        ValueRef::Blank => Some(total),
+        ValueRef::Num(number) => add_number(total, *number),
+        ValueRef::Str(_) => add_number(total, Fixed::ZERO),
+        ValueRef::Err | ValueRef::Na => None,
     }
 }
 
@@ -76,7 +78,7 @@ fn add_row<K: Look>(total: Total, span: Span, row: u16, look: &K) -> Option<Tota
 {
     let mut so_far = total;
     for col in 0..span.width() {
-        so_far = add_value(so_far, look.value(cell_at(span, row, col)))?;
+        so_far = add_value(so_far, &look.value(cell_at(span, row, col)))?;
     }
     Some(so_far)
 }

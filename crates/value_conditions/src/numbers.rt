@@ -1,10 +1,11 @@
 // Conditions that are numbers.
 ghost use Rattle.std.specs.Prelude.{◌≡◌, ◌==◌, nat_abs, not};
 ghost use Rattle.std.specs.Ordering.{int_eq};
+ghost use Rattle.formula_tree.specs.Seen.{seen_value};
 ghost use Rattle.value_conditions.specs.Numbers.{equals_number, is_true};
 
 use fixed_value::Fixed;
-use formula_tree::Value;
+use formula_tree::{Value, ValueRef};
 
 /// Whether two numbers are equal.
 pub fn is_same(a: Fixed, b: Fixed) -> bool
@@ -21,12 +22,12 @@ fn is_not_zero(number: Fixed) -> bool
 }
 
 /// Whether a value is this number.
-pub fn equals_number(number: Fixed, value: &Value) -> bool
-    ensures { result ≡ equals_number number value.now }
+pub fn equals_number(number: Fixed, value: &ValueRef<'_>) -> bool
+    ensures { result ≡ equals_number number (seen_value value.now) }
 {
     match value {
-        Value::Num(other) => is_same(number, *other),
-        Value::Blank | Value::Str(_) | Value::Err | Value::Na => false,
+        ValueRef::Num(other) => is_same(number, *other),
+        ValueRef::Blank | ValueRef::Str(_) | ValueRef::Err | ValueRef::Na => false,
     }
 }
 

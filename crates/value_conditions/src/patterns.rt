@@ -1,9 +1,10 @@
 // When a value fits a label that stands as a condition.
 ghost use Rattle.std.specs.Prelude.{◌≡◌, ◌≤◌, ◌==◌, ◌||◌, length, true};
 ghost use Rattle.ascii_bytes.specs.Ascii as ascii;
+ghost use Rattle.formula_tree.specs.Seen.{seen_value};
 ghost use Rattle.value_conditions.specs.Patterns.{fits, is_like, is_negated, same_letter, value_is_like};
 
-use formula_tree::Value;
+use formula_tree::ValueRef;
 use lics_text::Text;
 
 // Whether a byte of a pattern takes the rest of a text.
@@ -43,12 +44,12 @@ fn is_like(pattern: &[u8], text: &[u8]) -> bool
 }
 
 /// Whether a value is a text that is like a pattern.
-pub fn value_is_like(pattern: &[u8], value: &Value) -> bool
-    ensures { result ≡ value_is_like pattern.now value.now }
+pub fn value_is_like(pattern: &[u8], value: &ValueRef<'_>) -> bool
+    ensures { result ≡ value_is_like pattern.now (seen_value value.now) }
 {
     match value {
-        Value::Str(text) => is_like(pattern, text.bytes()),
-        Value::Blank | Value::Num(_) | Value::Err | Value::Na => false,
+        ValueRef::Str(text) => is_like(pattern, text.bytes()),
+        ValueRef::Blank | ValueRef::Num(_) | ValueRef::Err | ValueRef::Na => false,
     }
 }
 
@@ -65,8 +66,8 @@ fn is_negated(pattern: &[u8]) -> bool
 
 /// Whether a value fits a label that stands as a condition: it is a text that is like the pattern, and with a leading
 /// `~` it is none. (Release 2 manual; that a negated pattern fits what is no text is this project's own choice.)
-pub fn fits(label: &Text, value: &Value) -> bool
-    ensures { result ≡ fits label.now value.now }
+pub fn fits(label: &Text, value: &ValueRef<'_>) -> bool
+    ensures { result ≡ fits label.now (seen_value value.now) }
 {
     let pattern = label.bytes();
     if is_negated(pattern) {

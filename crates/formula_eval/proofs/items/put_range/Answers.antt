@@ -1,6 +1,7 @@
 use Rattle.std.proofs.Common.{◌<◌, ◌≡◌, List, length, Some, sym, ap, ◌∙◌, subst, arith}
 use Rattle.std.specs.Prelude.{slice_get}
 use Rattle.grid_address.specs.Place.{Place}
+use Rattle.formula_tree.specs.Seen.{seen_value}
 use Rattle.formula_eval.proofs.Gathered.{gathered}
 use Rattle.formula_eval.proofs.items.put_range.Goals as goal
 use Rattle.formula_eval.proofs.items.put_range.Goals.{in-Some+in_ok-put_cell, in_default}
@@ -13,6 +14,6 @@ loop-place-preserved g c =
     elim c.match-get.branch [
       | in-Some+in_ok-put_cell w ↦ (
           let there = subst (λ (l : List Place). (at < length l) × (slice_get l at ≡ Some w.in-Some.cell.now)) (sym c.cells.view_is) w.in-Some.ensures.some in
-          gathered c.args.items.now.items c.loop-place.items.items c.match-get.items.items values inside at w.in-Some.cell.now w.value.result.now c.loop-place.invariant (ap (λ v. v.items) w.items-is ∙ w.in_ok-put_cell.ensures) w.value.ensures there)
+          gathered c.args.items.now.items c.loop-place.items.items c.match-get.items.items values inside at w.in-Some.cell.now (seen_value w.value.result) c.loop-place.invariant (ap (λ v. v.items) w.items-is ∙ w.in_ok-put_cell.ensures) w.value.ensures there)
       | in_default w ↦ absurd (omega (arith, c.loop-place-test.true, c.len-place-end.ensures, w.in_default.ensures.none))
     ]

@@ -1,4 +1,5 @@
 use Rattle.std.proofs.Common.{◌<◌, ◌+◌, ◌-◌, ◌++◌, List, sym, ap, ◌∙◌, arith}
+use Rattle.formula_tree.specs.Seen.{seen_value}
 use Rattle.formula_eval.specs.declared.items.Item.{Item}
 use Rattle.formula_eval.specs.Criteria.{record_matches}
 use Rattle.formula_eval.specs.Databases.{record_items}
@@ -31,7 +32,7 @@ loop-place-preserved g c =
     let inside : place < count = omega (arith, c.loop-place-test.true, c.count_below-place-end.ensures.count) in
     elim c.if-found.branch [
       | then-found+in_ok-put_cell w ↦
-          put_record values col test n count place row c.loop-place.items.items c.if-found.items.items all w.value.result.now inside c.row_below-row.ensures.row (sym c.in_ok-found.ensures ∙ w.if-found.true) w.value.ensures (ap (λ v. v.items) w.items-is ∙ w.in_ok-put_cell.ensures) c.loop-place.invariant
+          put_record values col test n count place row c.loop-place.items.items c.if-found.items.items all (seen_value w.value.result) inside c.row_below-row.ensures.row (sym c.in_ok-found.ensures ∙ w.if-found.true) w.value.ensures (ap (λ v. v.items) w.items-is ∙ w.in_ok-put_cell.ensures) c.loop-place.invariant
       | else-found w ↦
           ap (λ v. v.items ++ behind values col test n count (place + 1)) w.items-is
           ∙ pass_record values col test n count place row c.loop-place.items.items all inside c.row_below-row.ensures.row (sym c.in_ok-found.ensures ∙ w.if-found.false) c.loop-place.invariant
