@@ -10,7 +10,7 @@ use Rattle.grid_address.specs.Place.{place_cmp, InSheet, Place}
 use Rattle.sheet_store.specs.RowOrder.{entries_behind, NextHeld, NoneHeldBehind}
 use Rattle.sheet_store.specs.Grid.{AreHeld, Cells}
 use Rattle.sheet_store.specs.Scan.{entries_from, left_from}
-use Rattle.sheet_store.specs.declared.state.CellState.{CellState}
+use Rattle.sheet_store.specs.State.{CellState}
 use Rattle.sheet_store.proofs.Grids.{first_found, found_later}
 use Rattle.sheet_store.proofs.Scans.{behind, next_here, none_here}
 

@@ -9,7 +9,7 @@ use Rattle.cell_numbers.specs.Filled.{cells_of, filled, AreOnce}
 use Rattle.cell_numbers.specs.declared.held.Held.{Held}
 use Rattle.sheet_store.specs.Copies.{inserted_all}
 use Rattle.sheet_store.specs.Grid.{Cells}
-use Rattle.sheet_store.specs.declared.state.CellState.{CellState}
+use Rattle.sheet_store.specs.State.{CellState}
 use Rattle.grid_address.proofs.Places.{cells_exact, cells_total}
 use Rattle.sheet_store.proofs.Held.{tied}
 use Rattle.sheet_store.proofs.RowOrder.{filled_apart, AreApart}

@@ -12,7 +12,7 @@ use Rattle.formula_tree.specs.declared.value.Value.{Value}
 use Rattle.formula_tree.specs.declared.value.Value.TheVariants as value
 use Rattle.grid_address.specs.declared.format.Format.{Format}
 use Rattle.sheet_store.specs.Grid.{blank_state, formatted, is_blank, is_formula, is_kept, AreHeld, Cells, Fits, IsHeld, IsSound}
-use Rattle.sheet_store.specs.declared.state.CellState.{CellState}
+use Rattle.sheet_store.specs.State.{CellState}
 use Rattle.grid_address.proofs.Places.{cells_exact, cells_total}
 
 equal_from : (o : Ordering) → is_eq o ≡ true → o ≡ Equal

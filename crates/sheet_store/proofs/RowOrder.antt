@@ -21,7 +21,7 @@ use Rattle.cell_numbers.specs.Sets.{has}
 use Rattle.cell_numbers.specs.declared.held.Held.{Held}
 use Rattle.cell_numbers.proofs.Filled.{none_at}
 use Rattle.sheet_store.specs.Grid.{picked, Cells}
-use Rattle.sheet_store.specs.declared.state.CellState.{CellState}
+use Rattle.sheet_store.specs.State.{CellState}
 
 -- each after those before it, by row and then by column
 abbrev pub Ascends : List Place → Type 0

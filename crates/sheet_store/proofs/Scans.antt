@@ -15,7 +15,7 @@ use Rattle.grid_address.proofs.Places.{cells_total}
 use Rattle.grid_address.specs.Place.{is_within, place_cmp, Extent, InSheet, Place}
 use Rattle.sheet_store.specs.Grid.{picked}
 use Rattle.sheet_store.specs.Scan.{entries_from, left_from, number_of, passed_at, places_left}
-use Rattle.sheet_store.specs.declared.state.CellState.{CellState}
+use Rattle.sheet_store.specs.State.{CellState}
 use Rattle.sheet_store.proofs.Held.{same_some, tied}
 
 heads_are : {A : Type 0} {x y : A} {xs ys : List A} → x ∷ xs ≡ y ∷ ys → x ≡ y

@@ -3,7 +3,7 @@ use Rattle.std.specs.Prelude.{List, [], ◌∷◌}
 use Rattle.std.specs.FinMap.{insert}
 use Rattle.grid_address.specs.Place.{Place}
 use Rattle.sheet_store.specs.Grid.{Cells}
-use Rattle.sheet_store.specs.declared.state.CellState.{CellState}
+use Rattle.sheet_store.specs.State.{CellState}
 
 -- a map with the entries put in, from the first on
 abbrev pub inserted_all : Cells → List (Place × CellState) → Cells

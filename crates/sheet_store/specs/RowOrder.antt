@@ -6,7 +6,7 @@ use Rattle.std.specs.List.{filter}
 use Rattle.std.specs.Ordering.{is_le, is_lt}
 use Rattle.grid_address.specs.Place.{coded_place, place_cmp, InSheet, Place}
 use Rattle.sheet_store.specs.Grid.{Cells}
-use Rattle.sheet_store.specs.declared.state.CellState.{CellState}
+use Rattle.sheet_store.specs.State.{CellState}
 use Rattle.sheet_store.specs.contracts.state.CellState as state
 
 -- how a list of them is told apart

@@ -5,7 +5,7 @@ use Rattle.std.specs.Ordering.{is_le}
 use Rattle.grid_address.specs.declared.TheConstants.{COLUMNS}
 use Rattle.grid_address.specs.Place.{place_cmp, Place}
 use Rattle.sheet_store.specs.Grid.{holds_formula}
-use Rattle.sheet_store.specs.declared.state.CellState.{CellState}
+use Rattle.sheet_store.specs.State.{CellState}
 
 -- whether a state is asked for: every one, or a formula's alone
 abbrev pub wanted : Bool → CellState → Bool

@@ -22,7 +22,7 @@ impl<'a> Model for Entries<'a> {
     ghost use Rattle.std.specs.FinMap as map;
     ghost use Rattle.grid_address.specs.Place.{Place};
     ghost use Rattle.sheet_store.specs.Scan.{left_from};
-    ghost use Rattle.sheet_store.specs.declared.state.CellState.{CellState};
+    ghost use Rattle.sheet_store.specs.State.{CellState};
     ghost use Rattle.sheet_store.specs.RowOrder.{coded_entries};
 
     ghost Value = { List (Place × CellState) };

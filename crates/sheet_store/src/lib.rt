@@ -14,6 +14,6 @@ pub use entries::Entries;
 pub use order::Order;
 pub use own_width::MOST_WIDTH;
 pub use settings::Settings;
-pub use state::{CellState, is_formula};
+pub use state::CellState;
 pub use store::Store;
 pub use writes::{SavedSheet, SheetFault, Write, Writes};

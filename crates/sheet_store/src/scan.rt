@@ -8,7 +8,6 @@ ghost use Rattle.sheet_store.specs.Grid.{picked};
 ghost use Rattle.sheet_store.specs.Scan.{number_of, passed_at, wanted};
 
 use crate::CellState;
-use crate::state::is_formula;
 use cell_numbers::{CellMap, Held};
 use grid_address::{Cell, CellList, Span};
 use lics_text::Memory;
@@ -18,7 +17,7 @@ use std::alloc::Global;
 fn is_wanted(state: &CellState, only_formulas: bool) -> bool
     ensures { result ≡ wanted only_formulas state.now }
 {
-    !only_formulas || is_formula(&state.content)
+    !only_formulas || state.is_formula()
 }
 
 // The first place of the span behind one of its places.

@@ -11,7 +11,6 @@ ghost use Rattle.sheet_store.specs.Grid.{any_state, cells_within, clear_cell, fo
 use crate::CellState;
 use crate::own_width::{MOST_WIDTH, OwnWidth};
 use crate::scan::scan;
-use crate::state::is_blank;
 use cell_numbers::{CellMap, Held};
 use formula_tree::Value;
 use grid_address::{Cell, CellList, Format, Span};
@@ -213,7 +212,7 @@ impl Store {
         ensures filled { result ≡ false → HasContent self.now cell }
     {
         match self.cells.get(cell) {
-            Some(state) => is_blank(&state.content),
+            Some(state) => state.is_blank(),
             None => true,
         }
     }
@@ -224,7 +223,7 @@ impl Store {
         ensures { self.new ≡ set_format_of self.old cell format }
     {
         match self.cells.get_mut(cell) {
-            Some(state) => write_format(state, format),
+            Some(state) => state.set_format(format),
             None => {}
         }
     }
@@ -236,7 +235,7 @@ impl Store {
         ensures { self.new ≡ set_value_at self.old cell value }
     {
         match self.cells.get_mut(cell) {
-            Some(state) => write_value(state, value),
+            Some(state) => state.set_value(value),
             None => let_go(value),
         }
     }
@@ -256,22 +255,8 @@ fn are_marks(hidden: &[bool; 256])
     let _first = hidden[0];
 }
 
-// Gives a state a value.
-fn write_value(state: &mut CellState, value: Value)
-    ensures { state.new ≡ record state.old { value = value } }
-{
-    state.value = value;
-}
-
 // Drops a value.
 fn let_go(_value: Value) {}
-
-// Gives a state a format.
-fn write_format(state: &mut CellState, format: Format)
-    ensures { state.new ≡ record state.old { format = format } }
-{
-    state.format = format;
-}
 
 // The last row and the last column of two cells.
 fn further(last: Option<Cell>, cell: Cell) -> Option<Cell>
@@ -308,11 +293,15 @@ fn last_of(held: &[Held<CellState>]) -> Option<Cell>
 }
 
 // Puts an equal state of a held cell into a map.
-fn copy_held(cells: &mut CellMap<CellState>, held: &Held<CellState>) -> Result<(), Memory>
+fn copy_held(
+    alloc: Global,
+    cells: &mut CellMap<CellState>,
+    held: &Held<CellState>,
+) -> Result<(), Memory>
     ensures { OnOk result (cells.new ≡ inserted_all cells.old (with_item (cell_in held.now) (item_in held.now) [])) }
 {
     match held {
-        Held::Filled(cell, state) => cells.insert(*cell, state.copy()?)?,
+        Held::Filled(cell, state) => cells.insert(*cell, state.copy(alloc)?)?,
         Held::Erased(_) => {}
     }
     Ok(())
@@ -324,7 +313,7 @@ fn copy_cells(alloc: Global, cells: &CellMap<CellState>) -> Result<CellMap<CellS
 {
     let mut copy = CellMap::new(alloc);
     for held in cells.held() {
-        copy_held(&mut copy, held)?;
+        copy_held(alloc, &mut copy, held)?;
     }
     Ok(copy)
 }
