@@ -17,7 +17,7 @@ use Rattle.natural_order.specs.Walk.{order, IsSplit, Precedes, Reaches, Walked}
 use Rattle.natural_order.specs.Walk.Reaches.{one, more}
 use Rattle.range_index.specs.Owners.{hold}
 use Rattle.sheet_store.specs.Grid.{formulas, Grid}
-use Rattle.sheet_store.specs.declared.state.CellState.{CellState}
+use Rattle.sheet_store.specs.State.{CellState}
 use Rattle.natural_recalc.proofs.Contents.{same_evaluated, same_itself, same_on}
 use Rattle.natural_recalc.proofs.Cut.{pass_is_cut, value_revalued}
 use Rattle.natural_recalc.proofs.Ends.{none_stays}

@@ -8,7 +8,7 @@ use Rattle.std.specs.declared.cmp.Ordering.TheVariants.{Less}
 use Rattle.std.proofs.Common.{sym, subst}
 use Rattle.grid_address.specs.Place.{is_within, place_cmp, Extent, Place}
 use Rattle.sheet_store.specs.Grid.{formulas, is_formula, picked, Grid}
-use Rattle.sheet_store.specs.declared.state.CellState.{CellState}
+use Rattle.sheet_store.specs.State.{CellState}
 use Rattle.natural_recalc.specs.Laws.{among_chosen, chosen, chosen_above, entries_ascend, picked_chosen, Ascends}
 
 pub chosen_ascends : (p : Place × CellState → Bool) (es : List (Place × CellState)) → Ascends (keys_of es) → Ascends (chosen p es)

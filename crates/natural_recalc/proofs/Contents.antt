@@ -7,7 +7,7 @@ use Rattle.formula_tree.specs.Tree.{Tree}
 use Rattle.formula_tree.specs.declared.value.Content.{Content}
 use Rattle.depend_graph.specs.Network.{Network}
 use Rattle.sheet_store.specs.Grid.{Grid}
-use Rattle.sheet_store.specs.declared.state.CellState.{CellState}
+use Rattle.sheet_store.specs.State.{CellState}
 use Rattle.natural_recalc.proofs.Valued.{content_blind, format_blind, told_valued}
 use Rattle.natural_recalc.specs.Context.{content_of, format_of, formula_at, formula_in, formula_of, outlook_at, Context}
 use Rattle.natural_recalc.specs.Passes.{evaluated, revalued, Meaning, SameContents}

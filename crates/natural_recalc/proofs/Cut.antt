@@ -18,7 +18,7 @@ use Rattle.sheet_store.specs.Grid.{set_value_at, Grid}
 use Rattle.natural_recalc.proofs.Members.{has_pre, pre_along}
 use Rattle.natural_recalc.proofs.Valued.{formula_blind, told_valued, value_valued, valued_same}
 use Rattle.natural_recalc.specs.Context.{formula_at, formula_of, outlook_at, value_at, Context}
-use Rattle.natural_recalc.specs.Passes.{evaluated, pass, revalued, IsMeaning, IsSound, Meaning, PassIsCut}
+use Rattle.natural_recalc.specs.Passes.{evaluated, pass, revalued, IsMeaning, IsSound, Meaning}
 use Rattle.natural_recalc.specs.Reading.{is_formula_at, pre, spans_in}
 
 pub read_formula : (g : Grid) (d c : Place) (t : Tree) → formula_at g d ≡ Some t → hold (spans_of t d) c ≡ true → is_formula_at g c ≡ true → has same_place (pre g d) c ≡ true
@@ -69,7 +69,8 @@ module _ (mean : Meaning) (ctx : Context) where
               true≢false (sym (s.up d c (read_formula g d c f here (subst (λ x. hold (spans_of f d) x ≡ true) (same_place_is r c q) m) (s.only c t)) t) ∙ e)))));
         }
 
-pub pass_is_cut : (mean : Meaning) (ctx : Context) → IsMeaning mean → PassIsCut mean ctx
+-- one pass over the dirty formulas is one pass over all
+pub pass_is_cut : (mean : Meaning) (ctx : Context) → IsMeaning mean → (g : Grid) (dirty : Place → Bool) → IsSound mean ctx g dirty → (cells : List Place) → pass mean ctx cells g ≡ pass mean ctx (filter dirty cells) g
 pass_is_cut mean ctx meaning g dirty sound [] = refl
 pass_is_cut mean ctx meaning g dirty sound (c ∷ cells) = elim (dirty c) as (λ b. dirty c ≡ b → pass mean ctx cells (evaluated mean ctx g c) ≡ pass mean ctx (cond b (c ∷ filter dirty cells) (filter dirty cells)) g) [
   | true ↦ λ e. pass_is_cut mean ctx meaning (evaluated mean ctx g c) dirty (stays mean ctx dirty meaning g sound c e) cells

@@ -16,7 +16,7 @@ use Rattle.cell_numbers.specs.Sets.{has}
 use Rattle.natural_order.specs.Walk.{Reaches}
 use Rattle.natural_order.specs.Walk.Reaches.{more, one}
 use Rattle.sheet_store.specs.Grid.{is_kept, put_state, Grid}
-use Rattle.sheet_store.specs.declared.state.CellState.{CellState}
+use Rattle.sheet_store.specs.State.{CellState}
 use Rattle.natural_recalc.proofs.First.{reads_formula}
 use Rattle.natural_recalc.specs.Context.{formula_at, formula_in, formula_of, Context}
 use Rattle.natural_recalc.specs.Passes.{IsSound, Meaning}

@@ -16,7 +16,7 @@ use Rattle.natural_order.specs.Walk.{IsExact, Precedes, Reaches}
 use Rattle.natural_order.specs.Walk.Reaches.{one}
 use Rattle.range_index.specs.Owners.{hold}
 use Rattle.sheet_store.specs.Grid.{formulas, Grid}
-use Rattle.sheet_store.specs.declared.state.CellState.{CellState}
+use Rattle.sheet_store.specs.State.{CellState}
 use Rattle.natural_recalc.proofs.Cut.{formulas_stay, pass_is_cut, pre_stays, read_formula, revalued_same, sound_all, value_revalued}
 use Rattle.natural_recalc.specs.Laws.{has_formula}
 use Rattle.natural_recalc.proofs.Members.{pre_formulas}

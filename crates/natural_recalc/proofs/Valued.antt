@@ -7,7 +7,7 @@ use Rattle.grid_address.proofs.Places.{get_inserted, same_place_is, same_places}
 use Rattle.grid_address.specs.Place.{same_place, Place}
 use Rattle.formula_tree.specs.declared.value.Value.{Value}
 use Rattle.sheet_store.specs.Grid.{valued, Cells}
-use Rattle.sheet_store.specs.declared.state.CellState.{CellState}
+use Rattle.sheet_store.specs.State.{CellState}
 use Rattle.natural_recalc.specs.Context.{content_of, format_of, formula_of, value_of}
 
 abbrev pub with_value : Option CellState → Value → Option CellState

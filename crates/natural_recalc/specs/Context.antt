@@ -11,7 +11,7 @@ use Rattle.formula_tree.specs.declared.value.Value.{Value}
 use Rattle.formula_tree.specs.declared.value.Value.TheVariants as value
 use Rattle.sheet_store.specs.Choices.{Choices}
 use Rattle.sheet_store.specs.Grid.{width_of, Grid}
-use Rattle.sheet_store.specs.declared.state.CellState.{CellState}
+use Rattle.sheet_store.specs.State.{CellState}
 use Rattle.formula_eval.specs.Outlook.{Outlook, Sight}
 use Rattle.formula_eval.specs.Scenes.{outlook_of}
 use Rattle.formula_eval.specs.declared.look.Scene.{Scene}
@@ -30,10 +30,6 @@ context_of names settings scene = record { names = names; settings = settings; s
 abbrev pub value_of : Option CellState → Value
 value_of None = value.Blank
 value_of (Some s) = s.value
-
--- the value of a cell that is blank or not there
-abbrev pub IsBlank : Value → Type 0
-IsBlank v = v ≡ value.Blank
 
 -- the content of what is held of a cell, where something is
 abbrev pub content_of : Option CellState → Option Content

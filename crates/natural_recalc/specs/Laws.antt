@@ -20,7 +20,7 @@ use Rattle.natural_order.proofs.Cut.{filter_in}
 use Rattle.cell_numbers.specs.Sets.{has}
 use Rattle.range_index.specs.Owners.{hold}
 use Rattle.sheet_store.specs.Grid.{formulas, formulas_among, formulas_within, holds_formula, is_formula, picked, Grid}
-use Rattle.sheet_store.specs.declared.state.CellState.{CellState}
+use Rattle.sheet_store.specs.State.{CellState}
 use Rattle.natural_recalc.specs.Context.{formula_in, formula_of}
 use Rattle.natural_recalc.specs.Reading.{formulas_in, is_formula_at}
 

@@ -84,11 +84,6 @@ pub record IsPlain (g : Grid) : Type 0 where
 abbrev pub IsRight : Meaning → Context → Grid → Type 0
 IsRight mean x g = (c : Place) (t : Tree) → formula_at g c ≡ Some t → value_at g c ≡ mean t c (outlook_at x g)
 
--- one pass over the dirty formulas is one pass over all
-abbrev pub PassIsCut : Meaning → Context → Type 0
-PassIsCut mean x = (g : Grid) (dirty : Place → Bool) → IsSound mean x g dirty → (cells : List Place)
-    → pass mean x cells g ≡ pass mean x (filter dirty cells) g
-
 -- cells were written, and the formulas that they hold or that reach one of them are dirty now
 pub record IsSpread (old new : Grid) (written dirty spread : Place → Bool) : Type 0 where
   pub others : (c : Place) → written c ≡ false → map.get new.cells c ≡ map.get old.cells c

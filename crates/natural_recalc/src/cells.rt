@@ -1,31 +1,31 @@
 // What is seen of the cells and columns of a store.
 ghost use Rattle.std.specs.Prelude.{◌≡◌, IfNone, IfSome, Some, None};
 ghost use Rattle.std.specs.FinMap as map;
+ghost use Rattle.formula_tree.specs.Seen.{seen_content, seen_value};
 ghost use Rattle.sheet_store.specs.Grid as grid;
 ghost use Rattle.natural_recalc.specs.Context.{content_of, format_of, value_at, width_or};
 
-use crate::Missing;
-use formula_tree::{Content, Value};
+use formula_tree::{ContentRef, ValueRef};
 use grid_address::{Cell, Format};
 use sheet_store::{Settings, Store};
 
 /// The value of a cell; one that isn't there is blank.
-pub fn value_of<'a>(store: &'a Store, missing: &'a Missing, cell: Cell) -> &'a Value
-    ensures { result.now ≡ value_at store.now cell }
+pub fn value_of(store: &Store, cell: Cell) -> ValueRef<'_>
+    ensures { seen_value result ≡ value_at store.now cell }
 {
     match store.get(cell) {
-        Some(state) => &state.value,
-        None => missing.value(),
+        Some(state) => state.value(),
+        None => ValueRef::Blank,
     }
 }
 
 /// What a cell holds; none where it isn't there.
-pub fn content_of(store: &Store, cell: Cell) -> Option<&Content>
-    ensures some { IfSome result (λ c. content_of (map.get store.now.cells cell) ≡ Some c.now) }
+pub fn content_of(store: &Store, cell: Cell) -> Option<ContentRef<'_>>
+    ensures some { IfSome result (λ c. content_of (map.get store.now.cells cell) ≡ Some (seen_content c)) }
     ensures none { IfNone result (content_of (map.get store.now.cells cell) ≡ None) }
 {
     match store.get(cell) {
-        Some(state) => Some(&state.content),
+        Some(state) => Some(state.content()),
         None => None,
     }
 }
@@ -35,7 +35,7 @@ pub fn format_of(store: &Store, cell: Cell) -> Format
     ensures { result.0 ≡ format_of (map.get store.now.cells cell) }
 {
     match store.get(cell) {
-        Some(state) => state.format,
+        Some(state) => state.format(),
         None => Format::DEFAULT,
     }
 }

@@ -6,9 +6,9 @@ ghost use Rattle.natural_recalc.specs.Context.{context_of};
 ghost use Rattle.natural_recalc.specs.Passes.{evaluated, pass, passes, raised_by, IsSound, SameContents};
 ghost use Rattle.natural_recalc.specs.Reading.{is_formula_at};
 
-use crate::{Missing, View};
+use crate::View;
 use formula_eval::{Means, Scene};
-use formula_tree::Content;
+use formula_tree::ContentRef;
 use grid_address::Cell;
 use lics_text::Memory;
 use range_names::Names;
@@ -33,15 +33,13 @@ pub fn evaluate_at<E: Means>(
     let Some(state) = store.get(cell) else {
         return Ok(());
     };
-    let Content::Formula(formula) = &state.content else {
+    let ContentRef::Formula(formula) = state.content() else {
         return Ok(());
     };
-    let missing = Missing::new();
     let view = View {
         store,
         names,
         settings,
-        missing: &missing,
     };
     let value = tally.evaluate(formula, cell, &view, scene)?;
     store.set_value(cell, value);

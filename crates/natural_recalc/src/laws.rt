@@ -1,14 +1,9 @@
 // Laws of recalculation. Each function does nothing, and stands for its clause.
 ghost use Rattle.natural_recalc.specs.Context.{Context};
 ghost use Rattle.natural_recalc.specs.InOrder.{AnyOrderServes};
-ghost use Rattle.natural_recalc.specs.Passes.{EditKeepsSound, PassIsCut, RecalculationIsCut};
+ghost use Rattle.natural_recalc.specs.Passes.{EditKeepsSound, RecalculationIsCut};
 
 use formula_eval::Means;
-
-/// One pass over the dirty formulas is one pass over all.
-pub fn pass_is_cut<E: Means>()
-    ensures { (x : Context) → PassIsCut E.meaning x }
-{}
 
 /// All passes over all formulas are one pass over the dirty ones, and the further ones over those that stay dirty.
 pub fn recalculation_is_cut<E: Means>()

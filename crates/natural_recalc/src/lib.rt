@@ -6,7 +6,6 @@ mod columns;
 mod evaluate;
 mod laws;
 mod leave;
-mod missing;
 mod reads;
 mod recalculation;
 mod span;
@@ -15,8 +14,7 @@ mod whole;
 
 pub use cells::{content_of, format_of, value_of, width_of};
 pub use evaluate::evaluate_at;
-pub use laws::{any_order_serves, edit_keeps_sound, pass_is_cut, recalculation_is_cut};
-pub use missing::Missing;
+pub use laws::{any_order_serves, edit_keeps_sound, recalculation_is_cut};
 pub use recalculation::{Circ, recalc};
 pub use span::recalc_span;
 pub use view::View;

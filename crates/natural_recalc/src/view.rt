@@ -5,10 +5,9 @@ ghost use Rattle.grid_address.specs.Place.{Place};
 ghost use Rattle.formula_tree.specs.Values.{is_filled};
 ghost use Rattle.natural_recalc.specs.Context.{sight_of, value_at};
 
-use crate::Missing;
 use crate::cells::{content_of, format_of, value_of, width_of};
 use formula_eval::Look;
-use formula_tree::{Content, Value};
+use formula_tree::{ContentRef, ValueRef};
 use grid_address::{Cell, CellList, Format, Span};
 use lics_text::Memory;
 use range_names::Names;
@@ -20,16 +19,25 @@ pub struct View<'a> {
     pub store: &'a Store,
     pub names: &'a Names,
     pub settings: &'a Settings,
-    pub missing: &'a Missing,
+}
+
+// Whether a cell isn't blank.
+fn is_filled_at(store: &Store, cell: Cell) -> bool
+    ensures { result ≡ is_filled (value_at store.now cell) }
+{
+    match value_of(store, cell) {
+        ValueRef::Blank => false,
+        ValueRef::Num(_) | ValueRef::Str(_) | ValueRef::Err | ValueRef::Na => true,
+    }
 }
 
 // Those of the cells that aren't blank.
-fn filled_among(store: &Store, missing: &Missing, cells: &[Cell]) -> Result<CellList, Memory>
+fn filled_among(store: &Store, cells: &[Cell]) -> Result<CellList, Memory>
     ensures { IfOk result (λ l. l ≡ filter (λ (c : Place). is_filled (value_at store.now c)) cells.now) }
 {
     let mut list = CellList::new(store.alloc());
     for cell in cells {
-        if value_of(store, missing, *cell).is_filled() {
+        if is_filled_at(store, *cell) {
             list.push(*cell)?;
         }
     }
@@ -39,11 +47,11 @@ fn filled_among(store: &Store, missing: &Missing, cells: &[Cell]) -> Result<Cell
 impl<'a> Look for View<'a> {
     ghost sight = { λ v. sight_of v.names.now v.settings.now v.store.now };
 
-    fn value(&self, cell: Cell) -> &Value {
-        value_of(self.store, self.missing, cell)
+    fn value(&self, cell: Cell) -> ValueRef<'_> {
+        value_of(self.store, cell)
     }
 
-    fn content(&self, cell: Cell) -> Option<&Content> {
+    fn content(&self, cell: Cell) -> Option<ContentRef<'_>> {
         content_of(self.store, cell)
     }
 
@@ -61,7 +69,7 @@ impl<'a> Look for View<'a> {
 
     fn filled(&self, span: Span) -> Result<CellList, Memory> {
         let cells = self.store.cells_in(span)?;
-        let list = filled_among(self.store, self.missing, cells.as_slice())?;
+        let list = filled_among(self.store, cells.as_slice())?;
         Ok(list)
     }
 }

@@ -9,7 +9,7 @@ ghost use Rattle.natural_recalc.specs.Reading.{is_formula_at, node_of, with_form
 
 use cell_numbers::CellSet;
 use depend_graph::{Graph, insert_all};
-use formula_tree::Content;
+use formula_tree::ContentRef;
 use grid_address::Cell;
 use lics_text::Memory;
 use sheet_store::Store;
@@ -33,7 +33,7 @@ fn add_formula(graph: &mut Graph, store: &Store, cell: Cell) -> Result<(), Memor
     let Some(state) = store.get(cell) else {
         return Ok(());
     };
-    let Content::Formula(formula) = &state.content else {
+    let ContentRef::Formula(formula) = state.content() else {
         return Ok(());
     };
     let reads = formula.reads(cell)?;

@@ -6,7 +6,7 @@ use Rattle.std.proofs.lemmas.Bool.{cases_Bool}
 use Rattle.grid_address.proofs.Places.{get_inserted, get_removed}
 use Rattle.grid_address.specs.Place.{same_place, Place}
 use Rattle.sheet_store.specs.Grid.{is_kept, put_state, Grid}
-use Rattle.sheet_store.specs.declared.state.CellState.{CellState}
+use Rattle.sheet_store.specs.State.{CellState}
 
 pub beside : (g : Grid) (cell : Place) (s : CellState) (c : Place) → same_place c cell ≡ false → get (put_state g cell s).cells c ≡ get g.cells c
 beside g cell s c h = elim (cases_Bool (is_kept s)) [

@@ -12,7 +12,7 @@ use Rattle.depend_graph.proofs.Spreads.{spread_along}
 use Rattle.depend_graph.specs.Network.{IsSpread, Network}
 use Rattle.cell_numbers.specs.Sets.{has, insert_key}
 use Rattle.sheet_store.specs.Grid.{is_formula, is_kept, put_state, Grid}
-use Rattle.sheet_store.specs.declared.state.CellState.{CellState}
+use Rattle.sheet_store.specs.State.{CellState}
 use Rattle.natural_recalc.specs.Context.{formula_at, formula_in}
 use Rattle.natural_recalc.specs.Reading.{is_formula_at, node_of, Matches}
 use Rattle.sheet_edits.proofs.Reaching.{accepted_told, dropped_told, formula_beside, formula_here, formula_in_is, matches_written, reaching_formula, to_new, to_old}

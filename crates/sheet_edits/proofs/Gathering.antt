@@ -14,7 +14,7 @@ use Rattle.formula_tree.specs.declared.value.Value.{Value}
 use Rattle.cell_numbers.specs.Sets.{has}
 use Rattle.natural_recalc.specs.Context.{format_of}
 use Rattle.sheet_store.specs.Grid.{Cells, Grid, IsSound}
-use Rattle.sheet_store.specs.declared.state.CellState.{CellState}
+use Rattle.sheet_store.specs.State.{CellState}
 use Rattle.sheet_store.specs.declared.writes.Write.{Write}
 use Rattle.sheet_edits.proofs.Listed.{pushed}
 use Rattle.sheet_edits.proofs.Overlaid.{get_put, none_not_some, same_grid}

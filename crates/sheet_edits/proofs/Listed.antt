@@ -10,7 +10,7 @@ use Rattle.grid_address.specs.Place.{same_place, Place}
 use Rattle.depend_graph.specs.Within.{Extends}
 use Rattle.cell_numbers.specs.Sets.{has, insert_key}
 use Rattle.sheet_store.specs.Grid.{Cells}
-use Rattle.sheet_store.specs.declared.state.CellState.{CellState}
+use Rattle.sheet_store.specs.State.{CellState}
 use Rattle.sheet_edits.proofs.Dirtied.{inserted_members}
 use Rattle.sheet_edits.specs.Spans.{given_at, AreGiven}
 

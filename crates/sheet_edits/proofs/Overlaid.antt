@@ -16,7 +16,7 @@ use Rattle.cell_numbers.specs.Sets.{has}
 use Rattle.natural_recalc.specs.Context.{formula_at, formula_in, formula_of}
 use Rattle.natural_recalc.specs.Reading.{is_formula_at, node_of, Matches}
 use Rattle.sheet_store.specs.Grid.{is_kept, put_state, Cells, Grid}
-use Rattle.sheet_store.specs.declared.state.CellState.{CellState}
+use Rattle.sheet_store.specs.State.{CellState}
 use Rattle.depend_graph.proofs.Spreads.{spread_along}
 use Rattle.sheet_edits.proofs.Dirtied.{dirtied}
 use Rattle.sheet_edits.proofs.Listed.{is_among, more_seen, seen_beside}

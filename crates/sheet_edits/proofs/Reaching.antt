@@ -13,7 +13,7 @@ use Rattle.depend_graph.specs.declared.node.Node.{Node}
 use Rattle.depend_graph.specs.Network.ReachesCell.{direct, through}
 use Rattle.range_index.specs.Owners.{hold}
 use Rattle.sheet_store.specs.Grid.{is_formula, is_kept, put_state, Grid}
-use Rattle.sheet_store.specs.declared.state.CellState.{CellState}
+use Rattle.sheet_store.specs.State.{CellState}
 use Rattle.natural_recalc.specs.Context.{formula_at, formula_in, formula_of}
 use Rattle.natural_recalc.specs.Reading.{is_formula_at, node_of, reads_at, spans_at, spans_in, Matches}
 use Rattle.sheet_edits.specs.Edits.{ReachesWritten}

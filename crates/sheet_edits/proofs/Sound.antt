@@ -12,7 +12,7 @@ use Rattle.formula_tree.specs.declared.value.Value.{Value}
 use Rattle.formula_tree.specs.declared.value.Value.TheVariants as value
 use Rattle.natural_recalc.specs.Context.{formula_of, value_of}
 use Rattle.sheet_store.specs.Grid.{blank_state, AreHeld, Cells, Fits, IsSound}
-use Rattle.sheet_store.specs.declared.state.CellState.{CellState}
+use Rattle.sheet_store.specs.State.{CellState}
 use Rattle.sheet_edits.proofs.Overlaid.{formula_kept, none_not_some}
 use Rattle.sheet_edits.specs.Edits.{first_value}
 use Rattle.sheet_edits.specs.Spans.{blanked, copied_state, kept_of, reformatted, reformatted_state, AreGiven, AreSound}

@@ -11,7 +11,7 @@ use Rattle.depend_graph.specs.Network.{accepted, dropped, IsSpread, Network, Rea
 use Rattle.cell_numbers.specs.Sets.{has}
 use Rattle.sheet_store.specs.Choices.{Choices}
 use Rattle.sheet_store.specs.Grid.{clear_cell, is_formula, is_kept, put_state, Grid, IsSound}
-use Rattle.sheet_store.specs.declared.state.CellState.{CellState}
+use Rattle.sheet_store.specs.State.{CellState}
 use Rattle.natural_recalc.specs.Context.{format_of, Context}
 use Rattle.natural_recalc.specs.Passes.{evaluated, Meaning}
 use Rattle.natural_recalc.specs.Reading.{is_formula_at, reads_at}

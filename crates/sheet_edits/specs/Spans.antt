@@ -15,7 +15,7 @@ use Rattle.natural_recalc.specs.Reading.{node_of}
 use Rattle.sheet_store.specs.Choices.{Choices}
 use Rattle.sheet_store.specs.Grid.{blank_state, formatted, is_formula, is_kept, put_state, Cells, Grid, IsSound}
 use Rattle.sheet_store.specs.contracts.state.CellState as state
-use Rattle.sheet_store.specs.declared.state.CellState.{CellState}
+use Rattle.sheet_store.specs.State.{CellState}
 use Rattle.sheet_store.specs.declared.writes.SheetFault.{SheetFault}
 use Rattle.sheet_store.specs.declared.writes.SheetFault.TheVariants as faults
 use Rattle.sheet_store.specs.declared.writes.Write.{Write}

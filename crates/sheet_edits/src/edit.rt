@@ -12,22 +12,22 @@ ghost use Rattle.sheet_edits.specs.Edits.{just, kept_at, settled, AreDirtied, Wi
 
 use cell_numbers::CellSet;
 use depend_graph::{Graph, Node, cut_back, insert, insert_all};
-use formula_tree::Content;
+use formula_tree::ContentRef;
 use grid_address::{Cell, CellList};
 use lics_text::Memory;
-use sheet_store::{CellState, Store, is_formula};
+use sheet_store::{CellState, Store};
 use std::alloc::Global;
 
-// What the formula of a content reads, where the content is a formula.
-pub fn node_of(cell: Cell, content: &Content) -> Result<Option<Node>, Memory>
-    ensures { IfOk result (λ node. node ≡ node_of (formula_in content.now) cell) }
+// What the formula of a state reads, where its content is a formula.
+pub fn node_of(cell: Cell, state: &CellState) -> Result<Option<Node>, Memory>
+    ensures { IfOk result (λ node. node ≡ node_of (formula_in state.now.content) cell) }
 {
-    match content {
-        Content::Formula(formula) => Ok(Some(Node {
+    match state.content() {
+        ContentRef::Formula(formula) => Ok(Some(Node {
             reads: formula.reads(cell)?,
             volatile: formula.is_volatile(),
         })),
-        Content::Blank | Content::Number(_) | Content::Label(_, _) => Ok(None),
+        ContentRef::Blank | ContentRef::Number(_) | ContentRef::Label(_, _) => Ok(None),
     }
 }
 
@@ -84,8 +84,8 @@ pub fn prepare(
     ensures extends { Extends dirty.old.keys dirty.new.keys }
     ensures dirty { OnOk result (WithReached graph.old (cell ∷ []) (just cell) dirty.old.keys dirty.new.keys) }
 {
-    offer(graph, cell, node_of(cell, &state.content)?)?;
-    let reached = reached_from(store.alloc(), graph, cell, is_formula(&state.content))?;
+    offer(graph, cell, node_of(cell, &state)?)?;
+    let reached = reached_from(store.alloc(), graph, cell, state.is_formula())?;
     insert_all(dirty, reached.as_slice())?;
     insert(dirty, cell)?;
     store.put(cell, state)?;
@@ -127,7 +127,7 @@ pub fn write_cell(
     ensures dirty_err { OnErr result (dirty.new.keys ≡ dirty.old.keys) }
 {
     let count = dirty.len();
-    let holds_formula = is_formula(&state.content);
+    let holds_formula = state.is_formula();
     match prepare(store, graph, dirty, cell, state) {
         Ok(()) => {
             settle(graph, dirty, cell, holds_formula);

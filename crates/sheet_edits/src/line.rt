@@ -28,7 +28,7 @@ fn copy_of(store: &Store, cell: Cell) -> Result<Option<CellState>, Memory>
     // The store is asked for what it keeps of its cells.
     store.are_held();
     match store.get(cell) {
-        Some(state) => Ok(Some(state.copy()?)),
+        Some(state) => Ok(Some(state.copy(store.alloc())?)),
         None => Ok(None),
     }
 }

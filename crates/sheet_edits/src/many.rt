@@ -7,7 +7,7 @@ ghost use Rattle.cell_numbers.specs.Sets.{has};
 ghost use Rattle.natural_recalc.specs.Context.{formula_at};
 ghost use Rattle.natural_recalc.specs.Reading.{is_formula_at, node_of, Matches};
 ghost use Rattle.sheet_store.specs.Grid.{is_formula, is_kept, put_state, IsSound};
-ghost use Rattle.sheet_store.specs.declared.state.CellState.{CellState};
+ghost use Rattle.sheet_store.specs.State.{CellState};
 ghost use Rattle.sheet_edits.specs.Edits.{just, AreDirtied, WithReached};
 ghost use Rattle.sheet_edits.specs.Spans.{changed, gives_formula, node_given, put_given, AreSound, Becomes, HaveRoom, IsGrown, IsKeptBeside, IsOffered};
 
@@ -17,7 +17,7 @@ use cell_numbers::CellSet;
 use depend_graph::{Graph, cut_back, insert, insert_all};
 use grid_address::{Cell, CellList, Format};
 use lics_text::Memory;
-use sheet_store::{CellState, Store, is_formula};
+use sheet_store::{CellState, Store};
 
 // Offers the formula that a cell is given, or none.
 fn offer_at(graph: &mut Graph, cell: Cell, changes: &Changes) -> Result<(), Memory>
@@ -26,7 +26,7 @@ fn offer_at(graph: &mut Graph, cell: Cell, changes: &Changes) -> Result<(), Memo
     ensures offer { OnOk result (map.get graph.new.offers cell ≡ node_given (map.get changes.now cell) cell) }
 {
     let node = match changes.get(cell) {
-        Some(state) => node_of(cell, &state.content)?,
+        Some(state) => node_of(cell, state)?,
         None => None,
     };
     offer(graph, cell, node)?;
@@ -51,7 +51,7 @@ fn is_given(changes: &Changes, cell: Cell) -> bool
     ensures { result ≡ gives_formula (map.get changes.now cell) }
 {
     match changes.get(cell) {
-        Some(state) => is_formula(&state.content),
+        Some(state) => state.is_formula(),
         None => false,
     }
 }
@@ -196,7 +196,7 @@ fn holds_formula(store: &Store, cell: Cell) -> bool
     ensures { result ≡ is_formula_at store.now cell }
 {
     match store.get(cell) {
-        Some(state) => is_formula(&state.content),
+        Some(state) => state.is_formula(),
         None => false,
     }
 }

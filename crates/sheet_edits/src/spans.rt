@@ -9,7 +9,7 @@ ghost use Rattle.sheet_store.specs.Choices.{Choices};
 ghost use Rattle.sheet_edits.specs.Spans.{blanked, block_at, copied_state, given_at, in_columns, in_rows, reformatted_state, repeated, rule_of, sooner, source_of, target_of, AreGiven, AreSound, HasCode, IsFirstMarked, IsFirstProtected, NoneMarked, NoneProtected};
 
 use crate::changes::Changes;
-use crate::states::{first_value, is_marked};
+use crate::states::{first_state, is_marked};
 use grid_address::{Cell, CellList, Format, ROWS, Span};
 use lics_text::Memory;
 use natural_recalc::format_of;
@@ -112,7 +112,7 @@ fn erase_at(changes: &mut Changes, store: &Store, cell: Cell) -> Result<(), Memo
     ensures { OnOk result (changes.new ≡ given_at changes.old cell (blanked (map.get store.now.cells cell))) }
 {
     match store.get(cell) {
-        Some(state) => changes.set(cell, CellState::blank(state.format)),
+        Some(state) => changes.set(cell, CellState::blank(state.format())),
         None => Ok(()),
     }
 }
@@ -135,16 +135,7 @@ fn copied_state(store: &Store, cell: Cell) -> Result<CellState, Memory>
     ensures { IfOk result (λ s. s ≡ copied_state (map.get store.now.cells cell)) }
 {
     match store.get(cell) {
-        Some(state) => {
-            let content = state.content.copy()?;
-            let value = first_value(&content)?;
-            let format = state.format;
-            Ok(CellState {
-                content,
-                value,
-                format,
-            })
-        }
+        Some(state) => first_state(store.alloc(), state.content().copy()?, state.format()),
         None => Ok(CellState::blank(Format::DEFAULT)),
     }
 }
@@ -250,10 +241,11 @@ fn reformatted_state(store: &Store, cell: Cell, change: FormatChange) -> Result<
 {
     let format = reformat(change, format_of(store, cell));
     match store.get(cell) {
-        Some(state) => Ok(CellState {
-            format,
-            ..state.copy()?
-        }),
+        Some(state) => {
+            let mut copy = state.copy(store.alloc())?;
+            copy.set_format(format);
+            Ok(copy)
+        }
         None => Ok(CellState::blank(format)),
     }
 }

@@ -8,20 +8,21 @@ ghost use Rattle.std.specs.FinMap as map;
 
 use fixed_value::Fixed;
 use formula_tree::{Content, Value};
-use grid_address::Cell;
+use grid_address::{Cell, Format};
 use lics_text::Memory;
 use natural_recalc::format_of;
 use sheet_store::{CellState, Store};
+use std::alloc::Global;
 
-// The value with which a content begins.
-pub fn first_value(content: &Content) -> Result<Value, Memory>
-    ensures { IfOk result (λ v. v ≡ first_value content.now) }
+// A content with its first value, in a format.
+pub fn first_state(alloc: Global, content: Content, format: Format) -> Result<CellState, Memory>
+    ensures { IfOk result (λ s. s ≡ record { content = content; value = first_value content; format = format }) }
 {
     match content {
-        Content::Blank => Ok(Value::Blank),
-        Content::Number(number) => Ok(Value::Num(*number)),
-        Content::Label(_, text) => Ok(Value::Str(text.copy()?)),
-        Content::Formula(_) => Ok(Value::Num(Fixed::ZERO)),
+        Content::Blank => Ok(CellState::blank(format)),
+        Content::Number(number) => Ok(CellState::number(number, format)),
+        Content::Label(prefix, text) => CellState::label(alloc, prefix, text, format),
+        Content::Formula(formula) => CellState::formula(formula, Value::Num(Fixed::ZERO), format),
     }
 }
 
@@ -31,13 +32,7 @@ pub fn state_of(store: &Store, cell: Cell, content: Content) -> Result<CellState
     ensures sound { IfOk result (λ s. IsSound s) }
     ensures kept { IfOk result (λ s. is_formula s.content ≡ true → is_kept s ≡ true) }
 {
-    let value = first_value(&content)?;
-    let format = format_of(store, cell);
-    Ok(CellState {
-        content,
-        value,
-        format,
-    })
+    first_state(store.alloc(), content, format_of(store, cell))
 }
 
 /// Whether the protection mark of a cell is set, as it is in the default format.

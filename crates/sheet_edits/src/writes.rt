@@ -6,7 +6,7 @@ ghost use Rattle.natural_recalc.specs.Context.{format_of};
 ghost use Rattle.sheet_edits.specs.Spans.{changed, write_state, written_all, written_cells, AreGathered};
 
 use crate::changes::Changes;
-use crate::states::first_value;
+use crate::states::first_state;
 use grid_address::{Cell, CellList, Format};
 use lics_text::Memory;
 use natural_recalc::format_of;
@@ -17,7 +17,7 @@ fn format_after(store: &Store, changes: &Changes, cell: Cell) -> Format
     ensures { result.0 ≡ format_of (changed (map.get changes.now cell) (map.get store.now.cells cell)) }
 {
     match changes.get(cell) {
-        Some(state) => state.format,
+        Some(state) => state.format(),
         None => format_of(store, cell),
     }
 }
@@ -29,16 +29,11 @@ fn write_state(store: &Store, changes: &Changes, write: &Write) -> Result<CellSt
         (changed (map.get changes.now write.now.cell) (map.get store.now.cells write.now.cell))) }
 {
     let content = write.content.copy()?;
-    let value = first_value(&content)?;
     let format = match write.format {
         Some(format) => format,
         None => format_after(store, changes, write.cell),
     };
-    Ok(CellState {
-        content,
-        value,
-        format,
-    })
+    first_state(store.alloc(), content, format)
 }
 
 // One more write.

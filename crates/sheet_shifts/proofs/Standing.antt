@@ -9,7 +9,7 @@ use Rattle.std.proofs.lemmas.Bool.{cases_Bool, true≢false}
 use Rattle.grid_address.proofs.Places.{cells_exact, cells_total}
 use Rattle.grid_address.specs.Place.{place_cmp, InSheet, Place}
 use Rattle.sheet_store.specs.Grid.{AreHeld, Cells}
-use Rattle.sheet_store.specs.declared.state.CellState.{CellState}
+use Rattle.sheet_store.specs.State.{CellState}
 use Rattle.sheet_shifts.specs.Laws.{CellsCame, CellsGo}
 use Rattle.sheet_shifts.specs.Shifts.{cells_after, entry_after, place_after, state_after, state_at, IsShift}
 use Rattle.sheet_shifts.specs.declared.shift.Shift.{Shift}

@@ -4,7 +4,7 @@ use Rattle.std.specs.FinMap.{get}
 use Rattle.grid_address.specs.Place.{is_within, Extent, Place}
 use Rattle.ref_adjust.specs.Moves.{target}
 use Rattle.sheet_store.specs.Grid.{Cells}
-use Rattle.sheet_store.specs.declared.state.CellState.{CellState}
+use Rattle.sheet_store.specs.State.{CellState}
 use Rattle.sheet_shifts.specs.Refusals.{is_marked_at, protected_in}
 use Rattle.sheet_shifts.specs.Shifts.{cells_after, place_after, state_after}
 use Rattle.sheet_shifts.specs.declared.shift.Shift.{Shift}

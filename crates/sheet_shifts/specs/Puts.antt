@@ -8,7 +8,7 @@ use Rattle.range_names.specs.Names.{IsKey, NameMap}
 use Rattle.ref_adjust.specs.declared.change.Change.{Change}
 use Rattle.ref_adjust.specs.declared.change.Change.TheVariants.{InsertRows, InsertColumns, DeleteRows, DeleteColumns}
 use Rattle.sheet_store.specs.Grid.{Cells, Grid}
-use Rattle.sheet_store.specs.declared.state.CellState.{CellState}
+use Rattle.sheet_store.specs.State.{CellState}
 use Rattle.sheet_shifts.specs.Refusals.{is_pushed}
 use Rattle.sheet_shifts.specs.Shifts.{entry_after, name_after, names_after}
 use Rattle.sheet_shifts.specs.declared.shift.Shift.{Shift}

@@ -10,7 +10,7 @@ use Rattle.ref_adjust.specs.Lines.{place_shifted, IsChange}
 use Rattle.ref_adjust.specs.Moves.{carried, target}
 use Rattle.sheet_store.specs.Choices.{Choices}
 use Rattle.sheet_store.specs.Grid.{is_blank, Cells}
-use Rattle.sheet_store.specs.declared.state.CellState.{CellState}
+use Rattle.sheet_store.specs.State.{CellState}
 use Rattle.sheet_store.specs.declared.writes.SheetFault.{SheetFault}
 use Rattle.sheet_store.specs.declared.writes.SheetFault.TheVariants as faults
 use Rattle.sheet_shifts.specs.declared.shift.Shift.{Shift}

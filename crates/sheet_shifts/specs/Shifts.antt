@@ -11,7 +11,7 @@ use Rattle.ref_adjust.specs.Adjusted.{formula_moved, formula_shifted}
 use Rattle.ref_adjust.specs.Lines.{place_shifted, span_shifted, IsChange}
 use Rattle.ref_adjust.specs.Moves.{place_moved, span_moved, FitsAt}
 use Rattle.sheet_store.specs.Grid.{Cells, Grid}
-use Rattle.sheet_store.specs.declared.state.CellState.{CellState}
+use Rattle.sheet_store.specs.State.{CellState}
 use Rattle.sheet_shifts.specs.Columns.{columns_after}
 use Rattle.sheet_shifts.specs.declared.shift.Shift.{Shift}
 use Rattle.sheet_shifts.specs.declared.shift.Shift.TheVariants.{Lines, Block}

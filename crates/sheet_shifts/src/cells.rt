@@ -8,13 +8,16 @@ ghost use Rattle.sheet_shifts.specs.Shifts.{cells_after, entry_after, grid_after
 
 use crate::Shift;
 use crate::columns::put_columns;
-use crate::shift::{content_after, place_after};
+use crate::shift::{formula_after, place_after};
+use formula_tree::ContentRef;
 use grid_address::{Cell, Span};
 use lics_text::Memory;
 use sheet_store::{CellState, Store};
+use std::alloc::Global;
 
 // A cell's state at its new place. The value and the format are carried.
 fn state_after(
+    alloc: Global,
     shift: &Shift,
     old_at: Cell,
     new_at: Cell,
@@ -23,12 +26,13 @@ fn state_after(
     requires { IsShift shift.now }
     ensures { IfOk result (λ s. s ≡ state_after shift.now old_at new_at state.now) }
 {
-    let content = content_after(shift, old_at, new_at, state.content.copy()?);
-    Ok(CellState {
-        content,
-        value: state.value.copy()?,
-        format: state.format,
-    })
+    match state.content() {
+        ContentRef::Formula(formula) => {
+            let formula = formula_after(shift, old_at, new_at, formula)?;
+            CellState::formula(formula, state.value().copy()?, state.format())
+        }
+        ContentRef::Blank | ContentRef::Number(_) | ContentRef::Label(_, _) => state.copy(alloc),
+    }
 }
 
 // Puts a cell's state at its new place, if the cell isn't lost.
@@ -40,7 +44,7 @@ fn put_cell(shift: &Shift, cell: Cell, state: &CellState, into: &mut Store) -> R
     }) }
 {
     match place_after(shift, cell) {
-        Some(place) => into.put(place, state_after(shift, cell, place, state)?),
+        Some(place) => into.put(place, state_after(into.alloc(), shift, cell, place, state)?),
         None => Ok(()),
     }
 }

@@ -10,7 +10,7 @@ fn is_marked(store: &Store, cell: Cell) -> bool
     ensures { result ≡ is_marked_at store.now.cells cell }
 {
     match store.get(cell) {
-        Some(state) => state.format.is_protected(),
+        Some(state) => state.format().is_protected(),
         None => true,
     }
 }

@@ -3,31 +3,19 @@ ghost use Rattle.std.specs.Prelude.{◌≡◌, true, None};
 ghost use Rattle.std.specs.FinMap.{entries};
 ghost use Rattle.grid_address.specs.Place.{is_within, InSheet, Place};
 ghost use Rattle.ref_adjust.specs.Lines.{place_shifted, IsChange};
-ghost use Rattle.sheet_store.specs.Grid.{is_blank};
 ghost use Rattle.sheet_shifts.specs.Puts.{first_pushed_at, is_pushed_at};
 ghost use Rattle.sheet_shifts.specs.Refusals.{first_pushed, is_pushed, pushed_by};
 
-use formula_tree::Content;
 use grid_address::{Cell, ROWS, Span};
 use ref_adjust::{Change, cell_shifted};
 use sheet_store::{CellState, Store};
-
-// Whether a content is blank.
-fn is_blank(content: &Content) -> bool
-    ensures { result ≡ is_blank content.now }
-{
-    match content {
-        Content::Blank => true,
-        Content::Number(_) | Content::Label(_, _) | Content::Formula(_) => false,
-    }
-}
 
 // Whether a cell is filled and would leave the sheet.
 fn is_pushed(change: Change, cell: Cell, state: &CellState) -> bool
     requires { IsChange change }
     ensures { result ≡ is_pushed change (cell, state.now) }
 {
-    !is_blank(&state.content) && cell_shifted(change, cell).is_none()
+    !state.is_blank() && cell_shifted(change, cell).is_none()
 }
 
 // Whether a store has such a cell at a place.

@@ -1,9 +1,10 @@
 // Edits that move cells, and where one cell, span or formula goes.
-ghost use Rattle.std.specs.Prelude.{◌≡◌};
-ghost use Rattle.sheet_shifts.specs.Shifts.{content_after, formula_after, place_after, span_after, IsShift};
+ghost use Rattle.std.specs.Prelude.{◌≡◌, IfOk};
+ghost use Rattle.sheet_shifts.specs.Shifts.{formula_after, place_after, span_after, IsShift};
 
-use formula_tree::{Content, Formula};
+use formula_tree::Formula;
 use grid_address::{Cell, Span};
+use lics_text::Memory;
 use ref_adjust::{Change, cell_moved, cell_shifted, moved, shifted, span_moved, span_shifted};
 
 /// An edit that moves cells.
@@ -37,28 +38,18 @@ pub fn span_after(shift: &Shift, span: Span) -> Option<Span>
     }
 }
 
-// A formula whose cell has gone from the old to the new place.
-fn formula_after(shift: &Shift, old_at: Cell, new_at: Cell, formula: Formula) -> Formula
+/// A formula whose cell has gone from the old to the new place.
+pub fn formula_after(
+    shift: &Shift,
+    old_at: Cell,
+    new_at: Cell,
+    formula: &Formula,
+) -> Result<Formula, Memory>
     requires { IsShift shift.now }
-    ensures { result ≡ formula_after shift.now old_at new_at formula }
+    ensures { IfOk result (λ f. f ≡ formula_after shift.now old_at new_at formula.now) }
 {
     match shift {
         Shift::Lines(change) => shifted(formula, old_at, new_at, *change),
         Shift::Block(from, to) => moved(formula, old_at, new_at, *from, *to),
-    }
-}
-
-/// A content whose cell has gone from the old to the new place: a formula follows, and any other stays as it is.
-pub fn content_after(shift: &Shift, old_at: Cell, new_at: Cell, content: Content) -> Content
-    requires { IsShift shift.now }
-    ensures { result ≡ content_after shift.now old_at new_at content }
-{
-    match content {
-        Content::Blank => Content::Blank,
-        Content::Number(number) => Content::Number(number),
-        Content::Label(prefix, text) => Content::Label(prefix, text),
-        Content::Formula(formula) => {
-            Content::Formula(formula_after(shift, old_at, new_at, formula))
-        }
     }
 }

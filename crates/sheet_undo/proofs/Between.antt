@@ -8,7 +8,7 @@ use Rattle.grid_address.proofs.Places.{cells_exact, cells_total, get_inserted, g
 use Rattle.grid_address.specs.Place.{place_cmp, same_place, Place}
 use Rattle.sheet_shifts.proofs.Maps.{each, entries_apart, some_is_none}
 use Rattle.sheet_store.specs.Grid.{Cells}
-use Rattle.sheet_store.specs.declared.state.CellState.{CellState}
+use Rattle.sheet_store.specs.State.{CellState}
 use Rattle.sheet_undo.specs.Changes.{all_changed, changed_at, AreTaken}
 
 -- the last change is made last

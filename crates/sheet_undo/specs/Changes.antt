@@ -5,7 +5,7 @@ use Rattle.std.specs.FinMap.{get, insert, remove}
 use Rattle.grid_address.specs.Place.{coded_place, Place}
 use Rattle.sheet_store.specs.Grid.{Cells, Grid, IsHeld}
 use Rattle.sheet_store.specs.contracts.state.CellState as state
-use Rattle.sheet_store.specs.declared.state.CellState.{CellState}
+use Rattle.sheet_store.specs.State.{CellState}
 
 -- how a cell, with the state that it has or none, is told apart
 abbrev pub coded_change : Coded (Place × Option CellState)

@@ -11,7 +11,7 @@ use Rattle.grid_address.specs.Place.{same_place, Extent, Place}
 use Rattle.lics_text.specs.Prefixes.{prefix_byte}
 use Rattle.range_names.specs.Names.{same_extent}
 use Rattle.sheet_store.specs.Grid.{Grid}
-use Rattle.sheet_store.specs.declared.state.CellState.{CellState}
+use Rattle.sheet_store.specs.State.{CellState}
 use Rattle.wk1_formula.specs.Written.{code_of}
 
 -- whether two contents of a cell are one

@@ -7,7 +7,7 @@ ghost use Rattle.formula_tree.specs.Values.{same_value};
 ghost use Rattle.sheet_undo.specs.Same.{entry, same_content, same_entry, same_state, IsWritten};
 ghost use Rattle.wk1_formula.specs.Written.{code_of};
 
-use formula_tree::{Content, Formula, Value};
+use formula_tree::{ContentRef, Formula, ValueRef};
 use grid_address::Cell;
 use lics_text::{LabelPrefix, Memory, Text};
 use sheet_store::{CellState, Entries, Store};
@@ -27,30 +27,30 @@ fn is_same_label(prefix: LabelPrefix, one: &Text, mark: LabelPrefix, other: &Tex
     prefix.byte() == mark.byte() && is_same_text(one, other)
 }
 
-// Whether two values are one.
-fn is_same_value(one: &Value, other: &Value) -> bool
-    ensures { result ≡ same_value one.now other.now }
+// Whether two cells' values are one.
+fn is_same_value(one: &CellState, other: &CellState) -> bool
+    ensures { result ≡ same_value one.now.value other.now.value }
 {
-    match one {
-        Value::Blank => match other {
-            Value::Blank => true,
-            Value::Num(_) | Value::Str(_) | Value::Err | Value::Na => false,
+    match one.value() {
+        ValueRef::Blank => match other.value() {
+            ValueRef::Blank => true,
+            ValueRef::Num(_) | ValueRef::Str(_) | ValueRef::Err | ValueRef::Na => false,
         },
-        Value::Num(number) => match other {
-            Value::Num(value) => *number == *value,
-            Value::Blank | Value::Str(_) | Value::Err | Value::Na => false,
+        ValueRef::Num(number) => match other.value() {
+            ValueRef::Num(value) => number == value,
+            ValueRef::Blank | ValueRef::Str(_) | ValueRef::Err | ValueRef::Na => false,
         },
-        Value::Str(text) => match other {
-            Value::Str(value) => is_same_text(text, value),
-            Value::Blank | Value::Num(_) | Value::Err | Value::Na => false,
+        ValueRef::Str(text) => match other.value() {
+            ValueRef::Str(value) => is_same_text(text, value),
+            ValueRef::Blank | ValueRef::Num(_) | ValueRef::Err | ValueRef::Na => false,
         },
-        Value::Err => match other {
-            Value::Err => true,
-            Value::Blank | Value::Num(_) | Value::Str(_) | Value::Na => false,
+        ValueRef::Err => match other.value() {
+            ValueRef::Err => true,
+            ValueRef::Blank | ValueRef::Num(_) | ValueRef::Str(_) | ValueRef::Na => false,
         },
-        Value::Na => match other {
-            Value::Na => true,
-            Value::Blank | Value::Num(_) | Value::Str(_) | Value::Err => false,
+        ValueRef::Na => match other.value() {
+            ValueRef::Na => true,
+            ValueRef::Blank | ValueRef::Num(_) | ValueRef::Str(_) | ValueRef::Err => false,
         },
     }
 }
@@ -66,37 +66,37 @@ fn is_same_formula(one: &Formula, other: &Formula, at: Cell) -> Result<bool, Mem
     Ok(left.as_slice() == right.as_slice())
 }
 
-// Whether two contents of a cell are one.
-fn is_same_content(one: &Content, other: &Content, at: Cell) -> Result<bool, Memory>
-    ensures { IfOk result (λ same. same ≡ same_content at one.now other.now) }
+// Whether two states of a cell have one content.
+fn is_same_content(one: &CellState, other: &CellState, at: Cell) -> Result<bool, Memory>
+    ensures { IfOk result (λ same. same ≡ same_content at one.now.content other.now.content) }
 {
-    match one {
-        Content::Blank => match other {
-            Content::Blank => Ok(true),
-            Content::Number(_) | Content::Label(_, _) | Content::Formula(_) => Ok(false),
+    match one.content() {
+        ContentRef::Blank => match other.content() {
+            ContentRef::Blank => Ok(true),
+            ContentRef::Number(_) | ContentRef::Label(_, _) | ContentRef::Formula(_) => Ok(false),
         },
-        Content::Number(number) => match other {
-            Content::Number(value) => Ok(*number == *value),
-            Content::Blank | Content::Label(_, _) | Content::Formula(_) => Ok(false),
+        ContentRef::Number(number) => match other.content() {
+            ContentRef::Number(value) => Ok(number == value),
+            ContentRef::Blank | ContentRef::Label(_, _) | ContentRef::Formula(_) => Ok(false),
         },
-        Content::Label(prefix, text) => match other {
-            Content::Label(mark, label) => Ok(is_same_label(*prefix, text, *mark, label)),
-            Content::Blank | Content::Number(_) | Content::Formula(_) => Ok(false),
+        ContentRef::Label(prefix, text) => match other.content() {
+            ContentRef::Label(mark, label) => Ok(is_same_label(prefix, text, mark, label)),
+            ContentRef::Blank | ContentRef::Number(_) | ContentRef::Formula(_) => Ok(false),
         },
-        Content::Formula(formula) => match other {
-            Content::Formula(tree) => is_same_formula(formula, tree, at),
-            Content::Blank | Content::Number(_) | Content::Label(_, _) => Ok(false),
+        ContentRef::Formula(formula) => match other.content() {
+            ContentRef::Formula(tree) => is_same_formula(formula, tree, at),
+            ContentRef::Blank | ContentRef::Number(_) | ContentRef::Label(_, _) => Ok(false),
         },
     }
 }
 
 // What a formula's tree keeps. Nothing is done: the contract says it.
-fn is_written(content: &Content)
-    ensures { IsWritten content.now }
+fn is_written(state: &CellState)
+    ensures { IsWritten state.now.content }
 {
-    match content {
-        Content::Blank | Content::Number(_) | Content::Label(_, _) => {}
-        Content::Formula(formula) => {
+    match state.content() {
+        ContentRef::Blank | ContentRef::Number(_) | ContentRef::Label(_, _) => {}
+        ContentRef::Formula(formula) => {
             let _ = formula.expr();
         }
     }
@@ -106,14 +106,14 @@ fn is_written(content: &Content)
 fn is_same_rest(one: &CellState, other: &CellState) -> bool
     ensures { result ≡ (same_value one.now.value other.now.value && nat_eq one.now.format.0 other.now.format.0) }
 {
-    is_same_value(&one.value, &other.value) && one.format == other.format
+    is_same_value(one, other) && one.format() == other.format()
 }
 
 // Whether two states of a cell are one.
 fn is_same_state(one: &CellState, other: &CellState, at: Cell) -> Result<bool, Memory>
     ensures { IfOk result (λ same. same ≡ same_state at one.now other.now) }
 {
-    if is_same_content(&one.content, &other.content, at)? {
+    if is_same_content(one, other, at)? {
         Ok(is_same_rest(one, other))
     } else {
         Ok(false)
@@ -148,8 +148,8 @@ pub fn is_same_entry(
     ensures { IfOk result (λ same. Decides same (entry cell one.now ≡ entry place other.now)) }
 {
     cell.is_on_sheet();
-    is_written(&one.content);
-    is_written(&other.content);
+    is_written(one);
+    is_written(other);
     pass_as_one(cell, one, place, other)
 }
 

@@ -21,7 +21,7 @@ pub struct Change {
 impl Model for Change {
     ghost use Rattle.std.specs.Prelude.{Option};
     ghost use Rattle.grid_address.specs.Place.{Place};
-    ghost use Rattle.sheet_store.specs.declared.state.CellState.{CellState};
+    ghost use Rattle.sheet_store.specs.State.{CellState};
     ghost use Rattle.sheet_undo.specs.Changes.{coded_change, MayHave};
 
     ghost Value = { Place × Option CellState };
@@ -58,7 +58,7 @@ impl Change {
             record store.old { cells = changed_at store.old.cells self.now.0 self.now.1 }) }
     {
         match &self.state {
-            Some(state) => store.put(self.cell, state.copy()?),
+            Some(state) => store.put(self.cell, state.copy(store.alloc())?),
             None => {
                 store.clear(self.cell);
                 Ok(())
@@ -117,7 +117,7 @@ fn add_others(changes: &mut Vec<Change>, kept: &Store, next: &Store) -> Result<(
     let mut left = kept.entries();
     while let Some(entry) = left.next() {
         if !has_state(next, entry.0, entry.1)? {
-            changes.push(Change::of(entry.0, entry.1.copy()?))?;
+            changes.push(Change::of(entry.0, entry.1.copy(kept.alloc())?))?;
         }
     }
     Ok(())

@@ -15,7 +15,7 @@ use Rattle.sheet_edits.specs.Spans.{changed, reformatted_state, AreGiven, Become
 use Rattle.sheet_store.specs.Grid.{Cells, Grid}
 use Rattle.sheet_store.specs.declared.order.Order.{Order}
 use Rattle.sheet_store.specs.declared.order.Order.TheVariants as orders
-use Rattle.sheet_store.specs.declared.state.CellState.{CellState}
+use Rattle.sheet_store.specs.State.{CellState}
 use Rattle.work_sheet.proofs.Filled.{held_is}
 use Rattle.work_sheet.proofs.OneWork.{put_worked, worked_both}
 use Rattle.work_sheet.specs.Cells.{with_cells_in}

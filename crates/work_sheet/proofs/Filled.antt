@@ -11,7 +11,7 @@ use Rattle.sheet_edits.proofs.Listed.{both}
 use Rattle.sheet_edits.proofs.Overlaid.{same_grid}
 use Rattle.sheet_edits.specs.Spans.{changed, AreGiven, Becomes}
 use Rattle.sheet_store.specs.Grid.{Cells, Grid}
-use Rattle.sheet_store.specs.declared.state.CellState.{CellState}
+use Rattle.sheet_store.specs.State.{CellState}
 use Rattle.work_sheet.specs.Cells.{cells_of, with_cell, with_cells, with_cells_in, row_of, rows_of}
 
 get_with_cell : (m : Cells) (c : Place) (o : Option CellState) (d : Place) → get (with_cell m c o) d ≡ cond (same_place d c) o (get m d)

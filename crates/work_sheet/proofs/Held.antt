@@ -12,7 +12,7 @@ use Rattle.natural_order.specs.Walk.Reaches.{more, one}
 use Rattle.sheet_store.specs.Grid.{put_state, Cells, Grid}
 use Rattle.sheet_store.specs.declared.order.Order.{Order}
 use Rattle.sheet_store.specs.declared.order.Order.TheVariants as orders
-use Rattle.sheet_store.specs.declared.state.CellState.{CellState}
+use Rattle.sheet_store.specs.State.{CellState}
 use Rattle.natural_recalc.proofs.Contents.{formulas_same, matches_on, same_evaluated}
 use Rattle.natural_recalc.proofs.Cut.{sound_all}
 use Rattle.natural_recalc.proofs.Edit.{edit_keeps_sound}

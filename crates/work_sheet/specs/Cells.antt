@@ -3,7 +3,7 @@ use Rattle.std.specs.Prelude.{ℕ, zero, suc, ◌+◌, List, [], ◌∷◌, ◌+
 use Rattle.std.specs.FinMap as map
 use Rattle.grid_address.specs.Place.{height_of, width_of, Extent, Place}
 use Rattle.sheet_store.specs.Grid.{Cells, Grid}
-use Rattle.sheet_store.specs.declared.state.CellState.{CellState}
+use Rattle.sheet_store.specs.State.{CellState}
 
 -- as many cells of a row, from one on
 unfoldable pub row_of : ℕ → Place → List Place

@@ -9,7 +9,7 @@ use Rattle.cell_numbers.specs.Sets.{has}
 use Rattle.sheet_store.specs.Choices.{Choices}
 use Rattle.sheet_store.specs.Grid.{coded_grid, Grid}
 use Rattle.formula_tree.specs.declared.value.Value.{Value}
-use Rattle.sheet_store.specs.declared.state.CellState.{CellState}
+use Rattle.sheet_store.specs.State.{CellState}
 use Rattle.sheet_store.specs.declared.writes.SheetFault.{SheetFault}
 use Rattle.sheet_store.specs.declared.writes.SheetFault.TheVariants as faults
 use Rattle.sheet_store.specs.contracts.settings.Settings as settings

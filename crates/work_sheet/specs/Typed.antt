@@ -9,7 +9,7 @@ use Rattle.formula_tree.specs.declared.value.Content.TheVariants as content
 use Rattle.lics_text.specs.Prefixes.{prefix_byte}
 use Rattle.range_names.specs.Names.{NameMap}
 use Rattle.sheet_store.specs.Grid.{Grid}
-use Rattle.sheet_store.specs.declared.state.CellState.{CellState}
+use Rattle.sheet_store.specs.State.{CellState}
 
 -- a label with its prefix, a number with the places that it needs, a formula with the names of the sheet
 abbrev pub typed_content : NameMap → Place → Content → List ℕ

@@ -1,5 +1,5 @@
 // A sheet, whose values are kept right by recalculation over its dirty formulas.
-ghost use Rattle.std.specs.Prelude.{◌≡◌, ◌≤◌, ◌<◌, ◌⊎◌, [], length, IfErr, IfOk, OnErr, OnOk, Some, None, Err, option_copied, nat_le, take, true, false};
+ghost use Rattle.std.specs.Prelude.{◌≡◌, ◌≤◌, ◌<◌, ◌⊎◌, [], length, IfErr, IfOk, OnErr, OnOk, Some, None, Err, option_map, nat_le, take, true, false};
 ghost use Rattle.std.specs.FinMap as map;
 ghost use Rattle.std.specs.List.{IsDistinct};
 ghost use Rattle.std.specs.Option.{ForSome};
@@ -12,6 +12,7 @@ ghost use Rattle.range_names.specs.Names.{fault_of, key_of};
 ghost use Rattle.range_names.specs.declared.fault.NameFault.TheVariants as cause;
 ghost use Rattle.sheet_store.specs.declared.order.Order.TheVariants as orders;
 ghost use Rattle.sheet_store.specs.declared.writes.SheetFault.TheVariants as faults;
+ghost use Rattle.formula_tree.specs.Seen.{seen_value};
 ghost use Rattle.sheet_store.specs.Grid.{is_formula, is_hidden, is_kept, last_used, width_of, IsSound};
 ghost use Rattle.sheet_edits.specs.Edits.{is_protected, written_state, AreDirtied};
 ghost use Rattle.sheet_shifts.specs.Refusals.{refusal, AreInSheet};
@@ -31,12 +32,11 @@ use crate::typed::text_of;
 use cell_numbers::CellSet;
 use depend_graph::Graph;
 use formula_eval::{Look, Means, Scene, Tally};
-use formula_tree::{Content, Value};
+use formula_tree::{Content, ContentRef, ValueRef};
 use grid_address::{Cell, CellList, Format, Span};
 use lics_text::{Line, MAX_LEN, Memory};
 use natural_recalc::{
-    Missing, View, all_dirty, content_of, format_of, graph_of, recalc, recalc_span, value_of,
-    width_of,
+    View, all_dirty, content_of, format_of, graph_of, recalc, recalc_span, value_of, width_of,
 };
 use range_names::{NameFault, Names};
 use sheet_edits::{
@@ -44,9 +44,7 @@ use sheet_edits::{
     reformatted, refusing, state_of, target_of, write_cell, write_cells, write_evaluated,
 };
 use sheet_shifts::{Shift, names_after, refusal, store_after};
-use sheet_store::{
-    CellState, MOST_WIDTH, Order, SavedSheet, Settings, SheetFault, Store, Writes, is_formula,
-};
+use sheet_store::{CellState, MOST_WIDTH, Order, SavedSheet, Settings, SheetFault, Store, Writes};
 use std::alloc::Global;
 use std::marker::{Model, PhantomData};
 
@@ -61,7 +59,6 @@ pub struct SheetOf<E: Means> {
     stale: bool,
     names: Names,
     settings: Settings,
-    missing: Missing,
     with: PhantomData<E>,
 }
 
@@ -101,7 +98,6 @@ impl<E: Means> SheetOf<E> {
             stale: false,
             names: Names::new(alloc),
             settings: Settings::fresh(),
-            missing: Missing::new(),
             with: PhantomData,
         }
     }
@@ -123,7 +119,6 @@ impl<E: Means> SheetOf<E> {
             stale: false,
             names: saved.names,
             settings: saved.settings,
-            missing: Missing::new(),
             with: PhantomData,
         })
     }
@@ -232,11 +227,11 @@ impl<E: Means> SheetOf<E> {
     }
 
     /// The value of a cell; none where the sheet holds nothing of it.
-    pub fn value_of(&self, cell: Cell) -> Option<&Value>
-        ensures { option_copied result ≡ value_told self.now.grid cell }
+    pub fn value_of(&self, cell: Cell) -> Option<ValueRef<'_>>
+        ensures { option_map seen_value result ≡ value_told self.now.grid cell }
     {
         match self.store.get(cell) {
-            Some(state) => Some(&state.value),
+            Some(state) => Some(state.value()),
             None => None,
         }
     }
@@ -668,6 +663,16 @@ fn entry_state(
     }
 }
 
+// Whether a content is a formula.
+fn is_formula(content: &Content) -> bool
+    ensures { result ≡ is_formula content.now }
+{
+    match content {
+        Content::Formula(_) => true,
+        Content::Blank | Content::Number(_) | Content::Label(_, _) => false,
+    }
+}
+
 // Marks that a change was made.
 pub fn mark(stale: &mut bool)
     ensures { stale.new ≡ true }
@@ -679,11 +684,11 @@ pub fn mark(stale: &mut bool)
 impl<E: Means> Look for SheetOf<E> {
     ghost sight = { λ s. sight_of s.names s.settings s.grid };
 
-    fn value(&self, cell: Cell) -> &Value {
-        value_of(&self.store, &self.missing, cell)
+    fn value(&self, cell: Cell) -> ValueRef<'_> {
+        value_of(&self.store, cell)
     }
 
-    fn content(&self, cell: Cell) -> Option<&Content> {
+    fn content(&self, cell: Cell) -> Option<ContentRef<'_>> {
         content_of(&self.store, cell)
     }
 
@@ -704,7 +709,6 @@ impl<E: Means> Look for SheetOf<E> {
             store: &self.store,
             names: &self.names,
             settings: &self.settings,
-            missing: &self.missing,
         };
         view.filled(span)
     }

@@ -6,11 +6,11 @@ ghost use Rattle.work_sheet.specs.Typed.{typed, typed_content};
 
 use fixed_value::{Fixed, write_short};
 use formula_text::print;
-use formula_tree::Content;
+use formula_tree::ContentRef;
 use grid_address::Cell;
 use lics_text::{LabelPrefix, Line, MAX_LEN, Text};
 use range_names::Names;
-use sheet_store::Store;
+use sheet_store::{CellState, Store};
 
 // As many bytes of a label have room beside its prefix.
 const MOST_OF_LABEL: usize = 239;
@@ -39,17 +39,17 @@ fn put_label(prefix: LabelPrefix, text: &Text, into: &mut Line) -> bool
     bytes.len() <= MOST_OF_LABEL
 }
 
-// A content as it would be typed.
-fn put_content(content: &Content, cell: Cell, names: &Names, into: &mut Line) -> bool
+// A state's content as it would be typed.
+fn put_content(state: &CellState, cell: Cell, names: &Names, into: &mut Line) -> bool
     requires { into.old ≡ [] }
-    ensures line { into.new ≡ take MAX_LEN (typed_content names.now cell content.now) }
-    ensures whole { result ≡ nat_le (length (typed_content names.now cell content.now)) MAX_LEN }
+    ensures line { into.new ≡ take MAX_LEN (typed_content names.now cell state.now.content) }
+    ensures whole { result ≡ nat_le (length (typed_content names.now cell state.now.content)) MAX_LEN }
 {
-    match content {
-        Content::Blank => true,
-        Content::Number(number) => put_number(*number, into),
-        Content::Label(prefix, text) => put_label(*prefix, text, into),
-        Content::Formula(formula) => print(formula, cell, names, into),
+    match state.content() {
+        ContentRef::Blank => true,
+        ContentRef::Number(number) => put_number(number, into),
+        ContentRef::Label(prefix, text) => put_label(prefix, text, into),
+        ContentRef::Formula(formula) => print(formula, cell, names, into),
     }
 }
 
@@ -60,7 +60,7 @@ pub fn text_of(store: &Store, names: &Names, cell: Cell, into: &mut Line) -> boo
     ensures whole { result ≡ nat_le (length (typed names.now store.now cell)) MAX_LEN }
 {
     match store.get(cell) {
-        Some(state) => put_content(&state.content, cell, names, into),
+        Some(state) => put_content(state, cell, names, into),
         None => true,
     }
 }
