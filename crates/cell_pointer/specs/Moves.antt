@@ -4,7 +4,7 @@ use Rattle.std.specs.FinMap as finite
 use Rattle.std.specs.List.{range_with_len}
 use Rattle.grid_address.specs.Place.{Place}
 use Rattle.sheet_store.specs.Grid.{is_blank, last_used, Grid}
-use Rattle.sheet_store.specs.declared.state.CellState.{CellState}
+use Rattle.sheet_store.specs.State.{CellState}
 use Rattle.cell_pointer.specs.declared.way.Arrow.{Arrow}
 use Rattle.cell_pointer.specs.declared.way.Arrow.TheVariants.{Up, Down, Left, Right}
 use Rattle.cell_pointer.specs.declared.way.Way.{Way}

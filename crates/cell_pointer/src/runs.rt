@@ -1,29 +1,17 @@
 // The ends of runs of filled cells.
-ghost use Rattle.std.specs.Prelude.{◌≡◌, ◌∷◌, [], IfNone, IfSome, not};
+ghost use Rattle.std.specs.Prelude.{◌≡◌, ◌∷◌, [], IfNone, IfSome};
 ghost use Rattle.cell_pointer.specs.Moves.{ahead, is_filled, next_filled, run_end, run_from};
-ghost use Rattle.sheet_store.specs.Grid.{is_blank};
 
 use crate::Arrow;
-use formula_tree::Content;
 use grid_address::{Cell, LAST_ROW};
 use sheet_store::Store;
-
-// Whether a content isn't blank.
-fn has_content(content: &Content) -> bool
-    ensures { result ≡ not (is_blank content.now) }
-{
-    match content {
-        Content::Blank => false,
-        Content::Number(_) | Content::Label(_, _) | Content::Formula(_) => true,
-    }
-}
 
 // Whether a cell has a content.
 fn is_filled(cells: &Store, cell: Cell) -> bool
     ensures { result ≡ is_filled cells.now cell }
 {
     match cells.get(cell) {
-        Some(state) => has_content(&state.content),
+        Some(state) => !state.is_blank(),
         None => false,
     }
 }
