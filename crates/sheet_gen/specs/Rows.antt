@@ -7,7 +7,7 @@ use Rattle.formula_tree.specs.declared.value.Value.TheVariants as value
 use Rattle.grid_address.specs.Axes.{Reference}
 use Rattle.grid_address.specs.declared.reference.Axis.TheVariants.{Offset}
 use Rattle.grid_address.specs.Place.{Place}
-use Rattle.sheet_store.specs.declared.state.CellState.{CellState}
+use Rattle.sheet_store.specs.State.{CellState}
 
 -- a whole number, in millionths
 abbrev pub whole : ℕ → ℤ

@@ -8,7 +8,7 @@ ghost use Rattle.grid_address.specs.Place.{Place};
 ghost use Rattle.sheet_gen.specs.Rows.{above, chain, formula_state, left, number_state, seed, triple, whole, with_row};
 
 use fixed_value::Fixed;
-use formula_tree::{Content, Expr, Formula, Op, Value};
+use formula_tree::{Expr, Formula, Op, Value};
 use grid_address::{Axis, Cell, Format, LAST_ROW, Ref};
 use lics_text::Memory;
 use sheet_store::{CellState, Store};
@@ -77,11 +77,7 @@ fn number_state(row: u16) -> CellState
     ensures { result ≡ number_state (seed row) }
 {
     let seed = (37 * (u32::from(row) + 1) % 101) as u16;
-    CellState {
-        content: Content::Number(whole(seed)),
-        value: Value::Num(whole(seed)),
-        format: Format::DEFAULT,
-    }
+    CellState::number(whole(seed), Format::DEFAULT)
 }
 
 // A formula that wasn't calculated yet. Its tree is a formula's, so only memory can be wanting.
@@ -89,11 +85,7 @@ fn formula_state(alloc: Global, expr: Expr) -> Result<CellState, Memory>
     ensures { IfOk result (λ s. s ≡ formula_state (tree_of expr)) }
 {
     match Formula::of(alloc, expr) {
-        Ok(formula) => Ok(CellState {
-            content: Content::Formula(formula),
-            value: Value::Num(Fixed::ZERO),
-            format: Format::DEFAULT,
-        }),
+        Ok(formula) => CellState::formula(formula, Value::Num(Fixed::ZERO), Format::DEFAULT),
         Err(_) => Err(Memory),
     }
 }
