@@ -8,7 +8,7 @@ use Rattle.grid_address.specs.Place.{Place}
 use Rattle.natural_recalc.specs.Context.{width_or}
 use Rattle.range_names.specs.Names.{NameMap}
 use Rattle.sheet_store.specs.Grid.{is_hidden, own_width, width_of}
-use Rattle.sheet_store.specs.declared.state.CellState.{CellState}
+use Rattle.sheet_store.specs.State.{CellState}
 use Rattle.work_sheet.specs.Seen.{Sheet}
 use Rattle.screen_layout.specs.Alike.{AreAlike}
 use Rattle.shown_cells.specs.Cells.{state_text}

@@ -13,7 +13,7 @@ use Rattle.lics_text.specs.declared.prefix.LabelPrefix.TheVariants.{Left, Right,
 use Rattle.grid_address.specs.Formats.{default_format, hidden_format, is_shown_as, text_format}
 use Rattle.grid_address.specs.Place.{Place}
 use Rattle.range_names.specs.Names.{NameMap}
-use Rattle.sheet_store.specs.declared.state.CellState.{CellState}
+use Rattle.sheet_store.specs.State.{CellState}
 
 -- a text cut or filled with blanks to a width
 abbrev pub padded : ℕ → List ℕ → List ℕ

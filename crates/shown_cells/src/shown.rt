@@ -1,11 +1,12 @@
 // What a cell shows.
 ghost use Rattle.std.specs.Prelude.{◌≡◌, option_copied, option_map};
 ghost use Rattle.formula_text.specs.Printed.{printed};
+ghost use Rattle.formula_tree.specs.Seen.{seen_content, seen_value};
 ghost use Rattle.shown_cells.specs.Cells as spec;
 ghost use Rattle.shown_cells.specs.Parts.{shown_text};
 
 use crate::fitting::Fitting;
-use formula_tree::{Content, Formula, Value};
+use formula_tree::{ContentRef, Formula, ValueRef};
 use grid_address::{Cell, Format};
 use lics_text::LabelPrefix;
 use range_names::Names;
@@ -43,29 +44,29 @@ fn label_in<'a>(prefix: LabelPrefix, text: &'a [u8], width: u8) -> Shown<'a>
 }
 
 // What a value shows.
-fn value_in<'a>(value: &'a Value, format: Format, width: u8) -> Shown<'a>
-    ensures { shown_text result width ≡ spec.value_text value.now format.0 width }
+fn value_in<'a>(value: &ValueRef<'a>, format: Format, width: u8) -> Shown<'a>
+    ensures { shown_text result width ≡ spec.value_text (seen_value value.now) format.0 width }
 {
     match value {
-        Value::Blank => Shown::RunsOn(b""),
-        Value::Str(text) => label_in(LabelPrefix::Left, text.bytes(), width),
-        Value::Num(number) => Shown::Fits(Fitting::Number(*number, format)),
-        Value::Err => Shown::Fits(Fitting::Err),
-        Value::Na => Shown::Fits(Fitting::Na),
+        ValueRef::Blank => Shown::RunsOn(b""),
+        ValueRef::Str(text) => label_in(LabelPrefix::Left, text.bytes(), width),
+        ValueRef::Num(number) => Shown::Fits(Fitting::Number(*number, format)),
+        ValueRef::Err => Shown::Fits(Fitting::Err),
+        ValueRef::Na => Shown::Fits(Fitting::Na),
     }
 }
 
 // What a formula shows: its text in the format Text, and else its value.
 fn formula_in<'a>(
     formula: &'a Formula,
-    value: &'a Value,
+    value: &ValueRef<'a>,
     names: &'a Names,
     cell: Cell,
     format: Format,
     width: u8,
 ) -> Shown<'a>
     ensures { shown_text result width
-        ≡ spec.formula_text (printed names.now cell formula.now) value.now format.0 width }
+        ≡ spec.formula_text (printed names.now cell formula.now) (seen_value value.now) format.0 width }
 {
     if format.is_shown_as(Format::TEXT) {
         Shown::Fits(Fitting::Printed(formula, cell, names))
@@ -79,24 +80,24 @@ fn formula_in<'a>(
 /// itself, as it is printed with the sheet's names. (Release 2 manual.)
 #[inline(always)]
 pub fn shown_content<'a>(
-    content: &'a Content,
-    value: &'a Value,
+    content: &ContentRef<'a>,
+    value: &ValueRef<'a>,
     names: &'a Names,
     cell: Cell,
     format: Format,
     width: u8,
 ) -> Shown<'a>
     ensures { shown_text result width
-        ≡ spec.visible_text names.now cell content.now value.now format.0 width }
+        ≡ spec.visible_text names.now cell (seen_content content.now) (seen_value value.now) format.0 width }
 {
     if format.is_shown_as(Format::HIDDEN) {
         return Shown::RunsOn(b"");
     }
     match content {
-        Content::Blank => Shown::RunsOn(b""),
-        Content::Number(_) => value_in(value, format, width),
-        Content::Label(prefix, text) => label_in(*prefix, text.bytes(), width),
-        Content::Formula(formula) => formula_in(formula, value, names, cell, format, width),
+        ContentRef::Blank => Shown::RunsOn(b""),
+        ContentRef::Number(_) => value_in(value, format, width),
+        ContentRef::Label(prefix, text) => label_in(*prefix, text.bytes(), width),
+        ContentRef::Formula(formula) => formula_in(formula, value, names, cell, format, width),
     }
 }
 
@@ -125,11 +126,12 @@ pub fn shown_in<'a>(
         ≡ spec.state_text names.now global.0 cell (option_copied state.entry) width }
 {
     let state = state?;
-    match state.content {
-        Content::Blank => None,
-        Content::Number(_) | Content::Label(_, _) | Content::Formula(_) => {
-            let format = format_in(global, state.format);
-            let shown = shown_content(&state.content, &state.value, names, cell, format, width);
+    let content = state.content();
+    match content {
+        ContentRef::Blank => None,
+        ContentRef::Number(_) | ContentRef::Label(_, _) | ContentRef::Formula(_) => {
+            let format = format_in(global, state.format());
+            let shown = shown_content(&content, &state.value(), names, cell, format, width);
             Some(shown)
         }
     }
