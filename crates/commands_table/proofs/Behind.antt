@@ -21,7 +21,7 @@ use Rattle.sheet_edits.proofs.Overlaid.{get_put}
 use Rattle.sheet_edits.specs.Edits.{just}
 use Rattle.sheet_edits.specs.Spans.{given_format, kept_of, write_state, written_all, written_by, written_cells}
 use Rattle.sheet_store.specs.Grid.{put_state, Grid}
-use Rattle.sheet_store.specs.declared.state.CellState.{CellState}
+use Rattle.sheet_store.specs.State.{CellState}
 use Rattle.sheet_store.specs.declared.writes.Write.{Write}
 use Rattle.work_sheet.specs.Sheets.{Worksheet}
 

@@ -7,7 +7,7 @@ use crate::trying::{enter_out, write_out};
 use block_writes::content_of;
 use data_blocks::{Bench, BlockFault};
 use formula_eval::{Scene, Tally};
-use formula_tree::Value;
+use formula_tree::{Value, ValueRef};
 use grid_address::Cell;
 use lics_text::Memory;
 use sheet_store::{SheetFault, Writes};
@@ -39,12 +39,12 @@ impl Bench for TableBench<'_> {
         if is_protected(self.sheet, cell) {
             return Err(BlockFault::Sheet(SheetFault::Protected(cell)));
         }
-        let content = content_of(self.sheet.alloc(), value)?;
+        let content = content_of(self.sheet.alloc(), &value.as_ref())?;
         enter_out(cell, content, self.sheet, &self.scene, self.tally)?;
         Ok(())
     }
 
-    fn answer(&self, cell: Cell) -> Option<&Value> {
+    fn answer(&self, cell: Cell) -> Option<ValueRef<'_>> {
         self.sheet.value_of(cell)
     }
 

@@ -1,9 +1,10 @@
 // A sheet on which inputs are tried.
-ghost use Rattle.std.specs.Prelude.{◌≡◌, OnOk, option_copied, true};
+ghost use Rattle.std.specs.Prelude.{◌≡◌, OnOk, option_map, true};
+ghost use Rattle.formula_tree.specs.Seen.{seen_value};
 ghost use Rattle.data_blocks.specs.Benches.{takes, HasEntered, HoldsOld, IsSameBench, IsTrialOf};
 
 use crate::BlockFault;
-use formula_tree::Value;
+use formula_tree::{Value, ValueRef};
 use grid_address::Cell;
 use lics_text::Memory;
 
@@ -36,8 +37,8 @@ pub trait Bench {
         ensures fault { IsTrialOf ((shows self.old).guarded cell) cell result (shows self.old) (shows self.new) };
 
     /// The value of a cell; none exactly where the sheet holds nothing of it.
-    fn answer(&self, cell: Cell) -> Option<&Value>
-        ensures { option_copied result ≡ (shows self.now).answers cell };
+    fn answer(&self, cell: Cell) -> Option<ValueRef<'_>>
+        ensures { option_map seen_value result ≡ (shows self.now).answers cell };
 
     /// Puts the old contents back and recalculates.
     fn give_back(&mut self) -> Result<(), Memory>

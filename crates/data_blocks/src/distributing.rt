@@ -3,6 +3,7 @@ ghost use Rattle.std.specs.Prelude.{◌≡◌, ◌⊎◌, ◌+◌, ◌<◌, ◌�
 ghost use Rattle.std.specs.Int.RustNames.{int_lt};
 ghost use Rattle.std.specs.List.{count_by};
 ghost use Rattle.grid_address.specs.Place.{height_of};
+ghost use Rattle.formula_tree.specs.Seen.{seen_value};
 ghost use Rattle.value_functions.specs.Values.{counted};
 ghost use Rattle.formula_eval.specs.Outlook.{filled, Sight};
 ghost use Rattle.block_writes.specs.Writing.{as_content, at, written};
@@ -14,7 +15,7 @@ use crate::rows::row_cell;
 use block_writes::{content_of, written};
 use fixed_value::Fixed;
 use formula_eval::Look;
-use formula_tree::Value;
+use formula_tree::ValueRef;
 use grid_address::{Cell, LAST_ROW, Span};
 use lics_text::Memory;
 use sheet_store::{SheetFault, Write, Writes};
@@ -25,12 +26,12 @@ use value_functions::counted;
 const LAST_COLUMN: u8 = 255;
 
 // A value that is a number counts.
-fn put_number(numbers: &mut Vec<Fixed>, value: &Value) -> Result<(), Memory>
-    ensures { OnOk result (numbers.new.items ≡ numbers.old.items ++ number_of value.now) }
+fn put_number(numbers: &mut Vec<Fixed>, value: &ValueRef<'_>) -> Result<(), Memory>
+    ensures { OnOk result (numbers.new.items ≡ numbers.old.items ++ number_of (seen_value value.now)) }
 {
     match value {
-        Value::Num(number) => numbers.push(*number)?,
-        Value::Blank | Value::Str(_) | Value::Err | Value::Na => {}
+        ValueRef::Num(number) => numbers.push(*number)?,
+        ValueRef::Blank | ValueRef::Str(_) | ValueRef::Err | ValueRef::Na => {}
     }
     Ok(())
 }
@@ -44,19 +45,19 @@ fn numbers_in<K: Look>(alloc: Global, span: Span, look: &K) -> Result<Vec<Fixed>
     let mut numbers = Vec::new(alloc);
     for place in 0..cells.len() {
         if let Some(cell) = cells.get(place) {
-            put_number(&mut numbers, look.value(*cell))?;
+            put_number(&mut numbers, &look.value(*cell))?;
         }
     }
     Ok(numbers)
 }
 
 // A bin that is no number counts as 0.
-fn bin_of(value: &Value) -> Fixed
-    ensures { result ≡ bin_of value.now }
+fn bin_of(value: &ValueRef<'_>) -> Fixed
+    ensures { result ≡ bin_of (seen_value value.now) }
 {
     match value {
-        Value::Num(number) => *number,
-        Value::Blank | Value::Str(_) | Value::Err | Value::Na => Fixed::ZERO,
+        ValueRef::Num(number) => *number,
+        ValueRef::Blank | ValueRef::Str(_) | ValueRef::Err | ValueRef::Na => Fixed::ZERO,
     }
 }
 
@@ -101,7 +102,7 @@ fn share_above(numbers: &[Fixed], before: Option<Fixed>) -> usize
 fn count_written(alloc: Global, cell: Cell, count: usize) -> Result<Write, Memory>
     ensures { IfOk result (λ w. w ≡ written cell (as_content (counted count))) }
 {
-    let content = content_of(alloc, &counted(count))?;
+    let content = content_of(alloc, &counted(count).as_ref())?;
     Ok(written(cell, content))
 }
 
@@ -135,7 +136,7 @@ fn distributed<K: Look>(alloc: Global, values: Span, bins: Span, look: &K) -> Re
     let mut before = None;
     let height = bins.height();
     for row in 0..height {
-        let bin = bin_of(look.value(row_cell(bins, row)));
+        let bin = bin_of(&look.value(row_cell(bins, row)));
         let count = share(numbers, before, bin);
         writes.push(count_written(alloc, count_cell(bins, row), count)?)?;
         before = Some(bin);

@@ -36,7 +36,7 @@ fn order_by_key<K: Look>(look: &K, key: SortKey, a: Cell, b: Cell) -> Ordering
         row: b.row,
         col: key.col,
     });
-    turned(key.descending, order_of_values(a, b))
+    turned(key.descending, order_of_values(&a, &b))
 }
 
 // Two rows by several keys, of which the first counts most.

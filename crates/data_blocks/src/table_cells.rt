@@ -1,12 +1,12 @@
 // The cells of a table, and their values before an input is tried.
-ghost use Rattle.std.specs.Prelude.{◌≡◌, ◌<◌, ◌+◌, ◌-◌, ◌++◌, ◌∷◌, [], IfOk, OnOk, map, option_copied};
-ghost use Rattle.block_writes.specs.Writing.{at, rows_below};
-ghost use Rattle.data_blocks.specs.Benches.{value_or_blank, values_on};
+ghost use Rattle.std.specs.Prelude.{◌≡◌, ◌<◌, ◌+◌, ◌-◌, ◌++◌, ◌∷◌, [], IfOk, OnOk, map};
+ghost use Rattle.block_writes.specs.Writing.{as_content, at, rows_below};
+ghost use Rattle.data_blocks.specs.Benches.{values_on};
 ghost use Rattle.data_blocks.specs.Tables.{answered, columns_behind, is_no_table, Answer};
 
 use crate::Bench;
 use block_writes::{column_at, content_of, written};
-use formula_tree::Value;
+use formula_tree::{Content, Value};
 use grid_address::{Cell, Span};
 use lics_text::Memory;
 use sheet_store::Writes;
@@ -55,11 +55,11 @@ pub fn cell_across(span: Span, place: u16) -> Cell
     }
 }
 
-// A value, as a copy; blank where the sheet holds nothing of the cell.
-fn value_or_blank(value: Option<&Value>) -> Result<Value, Memory>
-    ensures { IfOk result (λ v. v ≡ value_or_blank (option_copied value.entry)) }
+// A cell's value, as a copy; blank where the sheet holds nothing of the cell.
+fn value_at<B: Bench>(bench: &B, cell: Cell) -> Result<Value, Memory>
+    ensures { IfOk result (λ v. v ≡ values_on (B.shows bench.now) cell) }
 {
-    match value {
+    match bench.answer(cell) {
         Some(value) => value.copy(),
         None => Ok(Value::Blank),
     }
@@ -73,7 +73,7 @@ pub fn values_down<B: Bench>(alloc: Global, span: Span, bench: &B) -> Result<Vec
     let mut values = Vec::new(alloc);
     let count = rows_below(span);
     for place in 0..count {
-        values.push(value_or_blank(bench.answer(cell_down(span, place)))?)?;
+        values.push(value_at(bench, cell_down(span, place))?)?;
     }
     Ok(values)
 }
@@ -86,9 +86,19 @@ pub fn values_across<B: Bench>(alloc: Global, span: Span, bench: &B) -> Result<V
     let mut values = Vec::new(alloc);
     let count = columns_behind(span);
     for place in 0..count {
-        values.push(value_or_blank(bench.answer(cell_across(span, place)))?)?;
+        values.push(value_at(bench, cell_across(span, place))?)?;
     }
     Ok(values)
+}
+
+// The answer of a cell as a content; blank where the sheet holds nothing of the cell.
+fn answer_content<B: Bench>(alloc: Global, bench: &B, cell: Cell) -> Result<Content, Memory>
+    ensures { IfOk result (λ c. c ≡ as_content (values_on (B.shows bench.now) cell)) }
+{
+    match bench.answer(cell) {
+        Some(value) => content_of(alloc, &value),
+        None => Ok(Content::Blank),
+    }
 }
 
 /// Adds the answer of one cell, written into another.
@@ -102,7 +112,7 @@ pub fn push_answer<B: Bench>(
     ensures { let answer : Answer = record { from = from; to = to } in
         OnOk result (writes.new ≡ writes.old ++ answered (values_on (B.shows bench.now)) answer ∷ []) }
 {
-    let value = value_or_blank(bench.answer(from))?;
-    writes.push(written(to, content_of(alloc, &value)?))?;
+    let content = answer_content(alloc, bench, from)?;
+    writes.push(written(to, content))?;
     Ok(())
 }

@@ -3,13 +3,14 @@ ghost use Rattle.std.specs.Prelude.{◌≡◌, ◌++◌, ◌∷◌, [], map, IfO
 ghost use Rattle.std.specs.List.{list_any};
 ghost use Rattle.grid_address.specs.Place.{Place};
 ghost use Rattle.formula_eval.specs.Outlook.{Sight};
+ghost use Rattle.formula_tree.specs.Seen.{seen_value};
 ghost use Rattle.block_writes.specs.Writing.{at};
 ghost use Rattle.data_query.specs.Extraction.{same_record, without_repeats};
 ghost use Rattle.data_query.specs.Keys.{all_keyed, keyed, record_values, same_values};
 
 use crate::output::OutputField;
 use formula_eval::Look;
-use formula_tree::Value;
+use formula_tree::ValueRef;
 use grid_address::{Cell, CellList};
 use indexmap::IndexSet;
 use lics_text::Memory;
@@ -27,15 +28,15 @@ pub enum ValueKey {
 }
 
 // The key of a value.
-fn value_key(alloc: Global, value: &Value) -> Result<ValueKey, Memory>
-    ensures { IfOk result (λ k. keyed k ≡ value.now) }
+fn value_key(alloc: Global, value: &ValueRef<'_>) -> Result<ValueKey, Memory>
+    ensures { IfOk result (λ k. keyed k ≡ seen_value value.now) }
 {
     match value {
-        Value::Blank => Ok(ValueKey::Blank),
-        Value::Num(number) => Ok(ValueKey::Number(number.millionths())),
-        Value::Str(text) => Ok(ValueKey::Text(Vec::from_slice(alloc, text.bytes())?)),
-        Value::Err => Ok(ValueKey::Err),
-        Value::Na => Ok(ValueKey::Na),
+        ValueRef::Blank => Ok(ValueKey::Blank),
+        ValueRef::Num(number) => Ok(ValueKey::Number(number.millionths())),
+        ValueRef::Str(text) => Ok(ValueKey::Text(Vec::from_slice(alloc, text.bytes())?)),
+        ValueRef::Err => Ok(ValueKey::Err),
+        ValueRef::Na => Ok(ValueKey::Na),
     }
 }
 
@@ -53,7 +54,7 @@ fn field_key<K: Look>(
         row: cell.row,
         col: field.field,
     };
-    value_key(alloc, look.value(source))
+    value_key(alloc, &look.value(source))
 }
 
 // The keys of a record's values in the fields that the output takes.

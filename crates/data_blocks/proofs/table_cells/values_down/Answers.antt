@@ -1,7 +1,7 @@
 use Rattle.std.proofs.Common.{ℕ, [], ◌∷◌, ◌++◌, ◌+◌, ap, ◌∙◌}
 use Rattle.block_writes.specs.Writing.{at}
 use Rattle.block_writes.proofs.Rows.{made_more}
-use Rattle.data_blocks.specs.Benches.{value_or_blank, values_on}
+use Rattle.data_blocks.specs.Benches.{values_on}
 use Rattle.data_blocks.proofs.table_cells.values_down.Goals as goal
 
 pub loop-place-preserved : goal.loop-place-preserved
@@ -11,6 +11,6 @@ loop-place-preserved g c =
     let now = c.loop-place.values.items in (
       made_more f [] now c.push.new.self.items (c.args.span.first.row + 1) c.loop-place.place c.loop-place.invariant.0
           (c.in_ok-push.ensures.items
-          ∙ ap (λ v. now ++ v ∷ []) (c.in_ok-value_or_blank.ensures ∙ ap value_or_blank c.answer.ensures ∙ ap values c.cell_down.ensures)),
+          ∙ ap (λ v. now ++ v ∷ []) (c.in_ok-value_at.ensures ∙ ap values c.cell_down.ensures)),
       c.loop-place.invariant.1,
     )
