@@ -13,7 +13,7 @@ mod unit;
 pub use expression::{count_of, expression_value, formula_in, number_of};
 pub use kept::KeptWords;
 pub use listed::{arguments_of, call_arguments, front, rest_of};
-pub use pieces::{macro_text, part};
+pub use pieces::{macro_text, part, text_in};
 pub use position::{Position, Spot};
 pub use ranges::{named_span, place_of, range_of};
 pub use text_list::TextList;

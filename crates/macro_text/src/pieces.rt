@@ -1,14 +1,26 @@
 // Parts of a macro's text.
 ghost use Rattle.std.specs.Prelude.{◌≡◌, IfSome, IfNone, None, Some};
+ghost use Rattle.formula_tree.specs.Seen.{seen_value};
 ghost use Rattle.lics_text.specs.Bytes.{IsText};
 ghost use Rattle.macro_text.specs.Texts as spec;
+ghost use Rattle.value_functions.specs.Values.{text_in};
 
 use formula_eval::Look;
-use formula_tree::Content;
+use formula_tree::{ContentRef, ValueRef};
 use grid_address::Cell;
 use key_words::Cut;
 use lics_text::Text;
-use value_functions::text_in;
+
+/// The text that a value is.
+pub fn text_in<'a>(value: &ValueRef<'a>) -> Option<&'a Text>
+    ensures some { IfSome result (λ t. text_in (seen_value value.now) ≡ Some t.now) }
+    ensures none { IfNone result (text_in (seen_value value.now) ≡ None) }
+{
+    match value {
+        ValueRef::Str(text) => Some(*text),
+        ValueRef::Blank | ValueRef::Num(_) | ValueRef::Err | ValueRef::Na => None,
+    }
+}
 
 /// The text that a macro is read from in a cell: a label's without its prefix, or the text that a formula has as its
 /// value. Any other content ends the routine (Release 2 manual for labels).
@@ -17,10 +29,10 @@ pub fn macro_text<K: Look>(look: &K, cell: Cell) -> Option<&Text>
     ensures none { IfNone result (spec.macro_text (K.sight look.now) cell ≡ None) }
 {
     match look.content(cell) {
-        Some(Content::Label(_, text)) => Some(text),
-        Some(Content::Formula(_)) => text_in(look.value(cell)),
-        Some(Content::Blank) => None,
-        Some(Content::Number(_)) => None,
+        Some(ContentRef::Label(_, text)) => Some(text),
+        Some(ContentRef::Formula(_)) => text_in(&look.value(cell)),
+        Some(ContentRef::Blank) => None,
+        Some(ContentRef::Number(_)) => None,
         None => None,
     }
 }

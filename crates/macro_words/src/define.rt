@@ -89,7 +89,7 @@ fn entered(
         return Ok(None);
     };
     match value {
-        Some(value) => Ok(Some(written(cell, content_of(alloc, value)?))),
+        Some(value) => Ok(Some(written(cell, content_of(alloc, &value.as_ref())?))),
         None => Ok(None),
     }
 }

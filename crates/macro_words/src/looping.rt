@@ -58,8 +58,8 @@ fn next_count<K: Look>(
     ensures { let outlook = outlook_of (K.sight look.now) scene.entry.now in
         IfOk result (λ v. v ≡ spec.next_count outlook repeated.now) }
 {
-    let step = Value::Num(repeated.step);
-    binary(alloc, Op::Add, look.value(repeated.counter), &step)
+    let count = look.value(repeated.counter).copy()?;
+    binary(alloc, Op::Add, &count, &Value::Num(repeated.step))
 }
 
 // A loop's next round, or its end.

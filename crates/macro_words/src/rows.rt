@@ -10,9 +10,8 @@ use formula_eval::{Look, Scene};
 use formula_tree::Value;
 use grid_address::{Cell, LAST_ROW, Span};
 use lics_text::Memory;
-use macro_text::{MacroFault, Spot, TextList, expression_value, place_of};
+use macro_text::{MacroFault, Spot, TextList, expression_value, place_of, text_in};
 use std::alloc::Global;
-use value_functions::text_in;
 
 /// An argument isn't of its kind.
 pub fn bad() -> Row
@@ -55,7 +54,7 @@ pub fn dispatch_row<K: Look>(look: &K, scene: &Scene, args: &TextList) -> Row
     let Some(cell) = place_of(look.names(), args.get(0)) else {
         return bad();
     };
-    let Some(text) = text_in(look.value(cell)) else {
+    let Some(text) = text_in(&look.value(cell)) else {
         return Err(MacroFault::NotText);
     };
     match place_of(look.names(), text.bytes()) {

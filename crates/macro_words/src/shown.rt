@@ -18,7 +18,8 @@ fn cell_in<'a, K: Look>(look: &'a K, cell: Cell, format: Format, width: u8) -> S
     match look.content(cell) {
         None => Shown::RunsOn(b""),
         Some(content) => {
-            shown_content(content, look.value(cell), look.names(), cell, format, width)
+            let value = look.value(cell);
+            shown_content(&content, &value, look.names(), cell, format, width)
         }
     }
 }

@@ -33,7 +33,7 @@ pub fn puts_one(alloc: Global, cell: Cell, content: Content, after: Move) -> Res
 pub fn puts_value(alloc: Global, cell: Cell, value: &Value, after: Move) -> Result<Row, Memory>
     ensures { IfOk result (λ r. r ≡ rows.puts_value cell value.now after) }
 {
-    let content = content_of(alloc, value)?;
+    let content = content_of(alloc, &value.as_ref())?;
     puts_one(alloc, cell, content, after)
 }
 
