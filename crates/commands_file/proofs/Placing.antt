@@ -21,7 +21,7 @@ use Rattle.grid_address.specs.Place.{place_cmp, Place}
 use Rattle.sheet_edits.specs.Spans.{written_cells}
 use Rattle.sheet_shifts.proofs.Maps.{entries_ordered}
 use Rattle.sheet_store.specs.Grid.{Grid}
-use Rattle.sheet_store.specs.declared.state.CellState.{CellState}
+use Rattle.sheet_store.specs.State.{CellState}
 use Rattle.sheet_store.specs.declared.writes.Write.{Write}
 
 -- a distance more on both sides leaves the order

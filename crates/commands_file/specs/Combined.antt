@@ -17,7 +17,7 @@ use Rattle.formula_tree.specs.declared.value.Value.TheVariants as value
 use Rattle.grid_address.specs.Place.{Extent, Place}
 use Rattle.sheet_edits.specs.Spans.{written_cells}
 use Rattle.sheet_store.specs.Grid.{is_blank, last_used, Grid}
-use Rattle.sheet_store.specs.declared.state.CellState.{CellState}
+use Rattle.sheet_store.specs.State.{CellState}
 use Rattle.sheet_store.specs.declared.writes.Write.{Write}
 use Rattle.work_sheet.specs.Editing.{all_written}
 use Rattle.work_sheet.specs.Seen.{Sheet}

@@ -11,7 +11,7 @@ use Rattle.sheet_edits.specs.Edits.{written_state}
 use Rattle.sheet_shifts.specs.Shifts.{grid_after}
 use Rattle.sheet_shifts.specs.declared.shift.Shift.TheVariants.{Block}
 use Rattle.sheet_store.specs.Grid.{put_state, Grid}
-use Rattle.sheet_store.specs.declared.state.CellState.{CellState}
+use Rattle.sheet_store.specs.State.{CellState}
 use Rattle.sheet_store.specs.declared.writes.SavedSheet.{SavedSheet}
 use Rattle.work_sheet.specs.Seen.{fresh_sheet, Sheet}
 

@@ -1,12 +1,11 @@
 // A file's cells are combined with those of the sheet.
-ghost use Rattle.std.specs.Prelude.{◌≡◌, ◌++◌, ◌∷◌, [], not, IfOk, OnOk, Some};
+ghost use Rattle.std.specs.Prelude.{◌≡◌, ◌++◌, ◌∷◌, [], IfOk, OnOk, Some};
 ghost use Rattle.std.specs.FinMap as map;
 ghost use Rattle.std.specs.List.{list_any};
 ghost use Rattle.command_desk.specs.Acting.{HasActedBy};
 ghost use Rattle.commands_file.specs.Combined.{combined, combined_writes, is_number, is_taken, leaves_sheet};
 ghost use Rattle.commands_file.specs.Combined.{number_held, number_or_err, placed, total, totalled, used_span};
 ghost use Rattle.commands_file.specs.Combined.{write_at, write_of, written_in};
-ghost use Rattle.sheet_store.specs.Grid.{is_blank};
 ghost use Rattle.work_sheet.specs.Seen.{of_worksheet};
 
 use block_writes::{content_of, written};
@@ -14,7 +13,7 @@ use command_desk::{CommandEnd, settled};
 use desk_errors::CommandError;
 use fixed_value::Fixed;
 use formula_eval::{Scene, Tally};
-use formula_tree::{Content, Value};
+use formula_tree::{Content, ContentRef, ValueRef};
 use grid_address::{Cell, ROWS, Span};
 use lics_text::Memory;
 use sheet_store::{CellState, Store, Write, Writes};
@@ -35,23 +34,13 @@ pub enum Combining {
     Subtract,
 }
 
-// Whether a value is a number.
-fn is_number(value: &Value) -> bool
-    ensures { result ≡ is_number value.now }
+// Whether a cell's value is a number.
+fn is_number(state: &CellState) -> bool
+    ensures { result ≡ is_number state.now.value }
 {
-    match value {
-        Value::Num(_) => true,
-        Value::Blank | Value::Str(_) | Value::Err | Value::Na => false,
-    }
-}
-
-// Whether a content is something.
-fn is_filled(content: &Content) -> bool
-    ensures { result ≡ not (is_blank content.now) }
-{
-    match content {
-        Content::Blank => false,
-        Content::Number(_) | Content::Label(_, _) | Content::Formula(_) => true,
+    match state.value() {
+        ValueRef::Num(_) => true,
+        ValueRef::Blank | ValueRef::Str(_) | ValueRef::Err | ValueRef::Na => false,
     }
 }
 
@@ -60,8 +49,8 @@ fn is_taken(kind: Combining, state: &CellState) -> bool
     ensures { result ≡ is_taken kind state.now }
 {
     match kind {
-        Combining::Copy => is_filled(&state.content),
-        Combining::Add | Combining::Subtract => is_number(&state.value),
+        Combining::Copy => !state.is_blank(),
+        Combining::Add | Combining::Subtract => is_number(state),
     }
 }
 
@@ -108,10 +97,10 @@ fn number_held(sheet: &Store, cell: Cell) -> Option<Fixed>
     let Some(state) = sheet.get(cell) else {
         return Some(Fixed::ZERO);
     };
-    match &state.content {
-        Content::Blank => Some(Fixed::ZERO),
-        Content::Number(number) => Some(*number),
-        Content::Label(_, _) | Content::Formula(_) => None,
+    match state.content() {
+        ContentRef::Blank => Some(Fixed::ZERO),
+        ContentRef::Number(number) => Some(number),
+        ContentRef::Label(_, _) | ContentRef::Formula(_) => None,
     }
 }
 
@@ -131,7 +120,7 @@ fn number_or_err(alloc: Global, number: Option<Fixed>) -> Result<Content, Memory
 {
     match number {
         Some(number) => Ok(Content::Number(number)),
-        None => content_of(alloc, &Value::Err),
+        None => content_of(alloc, &ValueRef::Err),
     }
 }
 
@@ -140,11 +129,11 @@ fn push_copy(writes: &mut Writes, cell: Cell, state: &CellState) -> Result<(), M
     ensures { OnOk result (writes.new ≡ writes.old
         ++ record { cell = cell; content = state.now.content; format = Some state.now.format } ∷ []) }
 {
-    let content = state.content.copy()?;
+    let content = state.content().copy()?;
     writes.push(Write {
         cell,
         content,
-        format: Some(state.format),
+        format: Some(state.format()),
     })
 }
 
@@ -159,13 +148,13 @@ fn push_total(
     ensures { OnOk result (writes.new
         ≡ writes.old ++ totalled kind cell (number_held (map.get sheet.now.cells cell)) state.now.value) }
 {
-    let Value::Num(number) = &state.value else {
+    let ValueRef::Num(number) = state.value() else {
         return Ok(());
     };
     let Some(here) = number_held(sheet, cell) else {
         return Ok(());
     };
-    let content = number_or_err(sheet.alloc(), total(kind, here, *number))?;
+    let content = number_or_err(sheet.alloc(), total(kind, here, number))?;
     writes.push(written(cell, content))
 }
 

@@ -36,9 +36,9 @@ fn extracted_state(
     ensures sound { IfOk result (λ s. IsSound s) }
 {
     match kind {
-        Extracting::Formulas => state.copy(),
+        Extracting::Formulas => state.copy(store.alloc()),
         Extracting::Values => {
-            let content = content_of(store.alloc(), &state.value)?;
+            let content = content_of(store.alloc(), &state.value())?;
             state_of(store, cell, content)
         }
     }

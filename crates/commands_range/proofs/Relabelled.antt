@@ -11,7 +11,7 @@ use Rattle.lics_text.specs.declared.prefix.LabelPrefix.{LabelPrefix}
 use Rattle.natural_recalc.proofs.Ascending.{picked_ascends}
 use Rattle.sheet_edits.specs.Spans.{written_cells}
 use Rattle.sheet_store.specs.Grid.{any_state, cells_within, Grid}
-use Rattle.sheet_store.specs.declared.state.CellState.{CellState}
+use Rattle.sheet_store.specs.State.{CellState}
 use Rattle.sheet_store.specs.declared.writes.Write.{Write}
 
 module _ (prefix : LabelPrefix) (held : Place → Option CellState) where

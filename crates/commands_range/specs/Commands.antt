@@ -25,7 +25,7 @@ use Rattle.range_names.specs.declared.fault.NameFault.{NameFault}
 use Rattle.sheet_edits.specs.Spans.{target_of, with_code, with_mark, written_cells}
 use Rattle.sheet_shifts.specs.declared.shift.Shift.TheVariants.{Block}
 use Rattle.sheet_store.specs.Grid.{cells_within, Grid}
-use Rattle.sheet_store.specs.declared.state.CellState.{CellState}
+use Rattle.sheet_store.specs.State.{CellState}
 use Rattle.sheet_store.specs.declared.writes.Write.{Write}
 use Rattle.work_sheet.specs.Cells.{cells_of}
 use Rattle.work_sheet.specs.Doing.{Done}

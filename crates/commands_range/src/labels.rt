@@ -7,7 +7,7 @@ ghost use Rattle.work_sheet.specs.Seen.{of_worksheet};
 
 use command_desk::{CommandEnd, settled, span_at};
 use formula_eval::{Scene, Tally};
-use formula_tree::Content;
+use formula_tree::{Content, ContentRef};
 use grid_address::{Cell, Span};
 use lics_text::{LabelPrefix, Memory};
 use session_rooms::Answers;
@@ -26,7 +26,7 @@ fn push_relabelled(
     let Some(state) = store.get(cell) else {
         return Ok(());
     };
-    if let Content::Label(_, text) = &state.content {
+    if let ContentRef::Label(_, text) = state.content() {
         let text = text.copy()?;
         writes.push(Write {
             cell,
