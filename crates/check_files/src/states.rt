@@ -7,7 +7,7 @@ ghost use Rattle.sheet_store.specs.Grid.{IsSound};
 use check_cases::{Stop, Words, bytes_of, text_of, whole_of};
 use fixed_value::{Decimal, Fixed, read_decimal};
 use formula_text::read;
-use formula_tree::{Content, Formula, Value};
+use formula_tree::{Formula, Value};
 use grid_address::{Cell, Format};
 use lics_text::LabelPrefix;
 use range_names::Names;
@@ -18,11 +18,7 @@ use std::alloc::Global;
 fn number_state(number: Fixed, format: Format) -> CellState
     ensures { IsSound result }
 {
-    CellState {
-        content: Content::Number(number),
-        value: Value::Num(number),
-        format,
-    }
+    CellState::number(number, format)
 }
 
 // A label's state.
@@ -35,12 +31,8 @@ fn label_state(
     ensures { IfOk result IsSound }
 {
     let text = text_of(alloc, bytes)?;
-    let value = Value::Str(text.copy()?);
-    Ok(CellState {
-        content: Content::Label(prefix, text),
-        value,
-        format,
-    })
+    let state = CellState::label(alloc, prefix, text, format)?;
+    Ok(state)
 }
 
 /// The state that a text spells: nothing, a label behind its prefix, or a number.
@@ -79,15 +71,12 @@ fn value_of(alloc: Global, word: &[u8]) -> Result<Value, Stop>
 }
 
 // A formula's state.
-fn formula_state(formula: Formula, value: Value, format: Format) -> CellState
+fn formula_state(formula: Formula, value: Value, format: Format) -> Result<CellState, Stop>
     requires { is_filled value ≡ true }
-    ensures { IsSound result }
+    ensures { IfOk result IsSound }
 {
-    CellState {
-        content: Content::Formula(formula),
-        value,
-        format,
-    }
+    let state = CellState::formula(formula, value, format)?;
+    Ok(state)
 }
 
 /// The state of a formula by its value and its text.
@@ -102,7 +91,7 @@ pub fn formula_of(
 {
     let value = value_of(alloc, words.next())?;
     match read(alloc, words.rest(), cell, names) {
-        Ok(formula) => Ok(formula_state(formula, value, format)),
+        Ok(formula) => formula_state(formula, value, format),
         Err(_) => Err(Stop::Line),
     }
 }

@@ -21,7 +21,7 @@ use Rattle.formula_tree.specs.declared.value.Content.{Content}
 use Rattle.formula_tree.specs.declared.value.Content.TheVariants as content
 use Rattle.formula_tree.specs.declared.value.Value.{Value}
 use Rattle.formula_tree.specs.declared.value.Value.TheVariants as value
-use Rattle.sheet_store.specs.declared.state.CellState.{CellState}
+use Rattle.sheet_store.specs.State.{CellState}
 use Rattle.wk1_formula.specs.Doubles.{bits_of}
 use Rattle.wk1_formula.specs.Reading.{before_zero, short_value, with_byte}
 use Rattle.wk1_formula.specs.Stack.{tree_in}

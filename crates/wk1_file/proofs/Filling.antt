@@ -13,7 +13,7 @@ use Rattle.formula_tree.specs.declared.value.Content.TheVariants as content
 use Rattle.formula_tree.specs.declared.value.Value.{Value}
 use Rattle.formula_tree.specs.declared.value.Value.TheVariants as value
 use Rattle.sheet_store.specs.Grid.{is_kept, put_state, valued, Cells, Grid}
-use Rattle.sheet_store.specs.declared.state.CellState.{CellState}
+use Rattle.sheet_store.specs.State.{CellState}
 use Rattle.sheet_store.specs.declared.writes.SavedSheet.{SavedSheet}
 use Rattle.wk1_file.specs.Said.{cell_entries, content_entries, IsCell, IsSavedCell}
 use Rattle.wk1_file.specs.Sheets.{taken, with_cells, with_store}

@@ -5,7 +5,7 @@ use Rattle.std.specs.Prelude.{nat_lt, not, Ok}
 use Rattle.std.proofs.lemmas.Bool.Decides.{nat_tests}
 use Rattle.std.proofs.lemmas.Nat.{from_le_bytes-to_le_bytes_2}
 use Rattle.grid_address.specs.Place.{InSheet, Place}
-use Rattle.sheet_store.specs.declared.state.CellState.{CellState}
+use Rattle.sheet_store.specs.State.{CellState}
 use Rattle.wk1_formula.proofs.Fronts.{no_less}
 use Rattle.wk1_records.specs.Kinds.{has_head, kind_of, least_length}
 use Rattle.wk1_records.specs.Meanings.{cell_of, is_inside, meaning, meaning_by, said}

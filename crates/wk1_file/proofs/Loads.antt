@@ -9,7 +9,7 @@ use Rattle.std.specs.FinMap.{get, insert, remove}
 use Rattle.formula_tree.specs.declared.value.Content.{Content}
 use Rattle.formula_tree.specs.declared.value.Content.TheVariants as content
 use Rattle.sheet_store.specs.Grid.{is_formula, is_kept, put_state, HasFormula}
-use Rattle.sheet_store.specs.declared.state.CellState.{CellState}
+use Rattle.sheet_store.specs.State.{CellState}
 use Rattle.sheet_store.specs.declared.writes.SavedSheet.{SavedSheet}
 use Rattle.wk1_records.specs.Answers.{Gives}
 use Rattle.wk1_records.specs.Kinds.{kind_of}

@@ -19,7 +19,7 @@ use Rattle.formula_tree.specs.declared.value.Value.TheVariants as value
 use Rattle.range_names.specs.Names.{name_in}
 use Rattle.sheet_store.specs.Choices.{Choices}
 use Rattle.sheet_store.specs.Grid.{width_of, Grid}
-use Rattle.sheet_store.specs.declared.state.CellState.{CellState}
+use Rattle.sheet_store.specs.State.{CellState}
 use Rattle.wk1_formula.specs.Doubles.{bits_of}
 use Rattle.wk1_formula.specs.Written.{code_of}
 use Rattle.wk1_formula.proofs.Sizes.{code_long}

@@ -29,7 +29,7 @@ use Rattle.wk1_file.proofs.Short.{both_records, cells_records, head_records, nam
 use Rattle.wk1_file.proofs.Splitting.{all_said, no_fault, said_both, splits_back}
 use Rattle.wk1_file.proofs.Widths.{widths_said, widths_taken}
 use Rattle.wk1_file.specs.Said.{IsSavedCell}
-use Rattle.sheet_store.specs.declared.state.CellState.{CellState}
+use Rattle.sheet_store.specs.State.{CellState}
 
 abbrev used_body : Place → List ℕ
 used_body p = place_bytes (record { row = 0; col = 0 }) ++ place_bytes p

@@ -12,7 +12,7 @@ use Rattle.formula_tree.specs.declared.value.Value.{Value}
 use Rattle.formula_tree.specs.declared.value.Value.TheVariants as value
 use Rattle.sheet_store.specs.Choices.{AreWithin, Choices}
 use Rattle.sheet_store.specs.Grid.{is_kept, width_of, Fits, Grid}
-use Rattle.sheet_store.specs.declared.state.CellState.{CellState}
+use Rattle.sheet_store.specs.State.{CellState}
 use Rattle.range_names.specs.Names.{fault_of, key_of, name_in}
 use Rattle.wk1_file.specs.Saved.{columns}
 use Rattle.wk1_records.specs.Kinds.{number_of}

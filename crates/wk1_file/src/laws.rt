@@ -13,7 +13,7 @@ ghost use Rattle.range_names.specs.Names.{name_in, NameMap};
 ghost use Rattle.sheet_store.specs.Choices.{Choices};
 ghost use Rattle.sheet_store.specs.Grid.{Cells, Grid};
 ghost use Rattle.sheet_store.specs.declared.writes.SavedSheet.{SavedSheet};
-ghost use Rattle.sheet_store.specs.declared.state.CellState.{CellState};
+ghost use Rattle.sheet_store.specs.State.{CellState};
 ghost use Rattle.wk1_file.specs.Said.{cell_entries, name_entry_of, records_of, settings_entries, widths_entries, AreWidths, AreSettings, IsCell, IsRecord, IsSavedCell, IsSavedName, IsSavedSheet, Says};
 ghost use Rattle.wk1_file.specs.Saved.{cell_pieces, eof, file_bytes, name_piece, settings_pieces, width_pieces};
 

@@ -13,7 +13,7 @@ use range_names::Names;
 use sheet_store::{SavedSheet, Settings, Store};
 use std::alloc::Global;
 use wk1_formula::{bytes_from, short_at};
-use wk1_records::{BOF, EOF, Kind, Wk1Fault, entry_of, front_piece, kind_of};
+use wk1_records::{BOF, EOF, Kind, ReadCodes, Wk1Fault, entry_of, front_piece, kind_of};
 
 /// The most bytes of a file (this project's choice).
 const MOST_BYTES: usize = 67_108_864;
@@ -52,6 +52,7 @@ fn fresh(alloc: Global) -> Loading
 // Takes what one more record says.
 fn take_record(
     alloc: Global,
+    codes: &mut ReadCodes,
     loading: &mut Loading,
     number: u32,
     kind: Kind,
@@ -63,7 +64,7 @@ fn take_record(
     ensures minded { OnOk result (IsMinded (as_progress loading.new)) }
     ensures fault { IfErr result (λ f. (f ≡ fault.Memory) ⊎ (meaning_by number body.now kind ≡ Err f)) }
 {
-    match entry_of(alloc, number, kind, body) {
+    match entry_of(alloc, codes, number, kind, body) {
         Ok(entry) => match take(loading, entry) {
             Ok(()) => Ok(()),
             Err(Memory) => Err(Wk1Fault::Memory),
@@ -78,13 +79,14 @@ fn read_records(alloc: Global, bytes: &[u8]) -> Result<SavedSheet, Wk1Fault>
     ensures { (result ≡ Err fault.Memory) ⊎ Makes bytes.now result }
 {
     let mut loading = fresh(alloc);
+    let mut codes = ReadCodes::new(alloc);
     let mut at = 0;
     let mut number: u32 = 0;
     while let Some((kind, body)) = front_piece(bytes_from(bytes, at)) {
         if kind == EOF {
             return Ok(loading.sheet);
         }
-        match take_record(alloc, &mut loading, number, kind_of(kind), body) {
+        match take_record(alloc, &mut codes, &mut loading, number, kind_of(kind), body) {
             Ok(()) => {}
             Err(fault) => return Err(fault),
         }

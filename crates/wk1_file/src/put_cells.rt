@@ -16,7 +16,7 @@ ghost use Rattle.wk1_records.specs.Bodies.{head, made};
 ghost use Rattle.wk1_file.specs.Saved.{cell_pieces, content_pieces, formula_piece, text_pieces, integer_bytes, is_integer, number_piece, value_bits};
 
 use fixed_value::Fixed;
-use formula_tree::{Content, Formula, Value};
+use formula_tree::{ContentRef, Formula, ValueRef};
 use grid_address::Cell;
 use lics_text::{LabelPrefix, Memory, Text};
 use sheet_store::{CellState, Store};
@@ -82,15 +82,15 @@ pub fn put_text(
 }
 
 // The bits of a formula's value.
-fn value_bits(value: &Value) -> u64
-    ensures { result ≡ value_bits value.now }
+fn value_bits(state: &CellState) -> u64
+    ensures { result ≡ value_bits state.now.value }
 {
-    match value {
-        Value::Blank => 0,
-        Value::Num(number) => double_bits(*number),
-        Value::Str(_) => 0,
-        Value::Err => ERR_BITS,
-        Value::Na => NA_BITS,
+    match state.value() {
+        ValueRef::Blank => 0,
+        ValueRef::Num(number) => double_bits(number),
+        ValueRef::Str(_) => 0,
+        ValueRef::Err => ERR_BITS,
+        ValueRef::Na => NA_BITS,
     }
 }
 
@@ -118,7 +118,7 @@ pub fn put_formula(
 {
     code_alone(formula, cell, code)?;
     begin(cell, state, body)?;
-    put(&value_bits(&state.value).to_le_bytes(), body)?;
+    put(&value_bits(state).to_le_bytes(), body)?;
     put_short(code.len() as u16, body)?;
     put(code.as_slice(), body)?;
     put_piece(Kind::Formula, body.as_slice(), into)
@@ -207,9 +207,9 @@ fn put_value(
     ensures { OnOk result (into.new.items
         ≡ into.old.items ++ pieces_bytes (text_pieces cell state.now state.now.value)) }
 {
-    match &state.value {
-        Value::Str(text) => put_text(cell, state, text, body, into),
-        Value::Blank | Value::Num(_) | Value::Err | Value::Na => Ok(()),
+    match state.value() {
+        ValueRef::Str(text) => put_text(cell, state, text, body, into),
+        ValueRef::Blank | ValueRef::Num(_) | ValueRef::Err | ValueRef::Na => Ok(()),
     }
 }
 
@@ -241,11 +241,11 @@ pub fn put_cell(
     ensures { OnOk result (into.new.items
         ≡ into.old.items ++ pieces_bytes (content_pieces cell state.now state.now.content)) }
 {
-    match &state.content {
-        Content::Blank => put_blank(cell, state, body, into),
-        Content::Number(number) => put_number(cell, state, *number, body, into),
-        Content::Label(prefix, text) => put_label(cell, state, *prefix, text, body, into),
-        Content::Formula(formula) => put_formula_value(cell, state, formula, code, body, into),
+    match state.content() {
+        ContentRef::Blank => put_blank(cell, state, body, into),
+        ContentRef::Number(number) => put_number(cell, state, number, body, into),
+        ContentRef::Label(prefix, text) => put_label(cell, state, prefix, text, body, into),
+        ContentRef::Formula(formula) => put_formula_value(cell, state, formula, code, body, into),
     }
 }
 
@@ -264,28 +264,28 @@ fn text_is_short(text: &Text)
     let _ = text.bytes();
 }
 
-// What a content keeps by its type. Nothing is done: the contract says it.
-fn is_content(content: &Content)
-    ensures { IsContent content.now }
+// What a cell's content keeps by its type. Nothing is done: the contract says it.
+fn is_content(state: &CellState)
+    ensures { IsContent state.now.content }
 {
-    match content {
-        Content::Blank => {}
-        Content::Number(number) => number_is_sized(*number),
-        Content::Label(_, text) => text_is_short(text),
-        Content::Formula(formula) => {
+    match state.content() {
+        ContentRef::Blank => {}
+        ContentRef::Number(number) => number_is_sized(number),
+        ContentRef::Label(_, text) => text_is_short(text),
+        ContentRef::Formula(formula) => {
             let _ = formula.expr();
         }
     }
 }
 
-// What a value keeps by its type. Nothing is done: the contract says it.
-fn is_value(value: &Value)
-    ensures { IsValue value.now }
+// What a cell's value keeps by its type. Nothing is done: the contract says it.
+fn is_value(state: &CellState)
+    ensures { IsValue state.now.value }
 {
-    match value {
-        Value::Num(number) => number_is_sized(*number),
-        Value::Str(text) => text_is_short(text),
-        Value::Blank | Value::Err | Value::Na => {}
+    match state.value() {
+        ValueRef::Num(number) => number_is_sized(number),
+        ValueRef::Str(text) => text_is_short(text),
+        ValueRef::Blank | ValueRef::Err | ValueRef::Na => {}
     }
 }
 
@@ -304,8 +304,8 @@ pub fn put_cells(
     let mut code = Vec::new(alloc);
     let mut entries = store.entries();
     while let Some(entry) = entries.next() {
-        is_content(&entry.1.content);
-        is_value(&entry.1.value);
+        is_content(entry.1);
+        is_value(entry.1);
         put_cell(entry.0, entry.1, &mut code, body, into)?;
     }
     Ok(())

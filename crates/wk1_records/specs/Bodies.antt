@@ -2,7 +2,7 @@
 use Rattle.std.specs.Int.{to_le_bytes, w16}
 use Rattle.std.specs.Prelude.{ℕ, List, ◌∷◌, ◌++◌}
 use Rattle.grid_address.specs.Place.{Place}
-use Rattle.sheet_store.specs.declared.state.CellState.{CellState}
+use Rattle.sheet_store.specs.State.{CellState}
 use Rattle.wk1_records.specs.Kinds.{number_of}
 use Rattle.wk1_records.specs.Records.{Piece}
 use Rattle.wk1_records.specs.declared.kind.Kind.{Kind}

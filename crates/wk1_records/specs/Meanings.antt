@@ -17,7 +17,7 @@ use Rattle.range_names.specs.declared.fault.NameFault.{NameFault}
 use Rattle.sheet_store.specs.Choices.{is_global_prefix}
 use Rattle.sheet_store.specs.declared.order.Order.{Order}
 use Rattle.sheet_store.specs.declared.order.Order.TheVariants.{Natural, Columnwise, Rowwise}
-use Rattle.sheet_store.specs.declared.state.CellState.{CellState}
+use Rattle.sheet_store.specs.State.{CellState}
 use Rattle.wk1_formula.specs.Reading.{before_zero, short_at, short_value}
 use Rattle.wk1_formula.specs.Stack.{tree_in}
 use Rattle.wk1_formula.specs.declared.fault.CodeFault.{CodeFault}

@@ -9,6 +9,7 @@ mod name_said;
 mod numbers;
 mod order;
 mod pieces;
+mod read_codes;
 mod said;
 mod split;
 
@@ -19,4 +20,5 @@ pub use meaning::entry_of;
 pub use numbers::{BOF, EOF};
 pub use order::order_byte;
 pub use pieces::{number_of, put_head, put_piece, put_place};
+pub use read_codes::ReadCodes;
 pub use split::front_piece;

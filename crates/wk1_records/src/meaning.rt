@@ -11,7 +11,7 @@ use crate::said::{
     blank_in, cell_at, column_width, formula_in, integer_in, label_in, number_in, prefix_of,
     text_in, window,
 };
-use crate::{Entry, Kind, Wk1Fault};
+use crate::{Entry, Kind, ReadCodes, Wk1Fault};
 use grid_address::Cell;
 use std::alloc::Global;
 use wk1_formula::short_at;
@@ -85,6 +85,7 @@ fn plain(number: u32, kind: Kind, body: &[u8]) -> Result<Entry, Wk1Fault>
 // What a record with a head says.
 fn headed(
     alloc: Global,
+    codes: &mut ReadCodes,
     number: u32,
     kind: Kind,
     body: &[u8],
@@ -100,14 +101,21 @@ fn headed(
         Kind::Integer => Ok(integer_in(body, cell)),
         Kind::Number => number_in(alloc, body, number, cell),
         Kind::Label => label_in(alloc, body, number, cell),
-        Kind::Formula => formula_in(alloc, body, number, cell),
+        Kind::Formula => formula_in(codes, body, number, cell),
         Kind::Str => text_in(alloc, body, number, cell),
         _ => Ok(Entry::Nothing),
     }
 }
 
-/// What a record says, or why it is faulty: a body that is too short comes first, then a cell outside the sheet.
-pub fn entry_of(alloc: Global, number: u32, kind: Kind, body: &[u8]) -> Result<Entry, Wk1Fault>
+/// What a record says, or why it is faulty: a body that is too short comes first, then a cell outside the sheet. A
+/// formula shares the tree of one with the same code that was read lately.
+pub fn entry_of(
+    alloc: Global,
+    codes: &mut ReadCodes,
+    number: u32,
+    kind: Kind,
+    body: &[u8],
+) -> Result<Entry, Wk1Fault>
     ensures { Gives result (meaning_by number body.now kind) }
 {
     if !is_long(kind, body) {
@@ -117,7 +125,7 @@ pub fn entry_of(alloc: Global, number: u32, kind: Kind, body: &[u8]) -> Result<E
         return plain(number, kind, body);
     }
     match cell_at(body, 1) {
-        Some(cell) => headed(alloc, number, kind, body, cell),
+        Some(cell) => headed(alloc, codes, number, kind, body, cell),
         None => Err(Wk1Fault::CellOutside(number)),
     }
 }

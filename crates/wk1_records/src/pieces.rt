@@ -63,6 +63,6 @@ pub fn put_place(place: Cell, into: &mut Vec<u8>) -> Result<(), Memory>
 pub fn put_head(cell: Cell, state: &CellState, into: &mut Vec<u8>) -> Result<(), Memory>
     ensures { OnOk result (into.new.items ≡ into.old.items ++ head cell state.now) }
 {
-    into.push(state.format.0)?;
+    into.push(state.format().0)?;
     put_place(cell, into)
 }

@@ -14,16 +14,14 @@ ghost use Rattle.wk1_records.specs.Answers.{Gives};
 ghost use Rattle.wk1_records.specs.Meanings.{byte_at, cell_of, code_in, double_at, formula_state, constant, global_prefix, is_inside, is_span, number_state, stored_value, is_width, label_of, label_state, numbered, place_at, pointer_of, state_of, text_entry, width_entry, window_entry};
 ghost use Rattle.wk1_records.specs.declared.entry.Entry.TheVariants as entry;
 
-use crate::{Entry, Wk1Fault};
+use crate::{Entry, ReadCodes, Wk1Fault};
 use fixed_value::{DoubleRead, Fixed, from_double_bits};
-use formula_tree::{Content, Expr, ExprList, Formula, Function, Value};
+use formula_tree::{Expr, ExprList, Formula, Function, Value};
 use grid_address::{Cell, Format, ROWS, Span};
 use lics_text::{LabelPrefix, Memory, Text};
 use sheet_store::{CellState, MOST_WIDTH};
 use std::alloc::Global;
-use wk1_formula::{
-    CodeFault, before_zero, bytes_from, first_long, is_text, read_code, short_at, short_value,
-};
+use wk1_formula::{CodeFault, before_zero, bytes_from, first_long, is_text, short_at, short_value};
 
 /// How many columns the sheet has.
 const COLUMNS: u16 = 256;
@@ -120,16 +118,12 @@ pub fn column_width(body: &[u8]) -> Entry
     }
 }
 
-// A cell's content and value, with the format byte of its head.
-pub fn state(body: &[u8], content: Content, value: Value) -> CellState
+// The format byte of a head.
+fn format_in(body: &[u8]) -> Format
     requires { 1 ≤ length body.now }
-    ensures { result ≡ state_of body.now content value }
+    ensures { result ≡ record { 0 = byte_at 0 body.now } }
 {
-    CellState {
-        content,
-        value,
-        format: Format(body[0]),
-    }
+    Format(body[0])
 }
 
 /// What the record of a blank cell says.
@@ -138,7 +132,7 @@ pub fn blank_in(body: &[u8], cell: Cell) -> Entry
     requires cell { cell ≡ cell_of body.now }
     ensures { result ≡ entry.State (cell_of body.now) (state_of body.now content.Blank value.Blank) }
 {
-    Entry::State(cell, state(body, Content::Blank, Value::Blank))
+    Entry::State(cell, CellState::blank(format_in(body)))
 }
 
 /// What the record of a whole number says.
@@ -148,10 +142,7 @@ pub fn integer_in(body: &[u8], cell: Cell) -> Entry
     ensures { result ≡ entry.State (cell_of body.now) (numbered body.now (short_value (short_at 5 body.now))) }
 {
     let number = short_value(short_at(body, 5));
-    Entry::State(
-        cell,
-        state(body, Content::Number(number), Value::Num(number)),
-    )
+    Entry::State(cell, CellState::number(number, format_in(body)))
 }
 
 // What the record of a text says that is a formula's value.
@@ -199,8 +190,7 @@ fn label_of(
     ensures { IfOk result (λ s. s ≡ state_of body.now (content.Label prefix bytes.now) (value.Str bytes.now)) }
 {
     let text = Text::copy_of(alloc, bytes)?;
-    let value = text.copy()?;
-    Ok(state(body, Content::Label(prefix, text), Value::Str(value)))
+    CellState::label(alloc, prefix, text, format_in(body))
 }
 
 // What the record of a label says.
@@ -253,17 +243,33 @@ fn code_in(body: &[u8]) -> &[u8]
     &bytes_from(body, 15)[..size]
 }
 
+// What the record of a formula says, whose code has a tree.
+fn computed_in(body: &[u8], cell: Cell, formula: Formula) -> Result<Entry, Wk1Fault>
+    requires length { 13 ≤ length body.now }
+    requires cell { cell ≡ cell_of body.now }
+    ensures { Gives result (Ok (entry.Formula (cell_of body.now)
+        (state_of body.now (content.Formula formula) (stored_value (double_at 5 body.now))))) }
+{
+    let value = stored_value(double_in(body));
+    match CellState::formula(formula, value, format_in(body)) {
+        Ok(state) => Ok(Entry::Formula(cell, state)),
+        Err(Memory) => Err(Wk1Fault::Memory),
+    }
+}
+
 // What the record of a formula says.
-pub fn formula_in(alloc: Global, body: &[u8], number: u32, cell: Cell) -> Result<Entry, Wk1Fault>
+pub fn formula_in(
+    codes: &mut ReadCodes,
+    body: &[u8],
+    number: u32,
+    cell: Cell,
+) -> Result<Entry, Wk1Fault>
     requires length { 15 + short_at 13 body.now ≤ length body.now }
     requires cell { cell ≡ cell_of body.now }
     ensures { Gives result (formula_state number body.now (tree_in (code_in body.now))) }
 {
-    match read_code(alloc, code_in(body)) {
-        Ok(formula) => {
-            let value = stored_value(double_in(body));
-            Ok(Entry::Formula(cell, state(body, Content::Formula(formula), value)))
-        }
+    match codes.read(code_in(body)) {
+        Ok(formula) => computed_in(body, cell, formula),
         Err(CodeFault::Bad(at)) => Err(Wk1Fault::BadCode(number, at)),
         Err(CodeFault::Outside(function)) => Err(Wk1Fault::FunctionOutside(number, function)),
         Err(CodeFault::TooLarge) => Err(Wk1Fault::NumberTooLarge(number)),
@@ -315,8 +321,11 @@ fn constant_in(
     requires cell { cell ≡ cell_of body.now }
     ensures { Gives result (Ok (entry.State (cell_of body.now) (state_of body.now (constant function) value))) }
 {
-    match constant(alloc, function) {
-        Ok(formula) => Ok(Entry::State(cell, state(body, Content::Formula(formula), value))),
+    let Ok(formula) = constant(alloc, function) else {
+        return Err(Wk1Fault::Memory);
+    };
+    match CellState::formula(formula, value, format_in(body)) {
+        Ok(state) => Ok(Entry::State(cell, state)),
         Err(Memory) => Err(Wk1Fault::Memory),
     }
 }
@@ -328,10 +337,7 @@ pub fn number_in(alloc: Global, body: &[u8], number: u32, cell: Cell) -> Result<
     ensures { Gives result (number_state number body.now (double_at 5 body.now)) }
 {
     match double_in(body) {
-        DoubleRead::Num(read) => Ok(Entry::State(
-            cell,
-            state(body, Content::Number(read), Value::Num(read)),
-        )),
+        DoubleRead::Num(read) => Ok(Entry::State(cell, CellState::number(read, format_in(body)))),
         DoubleRead::Err => constant_in(alloc, body, cell, Function::Err, Value::Err),
         DoubleRead::Na => constant_in(alloc, body, cell, Function::Na, Value::Na),
         DoubleRead::TooLarge => Err(Wk1Fault::NumberTooLarge(number)),

@@ -1,7 +1,7 @@
 use Rattle.std.proofs.Common.{◌≡◌, ◌++◌, ◌∙◌, List, ℕ, ap, sym}
 use Rattle.std.specs.FinMap as finite
 use Rattle.grid_address.specs.Place.{Place}
-use Rattle.sheet_store.specs.declared.state.CellState.{CellState}
+use Rattle.sheet_store.specs.State.{CellState}
 use Rattle.wk1_records.specs.Records.{pieces_bytes}
 use Rattle.wk1_file.specs.Saved.{cell_pieces}
 use Rattle.wk1_file.specs.Said.{IsContent, IsValue}

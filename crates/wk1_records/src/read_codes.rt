@@ -1,0 +1,141 @@
+// The codes that were read lately.
+ghost use Rattle.std.specs.Prelude.{◌≡◌, ◌≤◌, IfSome, IfOk, Ok, length};
+ghost use Rattle.wk1_formula.specs.Stack.{tree_in, Gives};
+
+use formula_tree::Formula;
+use lics_text::Memory;
+use std::alloc::Global;
+use std::marker::Model;
+use wk1_formula::{CodeFault, read_code};
+
+/// How many codes are kept.
+const PLACES: usize = 1024;
+
+/// The most bytes of a code that is kept.
+const MOST_KEPT: usize = 256;
+
+// A code that was read, with its formula.
+#[derive(Drop)]
+struct ReadCode {
+    code: Vec<u8>,
+    formula: Formula,
+}
+
+impl Model for ReadCode {
+    ghost use Rattle.std.specs.Prelude.{◌≡◌, List, Ok, ℕ};
+    ghost use Rattle.wk1_formula.specs.Stack.{tree_in};
+
+    ghost Value = { List ℕ };
+
+    ghost view = { λ r. r.code.items };
+
+    ghost invariant = { λ r. tree_in r.code.items ≡ Ok r.formula };
+}
+
+impl ReadCode {
+    // A copy of a code and of its formula.
+    fn of(alloc: Global, code: &[u8], formula: &Formula) -> Result<ReadCode, Memory>
+        requires { tree_in code.now ≡ Ok formula.now }
+    {
+        let code = Vec::from_slice(alloc, code)?;
+        let formula = formula.copy()?;
+        Ok(ReadCode { code, formula })
+    }
+
+    // The formula, if it is the code's.
+    fn formula_of(&self, code: &[u8]) -> Option<&Formula>
+        ensures { IfSome result (λ f. tree_in code.now ≡ Ok f.now) }
+    {
+        if self.code.as_slice() == code {
+            Some(&self.formula)
+        } else {
+            None
+        }
+    }
+}
+
+// Where a code is kept, which its bytes tell (by Fowler, Noll and Vo's hash).
+fn place_of(code: &[u8]) -> usize {
+    let mut hash: u64 = 14_695_981_039_346_656_037;
+    for byte in code {
+        hash = (hash ^ u64::from(*byte)).wrapping_mul(1_099_511_628_211);
+    }
+    (hash % PLACES as u64) as usize
+}
+
+/// The codes of at most 256 bytes that were read lately, at most 1,024, each with its formula: formulas of one code
+/// share their tree.
+#[derive(Drop)]
+pub struct ReadCodes {
+    alloc: Global,
+    places: Vec<Option<Box<ReadCode>>>,
+}
+
+impl ReadCodes {
+    /// No code was read.
+    pub fn new(alloc: Global) -> ReadCodes {
+        ReadCodes {
+            alloc,
+            places: Vec::new(alloc),
+        }
+    }
+
+    // The formula of a code that is kept.
+    fn kept(&self, code: &[u8]) -> Option<&Formula>
+        ensures { IfSome result (λ f. tree_in code.now ≡ Ok f.now) }
+    {
+        match self.places.get(place_of(code)) {
+            Some(Some(read)) => read.formula_of(code),
+            Some(None) | None => None,
+        }
+    }
+
+    // Makes the places, where they aren't there.
+    fn make_places(&mut self) -> Result<(), Memory> {
+        for _ in self.places.len()..PLACES {
+            self.places.push(None)?;
+        }
+        Ok(())
+    }
+
+    // Keeps a code with its formula in place of what was there.
+    fn keep(&mut self, code: &[u8], formula: &Formula) -> Result<(), Memory>
+        requires { tree_in code.now ≡ Ok formula.now }
+    {
+        self.make_places()?;
+        let read = ReadCode::of(self.alloc, code, formula)?;
+        let read = Box::new(self.alloc, read)?;
+        if let Some(place) = self.places.get_mut(place_of(code)) {
+            *place = Some(read);
+        }
+        Ok(())
+    }
+
+    // Reads a code and keeps it.
+    fn read_new(&mut self, code: &[u8]) -> Result<Formula, CodeFault>
+        requires { length code.now ≤ 65535 }
+        ensures { Gives result (tree_in code.now) }
+    {
+        let formula = read_code(self.alloc, code)?;
+        let _ = self.keep(code, &formula);
+        Ok(formula)
+    }
+
+    /// The formula of a code of at most 65,535 bytes, or the fault that `read_code` tells. Where the same bytes were
+    /// read lately, it shares their tree.
+    pub fn read(&mut self, code: &[u8]) -> Result<Formula, CodeFault>
+        requires { length code.now ≤ 65535 }
+        ensures { Gives result (tree_in code.now) }
+    {
+        if code.len() > MOST_KEPT {
+            return read_code(self.alloc, code);
+        }
+        if let Some(formula) = self.kept(code) {
+            return match formula.copy() {
+                Ok(formula) => Ok(formula),
+                Err(Memory) => Err(CodeFault::Memory),
+            };
+        }
+        self.read_new(code)
+    }
+}
