@@ -1,10 +1,10 @@
 //! The work that bench/files measures: files of many cells are made, read and written. Its words are what the cells
 //! hold (`integers`, `numbers`, `labels`, `formulas`, or `mixed` for each of these in every fourth column), how many
 //! rows and columns are filled, and a step. `print` writes the file to standard output, `make` makes it alone, `read`
-//! reads it too, `write` also writes the sheet again, and `time` tells the bytes that were read and written and the
-//! microseconds of each. Without a word it tells of a small file of each kind how many bytes it has, the last used
-//! cell, as a number in row order, and the bytes of the sheet's own file with their sum, which the stored run compares
-//! with another program's.
+//! reads it too, `write` then lets it go and writes the sheet again, `write-beside` writes it while the file that was
+//! read stays in memory, and `time` tells the bytes that were read and written and the microseconds of each. Without a
+//! word it tells of a small file of each kind how many bytes it has, the last used cell, as a number in row order, and
+//! the bytes of the sheet's own file with their sum, which the stored run compares with another program's.
 #![tactic(auto)]
 
 mod file;
@@ -64,6 +64,7 @@ fn step_of(word: &str) -> Option<Step> {
         "make" => Some(Step::Make),
         "read" => Some(Step::Read),
         "write" => Some(Step::Write),
+        "write-beside" => Some(Step::WriteBeside),
         "time" => Some(Step::Time),
         _ => None,
     }

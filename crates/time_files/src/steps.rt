@@ -8,14 +8,15 @@ use std::rt::Clock;
 use std::time::Instant;
 use wk1_file::{read, write};
 
-/// What is done with a file: it is written to standard output, made alone, also read, also written again, or read and
-/// written with the times told.
+/// What is done with a file: it is written to standard output, made alone, also read, then let go and written again,
+/// written again beside what was read, or read and written with the times told.
 #[derive(Clone, Copy)]
 pub enum Step {
     Print,
     Make,
     Read,
     Write,
+    WriteBeside,
     Time,
 }
 
@@ -39,11 +40,21 @@ fn measure_read(alloc: Global, file: &[u8]) -> Result<u64, Stop> {
     }
 }
 
-// The file of the sheet that is read.
-fn rewritten(alloc: Global, file: &[u8]) -> Result<Vec<u8>, Stop> {
+// The file of the sheet that is read, which is made beside the one that was read.
+fn rewritten_beside(alloc: Global, file: &[u8]) -> Result<Vec<u8>, Stop> {
     let Ok(sheet) = read(alloc, file) else {
         return Err(Stop::File);
     };
+    let bytes = write(alloc, &sheet)?;
+    Ok(bytes)
+}
+
+// The file of the sheet that is read. What was read is let go before the sheet is written.
+fn rewritten(alloc: Global, file: Vec<u8>) -> Result<Vec<u8>, Stop> {
+    let Ok(sheet) = read(alloc, file.as_slice()) else {
+        return Err(Stop::File);
+    };
+    drop(file);
     let bytes = write(alloc, &sheet)?;
     Ok(bytes)
 }
@@ -88,7 +99,8 @@ pub fn go<C: Clock, W: Write>(
         Step::Print => out.write_all(file.as_slice())?,
         Step::Make => writeln!(out, "{}", file.len())?,
         Step::Read => writeln!(out, "{}", measure_read(alloc, file.as_slice())?)?,
-        Step::Write => writeln!(out, "{}", rewritten(alloc, file.as_slice())?.len())?,
+        Step::Write => writeln!(out, "{}", rewritten(alloc, file)?.len())?,
+        Step::WriteBeside => writeln!(out, "{}", rewritten_beside(alloc, file.as_slice())?.len())?,
         Step::Time => time(clock, alloc, file.as_slice(), out)?,
     }
     Ok(())
@@ -98,7 +110,7 @@ pub fn go<C: Clock, W: Write>(
 pub fn tell<W: Write>(alloc: Global, kind: Kind, block: Block, out: &mut W) -> Result<(), Stop> {
     let file = file_of(alloc, kind, block)?;
     let last = measure_read(alloc, file.as_slice())?;
-    let bytes = rewritten(alloc, file.as_slice())?;
+    let bytes = rewritten_beside(alloc, file.as_slice())?;
     writeln!(
         out,
         "{} {last} {} {:016x}",
