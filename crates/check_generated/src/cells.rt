@@ -3,7 +3,7 @@
 use check_cases::Stop;
 use fixed_value::{Decimal, read_decimal};
 use formula_text::print;
-use formula_tree::{Content, Value};
+use formula_tree::{ContentRef, ValueRef};
 use grid_address::{Cell, Span, cell_text};
 use lics_text::Line;
 use range_names::Names;
@@ -20,20 +20,20 @@ pub fn rows_of(digits: &[u8]) -> u16 {
 
 // A cell's content.
 fn write_content<W: Write>(
-    content: &Content,
+    content: &ContentRef<'_>,
     cell: Cell,
     names: &Names,
     out: &mut W,
 ) -> Result<(), Error> {
     match content {
-        Content::Blank => out.write_all(b"b"),
-        Content::Number(number) => write!(out, "n{}", number.millionths()),
-        Content::Label(prefix, text) => {
+        ContentRef::Blank => out.write_all(b"b"),
+        ContentRef::Number(number) => write!(out, "n{}", number.millionths()),
+        ContentRef::Label(prefix, text) => {
             out.write_all(b"l")?;
             out.write_all(&[prefix.byte()])?;
             out.write_all(text.bytes())
         }
-        Content::Formula(formula) => {
+        ContentRef::Formula(formula) => {
             let mut line = Line::new();
             print(formula, cell, names, &mut line);
             out.write_all(b"f")?;
@@ -43,16 +43,16 @@ fn write_content<W: Write>(
 }
 
 // A value.
-fn write_value<W: Write>(value: &Value, out: &mut W) -> Result<(), Error> {
+fn write_value<W: Write>(value: &ValueRef<'_>, out: &mut W) -> Result<(), Error> {
     match value {
-        Value::Num(number) => write!(out, "n{}", number.millionths()),
-        Value::Str(text) => {
+        ValueRef::Num(number) => write!(out, "n{}", number.millionths()),
+        ValueRef::Str(text) => {
             out.write_all(b"s")?;
             out.write_all(text.bytes())
         }
-        Value::Err => out.write_all(b"ERR"),
-        Value::Na => out.write_all(b"NA"),
-        Value::Blank => out.write_all(b"BLANK"),
+        ValueRef::Err => out.write_all(b"ERR"),
+        ValueRef::Na => out.write_all(b"NA"),
+        ValueRef::Blank => out.write_all(b"BLANK"),
     }
 }
 
@@ -64,10 +64,10 @@ fn write_state<W: Write>(
     out: &mut W,
 ) -> Result<(), Error> {
     out.write_all(cell_text(cell).bytes())?;
-    write!(out, " {} ", state.format.0)?;
-    write_content(&state.content, cell, names, out)?;
+    write!(out, " {} ", state.format().0)?;
+    write_content(&state.content(), cell, names, out)?;
     out.write_all(b" ")?;
-    write_value(&state.value, out)?;
+    write_value(&state.value(), out)?;
     out.write_all(b"\n")
 }
 

@@ -6,9 +6,9 @@ ghost use Rattle.sheet_store.specs.Grid.{IsSound};
 use check_cases::{Stop, Words, bytes_of, text_of, whole_of};
 use fixed_value::Fixed;
 use formula_text::read;
-use formula_tree::{Content, Formula, Value};
+use formula_tree::Value;
 use grid_address::{Cell, Format};
-use lics_text::{LabelPrefix, Memory, Text};
+use lics_text::{LabelPrefix, Text};
 use range_names::Names;
 use sheet_store::CellState;
 use std::alloc::Global;
@@ -25,41 +25,6 @@ fn fixed_in(words: &mut Words) -> Result<Fixed, Stop> {
 pub fn text_in(alloc: Global, words: &mut Words) -> Result<Text, Stop> {
     let bytes = bytes_of(alloc, words.next())?;
     text_of(alloc, bytes.as_slice())
-}
-
-// A number's state.
-fn number_state(number: Fixed, format: Format) -> CellState
-    ensures { IsSound result }
-{
-    CellState {
-        content: Content::Number(number),
-        value: Value::Num(number),
-        format,
-    }
-}
-
-// A label's state.
-fn label_state(prefix: LabelPrefix, text: Text, format: Format) -> Result<CellState, Memory>
-    ensures { IfOk result IsSound }
-{
-    let value = Value::Str(text.copy()?);
-    Ok(CellState {
-        content: Content::Label(prefix, text),
-        value,
-        format,
-    })
-}
-
-// A formula's state.
-fn formula_state(formula: Formula, value: Value, format: Format) -> CellState
-    requires { is_filled value ≡ true }
-    ensures { IsSound result }
-{
-    CellState {
-        content: Content::Formula(formula),
-        value,
-        format,
-    }
 }
 
 // A formula's value.
@@ -83,7 +48,7 @@ fn label_in(alloc: Global, words: &mut Words, format: Format) -> Result<CellStat
         return Err(Stop::Line);
     };
     let text = text_in(alloc, words)?;
-    Ok(label_state(prefix, text, format)?)
+    Ok(CellState::label(alloc, prefix, text, format)?)
 }
 
 // A formula, by its text and value.
@@ -101,7 +66,7 @@ fn formula_in(
         return Err(Stop::Line);
     };
     let value = value_in(alloc, words)?;
-    Ok(formula_state(formula, value, format))
+    Ok(CellState::formula(formula, value, format)?)
 }
 
 /// The state in the words.
@@ -116,7 +81,7 @@ pub fn state_in(
     let format = Format(words.byte()?);
     match words.next() {
         b"b" => Ok(CellState::blank(format)),
-        b"n" => Ok(number_state(fixed_in(words)?, format)),
+        b"n" => Ok(CellState::number(fixed_in(words)?, format)),
         b"l" => label_in(alloc, words, format),
         b"f" => formula_in(alloc, words, cell, names, format),
         _ => Err(Stop::Line),

@@ -2,11 +2,11 @@
 
 use crate::edits::Desk;
 use check_cases::Stop;
-use formula_tree::Value;
+use formula_tree::ValueRef;
 use grid_address::{Cell, Span, cell_text, column_text};
 use lics_text::Line;
 use range_names::{Names, name_in};
-use sheet_store::{SheetFault, Store};
+use sheet_store::{CellState, SheetFault, Store};
 use std::io::Write;
 
 // How many rows and columns of values are shown.
@@ -31,20 +31,30 @@ pub fn show_fault<W: Write>(out: &mut W, fault: SheetFault) -> Result<(), Stop> 
     Ok(())
 }
 
-// A value, behind a blank; no cell is a point.
-fn show_value<W: Write>(out: &mut W, value: Option<&Value>) -> Result<(), Stop> {
-    match value {
-        None => out.write_all(b" .")?,
-        Some(Value::Num(number)) => write!(out, " {}", number.millionths())?,
-        Some(Value::Str(text)) => {
+// The value of a cell's state.
+fn show_held<W: Write>(out: &mut W, state: &CellState) -> Result<(), Stop> {
+    match state.value() {
+        ValueRef::Num(number) => write!(out, " {}", number.millionths())?,
+        ValueRef::Str(text) => {
             out.write_all(b" '")?;
             out.write_all(text.bytes())?;
         }
-        Some(Value::Err) => out.write_all(b" ERR")?,
-        Some(Value::Na) => out.write_all(b" NA")?,
-        Some(Value::Blank) => out.write_all(b" _")?,
+        ValueRef::Err => out.write_all(b" ERR")?,
+        ValueRef::Na => out.write_all(b" NA")?,
+        ValueRef::Blank => out.write_all(b" _")?,
     }
     Ok(())
+}
+
+// A cell's value, behind a blank; no cell is a point.
+fn show_value<W: Write>(out: &mut W, state: Option<&CellState>) -> Result<(), Stop> {
+    match state {
+        Some(state) => show_held(out, state),
+        None => {
+            out.write_all(b" .")?;
+            Ok(())
+        }
+    }
 }
 
 /// The count of evaluations, the marks, and the values of the cells.
@@ -58,7 +68,7 @@ pub fn show<W: Write>(desk: &Desk, out: &mut W) -> Result<(), Stop> {
     }
     for row in 0..ROWS {
         for col in 0..COLUMNS {
-            show_value(out, desk.sheet.value_of(Cell { row, col }))?;
+            show_value(out, desk.sheet.cells().get(Cell { row, col }))?;
         }
     }
     out.write_all(b"\n")?;
@@ -72,11 +82,11 @@ fn show_state<W: Write>(desk: &Desk, store: &Store, cell: Cell, out: &mut W) -> 
     };
     let mut line = Line::new();
     let _ = desk.sheet.text_of(cell, &mut line);
-    write!(out, " {} ", state.format.0)?;
+    write!(out, " {} ", state.format().0)?;
     out.write_all(cell_text(cell).bytes())?;
     out.write_all(b"=")?;
     out.write_all(line.bytes())?;
-    show_value(out, Some(&state.value))
+    show_held(out, state)
 }
 
 // The cells of a sheet in row order.

@@ -4,6 +4,7 @@ use Rattle.grid_address.specs.Formats.{default_format}
 use Rattle.grid_address.specs.Place.{Place}
 use Rattle.formula_tree.specs.declared.value.Content.{Content}
 use Rattle.formula_tree.specs.declared.value.Value.{Value}
+use Rattle.formula_tree.specs.declared.value.Value.TheVariants as value
 use Rattle.check_values.specs.declared.held.Held.{Held}
 
 -- 8 columns, row by row
@@ -19,10 +20,10 @@ held_by held (Some i) = slice_get held i
 abbrev pub held_at : List Held → Place → Option Held
 held_at held p = held_by held (index_of p)
 
--- the value of what is held, or another one where nothing is
-abbrev pub value_of : Value → Option Held → Value
-value_of otherwise None = otherwise
-value_of otherwise (Some h) = h.value
+-- the value of what is held, blank where nothing is
+abbrev pub value_of : Option Held → Value
+value_of None = value.Blank
+value_of (Some h) = h.value
 
 -- the content of what is held
 abbrev pub content_of : Option Held → Option Content

@@ -1,24 +1,24 @@
 // A block of cells that formulas look at: the columns A to H, row by row from the top, as many as there are.
 ghost use Rattle.std.specs.Prelude.{◌≡◌, ◌≤◌, ◌<◌, ◌+◌, ◌-◌, ◌*◌, ◌%◌, ◌++◌, ◌∷◌, [], IfOk, IfSome, IfNone, OnOk, Some, None, slice_get};
 ghost use Rattle.std.specs.List.{filter};
+ghost use Rattle.formula_tree.specs.Seen.{seen_value};
 ghost use Rattle.formula_tree.specs.Values.{is_filled};
 ghost use Rattle.formula_eval.specs.Outlook.{block_cells, filled, row_cells, Sight};
 ghost use Rattle.check_values.specs.Blocks.{content_of, format_of, held_at, index_of, value_of};
 
 use crate::held::Held;
 use formula_eval::Look;
-use formula_tree::{Content, Value};
+use formula_tree::{ContentRef, ValueRef};
 use grid_address::{Cell, CellList, Format, ROWS, Span};
 use lics_text::Memory;
 use range_names::Names;
 use std::alloc::Global;
 
-/// The cells that are held, the names, and what a cell shows that is not held.
+/// The cells that are held, and the names.
 #[derive(Drop)]
 pub struct Block {
     pub held: Vec<Held>,
     pub names: Names,
-    pub blank: Value,
     pub alloc: Global,
 }
 
@@ -45,12 +45,12 @@ fn held_at(held: &[Held], cell: Cell) -> Option<&Held>
 }
 
 // The value of a cell.
-fn value_at<'a>(held: &'a [Held], blank: &'a Value, cell: Cell) -> &'a Value
-    ensures { result.now ≡ value_of blank.now (held_at held.now cell) }
+fn value_at(held: &[Held], cell: Cell) -> ValueRef<'_>
+    ensures { seen_value result ≡ value_of (held_at held.now cell) }
 {
     match held_at(held, cell) {
-        Some(held) => &held.value,
-        None => blank,
+        Some(held) => held.value.as_ref(),
+        None => ValueRef::Blank,
     }
 }
 
@@ -71,7 +71,6 @@ fn cell_in(row: u16, first: u8, place: u16) -> Cell
 fn put_row(
     cells: &mut CellList,
     held: &[Held],
-    blank: &Value,
     row: u16,
     first: u8,
     count: u16,
@@ -79,11 +78,11 @@ fn put_row(
     requires row { row < ROWS }
     requires count { first + count ≤ 256 }
     ensures { OnOk result (cells.new ≡ cells.old
-        ++ filter (λ p. is_filled (value_of blank.now (held_at held.now p))) (row_cells row first count)) }
+        ++ filter (λ p. is_filled (value_of (held_at held.now p))) (row_cells row first count)) }
 {
     for place in 0..count {
         let cell = cell_in(row, first, place);
-        if value_at(held, blank, cell).is_filled() {
+        if value_at(held, cell).is_filled() {
             cells.push(cell)?;
         }
     }
@@ -91,35 +90,35 @@ fn put_row(
 }
 
 // The cells of a span that aren't blank, in row order.
-fn filled(alloc: Global, held: &[Held], blank: &Value, span: Span) -> Result<CellList, Memory>
-    ensures { IfOk result (λ l. l ≡ filled (λ p. value_of blank.now (held_at held.now p)) span) }
+fn filled(alloc: Global, held: &[Held], span: Span) -> Result<CellList, Memory>
+    ensures { IfOk result (λ l. l ≡ filled (λ p. value_of (held_at held.now p)) span) }
 {
     let width = span.width();
     let row = span.first.row;
     let col = span.first.col;
     let mut cells = CellList::new(alloc);
     for place in 0..span.height() {
-        put_row(&mut cells, held, blank, row + place, col, width)?;
+        put_row(&mut cells, held, row + place, col, width)?;
     }
     Ok(cells)
 }
 
 impl Look for Block {
     ghost sight = { λ b. record {
-      values = λ p. value_of b.blank (held_at b.held.items p);
+      values = λ p. value_of (held_at b.held.items p);
       contents = λ p. content_of (held_at b.held.items p);
       formats = λ p. format_of (held_at b.held.items p);
       widths = λ col. col % 4 + 5;
       names = b.names;
     } };
 
-    fn value(&self, cell: Cell) -> &Value {
-        value_at(self.held.as_slice(), &self.blank, cell)
+    fn value(&self, cell: Cell) -> ValueRef<'_> {
+        value_at(self.held.as_slice(), cell)
     }
 
-    fn content(&self, cell: Cell) -> Option<&Content> {
+    fn content(&self, cell: Cell) -> Option<ContentRef<'_>> {
         match held_at(self.held.as_slice(), cell) {
-            Some(held) => Some(&held.content),
+            Some(held) => Some(held.content.as_ref()),
             None => None,
         }
     }
@@ -140,6 +139,6 @@ impl Look for Block {
     }
 
     fn filled(&self, span: Span) -> Result<CellList, Memory> {
-        filled(self.alloc, self.held.as_slice(), &self.blank, span)
+        filled(self.alloc, self.held.as_slice(), span)
     }
 }

@@ -11,7 +11,6 @@ mod lines;
 
 use block::Block;
 use check_cases::check;
-use formula_tree::Value;
 use lines::names_in;
 use range_names::NameFault;
 use std::alloc::Global;
@@ -22,7 +21,6 @@ fn empty_block(alloc: Global) -> Result<Block, NameFault> {
     Ok(Block {
         held: Vec::new(alloc),
         names: names_in(alloc)?,
-        blank: Value::Blank,
         alloc,
     })
 }

@@ -5,7 +5,7 @@ ghost use Rattle.formula_tree.specs.declared.value.Value.TheVariants.{Num};
 use fixed_value::Fixed;
 use formula_eval::{Look, Means, Scene, Tally};
 use formula_text::read;
-use formula_tree::{Content, Formula, Value};
+use formula_tree::{Content, Formula, Value, ValueRef};
 use grid_address::{Cell, ROWS, cell_text};
 use lics_text::{Line, Memory};
 use serial_date::Moment;
@@ -56,9 +56,10 @@ fn calculate<R: Abort, E: Means>(rt: &R, sheet: &mut SheetOf<E>, tally: &mut E) 
 
 // The whole part of a cell's number; none where it shows no number.
 fn whole_at<E: Means>(sheet: &SheetOf<E>, cell: Cell) -> Option<i64> {
-    match sheet.value_of(cell) {
-        Some(Value::Num(number)) => Some(number.millionths() / 1_000_000),
-        _ => None,
+    let state = sheet.cells().get(cell)?;
+    match state.value() {
+        ValueRef::Num(number) => Some(number.millionths() / 1_000_000),
+        ValueRef::Blank | ValueRef::Str(_) | ValueRef::Err | ValueRef::Na => None,
     }
 }
 

@@ -7,5 +7,5 @@ use Rattle.check_values.proofs.block.filled.Goals as goal
 
 pub loop-place-preserved : goal.loop-place-preserved
 loop-place-preserved c =
-    let p : Place → Bool = λ q. is_filled (value_of c.args.blank.now (held_at c.args.held.now q)) in
+    let p : Place → Bool = λ q. is_filled (value_of (held_at c.args.held.now q)) in
     listed_row p c.loop-place.cells c.put_row.new.cells c.span-inside.inside.0.0.row c.span-inside.inside.0.0.col c.loop-place.place c.width-width.result c.loop-place.invariant c.in_ok-put_row.ensures

@@ -6,4 +6,4 @@ use Rattle.check_values.specs.Blocks.{held_at, value_of}
 use Rattle.check_values.proofs.block.filled.Given as goal
 
 abbrev pub invariant-loop-place : goal.invariant-loop-place
-invariant-loop-place l = l.cells ≡ filter (λ p. is_filled (value_of l.blank (held_at l.held p))) (block_cells l.row l.col l.place l.width)
+invariant-loop-place l = l.cells ≡ filter (λ p. is_filled (value_of (held_at l.held p))) (block_cells l.row l.col l.place l.width)

@@ -8,7 +8,7 @@ use Rattle.check_values.proofs.block.put_row.Goals.{then-is_filled+in_ok-push, e
 
 pub loop-place-preserved : goal.loop-place-preserved
 loop-place-preserved c =
-    let p : Place → Bool = λ q. is_filled (value_of c.args.blank.now (held_at c.args.held.now q)) in
+    let p : Place → Bool = λ q. is_filled (value_of (held_at c.args.held.now q)) in
     let cell : Place = c.cell_in-cell.result in
     let is : cell ≡ record { row = c.args.row; col = c.args.first + c.loop-place.place } = λ i. record { row = c.cell_in-cell.ensures.row i; col = c.cell_in-cell.ensures.col i } in
     let test : p cell ≡ c.is_filled.result = sym (c.is_filled.ensures ∙ ap is_filled c.value_at.ensures) in

@@ -6,4 +6,4 @@ use Rattle.check_values.specs.Blocks.{held_at, value_of}
 use Rattle.check_values.proofs.block.put_row.Given as goal
 
 abbrev pub invariant-loop-place : goal.invariant-loop-place
-invariant-loop-place l = l.cells ≡ l.fn.cells ++ filter (λ p. is_filled (value_of l.blank (held_at l.held p))) (row_cells l.row l.first l.place)
+invariant-loop-place l = l.cells ≡ l.fn.cells ++ filter (λ p. is_filled (value_of (held_at l.held p))) (row_cells l.row l.first l.place)
