@@ -168,40 +168,6 @@ fn text_value(text: &Text) -> Result<Value, Memory>
     Ok(Value::Str(text.copy()?))
 }
 
-// The value of a part with a minus in front.
-#[cycle(value)]
-fn negated_value<D: Databases, K: Look>(
-    alloc: Global,
-    databases: &D,
-    inner: &Expr,
-    at: Cell,
-    look: &K,
-    scene: &Scene,
-) -> Result<Value, Memory>
-    ensures { let w = outlook_of (K.sight look.now) scene.entry.now in
-        IfOk result (λ v. v ≡ negated (value_by D.answers (tree_of inner.now) at w)) }
-{
-    let value = value_of(alloc, databases, inner, at, look, scene)?;
-    Ok(negated(&value))
-}
-
-// The value of a part with #NOT# in front.
-#[cycle(value)]
-fn denied_value<D: Databases, K: Look>(
-    alloc: Global,
-    databases: &D,
-    inner: &Expr,
-    at: Cell,
-    look: &K,
-    scene: &Scene,
-) -> Result<Value, Memory>
-    ensures { let w = outlook_of (K.sight look.now) scene.entry.now in
-        IfOk result (λ v. v ≡ denied (value_by D.answers (tree_of inner.now) at w)) }
-{
-    let value = value_of(alloc, databases, inner, at, look, scene)?;
-    Ok(denied(&value))
-}
-
 // The value of two parts with an operator between them.
 #[cycle(value)]
 fn binary_value<D: Databases, K: Look>(
@@ -242,8 +208,14 @@ fn value_of<D: Databases, K: Look>(
         Expr::Cell(reference) => look.value(reference.resolve(at)).copy(),
         Expr::Span(_, _) => Ok(Value::Err),
         Expr::Group(inner) => value_of(alloc, databases, inner, at, look, scene),
-        Expr::Neg(inner) => negated_value(alloc, databases, inner, at, look, scene),
-        Expr::Not(inner) => denied_value(alloc, databases, inner, at, look, scene),
+        Expr::Neg(inner) => {
+            let value = value_of(alloc, databases, inner, at, look, scene)?;
+            Ok(negated(&value))
+        }
+        Expr::Not(inner) => {
+            let value = value_of(alloc, databases, inner, at, look, scene)?;
+            Ok(denied(&value))
+        }
         Expr::Binary(op, left, right) => binary_value(
             alloc, databases, *op, left, right, at, look, scene,
         ),

@@ -23,12 +23,6 @@ decreases-arguments_of g l = 5 * all_nodes (listed (map tree_of l.exprs.now)) + 
 abbrev pub decreases-chosen : goal.decreases-chosen
 decreases-chosen g l = 5 * all_nodes (listed (map tree_of l.exprs.now)) + 2
 
-abbrev pub decreases-negated_value : goal.decreases-negated_value
-decreases-negated_value g l = 5 * nodes (tree_of l.inner.now) + 1
-
-abbrev pub decreases-denied_value : goal.decreases-denied_value
-decreases-denied_value g l = 5 * nodes (tree_of l.inner.now) + 1
-
 abbrev pub decreases-binary_value : goal.decreases-binary_value
 decreases-binary_value g l = 5 * (nodes (tree_of l.left.now) + nodes (tree_of l.right.now)) + 1
 
