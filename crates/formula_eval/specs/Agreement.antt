@@ -2,7 +2,7 @@
 use Rattle.std.specs.Prelude.{◌≡◌, ℕ, zero, suc, ◌+◌, ◌≤◌, ◌<◌, ◌&&◌, ◌||◌, nat_lt, refl, Bool, true, false, cond, List, [], ◌∷◌, ◌++◌}
 use Rattle.std.specs.List.{filter, list_all, list_any}
 use Rattle.std.proofs.Common.{ap, sym, ◌∙◌, arith, inl, inr}
-use Rattle.std.proofs.lemmas.Bool.{cases_Bool}
+use Rattle.std.proofs.lemmas.Bool.{and_from, and_parts, cases_Bool}
 use Rattle.std.proofs.lemmas.Bool.Decides.{nat_tests}
 use Rattle.grid_address.specs.Place.{height_of, is_within, spanned, width_of, Extent, Place}
 use Rattle.formula_tree.specs.declared.value.Value.{Value}
@@ -30,21 +30,12 @@ AgreeIn o v w = (p : Place) → in_operand o p ≡ true → v p ≡ w p
 pub within_itself : (p : Place) → is_within (spanned p p) p ≡ true
 within_itself p = grind (arith, nat_tests)
 
-pair : (a b : Bool) → a ≡ true → b ≡ true → (a && b) ≡ true
-pair a b h g = grind arith
-
-left : (a b : Bool) → (a && b) ≡ true → a ≡ true
-left a b h = grind arith
-
-right : (a b : Bool) → (a && b) ≡ true → b ≡ true
-right a b h = grind arith
-
 all_two : {X : Type 0} (p : X → Bool) (xs ys : List X) → list_all p xs ≡ true → list_all p ys ≡ true →
     list_all p (xs ++ ys) ≡ true
 all_two p [] ys h g = g
 all_two p (x ∷ xs) ys h g =
-    pair (p x) (list_all p (xs ++ ys)) (left (p x) (list_all p xs) h)
-    (all_two p xs ys (right (p x) (list_all p xs) h) g)
+    and_from (p x) (list_all p (xs ++ ys)) (and_parts (p x) (list_all p xs) h).0
+    (all_two p xs ys (and_parts (p x) (list_all p xs) h).1 g)
 
 inside : (s : Extent) (row col : ℕ) → s.first.row ≤ row → row ≤ s.last.row → s.first.col ≤ col → col ≤ s.last.col →
     is_within s (record { row = row; col = col }) ≡ true
@@ -54,7 +45,7 @@ row_inside : (s : Extent) (row col count : ℕ) → s.first.row ≤ row → row 
     col + count ≤ s.last.col + 1 → list_all (is_within s) (row_cells row col count) ≡ true
 row_inside s row col zero a b c d = refl
 row_inside s row col (suc count) a b c d =
-    pair (is_within s (record { row = row; col = col })) _ (inside s row col a b c (omega (arith, d)))
+    and_from (is_within s (record { row = row; col = col })) _ (inside s row col a b c (omega (arith, d)))
     (row_inside s row (col + 1) count a b (omega (arith, c)) (omega (arith, d)))
 
 block_inside : (s : Extent) (row col rows cols : ℕ) → s.first.row ≤ row → row + rows ≤ s.last.row + 1 →
@@ -93,9 +84,9 @@ same_items : (s : Extent) (v w : Place → Value) (ps : List Place) → Agree s 
     items_in v (filter (λ p. is_filled (v p)) ps) ≡ items_in w (filter (λ p. is_filled (w p)) ps)
 same_items s v w [] agree h = refl
 same_items s v w (p ∷ ps) agree h =
-    let here : v p ≡ w p = agree p (left (is_within s p) (list_all (is_within s) ps) h) in
+    let here : v p ≡ w p = agree p (and_parts (is_within s p) (list_all (is_within s) ps) h).0 in
     let more : items_in v (filter (λ p. is_filled (v p)) ps) ≡ items_in w (filter (λ p. is_filled (w p)) ps) =
-    same_items s v w ps agree (right (is_within s p) (list_all (is_within s) ps) h) in
+    same_items s v w ps agree (and_parts (is_within s p) (list_all (is_within s) ps) h).1 in
     split v (is_filled (v p)) p (filter (λ p. is_filled (v p)) ps)
     ∙ (λ i. cond (is_filled (here i)) (in_range (here i) ++ more i) (more i))
     ∙ sym (split w (is_filled (w p)) p (filter (λ p. is_filled (w p)) ps))
