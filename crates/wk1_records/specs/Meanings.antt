@@ -5,6 +5,7 @@ use Rattle.std.specs.Prelude.{ℕ, ℤ, ◌+◌, ◌/◌, ◌%◌, ◌^◌, Bool
 use Rattle.fixed_value.specs.Doubles.{double_of}
 use Rattle.fixed_value.specs.declared.doubles.DoubleRead.{DoubleRead}
 use Rattle.fixed_value.specs.declared.doubles.DoubleRead.TheVariants as double
+use Rattle.grid_address.specs.declared.TheConstants.{COLUMNS, ROWS}
 use Rattle.grid_address.specs.Place.{Place}
 use Rattle.formula_tree.specs.Ranges.{is_text}
 use Rattle.formula_tree.specs.Tree.{call, no_trees, Tree}
@@ -18,6 +19,7 @@ use Rattle.sheet_store.specs.Choices.{is_global_prefix}
 use Rattle.sheet_store.specs.declared.order.Order.{Order}
 use Rattle.sheet_store.specs.declared.order.Order.TheVariants.{Natural, Columnwise, Rowwise}
 use Rattle.sheet_store.specs.State.{CellState}
+use Rattle.sheet_store.specs.declared.own_width.TheConstants.{MOST_WIDTH}
 use Rattle.wk1_formula.specs.Reading.{before_zero, short_at, short_value}
 use Rattle.wk1_formula.specs.Stack.{tree_in}
 use Rattle.wk1_formula.specs.declared.fault.CodeFault.{CodeFault}
@@ -46,7 +48,7 @@ place_at at body = record { row = short_at (at + 2) body; col = short_at at body
 
 -- whether a cell is in the sheet
 abbrev pub is_inside : Place → Bool
-is_inside p = nat_lt p.row 8192 && nat_lt p.col 256
+is_inside p = nat_lt p.row ROWS && nat_lt p.col COLUMNS
 
 -- the cell of a head, which begins with the format byte
 abbrev pub cell_of : List ℕ → Place
@@ -132,9 +134,9 @@ order_of b =
 abbrev pub pointer_of : Place → Place
 pointer_of p = if is_inside p then p else record { row = 0; col = 0 }
 
--- a width of 1 to 240
+-- a column's width
 abbrev pub is_width : ℕ → Bool
-is_width n = nat_le 1 n && nat_le n 240
+is_width n = nat_le 1 n && nat_le n MOST_WIDTH
 
 -- the global width, which is 9 where it is none
 abbrev pub window_width : List ℕ → ℕ
@@ -147,16 +149,16 @@ window_entry body = entry.Window (pointer_of (place_at 0 body)) (record { 0 = by
 -- the own width of a column, if both are such
 abbrev pub width_entry : List ℕ → Entry
 width_entry body =
-    if nat_lt (short_at 0 body) 256 && is_width (byte_at 2 body) then entry.Width (short_at 0 body) (byte_at 2 body)
+    if nat_lt (short_at 0 body) COLUMNS && is_width (byte_at 2 body) then entry.Width (short_at 0 body) (byte_at 2 body)
     else entry.Nothing
 
 -- each bit of 32 bytes is a column, the lowest first
 abbrev pub bit_at : List ℕ → ℕ → Bool
 bit_at body c = byte_at (c / 8) body / 2 ^ (c % 8) % 2 == 1
 
--- whether each of the 256 columns is hidden
+-- whether each column is hidden
 unfoldable pub bits_in : List ℕ → List Bool
-bits_in body = map (bit_at body) (range_with_len 0 256)
+bits_in body = map (bit_at body) (range_with_len 0 COLUMNS)
 
 -- a span whose corners are in the sheet and in order
 abbrev pub is_span : Place → Place → Bool

@@ -1,5 +1,5 @@
 // What the record of a name says, and that of hidden columns.
-ghost use Rattle.std.specs.Prelude.{◌≡◌, ◌≤◌, ◌<◌, ◌^◌, None, length, take};
+ghost use Rattle.std.specs.Prelude.{◌≡◌, ◌≤◌, ◌<◌, None, length, take};
 ghost use Rattle.range_names.specs.Names.{fault_of};
 ghost use Rattle.wk1_formula.specs.Reading.{before_zero};
 ghost use Rattle.wk1_records.specs.Answers.{Gives};
@@ -8,6 +8,7 @@ ghost use Rattle.wk1_records.specs.Meanings.{bit_at, bits_in, if_name, name_entr
 use crate::said::span_at;
 use crate::{Entry, Wk1Fault};
 use byte_list::ByteList;
+use grid_address::COLUMNS;
 use range_names::fault_of;
 use wk1_formula::before_zero;
 
@@ -54,22 +55,13 @@ pub fn name_in(body: &[u8], number: u32) -> Result<Entry, Wk1Fault>
     }
 }
 
-// A power of two.
-fn two_to(exponent: u32) -> u8
-    requires { exponent ≤ 7 }
-    ensures power { result ≡ 2 ^ exponent }
-    ensures least { 1 ≤ result }
-{
-    2u8.pow(exponent)
-}
-
 // The bit of a column.
 fn bit_at(body: &[u8], col: usize) -> bool
     requires length { 32 ≤ length body.now }
-    requires col { col < 256 }
+    requires col { col < COLUMNS }
     ensures { result ≡ bit_at body.now col }
 {
-    body[col / 8] / two_to((col % 8) as u32) % 2 == 1
+    (body[col / 8] >> (col % 8)) % 2 == 1
 }
 
 // Sets the mark of each column.

@@ -17,14 +17,11 @@ ghost use Rattle.wk1_records.specs.declared.entry.Entry.TheVariants as entry;
 use crate::{Entry, ReadCodes, Wk1Fault};
 use fixed_value::{DoubleRead, Fixed, from_double_bits};
 use formula_tree::{Expr, ExprList, Formula, Function, Value};
-use grid_address::{Cell, Format, ROWS, Span};
+use grid_address::{COLUMNS, Cell, Format, ROWS, Span};
 use lics_text::{LabelPrefix, Memory, Text};
 use sheet_store::{CellState, MOST_WIDTH};
 use std::alloc::Global;
 use wk1_formula::{CodeFault, before_zero, bytes_from, first_long, is_text, short_at, short_value};
-
-/// How many columns the sheet has.
-const COLUMNS: u16 = 256;
 
 /// The width of the columns where a file tells none.
 const DEFAULT_WIDTH: u8 = 9;
