@@ -7,8 +7,8 @@ ghost use Rattle.cell_format.specs.Numbers.{at_right};
 use crate::push::{fill, push};
 use lics_text::{LabelPrefix, Line, MAX_LEN};
 
-// Bytes from 127 on are shown as a question mark.
-fn mask(byte: u8) -> u8
+/// A byte as it is shown and printed: those from 127 on are question marks (this project's choice).
+pub fn mask(byte: u8) -> u8
     ensures { result ≡ masked byte }
 {
     if byte > b'~' { b'?' } else { byte }

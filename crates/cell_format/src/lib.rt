@@ -10,7 +10,7 @@ mod push;
 mod shape;
 
 pub use indicators::indicator;
-pub use labels::show_label;
+pub use labels::{mask, show_label};
 pub use numbers::show_number;
 pub use plain::put_plain;
 pub use shape::{DateForm, Shape, shape_of};
