@@ -32,7 +32,7 @@ fn put_padded(text: &[u8], width: u8, into: &mut Line)
     ensures { into.new ≡ padded width text.now }
 {
     let width = usize::from(width);
-    let shown = text.len().min(width);
+    let shown = width.min(text.len());
     into.put_all(&text[..shown]);
     put_blanks(width - shown, into);
 }
