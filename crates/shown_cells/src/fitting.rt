@@ -78,7 +78,7 @@ fn put_printed(formula: &Formula, cell: Cell, names: &Names, width: u8, into: &m
     let mut text = Line::new();
     let _ = print(formula, cell, names, &mut text);
     let bytes = text.bytes();
-    into.put_all(&bytes[..bytes.len().min(usize::from(width))]);
+    into.put_all(&bytes[..usize::from(width).min(bytes.len())]);
 }
 
 /// Puts what fits a column of that width into an empty line.
