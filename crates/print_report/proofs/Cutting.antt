@@ -1,33 +1,15 @@
 -- Texts that are cut and filled.
 use Rattle.std.proofs.Common.{◌≡◌, ℕ, ◌-◌, ◌≤◌, List, [], ◌++◌, length, take, drop, replicate, refl, ap, sym, ◌∙◌, arith, inl, inr, append_assoc}
 use Rattle.std.specs.Prelude.{min}
-use Rattle.std.proofs.lemmas.Bool.{cases_lt}
-use Rattle.std.proofs.lemmas.List.{drop_all, length-drop, take-replicate, take_all}
+use Rattle.std.proofs.lemmas.List.{drop_all, length-drop, take-replicate, take_all, take_min}
 use Rattle.shown_cells.specs.Cells.{padded}
 
--- a front that is cut at the text's end
-pub take_least : (n : ℕ) (xs : List ℕ) → take (min (length xs) n) xs ≡ take n xs
-take_least n xs = elim (cases_lt n (length xs)) [
-  | inl less ↦ (let k : min (length xs) n ≡ n = omega arith in rw k refl)
-  | inr more ↦
-      let k : min (length xs) n ≡ length xs = omega arith in
-      rw k (take_all (length xs) xs (omega arith) ∙ sym (take_all n xs more))
-]
-
-pub drop_least : (n : ℕ) (xs : List ℕ) → drop (min (length xs) n) xs ≡ drop n xs
-drop_least n xs = elim (cases_lt n (length xs)) [
-  | inl less ↦ (let k : min (length xs) n ≡ n = omega arith in rw k refl)
-  | inr more ↦
-      let k : min (length xs) n ≡ length xs = omega arith in
-      rw k (drop_all (length xs) xs (omega arith) ∙ sym (drop_all n xs more))
-]
-
 -- a text is added, and filled with blanks
-pub text_added : (row text : List ℕ) (width shown : ℕ) → shown ≡ min (length text) width → width ≤ 240 → (row ++ take shown text) ++ take {A = ℕ} (width - shown) (replicate 240 32) ≡ row ++ padded width text
+pub text_added : (row text : List ℕ) (width shown : ℕ) → shown ≡ min width (length text) → width ≤ 240 → (row ++ take shown text) ++ take {A = ℕ} (width - shown) (replicate 240 32) ≡ row ++ padded width text
 text_added row text width shown is narrow =
     let blanks : width - shown ≡ width - length text = omega arith in
     append_assoc row (take shown text) (take (width - shown) (replicate 240 32))
-    ∙ ap (λ (l : List ℕ). row ++ (l ++ take (width - shown) (replicate 240 32))) (ap (λ (k : ℕ). take k text) is ∙ take_least width text)
+    ∙ ap (λ (l : List ℕ). row ++ (l ++ take (width - shown) (replicate 240 32))) (ap (λ (k : ℕ). take k text) is ∙ take_min width text)
     ∙ ap (λ (l : List ℕ). row ++ (take width text ++ l)) (take-replicate (width - shown) 240 32 (omega arith) ∙ ap (λ (k : ℕ). replicate k 32) blanks)
 
 -- a text that fills a width leaves nothing

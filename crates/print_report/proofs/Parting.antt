@@ -2,10 +2,9 @@
 use Rattle.std.proofs.Common.{◌≡◌, ℕ, suc, ◌+◌, ◌-◌, ◌≤◌, ◌<◌, List, [], ◌∷◌, ◌++◌, Option, length, take, drop, get_or, ap, sym, ◌∙◌, arith, inl, inr, append_assoc}
 use Rattle.std.specs.Prelude.{min}
 use Rattle.std.proofs.lemmas.Bool.{cases_lt}
-use Rattle.std.proofs.lemmas.List.{append-nil, drop_all, length-take, take-append-le, take-take, take_all}
+use Rattle.std.proofs.lemmas.List.{append-nil, drop_all, length-take, take-append-le, take-take, take_all, take_min}
 use Rattle.std.proofs.Math.Seq.{drop-cons}
 use Rattle.print_report.specs.Running.{filled, filled_in, part}
-use Rattle.print_report.proofs.Cutting.{take_least}
 
 take_past : (xs ys : List ℕ) (n : ℕ) → take (length xs + n) (xs ++ ys) ≡ xs ++ take n ys
 take_past [] ys n = ap (λ (k : ℕ). take k ys) (omega arith)
@@ -32,9 +31,9 @@ cut_twice n xs ys =
     ∙ sym (take-append n xs ys)
 
 -- as much of a text as there is room for
-pub room_filled : (old text : List ℕ) (width k : ℕ) → length old ≤ width → k ≡ min (length text) (width - length old) → old ++ take k text ≡ take width (old ++ text)
+pub room_filled : (old text : List ℕ) (width k : ℕ) → length old ≤ width → k ≡ min (width - length old) (length text) → old ++ take k text ≡ take width (old ++ text)
 room_filled old text width k within is =
-    ap (λ (n : ℕ). old ++ take n text) is ∙ ap (λ (l : List ℕ). old ++ l) (take_least (width - length old) text)
+    ap (λ (n : ℕ). old ++ take n text) is ∙ ap (λ (l : List ℕ). old ++ l) (take_min (width - length old) text)
     ∙ ap (λ (l : List ℕ). l ++ take (width - length old) text) (sym (take_all width old within)) ∙ sym (take-append width old text)
 
 -- one byte of a text more

@@ -24,7 +24,7 @@ fn add_text<'a>(row: &mut Row, text: &'a [u8], width: u8) -> &'a [u8]
     ensures rest { result.now ≡ drop width text.now }
 {
     let width = usize::from(width);
-    let shown = text.len().min(width);
+    let shown = width.min(text.len());
     row.put_all(&text[..shown]);
     row.put_all(&BLANKS[..width - shown]);
     &text[shown..]

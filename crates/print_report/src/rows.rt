@@ -9,6 +9,7 @@ use crate::bands::width_in;
 use crate::cells::{Row, add_cell};
 use crate::job::Job;
 use crate::lines::{put_line, put_line_end};
+use cell_format::mask;
 use grid_address::{Cell, ROWS};
 use lics_text::Memory;
 use outside_world::ByteBuffer;
@@ -35,13 +36,6 @@ fn beside(saved: &SavedSheet, row: u16, band: &[u8]) -> Row
     line
 }
 
-// Bytes from 127 on are shown as a question mark.
-fn mask(byte: u8) -> u8
-    ensures { result ≡ masked byte }
-{
-    if byte > b'~' { b'?' } else { byte }
-}
-
 // The bytes as they are printed.
 fn masked(bytes: &[u8]) -> Row
     requires { length bytes.now ≤ 255 }
@@ -59,7 +53,7 @@ fn cut(bytes: &[u8], width: usize) -> &[u8]
     ensures cut { result.now ≡ take width bytes.now }
     ensures size { length result.now ≤ length bytes.now }
 {
-    bytes.split_at(bytes.len().min(width)).0
+    bytes.split_at(width.min(bytes.len())).0
 }
 
 // A row's line.

@@ -78,7 +78,7 @@ fn add(part: &mut Part, width: usize, bytes: &[u8])
     ensures { part.new ≡ take width (part.old ++ bytes.now) }
 {
     let room = width - part.bytes().len();
-    part.put_all(bytes.split_at(bytes.len().min(room)).0);
+    part.put_all(bytes.split_at(room.min(bytes.len())).0);
 }
 
 // Adds a byte, or what it stands for.
