@@ -2,6 +2,7 @@
 use Rattle.std.specs.Prelude.{ℕ, ◌+◌, ◌||◌, ◌&&◌, ◌==◌, not, ℤ, pos, Bool, true, Option, None, Some, List, [], ◌∷◌, map, Result, Ok, Err, if◌then◌else◌}
 use Rattle.std.specs.Int.RustNames.{int_lt}
 use Rattle.std.specs.List.{count_by, flat_map, zip}
+use Rattle.grid_address.specs.declared.TheConstants.{LAST_COLUMN, LAST_ROW}
 use Rattle.grid_address.specs.Place.{height_of, Extent, Place}
 use Rattle.formula_tree.specs.declared.value.Value.{Value}
 use Rattle.formula_tree.specs.declared.value.Value.TheVariants as value
@@ -67,7 +68,7 @@ distributed sight values bins =
 
 -- the last column and the last row leave no room for the counts
 abbrev pub has_no_room : Extent → Bool
-has_no_room bins = bins.first.col == 255 || bins.last.row == 8191
+has_no_room bins = bins.first.col == LAST_COLUMN || bins.last.row == LAST_ROW
 
 -- what a distribution writes, where there is room for it
 abbrev pub distribution : Sight → Extent → Extent → Result (List Write) BlockFault

@@ -16,14 +16,11 @@ use block_writes::{content_of, written};
 use fixed_value::Fixed;
 use formula_eval::Look;
 use formula_tree::ValueRef;
-use grid_address::{Cell, LAST_ROW, Span};
+use grid_address::{Cell, LAST_COLUMN, LAST_ROW, Span};
 use lics_text::Memory;
 use sheet_store::{SheetFault, Write, Writes};
 use std::alloc::Global;
 use value_functions::counted;
-
-// The last column of a sheet.
-const LAST_COLUMN: u8 = 255;
 
 // A value that is a number counts.
 fn put_number(numbers: &mut Vec<Fixed>, value: &ValueRef<'_>) -> Result<(), Memory>
