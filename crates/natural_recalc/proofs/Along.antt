@@ -4,7 +4,7 @@ use Rattle.std.specs.FinMap.{get}
 use Rattle.std.specs.List.{filter}
 use Rattle.std.specs.Option.{is_some}
 use Rattle.std.proofs.Common.{sym, ◌∙◌, ap, subst, refl, inl, inr, arith}
-use Rattle.std.proofs.lemmas.Bool.{true≢false, false≢true, cases_Bool, false_from_ne_true, or_cases, or_left, or_right}
+use Rattle.std.proofs.lemmas.Bool.{and_parts, true≢false, false≢true, cases_Bool, false_from_ne_true, or_cases, or_left, or_right}
 use Rattle.grid_address.proofs.Places.{same_place_is, same_place_itself, same_places}
 use Rattle.grid_address.specs.Place.{same_place, Place}
 use Rattle.formula_tree.specs.Spans.{is_volatile, spans_of}
@@ -44,13 +44,8 @@ abbrev place_in : List Place → Place → ℕ
 place_in [] c = 0
 place_in (x ∷ xs) c = cond (same_place c x) 0 (suc (place_in xs c))
 
-both_of : (x y : Bool) → (x && y) ≡ true → (x ≡ true) × (y ≡ true)
-both_of true true h = (refl, refl)
-both_of true false h = absurd (false≢true h)
-both_of false y h = absurd (false≢true h)
-
 read_held : (g : Grid) (c d : Place) → has same_place (pre g c) d ≡ true → (is_formula_at g d ≡ true) × (hold (spans_at g c) d ≡ true)
-read_held g c d m = both_of (is_formula_at g d) (hold (spans_at g c) d) (sym (has_pre g c d) ∙ m)
+read_held g c d m = and_parts (is_formula_at g d) (hold (spans_at g c) d) (sym (has_pre g c d) ∙ m)
 
 rest_has : (x : Place) (xs : List Place) (c : Place) → same_place c x ≡ false → has same_place (x ∷ xs) c ≡ true → has same_place xs c ≡ true
 rest_has x xs c f m = elim (or_cases (same_place c x) (has same_place xs c) m) [ inl h ↦ absurd (true≢false (sym h ∙ f)) | inr h ↦ h ]

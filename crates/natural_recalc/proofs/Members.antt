@@ -44,8 +44,4 @@ pub pre_of_read : (g : Grid) (c d : Place) → hold (spans_at g c) d ≡ true �
 pre_of_read g c d m k = has_pre g c d ∙ and_from _ _ k m
 
 pub pre_formulas : (g : Grid) (c d : Place) → has same_place (pre g c) d ≡ true → has same_place (formulas g) d ≡ true
-pre_formulas g c d h = has_formula g d ∙ first (is_formula_at g d) (hold (spans_at g c) d) (sym (has_pre g c d) ∙ h)
-  where
-    first : (x y : Bool) → (x && y) ≡ true → x ≡ true
-    first true y k = refl
-    first false y k = k
+pre_formulas g c d h = has_formula g d ∙ (and_parts _ _ (sym (has_pre g c d) ∙ h)).0

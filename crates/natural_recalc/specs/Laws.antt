@@ -8,7 +8,7 @@ use Rattle.std.specs.List.Sorted.{IsStrictlySortedBy}
 use Rattle.std.specs.Map.{keys_of, lookup}
 use Rattle.std.specs.declared.cmp.Ordering.TheVariants.{Less, Equal}
 use Rattle.std.proofs.Common.{sym, ◌∙◌, ap, subst, inl, inr}
-use Rattle.std.proofs.lemmas.Bool.{cases_Bool, false_from_ne_true}
+use Rattle.std.proofs.lemmas.Bool.{and_parts, cases_Bool, false_from_ne_true}
 use Rattle.std.proofs.lemmas.Cmp.{tied_itself}
 use Rattle.std.proofs.lemmas.List.Folds.{list_any-append}
 use Rattle.grid_address.proofs.Maps.{get_lookup, in_order}
@@ -156,9 +156,5 @@ pub told_formulas : (g : Grid) (ss : List Extent) (p : Place → Bool) (d : Plac
     has same_place (filter p (formulas_in g ss)) d ≡ true → has same_place (formulas g) d ≡ true
 told_formulas g ss p d h =
     has_formula g d
-    ∙ first (is_formula_at g d) (hold ss d)
-    (sym (has_in g ss d) ∙ filter_in same_place same_place_is p (formulas_in g ss) d h)
-  where
-    first : (x y : Bool) → (x && y) ≡ true → x ≡ true
-    first true y k = refl
-    first false y k = k
+    ∙ (and_parts (is_formula_at g d) (hold ss d)
+    (sym (has_in g ss d) ∙ filter_in same_place same_place_is p (formulas_in g ss) d h)).0
