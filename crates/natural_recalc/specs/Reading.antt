@@ -3,6 +3,7 @@ use Rattle.std.specs.Prelude.{ℕ, zero, suc, ◌≡◌, ◌+◌, Bool, true, fa
 use Rattle.std.specs.List.{filter}
 use Rattle.std.specs.Option.{is_some}
 use Rattle.std.specs.FinMap as map
+use Rattle.grid_address.specs.declared.TheConstants.{COLUMNS}
 use Rattle.grid_address.specs.Place.{same_place, Extent, Place}
 use Rattle.formula_tree.specs.Spans.{is_volatile, spans_of}
 use Rattle.formula_tree.specs.Tree.{Tree}
@@ -74,7 +75,7 @@ of_columns (suc count) col cells = filter (λ (c : Place). nat_eq c.col col) cel
 
 -- cells in row order, by column and then by row
 abbrev pub by_columns : List Place → List Place
-by_columns cells = of_columns 256 0 cells
+by_columns cells = of_columns COLUMNS 0 cells
 
 -- each formula after those that it reads, as far as circles allow
 abbrev pub natural_order : Grid → Walked Place

@@ -5,7 +5,7 @@ ghost use Rattle.grid_address.specs.Place.{same_place, InSheet, Place};
 ghost use Rattle.cell_numbers.specs.Sets.{has};
 ghost use Rattle.natural_recalc.specs.Reading.{by_columns};
 
-use grid_address::Cell;
+use grid_address::{COLUMNS, Cell};
 use lics_text::Memory;
 use std::alloc::Global;
 
@@ -37,7 +37,7 @@ pub fn by_columns(alloc: Global, cells: &[Cell]) -> Result<Vec<Cell>, Memory>
 {
     are_on_sheet(cells);
     let mut list = Vec::new(alloc);
-    for col in 0..256 {
+    for col in 0..COLUMNS {
         add_column(&mut list, cells, col)?;
     }
     Ok(list)
