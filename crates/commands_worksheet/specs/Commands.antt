@@ -21,6 +21,7 @@ use Rattle.sheet_shifts.specs.declared.shift.Shift.TheVariants.{Lines}
 use Rattle.sheet_store.specs.Choices.{Choices}
 use Rattle.sheet_store.specs.Grid.{set_hidden_of, Grid}
 use Rattle.sheet_store.specs.declared.order.Order.TheVariants as order
+use Rattle.sheet_store.specs.declared.own_width.TheConstants.{MOST_WIDTH}
 use Rattle.work_sheet.specs.Doing.{quiet, Done}
 use Rattle.work_sheet.specs.Editing.{reordered, restored, with_settings, with_width}
 use Rattle.work_sheet.specs.Seen.{fresh_sheet, Sheet}
@@ -88,7 +89,7 @@ hides hidden answers s = given (span_at s.names answers 0) (λ span. finished (h
 
 -- a width of a column
 abbrev pub IsWidth : ℕ → Type 0
-IsWidth n = (1 ≤ n) × (n ≤ 240)
+IsWidth n = (1 ≤ n) × (n ≤ MOST_WIDTH)
 
 -- the pointer's column has a width of its own, or none
 abbrev pub widened : Option ℕ → Sheet → Acted
