@@ -2,7 +2,7 @@
 use Rattle.std.specs.Prelude.{◌≡◌, refl, ◌&&◌, is_none, nat_eq, not, Bool, true, false, cond, List, [], ◌∷◌, map, Option, None, Some}
 use Rattle.std.specs.FinMap.{get}
 use Rattle.std.proofs.Common.{ap, sym, ◌∙◌, inl, inr}
-use Rattle.std.proofs.lemmas.Bool.{cases_Bool, false≢true, or_cases, or_left, or_right, true≢false}
+use Rattle.std.proofs.lemmas.Bool.{and_parts, cases_Bool, false≢true, or_cases, or_left, or_right, true≢false}
 use Rattle.block_writes.specs.Writing.{content_or_blank, written}
 use Rattle.commands_table.specs.Benched.{contents_behind, keep_formats, on_bench, IsSameBut}
 use Rattle.commands_table.specs.Trying.{content_at}
@@ -66,15 +66,11 @@ no_format : (o : Option Format) → is_none o ≡ true → o ≡ None
 no_format None h = refl
 no_format (Some f) h = absurd (false≢true h)
 
-both_hold : (a b : Bool) → (a && b) ≡ true → (a ≡ true) × (b ≡ true)
-both_hold true b h = (refl, h)
-both_hold false b h = absurd (false≢true h)
-
 -- the formats behind writes that leave them
 pub formats_written : (ws : List Write) (g : Grid) (p : Place) → keep_formats ws ≡ true → format_of (get (written_all g ws).cells p) ≡ format_of (get g.cells p)
 formats_written [] g p k = refl
 formats_written (w ∷ ws) g p k =
-    let both = both_hold (is_none w.format) (keep_formats ws) k in
+    let both = and_parts (is_none w.format) (keep_formats ws) k in
     formats_written ws (written_by g w) p both.1
     ∙ format_put g w.cell (write_state w (get g.cells w.cell)) p (ap (λ f. (given_format f (get g.cells w.cell)).0) (no_format w.format both.0))
 
