@@ -2,6 +2,7 @@
 use Rattle.std.specs.Prelude.{ℕ, zero, suc, ◌+◌, ◌-◌, min, max, Bool, not, false, ◌&&◌, List, [], ◌∷◌, map, Option, Some, None, if◌then◌else◌}
 use Rattle.std.specs.FinMap as finite
 use Rattle.std.specs.List.{range_with_len}
+use Rattle.grid_address.specs.declared.TheConstants.{LAST_COLUMN, LAST_ROW}
 use Rattle.grid_address.specs.Place.{Place}
 use Rattle.sheet_store.specs.Grid.{is_blank, last_used, Grid}
 use Rattle.sheet_store.specs.State.{CellState}
@@ -9,7 +10,7 @@ use Rattle.cell_pointer.specs.declared.way.Arrow.{Arrow}
 use Rattle.cell_pointer.specs.declared.way.Arrow.TheVariants.{Up, Down, Left, Right}
 use Rattle.cell_pointer.specs.declared.way.Way.{Way}
 use Rattle.cell_pointer.specs.declared.way.Way.TheVariants.{Stay, Step, Run, PageUp, PageDown, WindowLeft, WindowRight, Home, LastUsed}
-use Rattle.cell_pointer.specs.Steps.{last_column, last_row, stepped}
+use Rattle.cell_pointer.specs.Steps.{stepped}
 
 -- A1, where HOME leads
 abbrev pub home : Place
@@ -44,9 +45,9 @@ in_column col rows = map (λ r. record { row = r; col = col }) rows
 -- the cells from the next one to the edge, hidden columns among them
 abbrev pub ahead : Arrow → Place → List Place
 ahead Up p = in_column p.col (down_from p.row)
-ahead Down p = in_column p.col (range_with_len (p.row + 1) (last_row - p.row))
+ahead Down p = in_column p.col (range_with_len (p.row + 1) (LAST_ROW - p.row))
 ahead Left p = in_row p.row (down_from p.col)
-ahead Right p = in_row p.row (range_with_len (p.col + 1) (last_column - p.col))
+ahead Right p = in_row p.row (range_with_len (p.col + 1) (LAST_COLUMN - p.col))
 
 -- the last cell of a filled run
 unfoldable pub run_end : Grid → Place → List Place → Place
@@ -79,7 +80,7 @@ moved Stay shown g p = p
 moved (Step arrow) shown g p = stepped arrow g p
 moved (Run arrow) shown g p = run_from g p (ahead arrow p)
 moved PageUp shown g p = record p { row = p.row - page }
-moved PageDown shown g p = record p { row = min (p.row + page) last_row }
+moved PageDown shown g p = record p { row = min (p.row + page) LAST_ROW }
 moved WindowLeft shown g p = stepped_times (max 1 shown) Left g p
 moved WindowRight shown g p = stepped_times (max 1 shown) Right g p
 moved Home shown g p = home

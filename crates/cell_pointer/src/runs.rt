@@ -3,7 +3,7 @@ ghost use Rattle.std.specs.Prelude.{◌≡◌, ◌∷◌, [], IfNone, IfSome};
 ghost use Rattle.cell_pointer.specs.Moves.{ahead, is_filled, next_filled, run_end, run_from};
 
 use crate::Arrow;
-use grid_address::{Cell, LAST_ROW};
+use grid_address::{Cell, LAST_COLUMN, LAST_ROW};
 use sheet_store::Store;
 
 // Whether a cell has a content.
@@ -45,7 +45,7 @@ fn next_cell(arrow: Arrow, cell: Cell) -> Option<Cell>
             }
         }
         Arrow::Right => {
-            if col < 255 {
+            if col < LAST_COLUMN {
                 Some(Cell { row, col: col + 1 })
             } else {
                 None
