@@ -3,6 +3,7 @@ use Rattle.std.specs.FinMap.{entries}
 use Rattle.std.specs.List.{list_any, AllByRecursion}
 use Rattle.sheet_store.specs.declared.writes.SavedSheet.{SavedSheet}
 use Rattle.std.specs.Prelude.{Bool, if◌then◌else◌, ℕ, ◌≡◌, ◌≤◌, pos, nat_abs, true, Option, Some, None, flat_map, length, get_or, Ok, List, [], ◌∷◌, ⊤}
+use Rattle.grid_address.specs.declared.TheConstants.{COLUMNS}
 use Rattle.grid_address.specs.Place.{Extent, InSheet, Place}
 use Rattle.formula_tree.specs.Ranges.{is_ranged, is_text}
 use Rattle.formula_tree.specs.Shape.{every, IsFormula}
@@ -13,6 +14,7 @@ use Rattle.formula_tree.specs.declared.value.Value.TheVariants as value
 use Rattle.sheet_store.specs.Choices.{AreWithin, Choices}
 use Rattle.sheet_store.specs.Grid.{is_kept, width_of, Fits, Grid}
 use Rattle.sheet_store.specs.State.{CellState}
+use Rattle.sheet_store.specs.declared.own_width.TheConstants.{MOST_WIDTH}
 use Rattle.range_names.specs.Names.{fault_of, key_of, name_in}
 use Rattle.wk1_file.specs.Saved.{columns}
 use Rattle.wk1_records.specs.Kinds.{number_of}
@@ -106,8 +108,8 @@ widths_entries g = flat_map (λ col. width_entries col (width_of g col)) columns
 
 -- own widths as a store keeps them: one for each column, and 0 for none
 pub record AreWidths (ws : List ℕ) : Type 0 where
-  pub all : length ws ≡ 256
-  pub most : (k : ℕ) → get_or ws k 0 ≤ 240
+  pub all : length ws ≡ COLUMNS
+  pub most : (k : ℕ) → get_or ws k 0 ≤ MOST_WIDTH
 
 -- a span whose corners are in the sheet and in order
 pub record IsExtent (s : Extent) : Type 0 where
@@ -137,6 +139,6 @@ hidden_entries bits = if list_any (λ b. b) bits then entry.Hidden bits ∷ [] e
 pub record IsSavedSheet (s : SavedSheet) : Type 0 where
   pub settings : AreSettings s.settings
   pub widths : AreWidths s.store.widths
-  pub hidden : length s.store.hidden ≡ 256
+  pub hidden : length s.store.hidden ≡ COLUMNS
   pub names : AllByRecursion IsSavedName (entries s.names)
   pub cells : AllByRecursion IsSavedCell (entries s.store.cells)

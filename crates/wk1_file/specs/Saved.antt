@@ -4,6 +4,7 @@ use Rattle.std.specs.Int.RustNames.{int_lt}
 use Rattle.std.specs.List.{list_any, range_with_len}
 use Rattle.std.specs.Prelude.{ℕ, ◌+◌, ◌-◌, ◌*◌, ◌/◌, ◌%◌, ◌^◌, ℤ, pos, nat_abs, Bool, true, false, ◌&&◌, ◌||◌, ◌==◌, nat_le, map, flat_map, sum, replicate, get_or, Option, Some, None, List, [], ◌∷◌, ◌++◌, length, if◌then◌else◌}
 use Rattle.std.specs.FinMap as finite
+use Rattle.grid_address.specs.declared.TheConstants.{COLUMNS}
 use Rattle.grid_address.specs.Place.{Extent, Place}
 use Rattle.formula_tree.specs.declared.value.Content.{Content}
 use Rattle.formula_tree.specs.declared.value.Content.TheVariants as content
@@ -104,7 +105,7 @@ width_piece col (Some w) = made kind.ColumnWidth (to_le_bytes w16 col ++ w ∷ [
 
 -- the columns of a sheet
 unfoldable pub columns : List ℕ
-columns = range_with_len 0 256
+columns = range_with_len 0 COLUMNS
 
 -- the own widths, by column
 abbrev pub width_pieces : Grid → List Piece

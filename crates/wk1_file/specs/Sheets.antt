@@ -1,6 +1,7 @@
 -- What records make of a sheet.
 use Rattle.std.specs.Prelude.{ℕ, Bool, false, cond, ◌+◌, replicate, fold, Option, Some, None, Result, Ok, Err, List, [], ◌∷◌}
 use Rattle.std.specs.FinMap as map
+use Rattle.grid_address.specs.declared.TheConstants.{COLUMNS}
 use Rattle.grid_address.specs.Place.{same_place, Place}
 use Rattle.formula_tree.specs.declared.value.Value.TheVariants as value
 use Rattle.range_names.specs.Names.{key_of, NameMap}
@@ -52,7 +53,7 @@ taken r (entry.Passes n) = with_settings r.sheet (record r.sheet.settings { pass
 -- a fresh sheet
 abbrev pub fresh_sheet : SavedSheet
 fresh_sheet = record {
-  store = record { cells = map.empty; widths = replicate 256 0; hidden = replicate 256 false };
+  store = record { cells = map.empty; widths = replicate COLUMNS 0; hidden = replicate COLUMNS false };
   names = map.empty;
   settings = fresh;
 }

@@ -3,6 +3,7 @@ use Rattle.std.specs.Prelude.{ℕ, ◌≡◌, ◌≤◌, ◌⊎◌, true, fold, 
 use Rattle.grid_address.specs.Place.{Place}
 use Rattle.sheet_store.specs.Choices.{is_global_prefix}
 use Rattle.sheet_store.specs.Grid.{is_formula, HasFormula, IsSound}
+use Rattle.sheet_store.specs.declared.own_width.TheConstants.{MOST_WIDTH}
 use Rattle.sheet_store.specs.declared.writes.SavedSheet.{SavedSheet}
 use Rattle.wk1_records.specs.Records.{Records, Splits}
 use Rattle.wk1_file.specs.Sheets.{entries_in, first_fault, sheet_of, taken, unless_fault, Progress}
@@ -17,8 +18,8 @@ abbrev pub IsEntry : Entry → Type 0
 IsEntry entry.Nothing = ⊤
 IsEntry (entry.Automatic b) = ⊤
 IsEntry (entry.Order o) = ⊤
-IsEntry (entry.Window p f w) = (1 ≤ w) × (w ≤ 240)
-IsEntry (entry.Width col w) = (1 ≤ w) × (w ≤ 240)
+IsEntry (entry.Window p f w) = (1 ≤ w) × (w ≤ MOST_WIDTH)
+IsEntry (entry.Width col w) = (1 ≤ w) × (w ≤ MOST_WIDTH)
 IsEntry (entry.Hidden bits) = ⊤
 IsEntry (entry.Name name span) = ⊤
 IsEntry (entry.State p s) = IsSound s
