@@ -46,15 +46,6 @@ take_run n m b = elim (cases_lt m n) [
       rw k (take-replicate n m b more)
 ]
 
--- a front that is cut at the text's end
-pub take_least : (n : ℕ) (xs : List ℕ) → take (min (length xs) n) xs ≡ take n xs
-take_least n xs = elim (cases_lt n (length xs)) [
-  | inl less ↦ (let k : min (length xs) n ≡ n = omega arith in rw k refl)
-  | inr more ↦
-      let k : min (length xs) n ≡ length xs = omega arith in
-      rw k (take_all (length xs) xs (omega arith) ∙ sym (take_all n xs more))
-]
-
 pub padded_length : (width : ℕ) (text : List ℕ) → length (padded width text) ≡ width
 padded_length width text = simp (length-append, length-take, length-replicate) (omega arith)
 

@@ -1,6 +1,7 @@
 -- The shown columns, and the lines that show them.
 use Rattle.std.specs.Prelude.{ℕ, zero, suc, ◌+◌, ◌-◌, ◌/◌, Bool, true, false, ◌||◌, nat_le, List, [], ◌∷◌, ◌++◌, length, take, drop, replicate, Option, Some, None, codes, unwrap_or, if◌then◌else◌}
 use Rattle.ascii_bytes.specs.Ascii as ascii
+use Rattle.grid_address.specs.declared.TheConstants.{COLUMNS}
 use Rattle.grid_address.specs.Address.{column_name, decimal}
 use Rattle.sheet_store.specs.Grid.{is_hidden}
 use Rattle.screen_layout.specs.Cells.{cell_text}
@@ -21,7 +22,7 @@ columns_from s first (suc count) col room =
 
 -- behind the four bytes of the row numbers 76 are left
 abbrev pub shown_columns : Sheet → ℕ → List Column
-shown_columns s first = columns_from s true (256 - first) first 76
+shown_columns s first = columns_from s true (COLUMNS - first) first 76
 
 -- how many they are
 abbrev pub columns_shown : Sheet → ℕ → ℕ

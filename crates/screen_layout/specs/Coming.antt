@@ -1,5 +1,6 @@
 -- How the code keeps the shown columns that are still to come.
 use Rattle.std.specs.Prelude.{◌≡◌, ℕ, ◌-◌, nat_eq, List, [], ◌∷◌, Option, Some, None}
+use Rattle.grid_address.specs.declared.TheConstants.{COLUMNS}
 use Rattle.work_sheet.specs.Seen.{Sheet}
 use Rattle.screen_layout.specs.Columns.{columns_from}
 use Rattle.screen_layout.specs.declared.shown_columns.Column.{Column}
@@ -7,7 +8,7 @@ use Rattle.screen_layout.specs.declared.shown_columns.Coming.{Coming}
 
 -- from a column on, behind those that take so many of the 76 bytes
 abbrev pub behind : Sheet → ℕ → ℕ → List Column
-behind s used col = columns_from s (nat_eq used 0) (256 - col) col (76 - used)
+behind s used col = columns_from s (nat_eq used 0) (COLUMNS - col) col (76 - used)
 
 -- from the first column on that wasn't looked at
 abbrev pub coming : Sheet → Coming → List Column

@@ -16,7 +16,7 @@ use shown_cells::put_blanks;
 use work_sheet::Sheet;
 
 // Adds the letters of a column, with half of the free bytes on their left.
-#[tactic(auto, using(crate::proofs::Cuts::take_least))]
+#[tactic(auto, using(std::proofs::lemmas::List::take_min))]
 fn add_head(line: &mut PaintedLine, col: u8, width: u8)
     requires { width ≤ MOST_WIDTH }
     ensures line { line.new ≡ take 80 (line.old ++ padded width (head_text col width)) }
@@ -29,7 +29,7 @@ fn add_head(line: &mut PaintedLine, col: u8, width: u8)
     put_blanks(free / 2, &mut text);
     text.put_all(letters);
     let bytes = text.bytes();
-    add_text(line, &bytes[..bytes.len().min(usize::from(width))], width);
+    add_text(line, &bytes[..usize::from(width).min(bytes.len())], width);
 }
 
 // Adds a column's part of the line of letters, or of a row. The answer is what runs on into the next column.

@@ -5,6 +5,7 @@ ghost use Rattle.screen_layout.specs.Coming.{ComesNext};
 ghost use Rattle.work_sheet.specs.Seen.{of_worksheet};
 
 use crate::widths::width_in;
+use grid_address::COLUMNS;
 use sheet_store::MOST_WIDTH;
 use work_sheet::Sheet;
 
@@ -49,7 +50,7 @@ impl Coming {
         ensures most { self.new.used ≤ MOST_WIDTH }
         ensures width { IfSome result (λ x. x.width ≤ MOST_WIDTH) }
     {
-        for col in self.col..256 {
+        for col in self.col..COLUMNS {
             let col = col as u8;
             if sheet.is_hidden(col) {
                 continue;
