@@ -1,4 +1,3 @@
-pub mod Cut
 pub mod Done
 pub mod EveryLog
 pub mod Filled

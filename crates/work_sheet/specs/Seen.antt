@@ -2,6 +2,7 @@
 use Rattle.std.specs.Prelude.{Bool, false, refl, replicate}
 use Rattle.std.specs.FinMap as map
 use Rattle.std.specs.Coded.{Coded, code_by, coded×, coded_bool}
+use Rattle.grid_address.specs.declared.TheConstants.{COLUMNS}
 use Rattle.range_names.specs.Names.{coded_names, NameMap}
 use Rattle.sheet_store.specs.Choices.{fresh, Choices}
 use Rattle.sheet_store.specs.Grid.{coded_grid, Grid}
@@ -27,7 +28,7 @@ coded_sheet = code_by (Grid × (Bool × (Bool × (NameMap × Choices))))
 -- no cell, no column of a width of its own or hidden, no name, and the settings of a fresh sheet
 abbrev pub fresh_sheet : Sheet
 fresh_sheet = record {
-  grid = record { cells = map.empty; widths = replicate 256 0; hidden = replicate 256 false };
+  grid = record { cells = map.empty; widths = replicate COLUMNS 0; hidden = replicate COLUMNS false };
   circular = false;
   stale = false;
   names = map.empty;

@@ -33,7 +33,7 @@ fn put_label(prefix: LabelPrefix, text: &Text, into: &mut Line) -> bool
     ensures whole { result ≡ nat_le (length (prefix_byte prefix ∷ text.now)) MAX_LEN }
 {
     let bytes = text.bytes();
-    let room = bytes.len().min(MOST_OF_LABEL);
+    let room = MOST_OF_LABEL.min(bytes.len());
     let _ = into.put(prefix.byte());
     into.put_all(&bytes[..room]);
     bytes.len() <= MOST_OF_LABEL
