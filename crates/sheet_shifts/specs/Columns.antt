@@ -1,5 +1,6 @@
 -- What each column has of its own, after columns were inserted or deleted.
 use Rattle.std.specs.Prelude.{ℕ, ◌+◌, List, ◌++◌, take, drop, replicate}
+use Rattle.grid_address.specs.declared.TheConstants.{COLUMNS}
 use Rattle.ref_adjust.specs.declared.change.Change.{Change}
 use Rattle.ref_adjust.specs.declared.change.Change.TheVariants.{InsertRows, InsertColumns, DeleteRows, DeleteColumns}
 use Rattle.sheet_shifts.specs.declared.shift.Shift.{Shift}
@@ -7,7 +8,7 @@ use Rattle.sheet_shifts.specs.declared.shift.Shift.TheVariants.{Lines, Block}
 
 -- the new columns have nothing of their own; the later ones move on, and what is pushed past the last one is lost
 abbrev pub columns_inserted : {X : Type 0} → X → ℕ → ℕ → List X → List X
-columns_inserted none first count xs = take 256 (take first xs ++ (replicate count none ++ drop first xs))
+columns_inserted none first count xs = take COLUMNS (take first xs ++ (replicate count none ++ drop first xs))
 
 -- the deleted columns take what they have along; the later ones move back, and the last ones have nothing of their own
 abbrev pub columns_deleted : {X : Type 0} → X → ℕ → ℕ → List X → List X

@@ -3,6 +3,7 @@ use Rattle.std.specs.Prelude.{ℕ, ◌≡◌, ◌+◌, ◌-◌, nat_lt, get_or, 
 use Rattle.std.specs.FinMap.{get, insert, FinMap}
 use Rattle.std.specs.List.{filter_map, AllByRecursion}
 use Rattle.std.specs.declared.cmp.Ordering.{Ordering}
+use Rattle.grid_address.specs.declared.TheConstants.{COLUMNS}
 use Rattle.grid_address.specs.Place.{Extent, Place}
 use Rattle.range_names.specs.Names.{IsKey, NameMap}
 use Rattle.ref_adjust.specs.declared.change.Change.{Change}
@@ -65,7 +66,7 @@ source_inserted first count col =
 abbrev pub source_deleted : ℕ → ℕ → ℕ → Option ℕ
 source_deleted first count col =
     if nat_lt col first then Some col
-    else (if nat_lt (col + count) 256 then Some (col + count) else None)
+    else (if nat_lt (col + count) COLUMNS then Some (col + count) else None)
 
 -- the same after rows or columns were inserted or deleted
 abbrev pub source_changed : Change → ℕ → Option ℕ

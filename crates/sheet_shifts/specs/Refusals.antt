@@ -3,6 +3,7 @@ use Rattle.std.specs.Prelude.{ℕ, zero, suc, ◌+◌, Bool, true, not, ◌&&◌
 use Rattle.std.specs.FinMap.{entries, get}
 use Rattle.std.specs.Ordering.{is_gt}
 use Rattle.grid_address.specs.Formats.{has_protection}
+use Rattle.grid_address.specs.declared.TheConstants.{COLUMNS, ROWS}
 use Rattle.grid_address.specs.Place.{height_of, place_cmp, width_of, Extent, Place}
 use Rattle.ref_adjust.specs.declared.change.Change.{Change}
 use Rattle.ref_adjust.specs.declared.change.Change.TheVariants.{InsertRows, InsertColumns, DeleteRows, DeleteColumns}
@@ -18,7 +19,7 @@ use Rattle.sheet_shifts.specs.declared.shift.Shift.TheVariants.{Lines, Block}
 
 -- whether the target of a move lies in the sheet
 abbrev pub fits_at : Extent → Place → Bool
-fits_at from to = nat_lt (carried from to from.last).row 8192 && nat_lt (carried from to from.last).col 256
+fits_at from to = nat_lt (carried from to from.last).row ROWS && nat_lt (carried from to from.last).col COLUMNS
 
 -- whether the mark is set in the format of what a cell holds; a cell that isn't there is protected
 abbrev pub is_marked : Option CellState → Bool

@@ -6,13 +6,14 @@ ghost use Rattle.sheet_shifts.specs.Puts.{own_of, source_changed, source_deleted
 ghost use Rattle.sheet_shifts.specs.Shifts.{IsShift};
 
 use crate::Shift;
+use grid_address::COLUMNS;
 use ref_adjust::Change;
 use sheet_store::Store;
 
 // The column that is now this one, after columns were inserted; none for a new one.
 fn source_inserted(first: u16, count: u16, col: u16) -> Option<u8>
-    requires inside { col < 256 }
-    requires lines { AreLines 256 first count }
+    requires inside { col < COLUMNS }
+    requires lines { AreLines COLUMNS first count }
     ensures { result ≡ source_inserted first count col }
 {
     if col < first {
@@ -26,13 +27,13 @@ fn source_inserted(first: u16, count: u16, col: u16) -> Option<u8>
 
 // The column that is now this one, after columns were deleted; none where no column moved up.
 fn source_deleted(first: u16, count: u16, col: u16) -> Option<u8>
-    requires inside { col < 256 }
-    requires lines { AreLines 256 first count }
+    requires inside { col < COLUMNS }
+    requires lines { AreLines COLUMNS first count }
     ensures { result ≡ source_deleted first count col }
 {
     if col < first {
         Some(col as u8)
-    } else if col + count < 256 {
+    } else if col + count < COLUMNS {
         Some((col + count) as u8)
     } else {
         None
@@ -41,7 +42,7 @@ fn source_deleted(first: u16, count: u16, col: u16) -> Option<u8>
 
 // The same after rows or columns were inserted or deleted.
 fn source_changed(change: Change, col: u16) -> Option<u8>
-    requires inside { col < 256 }
+    requires inside { col < COLUMNS }
     requires lines { IsChange change }
     ensures { result ≡ source_changed change col }
 {
@@ -54,7 +55,7 @@ fn source_changed(change: Change, col: u16) -> Option<u8>
 
 // The same after any shift.
 fn source_of(shift: &Shift, col: u16) -> Option<u8>
-    requires inside { col < 256 }
+    requires inside { col < COLUMNS }
     requires shift { IsShift shift.now }
     ensures { result ≡ source_of shift.now col }
 {

@@ -2,7 +2,7 @@
 ghost use Rattle.std.specs.Prelude.{◌≡◌, ◌+◌, ◌≤◌};
 ghost use Rattle.sheet_shifts.specs.Refusals.{earlier, first_in_row, first_in_rows, first_marked, is_marked_at};
 
-use grid_address::{Cell, ROWS, Span};
+use grid_address::{COLUMNS, Cell, ROWS, Span};
 use sheet_store::Store;
 
 // Whether a cell's mark is set; it is where the cell isn't there.
@@ -17,7 +17,7 @@ fn is_marked(store: &Store, cell: Cell) -> bool
 
 // The first protected cell of so many in a row.
 fn first_in_row(store: &Store, first: Cell, width: u16) -> Option<Cell>
-    requires { first.col + width ≤ 256 }
+    requires { first.col + width ≤ COLUMNS }
     ensures { result ≡ first_in_row (is_marked_at store.now.cells) width first }
 {
     for at in 0..width {
@@ -35,7 +35,7 @@ fn first_in_row(store: &Store, first: Cell, width: u16) -> Option<Cell>
 // The first protected cell of so many rows.
 fn first_in_rows(store: &Store, first: Cell, height: u16, width: u16) -> Option<Cell>
     requires rows { first.row + height ≤ ROWS }
-    requires cols { first.col + width ≤ 256 }
+    requires cols { first.col + width ≤ COLUMNS }
     ensures { result ≡ first_in_rows (is_marked_at store.now.cells) height width first }
 {
     for at in 0..height {

@@ -6,7 +6,7 @@ ghost use Rattle.ref_adjust.specs.Lines.{place_shifted, IsChange};
 ghost use Rattle.sheet_shifts.specs.Puts.{first_pushed_at, is_pushed_at};
 ghost use Rattle.sheet_shifts.specs.Refusals.{first_pushed, is_pushed, pushed_by};
 
-use grid_address::{Cell, ROWS, Span};
+use grid_address::{COLUMNS, Cell, ROWS, Span};
 use ref_adjust::{Change, cell_shifted};
 use sheet_store::{CellState, Store};
 
@@ -55,9 +55,6 @@ fn first_pushed_beside(store: &Store, change: Change) -> Option<Cell>
     }
     None
 }
-
-/// How many columns a sheet has.
-const COLUMNS: u16 = 256;
 
 // A span in which all cells lie that a change takes out of the sheet: the last lines, for an insert.
 fn leaving(change: Change) -> Span

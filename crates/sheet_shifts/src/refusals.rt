@@ -8,7 +8,7 @@ ghost use Rattle.sheet_shifts.specs.Shifts.{IsShift};
 use crate::Shift;
 use crate::protection::{earlier, first_marked};
 use crate::pushing::pushed_by;
-use grid_address::{Cell, ROWS, Span};
+use grid_address::{COLUMNS, Cell, ROWS, Span};
 use ref_adjust::Change;
 use sheet_store::{Settings, SheetFault, Store};
 
@@ -18,7 +18,7 @@ fn fits_at(from: Span, to: Cell) -> bool
 {
     let last_row = from.last.row - from.first.row + to.row;
     let last_col = u16::from(from.last.col) - u16::from(from.first.col) + u16::from(to.col);
-    last_row < ROWS && last_col < 256
+    last_row < ROWS && last_col < COLUMNS
 }
 
 // The target.
