@@ -40,14 +40,48 @@ def fault_text(fault):
 
 # ---------------------------------------------------------------- numbers
 
+WHY_NONE = {fixed.TOO_LARGE: 'too large', fixed.NOT_NUMBER: 'none', None: '-'}
+
+
+def told(*results):
+    """Numbers in millionths, and what stands in place of one."""
+    return ' '.join(str(WHY_NONE.get(result, result)) for result in results).encode()
+
+
+def double_bits(x):
+    """The host's double."""
+    return b'%d' % struct.unpack('<Q', struct.pack('<d', x / 1_000_000))
+
+
+def short(x, places):
+    """At most so many decimals, without zeros at their end."""
+    text = fixed.write_decimal(x, places)
+    return text.rstrip(b'0').rstrip(b'.') if b'.' in text else text
+
+
+def hundredfold(x, places):
+    """A hundred times the number."""
+    digits = fixed.decimal_digits(abs(x) * 100, places)
+    return (b'-' if x < 0 and digits.strip(b'0.') else b'') + digits
+
+
+# what each letter of a line asks of the whole numbers behind it
+OF_NUMBERS = {
+    b'd': double_bits, b's': lambda *words: b'|' + show_number(*words) + b'|', b'w': fixed.write_decimal, b'n': short,
+    b'h': hundredfold, b'p': lambda *words: told(fixed.pow_(*words)), b'o': lambda *words: told(fixed.round_(*words)),
+    b'a': lambda *words: told(*(of(*words) for of in (fixed.add, fixed.sub, fixed.mul, fixed.div, fixed.modulo)))}
+
+
 def numbers(lines):
-    """The host's double bits of a number in millionths, or how a cell shows it."""
+    """What each line asks of numbers in millionths, of a double's bits or of a text."""
     for line in lines:
-        words = [int(word) for word in line[1:].split(b' ')]
-        if line[:1] == b'd':
-            yield b'%d\n' % struct.unpack('<Q', struct.pack('<d', words[0] / 1_000_000))
+        letter, rest = line[:1], line[1:]
+        if letter == b'r':
+            yield told(fixed.from_double_bits(int(rest, 16))) + b'\n'
+        elif letter == b't':
+            yield told(fixed.read_decimal(rest)) + b'\n'
         else:
-            yield b'|' + show_number(*words) + b'|\n'
+            yield OF_NUMBERS[letter](*(int(word) for word in rest.split(b' '))) + b'\n'
 
 
 # ---------------------------------------------------------------- formula texts

@@ -1,6 +1,7 @@
 """The data of each checking program, made from a seed: worked lines first where there are any, and then random ones."""
 import os
 import random
+import struct
 
 from . import fixed, formula
 from .address import cell_text, col_text, height_of, read_cell, span_text, width_of
@@ -44,14 +45,55 @@ def number(r):
     return r.randrange(10 ** r.randrange(1, 16)) * r.choice([1, -1])
 
 
+def any_double(r):
+    """The bits of numbers, of numbers beside them, of what is no number, and any bits."""
+    bits = fixed.to_double_bits(r.choice([
+        0, 1, -1, 1_000_000, -32_768_000_000, 32_768_000_000, r.randrange(-70000, 70000) * 1_000_000,
+        r.randrange(-10 ** 9, 10 ** 9), r.randrange(-10 ** 15, 10 ** 15)]))
+    odd = r.randrange(24)
+    if odd == 0:
+        bits = r.choice([fixed.ERR_BITS, fixed.NA_BITS, fixed.ERR_BITS + 1, fixed.NA_BITS + 1, 0x7FF8 << 48, 0xFFF8 << 48,
+                         1 << 63, 1, (1 << 63) + 1])
+    elif odd == 1:
+        # the largest number, what is nearest to it and beyond
+        bits = fixed.to_double_bits(999_999_999_999_999) + r.choice([0, 1, 2, 3, 4, 5]) + r.choice([0, 1 << 63])
+    elif odd == 2:
+        small = (0x3E00 + r.randrange(0x200) << 48) + r.randrange(1 << 48)
+        bits = r.choice([small, small, r.randrange(1 << 64)])
+    elif odd < 5:
+        bits = max(bits + r.randrange(-9, 10), 0)
+    elif odd < 7:
+        # halfway between two millionths
+        return struct.pack('<d', (2 * r.randrange(-1000, 1000) + 1) / 128)
+    return bits.to_bytes(8, 'little')
+
+
+def calculations(r):
+    """400 lines of each letter: doubles, pairs of numbers, powers, numbers to be rounded and to be written, and decimals, some of
+    which are broken."""
+    out = []
+    for _ in range(400):
+        out.append(b'r' + any_double(r)[::-1].hex().encode())
+        out.append(b'a%d %d' % (number(r), number(r)))
+        few = (r.randrange(10 ** 7) * r.choice([1, -1]), r.randrange(-16, 17) * fixed.ONE)
+        near_one = (r.randrange(980_000, 1_020_000), r.randrange(-1002, 1003) * fixed.ONE)
+        out.append(b'p%d %d' % r.choice([few, few, few, near_one, (number(r), number(r))]))
+        out.append(b'o%d %d' % (number(r), r.randrange(-17, 18)))
+        out += [b'%c%d %d' % (way, number(r), r.randrange(16)) for way in b'wnh']
+        text = r.choice([b'', b'', b'-', b'+']) + decimal(r)
+        out.append(b't' + (broken(r, text) if r.randrange(4) == 0 else text))
+    return out
+
+
 def numbers(r):
-    """20,000 numbers as doubles, and 5,000 as cells show them: in any format, an eighth of them dates, in widths of 0 to 24."""
+    """20,000 numbers as doubles, and 5,000 as cells show them: in any format, an eighth of them dates, in widths of 0 to 24;
+    then the worked lines, and calculations."""
     out = [b'd%d' % number(r) for _ in range(20000)]
     for row in range(5000):
         value = number(r) if row % 2 else abs(number(r)) % 100_000_000_000
         kind, detail = r.randrange(8), r.randrange(16)
         out.append(b's%d %d %d' % (value, 0x72 + detail % 3 if kind == 5 else kind * 16 + detail, r.randrange(25)))
-    return b''.join(line + b'\n' for line in out)
+    return b''.join(line + b'\n' for line in out) + worked('numbers') + b''.join(line + b'\n' for line in calculations(r))
 
 
 class Texts:

@@ -1,10 +1,9 @@
 """Worksheet files: the data of check_files, and what it must answer. Its own text tells what the lines say."""
-import struct
 
 from . import fixed, formula, wk1
 from .address import cell_text, height_of, read_cell, read_span, width_of
 from .answers import names_of
-from .cases import TEXT_BYTES, Texts, WORDS, is_read, worked
+from .cases import TEXT_BYTES, Texts, WORDS, any_double, is_read, worked
 from .sheet import DEFAULT_FORMAT, Saved, State
 from .values import BLANK, C_BLANK, ERR, NA, num, string
 
@@ -290,29 +289,6 @@ class Codes:
         elif odd < 5:
             code = r.choice([code + code, code[:-1], code + b'\x09', b''])
         return code + (b'\x03' if odd != 5 else b'') + (b'\x03xyz' if odd == 6 else b'')
-
-
-def any_double(r):
-    """The bits of numbers, of numbers beside them, of what is no number, and any bits."""
-    bits = fixed.to_double_bits(r.choice([
-        0, 1, -1, 1_000_000, -32_768_000_000, 32_768_000_000, r.randrange(-70000, 70000) * 1_000_000,
-        r.randrange(-10 ** 9, 10 ** 9), r.randrange(-10 ** 15, 10 ** 15)]))
-    odd = r.randrange(24)
-    if odd == 0:
-        bits = r.choice([fixed.ERR_BITS, fixed.NA_BITS, fixed.ERR_BITS + 1, fixed.NA_BITS + 1, 0x7FF8 << 48, 0xFFF8 << 48,
-                         1 << 63, 1, (1 << 63) + 1])
-    elif odd == 1:
-        # the largest number, what is nearest to it and beyond
-        bits = fixed.to_double_bits(999_999_999_999_999) + r.choice([0, 1, 2, 3, 4, 5]) + r.choice([0, 1 << 63])
-    elif odd == 2:
-        small = (0x3E00 + r.randrange(0x200) << 48) + r.randrange(1 << 48)
-        bits = r.choice([small, small, r.randrange(1 << 64)])
-    elif odd < 5:
-        bits = max(bits + r.randrange(-9, 10), 0)
-    elif odd < 7:
-        # halfway between two millionths
-        return struct.pack('<d', (2 * r.randrange(-1000, 1000) + 1) / 128)
-    return bits.to_bytes(8, 'little')
 
 
 class Records:

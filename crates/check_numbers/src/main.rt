@@ -1,60 +1,56 @@
-//! Works with numbers of the whole range, which the lines of its data tell in millionths. To `d-1500000` it answers
-//! the bits of the number's double as a decimal number, and to `s-1500000 113 9` the number as a cell of that format
-//! byte and that width shows it, between bars. The stored run compares 20,000 doubles with the host's, and 5,000
-//! shown numbers with another program's. With the word `tenths`, `whole`, `rounded`, `fixed` or `hidden` it shows
-//! 10,000 numbers of that kind, for bench/digits.
+//! Works with numbers of the whole range, which the lines of its data tell in millionths behind a letter:
+//!
+//!     d NUMBER          the bits of its double, as a decimal number
+//!     r BITS            what a double of these bits, in hexadecimal digits, holds: a number, ERR, NA or `too large`
+//!     a NUMBER NUMBER   the sum, difference, product, quotient and remainder, each `-` where there is none
+//!     p NUMBER NUMBER   the power, or `-`
+//!     o NUMBER PLACES   the number rounded to so many decimals, or `-`
+//!     w NUMBER PLACES   the text with so many decimals; n: at most so many; h: of a hundred times the number
+//!     t TEXT            the number that the text spells, `none` or `too large`
+//!     s NUMBER F WIDTH  between bars, what a cell of the format byte F and of that width shows
+//!
+//! There is no blank behind the letter. The stored run compares 20,000 doubles with the host's, and 5,000 shown
+//! numbers, worked lines and 400 lines of each letter but d and s with another program's. With the word `tenths`,
+//! `whole`, `rounded`, `fixed` or `hidden` it shows 10,000 numbers of that kind, for bench/digits.
 #![tactic(auto)]
 
+mod calculations;
+mod doubles;
+mod texts;
 mod timed;
 
-use cell_format::show_number;
-use check_cases::{Stop, Subject, Words, check, whole_of};
-use fixed_value::{Fixed, to_double_bits};
-use grid_address::Format;
-use lics_text::{Line, MAX_LEN};
+use calculations::{write_power, write_results, write_rounded};
+use check_cases::{Stop, Subject, Words, check};
+use doubles::{write_double, write_held};
 use std::alloc::Global;
 use std::env;
 use std::io::Write;
 use std::process::ExitCode;
+use texts::{Way, write_number, write_shown, write_spelled};
 use timed::{kind_of, shown_sum};
 
-// What shows numbers.
+// What works with numbers.
 #[derive(Drop)]
 struct Numbers {}
 
-// The next word as a number in millionths.
-fn number_in(words: &mut Words) -> Result<Fixed, Stop> {
-    match Fixed::of(whole_of(words.next())) {
-        Some(number) => Ok(number),
-        None => Err(Stop::Line),
-    }
-}
-
-// Writes a number as a cell shows it.
-fn write_shown<W: Write>(words: &mut Words, out: &mut W) -> Result<(), Stop> {
-    let number = number_in(words)?;
-    let format = Format(words.byte()?);
-    let width = words.byte()?;
-    if usize::from(width) > MAX_LEN {
-        return Err(Stop::Line);
-    }
-    let mut line = Line::new();
-    show_number(number, format, width, &mut line);
-    out.write_all(b"|")?;
-    out.write_all(line.bytes())?;
-    out.write_all(b"|\n")?;
-    Ok(())
-}
-
 impl Subject for Numbers {
-    fn answer(&mut self, _alloc: Global, line: &[u8], answer: &mut Vec<u8>) -> Result<(), Stop> {
-        match line {
-            [b'd', rest @ ..] => {
-                let number = number_in(&mut Words::of(rest))?;
-                writeln!(answer, "{}", to_double_bits(number))?;
-                Ok(())
-            }
-            [b's', rest @ ..] => write_shown(&mut Words::of(rest), answer),
+    fn answer(&mut self, alloc: Global, line: &[u8], answer: &mut Vec<u8>) -> Result<(), Stop> {
+        let (letter, rest) = match line {
+            [letter, rest @ ..] => (*letter, rest),
+            _ => return Err(Stop::Line),
+        };
+        let mut words = Words::of(rest);
+        match letter {
+            b'd' => write_double(&mut words, answer),
+            b'r' => write_held(alloc, &mut words, answer),
+            b'a' => write_results(&mut words, answer),
+            b'p' => write_power(&mut words, answer),
+            b'o' => write_rounded(&mut words, answer),
+            b'w' => write_number(Way::Asked, &mut words, answer),
+            b'n' => write_number(Way::Short, &mut words, answer),
+            b'h' => write_number(Way::Hundredfold, &mut words, answer),
+            b't' => write_spelled(rest, answer),
+            b's' => write_shown(&mut words, answer),
             _ => Err(Stop::Line),
         }
     }

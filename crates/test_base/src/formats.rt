@@ -1,4 +1,4 @@
-// Worked rows of shown text.
+// Worked rows of shown labels and of indicators. Those of shown numbers are lines of check_numbers.
 use cell_format::{indicator, show_label, show_number};
 use fixed_value::Fixed;
 use grid_address::Format;
@@ -12,56 +12,6 @@ fn number(rt: &impl Abort, millionths: i64) -> Fixed {
         Some(value) => value,
         None => panic!(rt; "past the size"),
     }
-}
-
-// A number as it is shown.
-fn shown(rt: &impl Abort, millionths: i64, format: u8, width: u8) -> Line {
-    assert!(rt; usize::from(width) <= MAX_LEN);
-    let mut line = Line::new();
-    show_number(number(rt, millionths), Format(format), width, &mut line);
-    line
-}
-
-#[test]
-fn numbers_are_shown(rt: HostRuntime) -> Result<(), Fail> {
-    for (millionths, format, width, text) in [
-        (1_234_500_000i64, 0x42u8, 10u8, b" 1,234.50 ".as_slice()),
-        (-5_000_000, 0x22, 9, b" ($5.00) "),
-        (125_000, 0x31, 9, b"   12.5% "),
-        (31_929_000_000, 0x72, 10, b"01-Jun-87 "),
-        (31_929_000_000, 0x72, 9, b"*********"),
-        (31_929_999_999, 0x73, 9, b"  01-Jun "),
-        (31_929_000_000, 0x74, 8, b" Jun-87 "),
-        (60_000_000, 0x72, 10, b"29-Feb-00 "),
-        (73_050_000_000, 0x72, 10, b"31-Dec-99 "),
-        (73_051_000_000, 0x72, 10, b"**********"),
-        (999_999, 0x72, 10, b"**********"),
-        (-1_000_000, 0x73, 10, b"**********"),
-        (2_500_000, 0x00, 4, b"  3 "),
-        (-2_500_000, 0x80, 4, b" -3 "),
-        (-400_000, 0x00, 4, b"  0 "),
-        (-4_999, 0x42, 8, b"   0.00 "),
-        (-5_000, 0x42, 8, b" (0.01) "),
-        (999_999_999_999_999, 0x26, 22, b"  $999,999,999.999999 "),
-        (-1_000_000_000_000, 0x40, 13, b" (1,000,000) "),
-        (1_234_567, 0x71, 8, b"1.23457 "),
-        (1_234_567, 0x71, 10, b" 1.234567 "),
-        (1_999_999, 0x71, 4, b"  2 "),
-        (99_999_600, 0x71, 7, b"   100 "),
-        (-37_123_457, 0x71, 9, b"-37.1235 "),
-        (123_456_000_000, 0x71, 6, b"******"),
-        (123_456_000_000, 0x71, 7, b"123456 "),
-        (1_500_000, 0x12, 9, b"     1.5 "),
-        (1_500_000, 0x7F, 9, b"     1.5 "),
-        (1_500_000, 0x75, 9, b"     1.5 "),
-        (1_500_000, 0x58, 9, b"     1.5 "),
-        (1_500_000, 0x76, 5, b"     "),
-        (1_500_000, 0x71, 1, b"*"),
-        (1_500_000, 0x71, 0, b""),
-    ] {
-        assert_eq!(rt; shown(&rt, millionths, format, width).bytes(), text);
-    }
-    Ok(())
 }
 
 #[test]
