@@ -14,6 +14,12 @@ const PLACES: usize = 1024;
 /// The most bytes of a code that is kept.
 const MOST_KEPT: usize = 256;
 
+/// What the hash of Fowler, Noll and Vo begins with, in 64 bits.
+const HASH_BASIS: u64 = 14_695_981_039_346_656_037;
+
+/// What that hash is multiplied by at each byte.
+const HASH_PRIME: u64 = 1_099_511_628_211;
+
 // A code that was read, with its formula.
 #[derive(Drop)]
 struct ReadCode {
@@ -54,11 +60,11 @@ impl ReadCode {
     }
 }
 
-// Where a code is kept, which its bytes tell (by Fowler, Noll and Vo's hash).
+// Where a code is kept, by the hash of its bytes.
 fn place_of(code: &[u8]) -> usize {
-    let mut hash: u64 = 14_695_981_039_346_656_037;
+    let mut hash = HASH_BASIS;
     for byte in code {
-        hash = (hash ^ u64::from(*byte)).wrapping_mul(1_099_511_628_211);
+        hash = (hash ^ u64::from(*byte)).wrapping_mul(HASH_PRIME);
     }
     (hash % PLACES as u64) as usize
 }
