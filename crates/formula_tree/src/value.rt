@@ -42,6 +42,7 @@ impl Value {
     }
 
     /// The value, to be looked at.
+    #[inline(always)]
     pub fn as_ref(&self) -> ValueRef<'_>
         ensures { seen_value result ≡ self.now }
     {

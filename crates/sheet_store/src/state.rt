@@ -96,6 +96,7 @@ impl CellState {
     }
 
     /// The content.
+    #[inline(always)]
     pub fn content(&self) -> ContentRef<'_>
         ensures { seen_content result ≡ self.now.content }
     {
@@ -108,6 +109,7 @@ impl CellState {
     }
 
     /// The value.
+    #[inline(always)]
     pub fn value(&self) -> ValueRef<'_>
         ensures { seen_value result ≡ self.now.value }
     {
@@ -120,6 +122,7 @@ impl CellState {
     }
 
     /// The format byte.
+    #[inline(always)]
     pub fn format(&self) -> Format
         ensures { result ≡ self.now.format }
     {
@@ -158,6 +161,7 @@ impl CellState {
     }
 
     /// Gives a formula another value.
+    #[inline(always)]
     pub fn set_value(&mut self, value: Value)
         requires { is_formula self.old.content ≡ true }
         ensures { self.new ≡ record self.old { value = value } }
