@@ -1,16 +1,11 @@
 -- Sets of cells, seen as lists in which no cell stands twice.
-use Rattle.std.specs.Prelude.{Bool, List, ◌∷◌, ◌++◌, [], if◌then◌else◌, refl}
-use Rattle.std.specs.Coded.{Coded, code_by, coded_list}
+use Rattle.std.specs.Prelude.{Bool, List, ◌∷◌, ◌++◌, [], if◌then◌else◌}
 use Rattle.std.specs.List.{list_any}
-use Rattle.grid_address.specs.Place.{coded_place, Place}
+use Rattle.grid_address.specs.Place.{Place}
 
 -- the cells of a set, in its order
 pub record Cells : Type 0 where
   pub keys : List Place
-
--- it is coded as its list
-abbrev pub coded_cells : Coded Cells
-coded_cells = code_by (List Place) (coded_list coded_place) (λ s. s.keys) (λ ks. record { keys = ks }) (λ _. refl)
 
 module _ {K : Type 0} (same : K → K → Bool) where
   -- whether an item is one of these, by the given equality: for cells by `same_place`

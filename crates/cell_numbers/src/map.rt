@@ -22,11 +22,12 @@ pub struct CellMap<T> {
 impl<T> Model for CellMap<T> {
     ghost use Rattle.std.specs.FinMap as map;
     ghost use Rattle.std.specs.FinMap.{FinMap};
-    ghost use Rattle.grid_address.specs.Place.{coded_place, place_cmp};
+    ghost use Rattle.grid_address.specs.contracts.cell.Cell as place;
+    ghost use Rattle.grid_address.specs.Place.{place_cmp};
 
     ghost Value = { FinMap place_cmp T };
 
-    ghost coded = { map.code coded_place T.code };
+    ghost coded = { map.code (place.the_row).coded T.code };
 
     ghost use Rattle.cell_numbers.specs.Filled.{cells_of, filled, AreNumbered};
 

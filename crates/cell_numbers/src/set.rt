@@ -20,11 +20,9 @@ pub struct CellSet {
 
 impl Model for CellSet {
     ghost use Rattle.cell_numbers.specs.Filled.{AreNumbered};
-    ghost use Rattle.cell_numbers.specs.Sets.{coded_cells, Cells};
+    ghost use Rattle.cell_numbers.specs.Sets.{Cells};
 
     ghost Value = { Cells };
-
-    ghost coded = { coded_cells };
 
     ghost view = { λ s. record { keys = s.cells.items } };
 

@@ -1,25 +1,17 @@
 -- Which formulas there are, what they read, and which of them reach a cell.
-use Rattle.std.specs.Prelude.{◌≡◌, ◌⊎◌, refl, Bool, true, false, List, Option, None, Some, is_some}
-use Rattle.std.specs.Coded.{Coded, code_by, coded×}
+use Rattle.std.specs.Prelude.{◌≡◌, ◌⊎◌, Bool, true, false, List, Option, None, Some, is_some}
 use Rattle.std.specs.FinMap as map
 use Rattle.std.specs.FinMap.{get, insert, remove, FinMap}
 use Rattle.cell_numbers.specs.Sets.{has}
-use Rattle.grid_address.specs.Place.{coded_place, place_cmp, same_place, Place}
+use Rattle.grid_address.specs.Place.{place_cmp, same_place, Place}
 use Rattle.range_index.specs.Owners.{hold}
 use Rattle.depend_graph.specs.Slots.{had, node_in, offer_in, picked, Nodes, Slots}
 use Rattle.depend_graph.specs.declared.node.Node.{Node}
-use Rattle.depend_graph.specs.contracts.node.Node as node
 
 -- the formulas, and those that are offered to take their place
 pub record Network : Type 0 where
   pub formulas : Nodes
   pub offers : Nodes
-
--- a network is coded as its two maps, one after the other
-abbrev pub coded_network : Coded Network
-coded_network = code_by (FinMap place_cmp Node × FinMap place_cmp Node)
-    (coded× (map.code coded_place (node.the_row).coded) (map.code coded_place (node.the_row).coded))
-    (λ g. (g.formulas, g.offers)) (λ p. record { formulas = p.0; offers = p.1 }) (λ _. refl)
 
 -- a formula waits at a cell, and the one that is there stays in force
 abbrev pub offered : Network → Place → Node → Network

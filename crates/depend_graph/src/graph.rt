@@ -33,14 +33,16 @@ pub struct Graph {
 }
 
 impl Model for Graph {
+    ghost use Rattle.std.specs.Coded.{codes};
+    ghost use Rattle.std.specs.FinMap as map;
     ghost use Rattle.depend_graph.specs.Lists.{AreInLists};
-    ghost use Rattle.depend_graph.specs.Network.{coded_network, network_of, Network};
+    ghost use Rattle.depend_graph.specs.Network.{network_of, Network};
     ghost use Rattle.depend_graph.specs.Slots.{node_in, offer_in, picked, AreRegistered};
     ghost use Rattle.depend_graph.specs.Spreads.{IsKept};
 
     ghost Value = { Network };
 
-    ghost coded = { coded_network };
+    ghost coded = { Prim.hlevel (codes, map.code) };
 
     ghost view = { λ g. record { formulas = picked node_in g.slots; offers = picked offer_in g.slots } };
 

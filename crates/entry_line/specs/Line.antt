@@ -1,6 +1,5 @@
 -- A line that is edited, and what each key does with it.
-use Rattle.std.specs.Prelude.{ℕ, ◌+◌, ◌-◌, refl, nat_lt, min, if◌then◌else◌, length, take, drop, List, [], ◌∷◌, ◌++◌}
-use Rattle.std.specs.Coded.{Coded, code_by, coded×, coded_list, coded_ℕ}
+use Rattle.std.specs.Prelude.{ℕ, ◌+◌, ◌-◌, nat_lt, min, if◌then◌else◌, length, take, drop, List, [], ◌∷◌, ◌++◌}
 use Rattle.lics_text.specs.declared.TheConstants.{MAX_LEN}
 use Rattle.key_words.specs.declared.key.Key.{Key}
 use Rattle.key_words.specs.declared.key.Key.TheVariants.{Byte, Enter, Up, Down, Left, Right, Home, End, PgUp, PgDn, BigLeft, BigRight, Esc, Bs, Del, Edit, Name, Abs, Goto, Window, Query, Table, Calc, Graph, Break, Undo, Alt}
@@ -11,12 +10,6 @@ use Rattle.entry_line.specs.declared.event.LineEvent.TheVariants.{Going, Finishe
 pub record Entry : Type 0 where
   pub text : List ℕ
   pub cursor : ℕ
-
--- as a pair of the text and the cursor
-abbrev pub coded_entry : Coded Entry
-coded_entry =
-    code_by (List ℕ × ℕ) (coded× (coded_list coded_ℕ) coded_ℕ) (λ e. (e.text, e.cursor))
-    (λ p. record { text = p.0; cursor = p.1 }) (λ _. refl)
 
 -- the cursor goes to a place, or to the end where that is nearer
 abbrev pub placed : Entry → ℕ → Entry

@@ -19,11 +19,9 @@ pub struct EntryLine {
 impl Model for EntryLine {
     ghost use Rattle.std.specs.Prelude.{◌≤◌, length};
     ghost use Rattle.lics_text.specs.Bytes.{IsText};
-    ghost use Rattle.entry_line.specs.Line.{coded_entry, Entry};
+    ghost use Rattle.entry_line.specs.Line.{Entry};
 
     ghost Value = { Entry };
-
-    ghost coded = { coded_entry };
 
     ghost view = { λ l. record { text = l.line; cursor = l.cursor } };
 

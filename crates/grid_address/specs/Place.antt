@@ -1,19 +1,13 @@
 -- A place of the sheet, and the order of places: by row, then by column.
-use Rattle.std.specs.Prelude.{ℕ, ◌+◌, ◌-◌, ◌<◌, refl, Bool, ◌&&◌, nat_eq, nat_le, min, max}
+use Rattle.std.specs.Prelude.{ℕ, ◌+◌, ◌-◌, ◌<◌, Bool, ◌&&◌, nat_eq, nat_le, min, max}
 use Rattle.std.specs.declared.cmp.Ordering.{Ordering}
 use Rattle.std.specs.Ordering.{nat_cmp, ordering_then}
-use Rattle.std.specs.Coded.{Coded, code_by, coded×, coded_ℕ}
 use Rattle.grid_address.specs.declared.TheConstants.{COLUMNS, LAST_COLUMN, LAST_ROW, ROWS}
 
 -- a cell of the sheet, by its row and its column from 0 on
 pub record Place : Type 0 where
   pub row : ℕ
   pub col : ℕ
-
--- as a pair of numbers
-abbrev pub coded_place : Coded Place
-coded_place =
-    code_by (ℕ × ℕ) (coded× coded_ℕ coded_ℕ) (λ s. (s.row, s.col)) (λ p. record { row = p.0; col = p.1 }) (λ _. refl)
 
 -- a place that a cell can have
 abbrev pub InSheet : Place → Type 0
@@ -31,12 +25,6 @@ same_place a b = nat_eq a.row b.row && nat_eq a.col b.col
 pub record Extent : Type 0 where
   pub first : Place
   pub last : Place
-
--- as a pair of corners
-abbrev pub coded_extent : Coded Extent
-coded_extent =
-    code_by (Place × Place) (coded× coded_place coded_place) (λ s. (s.first, s.last))
-    (λ p. record { first = p.0; last = p.1 }) (λ _. refl)
 
 -- whether a cell lies in a span
 abbrev pub is_within : Extent → Place → Bool

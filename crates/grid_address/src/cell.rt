@@ -13,12 +13,10 @@ pub struct Cell {
 
 impl Model for Cell {
     ghost use Rattle.std.specs.Prelude.{◌<◌};
-    ghost use Rattle.grid_address.specs.Place.{Place, coded_place};
+    ghost use Rattle.grid_address.specs.Place.{Place};
     ghost use Rattle.grid_address.specs.declared.TheConstants.{COLUMNS, ROWS};
 
     ghost Value = { Place };
-
-    ghost coded = { coded_place };
 
     ghost view = { λ c. record { row = c.row; col = c.col } };
 

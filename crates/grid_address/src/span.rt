@@ -13,11 +13,9 @@ pub struct Span {
 
 impl Model for Span {
     ghost use Rattle.std.specs.Prelude.{◌≤◌};
-    ghost use Rattle.grid_address.specs.Place.{Extent, coded_extent};
+    ghost use Rattle.grid_address.specs.Place.{Extent};
 
     ghost Value = { Extent };
-
-    ghost coded = { coded_extent };
 
     ghost view = { λ s. record { first = s.first; last = s.last } };
 

@@ -42,13 +42,9 @@ pub struct Engine {
 
 impl Model for Engine {
     ghost use Rattle.std.specs.Prelude.{Option};
-    ghost use Rattle.std.specs.Coded.{coded_option};
-    ghost use Rattle.macro_words.specs.contracts.running.Running as a_macro;
     ghost use Rattle.macro_words.specs.declared.running.Running.{Running};
 
     ghost Value = { Option Running };
-
-    ghost coded = { coded_option (a_macro.the_row).coded };
 
     ghost view = { λ e. e.running };
 }

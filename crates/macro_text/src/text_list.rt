@@ -14,11 +14,8 @@ pub struct TextList {
 
 impl Model for TextList {
     ghost use Rattle.std.specs.Prelude.{ℕ, List};
-    ghost use Rattle.std.specs.Coded.{coded_list, coded_ℕ};
 
     ghost Value = { List (List ℕ) };
-
-    ghost coded = { coded_list (coded_list coded_ℕ) };
 
     ghost view = { λ l. l.items.items };
 }

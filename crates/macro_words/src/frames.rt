@@ -36,13 +36,9 @@ pub struct Frames {
 
 impl Model for Frames {
     ghost use Rattle.std.specs.Prelude.{List};
-    ghost use Rattle.std.specs.Coded.{coded_list};
     ghost use Rattle.macro_words.specs.declared.frames.Frame.{Frame};
-    ghost use Rattle.macro_words.specs.contracts.frames.Frame as frame;
 
     ghost Value = { List Frame };
-
-    ghost coded = { coded_list frame.the_row.coded };
 
     ghost view = { λ f. f.items.items };
 }

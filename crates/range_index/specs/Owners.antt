@@ -1,17 +1,12 @@
 -- Which cells own spans, and which of their spans hold a cell.
 use Rattle.std.specs.Prelude.{Bool, cond, List, [], ◌∷◌, ◌++◌, Option, None, Some}
-use Rattle.std.specs.Coded.{Coded, coded_list}
-use Rattle.std.specs.FinMap.{FinMap, code, entries, get, insert}
+use Rattle.std.specs.FinMap.{FinMap, entries, get, insert}
 use Rattle.std.specs.List.{list_any}
-use Rattle.grid_address.specs.Place.{coded_extent, coded_place, is_within, place_cmp, Extent, Place}
+use Rattle.grid_address.specs.Place.{is_within, place_cmp, Extent, Place}
 
 -- each owner's spans, in the order in which they were added
 abbrev pub Owners : Type 0
 Owners = FinMap place_cmp (List Extent)
-
--- how a map of owners is coded, by the codes of cells and of lists of spans
-abbrev pub coded_owners : Coded Owners
-coded_owners = code coded_place (coded_list coded_extent)
 
 -- the spans of an owner that may have none
 abbrev pub spans_in : Option (List Extent) → List Extent

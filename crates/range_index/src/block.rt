@@ -15,11 +15,9 @@ pub struct Size {
 
 impl Model for Size {
     ghost use Rattle.std.specs.Prelude.{◌<◌};
-    ghost use Rattle.range_index.specs.Powers.{coded_powers, Powers};
+    ghost use Rattle.range_index.specs.Powers.{Powers};
 
     ghost Value = { Powers };
-
-    ghost coded = { coded_powers };
 
     ghost view = { λ s. record { rows = s.rows; cols = s.cols } };
 

@@ -25,13 +25,14 @@ pub struct RangeIndex {
 }
 
 impl Model for RangeIndex {
+    ghost use Rattle.std.specs.Coded.{codes};
     ghost use Rattle.std.specs.FinMap as map;
-    ghost use Rattle.range_index.specs.Owners.{coded_owners, Owners};
+    ghost use Rattle.range_index.specs.Owners.{Owners};
     ghost use Rattle.range_index.specs.Registered.{AreRegistered};
 
     ghost Value = { Owners };
 
-    ghost coded = { coded_owners };
+    ghost coded = { Prim.hlevel (codes, map.code) };
 
     ghost view = { λ i. map.from_entries i.owners.entries };
 

@@ -5,10 +5,9 @@ use Rattle.std.specs.List.{list_all}
 use Rattle.std.specs.Ordering.{nat_cmp, is_gt}
 use Rattle.std.specs.declared.cmp.Ordering.{Ordering}
 use Rattle.std.specs.Cmp.Lexicographic.{slice_cmp}
-use Rattle.std.specs.Coded.{Coded, coded_list, coded_ℕ}
-use Rattle.std.specs.FinMap.{FinMap, code, entries, get}
+use Rattle.std.specs.FinMap.{FinMap, entries, get}
 use Rattle.ascii_bytes.specs.Ascii as ascii
-use Rattle.grid_address.specs.Place.{same_place, coded_extent, Extent}
+use Rattle.grid_address.specs.Place.{same_place, Extent}
 use Rattle.grid_address.specs.Progress.{address_in}
 use Rattle.range_names.specs.declared.fault.NameFault.{NameFault}
 use Rattle.range_names.specs.declared.fault.NameFault.TheVariants.{Empty, TooLong, BadByte}
@@ -20,10 +19,6 @@ name_cmp = slice_cmp nat_cmp
 -- a key is a folded name with zeros behind it, 15 bytes in all
 abbrev pub NameMap : Type 0
 NameMap = FinMap name_cmp Extent
-
--- as the list of its entries, in byte order of the keys
-abbrev pub coded_names : Coded NameMap
-coded_names = code (coded_list coded_ℕ) coded_extent
 
 -- the key of a name, which is the same for letters of either case
 abbrev pub key_of : List ℕ → List ℕ

@@ -23,12 +23,13 @@ pub struct Names {
 }
 
 impl Model for Names {
+    ghost use Rattle.std.specs.Coded.{codes};
     ghost use Rattle.std.specs.FinMap as namemap;
-    ghost use Rattle.range_names.specs.Names.{coded_names, NameMap};
+    ghost use Rattle.range_names.specs.Names.{NameMap};
 
     ghost Value = { NameMap };
 
-    ghost coded = { coded_names };
+    ghost coded = { Prim.hlevel (codes, namemap.code) };
 
     ghost view = { λ n. namemap.from_entries n.map.entries };
 

@@ -1,19 +1,16 @@
 -- The session as a machine over one map of cells, in which every formula is evaluated at each recalculation.
-use Rattle.std.specs.Prelude.{◌≡◌, ℕ, Bool, true, false, Option, None, Some, List, [], ◌++◌, refl}
-use Rattle.std.specs.Coded.{Coded, code_by, coded×, coded_bool, coded_option, coded_ℕ}
-use Rattle.command_desk.specs.Desks.{coded_desk, fresh_desk, on_sheet, Desk}
+use Rattle.std.specs.Prelude.{◌≡◌, ℕ, Bool, true, false, Option, None, Some, List, [], ◌++◌}
+use Rattle.command_desk.specs.Desks.{fresh_desk, on_sheet, Desk}
 use Rattle.commands_file.specs.Calls.{Asked, HaveAnswered, Reply, ShelfView}
 use Rattle.formula_eval.specs.declared.look.Scene.{Scene}
-use Rattle.grid_address.specs.Place.{Place, coded_place}
-use Rattle.macro_words.specs.contracts.running.Running as macro_running
+use Rattle.grid_address.specs.Place.{Place}
 use Rattle.macro_words.specs.declared.running.Running.{Running}
 use Rattle.serial_date.specs.declared.moment.Moment.{Moment}
-use Rattle.session_rooms.specs.contracts.rooms.Room as room
 use Rattle.session_rooms.specs.declared.rooms.Room.{Room}
 use Rattle.session_rooms.specs.declared.rooms.Room.TheVariants.{Ready}
 use Rattle.work_sheet.specs.Doing.{with_pointer, Done, Happened}
 use Rattle.work_sheet.specs.Seen.{Sheet}
-use Rattle.work_sheet.specs.Work.{coded_work, HasWorked, Work}
+use Rattle.work_sheet.specs.Work.{HasWorked, Work}
 
 -- The desk with the worksheet and its pointer, the cell at the top left of the screen, what the session is doing,
 -- whether END waits for a moving key, the macro that runs, and the day and the second of the last step.
@@ -36,35 +33,6 @@ pub record SessionView : Type 0 where
   pub state : State
   pub work : Work
   pub spent : Bool
-
--- a state's parts, as plain data
-abbrev pub coded_state : Coded State
-coded_state = code_by (Desk × (Place × (Room × (Bool × (Option Running × (Option ℕ × ℕ))))))
-    (coded× coded_desk
-    (coded× coded_place
-    (coded× (room.the_row).coded
-    (coded× coded_bool (coded× (coded_option (macro_running.the_row).coded) (coded× (coded_option coded_ℕ) coded_ℕ))))))
-    (λ s. (s.desk, (s.corner, (s.room, (s.end, (s.running, (s.day, s.second)))))))
-    (λ p. record {
-      desk = p.0;
-      corner = p.1.0;
-      room = p.1.1.0;
-      end = p.1.1.1.0;
-      running = p.1.1.1.1.0;
-      day = p.1.1.1.1.1.0;
-      second = p.1.1.1.1.1.1;
-    })
-    (λ _. refl)
-
--- the machine's parts, as plain data
-abbrev pub coded_worked : Coded Worked
-coded_worked = code_by (State × Work) (coded× coded_state coded_work)
-    (λ w. (w.state, w.work)) (λ p. record { state = p.0; work = p.1 }) (λ _. refl)
-
--- a session's parts, as plain data
-abbrev pub coded_session : Coded SessionView
-coded_session = code_by (State × (Work × Bool)) (coded× coded_state (coded× coded_work coded_bool))
-    (λ r. (r.state, (r.work, r.spent))) (λ p. record { state = p.0; work = p.1.0; spent = p.1.1 }) (λ _. refl)
 
 -- the cell A1
 abbrev pub home : Place

@@ -65,12 +65,15 @@ pub struct Machine {
 }
 
 impl Model for Machine {
-    ghost use Rattle.session_core.specs.Machine.{coded_worked, Worked};
+    ghost use Rattle.formula_tree.specs.contracts.formula.Formula as formula;
+    ghost use Rattle.std.specs.Coded.{codes};
+    ghost use Rattle.std.specs.FinMap as map;
+    ghost use Rattle.session_core.specs.Machine.{Worked};
     ghost use Rattle.command_desk.specs.Desks.{of_desk};
 
     ghost Value = { Worked };
 
-    ghost coded = { coded_worked };
+    ghost coded = { Prim.hlevel (codes, map.code, formula.the_row.coded) };
 
     ghost view = { λ a. record {
       state = record {

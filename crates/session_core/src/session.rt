@@ -29,13 +29,16 @@ pub struct Session {
 }
 
 impl Model for Session {
+    ghost use Rattle.formula_tree.specs.contracts.formula.Formula as formula;
+    ghost use Rattle.std.specs.Coded.{codes};
+    ghost use Rattle.std.specs.FinMap as map;
     ghost use Rattle.std.specs.Prelude.{◌≡◌, false};
-    ghost use Rattle.session_core.specs.Machine.{coded_session, SessionView};
+    ghost use Rattle.session_core.specs.Machine.{SessionView};
     ghost use Rattle.session_core.specs.Screen.{screen};
 
     ghost Value = { SessionView };
 
-    ghost coded = { coded_session };
+    ghost coded = { Prim.hlevel (codes, map.code, formula.the_row.coded) };
 
     ghost view = { λ a. record { state = a.machine.state; work = a.machine.work; spent = a.spent } };
 

@@ -1,11 +1,10 @@
 -- Edits of many cells: what each cell holds afterwards.
 use Rattle.std.specs.Prelude.{ℕ, ◌≡◌, ◌<◌, ◌⊎◌, ◌+◌, ◌-◌, ◌*◌, ◌/◌, ◌%◌, Bool, false, true, cond, ◌&&◌, nat_eq, nat_le, nat_lt, List, [], ◌∷◌, map, Option, None, Some, Result, Ok, Err}
-use Rattle.std.specs.Coded.{Coded}
 use Rattle.std.specs.FinMap as cells
 use Rattle.std.specs.declared.cmp.Ordering.{Ordering}
 use Rattle.std.specs.declared.cmp.Ordering.TheVariants.{Equal, Greater, Less}
 use Rattle.grid_address.specs.Formats.{default_format, has_protection, protected, unprotected}
-use Rattle.grid_address.specs.Place.{coded_place, height_of, place_cmp, same_place, width_of, Extent, Place}
+use Rattle.grid_address.specs.Place.{height_of, place_cmp, same_place, width_of, Extent, Place}
 use Rattle.grid_address.specs.declared.format.Format.{Format}
 use Rattle.depend_graph.specs.Network.{Network}
 use Rattle.depend_graph.specs.declared.node.Node.{Node}
@@ -14,7 +13,6 @@ use Rattle.natural_recalc.specs.Context.{format_of, formula_at, formula_in}
 use Rattle.natural_recalc.specs.Reading.{node_of}
 use Rattle.sheet_store.specs.Choices.{Choices}
 use Rattle.sheet_store.specs.Grid.{blank_state, formatted, is_formula, is_kept, put_state, Cells, Grid, IsSound}
-use Rattle.sheet_store.specs.contracts.state.CellState as state
 use Rattle.sheet_store.specs.State.{CellState}
 use Rattle.sheet_store.specs.declared.writes.SheetFault.{SheetFault}
 use Rattle.sheet_store.specs.declared.writes.SheetFault.TheVariants as faults
@@ -22,10 +20,6 @@ use Rattle.sheet_store.specs.declared.writes.Write.{Write}
 use Rattle.sheet_edits.specs.declared.spans.FormatChange.{FormatChange}
 use Rattle.sheet_edits.specs.declared.spans.FormatChange.TheVariants as formats
 use Rattle.sheet_edits.specs.Edits.{first_value, is_protected}
-
--- a map of cells is coded by the codes of places and of states
-abbrev pub coded_cells : Coded Cells
-coded_cells = cells.code coded_place (state.the_row).coded
 
 -- what a cell holds that is given a state
 abbrev pub kept_of : CellState → Option CellState

@@ -17,13 +17,14 @@ pub struct Changes {
 }
 
 impl Model for Changes {
+    ghost use Rattle.formula_tree.specs.contracts.formula.Formula as formula;
+    ghost use Rattle.std.specs.Coded.{codes};
     ghost use Rattle.std.specs.FinMap as map;
     ghost use Rattle.sheet_store.specs.Grid.{Cells};
-    ghost use Rattle.sheet_edits.specs.Spans.{coded_cells};
 
     ghost Value = { Cells };
 
-    ghost coded = { coded_cells };
+    ghost coded = { Prim.hlevel (codes, map.code, formula.the_row.coded) };
 
     ghost view = { λ a. map.from_entries a.states.entries };
 }

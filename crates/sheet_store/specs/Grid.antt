@@ -1,17 +1,15 @@
 -- What a store holds: a finite map from cells to states, and each column's own width and whether it is hidden.
-use Rattle.std.specs.Prelude.{ℕ, ◌≡◌, refl, Bool, true, false, cond, not, ◌&&◌, nat_eq, max, set, get_or, List, [], ◌∷◌, Option, None, Some}
-use Rattle.std.specs.Coded.{Coded, code_by, coded×, coded_ℕ, coded_bool, coded_list}
+use Rattle.std.specs.Prelude.{ℕ, ◌≡◌, Bool, true, false, cond, not, ◌&&◌, nat_eq, max, set, get_or, List, [], ◌∷◌, Option, None, Some}
 use Rattle.std.specs.FinMap as map
 use Rattle.std.specs.FinMap.{FinMap}
 use Rattle.grid_address.specs.Formats.{default_format}
-use Rattle.grid_address.specs.Place.{coded_place, is_within, place_cmp, Extent, InSheet, Place}
+use Rattle.grid_address.specs.Place.{is_within, place_cmp, Extent, InSheet, Place}
 use Rattle.grid_address.specs.declared.format.Format.{Format}
 use Rattle.formula_tree.specs.declared.value.Content.{Content}
 use Rattle.formula_tree.specs.declared.value.Content.TheVariants as content
 use Rattle.formula_tree.specs.declared.value.Value.{Value}
 use Rattle.formula_tree.specs.declared.value.Value.TheVariants as value
 use Rattle.sheet_store.specs.State.{CellState}
-use Rattle.sheet_store.specs.contracts.state.CellState as state
 
 -- the states of the cells that are kept; every other cell is blank and in the default format
 abbrev pub Cells : Type 0
@@ -22,12 +20,6 @@ pub record Grid : Type 0 where
   pub cells : Cells
   pub widths : List ℕ
   pub hidden : List Bool
-
--- stores by the codes of their three parts
-abbrev pub coded_grid : Coded Grid
-coded_grid = code_by (FinMap place_cmp CellState × (List ℕ × List Bool))
-    (coded× (map.code coded_place (state.the_row).coded) (coded× (coded_list coded_ℕ) (coded_list coded_bool)))
-    (λ g. (g.cells, (g.widths, g.hidden))) (λ p. record { cells = p.0; widths = p.1.0; hidden = p.1.1 }) (λ _. refl)
 
 -- nothing is held, in whatever format
 abbrev pub is_blank : Content → Bool

@@ -1,17 +1,11 @@
 -- Cells with their states, in row order.
-use Rattle.std.specs.Coded.{Coded, coded×, coded_list}
 use Rattle.std.specs.Prelude.{◌≡◌, false, List, Some}
 use Rattle.std.specs.FinMap.{get}
 use Rattle.std.specs.List.{filter}
 use Rattle.std.specs.Ordering.{is_le, is_lt}
-use Rattle.grid_address.specs.Place.{coded_place, place_cmp, InSheet, Place}
+use Rattle.grid_address.specs.Place.{place_cmp, InSheet, Place}
 use Rattle.sheet_store.specs.Grid.{Cells}
 use Rattle.sheet_store.specs.State.{CellState}
-use Rattle.sheet_store.specs.contracts.state.CellState as state
-
--- how a list of them is told apart
-abbrev pub coded_entries : Coded (List (Place × CellState))
-coded_entries = coded_list (coded× coded_place (state.the_row).coded)
 
 -- the entries behind a place
 abbrev pub entries_behind : Place → List (Place × CellState) → List (Place × CellState)

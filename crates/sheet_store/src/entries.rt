@@ -18,16 +18,17 @@ pub struct Entries<'a> {
 }
 
 impl<'a> Model for Entries<'a> {
+    ghost use Rattle.formula_tree.specs.contracts.formula.Formula as formula;
+    ghost use Rattle.std.specs.Coded.{codes};
     ghost use Rattle.std.specs.Prelude.{List};
     ghost use Rattle.std.specs.FinMap as map;
     ghost use Rattle.grid_address.specs.Place.{Place};
     ghost use Rattle.sheet_store.specs.Scan.{left_from};
     ghost use Rattle.sheet_store.specs.State.{CellState};
-    ghost use Rattle.sheet_store.specs.RowOrder.{coded_entries};
 
     ghost Value = { List (Place × CellState) };
 
-    ghost coded = { coded_entries };
+    ghost coded = { Prim.hlevel (codes, formula.the_row.coded) };
 
     ghost view = { λ e. left_from e.from (map.entries e.store.now.cells) };
 }

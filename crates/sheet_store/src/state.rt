@@ -35,11 +35,13 @@ pub struct CellState {
 }
 
 impl Model for CellState {
-    ghost use Rattle.sheet_store.specs.State.{coded_state, CellState};
+    ghost use Rattle.formula_tree.specs.contracts.formula.Formula as formula;
+    ghost use Rattle.std.specs.Coded.{codes};
+    ghost use Rattle.sheet_store.specs.State.{CellState};
 
     ghost Value = { CellState };
 
-    ghost coded = { coded_state };
+    ghost coded = { Prim.hlevel (codes, formula.the_row.coded) };
 
     ghost use Rattle.sheet_store.specs.Kept.{state_kept};
 

@@ -29,11 +29,14 @@ pub struct Store {
 }
 
 impl Model for Store {
-    ghost use Rattle.sheet_store.specs.Grid.{coded_grid, AreHeld, Grid};
+    ghost use Rattle.formula_tree.specs.contracts.formula.Formula as formula;
+    ghost use Rattle.std.specs.Coded.{codes};
+    ghost use Rattle.std.specs.FinMap as map;
+    ghost use Rattle.sheet_store.specs.Grid.{AreHeld, Grid};
 
     ghost Value = { Grid };
 
-    ghost coded = { coded_grid };
+    ghost coded = { Prim.hlevel (codes, map.code, formula.the_row.coded) };
 
     ghost view = { λ a. record { cells = a.cells; widths = a.widths; hidden = a.hidden } };
 

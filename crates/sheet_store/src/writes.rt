@@ -24,14 +24,14 @@ pub struct Writes {
 }
 
 impl Model for Writes {
+    ghost use Rattle.formula_tree.specs.contracts.formula.Formula as formula;
+    ghost use Rattle.std.specs.Coded.{codes};
     ghost use Rattle.std.specs.Prelude.{List};
-    ghost use Rattle.std.specs.Coded.{coded_list};
     ghost use Rattle.sheet_store.specs.declared.writes.Write.{Write};
-    ghost use Rattle.sheet_store.specs.contracts.writes.Write as write;
 
     ghost Value = { List Write };
 
-    ghost coded = { coded_list write.the_row.coded };
+    ghost coded = { Prim.hlevel (codes, formula.the_row.coded) };
 
     ghost view = { λ w. w.items.items };
 }

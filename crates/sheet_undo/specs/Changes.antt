@@ -1,15 +1,9 @@
 -- Cells that change.
 use Rattle.std.specs.Prelude.{◌≡◌, ◌⊎◌, List, [], ◌∷◌, Option, None, Some}
-use Rattle.std.specs.Coded.{Coded, coded×, coded_option}
 use Rattle.std.specs.FinMap.{get, insert, remove}
-use Rattle.grid_address.specs.Place.{coded_place, Place}
+use Rattle.grid_address.specs.Place.{Place}
 use Rattle.sheet_store.specs.Grid.{Cells, Grid, IsHeld}
-use Rattle.sheet_store.specs.contracts.state.CellState as state
 use Rattle.sheet_store.specs.State.{CellState}
-
--- how a cell, with the state that it has or none, is told apart
-abbrev pub coded_change : Coded (Place × Option CellState)
-coded_change = coded× coded_place (coded_option (state.the_row).coded)
 
 -- a state that a cell of a store may have, or none
 abbrev pub MayHave : Place → Option CellState → Type 0

@@ -1,21 +1,15 @@
 -- The history of a sheet: the states that undo gives back.
-use Rattle.std.specs.Prelude.{◌≡◌, ℕ, zero, suc, Bool, true, false, List, [], ◌∷◌, Option, None, Some, refl, take}
-use Rattle.std.specs.Coded.{Coded, code_by, coded×, coded_list, coded_option}
+use Rattle.std.specs.Prelude.{◌≡◌, ℕ, zero, suc, Bool, true, false, List, [], ◌∷◌, Option, None, Some, take}
 use Rattle.sheet_store.specs.Choices.{Choices}
 use Rattle.work_sheet.specs.Did.{DidEdit}
 use Rattle.work_sheet.specs.Kept.{put_back}
-use Rattle.work_sheet.specs.Seen.{coded_sheet, Sheet}
+use Rattle.work_sheet.specs.Seen.{Sheet}
 use Rattle.work_sheet.specs.Sheets.{Worksheet}
 
 -- the kept states, the latest first, and the begun one, if there is one
 pub record History : Type 0 where
   pub kept : List Sheet
   pub begun : Option Sheet
-
--- how a history is told apart
-abbrev pub coded_history : Coded History
-coded_history = code_by (List Sheet × Option Sheet) (coded× (coded_list coded_sheet) (coded_option coded_sheet))
-    (λ h. (h.kept, h.begun)) (λ p. record { kept = p.0; begun = p.1 }) (λ _. refl)
 
 -- none
 abbrev pub no_history : History

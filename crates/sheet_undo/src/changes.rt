@@ -19,14 +19,16 @@ pub struct Change {
 }
 
 impl Model for Change {
+    ghost use Rattle.formula_tree.specs.contracts.formula.Formula as formula;
+    ghost use Rattle.std.specs.Coded.{codes};
     ghost use Rattle.std.specs.Prelude.{Option};
     ghost use Rattle.grid_address.specs.Place.{Place};
     ghost use Rattle.sheet_store.specs.State.{CellState};
-    ghost use Rattle.sheet_undo.specs.Changes.{coded_change, MayHave};
+    ghost use Rattle.sheet_undo.specs.Changes.{MayHave};
 
     ghost Value = { Place × Option CellState };
 
-    ghost coded = { coded_change };
+    ghost coded = { Prim.hlevel (codes, formula.the_row.coded) };
 
     ghost view = { λ c. (c.cell, c.state) };
 

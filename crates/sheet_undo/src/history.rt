@@ -32,13 +32,16 @@ pub struct History {
 }
 
 impl Model for History {
+    ghost use Rattle.formula_tree.specs.contracts.formula.Formula as formula;
+    ghost use Rattle.std.specs.Coded.{codes};
+    ghost use Rattle.std.specs.FinMap as map;
     ghost use Rattle.std.specs.Prelude.{◌≤◌, length};
-    ghost use Rattle.sheet_undo.specs.Histories.{coded_history, History};
+    ghost use Rattle.sheet_undo.specs.Histories.{History};
     ghost use Rattle.sheet_undo.specs.Keeping.{states, told};
 
     ghost Value = { History };
 
-    ghost coded = { coded_history };
+    ghost coded = { Prim.hlevel (codes, map.code, formula.the_row.coded) };
 
     ghost view = { λ h. record { kept = states h.latest h.earlier.items; begun = told h.begun } };
 

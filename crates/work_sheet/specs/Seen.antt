@@ -1,12 +1,10 @@
 -- What is seen of a sheet.
-use Rattle.std.specs.Prelude.{Bool, false, refl, replicate}
+use Rattle.std.specs.Prelude.{Bool, false, replicate}
 use Rattle.std.specs.FinMap as map
-use Rattle.std.specs.Coded.{Coded, code_by, coded×, coded_bool}
 use Rattle.grid_address.specs.declared.TheConstants.{COLUMNS}
-use Rattle.range_names.specs.Names.{coded_names, NameMap}
+use Rattle.range_names.specs.Names.{NameMap}
 use Rattle.sheet_store.specs.Choices.{fresh, Choices}
-use Rattle.sheet_store.specs.Grid.{coded_grid, Grid}
-use Rattle.sheet_store.specs.contracts.settings.Settings as settings
+use Rattle.sheet_store.specs.Grid.{Grid}
 use Rattle.work_sheet.specs.Sheets.{Worksheet}
 
 -- one map of cells, with the columns, whether the last recalculation told a circle, whether a change was made since
@@ -17,13 +15,6 @@ pub record Sheet : Type 0 where
   pub stale : Bool
   pub names : NameMap
   pub settings : Choices
-
--- a sheet is coded as its parts, one after the other
-abbrev pub coded_sheet : Coded Sheet
-coded_sheet = code_by (Grid × (Bool × (Bool × (NameMap × Choices))))
-    (coded× coded_grid (coded× coded_bool (coded× coded_bool (coded× coded_names (settings.the_row).coded))))
-    (λ s. (s.grid, (s.circular, (s.stale, (s.names, s.settings)))))
-    (λ p. record { grid = p.0; circular = p.1.0; stale = p.1.1.0; names = p.1.1.1.0; settings = p.1.1.1.1 }) (λ _. refl)
 
 -- no cell, no column of a width of its own or hidden, no name, and the settings of a fresh sheet
 abbrev pub fresh_sheet : Sheet

@@ -1,18 +1,16 @@
 -- What a sheet is seen as, and what it keeps.
-use Rattle.std.specs.Prelude.{◌≡◌, refl, Bool, true, false, List, Option, None, Some, Result, Ok, Err}
+use Rattle.std.specs.Prelude.{◌≡◌, Bool, true, false, List, Option, None, Some, Result, Ok, Err}
 use Rattle.std.specs.FinMap as map
-use Rattle.std.specs.Coded.{Coded, code_by, coded×, coded_bool, coded_list}
-use Rattle.grid_address.specs.Place.{coded_place, same_place, Place}
-use Rattle.range_names.specs.Names.{coded_names, NameMap}
+use Rattle.grid_address.specs.Place.{same_place, Place}
+use Rattle.range_names.specs.Names.{NameMap}
 use Rattle.depend_graph.specs.Network.{Network}
 use Rattle.cell_numbers.specs.Sets.{has}
 use Rattle.sheet_store.specs.Choices.{Choices}
-use Rattle.sheet_store.specs.Grid.{coded_grid, Grid}
+use Rattle.sheet_store.specs.Grid.{Grid}
 use Rattle.formula_tree.specs.declared.value.Value.{Value}
 use Rattle.sheet_store.specs.State.{CellState}
 use Rattle.sheet_store.specs.declared.writes.SheetFault.{SheetFault}
 use Rattle.sheet_store.specs.declared.writes.SheetFault.TheVariants as faults
-use Rattle.sheet_store.specs.contracts.settings.Settings as settings
 use Rattle.sheet_store.specs.declared.order.Order.{Order}
 use Rattle.sheet_store.specs.declared.order.Order.TheVariants as orders
 use Rattle.natural_recalc.specs.Context.{Context}
@@ -28,22 +26,6 @@ pub record Worksheet : Type 0 where
   pub stale : Bool
   pub names : NameMap
   pub settings : Choices
-
--- a worksheet is coded as its parts, one after the other
-abbrev pub coded_worksheet : Coded Worksheet
-coded_worksheet = code_by (Grid × (List Place × (Bool × (Bool × (NameMap × Choices)))))
-    (coded× coded_grid (coded× (coded_list coded_place)
-    (coded× coded_bool (coded× coded_bool (coded× coded_names (settings.the_row).coded)))))
-    (λ s. (s.grid, (s.dirty, (s.circular, (s.stale, (s.names, s.settings))))))
-    (λ p. record {
-      grid = p.0;
-      dirty = p.1.0;
-      circular = p.1.1.0;
-      stale = p.1.1.1.0;
-      names = p.1.1.1.1.0;
-      settings = p.1.1.1.1.1;
-    })
-    (λ _. refl)
 
 -- in another order than the natural one all formulas are dirty
 abbrev pub AllDirtyIn : Order → Grid → List Place → Type 0

@@ -1,9 +1,8 @@
 -- The work of recalculation: which formulas are dirty, and how many evaluations there were. It has no part in what the
 -- sheet becomes, and what happened tells it.
-use Rattle.std.specs.Prelude.{◌≡◌, ℕ, ◌+◌, ◌-◌, ◌*◌, Bool, List, [], ◌∷◌, length, refl}
-use Rattle.std.specs.Coded.{Coded, code_by, coded×, coded_list, coded_ℕ}
+use Rattle.std.specs.Prelude.{◌≡◌, ℕ, ◌+◌, ◌-◌, ◌*◌, Bool, List, [], ◌∷◌, length}
 use Rattle.std.specs.List.{filter, IsDistinct}
-use Rattle.grid_address.specs.Place.{coded_place, same_place, Extent, Place}
+use Rattle.grid_address.specs.Place.{same_place, Extent, Place}
 use Rattle.cell_numbers.specs.Sets.{has}
 use Rattle.natural_recalc.specs.Passes.{raised_by, IsDirtyAfter}
 use Rattle.natural_recalc.specs.Reading.{is_formula_at}
@@ -16,11 +15,6 @@ use Rattle.work_sheet.specs.Doing.{all_dirty, evaluated_once, passed, swept, wro
 pub record Work : Type 0 where
   pub dirty : List Place
   pub count : ℕ
-
--- the work is coded as its list and its count
-abbrev pub coded_work : Coded Work
-coded_work = code_by (List Place × ℕ) (coded× (coded_list coded_place) coded_ℕ)
-    (λ w. (w.dirty, w.count)) (λ p. record { dirty = p.0; count = p.1 }) (λ _. refl)
 
 -- none
 abbrev pub no_work : Work

@@ -66,11 +66,14 @@ pub struct SheetOf<E: Means> {
 pub type Sheet = SheetOf<Tally>;
 
 impl<E: Means> Model for SheetOf<E> {
-    ghost use Rattle.work_sheet.specs.Sheets.{coded_worksheet, IsKept, Worksheet};
+    ghost use Rattle.formula_tree.specs.contracts.formula.Formula as formula;
+    ghost use Rattle.std.specs.Coded.{codes};
+    ghost use Rattle.std.specs.FinMap as map;
+    ghost use Rattle.work_sheet.specs.Sheets.{IsKept, Worksheet};
 
     ghost Value = { Worksheet };
 
-    ghost coded = { coded_worksheet };
+    ghost coded = { Prim.hlevel (codes, map.code, formula.the_row.coded) };
 
     ghost view = { λ s. record {
       grid = s.store;
