@@ -1,5 +1,5 @@
 -- What a map of held cells has, and what it has after an item is put in or taken out.
-use Rattle.std.specs.Prelude.{ℕ, suc, zero, ◌≡◌, ◌+◌, ◌*◌, ◌<◌, ◌≤◌, ◌++◌, ◌-◌, IsSome, cond, refl, true, false, List, [], ◌∷◌, length, map, get_or, set, slice_get, nat_eq, Option, None, Some}
+use Rattle.std.specs.Prelude.{ℕ, suc, zero, ◌≡◌, ◌+◌, ◌*◌, ◌<◌, ◌≤◌, ◌++◌, cond, refl, true, false, List, [], ◌∷◌, length, map, get_or, set, slice_get, nat_eq, Option, None, Some}
 use Rattle.std.specs.FinMap.{find, from_entries, from_entries_push, get, get-from_entries, insert, remove}
 use Rattle.std.specs.List.{list_any, Contains, IsDistinct}
 use Rattle.std.specs.Ordering.{eq_by_cmp}
@@ -32,9 +32,6 @@ apart q c n = elim (cases_Bool (same_place q c)) [
   | inl t ↦ absurd (n (sym (same_place_is q c t)))
   | inr f ↦ place_tied q c ∙ f
 ]
-
-no_item : (X : Type 0) → IsSome {T = X} None → ⊥
-no_item X h = absurd cc
 
 module _ {T : Type 0} where
   skip : (q c : Place) (o : Option T) (es : List (Place × T)) → (c ≡ q → ⊥) → find place_cmp q (with_item c o es) ≡ find place_cmp q es
@@ -105,14 +102,6 @@ module _ {T : Type 0} where
     -- one without a number has none
     pub got_none : number_at bands c ≡ 0 → get (from_entries {R = place_cmp} (filled hs)) c ≡ None
     got_none z = get-from_entries cells_total (filled hs) c ∙ none_at c hs (unnumbered z)
-
-    -- a cell with an item has a number
-    pub number_of_item : IsSome (get (from_entries {R = place_cmp} (filled hs)) c) → number_at bands c ≡ suc (number_at bands c - 1)
-    number_of_item h = with (number_at bands c) refl
-      where
-        with : (n : ℕ) → number_at bands c ≡ n → number_at bands c ≡ suc (number_at bands c - 1)
-        with zero e = absurd (no_item T (subst IsSome (got_none e) h))
-        with (suc n) e = omega (arith, e)
 
     pub same_numbered : (i : ℕ) (g : Held T) → number_at bands c ≡ suc i → cell_in g ≡ c → AreNumbered bands (cells_of (set hs i g))
     same_numbered i g e is = subst (AreNumbered bands) (sym (same_cells hs i g (ok.found c i inside e ∙ ap Some (sym is)))) ok

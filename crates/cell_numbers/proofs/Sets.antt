@@ -1,16 +1,16 @@
 -- What a set of numbered cells has, and what it has after a cell is taken out.
-use Rattle.std.specs.Prelude.{ℕ, suc, zero, ◌≡◌, ◌<◌, ◌≤◌, ◌++◌, ◌-◌, ◌||◌, Bool, cond, refl, true, false, List, [], ◌∷◌, length, take, get_or, set, slice_get, nat_eq, nat_lt, Some, None}
+use Rattle.std.specs.Prelude.{ℕ, suc, zero, ◌≡◌, ◌<◌, ◌≤◌, ◌++◌, ◌||◌, Bool, cond, refl, true, false, List, [], ◌∷◌, length, take, get_or, set, slice_get, nat_eq, nat_lt, Some, None}
 use Rattle.std.specs.List.{AllByRecursion, IsDistinct}
 use Rattle.std.proofs.Common.{sym, ◌∙◌, ap, subst, arith, inl, inr, ◌⊎◌}
 use Rattle.std.proofs.lemmas.Bool.{cases_Bool, eq-eqb, eqb-true, false≢true, false_from_ne_true, ltb-false, ltb-true}
-use Rattle.std.proofs.lemmas.List.{get_or_past, get_or-set_other, get_or-set_same}
+use Rattle.std.proofs.lemmas.List.{get_or_past}
 use Rattle.std.proofs.lemmas.Map.Keys.{IsDistinct-from_apart}
 use Rattle.std.proofs.lemmas.Option.{slice_get-get_or, slice_get_within}
 use Rattle.grid_address.specs.Place.{same_place, InSheet, Place}
 use Rattle.grid_address.proofs.Places.{same_place_is, same_place_itself, same_place_laws}
 use Rattle.cell_numbers.specs.Filled.{AreNumbered}
 use Rattle.cell_numbers.specs.Numbers.{number_at, page_of, place_of, HasRoom}
-use Rattle.cell_numbers.specs.Sets.{has, insert_key}
+use Rattle.cell_numbers.specs.Sets.{has}
 use Rattle.cell_numbers.proofs.Filled.{last_is, last_or, longer}
 
 same_some : {x y : Place} → Some x ≡ Some y → x ≡ y

@@ -1,15 +1,10 @@
 -- What a map ends as, where a `&mut` to an item is returned.
 use Rattle.std.specs.Prelude.{Option}
-use Rattle.std.specs.Borrow.{Lends, LendsIf, Fml, RattleType, MutBor}
+use Rattle.std.specs.Borrow.{LendsIf, Fml, RattleType, MutBor}
 use Rattle.std.specs.FinMap.{insert, FinMap}
 use Rattle.grid_address.specs.Place.{place_cmp, Place}
 use Rattle.cell_numbers.specs.contracts.map.CellMap.{the_row}
 
-module _ (T : RattleType) (s : MutBor (FinMap place_cmp T.Denot)) (c : Place) where
-  -- once the borrow r ends, the cell has the last item written through r
-  abbrev pub lends_at : MutBor T.Denot → Fml
-  lends_at r = Lends (the_row T) T s r (λ w. insert s.now c w)
-
-  -- the same where r is a reference, and at `None` the map stays as it is
-  abbrev pub lends_get : Option (MutBor T.Denot) → Fml
-  lends_get r = LendsIf (the_row T) T s r (λ w. insert s.now c w) s.now
+-- once the borrow r ends, the cell has the last item written through r; at `None` the map stays as it is
+abbrev pub lends_get : (T : RattleType) → MutBor (FinMap place_cmp T.Denot) → Place → Option (MutBor T.Denot) → Fml
+lends_get T s c r = LendsIf (the_row T) T s r (λ w. insert s.now c w) s.now

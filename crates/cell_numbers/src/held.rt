@@ -1,5 +1,6 @@
 // A cell that has a number.
-ghost use Rattle.std.specs.Prelude.{◌≡◌, Some, IsSome};
+ghost use Rattle.std.specs.Prelude.{◌≡◌};
+ghost use Rattle.std.specs.Option.{option_copied_mut};
 ghost use Rattle.std.specs.Borrow.{sem};
 ghost use Rattle.cell_numbers.specs.Filled.{item_in};
 ghost use Rattle.cell_numbers.specs.Lends.{lends_item};
@@ -14,15 +15,14 @@ pub enum Held<T> {
 }
 
 impl<T> Held<T> {
-    // The item of a cell that has one.
-    pub(crate) fn item_mut(&mut self) -> &mut T
-        requires { IsSome (item_in self.old) }
+    // Its item, if it has one.
+    pub(crate) fn item_mut(&mut self) -> Option<&mut T>
         ensures* writes_back { sem 𝓛 (lends_item T.row self.entry result) }
-        ensures value { item_in self.old ≡ Some result.now }
+        ensures value { option_copied_mut result ≡ item_in self.old }
     {
         match self {
-            Held::Filled(_, item) => item,
-            Held::Erased(_) => unreachable!(),
+            Held::Filled(_, item) => Some(item),
+            Held::Erased(_) => None,
         }
     }
 }

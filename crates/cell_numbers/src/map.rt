@@ -1,5 +1,5 @@
 // Maps from cells to items.
-ghost use Rattle.std.specs.Prelude.{◌≡◌, ◌++◌, ◌∷◌, [], ◌<◌, ◌≤◌, ◌-◌, ◌^◌, suc, ℕ, cond, length, Some, None, option_copied, IfSome, IfNone, IsSome, IsTrue, ◌↔◌, OnOk, OnErr};
+ghost use Rattle.std.specs.Prelude.{◌≡◌, ◌++◌, ◌∷◌, [], ◌<◌, ◌≤◌, ◌-◌, ◌^◌, suc, ℕ, cond, length, Some, None, option_copied, IfSome, IfNone, OnOk, OnErr};
 ghost use Rattle.std.specs.Option.{option_copied_mut};
 ghost use Rattle.std.specs.Borrow.{sem};
 ghost use Rattle.std.specs.FinMap as map;
@@ -70,7 +70,7 @@ fn add<T: Drop>(
 
 impl<T> CellMap<T> {
     ghost use Rattle.cell_numbers.specs.Filled.{cells_of, filled, AreOnce};
-    ghost use Rattle.cell_numbers.specs.MapLends.{lends_at, lends_get};
+    ghost use Rattle.cell_numbers.specs.MapLends.{lends_get};
 
     /// An empty map. It takes no memory.
     pub fn new(alloc: Global) -> CellMap<T>
@@ -111,29 +111,11 @@ impl<T> CellMap<T> {
         ensures* writes_back { sem 𝓛 (lends_get T.row self.entry cell result) }
         ensures value { option_copied_mut result ≡ map.get self.old cell }
     {
-        if self.contains(cell) {
-            Some(self.item_mut(cell))
-        } else {
-            None
-        }
-    }
-
-    /// Whether a cell has an item.
-    pub fn contains(&self, cell: Cell) -> bool
-        ensures { IsTrue result ↔ IsSome (map.get self.now cell) }
-    {
-        self.get(cell).is_some()
-    }
-
-    // The item of a cell that has one, to be changed in place.
-    fn item_mut(&mut self, cell: Cell) -> &mut T
-        requires { IsSome (map.get self.old cell) }
-        ensures* writes_back { sem 𝓛 (lends_at T.row self.entry cell result) }
-        ensures value { map.get self.old cell ≡ Some result.now }
-    {
         cell.is_on_sheet();
-        let at = self.table.number_at(cell) as usize - 1;
-        self.held[at].item_mut()
+        match index_of(&self.table, cell) {
+            Some(at) => self.held[at].item_mut(),
+            None => None,
+        }
     }
 
     /// Gives a cell an item in place of the one that it has. Only a cell that was never put in can find no memory.

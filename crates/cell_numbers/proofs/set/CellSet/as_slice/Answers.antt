@@ -1,7 +1,6 @@
 use Rattle.std.specs.List.{IsDistinct}
-use Rattle.std.specs.Prelude.{List}
-use Rattle.std.proofs.Common.{ap, subst}
-use Rattle.grid_address.specs.Place.{same_place, Place}
+use Rattle.std.proofs.Common.{subst}
+use Rattle.grid_address.specs.Place.{same_place}
 use Rattle.cell_numbers.specs.Sets.{Cells}
 use Rattle.cell_numbers.proofs.Sets.{distinct}
 use Rattle.cell_numbers.proofs.set.CellSet.as_slice.Goals as goal

@@ -1,7 +1,7 @@
-use Rattle.std.proofs.Common.{◌≡◌, ◌<◌, ◌++◌, ◌∷◌, [], ap, length, take, sym, ◌∙◌, List, false, if◌then◌else◌}
+use Rattle.std.proofs.Common.{◌<◌, ◌++◌, ◌∷◌, [], ap, length, take, sym, ◌∙◌, List, if◌then◌else◌}
 use Rattle.std.proofs.lemmas.List.{take_more}
 use Rattle.grid_address.specs.Place.{same_place, Place}
-use Rattle.cell_numbers.specs.Sets.{has, insert_key}
+use Rattle.cell_numbers.specs.Sets.{insert_key}
 use Rattle.cell_numbers.proofs.Sets.{fresh}
 use Rattle.cell_numbers.proofs.set.CellSet.of.Goals as goal
 
