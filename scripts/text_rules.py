@@ -38,6 +38,7 @@ class Rules:
                 self.numbers(name, lines)
             if "/specs/" in name and name.endswith(".antt"):
                 self.definition_meanings(name, lines)
+                self.numbers(name, lines)
             if name.endswith(".rt") or "/specs/" in name:
                 self.columns(name, lines)
         self.edits()
@@ -110,9 +111,9 @@ class Rules:
                 self.fault(f"{name}:{at + 1}: {head.group(1)} has no line of meaning")
 
     def numbers(self, name, lines):
-        """The last row and the longest text have names."""
+        """The last row and the longest text have names, in code and in definitions."""
         for at, line in enumerate(lines):
-            code = line.split("//")[0]
+            code = re.split("//|--", line)[0]
             if re.search(r"(?<![\w.])(8191|8192|240)(u8|u16|u32|usize|i64)?(?![\w.])", code) and not re.match(r" *(pub(\(\w+\))? )?const ", code):
                 self.fault(f"{name}:{at + 1}: a number that has a name: {line.strip()[:90]}")
 

@@ -15,6 +15,7 @@ use Rattle.formula_tree.specs.declared.value.Content.TheVariants as content
 use Rattle.formula_tree.specs.declared.value.Value.{Value}
 use Rattle.formula_tree.specs.declared.value.Value.TheVariants as value
 use Rattle.grid_address.specs.Place.{Extent, Place}
+use Rattle.grid_address.specs.declared.TheConstants.{COLUMNS, ROWS}
 use Rattle.sheet_edits.specs.Spans.{written_cells}
 use Rattle.sheet_store.specs.Grid.{is_blank, last_used, Grid}
 use Rattle.sheet_store.specs.State.{CellState}
@@ -44,7 +45,7 @@ from_pointer pointer c = record { row = pointer.row + c.row; col = pointer.col +
 -- where a file's cell stands whose A1 stands at the pointer; none past the sheet
 abbrev pub placed : Place → Place → Option Place
 placed pointer c =
-    if nat_lt (pointer.row + c.row) 8192 && nat_lt (pointer.col + c.col) 256
+    if nat_lt (pointer.row + c.row) ROWS && nat_lt (pointer.col + c.col) COLUMNS
     then Some (from_pointer pointer c) else None
 
 -- whether a file's cell is taken and would stand past the sheet

@@ -4,6 +4,7 @@ use Rattle.at_functions.specs.Numbers.{count_of}
 use Rattle.formula_eval.specs.Outlook.{Outlook}
 use Rattle.formula_text.specs.Words.{named_span}
 use Rattle.grid_address.specs.Place.{Extent, Place}
+use Rattle.grid_address.specs.declared.TheConstants.{LAST_ROW}
 use Rattle.key_words.specs.declared.command.Command.{Command}
 use Rattle.key_words.specs.declared.command.Command.TheVariants as command
 use Rattle.key_words.specs.declared.key.Key.{Key}
@@ -36,10 +37,6 @@ at_spot s = record { spot = s; typed = 0 }
 abbrev pub behind : ℕ → Position → Position
 behind end p = at_spot (record { cell = p.spot.cell; offset = end })
 
--- the sheet's last row, counted from 0
-abbrev pub last_row : ℕ
-last_row = 8191
-
 -- the cell below
 abbrev pub cell_below : Place → Place
 cell_below c = record { row = c.row + 1; col = c.col }
@@ -47,7 +44,7 @@ cell_below c = record { row = c.row + 1; col = c.col }
 -- behind the text's end the macro goes to the cell below; below the last row it returns
 abbrev pub down : Position → Next
 down p =
-    if nat_lt p.spot.cell.row last_row then (unit.Down, at_spot (start_of (cell_below p.spot.cell)))
+    if nat_lt p.spot.cell.row LAST_ROW then (unit.Down, at_spot (start_of (cell_below p.spot.cell)))
     else (unit.Return, p)
 
 -- the commands that are words; the others are none

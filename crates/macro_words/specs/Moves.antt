@@ -1,13 +1,15 @@
 -- How a word moves the macro.
 use Rattle.std.specs.Prelude.{ℕ, ◌-◌, nat_lt, List, [], ◌∷◌, ◌++◌, length, take, slice_get, Option, None, Some, if◌then◌else◌}
+use Rattle.grid_address.specs.declared.TheConstants.{LAST_ROW}
 use Rattle.grid_address.specs.Place.{Place}
+use Rattle.lics_text.specs.declared.TheConstants.{MAX_LEN}
 use Rattle.macro_words.specs.declared.frames.Frame.{Frame}
 use Rattle.macro_words.specs.declared.frames.Frame.TheVariants as frame
 use Rattle.macro_words.specs.declared.running.Move.{Move}
 use Rattle.macro_words.specs.declared.running.Move.TheVariants as move
 use Rattle.macro_words.specs.declared.running.Running.{Running}
 use Rattle.macro_text.specs.declared.position.Spot.{Spot}
-use Rattle.macro_text.specs.Units.{at_spot, cell_below, last_row, start_of}
+use Rattle.macro_text.specs.Units.{at_spot, cell_below, start_of}
 
 -- the innermost call or loop
 abbrev pub innermost : List Frame → Option Frame
@@ -19,11 +21,11 @@ outer frames = take (length frames - 1) frames
 
 -- behind every text
 abbrev pub behind_all : ℕ
-behind_all = 240
+behind_all = MAX_LEN
 
 -- the cell below, or below the last row a place at which the macro returns
 abbrev pub below : Place → Spot
-below c = if nat_lt c.row last_row then start_of (cell_below c) else record { cell = c; offset = behind_all }
+below c = if nat_lt c.row LAST_ROW then start_of (cell_below c) else record { cell = c; offset = behind_all }
 
 -- the macro goes on at a place, where nothing of the word is typed yet
 abbrev pub going : Spot → Running → Running

@@ -15,7 +15,9 @@ use Rattle.key_words.specs.declared.command.Command.TheVariants as command
 use Rattle.key_words.specs.declared.macro_word.MacroWord.{MacroWord}
 use Rattle.key_words.specs.declared.macro_word.MacroWord.TheVariants as word
 use Rattle.key_words.specs.MacroText.{unit_at}
+use Rattle.lics_text.specs.declared.TheConstants.{MAX_LEN}
 use Rattle.range_names.specs.Names.{NameMap}
+use Rattle.sheet_store.specs.declared.own_width.TheConstants.{MOST_WIDTH}
 use Rattle.sheet_store.specs.declared.writes.Write.{Write}
 use Rattle.value_functions.specs.Operators.{binary_value}
 use Rattle.value_functions.specs.Values.{text_in}
@@ -229,17 +231,13 @@ abbrev pub given_count : Outlook → Spot → List (List ℕ) → ℕ → ℕ �
 given_count w at args k low high left_out =
     if nat_lt k (length args) then within low high (count_in (number_of w at.cell (arg args k))) else Some left_out
 
--- a text is at most so wide
-abbrev pub most_width : ℕ
-most_width = 240
-
 -- CONTENTS: what a cell shows, in its column's width and its format or in those that are given
 abbrev pub contents_row : Outlook → ℕ → Spot → List (List ℕ) → Row
 contents_row w global at args =
     on_place w (arg args 0) (λ c. on_place w (arg args 1) (λ q.
-    on_some (given_count w at args 2 1 most_width (w.sight.widths q.col)) (λ width.
+    on_some (given_count w at args 2 1 MOST_WIDTH (w.sight.widths q.col)) (λ width.
     on_some (given_count w at args 3 0 255 (w.sight.formats q)) (λ byte.
-    puts (written c (label (shown_cell w.sight global q (min width most_width) byte)) ∷ []) move.Stay))))
+    puts (written c (label (shown_cell w.sight global q (min width MOST_WIDTH) byte)) ∷ []) move.Stay))))
 
 -- ---- the arguments of the present routine
 
@@ -347,11 +345,11 @@ recalc_row w at by_columns args =
 
 -- ---- the table
 
--- the fewest and the most arguments of a command; a text has at most 240
+-- the fewest and the most arguments of a command; a text has no more of them than bytes
 abbrev pub counts : Command → ℕ × ℕ
 counts command.Branch = (1, 1)
 counts command.Dispatch = (1, 1)
-counts command.Define = (1, 240)
+counts command.Define = (1, MAX_LEN)
 counts command.Return = (0, 0)
 counts command.Restart = (0, 0)
 counts command.Quit = (0, 0)

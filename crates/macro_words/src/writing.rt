@@ -14,6 +14,7 @@ use formula_tree::{Content, Formula};
 use grid_address::{Cell, Format, Span};
 use lics_text::{LabelPrefix, Memory};
 use macro_text::{Spot, TextList, count_of, formula_in, number_of, place_of, range_of};
+use sheet_store::MOST_WIDTH;
 use std::alloc::Global;
 
 /// LET.
@@ -158,9 +159,6 @@ fn given_count<K: Look>(
     Ok(within(asked.low, asked.high, count))
 }
 
-// A text is at most so wide.
-const MOST_WIDTH: u8 = 240;
-
 // RECALC makes at most so many passes.
 const MOST_PASSES: u8 = 50;
 
@@ -175,7 +173,7 @@ fn width_given<K: Look>(
 ) -> Result<Option<u8>, Memory>
     ensures { let outlook = outlook_of (K.sight look.now) scene.entry.now in
         IfOk result
-        (λ n. n ≡ spec.given_count outlook at.now args.now 2 1 spec.most_width (outlook.sight.widths cell.col)) }
+        (λ n. n ≡ spec.given_count outlook at.now args.now 2 1 MOST_WIDTH (outlook.sight.widths cell.col)) }
 {
     let asked = Asked {
         place: 2,

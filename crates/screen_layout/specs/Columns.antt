@@ -8,6 +8,7 @@ use Rattle.screen_layout.specs.Cells.{cell_text}
 use Rattle.shown_cells.specs.Cells.{padded}
 use Rattle.work_sheet.specs.Seen.{Sheet}
 use Rattle.screen_layout.specs.Sheets.{width_in}
+use Rattle.screen_layout.specs.declared.shown_columns.TheConstants.{ROOM}
 use Rattle.screen_layout.specs.declared.shown_columns.Column.{Column}
 
 -- Of so many columns from one on, those that are shown in the room: hidden ones are passed over, and the others stand
@@ -20,9 +21,9 @@ columns_from s first (suc count) col room =
     then record { col = col; width = width_in s col } ∷ columns_from s false count (col + 1) (room - width_in s col)
     else []
 
--- behind the four bytes of the row numbers 76 are left
+-- those that stand behind the four bytes of the row numbers
 abbrev pub shown_columns : Sheet → ℕ → List Column
-shown_columns s first = columns_from s true (COLUMNS - first) first 76
+shown_columns s first = columns_from s true (COLUMNS - first) first ROOM
 
 -- how many they are
 abbrev pub columns_shown : Sheet → ℕ → ℕ

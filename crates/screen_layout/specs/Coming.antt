@@ -3,12 +3,13 @@ use Rattle.std.specs.Prelude.{◌≡◌, ℕ, ◌-◌, nat_eq, List, [], ◌∷�
 use Rattle.grid_address.specs.declared.TheConstants.{COLUMNS}
 use Rattle.work_sheet.specs.Seen.{Sheet}
 use Rattle.screen_layout.specs.Columns.{columns_from}
+use Rattle.screen_layout.specs.declared.shown_columns.TheConstants.{ROOM}
 use Rattle.screen_layout.specs.declared.shown_columns.Column.{Column}
 use Rattle.screen_layout.specs.declared.shown_columns.Coming.{Coming}
 
--- from a column on, behind those that take so many of the 76 bytes
+-- from a column on, behind those that take so many of the bytes
 abbrev pub behind : Sheet → ℕ → ℕ → List Column
-behind s used col = columns_from s (nat_eq used 0) (COLUMNS - col) col (76 - used)
+behind s used col = columns_from s (nat_eq used 0) (COLUMNS - col) col (ROOM - used)
 
 -- from the first column on that wasn't looked at
 abbrev pub coming : Sheet → Coming → List Column

@@ -4,6 +4,7 @@ use Rattle.grid_address.specs.Place.{Place}
 use Rattle.sheet_store.specs.Grid.{is_hidden}
 use Rattle.work_sheet.specs.Seen.{Sheet}
 use Rattle.screen_layout.specs.Sheets.{width_in}
+use Rattle.screen_layout.specs.declared.shown_columns.TheConstants.{ROOM}
 
 -- the first of 20 shown rows moves as little as lets the pointer's be one of them
 abbrev pub first_row : ℕ → ℕ → ℕ
@@ -18,7 +19,7 @@ wide s (suc count) col = (if is_hidden s.grid col then 0 else width_in s col) + 
 -- whole, or else the pointer's column itself.
 unfoldable pub nearest : Sheet → ℕ → ℕ → ℕ
 nearest s zero col = col
-nearest s (suc further) col = if nat_le (wide s (suc (suc further)) col) 76 then col else nearest s further (col + 1)
+nearest s (suc further) col = if nat_le (wide s (suc (suc further)) col) ROOM then col else nearest s further (col + 1)
 
 -- the first shown column moves as little as lets the pointer's be shown whole; it stays while the pointer's is hidden
 abbrev pub first_column : Sheet → ℕ → ℕ → ℕ

@@ -3,6 +3,7 @@ ghost use Rattle.std.specs.Prelude.{◌≡◌, ◌≤◌, ◌+◌, ◌-◌, ◌*
 ghost use Rattle.screen_layout.specs.Corner.{corner_for, first_column, first_row, nearest, wide};
 ghost use Rattle.work_sheet.specs.Seen.{of_worksheet};
 
+use crate::shown_columns::ROOM;
 use crate::widths::width_in;
 use grid_address::Cell;
 use sheet_store::MOST_WIDTH;
@@ -53,7 +54,7 @@ fn nearest(sheet: &Sheet, first: u8, pointer: u8) -> u8
 {
     let mut rest = wide(sheet, first, pointer);
     for col in first..pointer {
-        if rest <= 76 {
+        if rest <= u16::from(ROOM) {
             return col;
         }
         rest -= shown_width(sheet, col);

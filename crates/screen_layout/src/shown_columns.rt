@@ -10,7 +10,7 @@ use sheet_store::MOST_WIDTH;
 use work_sheet::Sheet;
 
 // How many bytes of a line stand behind the four of the row's number.
-const ROOM: u8 = 76;
+pub(crate) const ROOM: u8 = 76;
 
 /// A shown column.
 #[derive(Clone, Copy)]

@@ -4,6 +4,7 @@ use Rattle.std.specs.FinMap as cells
 use Rattle.std.specs.declared.cmp.Ordering.{Ordering}
 use Rattle.std.specs.declared.cmp.Ordering.TheVariants.{Equal, Greater, Less}
 use Rattle.grid_address.specs.Formats.{default_format, has_protection, protected, unprotected}
+use Rattle.grid_address.specs.declared.TheConstants.{COLUMNS, ROWS}
 use Rattle.grid_address.specs.Place.{height_of, place_cmp, same_place, width_of, Extent, Place}
 use Rattle.grid_address.specs.declared.format.Format.{Format}
 use Rattle.depend_graph.specs.Network.{Network}
@@ -82,7 +83,7 @@ repeated from to = cond (nat_eq from 1) to from
 
 -- as many rows and columns from a cell on, where they lie in the sheet
 abbrev pub block_at : Place → ℕ → ℕ → Option Extent
-block_at first rows cols = cond (nat_le (first.row + rows) 8192 && nat_le (first.col + cols) 256)
+block_at first rows cols = cond (nat_le (first.row + rows) ROWS && nat_le (first.col + cols) COLUMNS)
     (Some (record { first = first; last = record { row = first.row + rows - 1; col = first.col + cols - 1 } })) None
 
 -- the written span of a copy

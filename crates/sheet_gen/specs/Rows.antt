@@ -5,6 +5,9 @@ use Rattle.formula_tree.specs.declared.ast.Op.TheVariants.{Add, Mul}
 use Rattle.formula_tree.specs.declared.value.Content.TheVariants as content
 use Rattle.formula_tree.specs.declared.value.Value.TheVariants as value
 use Rattle.grid_address.specs.Axes.{Reference}
+use Rattle.grid_address.specs.Formats.{default_format}
+use Rattle.grid_address.specs.declared.TheConstants.{LAST_COLUMN, LAST_ROW}
+use Rattle.grid_address.specs.declared.format.Format.{Format}
 use Rattle.grid_address.specs.declared.reference.Axis.TheVariants.{Offset}
 use Rattle.grid_address.specs.Place.{Place}
 use Rattle.sheet_store.specs.State.{CellState}
@@ -19,11 +22,11 @@ seed row = 37 * (row + 1) % 101
 
 -- the cell at the left
 abbrev pub left : Reference
-left = record { col = Offset 255; row = Offset 0 }
+left = record { col = Offset LAST_COLUMN; row = Offset 0 }
 
 -- the cell above
 abbrev pub above : Reference
-above = record { col = Offset 0; row = Offset 8191 }
+above = record { col = Offset 0; row = Offset LAST_ROW }
 
 -- three times the cell at the left
 abbrev pub triple : Tree
@@ -33,13 +36,17 @@ triple = binary Mul (cell left) (num (whole 3))
 abbrev pub chain : ℕ → Tree
 chain row = if row == 0 then cell left else binary Add (cell above) (cell left)
 
+-- the format of a cell that was given none
+abbrev pub general : Format
+general = record { 0 = default_format }
+
 -- a number in a cell
 abbrev pub number_state : ℕ → CellState
-number_state n = record { content = content.Number (whole n); value = value.Num (whole n); format = record { 0 = 255 } }
+number_state n = record { content = content.Number (whole n); value = value.Num (whole n); format = general }
 
 -- a formula that wasn't calculated yet
 abbrev pub formula_state : Tree → CellState
-formula_state t = record { content = content.Formula t; value = value.Num (pos 0); format = record { 0 = 255 } }
+formula_state t = record { content = content.Formula t; value = value.Num (pos 0); format = general }
 
 -- what stands in the columns A, B and C of a row, and in the others what is given
 abbrev pub in_row : ℕ → ℕ → Option CellState → Option CellState

@@ -6,6 +6,7 @@ use Rattle.fixed_value.specs.Numbers.{signed}
 use Rattle.fixed_value.specs.declared.doubles.DoubleRead.{DoubleRead}
 use Rattle.fixed_value.specs.declared.doubles.DoubleRead.TheVariants as double
 use Rattle.grid_address.specs.Axes.{Reference}
+use Rattle.grid_address.specs.declared.TheConstants.{COLUMNS, ROWS}
 use Rattle.grid_address.specs.declared.reference.Axis.{Axis}
 use Rattle.grid_address.specs.declared.reference.Axis.TheVariants.{Fixed, Offset}
 use Rattle.formula_tree.specs.Ranges.{is_text}
@@ -64,7 +65,7 @@ both_axes None row = None
 
 -- the reference in four bytes
 abbrev pub reference_at : ℕ → List ℕ → Option Reference
-reference_at at bytes = both_axes (axis_of (short_at at bytes) 256) (axis_of (short_at (at + 2) bytes) 8192)
+reference_at at bytes = both_axes (axis_of (short_at at bytes) COLUMNS) (axis_of (short_at (at + 2) bytes) ROWS)
 
 -- a reference with its five bytes
 abbrev pub one_reference : Option Reference → Front

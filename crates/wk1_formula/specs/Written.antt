@@ -2,6 +2,7 @@
 use Rattle.std.specs.Int.{to_le_bytes, w16, w64}
 use Rattle.std.specs.Prelude.{ℕ, ◌+◌, ◌-◌, ◌/◌, ◌%◌, ℤ, nat_abs, ◌==◌, List, [], ◌∷◌, ◌++◌, flat_map, if◌then◌else◌}
 use Rattle.grid_address.specs.Axes.{Reference}
+use Rattle.grid_address.specs.declared.TheConstants.{COLUMNS, ROWS}
 use Rattle.grid_address.specs.Place.{Place}
 use Rattle.grid_address.specs.declared.reference.Axis.{Axis}
 use Rattle.grid_address.specs.declared.reference.Axis.TheVariants.{Fixed, Offset}
@@ -23,7 +24,8 @@ coordinate (Offset n) own count = 32768 + ((own + n) % count + 16384 - own) % 16
 
 -- the column, and then the row
 abbrev pub reference_bytes : Reference → Place → List ℕ
-reference_bytes r at = to_le_bytes w16 (coordinate r.col at.col 256) ++ to_le_bytes w16 (coordinate r.row at.row 8192)
+reference_bytes r at =
+    to_le_bytes w16 (coordinate r.col at.col COLUMNS) ++ to_le_bytes w16 (coordinate r.row at.row ROWS)
 
 -- a whole number of at most 32767 takes two bytes, any other the eight of a double
 abbrev pub number_bytes : ℤ → List ℕ

@@ -15,12 +15,9 @@ use crate::bytes::{bytes_from, first_long, short_at};
 use crate::kind::{Kind, kind_of};
 use fixed_value::{DoubleRead, Fixed, from_double_bits};
 use formula_tree::{Counts, Function, Op, call_size, counts_of, takes};
-use grid_address::{Axis, ROWS, Ref};
+use grid_address::{Axis, COLUMNS, ROWS, Ref};
 use lics_text::{MAX_LEN, Memory, Text};
 use std::alloc::Global;
-
-/// How many columns and rows the sheet has.
-pub const COLUMNS: u16 = 256;
 
 /// A code with what stands behind it in the bytes.
 #[derive(Drop)]

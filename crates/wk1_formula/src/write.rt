@@ -11,12 +11,11 @@ ghost use Rattle.wk1_formula.specs.declared.opcodes.TheConstants as opcodes;
 ghost use Rattle.wk1_formula.specs.Written.{bytes_of, code_of, coordinate, function_bytes, number_bytes, reference_bytes, spelled};
 
 use crate::bytes::{put, put_short};
-use crate::front::COLUMNS;
 use crate::kind::op_code;
 use crate::opcodes;
 use fixed_value::{Fixed, to_double_bits};
 use formula_tree::{Expr, Formula, Function, call_size};
-use grid_address::{Axis, Cell, ROWS, Ref};
+use grid_address::{Axis, COLUMNS, Cell, ROWS, Ref};
 use lics_text::{Memory, Text};
 
 /// The bits of a double that stand for ERR.
