@@ -3,18 +3,8 @@ use Rattle.std.proofs.Common.{◌≡◌, ℕ, zero, suc, ◌+◌, Bool, true, fa
 use Rattle.std.specs.List.{filter}
 use Rattle.std.proofs.lemmas.List.{append-nil}
 use Rattle.grid_address.specs.Place.{Place}
+use Rattle.formula_eval.proofs.Blocks.{block_more, row_more}
 use Rattle.formula_eval.specs.Outlook.{block_cells, row_cells}
-
-one_more_cell : (row col count : ℕ) → row_cells row col (suc count) ≡ row_cells row col count ++ record { row = row; col = col + count } ∷ []
-one_more_cell row col zero = ap (λ k. record { row = row; col = k } ∷ []) (let e : col ≡ col + 0 = omega arith in e)
-one_more_cell row col (suc count) =
-    ap (λ (l : List Place). record { row = row; col = col } ∷ l) (one_more_cell row (col + 1) count ∙ ap (λ k. row_cells row (col + 1) count ++ record { row = row; col = k } ∷ []) (let e : col + 1 + count ≡ col + suc count = omega arith in e))
-
-one_more_row : (row col rows cols : ℕ) → block_cells row col (suc rows) cols ≡ block_cells row col rows cols ++ row_cells (row + rows) col cols
-one_more_row row col zero cols = append-nil (row_cells row col cols) ∙ ap (λ k. row_cells k col cols) (let e : row ≡ row + 0 = omega arith in e)
-one_more_row row col (suc rows) cols =
-    ap (λ (l : List Place). row_cells row col cols ++ l) (one_more_row (row + 1) col rows cols ∙ ap (λ k. block_cells (row + 1) col rows cols ++ row_cells k col cols) (let e : row + 1 + rows ≡ row + suc rows = omega arith in e))
-    ∙ sym (append_assoc (row_cells row col cols) (block_cells (row + 1) col rows cols) (row_cells (row + suc rows) col cols))
 
 filter_two : (p : Place → Bool) (xs ys : List Place) → filter p (xs ++ ys) ≡ filter p xs ++ filter p ys
 filter_two p [] ys = refl
@@ -27,8 +17,7 @@ filter_two p (x ∷ xs) ys = put (p x) x (filter_two p xs ys)
 with_one : (p : Place → Bool) (old : List Place) (row col count : ℕ) (c : Place) → c ≡ record { row = row; col = col + count } → old ++ (filter p (row_cells row col count) ++ filter p (c ∷ [])) ≡ old ++ filter p (row_cells row col (count + 1))
 with_one p old row col count c is =
     ap (λ (l : List Place). old ++ l) (
-    sym (filter_two p (row_cells row col count) (c ∷ [])) ∙ ap (λ d. filter p (row_cells row col count ++ d ∷ [])) is ∙ ap (filter p) (sym (one_more_cell row col count))
-    ∙ ap (λ k. filter p (row_cells row col k)) (let e : suc count ≡ count + 1 = omega arith in e))
+    sym (filter_two p (row_cells row col count) (c ∷ [])) ∙ ap (λ d. filter p (row_cells row col count ++ d ∷ [])) is ∙ ap (filter p) (sym (row_more row col count)))
 
 -- a cell that is listed, and one that isn't
 pub listed_cell : (p : Place → Bool) (old now new : List Place) (row col count : ℕ) (c : Place) → now ≡ old ++ filter p (row_cells row col count) → c ≡ record { row = row; col = col + count } → p c ≡ true → new ≡ now ++ c ∷ [] → new ≡ old ++ filter p (row_cells row col (count + 1))
@@ -45,4 +34,4 @@ passed_cell p old now row col count c so_far is no_more =
 pub listed_row : (p : Place → Bool) (now new : List Place) (row col rows cols : ℕ) → now ≡ filter p (block_cells row col rows cols) → new ≡ now ++ filter p (row_cells (row + rows) col cols) → new ≡ filter p (block_cells row col (rows + 1) cols)
 listed_row p now new row col rows cols so_far more =
     more ∙ ap (λ (l : List Place). l ++ filter p (row_cells (row + rows) col cols)) so_far ∙ sym (filter_two p (block_cells row col rows cols) (row_cells (row + rows) col cols))
-    ∙ ap (filter p) (sym (one_more_row row col rows cols)) ∙ ap (λ k. filter p (block_cells row col k cols)) (let e : suc rows ≡ rows + 1 = omega arith in e)
+    ∙ ap (filter p) (sym (block_more row col rows cols))

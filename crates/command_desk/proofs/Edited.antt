@@ -18,7 +18,8 @@ use Rattle.work_sheet.specs.Doing.{quiet, settled, Done}
 use Rattle.work_sheet.specs.Editing.{shifted}
 use Rattle.work_sheet.specs.Seen.{of_worksheet, Sheet}
 use Rattle.work_sheet.specs.Sheets.{IsRefusedBy, Worksheet}
-use Rattle.command_desk.proofs.Ascending.{first_found, none_found, Ascends}
+use Rattle.command_desk.proofs.Ascending.{first_found, none_found}
+use Rattle.natural_recalc.specs.Laws.{Ascends}
 use Rattle.command_desk.specs.Acting.{edited, error_of, first_protected, moved_by, refusal_of, refused, unless_protected, unless_refused, written, Acted, HasActed, HasSettled}
 use Rattle.command_desk.specs.declared.ending.CommandEnd.{CommandEnd}
 use Rattle.command_desk.specs.declared.ending.CommandEnd.TheVariants.{Finished, Refused}

@@ -2,7 +2,6 @@
 use Rattle.std.specs.Prelude.{ℕ, ◌≡◌, refl, OnErr, OnOk, Option, None, Some, Result, Ok, Err}
 use Rattle.std.specs.Option.{ForSome}
 use Rattle.std.proofs.Common.{subst}
-use Rattle.command_desk.proofs.Ascending.{span_ascends}
 use Rattle.command_desk.proofs.Edited.{edit_acted, left, was_refused}
 use Rattle.command_desk.specs.Acting.{refused, HasActed, HasSettled}
 use Rattle.command_desk.specs.declared.ending.CommandEnd.{CommandEnd}
@@ -16,8 +15,8 @@ use Rattle.sheet_edits.proofs.Gathering.{on_ok}
 use Rattle.sheet_edits.specs.Spans.{IsAnswered}
 use Rattle.sheet_store.specs.declared.writes.SheetFault.{SheetFault}
 use Rattle.sheet_store.specs.declared.writes.SheetFault.TheVariants as fault
-use Rattle.work_sheet.proofs.Filled.{has_cells}
-use Rattle.work_sheet.specs.Cells.{cells_of}
+use Rattle.natural_recalc.proofs.Filled.{has_cells, span_ascends}
+use Rattle.formula_eval.specs.Outlook.{cells_of}
 use Rattle.work_sheet.specs.Did.{DidEdit}
 use Rattle.work_sheet.specs.Editing.{copied}
 use Rattle.work_sheet.specs.Seen.{of_worksheet}

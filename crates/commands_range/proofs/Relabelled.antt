@@ -2,7 +2,8 @@
 use Rattle.std.specs.Prelude.{◌++◌, List, [], ◌∷◌, flat_map, Option, None, Some}
 use Rattle.std.specs.FinMap as map
 use Rattle.std.specs.List.Sorted.{IsStrictlySortedBy}
-use Rattle.command_desk.proofs.Ascending.{Ascends, Before}
+use Rattle.natural_recalc.proofs.Filled.{Before}
+use Rattle.natural_recalc.specs.Laws.{Ascends}
 use Rattle.commands_range.specs.Commands.{relabelled, relabelled_cell, relabelled_content}
 use Rattle.formula_tree.specs.declared.value.Content.{Content}
 use Rattle.formula_tree.specs.declared.value.Content.TheVariants as content

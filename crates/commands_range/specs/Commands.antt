@@ -27,7 +27,7 @@ use Rattle.sheet_shifts.specs.declared.shift.Shift.TheVariants.{Block}
 use Rattle.sheet_store.specs.Grid.{cells_within, Grid}
 use Rattle.sheet_store.specs.State.{CellState}
 use Rattle.sheet_store.specs.declared.writes.Write.{Write}
-use Rattle.work_sheet.specs.Cells.{cells_of}
+use Rattle.formula_eval.specs.Outlook.{cells_of}
 use Rattle.work_sheet.specs.Doing.{Done}
 use Rattle.work_sheet.specs.Editing as editing
 use Rattle.work_sheet.specs.Seen.{Sheet}

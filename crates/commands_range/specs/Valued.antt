@@ -5,13 +5,12 @@ use Rattle.command_desk.specs.Acting.{refused, written, Acted}
 use Rattle.commands_range.specs.declared.values.Layout.{Layout}
 use Rattle.commands_range.specs.declared.values.Layout.TheVariants as layout
 use Rattle.desk_errors.specs.declared.error.CommandError.TheVariants as error
-use Rattle.formula_eval.specs.Outlook.{Sight}
+use Rattle.formula_eval.specs.Outlook.{cells_of, Sight}
 use Rattle.formula_eval.specs.declared.look.Scene.{Scene}
 use Rattle.grid_address.specs.Place.{height_of, width_of, Extent, Place}
 use Rattle.natural_recalc.specs.Context.{sight_of}
 use Rattle.sheet_edits.specs.Spans.{block_at}
 use Rattle.sheet_store.specs.declared.writes.Write.{Write}
-use Rattle.work_sheet.specs.Cells.{cells_of}
 use Rattle.work_sheet.specs.Editing.{all_written}
 use Rattle.work_sheet.specs.Seen.{Sheet}
 

@@ -1,27 +1,23 @@
 // The values of a span as the contents of others.
 ghost use Rattle.std.specs.Prelude.{◌≡◌, ◌≤◌, ◌<◌, ◌+◌, ◌++◌, ◌∷◌, [], IfOk, IfSome, OnOk, map};
-ghost use Rattle.block_writes.specs.Writing.{at};
 ghost use Rattle.command_desk.specs.Acting.{HasActed, HasActedBy};
 ghost use Rattle.commands_range.specs.Commands.{valued};
 ghost use Rattle.commands_range.specs.Valued.{cols_in, inside, rows_in, sight_in, source_at, target_of};
 ghost use Rattle.commands_range.specs.Valued.{value_of, valued_from, valued_into, values_of};
+ghost use Rattle.formula_eval.specs.Outlook.{row_cells};
 ghost use Rattle.grid_address.specs.Place.{height_of, width_of};
 ghost use Rattle.sheet_edits.specs.Spans.{block_at};
-ghost use Rattle.work_sheet.specs.Cells.{row_of};
 ghost use Rattle.work_sheet.specs.Seen.{of_worksheet};
 
 use block_writes::{column_at, value_copied};
 use command_desk::{CommandEnd, cell_at, settled, span_at};
 use desk_errors::CommandError;
 use formula_eval::{Scene, Tally};
-use grid_address::{Cell, ROWS, Span};
+use grid_address::{COLUMNS, Cell, ROWS, Span};
 use lics_text::Memory;
 use session_rooms::Answers;
 use sheet_store::Writes;
 use work_sheet::Sheet;
-
-// How many columns the sheet has.
-const COLS: u16 = 256;
 
 /// How the values of a span are laid out where they are written.
 #[derive(Clone, Copy, Debug, PartialEq, Eq)]
@@ -38,7 +34,7 @@ fn block_at(first: Cell, rows: u16, cols: u16) -> Option<Span>
     ensures block { result ≡ block_at first rows cols }
     ensures size { IfSome result (λ span. (height_of span ≡ rows) × (width_of span ≡ cols)) }
 {
-    if rows > ROWS - first.row || cols > COLS - u16::from(first.col) {
+    if rows > ROWS - first.row || cols > COLUMNS - u16::from(first.col) {
         return None;
     }
     let last = Cell {
@@ -116,7 +112,7 @@ fn push_row(
     requires down { (down < height_of target) × (down < rows_in layout from) }
     requires width { width_of target ≡ cols_in layout from }
     ensures { let sight = sight_in (of_worksheet sheet.now) in let first = target.first in
-        let cells = row_of (width_of target) (at (first.row + down) first.col) in
+        let cells = row_cells (first.row + down) first.col (width_of target) in
         OnOk result (writes.new ≡ writes.old ++ map (value_of layout from target sight) cells) }
 {
     let width = target.width();

@@ -1,3 +1,4 @@
+pub mod Blocks
 pub mod Columns
 pub mod Composed
 pub mod Gathered

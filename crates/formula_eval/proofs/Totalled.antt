@@ -18,6 +18,7 @@ use Rattle.formula_eval.specs.declared.items.Item.TheVariants as item
 use Rattle.formula_eval.specs.declared.totals.Total.{Total}
 use Rattle.formula_eval.specs.Lists.{in_range, is_err, is_na, items_in, larger, list_row, list_value, size_of, smaller}
 use Rattle.formula_eval.specs.Outlook.{block_cells, row_cells}
+use Rattle.formula_eval.proofs.Blocks.{block_more, place, row_more}
 use Rattle.formula_eval.specs.Totals.{IsTotal}
 
 -- blank cells have no items
@@ -42,27 +43,8 @@ items_append values [] qs = refl
 items_append values (p ∷ ps) qs =
     ap (λ (l : List Item). in_range (values p) ++ l) (items_append values ps qs) ∙ sym (append_assoc (in_range (values p)) (items_in values ps) (items_in values qs))
 
-abbrev place : ℕ → ℕ → Place
-place row col = record { row = row; col = col }
-
 same_cell : (p : Place) (row col : ℕ) → p.row ≡ row → p.col ≡ col → p ≡ place row col
 same_cell p row col in_row in_col = λ i. place (in_row i) (in_col i)
-
--- one more cell of a row
-row_longer : (row col count : ℕ) → row_cells row col (suc count) ≡ row_cells row col count ++ place row (col + count) ∷ []
-row_longer row col zero = ap (λ c. place row c ∷ []) (let e : col ≡ col + 0 = omega arith in e)
-row_longer row col (suc count) =
-    ap (λ (l : List Place). place row col ∷ l) (row_longer row (col + 1) count)
-    ∙ ap (λ c. place row col ∷ (row_cells row (col + 1) count ++ place row c ∷ [])) (let e : col + 1 + count ≡ col + suc count = omega arith in e)
-
--- one more row of a block
-block_longer : (row col rows cols : ℕ) → block_cells row col (suc rows) cols ≡ block_cells row col rows cols ++ row_cells (row + rows) col cols
-block_longer row col zero cols =
-    append-nil (row_cells row col cols) ∙ ap (λ r. row_cells r col cols) (let e : row ≡ row + 0 = omega arith in e)
-block_longer row col (suc rows) cols =
-    ap (λ (l : List Place). row_cells row col cols ++ l) (block_longer (row + 1) col rows cols)
-    ∙ ap (λ r. row_cells row col cols ++ (block_cells (row + 1) col rows cols ++ row_cells r col cols)) (let e : row + 1 + rows ≡ row + suc rows = omega arith in e)
-    ∙ sym (append_assoc (row_cells row col cols) (block_cells (row + 1) col rows cols) (row_cells (row + suc rows) col cols))
 
 -- the items so far, with those of one cell more
 pub cell_put : (values : Place → Value) (row col count : ℕ) (l : List Item) (v : Value) (p : Place) → v ≡ values p → p.row ≡ row → p.col ≡ col + count →
@@ -74,7 +56,7 @@ cell_put values row col count l v p is in_row in_col =
     ∙ ap (λ q. items_in values (row_cells row col count) ++ in_range (values q)) (same_cell p row (col + count) in_row in_col)
     ∙ ap (λ (m : List Item). items_in values (row_cells row col count) ++ m) (sym (append-nil (in_range (values (place row (col + count))))))
     ∙ sym (items_append values (row_cells row col count) (place row (col + count) ∷ []))
-    ∙ ap (items_in values) (sym (row_longer row col count) ∙ ap (row_cells row col) (let e : suc count ≡ count + 1 = omega arith in e)))
+    ∙ ap (items_in values) (sym (row_more row col count)))
 
 -- no cell yet
 pub none_put : (values : Place → Value) (row col : ℕ) (l : List Item) → l ≡ l ++ items_in values (row_cells row col 0)
@@ -85,7 +67,7 @@ pub row_put : (values : Place → Value) (row col rows cols : ℕ) →
     items_in values (block_cells row col rows cols) ++ items_in values (row_cells (row + rows) col cols) ≡ items_in values (block_cells row col (rows + 1) cols)
 row_put values row col rows cols =
     sym (items_append values (block_cells row col rows cols) (row_cells (row + rows) col cols))
-    ∙ ap (items_in values) (sym (block_longer row col rows cols) ∙ ap (λ n. block_cells row col n cols) (let e : suc rows ≡ rows + 1 = omega arith in e))
+    ∙ ap (items_in values) (sym (block_more row col rows cols))
 
 fold_behind : {X Y : Type 0} (f : Y → X → Y) (start : Y) (l : List X) (x : X) → fold f start (l ++ x ∷ []) ≡ f (fold f start l) x
 fold_behind f start [] x = refl

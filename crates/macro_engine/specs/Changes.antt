@@ -13,7 +13,7 @@ use Rattle.macro_words.specs.declared.running.Sweep.{Sweep}
 use Rattle.natural_recalc.specs.Context.{outlook_at}
 use Rattle.sheet_edits.specs.Spans.{sooner, written_cells}
 use Rattle.sheet_store.specs.Grid.{Grid}
-use Rattle.work_sheet.specs.Cells.{cells_of}
+use Rattle.formula_eval.specs.Outlook.{cells_of}
 use Rattle.work_sheet.specs.Doing.{and_then, context_in, quiet, settled, Done}
 use Rattle.work_sheet.specs.Editing.{all_written, erased}
 use Rattle.work_sheet.specs.Seen.{Sheet}

@@ -30,9 +30,9 @@ has_filtered p xs d = elim (cases_Bool (p d)) [
   | inr f ↦ false_from_ne_true _ (λ m. true≢false (sym (filter_passes same_place same_place_is p xs d m) ∙ f)) ∙ sym (ap (λ b. b && has same_place xs d) f)
 ]
 
--- all places of a list come after a place
-abbrev After : Place → List Place → Type 0
-After x ys = AllByRecursion (λ y. place_cmp x y ≡ Less) ys
+-- a place comes before all of a list
+abbrev pub Before : Place → List Place → Type 0
+Before x ys = AllByRecursion (λ y. place_cmp x y ≡ Less) ys
 
 has_row : (row col n : ℕ) (d : Place) → has same_place (row_cells row col n) d ≡ (nat_eq d.row row && (nat_le col d.col && nat_lt d.col (col + n)))
 has_row row col zero d = none (nat_eq d.row row) d.col col
@@ -59,7 +59,8 @@ has_block row col (suc rows) cols d =
     joined true x c n = grind (arith, nat_tests)
     joined false x c n = grind (arith, nat_tests)
 
-has_cells : (s : Extent) (d : Place) → has same_place (cells_of s) d ≡ is_within s d
+-- the cells of a span are those that lie in it
+pub has_cells : (s : Extent) (d : Place) → has same_place (cells_of s) d ≡ is_within s d
 has_cells s d = has_block s.first.row s.first.col (height_of s) (width_of s) d ∙ (λ i. ends d.row s.first.row s.last.row i && ends d.col s.first.col s.last.col i)
   where
     ends : (x a b : ℕ) → (nat_le a x && nat_lt x (a + (b + 1 - a))) ≡ (nat_le a x && nat_le x b)
@@ -77,40 +78,44 @@ less_col x y r h = (λ i. ordering_then (rows i) (cols i))
 pub less_row : (x y : Place) → x.row < y.row → place_cmp x y ≡ Less
 less_row x y h = ap (λ o. ordering_then o (nat_cmp x.col y.col)) (sym (nat_cmp_is x.row y.row Less h))
 
-after_row : (x : Place) (row col n : ℕ) → x.row ≡ row → x.col < col → After x (row_cells row col n)
-after_row x row col zero r h = tt
-after_row x row col (suc n) r h = (less_col x (record { row = row; col = col }) r h, after_row x row (col + 1) n r (omega arith))
+before_row : (x : Place) (row col n : ℕ) → x.row ≡ row → x.col < col → Before x (row_cells row col n)
+before_row x row col zero r h = tt
+before_row x row col (suc n) r h = (less_col x (record { row = row; col = col }) r h, before_row x row (col + 1) n r (omega arith))
 
-below_row : (x : Place) (row col n : ℕ) → x.row < row → After x (row_cells row col n)
+below_row : (x : Place) (row col n : ℕ) → x.row < row → Before x (row_cells row col n)
 below_row x row col zero h = tt
 below_row x row col (suc n) h = (less_row x (record { row = row; col = col }) h, below_row x row (col + 1) n h)
 
-after_both : (x : Place) (xs ys : List Place) → After x xs → After x ys → After x (xs ++ ys)
-after_both x [] ys a b = b
-after_both x (z ∷ xs) ys a b = (a.0, after_both x xs ys a.1 b)
+before_both : (x : Place) (xs ys : List Place) → Before x xs → Before x ys → Before x (xs ++ ys)
+before_both x [] ys a b = b
+before_both x (z ∷ xs) ys a b = (a.0, before_both x xs ys a.1 b)
 
-below_block : (x : Place) (row col rows cols : ℕ) → x.row < row → After x (block_cells row col rows cols)
+below_block : (x : Place) (row col rows cols : ℕ) → x.row < row → Before x (block_cells row col rows cols)
 below_block x row col zero cols h = tt
-below_block x row col (suc rows) cols h = after_both x (row_cells row col cols) (block_cells (row + 1) col rows cols) (below_row x row col cols h) (below_block x (row + 1) col rows cols (omega arith))
+below_block x row col (suc rows) cols h = before_both x (row_cells row col cols) (block_cells (row + 1) col rows cols) (below_row x row col cols h) (below_block x (row + 1) col rows cols (omega arith))
 
 -- a row, and what comes below it
-row_ascends : (row col n : ℕ) (ys : List Place) → ((x : Place) → x.row ≡ row → After x ys) → Ascends ys → Ascends (row_cells row col n ++ ys)
+row_ascends : (row col n : ℕ) (ys : List Place) → ((x : Place) → x.row ≡ row → Before x ys) → Ascends ys → Ascends (row_cells row col n ++ ys)
 unfolding IsStrictlySortedBy
 row_ascends row col zero ys h s = s
 row_ascends row col (suc n) ys h s =
     let x : Place = record { row = row; col = col } in
-    (after_both x (row_cells row (col + 1) n) ys (after_row x row (col + 1) n refl (omega arith)) (h x refl), row_ascends row (col + 1) n ys h s)
+    (before_both x (row_cells row (col + 1) n) ys (before_row x row (col + 1) n refl (omega arith)) (h x refl), row_ascends row (col + 1) n ys h s)
 
 block_ascends : (row col rows cols : ℕ) → Ascends (block_cells row col rows cols)
 unfolding IsStrictlySortedBy
 block_ascends row col zero cols = tt
 block_ascends row col (suc rows) cols = row_ascends row col cols (block_cells (row + 1) col rows cols) (λ x e. below_block x (row + 1) col rows cols (let k = e in omega arith)) (block_ascends (row + 1) col rows cols)
 
+-- the cells of a span stand in row order
+pub span_ascends : (s : Extent) → Ascends (cells_of s)
+span_ascends s = block_ascends s.first.row s.first.col (height_of s) (width_of s)
+
 -- the filled cells among those that are kept are those of the span
 pub filled_is : (g : Grid) (s : Extent) → filter (λ (c : Place). is_filled (value_at g c)) (cells_within g s) ≡ filter (λ (c : Place). is_filled (value_at g c)) (cells_of s)
 filled_is g s = same_members _ _
     (IsStrictlySortedBy-filter place_cmp (λ c. is_filled (value_at g c)) (cells_within g s) (picked_ascends any_state g s))
-    (IsStrictlySortedBy-filter place_cmp (λ c. is_filled (value_at g c)) (cells_of s) (block_ascends s.first.row s.first.col (height_of s) (width_of s)))
+    (IsStrictlySortedBy-filter place_cmp (λ c. is_filled (value_at g c)) (cells_of s) (span_ascends s))
     (λ d. has_filtered (λ c. is_filled (value_at g c)) (cells_within g s) d ∙ ap (λ b. is_filled (value_at g d) && b) (has_picked any_state g s d) ∙ told d (get g.cells d)
     ∙ sym (has_filtered (λ c. is_filled (value_at g c)) (cells_of s) d ∙ ap (λ b. is_filled (value_at g d) && b) (has_cells s d)))
   where

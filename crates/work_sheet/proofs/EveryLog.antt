@@ -25,10 +25,10 @@ use Rattle.sheet_edits.specs.Edits.{AreDirtied, IsDirtied, ReachesWritten}
 use Rattle.sheet_store.specs.Grid.{formulas, Grid}
 use Rattle.sheet_store.specs.declared.order.Order.{Order}
 use Rattle.sheet_store.specs.declared.order.Order.TheVariants as orders
-use Rattle.work_sheet.proofs.Filled.{has_cells}
+use Rattle.natural_recalc.proofs.Filled.{has_cells}
 use Rattle.work_sheet.proofs.Leading.{any_at, leading, some_at, Leads}
 use Rattle.work_sheet.proofs.Leading.Leads.{here, there}
-use Rattle.work_sheet.specs.Cells.{cells_of}
+use Rattle.formula_eval.specs.Outlook.{cells_of}
 use Rattle.work_sheet.specs.Doing.{all_dirty, evaluated_once, passed, swept, wrote, Happened}
 use Rattle.work_sheet.specs.Work.{dirty_within, HasWorked, Work, Works}
 

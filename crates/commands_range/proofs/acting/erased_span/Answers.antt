@@ -1,8 +1,7 @@
-use Rattle.command_desk.proofs.Ascending.{span_ascends}
 use Rattle.command_desk.proofs.Edited.{if_ok, edit_acted}
 use Rattle.grid_address.specs.Place.{is_within}
-use Rattle.work_sheet.proofs.Filled.{has_cells}
-use Rattle.work_sheet.specs.Cells.{cells_of}
+use Rattle.natural_recalc.proofs.Filled.{has_cells, span_ascends}
+use Rattle.formula_eval.specs.Outlook.{cells_of}
 use Rattle.work_sheet.specs.Editing.{erased}
 use Rattle.commands_range.proofs.acting.erased_span.Goals as goal
 

@@ -1,5 +1,4 @@
-use Rattle.std.specs.Prelude.{◌+◌}
-use Rattle.block_writes.specs.Writing.{at}
+use Rattle.std.specs.Prelude.{ℕ, ◌+◌}
 use Rattle.commands_range.proofs.Valued.{none_of_row, pushed}
 use Rattle.commands_range.specs.Valued.{sight_in, value_of}
 use Rattle.formula_eval.specs.Outlook.{Sight}
@@ -12,15 +11,14 @@ pub loop-across-init : goal.loop-across-init
 loop-across-init c =
     let sight : Sight = sight_in (of_worksheet c.args.sheet.now) in
     let f : Place → Write = value_of c.args.layout c.args.from c.args.target sight in
-    let p : Place = at (c.args.target.first.row + c.args.down) c.args.target.first.col in
-    (none_of_row f c.args.writes.now p, c.width-width.ensures.width)
+    (none_of_row f c.args.writes.now (c.args.target.first.row + c.args.down) c.args.target.first.col, c.width-width.ensures.width)
 
 pub loop-across-preserved : goal.loop-across-preserved
 loop-across-preserved c =
     let sight : Sight = sight_in (of_worksheet c.args.sheet.now) in
     let f : Place → Write = value_of c.args.layout c.args.from c.args.target sight in
-    let p : Place = at (c.args.target.first.row + c.args.down) c.args.target.first.col in (
-      pushed f c.args.writes.now c.loop-across.writes c.push_value.new.writes c.loop-across.across p
+    let row : ℕ = c.args.target.first.row + c.args.down in (
+      pushed f c.args.writes.now c.loop-across.writes c.push_value.new.writes row c.args.target.first.col c.loop-across.across
           c.loop-across.invariant.0 c.in_ok-push_value.ensures,
       c.loop-across.invariant.1,
     )

@@ -1,8 +1,7 @@
 use Rattle.std.specs.Prelude.{◌≡◌, ◌+◌, ◌++◌, map}
-use Rattle.block_writes.specs.Writing.{at}
 use Rattle.commands_range.specs.Valued.{sight_in, value_of}
+use Rattle.formula_eval.specs.Outlook.{row_cells}
 use Rattle.grid_address.specs.Place.{width_of}
-use Rattle.work_sheet.specs.Cells.{row_of}
 use Rattle.work_sheet.specs.Seen.{of_worksheet}
 use Rattle.commands_range.proofs.values.push_row.Given as goal
 
@@ -10,4 +9,4 @@ abbrev pub invariant-loop-across : goal.invariant-loop-across
 invariant-loop-across l =
     (l.writes ≡ l.fn.writes
     ++ map (value_of l.layout l.from l.target (sight_in (of_worksheet l.sheet)))
-    (row_of l.across (at (l.target.first.row + l.down) l.target.first.col))) × (l.width ≡ width_of l.target)
+    (row_cells (l.target.first.row + l.down) l.target.first.col l.across)) × (l.width ≡ width_of l.target)

@@ -1,6 +1,7 @@
 use Rattle.std.specs.Prelude.{◌≡◌, List}
 use Rattle.std.proofs.Common.{ap, subst, sym, ◌∙◌}
-use Rattle.command_desk.proofs.Ascending.{span_ascends, Ascends}
+use Rattle.natural_recalc.proofs.Filled.{span_ascends}
+use Rattle.natural_recalc.specs.Laws.{Ascends}
 use Rattle.command_desk.proofs.Edited.{if_ok, edit_acted}
 use Rattle.command_desk.specs.Acting.{written, HasActed}
 use Rattle.commands_range.proofs.Valued.{written_are}
@@ -9,7 +10,7 @@ use Rattle.grid_address.specs.Place.{same_place, Place}
 use Rattle.cell_numbers.specs.Sets.{has}
 use Rattle.sheet_edits.specs.Spans.{written_cells}
 use Rattle.sheet_store.specs.declared.writes.Write.{Write}
-use Rattle.work_sheet.specs.Cells.{cells_of}
+use Rattle.formula_eval.specs.Outlook.{cells_of}
 use Rattle.work_sheet.specs.Editing.{all_written}
 use Rattle.work_sheet.specs.Seen.{of_worksheet, Sheet}
 use Rattle.commands_range.proofs.values.valued_into.Goals as goal

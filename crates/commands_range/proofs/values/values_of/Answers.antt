@@ -1,6 +1,5 @@
 use Rattle.std.specs.Prelude.{ℕ}
-use Rattle.std.proofs.Common.{◌∙◌}
-use Rattle.commands_range.proofs.Valued.{joined, none_of_rows}
+use Rattle.commands_range.proofs.Valued.{joined}
 use Rattle.commands_range.specs.Valued.{sight_in, value_of}
 use Rattle.formula_eval.specs.Outlook.{Sight}
 use Rattle.grid_address.specs.Place.{width_of, Place}
@@ -9,18 +8,14 @@ use Rattle.work_sheet.specs.Seen.{of_worksheet}
 use Rattle.commands_range.proofs.values.values_of.Goals as goal
 
 pub loop-down-init : goal.loop-down-init
-loop-down-init c =
-    let sight : Sight = sight_in (of_worksheet c.args.sheet.now) in
-    let f : Place → Write = value_of c.args.layout c.args.from c.args.target sight in
-    let cols : ℕ = width_of c.args.target in
-    (c.new-writes.ensures ∙ none_of_rows f cols c.args.target.first, c.height-height.ensures.height)
+loop-down-init c = (c.new-writes.ensures, c.height-height.ensures.height)
 
 pub loop-down-preserved : goal.loop-down-preserved
 loop-down-preserved c =
     let sight : Sight = sight_in (of_worksheet c.args.sheet.now) in
     let f : Place → Write = value_of c.args.layout c.args.from c.args.target sight in
     let cols : ℕ = width_of c.args.target in (
-      joined f c.loop-down.writes c.push_row.new.writes c.loop-down.down cols c.args.target.first
+      joined f c.loop-down.writes c.push_row.new.writes c.args.target.first.row c.args.target.first.col c.loop-down.down cols
           c.loop-down.invariant.0 c.in_ok-push_row.ensures,
       c.loop-down.invariant.1,
     )

@@ -1,11 +1,11 @@
 use Rattle.std.specs.Prelude.{◌≡◌, map}
 use Rattle.commands_range.specs.Valued.{sight_in, value_of}
+use Rattle.formula_eval.specs.Outlook.{block_cells}
 use Rattle.grid_address.specs.Place.{height_of, width_of}
-use Rattle.work_sheet.specs.Cells.{rows_of}
 use Rattle.work_sheet.specs.Seen.{of_worksheet}
 use Rattle.commands_range.proofs.values.values_of.Given as goal
 
 abbrev pub invariant-loop-down : goal.invariant-loop-down
 invariant-loop-down l =
     (l.writes ≡ map (value_of l.layout l.from l.target (sight_in (of_worksheet l.sheet)))
-    (rows_of l.down (width_of l.target) l.target.first)) × (l.height ≡ height_of l.target)
+    (block_cells l.target.first.row l.target.first.col l.down (width_of l.target))) × (l.height ≡ height_of l.target)
