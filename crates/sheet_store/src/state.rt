@@ -3,10 +3,10 @@ ghost use Rattle.std.specs.Prelude.{◌≡◌, true, IfOk};
 ghost use Rattle.formula_tree.specs.Seen.{seen_content, seen_value};
 ghost use Rattle.formula_tree.specs.declared.value.Content.TheVariants as content;
 ghost use Rattle.formula_tree.specs.declared.value.Value.TheVariants as value;
-ghost use Rattle.sheet_store.specs.Grid.{blank_state, is_blank, is_formula, is_kept, Fits};
+ghost use Rattle.sheet_store.specs.Grid.{blank_state, is_blank, is_formula, is_kept};
 
 use fixed_value::Fixed;
-use formula_tree::{Content, ContentRef, Formula, Value, ValueRef};
+use formula_tree::{ContentRef, Formula, Value, ValueRef};
 use grid_address::Format;
 use lics_text::{LabelPrefix, Memory, Text};
 use std::alloc::Global;
@@ -197,24 +197,6 @@ impl CellState {
             Kept::Formula(format, computed) => {
                 CellState::formula(computed.formula.copy()?, computed.value.copy()?, *format)
             }
-        }
-    }
-
-    /// The state of a content with its value.
-    pub fn of(
-        alloc: Global,
-        content: Content,
-        value: Value,
-        format: Format,
-    ) -> Result<CellState, Memory>
-        requires { Fits content value }
-        ensures { IfOk result (λ s. s ≡ record { content = content; value = value; format = format }) }
-    {
-        match content {
-            Content::Blank => Ok(CellState::blank(format)),
-            Content::Number(number) => Ok(CellState::number(number, format)),
-            Content::Label(prefix, text) => CellState::label(alloc, prefix, text, format),
-            Content::Formula(formula) => CellState::formula(formula, value, format),
         }
     }
 }
