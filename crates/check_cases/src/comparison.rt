@@ -14,6 +14,11 @@ pub trait Subject {
     /// Answers a line: writes the lines of its answer, each with its end, or nothing. `Stop::Line` is a line that
     /// doesn't say what it should.
     fn answer(&mut self, alloc: Global, line: &[u8], answer: &mut Vec<u8>) -> Result<(), Stop>;
+
+    /// Lets what has this name answer from here on. `Stop::Line` is a name of nothing that answers here.
+    fn turn_to(&mut self, _name: &[u8]) -> Result<(), Stop> {
+        Err(Stop::Line)
+    }
 }
 
 /// How many cases and answers there were, and how many of these differ.
@@ -151,6 +156,11 @@ impl Comparison {
             [b'+', asked @ ..] => {
                 self.settle(out)?;
                 self.ask(alloc, subject, line, asked)
+            }
+            [b'#', name @ ..] => {
+                self.settle(out)?;
+                self.case.clear();
+                subject.turn_to(name)
             }
             _ => Err(Stop::Line),
         }
