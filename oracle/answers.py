@@ -1,5 +1,5 @@
 """What each checking program must answer to the lines of its data: the lines of each one's answer. A name is that of the
-crate, behind `check_`."""
+crate, behind `check_`, or of a part of it."""
 import struct
 
 from . import adjust, blocks, cellformat, fixed, formula, macro, menu, query, screen, session

@@ -916,5 +916,5 @@ CASES = {'numbers': numbers, 'formulas': formulas, 'words': words, 'values': val
 
 
 def case(name, seed=SEED):
-    """The lines that crates/check_NAME answers."""
+    """The lines that a part of a checking program answers."""
     return CASES[name](random.Random(f'{seed} {name}'))

@@ -1,98 +1,91 @@
-//! Reads the text of a formula in each line of its data and answers the formula's text behind `=`, or behind `<`
-//! where only its front was printed, or the fault behind `!`. The lines stand in the cells F6, A1 and IV8192 in turn.
-//! The stored run compares 5,000 texts with another program's answers.
+//! What becomes of formulas: as texts, by edits of the sheet, and as values. A line of its data behind `#` names which
+//! of these answers the lines behind it. The stored run compares 5,000 texts, 300 edits and the values of 20,000
+//! formulas with another program's.
+//!
+//! `formulas`: a line is the text of a formula, to which the formula's text is answered behind `=`, or behind `<` where
+//! only its front was printed, or the fault behind `!`. The lines stand in the cells F6, A1 and IV8192 in turn.
+//!
+//! `adjustments`: a line is an edit, a span and a formula, to which the span and the formula after the edit are
+//! answered, the span as `-` where a corner is lost. Its words are a letter for the edit, the formula's old and new
+//! cell, the span of the edit, the cell that its first corner moves to, the span that is adjusted, and the formula's
+//! text. The letters are `M` for a move, `r` and `c` for rows and columns inserted in front of the span, as many as it
+//! has, and `R` and `C` for its rows and columns deleted.
+//!
+//! `values`: the lines describe small blocks of cells. `:` makes the block empty. The next cell, row by row over the
+//! columns A to H, gets a number from `:N`, a label from `:L` with its prefix and its text, a formula from `:V`, and
+//! nothing from `:B`. Any other line is a formula in the cell J20, to which its value is answered: `n` and millionths,
+//! `s` and a text, `ERR` or `NA`; or its fault behind `!`.
 #![tactic(auto)]
 
+mod adjustments;
+mod block;
+mod held;
+mod names;
+mod texts;
+mod values;
+
+use adjustments::Adjustments;
+use block::Block;
 use check_cases::{Stop, Subject, check};
-use formula_text::{print, read};
-use grid_address::{Cell, LAST_ROW, Span};
-use lics_text::Line;
-use range_names::{NameFault, Names};
+use range_names::NameFault;
 use std::alloc::Global;
-use std::io::Write;
 use std::process::ExitCode;
+use texts::Texts;
+use values::empty_block;
 
-// Where the texts stand in turn.
-const CELLS: [Cell; 3] = [
-    Cell { row: 5, col: 5 },
-    Cell { row: 0, col: 0 },
-    Cell {
-        row: LAST_ROW,
-        col: 255,
-    },
-];
-
-// The names that the texts may use: words, of which some share a span, and others that are never printed.
-const NAMES: [(&[u8], Cell, Cell); 10] = [
-    (b"TOTAL", Cell { row: 0, col: 0 }, Cell { row: 0, col: 0 }),
-    (b"rates", Cell { row: 2, col: 1 }, Cell { row: 9, col: 3 }),
-    (b"PRICES", Cell { row: 2, col: 1 }, Cell { row: 9, col: 3 }),
-    (b"1", Cell { row: 2, col: 2 }, Cell { row: 2, col: 2 }),
-    (
-        b"TAX_RATE",
-        Cell { row: 2, col: 2 },
-        Cell { row: 2, col: 2 },
-    ),
-    (b"A1", Cell { row: 3, col: 3 }, Cell { row: 3, col: 3 }),
-    (b"NET PAY", Cell { row: 4, col: 4 }, Cell { row: 4, col: 4 }),
-    (b"IW1", Cell { row: 5, col: 5 }, Cell { row: 6, col: 6 }),
-    (
-        b"Q",
-        Cell {
-            row: LAST_ROW,
-            col: 255,
-        },
-        Cell {
-            row: LAST_ROW,
-            col: 255,
-        },
-    ),
-    (
-        b"EXACTLY15LETTER",
-        Cell { row: 7, col: 0 },
-        Cell { row: 7, col: 2 },
-    ),
-];
-
-// The names that the texts may use, with their spans.
-fn names_in(alloc: Global) -> Result<Names, NameFault> {
-    let mut names = Names::new(alloc);
-    for (name, first, last) in NAMES {
-        names.create(name, Span::of(first, last))?;
-    }
-    Ok(names)
+// What the lines may be about.
+#[derive(Clone, Copy)]
+enum Part {
+    Formulas,
+    Adjustments,
+    Values,
 }
 
-// Formula texts, of which the next stands in the cell of that place in turn.
+// What answers the lines, and which part does at present.
 #[derive(Drop)]
-struct Texts {
-    names: Names,
-    turn: usize,
+struct Parts {
+    texts: Texts,
+    adjustments: Adjustments,
+    block: Block,
+    part: Part,
 }
 
-impl Subject for Texts {
+impl Parts {
+    // All as they begin; texts come first.
+    fn new(alloc: Global) -> Result<Parts, NameFault> {
+        Ok(Parts {
+            texts: Texts::new(alloc)?,
+            adjustments: Adjustments::new(alloc),
+            block: empty_block(alloc)?,
+            part: Part::Formulas,
+        })
+    }
+}
+
+impl Subject for Parts {
     fn answer(&mut self, alloc: Global, line: &[u8], answer: &mut Vec<u8>) -> Result<(), Stop> {
-        let at = CELLS[self.turn % 3];
-        self.turn = self.turn.wrapping_add(1);
-        match read(alloc, line, at, &self.names) {
-            Ok(formula) => {
-                let mut line = Line::new();
-                let whole = print(&formula, at, &self.names, &mut line);
-                answer.write_all(if whole { b"=" } else { b"<" })?;
-                answer.write_all(line.bytes())?;
-                answer.write_all(b"\n")?;
-            }
-            Err(fault) => writeln!(answer, "!{fault:?}")?,
+        match self.part {
+            Part::Formulas => self.texts.answer(alloc, line, answer),
+            Part::Adjustments => self.adjustments.answer(alloc, line, answer),
+            Part::Values => self.block.answer(alloc, line, answer),
         }
+    }
+
+    fn turn_to(&mut self, name: &[u8]) -> Result<(), Stop> {
+        self.part = match name {
+            b"formulas" => Part::Formulas,
+            b"adjustments" => Part::Adjustments,
+            b"values" => Part::Values,
+            _ => return Err(Stop::Line),
+        };
         Ok(())
     }
 }
 
 fn main(rt: HostRuntime) -> ExitCode {
     let alloc = rt.alloc();
-    let Ok(names) = names_in(alloc) else {
+    let Ok(mut parts) = Parts::new(alloc) else {
         return ExitCode::from(1);
     };
-    let mut texts = Texts { names, turn: 0 };
-    check(alloc, &mut texts, rt.reader(), &mut rt.stdout())
+    check(alloc, &mut parts, rt.reader(), &mut rt.stdout())
 }

@@ -4,7 +4,7 @@ ghost use Rattle.std.specs.List.{filter};
 ghost use Rattle.formula_tree.specs.Seen.{seen_value};
 ghost use Rattle.formula_tree.specs.Values.{is_filled};
 ghost use Rattle.formula_eval.specs.Outlook.{block_cells, filled, row_cells, Sight};
-ghost use Rattle.check_values.specs.Blocks.{content_of, format_of, held_at, index_of, value_of};
+ghost use Rattle.check_formulas.specs.Blocks.{content_of, format_of, held_at, index_of, value_of};
 
 use crate::held::Held;
 use formula_eval::Look;

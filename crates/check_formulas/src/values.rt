@@ -2,14 +2,15 @@
 
 use crate::block::Block;
 use crate::held::Held;
+use crate::names::{Named, names_of};
 use check_cases::{Stop, Subject, text_of};
 use fixed_value::{Decimal, read_decimal};
 use formula_eval::{Scene, glance};
 use formula_text::read;
 use formula_tree::{Content, Formula, Value};
-use grid_address::{Cell, Format, Span};
+use grid_address::{Cell, Format};
 use lics_text::LabelPrefix;
-use range_names::{NameFault, Names};
+use range_names::NameFault;
 use serial_date::Moment;
 use std::alloc::Global;
 use std::io::Write;
@@ -27,19 +28,19 @@ const SCENE: Scene = Scene {
 };
 
 // The names that the formulas may use, with their spans.
-const NAMES: [(&[u8], Cell, Cell); 3] = [
+const NAMES: [Named; 3] = [
     (b"TOTAL", Cell { row: 0, col: 1 }, Cell { row: 0, col: 1 }),
     (b"RATES", Cell { row: 0, col: 0 }, Cell { row: 5, col: 3 }),
     (b"LIST", Cell { row: 1, col: 1 }, Cell { row: 1, col: 7 }),
 ];
 
-/// These names.
-pub fn names_in(alloc: Global) -> Result<Names, NameFault> {
-    let mut names = Names::new(alloc);
-    for (name, first, last) in NAMES {
-        names.create(name, Span::of(first, last))?;
-    }
-    Ok(names)
+/// A block without cells.
+pub fn empty_block(alloc: Global) -> Result<Block, NameFault> {
+    Ok(Block {
+        held: Vec::new(alloc),
+        names: names_of(alloc, &NAMES)?,
+        alloc,
+    })
 }
 
 // The formats of the cells in turn: the default, fixed places, a date, and each with its protection off.

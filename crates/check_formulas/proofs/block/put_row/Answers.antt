@@ -1,10 +1,10 @@
 use Rattle.std.proofs.Common.{◌≡◌, ◌+◌, Bool, sym, ap, ◌∙◌}
 use Rattle.grid_address.specs.Place.{Place}
 use Rattle.formula_tree.specs.Values.{is_filled}
-use Rattle.check_values.specs.Blocks.{held_at, value_of}
-use Rattle.check_values.proofs.Scans.{listed_cell, passed_cell}
-use Rattle.check_values.proofs.block.put_row.Goals as goal
-use Rattle.check_values.proofs.block.put_row.Goals.{then-is_filled+in_ok-push, else-is_filled}
+use Rattle.check_formulas.specs.Blocks.{held_at, value_of}
+use Rattle.check_formulas.proofs.Scans.{listed_cell, passed_cell}
+use Rattle.check_formulas.proofs.block.put_row.Goals as goal
+use Rattle.check_formulas.proofs.block.put_row.Goals.{then-is_filled+in_ok-push, else-is_filled}
 
 pub loop-place-preserved : goal.loop-place-preserved
 loop-place-preserved c =

@@ -1,17 +1,9 @@
-//! Reads an edit, a span and a formula in each line of its data, and answers the span and the formula after the edit,
-//! the span as `-` where a corner is lost. The stored run compares 300 lines with another program's answers.
-//!
-//! A line's words are a letter for the edit, the formula's old and new cell, the span of the edit, the cell that its
-//! first corner moves to, the span that is adjusted, and the formula's text. The letters are `M` for a move, `r` and
-//! `c` for rows and columns inserted in front of the span, as many as it has, and `R` and `C` for its rows and
-//! columns deleted.
-#![tactic(auto)]
-
+// Edits, and what spans and formulas are after each.
 ghost use Rattle.std.specs.Prelude.{◌≡◌, true, IfSome};
 ghost use Rattle.ref_adjust.specs.Lines.{IsChange};
 ghost use Rattle.ref_adjust.specs.Moves.{FitsAt};
 
-use check_cases::{Stop, Subject, Words, check};
+use check_cases::{Stop, Subject, Words};
 use formula_text::{print, read};
 use formula_tree::Formula;
 use grid_address::{Cell, ROWS, Span, cell_text};
@@ -20,7 +12,6 @@ use range_names::Names;
 use ref_adjust::{Change, moved, shifted, span_moved, span_shifted};
 use std::alloc::Global;
 use std::io::{Error, Write};
-use std::process::ExitCode;
 
 // An edit, by its letter, its span and the cell that the span's first corner moves to.
 #[derive(Drop)]
@@ -145,10 +136,19 @@ fn row_of(words: &mut Words) -> Result<Row, Stop> {
     })
 }
 
-// The names that the formulas may use, which are none.
+/// The names that the formulas may use, which are none.
 #[derive(Drop)]
-struct Adjustments {
+pub struct Adjustments {
     names: Names,
+}
+
+impl Adjustments {
+    /// No names.
+    pub fn new(alloc: Global) -> Adjustments {
+        Adjustments {
+            names: Names::new(alloc),
+        }
+    }
 }
 
 impl Subject for Adjustments {
@@ -165,12 +165,4 @@ impl Subject for Adjustments {
         }
         Ok(())
     }
-}
-
-fn main(rt: HostRuntime) -> ExitCode {
-    let alloc = rt.alloc();
-    let mut adjustments = Adjustments {
-        names: Names::new(alloc),
-    };
-    check(alloc, &mut adjustments, rt.reader(), &mut rt.stdout())
 }

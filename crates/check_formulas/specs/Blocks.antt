@@ -5,7 +5,7 @@ use Rattle.grid_address.specs.Place.{Place}
 use Rattle.formula_tree.specs.declared.value.Content.{Content}
 use Rattle.formula_tree.specs.declared.value.Value.{Value}
 use Rattle.formula_tree.specs.declared.value.Value.TheVariants as value
-use Rattle.check_values.specs.declared.held.Held.{Held}
+use Rattle.check_formulas.specs.declared.held.Held.{Held}
 
 -- 8 columns, row by row
 abbrev pub index_of : Place → Option ℕ

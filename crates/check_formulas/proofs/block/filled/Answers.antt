@@ -1,9 +1,9 @@
 use Rattle.std.proofs.Common.{Bool}
 use Rattle.grid_address.specs.Place.{Place}
 use Rattle.formula_tree.specs.Values.{is_filled}
-use Rattle.check_values.specs.Blocks.{held_at, value_of}
-use Rattle.check_values.proofs.Scans.{listed_row}
-use Rattle.check_values.proofs.block.filled.Goals as goal
+use Rattle.check_formulas.specs.Blocks.{held_at, value_of}
+use Rattle.check_formulas.proofs.Scans.{listed_row}
+use Rattle.check_formulas.proofs.block.filled.Goals as goal
 
 pub loop-place-preserved : goal.loop-place-preserved
 loop-place-preserved c =
