@@ -1,5 +1,6 @@
 """Key lists through the built program and through the oracle: screens, notes, statuses, counts and the files left compared. First
-go the worked ones of worked/runs, each a line of the program's words, a tab and keys, as a bytes literal spells them; then random ones.
+go the worked ones of worked/runs, each a line of the program's words and keys, as a bytes literal spells them, and files of its folder as
+NAME=BYTES, parted by tabs; then random ones.
 
 python3 -B -m oracle.runs PROGRAM N [SEED] [--macros] [--processes P]
 
@@ -387,10 +388,20 @@ def compared(program, seed, macros_alone, number):
     return run_differs(program, options, keys, typist.folder)
 
 
+def spelled_bytes(text):
+    """Bytes in hexadecimal digits, in parts with a plus sign between them; a part may tell behind a star how often it stands there."""
+    out = b''
+    for part in text.split('+'):
+        digits, _, times = part.partition('*')
+        out += bytes.fromhex(digits) * int(times or 1)
+    return out
+
+
 def worked_run(program, line):
-    """The run of a worked line, in an empty folder."""
-    options, _, keys = line.decode().partition('\t')
-    return run_differs(program, shlex.split(options), keys.encode().decode('unicode_escape').encode('latin-1'), {})
+    """The run of a worked line, in a folder with its files alone."""
+    options, keys, *files = line.decode().split('\t')
+    folder = {name: spelled_bytes(text) for name, text in (file.split('=') for file in files)}
+    return run_differs(program, shlex.split(options), keys.encode().decode('unicode_escape').encode('latin-1'), folder)
 
 
 def prepare():
