@@ -1,4 +1,5 @@
 """Follows a gate's processes, and writes each crate's share into docs/TESTING.md."""
+import glob
 import os
 import re
 import subprocess
@@ -86,6 +87,21 @@ def crates():
         return {line.split(":")[0].split()[0] for line in it if ":" in line and not line.startswith("#")}
 
 
+def has_tests(crate):
+    """Whether a crate has tests."""
+    for path in glob.glob(f"crates/{crate}/src/**/*.rt", recursive=True):
+        with open(path, encoding="utf-8") as it:
+            if "#[test]" in it.read():
+                return True
+    return False
+
+
+def without_past_work(crate, of):
+    """A crate's row, with nothing of tests and edits that it had once."""
+    has = {"proof": True, "tests": has_tests(crate), "edits": bool(glob.glob(f"crates/{crate}/must-fail/*.edit"))}
+    return {kind: of[kind] if has[kind] else 0 for kind in KINDS}
+
+
 def main(words):
     used, known = {}, {}
     ran = None if words else subprocess.Popen(["rt", "ci"])
@@ -104,7 +120,7 @@ def main(words):
         rows.setdefault(crate, dict.fromkeys(KINDS, 0)).update({kind: round(seconds) for kind, seconds in of.items()})
     listed = crates()
     with open(PAGE, "w", encoding="utf-8") as it:
-        it.write(page[:start] + table({crate: of for crate, of in rows.items() if crate in listed}) + page[end:])
+        it.write(page[:start] + table({crate: without_past_work(crate, of) for crate, of in rows.items() if crate in listed}) + page[end:])
     print(f"gate: {sum(seconds for _, seconds in used.values()) / 60:.0f} minutes of one processor were seen")
     return ran.wait() if ran else 0
 
