@@ -6,12 +6,12 @@ program that has several parts the data of each stand one behind another, each b
 import random
 import sys
 
-from . import check_channel, check_reports, check_rooms, files
+from . import check_base, check_channel, check_reports, check_rooms, files
 from .answers import ANSWERS, leave_out
 from .cases import SEED, case
 
 # the checking programs whose data and answers stand in modules of their own
-APART = {'channel': check_channel, 'reports': check_reports, 'rooms': check_rooms}
+APART = {'base': check_base, 'channel': check_channel, 'reports': check_reports, 'rooms': check_rooms}
 ANSWERS = {**ANSWERS, 'files': files.answers, **{name: of.answers for name, of in APART.items()}}
 # the parts of the programs that have several, of which the first has the program's name
 PARTS = {'formulas': ('formulas', 'adjustments', 'values')}
@@ -33,6 +33,8 @@ def begins(name, line):
     """Whether a line begins a case."""
     if name == 'values':
         return line == b':'
+    if name == 'base':
+        return line[:1] not in b'+-?@>'
     return name not in BEGINS or line[:1] == BEGINS[name]
 
 
