@@ -1,12 +1,10 @@
-//! Tests by calls of the outside's forms, of displays and of sheet_run, of what the worked runs of the built program
-//! can't reach: calls that fail, numbers of puts, the moment, and files byte by byte.
+//! Tests by calls of sheet_run and of the shelf on the host, of what the worked runs of the built program can't reach:
+//! calls that fail, numbers of puts, and the moment.
 #![tactic(auto)]
 
 #[cfg(test)]
-mod displays;
-#[cfg(test)]
 mod failures;
 #[cfg(test)]
-mod files;
+mod host_shelf;
 #[cfg(test)]
-mod outside;
+mod runs;

@@ -1,68 +1,10 @@
-// The outside's forms in memory, whose numbered calls fail, and those on the host: the notes, and the files of the
-// current folder.
-use outside_world::{
-    ByteBuffer, Clock, Failed, FileName, HostKeys, HostNotes, HostShelf, Keys, ListClock, ListKeys,
-    ListNotes, Notes, Shelf, ShelfFault,
-};
-use serial_date::Moment;
+// The shelf on the host: files of the current folder.
+use outside_world::{ByteBuffer, FileName, HostShelf, Shelf, ShelfFault};
 use std::fs;
 use std::os::unix::fs::{PermissionsExt, symlink};
 use std::process::Abort;
 use std::rt::Files;
 use std::test::Fail;
-
-#[test]
-fn numbered_calls_fail_and_take_nothing(rt: HostRuntime) -> Result<(), Fail> {
-    let alloc = rt.alloc();
-    let mut keys = ListKeys::new(b"ab".to_vec(alloc)?, [2].to_vec(alloc)?);
-    assert_eq!(rt; keys.next(), Ok(Some(b'a')));
-    assert_eq!(rt; keys.next(), Err(Failed));
-    assert_eq!(rt; keys.next(), Ok(Some(b'b')));
-    assert_eq!(rt; keys.next(), Ok(None));
-    let mut notes = ListNotes::new(alloc, 5, [2].to_vec(alloc)?)?;
-    assert_eq!(rt; notes.write(b"abc"), Ok(()));
-    assert_eq!(rt; notes.write(b"d"), Err(Failed));
-    assert_eq!(rt; notes.write(b"def"), Err(Failed));
-    assert_eq!(rt; notes.write(b"de"), Ok(()));
-    assert_eq!(rt; notes.bytes(), b"abcde".as_slice());
-    Ok(())
-}
-
-#[test]
-fn a_clock_repeats_its_last_reading(rt: HostRuntime) -> Result<(), Fail> {
-    let noon = Moment {
-        day: Some(1),
-        second: 43_200,
-    };
-    let readings = [Moment::unknown(), noon].to_vec(rt.alloc())?;
-    assert_eq!(rt; readings.len(), 2);
-    let mut clock = ListClock::new(readings);
-    assert_eq!(rt; clock.read(), Moment::unknown());
-    assert_eq!(rt; clock.read(), noon);
-    assert_eq!(rt; clock.read(), noon);
-    Ok(())
-}
-
-#[test]
-fn host_keys_pass_bytes_on(rt: HostRuntime) {
-    let bytes: &[u8] = b"A~";
-    let mut keys = HostKeys::new(bytes);
-    assert_eq!(rt; keys.next(), Ok(Some(b'A')));
-    assert_eq!(rt; keys.next(), Ok(Some(b'~')));
-    assert_eq!(rt; keys.next(), Ok(None));
-}
-
-#[test]
-fn host_notes_pass_bytes_on(rt: HostRuntime) -> Result<(), Fail> {
-    let mut written = Vec::new(rt.alloc());
-    {
-        let mut notes = HostNotes::new(&mut written);
-        assert_eq!(rt; notes.write(b"1-2-3: keys "), Ok(()));
-        assert_eq!(rt; notes.write(b"failed\n"), Ok(()));
-    }
-    assert_eq!(rt; written.as_slice(), b"1-2-3: keys failed\n".as_slice());
-    Ok(())
-}
 
 // The test's files; no worksheet of the folder is called so.
 const NAME: &str = "HS_TEST.WK1";
