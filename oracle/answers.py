@@ -757,7 +757,7 @@ def macros(lines):
 # ---------------------------------------------------------------- generated
 
 def generated_text(content, cell, names):
-    """A content as check_generated prints it."""
+    """A content as check_files prints it of a generated worksheet."""
     if content[0] == 'formula':
         return b'f' + formula.print_(content[1], cell, names)
     return b'n%d' % content[1]
