@@ -1,4 +1,5 @@
-"""Calls of a channel over a shelf in memory: the data of check_channel, and what it must answer. Its own text tells the lines."""
+"""Calls of a channel over a shelf in memory: the data of this part of check_reports, and what it must answer. Its
+own text tells the lines."""
 from .cases import worked
 from .channel import Channel
 from .outside import Failed, MapShelf, file_name

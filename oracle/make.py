@@ -14,7 +14,7 @@ from .cases import SEED, case
 APART = {'base': check_base, 'channel': check_channel, 'reports': check_reports, 'rooms': check_rooms}
 ANSWERS = {**ANSWERS, 'files': files.answers, **{name: of.answers for name, of in APART.items()}}
 # the parts of the programs that have several, of which the first has the program's name
-PARTS = {'formulas': ('formulas', 'adjustments', 'values'), 'files': ('files', 'generated')}
+PARTS = {'formulas': ('formulas', 'adjustments', 'values'), 'files': ('files', 'generated'), 'reports': ('reports', 'channel')}
 PROGRAMS = [name for name in ANSWERS if not any(name in parts[1:] for parts in PARTS.values())]
 # how a line begins that makes a fresh sheet, or a fresh shelf; each line of the other programs is a case of its own
 BEGINS = {'values': b':', 'sheets': b':', 'data': b':', 'macros': b':', 'channel': b'n', 'reports': b'n', 'files': b':'}

@@ -1,6 +1,7 @@
 // A worksheet, and what the lines do with it.
 ghost use Rattle.std.specs.Prelude.{◌≤◌, IfOk};
 
+use crate::digits::write_bytes;
 use crate::states::{state_in, text_in};
 use check_cases::{Stop, Subject, Words, bytes_of};
 use grid_address::{Cell, Format, Span};
@@ -10,11 +11,11 @@ use range_names::Names;
 use serial_date::Moment;
 use sheet_store::{MOST_WIDTH, SavedSheet, Settings, Store};
 use std::alloc::Global;
-use std::io::{Error, Write};
+use std::io::Write;
 
 /// A worksheet.
 #[derive(Drop)]
-pub struct Desk {
+pub struct ReportDesk {
     saved: SavedSheet,
 }
 
@@ -99,15 +100,6 @@ fn sum_of(bytes: &[u8]) -> u64 {
     sum
 }
 
-// Writes each byte in hexadecimal digits.
-fn write_whole<W: Write>(bytes: &[u8], out: &mut W) -> Result<(), Error> {
-    out.write_all(b"=")?;
-    for byte in bytes {
-        write!(out, "{byte:02x}")?;
-    }
-    out.write_all(b"\n")
-}
-
 // Writes what a report holds, or why there is none.
 fn write_report<W: Write>(
     made: Result<ByteBuffer, PrintFault>,
@@ -115,7 +107,10 @@ fn write_report<W: Write>(
     out: &mut W,
 ) -> Result<(), Stop> {
     match made {
-        Ok(list) if is_whole => write_whole(list.bytes(), out)?,
+        Ok(list) if is_whole => {
+            write_bytes(list.bytes(), out)?;
+            out.write_all(b"\n")?;
+        }
         Ok(list) => writeln!(out, "{} {:016x}", list.len(), sum_of(list.bytes()))?,
         Err(PrintFault::PageTooSmall) => out.write_all(b"page too small\n")?,
         Err(PrintFault::TooLong) => out.write_all(b"too long\n")?,
@@ -124,10 +119,10 @@ fn write_report<W: Write>(
     Ok(())
 }
 
-impl Desk {
+impl ReportDesk {
     /// An empty worksheet.
-    pub fn new(alloc: Global) -> Desk {
-        Desk {
+    pub fn new(alloc: Global) -> ReportDesk {
+        ReportDesk {
             saved: SavedSheet {
                 store: Store::new(alloc),
                 names: Names::new(alloc),
@@ -138,7 +133,7 @@ impl Desk {
 
     // Begins a worksheet of this width and format.
     fn clear(&mut self, alloc: Global, words: &mut Words) -> Result<(), Stop> {
-        *self = Desk::new(alloc);
+        *self = ReportDesk::new(alloc);
         let width = width_in(words)?;
         let format = Format(words.byte()?);
         let fresh = Settings::fresh();
@@ -194,7 +189,7 @@ impl Desk {
     }
 }
 
-impl Subject for Desk {
+impl Subject for ReportDesk {
     fn answer(&mut self, alloc: Global, line: &[u8], answer: &mut Vec<u8>) -> Result<(), Stop> {
         let mut words = Words::of(line);
         match words.next() {

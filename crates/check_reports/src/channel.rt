@@ -1,5 +1,6 @@
 // A shelf, a channel over it, and what the lines ask of them.
 
+use crate::digits::write_bytes;
 use check_cases::{Stop, Subject, Words, bytes_of, whole_of};
 use lics_text::{Memory, Text};
 use outside_world::{ByteBuffer, Ext, FileName, MapShelf, Shelf, ShelfFault};
@@ -21,15 +22,6 @@ pub enum Answer {
     Text(Option<Text>),
     File(Option<ByteBuffer>),
     Failed,
-}
-
-// Writes bytes in hexadecimal digits.
-fn write_bytes<W: Write>(bytes: &[u8], out: &mut W) -> Result<(), Error> {
-    out.write_all(b"=")?;
-    for byte in bytes {
-        write!(out, "{byte:02x}")?;
-    }
-    Ok(())
 }
 
 impl Answer {
@@ -105,15 +97,15 @@ fn numbers_in(alloc: Global, words: &mut Words) -> Result<Vec<u64>, Stop> {
 
 /// A shelf and a channel.
 #[derive(Drop)]
-pub struct Desk {
+pub struct ChannelDesk {
     channel: Channel,
     shelf: MapShelf,
 }
 
-impl Desk {
+impl ChannelDesk {
     /// An empty shelf, of which these calls fail, and nothing attached.
-    pub fn new(failing: Vec<u64>) -> Desk {
-        Desk {
+    pub fn new(failing: Vec<u64>) -> ChannelDesk {
+        ChannelDesk {
             channel: Channel::new(),
             shelf: MapShelf::new(failing),
         }
@@ -164,7 +156,7 @@ impl Desk {
     fn call(&mut self, alloc: Global, words: &mut Words) -> Result<Answer, Stop> {
         match words.next() {
             b"n" => {
-                *self = Desk::new(numbers_in(alloc, words)?);
+                *self = ChannelDesk::new(numbers_in(alloc, words)?);
                 Ok(Answer::Done(true))
             }
             b"p" => {
@@ -189,7 +181,7 @@ impl Desk {
     }
 }
 
-impl Subject for Desk {
+impl Subject for ChannelDesk {
     fn answer(&mut self, alloc: Global, line: &[u8], answer: &mut Vec<u8>) -> Result<(), Stop> {
         self.call(alloc, &mut Words::of(line))?.write(answer)?;
         answer.push(b'\n')?;
