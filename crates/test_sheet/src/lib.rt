@@ -1,4 +1,4 @@
-//! Tests of the worksheet by calls.
+//! A test of the worksheet by calls, over another evaluator than the program's.
 #![tactic(auto)]
 
 #[cfg(test)]
