@@ -36,8 +36,8 @@ fn clear(rt: &HostRuntime) {
     }
 }
 
-// A file is written, written anew, and taken away.
-fn files_come_and_go<R: Abort + Files + AllocGlobal>(
+// A file isn't there, and is written.
+fn a_file_comes<R: Abort + Files + AllocGlobal>(
     rt: &R,
     shelf: &mut Tested,
     name: &FileName,
@@ -50,15 +50,28 @@ fn files_come_and_go<R: Abort + Files + AllocGlobal>(
     assert_eq!(rt; shelf.put(name, &first), Ok(()));
     assert_eq!(rt; shelf.has(name), Ok(true));
     assert!(rt; holds(shelf, name, b"first"));
+    Ok(())
+}
+
+// It is written anew, with the rights that it had, where a broken write left its bytes beside it.
+fn it_is_written_anew<R: Abort + Files + AllocGlobal>(
+    rt: &R,
+    shelf: &mut Tested,
+    name: &FileName,
+) -> Result<(), Fail> {
     fs::set_permissions(rt, NAME, fs::Permissions::from_mode(0o640))?;
     fs::write(rt, WRITTEN_BESIDE, b"broken off".as_slice())?;
     assert_eq!(rt; shelf.put(name, &ByteBuffer::new(rt.alloc())), Ok(()));
     assert!(rt; holds(shelf, name, b""));
     assert_eq!(rt; fs::metadata(rt, NAME)?.permissions().mode() & 0o777, 0o640);
     assert!(rt; fs::metadata(rt, WRITTEN_BESIDE).is_err());
+    Ok(())
+}
+
+// It is taken away.
+fn it_goes<R: Abort>(rt: &R, shelf: &mut Tested, name: &FileName) {
     assert_eq!(rt; shelf.remove(name), Ok(true));
     assert_eq!(rt; shelf.has(name), Ok(false));
-    Ok(())
 }
 
 // A put that can't write beside, and changes of a file that nobody may write, leave the file.
@@ -110,7 +123,9 @@ fn host_shelf_keeps_files_of_the_folder(rt: HostRuntime) -> Result<(), Fail> {
     let mut shelf = HostShelf::new(rt, rt.alloc());
     let name = FileName::of(b"hs_test").expect(&rt, "a name");
     clear(&rt);
-    files_come_and_go(&rt, &mut shelf, &name)?;
+    a_file_comes(&rt, &mut shelf, &name)?;
+    it_is_written_anew(&rt, &mut shelf, &name)?;
+    it_goes(&rt, &mut shelf, &name);
     failures_leave_it(&rt, &mut shelf, &name)?;
     others_are_refused(&rt, &mut shelf, &name)?;
     fs::create(&rt, NAME)?.set_len(MOST_BYTES + 9)?;
