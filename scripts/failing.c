@@ -1,7 +1,7 @@
 // Loaded before the C library: makes one call of the program's own fail. FAILING names the kind (memory, read, write,
 // notes, clock, file, or short-read and short-write, which move one byte), FAIL_AT the number of the call, from 1, and
-// FAIL_TELL a file that gets the number of calls. A file's calls are those that look for it, open, read, write, sync, rename
-// and remove it. Calls from elsewhere than the program's own code are not counted.
+// FAIL_TELL a file that gets the number of calls, and the numbers of those that found no file. A file's calls are those that
+// look for it, open, read, write, sync, rename and remove it. Calls from elsewhere than the program's own code are not counted.
 #define _GNU_SOURCE
 #include <errno.h>
 #include <fcntl.h>
@@ -20,7 +20,7 @@ extern void *__libc_malloc(size_t);
 extern void *__libc_realloc(void *, size_t);
 
 static const char *kind = "";
-static unsigned long fail_at, count;
+static unsigned long fail_at, count, absent[256], absent_count;
 static uintptr_t first, last;
 
 static int take_program(struct dl_phdr_info *info, size_t size, void *data) {
@@ -45,18 +45,23 @@ __attribute__((constructor)) static void begin(void) {
 __attribute__((destructor)) static void tell(void) {
     const char *name = getenv("FAIL_TELL");
     if (!name) return;
-    char text[32];
-    int length = snprintf(text, sizeof text, "%lu\n", count);
-    int file = open(name, O_WRONLY | O_CREAT | O_TRUNC, 0644);
-    if (file < 0) return;
-    syscall(SYS_write, file, text, length);
-    close(file);
+    FILE *told = fopen(name, "w");
+    if (!told) return;
+    fprintf(told, "%lu", count);
+    for (unsigned long i = 0; i < absent_count; i++) fprintf(told, " %lu", absent[i]);
+    fclose(told);
 }
 
+static int is_own(void *from) { return (uintptr_t)from >= first && (uintptr_t)from < last; }
+
 static int fails(const char *what, void *from) {
-    uintptr_t at = (uintptr_t)from;
-    if (strcmp(kind, what) || at < first || at >= last) return 0;
+    if (strcmp(kind, what) || !is_own(from)) return 0;
     return ++count == fail_at;
+}
+
+static int found(int result, void *from) {
+    if (result < 0 && errno == ENOENT && !strcmp(kind, "file") && is_own(from) && absent_count < 256) absent[absent_count++] = count;
+    return result;
 }
 
 #define CALLER __builtin_return_address(0)
@@ -100,12 +105,12 @@ int open(const char *path, int how, ...) {
     int mode = how & O_CREAT ? va_arg(more, int) : 0;
     va_end(more);
     if (fails("file", CALLER)) return errno = EIO, -1;
-    return (int)syscall(SYS_openat, AT_FDCWD, path, how, mode);
+    return found((int)syscall(SYS_openat, AT_FDCWD, path, how, mode), CALLER);
 }
 
-int statx(int folder, const char *restrict path, int how, unsigned wanted, struct statx *restrict found) {
+int statx(int folder, const char *restrict path, int how, unsigned wanted, struct statx *restrict into) {
     if (fails("file", CALLER)) return errno = EIO, -1;
-    return (int)syscall(SYS_statx, folder, path, how, wanted, found);
+    return found((int)syscall(SYS_statx, folder, path, how, wanted, into), CALLER);
 }
 
 int fchmod(int file, mode_t mode) {
