@@ -18,6 +18,7 @@ import shlex
 import subprocess
 import sys
 import tempfile
+from typing import NamedTuple
 
 from .answers import leave_out
 from .cases import SEED, Texts, WORDS, is_read, worked
@@ -40,6 +41,13 @@ BAD_WORDS = [['--show'], ['--show', 'page'], ['--steps', '0'], ['--steps=1000000
              ['--steps'], ['--show=last', '--show', 'last'], ['--steps='], ['--file'], ['--file='], ['--file', '-A'], ['--file=A.PRN'],
              ['--file', 'TOO_LONG9'], ['--file=A', '--file', 'B'], ['--file', 'A/B'], ['--file', '../A'], ['-file', 'A'], ['A.WK1'],
              ['--file', '--count'], ['--count', '--file=a b']]
+
+class Run(NamedTuple):
+    """The program's words, the keys, and what its folder holds by name: files, and None for a folder."""
+    options: list
+    keys: bytes
+    folder: dict
+
 
 # files of sheets that were made for keys
 SHEETS = ['SHEET', *('SHEET%d' % number for number in range(2, 9))]
@@ -373,23 +381,31 @@ def told(folder):
     return ' '.join(f'{name}={"folder" if held is None else held.hex()}' for name, held in sorted(folder.items())) or 'nothing'
 
 
-def run_differs(program, options, keys, folder):
+def why_differs(given, why):
+    """What is told of a run that differs."""
+    return f'{shlex.join(given.options)} < {given.keys!r} in a folder of {told(given.folder)}: {why}'
+
+
+def run_differs(program, given):
     """A run: how many screens and files came of it, and what differs, or none."""
-    wanted, screens = expected(options, keys, folder)
-    written = sum(folder.get(name, b'') != held for name, held in wanted[3].items())
-    why = difference(wanted, got(program, options, keys, folder))
-    return screens, written, why and f'runs: {shlex.join(options)} < {keys!r} in a folder of {told(folder)}: {why}'
+    wanted, screens = expected(*given)
+    written = sum(given.folder.get(name, b'') != held for name, held in wanted[3].items())
+    why = difference(wanted, got(program, *given))
+    return screens, written, why and 'runs: ' + why_differs(given, why)
 
 
 def compared(program, seed, macros_alone, number):
     """A run of random keys."""
     typist = Typist(random.Random(f'{seed} run {number}'), macros_alone)
     keys, options = typist.keys(), typist.words()
-    return run_differs(program, options, keys, typist.folder)
+    return run_differs(program, Run(options, keys, typist.folder))
 
 
 def spelled_bytes(text):
-    """Bytes in hexadecimal digits, in parts with a plus sign between them; a part may tell behind a star how often it stands there."""
+    """Bytes in hexadecimal digits, in parts with a plus sign between them; a part may tell behind a star how often it stands there. None of
+    a folder."""
+    if text == 'folder':
+        return None
     out = b''
     for part in text.split('+'):
         digits, _, times = part.partition('*')
@@ -397,11 +413,16 @@ def spelled_bytes(text):
     return out
 
 
-def worked_run(program, line):
-    """The run of a worked line, in a folder with its files alone."""
+def read_run(line):
+    """The run that a line tells, in a folder with its files alone."""
     options, keys, *files = line.decode().split('\t')
     folder = {name: spelled_bytes(text) for name, text in (file.split('=') for file in files)}
-    return run_differs(program, shlex.split(options), keys.encode().decode('unicode_escape').encode('latin-1'), folder)
+    return Run(shlex.split(options), keys.encode().decode('unicode_escape').encode('latin-1'), folder)
+
+
+def worked_run(program, line):
+    """The run of a worked line."""
+    return run_differs(program, read_run(line))
 
 
 def prepare():

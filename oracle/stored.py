@@ -1,0 +1,137 @@
+"""Runs of the program whose outcome the oracle told once, and which are stored with a digest of it: what a run's status, screens without
+moments, notes and the files that it leaves come to. So they are compared without the oracle.
+
+python3 -B -m oracle.stored PROGRAM [NAME..] [--processes P]
+    runs what stored/NAME holds, or all of them, through the program, and compares what comes of it with the digests. The oracle is asked
+    for what differs alone: the first five are told with their keys
+python3 -B -m oracle.stored --make [--seed SEED] [NAME..] [--processes P]
+    makes stored/NAME anew by the oracle, or all of them
+
+A line of stored/NAME is a digest and, as in worked/runs, the program's words, its keys and the files of its folder. MAKERS tells what makes
+the runs of each name: a call that takes the random numbers of the seed and the name, and yields them. No run may ask for the moment."""
+import argparse
+import concurrent.futures
+import functools
+import hashlib
+import os
+import random
+import re
+import shlex
+import sys
+
+from .cases import HERE, SEED
+from .runs import Run, difference, expected, got, prepare, read_run, why_differs
+
+STORED = os.path.join(HERE, 'stored')
+# what makes the runs of each name
+MAKERS = {}
+# bytes that stand several times behind one another
+REPEATED = re.compile(rb'(.{1,300}?)\1{7,}', re.DOTALL)
+
+
+# ---------------------------------------------------------------- lines
+
+def digest(outcome):
+    """The digest of a status, screens, notes and the files of a folder."""
+    status, screens, notes, files = outcome
+    told = repr((status, b'\n'.join(screens), notes, sorted(files.items())))
+    return hashlib.sha256(told.encode()).hexdigest()[:32]
+
+
+def spelled_file(held):
+    """What `read_run` takes for a file's bytes, or for a folder."""
+    if held is None:
+        return 'folder'
+    parts, at = [], 0
+    for found in REPEATED.finditer(held):
+        unit = found[1]
+        parts += [held[at:found.start()].hex(), f'{unit.hex()}*{len(found[0]) // len(unit)}']
+        at = found.end()
+    return '+'.join(part for part in [*parts, held[at:].hex()] if part)
+
+
+def line_of(given):
+    """The line of a run, whose outcome the oracle tells."""
+    outcome, _ = expected(*given)
+    keys = given.keys.decode('latin-1').encode('unicode_escape').decode()
+    files = [f'{name}={spelled_file(held)}' for name, held in sorted(given.folder.items())]
+    line = '\t'.join([digest(outcome), shlex.join(given.options), keys, *files])
+    if read_line(line)[1] != given:
+        raise ValueError(f'a run that no line tells: {given}')
+    return line
+
+
+def read_line(line):
+    """The digest of a line, and its run."""
+    told, _, rest = line.partition('\t')
+    return told, read_run(rest.encode())
+
+
+# ---------------------------------------------------------------- all lines
+
+def made(name, seed, pool):
+    """The file of a name, made anew; how many runs it has."""
+    runs = list(MAKERS[name](random.Random(f'{seed} {name}')))
+    lines = list(pool.map(line_of, runs, chunksize=5))
+    os.makedirs(STORED, exist_ok=True)
+    with open(os.path.join(STORED, name), 'w', encoding='ascii') as file:
+        file.writelines(line + '\n' for line in lines)
+    return len(lines)
+
+
+def alike(program, line):
+    """Whether what the program does with a line's run comes to its digest."""
+    told, given = read_line(line)
+    return digest(got(program, *given)) == told
+
+
+def why(program, line):
+    """Why a run doesn't come to its digest, as the oracle tells now."""
+    _, given = read_line(line)
+    found = difference(expected(*given)[0], got(program, *given))
+    return why_differs(given, found or 'the oracle tells the same, and what is stored is old: make it anew')
+
+
+def compared(name, program, pool):
+    """The lines of a name that differ, and how many there are."""
+    with open(os.path.join(STORED, name), encoding='ascii') as file:
+        lines = file.read().splitlines()
+    same = pool.map(functools.partial(alike, program), lines, chunksize=5)
+    return [line for line, is_same in zip(lines, same) if not is_same], len(lines)
+
+
+def check(program, names, pool):
+    """Compares the stored runs of the names; how many differ."""
+    differ = 0
+    for name in names:
+        bad, count = compared(name, program, pool)
+        for line in bad[:max(5 - differ, 0)]:
+            print(f'stored: {name}: {why(program, line)}')
+        print(f'stored: {name}: {count} runs, {len(bad)} differ')
+        differ += len(bad)
+    return differ
+
+
+def main(words):
+    parser = argparse.ArgumentParser(prog='python3 -B -m oracle.stored')
+    parser.add_argument('--make', action='store_true')
+    parser.add_argument('--seed', default=SEED)
+    parser.add_argument('--processes', type=int)
+    parser.add_argument('words', nargs='*', metavar='PROGRAM or NAME')
+    asked = parser.parse_args(words)
+    if not asked.make and not asked.words:
+        parser.error('the program is missing')
+    program, *names = [None, *asked.words] if asked.make else asked.words
+    if not set(names) <= set(MAKERS):
+        parser.error('there are the runs of ' + ', '.join(MAKERS))
+    prepare()
+    with concurrent.futures.ProcessPoolExecutor(asked.processes, initializer=prepare) as pool:
+        if not asked.make:
+            return 1 if check(os.path.abspath(program), names or MAKERS, pool) else 0
+        for name in names or MAKERS:
+            print(f'stored: {name} has {made(name, asked.seed, pool)} runs')
+    return 0
+
+
+if __name__ == '__main__':
+    sys.exit(main(sys.argv[1:]))
