@@ -1,21 +1,17 @@
 """What each checking program must answer to the lines of its data: the lines of each one's answer. A name is that of the
 crate, behind `check_`, or of a part of it."""
-import struct
 
-from . import adjust, blocks, cellformat, fixed, formula, macro, menu, query, screen, session
-from .address import cell_text, cells_of, col_text, read_cell, read_span, span_at, span_text, width_of, height_of
-from .cellformat import show_number
+from . import blocks, fixed, formula, macro, menu, query, screen, session
+from .address import cell_text, col_text, read_cell, read_span, span_text
 from .dates import Moment
-from .evaluate import Scene, Tally, glance, matches
+from .evaluate import Scene, Tally, matches
 from .gen import generate
 from .keys import COMMANDS, FILE_WORDS, KeyReader, SLASH, fold, word_at
 from .names import Names
-from .sheet import Sheet, SheetFault, State
+from .sheet import Sheet, SheetFault
 from .undo import History
-from .values import BLANK, C_BLANK, first_value, num, string
+from .values import C_BLANK
 
-FAULTS = {1: b'Unexpected', 2: b'Ended', 3: b'UnknownFunction', 4: b'FunctionOutside', 5: b'ArgCount', 6: b'BadNumber',
-          7: b'UnknownName', 8: b'TooLong'}
 # What the program has not built as yet; a word goes when it is built. The menus don't show these paths and no letter takes
 # them, these keys are passed over, and these words are none in a macro.
 NOT_IN_MENUS = {'p'}
@@ -33,82 +29,11 @@ def leave_out():
 SCENE = Scene((2, 1), Moment(31929, 50700))
 
 
-def fault_text(fault):
-    at = b'' if fault.at is None else b'(%d)' % fault.at
-    return b'!' + FAULTS[fault.number] + at
-
-
-# ---------------------------------------------------------------- numbers
-
-WHY_NONE = {fixed.TOO_LARGE: 'too large', fixed.NOT_NUMBER: 'none', None: '-'}
-
-
-def told(*results):
-    """Numbers in millionths, and what stands in place of one."""
-    return ' '.join(str(WHY_NONE.get(result, result)) for result in results).encode()
-
-
-def double_bits(x):
-    """The host's double."""
-    return b'%d' % struct.unpack('<Q', struct.pack('<d', x / 1_000_000))
-
-
-def short(x, places):
-    """At most so many decimals, without zeros at their end."""
-    text = fixed.write_decimal(x, places)
-    return text.rstrip(b'0').rstrip(b'.') if b'.' in text else text
-
-
-def hundredfold(x, places):
-    """A hundred times the number."""
-    digits = fixed.decimal_digits(abs(x) * 100, places)
-    return (b'-' if x < 0 and digits.strip(b'0.') else b'') + digits
-
-
-# what each letter of a line asks of the whole numbers behind it
-OF_NUMBERS = {
-    b'd': double_bits, b's': lambda *words: b'|' + show_number(*words) + b'|', b'w': fixed.write_decimal, b'n': short,
-    b'h': hundredfold, b'p': lambda *words: told(fixed.pow_(*words)), b'o': lambda *words: told(fixed.round_(*words)),
-    b'a': lambda *words: told(*(of(*words) for of in (fixed.add, fixed.sub, fixed.mul, fixed.div, fixed.modulo)))}
-
-
-def numbers(lines):
-    """What each line asks of numbers in millionths, of a double's bits or of a text."""
-    for line in lines:
-        letter, rest = line[:1], line[1:]
-        if letter == b'r':
-            yield told(fixed.from_double_bits(int(rest, 16))) + b'\n'
-        elif letter == b't':
-            yield told(fixed.read_decimal(rest)) + b'\n'
-        else:
-            yield OF_NUMBERS[letter](*(int(word) for word in rest.split(b' '))) + b'\n'
-
-
-# ---------------------------------------------------------------- formula texts
-
-FORMULA_CELLS = [(5, 5), (0, 0), (255, 8191)]
-FORMULA_NAMES = [(b'TOTAL', 'A1'), (b'rates', 'B3..D10'), (b'PRICES', 'B3..D10'), (b'1', 'C3'), (b'TAX_RATE', 'C3'),
-                 (b'A1', 'D4'), (b'NET PAY', 'E5'), (b'IW1', 'F6..G7'), (b'Q', 'IV8192'),
-                 (b'EXACTLY15LETTER', 'A8..C8')]
-
-
 def names_of(pairs):
     names = Names()
     for name, span in pairs:
         names.create(name, read_span(span.encode()))
     return names
-
-
-def formulas(lines):
-    """The printed form of each text, or its fault."""
-    names = names_of(FORMULA_NAMES)
-    for row, text in enumerate(lines):
-        at = FORMULA_CELLS[row % 3]
-        try:
-            whole = formula.print_(formula.read(text, at, names), at, names)
-            yield (b'=' if len(whole) <= 240 else b'<') + whole[:240] + b'\n'
-        except formula.ParseFault as fault:
-            yield fault_text(fault) + b'\n'
 
 
 # ---------------------------------------------------------------- words
@@ -190,124 +115,6 @@ def words(lines):
         else:
             text, _, offset = row[1:].partition(b' ')
             yield words_line(bytes.fromhex(text.decode()), int(offset)) + b'\n'
-
-
-# ---------------------------------------------------------------- values
-
-VALUE_NAMES = [(b'TOTAL', 'B1'), (b'RATES', 'A1..D6'), (b'LIST', 'B2..H2')]
-VALUE_CELL = (9, 19)
-
-
-class Block:
-    """The columns A to H, row by row, as many cells as there are."""
-
-    def __init__(self):
-        self.held = []
-        self.names = names_of(VALUE_NAMES)
-
-    def put(self, content, value):
-        byte = (0xFF, 0x82, 0x72, 0x00, 0x7F)[len(self.held) % 5]
-        self.held.append(State(content, value, byte))
-
-    def at(self, cell):
-        index = cell[1] * 8 + cell[0]
-        return self.held[index] if cell[0] < 8 and index < len(self.held) else None
-
-    def value(self, cell):
-        state = self.at(cell)
-        return BLANK if state is None else state.value
-
-    def content(self, cell):
-        state = self.at(cell)
-        return C_BLANK if state is None else state.content
-
-    def format(self, cell):
-        state = self.at(cell)
-        return 0xFF if state is None else state.format
-
-    def width(self, col):
-        return col % 4 + 5
-
-    def filled(self, span):
-        rows = len(self.held) // 8 + 1
-        first, last = span
-        if first[0] > 7 or first[1] >= rows:
-            return []
-        near = (first, (min(last[0], 7), min(last[1], rows - 1)))
-        return [c for c in cells_of(near) if self.value(c) != BLANK]
-
-
-def value_text(value):
-    if value[0] == 'num':
-        return b'n%d' % value[1]
-    if value[0] == 'str':
-        return b's' + value[1]
-    return value[0].upper().encode()
-
-
-def put(block, line):
-    """Gives the next cell of a block what a line tells."""
-    if line == b':B':
-        block.put(C_BLANK, BLANK)
-    elif line[:2] == b':N':
-        number = fixed.read_decimal(line[2:])
-        block.put(*((('number', number), num(number)) if isinstance(number, int) else (C_BLANK, BLANK)))
-    elif line[:2] == b':L':
-        block.put(('label', line[2], line[3:]), string(line[3:]))
-    else:
-        try:
-            tree = formula.read(line[2:], VALUE_CELL, block.names)
-            block.put(('formula', tree), glance(tree, VALUE_CELL, block, SCENE))
-        except formula.ParseFault:
-            block.put(C_BLANK, BLANK)
-
-
-def values(lines):
-    """The values of formulas over small blocks of cells."""
-    block = Block()
-    for line in lines:
-        if line == b':':
-            block = Block()
-            yield b''
-        elif line[:1] == b':':
-            put(block, line)
-            yield b''
-        else:
-            try:
-                tree = formula.read(line, VALUE_CELL, block.names)
-                yield value_text(glance(tree, VALUE_CELL, block, SCENE)) + b'\n'
-            except formula.ParseFault as fault:
-                yield fault_text(fault) + b'\n'
-
-
-# ---------------------------------------------------------------- adjustments
-
-CHANGES = {b'r': 'InsertRows', b'c': 'InsertColumns', b'R': 'DeleteRows', b'C': 'DeleteColumns'}
-
-
-def adjusted(line):
-    letter, old_at, new_at, source, to, span, text = line.split(b' ', 6)
-    old_at, new_at, to = read_cell(old_at), read_cell(new_at), read_cell(to)
-    source, span = read_span(source), read_span(span)
-    names = Names()
-    try:
-        tree = formula.read(text, old_at, names)
-    except formula.ParseFault as fault:
-        return fault_text(fault)
-    if letter in CHANGES:
-        rows = CHANGES[letter].endswith('Rows')
-        change = CHANGES[letter], source[0][1 if rows else 0], height_of(source) if rows else width_of(source)
-        tree, span = adjust.shifted(tree, old_at, new_at, change), adjust.span_shifted(span, change)
-    elif span_at(to, width_of(source), height_of(source)):
-        tree, span = adjust.moved(tree, old_at, new_at, source, to), adjust.span_moved(span, source, to)
-    whole = formula.print_(tree, new_at, names)[:240]
-    return (b'-' if span is None else span_text(span)) + b' ' + whole
-
-
-def adjustments(lines):
-    """Spans and formulas after moves, inserts and deletes."""
-    for line in lines:
-        yield adjusted(line) + b'\n'
 
 
 # ---------------------------------------------------------------- sheets
@@ -756,6 +563,14 @@ def macros(lines):
 
 # ---------------------------------------------------------------- generated
 
+def value_text(value):
+    if value[0] == 'num':
+        return b'n%d' % value[1]
+    if value[0] == 'str':
+        return b's' + value[1]
+    return value[0].upper().encode()
+
+
 def generated_text(content, cell, names):
     """A content as check_files prints it of a generated worksheet."""
     if content[0] == 'formula':
@@ -787,5 +602,4 @@ def row_order(item):
     return row, col
 
 
-ANSWERS = {'numbers': numbers, 'formulas': formulas, 'words': words, 'values': values, 'adjustments': adjustments,
-           'sheets': sheets, 'data': data, 'macros': macros, 'generated': generated}
+ANSWERS = {'words': words, 'sheets': sheets, 'data': data, 'macros': macros, 'generated': generated}

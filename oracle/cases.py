@@ -5,8 +5,8 @@ import struct
 
 from . import fixed, formula
 from .address import cell_text, col_text, height_of, read_cell, span_text, width_of
-from .answers import FORMULA_NAMES, VALUE_CELL, VALUE_NAMES, Commands, Desk
-from .formula import COUNTED, FUNCTIONS, LEFT_OUT_NAMES
+from .answers import Commands, Desk
+from .formula import COUNTED, FUNCTIONS
 from .keys import COMMANDS, NAMES as KEYS, SLASH
 from .names import Names
 
@@ -40,11 +40,6 @@ def quoted(r, words=WORDS):
     return b'"' + text.replace(b'"', b"'") + b'"'
 
 
-def number(r):
-    """A number in millionths, whose size has 1 to 15 digits."""
-    return r.randrange(10 ** r.randrange(1, 16)) * r.choice([1, -1])
-
-
 def any_double(r):
     """The bits of numbers, of numbers beside them, of what is no number, and any bits."""
     bits = fixed.to_double_bits(r.choice([
@@ -66,34 +61,6 @@ def any_double(r):
         # halfway between two millionths
         return struct.pack('<d', (2 * r.randrange(-1000, 1000) + 1) / 128)
     return bits.to_bytes(8, 'little')
-
-
-def calculations(r):
-    """400 lines of each letter: doubles, pairs of numbers, powers, numbers to be rounded and to be written, and decimals, some of
-    which are broken."""
-    out = []
-    for _ in range(400):
-        out.append(b'r' + any_double(r)[::-1].hex().encode())
-        out.append(b'a%d %d' % (number(r), number(r)))
-        few = (r.randrange(10 ** 7) * r.choice([1, -1]), r.randrange(-16, 17) * fixed.ONE)
-        near_one = (r.randrange(980_000, 1_020_000), r.randrange(-1002, 1003) * fixed.ONE)
-        out.append(b'p%d %d' % r.choice([few, few, few, near_one, (number(r), number(r))]))
-        out.append(b'o%d %d' % (number(r), r.randrange(-17, 18)))
-        out += [b'%c%d %d' % (way, number(r), r.randrange(16)) for way in b'wnh']
-        text = r.choice([b'', b'', b'-', b'+']) + decimal(r)
-        out.append(b't' + (broken(r, text) if r.randrange(4) == 0 else text))
-    return out
-
-
-def numbers(r):
-    """20,000 numbers as doubles, and 5,000 as cells show them: in any format, an eighth of them dates, in widths of 0 to 24;
-    then the worked lines, and calculations."""
-    out = [b'd%d' % number(r) for _ in range(20000)]
-    for row in range(5000):
-        value = number(r) if row % 2 else abs(number(r)) % 100_000_000_000
-        kind, detail = r.randrange(8), r.randrange(16)
-        out.append(b's%d %d %d' % (value, 0x72 + detail % 3 if kind == 5 else kind * 16 + detail, r.randrange(25)))
-    return b''.join(line + b'\n' for line in out) + worked('numbers') + b''.join(line + b'\n' for line in calculations(r))
 
 
 class Texts:
@@ -204,23 +171,7 @@ def is_read(text, at, names):
         return False
 
 
-# ---------------------------------------------------------------- formulas, words, values, adjustments
-
-def formulas(r):
-    """5,000 texts, whole or broken, some with functions that are left out or names that nobody made, and the worked ones
-    behind them, since a text's turn says in which cell it stands."""
-    names = [name for name, _ in FORMULA_NAMES if name.isalnum() or b'_' in name] + [b'NOBODY', b'IW1', b'A9000']
-    texts = Texts(r, 6, 8, True, names)
-    out = []
-    for _ in range(5000):
-        text = mixed(r, texts.tree(r.choice([1, 2, 3, 4, 6])))
-        if r.randrange(12) == 0:
-            text = text.replace(b'@', b'@' + r.choice([*sorted(LEFT_OUT_NAMES), b'XYZ', b'']), 1)
-        if r.randrange(3) == 0:
-            text = broken(r, text)
-        out.append(text[:260].replace(b'\n', b' '))
-    return b''.join(line + b'\n' for line in out) + worked('formulas')
-
+# ---------------------------------------------------------------- words
 
 BAD_WORDS = [b'{UNDO 2}', b'{DOWN 0}', b'{DOWN 10000}', b'{DOWN  2}', b'{DWN}', b'}', b'{}', b'{ALTA}', b'{ALT  A}', b'{ALT @}',
              b'{ALT [}']
@@ -270,104 +221,6 @@ def words(r):
         data = (broken(r, data) if r.randrange(4) == 0 else data)[:240]
         out.append(b'm' + data.hex().encode() + b' %d' % r.choice([0, 0, 0, r.randrange(len(data) + 3)]))
     return worked('words') + b''.join(line + b'\n' for line in out)
-
-
-def held(r, texts):
-    """A line that fills the next cell of a block."""
-    number = lambda: r.choice([
-        b'%d' % r.randrange(-20, 20), b'%d' % r.randrange(-40000, 80000), b'%.6f' % r.uniform(-1, 1),
-        b'%.2f' % r.uniform(-100, 100), b'31929.586806', b'999999999.999999', b'0'])
-    return r.choice([
-        lambda: b':N' + number(), lambda: b':N' + number(), lambda: b':N' + number(), lambda: b':B',
-        lambda: b':L' + bytes([r.choice(b"'\"^\\|")]) + r.choice(WORDS), lambda: b':V' + texts.tree(1)])()
-
-
-FIELDS = [b'NAME', b'Pay', b'AGE', b'X y']
-PATTERNS = [b'A*', b'~A*', b'??', b'*', b'~', b'ab', b'~ab?', b'', b'AB']
-
-
-def criterion_formula(r, col, row):
-    """A formula for a condition in a cell, as it is read in VALUE_CELL: mostly over the first record's cells."""
-    def cell():
-        to = (r.randrange(4) - col + VALUE_CELL[0], 1 + r.choice([0, 0, 0, 1, -1]) - row + VALUE_CELL[1])
-        return r.choice([b'', b'', b'', b'$']) + col_text(to[0]) + b'%d' % (to[1] + 1)
-    operator = r.choice([b'>', b'<', b'=', b'<>', b'-', b'#AND#', b'+'])
-    inner = r.choice([lambda: b'%d' % r.randrange(-3, 9), cell, cell, lambda: b'@DSUM(A1..D7,1,E1..F2)',
-                      lambda: b'@ISERR(@DCOUNT(A1..D7,1,E1..E2))', lambda: b'@CELLPOINTER("col")', lambda: b'"AB"'])
-    return b'+' + cell() + operator + inner()
-
-
-def records(r, texts):
-    """The lines of a block with records in the columns A to D and conditions in E to H."""
-    spoilt = r.randrange(4) == 0
-    value = lambda: r.choice([b':N%d' % r.randrange(-3, 9)] * 4 + [b':B', b":L'" + r.choice([b'AB', b'ab', b'abc', b'A', b'']),
-                                                                 b':V' + r.choice([b'@NA', b'@ERR'] if spoilt else [b'"ab"', b'1.5'])])
-    out = []
-    for col in range(8):
-        name = r.choice(FIELDS) if col >= 4 or r.randrange(25) == 0 else FIELDS[col]
-        if r.randrange(60) == 0:
-            name = r.choice([b'OTHER', b''])
-        name = r.choice([name, name, name.lower()])
-        out.append(r.choice([b':B', b':N5']) if r.randrange(100) == 0 else b":L'" + name)
-    for row in range(1, r.randrange(3, 9)):
-        out += [value() for _ in range(4)]
-        for col in range(4, 8):
-            out.append(r.choice([
-                lambda: b':B', lambda: b':B', lambda: b':N%d' % r.randrange(-3, 9), lambda: b":L'" + r.choice(PATTERNS),
-                lambda: b':V' + criterion_formula(r, col, row), lambda: b':V' + criterion_formula(r, col, row)])())
-    return out
-
-
-def record_formula(r, texts):
-    """A function of records, mostly over the whole block of records and a few conditions."""
-    first = r.choice([4, 4, 5, 6])
-    source = r.choice([b'A1..D%d' % r.choice([1, 2, 3, 4, 5, 6, 7, 8])] * 16 + [texts.span(), texts.cell(), b'RATES', b'(A1..D6)'])
-    number = r.choice([b'%d' % r.randrange(4)] * 20 + [b'-1', b'4', b'1.9', b'@NA', b'1/0', b'"x"', b'H9', texts.cell()])
-    last = r.choice([first, first, first + 1])
-    criterion = r.choice([col_text(first) + b'1..' + col_text(last) + b'%d' % r.choice([1, 2, 2, 2, 3, 4])] * 16
-                         + [texts.span(), texts.cell(), b'5'])
-    call = r.choice([b'@DSUM', b'@DAVG', b'@DCOUNT', b'@DMIN', b'@DMAX']) + b'(' + b','.join([source, number, criterion]) + b')'
-    return call if r.randrange(5) else call + r.choice([b'+1', b'&"x"', b'*2'])
-
-
-def values(r):
-    """The worked lines and 500 blocks of cells, with formulas up to 20,000 beside those of the bounds of functions."""
-    texts = Texts(r, 9, 9, False, [name for name, _ in VALUE_NAMES])
-    head = worked('values')
-    left = 20000 - sum(not line.startswith(b':') for line in head.splitlines())
-    out = []
-    for block in range(500, 0, -1):
-        out.append(b':')
-        count = left // block
-        left -= count
-        if block % 5 == 0:
-            out += records(r, texts)
-            out += [record_formula(r, texts) for _ in range(count)]
-        else:
-            out += [held(r, texts) for _ in range(r.randrange(8, 72))]
-            out += [texts.tree(r.choice([1, 1, 2, 3])) for _ in range(count)]
-    return head + worked('functions') + b''.join(line[:240] + b'\n' for line in out)
-
-
-def any_cell(r):
-    return col_text(r.choice([*range(8), 26, 254, 255])) + b'%d' % r.choice([*range(1, 9), 101, 8191, 8192])
-
-
-def adjustments(r):
-    """The worked lines, and 300 edits with a span and a formula each; the formula's cell goes with the edit, or stays."""
-    texts, names, out = Texts(r, 8, 8, True, []), Names(), []
-    near = lambda: col_text(r.randrange(8)) + b'%d' % r.randrange(1, 9)
-    while len(out) < 300:
-        old_at = near() if r.randrange(4) else any_cell(r)
-        text = r.choice([texts.leaf, lambda: b'@SUM(' + texts.span() + b')', lambda: texts.tree(2)])()
-        if len(text) > 200 or not is_read(text, read_cell(old_at), names):
-            continue
-        new_at = old_at if r.randrange(2) else near()
-        source = near() + b'..' + (near() if r.randrange(3) else any_cell(r))
-        to = near() if r.randrange(3) else any_cell(r)
-        span = near() + b'..' + (near() if r.randrange(3) else any_cell(r))
-        out.append(b' '.join([bytes([r.choice(b'MMrcRC')]), old_at, new_at, source, to, span, text]))
-    return worked('adjustments') + b''.join(line + b'\n' for line in out)
 
 
 # ---------------------------------------------------------------- sheets
@@ -911,8 +764,7 @@ def generated(_r):
     return b'=1\n=2\n=3\n=19\n100\n1000\n8000\n'
 
 
-CASES = {'numbers': numbers, 'formulas': formulas, 'words': words, 'values': values, 'adjustments': adjustments, 'sheets': sheets,
-         'data': data, 'macros': macros, 'generated': generated}
+CASES = {'words': words, 'sheets': sheets, 'data': data, 'macros': macros, 'generated': generated}
 
 
 def case(name, seed=SEED):

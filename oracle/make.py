@@ -6,18 +6,18 @@ program that has several parts the data of each stand one behind another, each b
 import random
 import sys
 
-from . import check_base, check_channel, check_reports, check_rooms, files
+from . import check_channel, check_reports, check_rooms, files
 from .answers import ANSWERS, leave_out
 from .cases import SEED, case
 
 # the checking programs whose data and answers stand in modules of their own
-APART = {'base': check_base, 'channel': check_channel, 'reports': check_reports, 'rooms': check_rooms}
+APART = {'channel': check_channel, 'reports': check_reports, 'rooms': check_rooms}
 ANSWERS = {**ANSWERS, 'files': files.answers, **{name: of.answers for name, of in APART.items()}}
 # the parts of the programs that have several, of which the first has the program's name
-PARTS = {'formulas': ('formulas', 'adjustments', 'values'), 'files': ('files', 'generated'), 'reports': ('reports', 'channel')}
+PARTS = {'files': ('files', 'generated'), 'reports': ('reports', 'channel')}
 PROGRAMS = [name for name in ANSWERS if not any(name in parts[1:] for parts in PARTS.values())]
 # how a line begins that makes a fresh sheet, or a fresh shelf; each line of the other programs is a case of its own
-BEGINS = {'values': b':', 'sheets': b':', 'data': b':', 'macros': b':', 'channel': b'n', 'reports': b'n', 'files': b':'}
+BEGINS = {'sheets': b':', 'data': b':', 'macros': b':', 'channel': b'n', 'reports': b'n', 'files': b':'}
 
 
 def asked(name, seed=SEED, count=files.SHEETS):
@@ -31,10 +31,6 @@ def asked(name, seed=SEED, count=files.SHEETS):
 
 def begins(name, line):
     """Whether a line begins a case."""
-    if name == 'values':
-        return line == b':'
-    if name == 'base':
-        return line[:1] not in b'+-?@>'
     return name not in BEGINS or line[:1] == BEGINS[name]
 
 

@@ -19,12 +19,14 @@ import re
 import shlex
 import sys
 
+from . import stored_base, stored_formulas, stored_numbers
 from .cases import HERE, SEED
-from .runs import Run, difference, expected, got, prepare, read_run, why_differs
+from .runs import difference, expected, got, prepare, read_run, why_differs
 
 STORED = os.path.join(HERE, 'stored')
 # what makes the runs of each name
-MAKERS = {}
+MAKERS = {'base': stored_base.base, 'numbers': stored_numbers.numbers, 'formulas': stored_formulas.formulas,
+          'values': stored_formulas.values, 'adjustments': stored_formulas.adjustments}
 # bytes that stand several times behind one another
 REPEATED = re.compile(rb'(.{1,300}?)\1{7,}', re.DOTALL)
 
