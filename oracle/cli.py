@@ -8,11 +8,14 @@ from . import fixed, gen, wk1
 from .answers import leave_out
 from .commands import Desk
 from .keys import KeyReader
-from .outside import (Failed, ListKeys, MapShelf, ListClock, ListNotes, Recorder, send, EMPTY_GRID, file_name)
+from .outside import (Failed, HostDisplay, ListKeys, MapShelf, ListClock, ListNotes, Recorder, Writer, page, send, EMPTY_GRID, file_name)
 from .session import Session
 from .sheet import Sheet
 
 LIMIT = 67108864
+WORDS = {b'--file', b'--steps', b'--show', b'--count', b'--gen'}
+# words that the program has not built, where the oracle is to leave them out
+NOT_BUILT = set()
 
 
 class BadWord(Exception):
@@ -29,7 +32,7 @@ def read_words(words):
         w = words[i]
         i += 1
         name, eq, value = w.partition(b'=')
-        if name not in (b'--file', b'--steps', b'--show', b'--count', b'--gen'):
+        if name not in WORDS - NOT_BUILT:
             raise BadWord(w)
         key = name[2:].decode()
         if key in out or (key == 'file' and 'gen' in out) or (key == 'gen' and 'file' in out):
@@ -261,27 +264,14 @@ def parse_clock(text):
 
 def program_bytes(r, kind):
     """What PageDisplay, AnsiDisplay or LastDisplay writes."""
-    page = lambda f: b''.join(line + b'\n' for line in f) + b'----\n'
-    if kind == 'pages':
-        return b''.join(page(f) for f in r.frames)
-    if kind == 'last':                       # its last frame in close, as a page does
-        return page(r.frames[-1]) if r.frames and r.made[0].closed else b''
-    out = b''
+    display = HostDisplay(kind, Writer())
     before = EMPTY_GRID
-    for f in r.frames:                       # for each run ESC [ line ; column H, both from 1, and the bytes
-        for row in range(25):
-            col = 0
-            while col < 80:
-                if before[row][col] == f[row][col]:
-                    col += 1
-                    continue
-                end = col
-                while end < 80 and before[row][end] != f[row][end]:
-                    end += 1
-                out += b'\x1b[%d;%dH' % (row + 1, col + 1) + f[row][col:end]
-                col = end
-        before = f
-    return out
+    for frame in r.frames:
+        send(before, frame, display)
+        before = frame
+    if r.made[0].closed:
+        display.close()
+    return display.writer.bytes
 
 
 def dump(r):
@@ -355,7 +345,7 @@ def main(argv):
         if w in ('--show=ansi', '--show=last'):
             kinds = (w[7:],)
     r = run([os.fsencode(w) for w in words], data, files, parse_clock(a.clock), failing, kinds)
-    body = b''.join(b''.join(line + b'\n' for line in f) + b'----\n' for f in r.frames)
+    body = b''.join(page(f) for f in r.frames)
     if a.state and r.session is not None:
         with open(a.state, 'wb') as f:
             f.write(dump(r))

@@ -9,6 +9,7 @@ import os
 import sys
 
 from .cli import run
+from .outside import page
 from .runs import BLANK_MOMENT, prepare
 
 
@@ -21,9 +22,9 @@ def held_in(folder):
     return out
 
 
-def page(frame):
-    """A screen as it is stored: its lines, without the moment, and a line behind them."""
-    return b''.join(line + b'\n' for line in [*frame[:24], BLANK_MOMENT + frame[24][15:]]) + b'----\n'
+def stored(frame):
+    """A screen as it is stored: a page without the moment."""
+    return page([*frame[:24], BLANK_MOMENT + frame[24][15:]])
 
 
 def store(path, held):
@@ -42,9 +43,9 @@ def make(example):
     if of.status:
         raise SystemExit(f'examples: {example} ends with {of.status}')
     if os.path.exists(f'{example}.screens'):
-        store(f'{example}.screens', b''.join(map(page, of.frames)))
+        store(f'{example}.screens', b''.join(map(stored, of.frames)))
     else:
-        store(f'{example}.screen', page(of.frames[-1]))
+        store(f'{example}.screen', stored(of.frames[-1]))
     store(f'{example}.notes', of.notes)
     for name, held in of.files.items():
         os.makedirs(f'{example}.left', exist_ok=True)

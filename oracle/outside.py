@@ -136,6 +136,49 @@ class Recorder:
         self.closed = True
 
 
+def page(frame):
+    """A screen as a page: its lines, and a line of dashes."""
+    return b''.join(line + b'\n' for line in frame) + b'----\n'
+
+
+class Writer:
+    """Takes bytes as long as there is room for them."""
+
+    def __init__(self, room=None):
+        self.room = room
+        self.bytes = b''
+
+    def write(self, data):
+        left = len(data) if self.room is None else self.room - len(self.bytes)
+        self.bytes += data[:left]
+        if left < len(data):
+            raise Failed()
+
+
+class HostDisplay(Recorder):
+    """A display that writes: pages at each frame or the last one when it is closed, or for each run that is put ESC [ line ; column H,
+    both from 1, and the bytes."""
+
+    def __init__(self, kind, writer):
+        super().__init__(kind)
+        self.writer = writer
+
+    def put(self, row, col, data):
+        super().put(row, col, data)
+        if self.kind == 'ansi':
+            self.writer.write(b'\x1b[%d;%dH' % (row + 1, col + 1) + data)
+
+    def done(self):
+        super().done()
+        if self.kind == 'pages':
+            self.writer.write(page(self.frames[-1]))
+
+    def close(self):
+        super().close()
+        if self.kind == 'last' and self.frames:
+            self.writer.write(page(self.frames[-1]))
+
+
 def send(before, after, display):
     """The changed runs of each line, and then done.  A run is a longest stretch of differing bytes."""
     for row in range(25):

@@ -28,7 +28,7 @@ from .files import file_for_runs
 from .macro_keys import MacroKeys
 from .menu_keys import FILES, MenuKeys, SPELLED
 from .names import Names
-from .outside import file_name
+from .outside import file_name, page
 from .session import VALUE_BEGINS
 
 BLANK_MOMENT = b' ' * 15
@@ -310,7 +310,6 @@ def expected(words, keys, folder):
     """The status, the screens as they are compared, the notes, and what the folder then holds; and how many screens."""
     files = {name: held for name, held in folder.items() if is_of_shelf(name)}
     of = run(words, keys, files, kinds=(kind_of(words),))
-    page = lambda frame: b''.join(line + b'\n' for line in frame) + b'----\n'
     if kind_of(words) == 'pages':
         screens = b''.join(page(frame) for frame in of.frames).split(b'\n')
     else:

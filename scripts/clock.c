@@ -1,0 +1,25 @@
+// Loaded before the C library: the clock tells the seconds since 1970 that CLOCK lists, one at each reading, and the last of
+// them again and again. Where a word is no number the reading fails. No header is needed to compile it.
+struct timespec {
+    long seconds, nanoseconds;
+};
+
+extern char *getenv(const char *);
+extern long strtol(const char *, char **, int);
+extern int *__errno_location(void);
+
+static char *next;
+
+__attribute__((constructor)) static void begin(void) { next = getenv("CLOCK"); }
+
+int clock_gettime(int clock, struct timespec *into) {
+    (void)clock;
+    char *end;
+    into->seconds = strtol(next, &end, 10);
+    into->nanoseconds = 0;
+    int is_number = end != next;
+    while (*end && *end != ',') end++;
+    if (*end) next = end + 1;
+    if (!is_number) *__errno_location() = 5;
+    return is_number ? 0 : -1;
+}
