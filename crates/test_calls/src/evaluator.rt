@@ -1,12 +1,11 @@
-// What no line of check_sheets reaches: another evaluator than the program's.
+// The worksheet over another evaluator than the program's.
 ghost use Rattle.std.specs.Prelude.{◌≡◌, ◌<◌, ◌+◌, ◌-◌, ◌^◌, ℕ, min, pos};
 ghost use Rattle.formula_tree.specs.declared.value.Value.TheVariants.{Num};
 
 use fixed_value::Fixed;
 use formula_eval::{Look, Means, Scene};
-use formula_text::read;
-use formula_tree::{Content, Formula, Value, ValueRef};
-use grid_address::Cell;
+use formula_tree::{Content, Expr, Formula, Value, ValueRef};
+use grid_address::{Axis, Cell, Ref};
 use lics_text::Memory;
 use serial_date::Moment;
 use std::test::Fail;
@@ -14,22 +13,10 @@ use work_sheet::SheetOf;
 
 const A1: Cell = Cell { row: 0, col: 0 };
 
-const SCENE: Scene = Scene {
-    cursor: A1,
-    now: Moment {
-        day: Some(31929),
-        second: 43200,
-    },
+const B1: Ref = Ref {
+    col: Axis::Fixed(1),
+    row: Axis::Fixed(0),
 };
-
-// The whole part of a cell's number; none where it shows no number.
-fn whole_at<E: Means>(sheet: &SheetOf<E>, cell: Cell) -> Option<i64> {
-    let state = sheet.cells().get(cell)?;
-    match state.value() {
-        ValueRef::Num(number) => Some(number.millionths() / 1_000_000),
-        ValueRef::Blank | ValueRef::Str(_) | ValueRef::Err | ValueRef::Na => None,
-    }
-}
 
 // An evaluator for which every formula means 7.
 #[derive(Drop)]
@@ -61,17 +48,30 @@ impl Means for Sevens {
     }
 }
 
+// Whether a cell's number is 7.
+fn is_seven<E: Means>(sheet: &SheetOf<E>, cell: Cell) -> bool {
+    match sheet.cells().get(cell) {
+        Some(state) =>
+            matches!(state.value(), ValueRef::Num(number) if number.millionths() == 7_000_000),
+        None => false,
+    }
+}
+
 #[test]
 fn another_evaluator_gives_the_values(rt: HostRuntime) -> Result<(), Fail> {
+    let scene = Scene {
+        cursor: A1,
+        now: Moment::unknown(),
+    };
     let mut sheet = SheetOf::new(rt.alloc());
     let mut sevens = Sevens { count: 0 };
-    let formula = read(sheet.alloc(), b"+B1+1", A1, sheet.names()).expect(&rt, "a formula");
+    let formula = Formula::of(rt.alloc(), Expr::Cell(B1)).expect(&rt, "a formula");
     sheet
         .enter(A1, Content::Formula(formula))
         .expect(&rt, "an edit");
-    sheet.calc(&SCENE, &mut sevens).expect(&rt, "memory");
-    sheet.calc(&SCENE, &mut sevens).expect(&rt, "memory");
-    assert_eq!(&rt; whole_at(&sheet, A1), Some(7));
-    assert_eq!(&rt; sevens.count, 1);
+    sheet.calc(&scene, &mut sevens)?;
+    sheet.calc(&scene, &mut sevens)?;
+    assert!(&rt; is_seven(&sheet, A1));
+    assert!(&rt; sevens.count == 1);
     Ok(())
 }
