@@ -1,0 +1,56 @@
+"""Worksheet files of cells of one kind, or of each kind in every fourth column, from A1 on and row by row."""
+import struct
+
+FIRST, LAST = bytes.fromhex("000002000604"), bytes.fromhex("01000000")  # the records of the beginning and the end
+# a sum of A1, which is absolute, and of the cell below and right of the formula's
+CODE = bytes.fromhex("010000000001018001800903")
+
+
+def double(number):
+    """The bits of 65,536 and so many sixty-fourths."""
+    return 65536 + number / 64
+
+
+def record(form, code):
+    """What packs a cell's record: its type, its length, its format byte, its place and what the cell holds."""
+    packed = struct.Struct("<HHBHH" + form)
+    return lambda place, *held: packed.pack(code, packed.size - 4, 0xFF, *place, *held)
+
+
+INTEGER, NUMBER, LABEL, FORMULA = record("H", 0x0D), record("d", 0x0E), record("22s", 0x0F), record("dH12s", 0x10)
+
+
+def integer(place, number):
+    """A whole number of 0 to 29,999."""
+    return INTEGER(place, number % 30000)
+
+
+def decimal(place, number):
+    """A number of eight bytes."""
+    return NUMBER(place, double(number))
+
+
+def label(place, number):
+    """A label of 20 bytes."""
+    return LABEL(place, b"'order %07d is due\0" % number)
+
+
+def formula(place, number):
+    """A formula with a number as its value."""
+    return FORMULA(place, double(number), len(CODE), CODE)
+
+
+# what the columns hold by turns
+KINDS = {"integers": [integer], "numbers": [decimal], "labels": [label], "formulas": [formula],
+         "mixed": [integer, decimal, label, formula]}
+
+
+def make(path, kind, rows, columns):
+    """Writes a file whose cells fill so many rows and columns, and tells its bytes."""
+    cells = [(column, KINDS[kind][column % len(KINDS[kind])]) for column in range(columns)]
+    with open(path, "wb") as file:
+        file.write(FIRST)
+        for row in range(rows):
+            file.write(b"".join(cell((column, row), row * 256 + column) for column, cell in cells))
+        file.write(LAST)
+        return file.tell()
