@@ -5,7 +5,6 @@ from . import blocks, fixed, formula, macro, menu, query, screen, session
 from .address import cell_text, col_text, read_cell, read_span, span_text
 from .dates import Moment
 from .evaluate import Scene, Tally, matches
-from .gen import generate
 from .keys import COMMANDS, FILE_WORDS, KeyReader, SLASH, fold, word_at
 from .names import Names
 from .sheet import Sheet, SheetFault
@@ -564,45 +563,4 @@ def macros(lines):
             yield macro_line(desk, line)
 
 
-# ---------------------------------------------------------------- generated
-
-def value_text(value):
-    if value[0] == 'num':
-        return b'n%d' % value[1]
-    if value[0] == 'str':
-        return b's' + value[1]
-    return value[0].upper().encode()
-
-
-def generated_text(content, cell, names):
-    """A content as check_files prints it of a generated worksheet."""
-    if content[0] == 'formula':
-        return b'f' + formula.print_(content[1], cell, names)
-    return b'n%d' % content[1]
-
-
-def sum_of(text):
-    """The sum of bytes in which each place counts."""
-    total = 14695981039346656037
-    for byte in text:
-        total = (total ^ byte) * 1099511628211 % 2 ** 64
-    return total
-
-
-def generated(lines):
-    """The cells of generated sheets, or how many they are and the sum of their lines."""
-    for line in lines:
-        rows = int(line.lstrip(b'='))
-        saved = generate(rows)
-        cells = [cell_text(cell) + b' %d ' % state.format + generated_text(state.content, cell, saved.names) + b' '
-                 + value_text(state.value) + b'\n' for cell, state in sorted(saved.cells.items(), key=row_order)]
-        whole = b''.join(cells)
-        yield (whole if line[:1] == b'=' else b'') + b'%d %d %016x\n' % (rows, len(cells), sum_of(whole))
-
-
-def row_order(item):
-    (col, row), _ = item
-    return row, col
-
-
-ANSWERS = {'words': words, 'sheets': sheets, 'data': data, 'macros': macros, 'generated': generated}
+ANSWERS = {'words': words, 'sheets': sheets, 'data': data, 'macros': macros}

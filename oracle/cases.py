@@ -759,12 +759,7 @@ def data(r):
     return worked('data') + b''.join(line + b'\n' for line in asked)
 
 
-def generated(_r):
-    """Numbers of rows: few, whose cells are printed, and many, up to the most."""
-    return b'=1\n=2\n=3\n=19\n100\n1000\n8000\n'
-
-
-CASES = {'words': words, 'sheets': sheets, 'data': data, 'macros': macros, 'generated': generated}
+CASES = {'words': words, 'sheets': sheets, 'data': data, 'macros': macros}
 
 
 def case(name, seed=SEED):

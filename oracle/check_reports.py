@@ -1,9 +1,9 @@
 """Reports of small worksheets: the data of check_reports, and what it must answer. Its own text tells the lines."""
 from . import formula, report
-from .answers import sum_of
 from .cases import TEXT_BYTES, worked
 from .dates import Moment
-from .sheet import Saved, State
+from .gen import generate
+from .sheet import DEFAULT_FORMAT, Saved, State
 from .values import BLANK, C_BLANK, ERR, NA, num, string
 
 LAST_DAY = 73050
@@ -13,6 +13,14 @@ LAST_DAY = 73050
 
 def bytes_of(word):
     return bytes.fromhex(word.decode())
+
+
+def sum_of(text):
+    """The sum of bytes in which each place counts."""
+    total = 14695981039346656037
+    for byte in text:
+        total = (total ^ byte) * 1099511628211 % 2 ** 64
+    return total
 
 
 class Desk:
@@ -42,6 +50,11 @@ class Desk:
             content, value = ('formula', formula.read(bytes_of(rest[0]), cell, self.saved.names)), value_of(*rest[1:])
         self.saved.cells[cell] = State(content, value, int(code))
 
+    def generate(self, rows):
+        """Takes the cells of a generated worksheet; how many of them have the sheet's format."""
+        self.saved.cells = generate(int(rows)).cells
+        return sum(state.format == DEFAULT_FORMAT for state in self.saved.cells.values())
+
     def report(self, *words):
         """The bytes of a report."""
         day, left, right, top, bottom, length = (int(word) for word in words[4:10])
@@ -57,10 +70,12 @@ class Desk:
         return b'=' + held.hex().encode() if is_whole else b'%d %016x' % (len(held), sum_of(held))
 
     def line(self, line):
-        """What a line comes to: a line of a report, or none."""
+        """What a line comes to: a line of a report, or of a generated worksheet, or none."""
         head, *words = line.split(b' ')
         if head in (b'p', b'q'):
             return self.told(head == b'q', words) + b'\n'
+        if head == b'g':
+            return b'%d\n' % self.generate(*words)
         if head == b'n':
             self.clear(*words)
         elif head == b'w':
@@ -163,6 +178,15 @@ class Reports:
 MOST = [b'n 9 113', b'p 0 0 63 8191 0 0 1 28 29 64  ', b'p 0 0 63 8191 0 0 1 28 29 64 78 ']
 
 
+def generated():
+    """Generated worksheets: in a format that shows numbers and values with two decimals, and in one that shows formulas."""
+    for rows in [1, 2, 3, 19, 100, 1000, 8000]:
+        for code in (2, 117):
+            yield b'n 20 %d' % code
+            yield b'g %d' % rows
+            yield b'%s 0 0 3 %d 0 0 80 0 0 100  ' % (b'q' if rows < 20 else b'p', min(rows, 8191))
+
+
 def data(r):
-    """The worked lines, 1,000 reports of random worksheets, and those at the most bytes."""
-    return worked('reports') + b''.join(line + b'\n' for line in Reports(r).reports(1000) + MOST)
+    """The worked lines, 1,000 reports of random worksheets, those at the most bytes, and those of generated worksheets."""
+    return worked('reports') + b''.join(line + b'\n' for line in [*Reports(r).reports(1000), *MOST, *generated()])

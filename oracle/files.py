@@ -1,4 +1,4 @@
-"""Worksheet files: the data of check_files, and what it must answer. Its own text tells what the lines say."""
+"""Worksheet files: those of sheets, those that nobody saved, and damaged forms of both."""
 
 from . import fixed, formula, wk1
 from .address import cell_text, height_of, read_cell, read_span, width_of
@@ -16,25 +16,14 @@ HEAD, VALUE = 5, 8  # the bytes of a cell's head, and of a formula's value
 EMPTY = bytes.fromhex('00000200060401000000')
 
 
-# ---------------------------------------------------------------- what the program must answer
+# ---------------------------------------------------------------- files that lines tell
 
-def rewritten(data):
-    """What reading bytes comes to: the fault, or the bytes that are written of the sheet."""
+def saved_of(data):
+    """The sheet that a file is read as, or none where it is refused."""
     try:
-        return None, wk1.write(wk1.read(data))
-    except wk1.Wk1Fault as fault:
-        return fault, None
-
-
-def told(data):
-    """What is told of a file that a sheet was written to."""
-    return data.hex().encode() + (b'' if rewritten(data) == (None, data) else b', which is not read back') + b'\n'
-
-
-def outcome(data):
-    """What is told of a file that is read."""
-    fault, again = rewritten(data)
-    return fault.text().encode() + b'\n' if fault else told(again)
+        return wk1.read(data)
+    except wk1.Wk1Fault:
+        return None
 
 
 def bytes_of(word):
@@ -42,7 +31,17 @@ def bytes_of(word):
 
 
 class Desk:
-    """A sheet and a file."""
+    """A sheet and a file, as lines build them.
+
+    `:` begins a fresh sheet. `sA 50 ' 113 9 P N B7` sets the mode `A` or `M`, the passes, the label prefix, the format byte and the
+    width, protection as `P` or `N`, the order `N`, `C` or `R`, and the pointer. `wB1 12` gives column B a width of its own, `hB1` hides
+    it, and `mA1..B2 TAX` names a span. `cA1 255 TEXT` fills a cell in a format with what the text spells: a label where it begins with a
+    prefix, nothing where it is empty, and else a number. `vA2 255 n5000000 +A1*2` fills it with a formula and its value: `n` and
+    millionths, `s` and a text's bytes, `e` for ERR or `a` for NA. Bytes are pairs of hexadecimal digits, and `-` stands for none.
+
+    `f` asks for the sheet's file, which is at hand then, and `bBYTES` gives another one. `r` asks for the file at hand, `dAT COUNT BYTES`
+    for the same where so many bytes at a place are replaced by others, and `zCOUNT` where so many bytes of 0 stand behind it. A line
+    that begins with `#` says nothing."""
 
     def __init__(self):
         self.saved = Saved()
@@ -110,27 +109,26 @@ class Desk:
             raise ValueError(head + rest)
 
     def line(self, line):
-        """What a line comes to: what its file holds or is read as, or nothing."""
+        """The file that a line asks for, or none where it builds one."""
         head, rest = line[:1], line[1:]
         if head == b'f':
             self.file = wk1.write(self.saved)
-            return told(self.file)
+            return self.file
         if head == b'r':
-            return outcome(self.file)
+            return self.file
         if head == b'd':
             at, count, put = rest.split(b' ')
-            return outcome(self.file[:int(at)] + bytes_of(put) + self.file[int(at) + int(count):])
+            return self.file[:int(at)] + bytes_of(put) + self.file[int(at) + int(count):]
         if head == b'z':
-            return outcome(self.file + bytes(int(rest)))
+            return self.file + bytes(int(rest))
         self.build(head, rest)
-        return b''
+        return None
 
 
-def answers(lines):
-    """What is written of the sheets, and what the files are read as."""
+def told_files(lines):
+    """The files that lines ask for."""
     desk = Desk()
-    for line in lines:
-        yield desk.line(line)
+    return [data for data in map(desk.line, lines) if data is not None]
 
 
 # ---------------------------------------------------------------- sheets that are built
@@ -461,10 +459,10 @@ KINDS = [changed_byte, changed_byte, changed_byte, cut_short, cut_out, doubled, 
          of_a_body, in_a_formula, in_a_formula]
 
 
-def damage(r, data):
-    """A line that tells what a damaged form of a file is read as."""
+def damaged(r, data):
+    """A damaged form of a file."""
     at, count, put = r.choice(KINDS)(r, data)
-    return b'd%d %d ' % (at, count) + hex_of(put)
+    return data[:at] + put + data[at + count:]
 
 
 # ---------------------------------------------------------------- files that runs begin with
@@ -473,20 +471,19 @@ FEW_COLUMNS, FEW_ROWS = [0, 1, 2, 3], [0, 1, 2, 3, 4, 5, 7]
 MOST_CELLS = 2000  # of a span, which the oracle walks cell by cell
 
 
+def is_still(data):
+    """Whether no formula of the file asks for the moment."""
+    saved = saved_of(data)
+    return saved is None or not any(b'@NOW' in formula.print_(state.content[1], cell, saved.names)
+                                    for cell, state in saved.cells.items() if state.content[0] == 'formula')
+
+
 def is_quick(data):
-    """Whether runs may read the file: it asks for no moment, and no span of it is long."""
-    try:
-        saved = wk1.read(data)
-    except wk1.Wk1Fault:
-        return True
-    for cell, state in saved.cells.items():
-        if state.content[0] == 'formula':
-            tree = state.content[1]
-            if b'@NOW' in formula.print_(tree, cell, saved.names):
-                return False
-            if any(width_of(span) * height_of(span) > MOST_CELLS for span in formula.reads(tree, cell)):
-                return False
-    return True
+    """Whether no span of the file is long."""
+    saved = saved_of(data)
+    return saved is None or all(width_of(span) * height_of(span) <= MOST_CELLS
+                                for cell, state in saved.cells.items() if state.content[0] == 'formula'
+                                for span in formula.reads(state.content[1], cell))
 
 
 def file_for_runs(r):
@@ -496,9 +493,8 @@ def file_for_runs(r):
         kind = r.choice(['records', 'far', 'damaged', 'damaged', 'small', 'small', 'small', 'small'])
         data = Records(r).file() if kind == 'records' else file_of((Built(r) if kind == 'far' else small).lines())
         if kind == 'damaged':
-            at, count, put = r.choice(KINDS)(r, data)
-            data = data[:at] + put + data[at + count:]
-        if is_quick(data):
+            data = damaged(r, data)
+        if is_still(data) and is_quick(data):
             return data
 
 
@@ -520,16 +516,33 @@ def at_the_most():
             b'z%d' % (wk1.MOST - len(EMPTY) + 1), b'b-', b'z%d' % (wk1.MOST + 1)]
 
 
+def of_many_cells():
+    """A sheet of ten columns and sixty rows: whole numbers, numbers, labels and formulas by turns."""
+    out = [b':']
+    for number in range(600):
+        place = cell_text((number % 10, number // 10))
+        out.append([b'c%s 255 %d' % (place, number * 50), b'c%s 255 %.6f' % (place, 65536 + number / 64),
+                    b"c%s 255 'order %07d is due" % (place, number), b'v%s 255 n%d000000 +$A$1+%d' % (place, number, number)][number % 4])
+    return out + [b'f']
+
+
 SHEETS, DAMAGES = 500, 3  # and as many files besides; damaged forms of each file
 
 
-def data(r, count):
-    """The worked lines; then so many sheets and as many files that nobody saved, and each of them damaged."""
-    built, records, out = Built(r), Records(r), at_the_most()
-    for _ in range(count):
-        lines = built.lines()
-        saved = file_of(lines)
-        out += lines + [b'f'] + [damage(r, saved) for _ in range(DAMAGES)]
-        found = records.file()
-        out += [b'b' + found.hex().encode(), b'r'] + [damage(r, found) for _ in range(DAMAGES)]
-    return worked('files') + b''.join(line + b'\n' for line in out)
+def still(make):
+    """A file as this makes it that doesn't ask for the moment."""
+    while True:
+        data = make()
+        if is_still(data):
+            return data
+
+
+def all_files(r, count):
+    """The worked ones; then those of so many sheets, as many that nobody saved, and damaged forms of each."""
+    built, records = Built(r), Records(r)
+    yield from told_files(worked('files').splitlines() + at_the_most() + of_many_cells())
+    for make in [lambda: file_of(built.lines()), records.file] * count:
+        data = still(make)
+        yield data
+        for _ in range(DAMAGES):
+            yield still(lambda: damaged(r, data))

@@ -19,14 +19,14 @@ import re
 import shlex
 import sys
 
-from . import stored_base, stored_formulas, stored_numbers
+from . import stored_base, stored_files, stored_formulas, stored_numbers
 from .cases import HERE, SEED
 from .runs import difference, expected, got, prepare, read_run, why_differs
 
 STORED = os.path.join(HERE, 'stored')
 # what makes the runs of each name
 MAKERS = {'base': stored_base.base, 'numbers': stored_numbers.numbers, 'formulas': stored_formulas.formulas,
-          'values': stored_formulas.values, 'adjustments': stored_formulas.adjustments}
+          'values': stored_formulas.values, 'adjustments': stored_formulas.adjustments, 'files': stored_files.files}
 # bytes that stand several times behind one another
 REPEATED = re.compile(rb'(.{1,300}?)\1{7,}', re.DOTALL)
 

@@ -9,6 +9,7 @@ use outside_world::ByteBuffer;
 use print_report::{PrintFault, PrintSettings, report};
 use range_names::Names;
 use serial_date::Moment;
+use sheet_gen::generate;
 use sheet_store::{MOST_WIDTH, SavedSheet, Settings, Store};
 use std::alloc::Global;
 use std::io::Write;
@@ -21,6 +22,9 @@ pub struct ReportDesk {
 
 // How many rows a sheet has.
 const ROWS: usize = 8192;
+
+// The most rows of a worksheet that is generated.
+const MOST_GENERATED: usize = 8000;
 
 // The last day of the calendar.
 const LAST_DAY: usize = 73_050;
@@ -174,6 +178,31 @@ impl ReportDesk {
         Ok(())
     }
 
+    // Takes the cells of a generated worksheet, and tells how many of them have the sheet's format.
+    fn generate<W: Write>(
+        &mut self,
+        alloc: Global,
+        words: &mut Words,
+        out: &mut W,
+    ) -> Result<(), Stop> {
+        let rows = words.count()?;
+        if rows < 1 || rows > MOST_GENERATED {
+            return Err(Stop::Line);
+        }
+        self.saved.store = generate(alloc, rows as u16)?.store;
+        let cells = self.saved.store.cells_in(Span::whole())?;
+        let mut plain: usize = 0;
+        for cell in cells.as_slice() {
+            if let Some(state) = self.saved.store.get(*cell)
+                && state.format() == Format::DEFAULT
+            {
+                plain = plain.saturating_add(1);
+            }
+        }
+        writeln!(out, "{plain}")?;
+        Ok(())
+    }
+
     // Prints a report of a range.
     fn print<W: Write>(
         &self,
@@ -201,6 +230,7 @@ impl Subject for ReportDesk {
             }
             b"m" => self.name(alloc, &mut words),
             b"c" => self.put(alloc, &mut words),
+            b"g" => self.generate(alloc, &mut words, answer),
             b"p" => self.print(alloc, &mut words, false, answer),
             b"q" => self.print(alloc, &mut words, true, answer),
             _ => Err(Stop::Line),
