@@ -5,7 +5,7 @@ from counted import TOP
 
 sys.path.insert(0, TOP)
 from oracle import wk1
-from oracle.answers import Desk
+from oracle.edits import Desk
 
 
 def make(folder, rows):

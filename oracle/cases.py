@@ -1,13 +1,11 @@
 """The data of each checking program, made from a seed: worked lines first where there are any, and then random ones."""
 import os
-import random
 import struct
 
 from . import fixed, formula
 from .address import cell_text, col_text, height_of, read_cell, span_text, width_of
-from .answers import Commands, Desk
+from .edits import Desk
 from .formula import COUNTED, FUNCTIONS
-from .keys import COMMANDS, NAMES as KEYS, SLASH
 from .names import Names
 
 SEED = 1987
@@ -173,54 +171,9 @@ def is_read(text, at, names):
 
 # ---------------------------------------------------------------- words
 
-BAD_WORDS = [b'{UNDO 2}', b'{DOWN 0}', b'{DOWN 10000}', b'{DOWN  2}', b'{DWN}', b'}', b'{}', b'{ALTA}', b'{ALT  A}', b'{ALT @}',
-             b'{ALT [}']
-ARGUMENTS = [b'A1', b'"a}b"', b'@SUM(A1,B2)', b'3', b'N', b'"', b'(', b'', b'A1..B2']
-
 
 def any_case(r, word):
     return bytes(b + 32 if 65 <= b <= 90 and r.randrange(2) else b for b in word)
-
-
-def key_word(r):
-    name = r.choice([n for _, ns in KEYS for n in ns])
-    return r.choice([
-        lambda: b'{' + any_case(r, name) + b'}', lambda: b'{' + any_case(r, name) + b'}',
-        lambda: b'{' + any_case(r, name) + b' %d}' % r.choice([1, 2, 9, 10, 99, 100, 9999, r.randrange(1, 10000)]),
-        lambda: b'{' + any_case(r, b'ALT ' + bytes([r.randrange(65, 91)])) + b'}',
-        lambda: r.choice([b'{BREAK}', b'{UNDO}', b'{break}', b'{~}', b'{{}', b'{}}', b'~', b'\r\n', b'\n']),
-        lambda: r.choice([*BAD_WORDS, bytes([r.randrange(256)])]) if r.randrange(3) == 0 else b'~',
-        lambda: bytes([r.choice(TEXT_BYTES)]) if r.randrange(2) else bytes([r.randrange(48, 123)])])()
-
-
-def macro_word(r):
-    listed = lambda: b' ' + r.choice([b',', b';']).join(r.choice(ARGUMENTS) for _ in range(r.randrange(1, 4)))
-    args = lambda: r.choice([b'', b' ', listed()])
-    return r.choice([
-        lambda: b'{' + any_case(r, r.choice(COMMANDS)) + args() + b'}',
-        lambda: b'{' + any_case(r, r.choice([b'PAY', b'NET PAY', b'TO"TAL', b'\\A', b'Q'])) + args() + b'}',
-        lambda: b'{' + any_case(r, r.choice([n for _, ns in KEYS for n in ns])) + args() + b'}',
-        lambda: (r.choice([b'/X', b'/x']) + bytes([r.choice([*SLASH, ord('Z'), ord('i')])])
-                 + r.choice([b'A1~', b'a~b~', b'', b'~~'])),
-        lambda: r.choice([b'~', b'{~}', b'{{}', b'{}}', b'}', b'{', b'/', b'/WC', b'"', bytes([r.randrange(256)])]),
-        lambda: bytes([r.randrange(32, 127)])])()
-
-
-def words(r):
-    """The worked lines, and 10,000 texts of key notation and 5,000 macro texts, which may be broken."""
-    out = []
-    for _ in range(10000):
-        data = b''.join(key_word(r) for _ in range(r.randrange(1, 6)))
-        if r.randrange(6) == 0:
-            data = broken(r, data)
-        elif r.randrange(20) == 0:
-            data = data[:-r.randrange(1, 4)]
-        out.append(b'k' + data[:240].hex().encode())
-    for _ in range(5000):
-        data = b''.join(macro_word(r) for _ in range(r.randrange(1, 7)))
-        data = (broken(r, data) if r.randrange(4) == 0 else data)[:240]
-        out.append(b'm' + data.hex().encode() + b' %d' % r.choice([0, 0, 0, r.randrange(len(data) + 3)]))
-    return worked('words') + b''.join(line + b'\n' for line in out)
 
 
 # ---------------------------------------------------------------- sheets
@@ -240,8 +193,7 @@ def records_of_column(r):
 
 
 class Sheets:
-    """Lines of small sheets: edits around A1 to C4, and screens of wider ones. The edits are made as they come, so that
-    formulas are entered with names that are there."""
+    """Lines of small sheets: edits around A1 to C4, which are made as they come, so that formulas are entered with names that are there."""
 
     def __init__(self, r):
         self.r = r
@@ -329,117 +281,6 @@ class Sheets:
             out += [b'!', b'?']
             count -= many
         return out
-
-    def do(self, *lines):
-        """Lines, which are done as they come."""
-        for line in lines:
-            self.desk.line(line)
-        return list(lines)
-
-    def command(self):
-        """A command of up to two edits, one that changes the pointer or nothing, or one that is given up for the next."""
-        r = self.r
-        out = self.do(b'(')
-        for _ in range(r.choice([0, 1, 1, 1, 1, 2])):
-            name = r.choice([name for name, _ in self.desk.sheet.names.items()] or [b''])
-            out += self.do(r.choice([self.edit] * 8 + [
-                self.column, lambda: b'a' + self.cell(), lambda: b'-' + name if name else b'!',
-                lambda: b'g%d %d' % (r.choice([113, 2]), r.choice([9, 10]))])())
-        return out + self.do(b')') if r.randrange(16) else out
-
-    def commands(self, count):
-        """So many commands with undos between them: a fresh sheet for each few, whose commands are undone at its end."""
-        r, out = self.r, []
-        while count:
-            many = min(count, r.choice([1, 3, 6, 12, 26]))
-            self.desk = Commands()
-            out += [b':'] + self.do(b'x' + b'\t'.join(self.write() for _ in range(r.randrange(1, 9))))
-            for _ in range(many):
-                out += self.command()
-                if r.randrange(6) == 0:
-                    out += self.do(b'<') + (self.do(b'!') if r.randrange(2) else [])
-            out += self.do(b'?', *[b'<'] * r.choice([0, 1, len(self.desk.history) + 1]), b'?', b'!')
-            count -= many
-        return out
-
-    def wide(self, formulas):
-        """The lines of 2,000 cells, row by row, numbers or by turns a number and a formula that adds one to it; and 20
-        commands that each enter a number, all of which are undone."""
-        out = [b':']
-        for row in range(40):
-            texts = [b'%d' % (row * 50 + col + 1) for col in range(50)]
-            texts[1::2] = [b'+' + cell_text((col - 1, row)) + b'+1' for col in range(1, 50, 2)] if formulas else texts[1::2]
-            out.append(b'x' + b'\t'.join(cell_text((col, row)) + b' - ' + text for col, text in enumerate(texts)))
-        for command in range(20):
-            out += [b'(', b'=A%d %d' % (2 * command + 1, command + 2), b')']
-        return out + [b'<'] * 10 + [b'?'] + [b'<'] * 11 + [b'?']
-
-    def sheet(self):
-        """A sheet around a corner with cells, formats, widths and marks."""
-        r = self.r
-        self.desk = Desk()
-        self.left, self.top = r.choice([(0, 0), (0, 0), (22, 90), (248, 8176)])
-        place = self.place
-        byte, width = r.choice([113, 113, 127, 2, 34, 66, 112, 118, 16]), r.choice([9, 9, 10, 1, 3, 72, 240])
-        out = [b':', b'g%d %d' % (byte, width)]
-        out += [b'w' + place() + b' %d' % r.choice([0, 1, 2, 3, 10, 20, 75, 77, 240]) for _ in range(r.randrange(4))]
-        out += [b'h' + place() for _ in range(r.choice([0, 0, 1, 3]))]
-        long = lambda: bytes(r.choice(TEXT_BYTES) for _ in range(r.choice([3, 8, 12, 40, 120])))
-        def content(cell):
-            label = lambda: bytes([r.choice(b"'\"^\\|")]) + long()
-            number = lambda: b'%d' % r.randrange(-99, 100000)
-            six_decimals = lambda: b'%.6f' % r.uniform(0, 1)
-            constants = [lambda text=text: text for text in (b'+"xyz"', b'1/0', b'@DATE(87,6,1)', b'@NA')]
-            return r.choice([label, label, lambda: self.text(cell), number, six_decimals, *constants])()
-        writes = []
-        for _ in range(r.randrange(1, 14)):
-            cell = place()
-            writes.append(cell + b' - ' + content(cell)[:200])
-        out.append(b'x' + b'\t'.join(writes))
-        out += [b'f' + place() + b'..' + place() + b' %d' % r.choice([0, 2, 34, 50, 66, 113, 114, 115, 116, 117, 118])
-                for _ in range(r.randrange(3))]
-        out += [r.choice([b'p', b'u']) + place() for _ in range(r.randrange(3))]
-        out += [b'sP'] * r.randrange(2) + [b'sM'] * (r.randrange(4) == 0)
-        return out
-
-    def place(self):
-        r = self.r
-        return cell_text((min(self.left + r.randrange(10), 255), min(self.top + r.randrange(24), 8191)))
-
-    def screen(self):
-        """A pointer, a corner, a panel, a moment, and the screen."""
-        r = self.r
-        out = [b'a' + self.place()]
-        if r.randrange(2):
-            out.append(b'k' + self.place())
-        if r.randrange(4):
-            out.append(b'k')
-        mode = r.randrange(7)
-        out.append(b'm%d %d ' % (mode, r.choice([0, 0, 12, 40, 79, 80, 240])) + r.choice([b'', b'', b'E', b'C', b'EC']))
-        text = lambda: bytes(r.choice(TEXT_BYTES) for _ in range(r.choice([1, 5, 30, 100, 239])))
-        for field in {0: b'6', 1: b'2', 2: b'2', 3: b'12', 4: b'12', 5: b'34', 6: b'5'}[mode]:
-            if r.randrange(4):
-                out.append(b't' + bytes([field]) + text())
-        day = r.choice([0, 1, 31929, 36525, 36526, 73050])
-        second = r.choice([0, 59, 60, 3599, 3600, 86399, r.randrange(86400)])
-        return out + [b'n%d %d' % (day, second), b'@']
-
-    def screens(self, count):
-        out = []
-        while count:
-            many = min(count, self.r.randrange(1, 9))
-            out += self.sheet()
-            for _ in range(many):
-                out += self.screen()
-            count -= many
-        return out
-
-
-def sheets(r):
-    """The worked lines, 10,000 random edits, 2,000 screens, 1,000 commands with undos, and 40 over wider sheets."""
-    of = Sheets(r)
-    lines = of.edits(10000) + of.screens(2000) + of.commands(1000) + of.wide(False) + of.wide(True)
-    return worked('sheets') + b''.join(line + b'\n' for line in lines)
 
 
 # ---------------------------------------------------------------- data commands
@@ -591,8 +432,7 @@ class Queries:
         for _ in range(count):
             out += self.sheet()
             given = span_text(self.input) + b' ' + span_text(self.criterion)
-            cell = self.input[0][0], self.r.randrange(self.input[0][1], self.input[1][1] + 1)
-            out += [b'm' + cell_text(cell) + b' ' + given, b'q' + given, b'r' + given]
+            out += [b'q' + given, b'r' + given]
         return out
 
 
@@ -745,23 +585,3 @@ class Macros:
             out += [b'rD1 40', b'r' + self.r.choice([b'D2', b'D3', b'E1', b'E1', b'D2', b'D4', b'E2', b'D8192']) + b' 40']
             count -= 2
         return out
-
-
-def macros(r):
-    """The worked lines, and 3,000 runs of macros over small sheets."""
-    return worked('macros') + b''.join(line + b'\n' for line in Macros(r).runs(3000))
-
-
-def data(r):
-    """The worked lines, 500 fills, sorts and distributions of small sheets, 500 queries of each kind, and 400
-    extractions of all records and of those that differ."""
-    asked = Blocks(r).asked(500) + Queries(r).asked(500) + Extractions(r).asked(400)
-    return worked('data') + b''.join(line + b'\n' for line in asked)
-
-
-CASES = {'words': words, 'sheets': sheets, 'data': data, 'macros': macros}
-
-
-def case(name, seed=SEED):
-    """The lines that a part of a checking program answers."""
-    return CASES[name](random.Random(f'{seed} {name}'))

@@ -5,7 +5,7 @@ import re
 import sys
 
 from . import fixed, gen, wk1
-from .answers import leave_out
+from .built import leave_out
 from .commands import Desk
 from .keys import KeyReader
 from .outside import (Failed, HostDisplay, ListKeys, MapShelf, ListClock, ListNotes, Recorder, Writer, page, send, EMPTY_GRID, file_name)

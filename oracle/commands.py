@@ -7,8 +7,6 @@ from .sheet import Sheet, SheetFault, State
 from .values import value_content, first_value
 from .evaluate import Scene
 
-BLANK_CONTENT = ('blank',)
-
 MESSAGES = {
     1: 'Invalid address', 2: 'Invalid number', 3: 'Invalid name', 4: 'Name not found', 5: 'Protected cell',
     6: 'File does not exist', 8: 'Disk error', 9: 'Cells would leave the sheet', 10: 'Range leaves the sheet',
@@ -348,17 +346,7 @@ def run_query(kind, desk, scene, tally):
         raise CommandError(14)
     try:
         if kind == 'delete':
-            chosen = set(c[1] for c in query.select(desk.input, desk.criterion, sheet, scene))
-            (c0, r0), (c1, r1) = desk.input
-            kept = [r for r in range(r0 + 1, r1 + 1) if r not in chosen]
-            writes = []
-            for i, r in enumerate(range(r0 + 1, r1 + 1)):
-                for c in range(c0, c1 + 1):
-                    if i < len(kept):        # moved up as copies of content and format
-                        st = state_of(sheet, (c, kept[i]))
-                        writes.append(((c, r), st.content, st.format))
-                    else:                    # the rest is erased, without a format byte
-                        writes.append(((c, r), BLANK_CONTENT, None))
+            writes = query.delete(desk.input, desk.criterion, sheet, scene)
         else:
             writes = query.extract(desk.input, desk.criterion, desk.output, kind == 'unique', sheet, scene)
     except query.QueryFault as f:

@@ -1,10 +1,10 @@
 """Keys that go through the commands below Data and the keys QUERY and TABLE, over small sheets that are made for them.
 
-A sheet is told by the lines of check_macros: it is typed, or it stands in the file that the run begins with."""
+A sheet is told by lines of `edits.Desk`: it is typed, or it stands in the file that the run begins with."""
 from . import menu, wk1
 from .address import cell_text, col_text, height_of, read_cell, read_span, span_text, width_of
-from .answers import Desk, macro_line
 from .cases import Blocks, Extractions, Queries
+from .edits import Desk
 
 NUMBERS = [b'0', b'1', b'2', b'-1', b'1.5', b'10', b'0.1', b'-0.000001', b'8191', b'-8191', b'999999999.999997', b'.5', b'+3', b'1.0000001']
 NO_NUMBERS = [b'', b'x', b'1/2', b'1000000000', b' 5', b'+', b'A1', b'1e3', b'5%', b'@NA']
@@ -19,7 +19,7 @@ def file_of(lines):
     desk = Desk()
     for line in lines:
         if line != b':':
-            macro_line(desk, line)
+            desk.line(line)
     desk.calc()
     return wk1.write(desk.sheet.snapshot())
 

@@ -2,8 +2,8 @@
 
 from . import fixed, formula, wk1
 from .address import cell_text, height_of, read_cell, read_span, width_of
-from .answers import names_of
 from .cases import TEXT_BYTES, Texts, WORDS, any_double, is_read, worked
+from .names import names_of
 from .sheet import DEFAULT_FORMAT, Saved, State
 from .values import BLANK, C_BLANK, ERR, NA, num, string
 

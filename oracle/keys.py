@@ -28,9 +28,15 @@ def fold(data):
 
 
 TEXTS = {b'~}': byte_key(ord('~')), b'{}': byte_key(ord('{')), b'}}': byte_key(ord('}'))}
+IN_BRACES = {key[1]: b'{' + word for word, key in TEXTS.items()}
 
 # every word without its brace, for the prefix test
 _PLAIN = [n + b'}' for n in BY_NAME] + [b'BREAK}', b'UNDO}']
+
+
+def typed(text):
+    """The key notation of typed bytes."""
+    return b''.join(IN_BRACES.get(byte) or bytes([byte]) for byte in text)
 
 
 def status(buf):

@@ -1,10 +1,10 @@
 """Keys that start macros, over small sheets whose cells hold them.
 
 Some are made of random words, with keys that go through every room; others are small programs: loops, calls, macros that write
-their own text, commands that fail and what catches them. A sheet is told by the lines of check_macros."""
-from .answers import names_of
+their own text, commands that fail and what catches them. A sheet is told by lines of `edits.Desk`."""
 from .cases import Macros, any_case, is_read
 from .fixed import read_decimal
+from .names import names_of
 from .session import VALUE_BEGINS
 
 # what fails in a fresh sheet, or nearly so, and mostly by which message

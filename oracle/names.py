@@ -1,6 +1,6 @@
 """Range names."""
 
-from .address import NotAnAddress, read_cell
+from .address import NotAnAddress, read_cell, read_span
 from .text import fold, is_digit, is_letter
 
 
@@ -85,3 +85,11 @@ class Names:
 
     def __repr__(self):
         return 'Names(%r)' % (self.map,)
+
+
+def names_of(pairs):
+    """Names of spans that are spelled."""
+    names = Names()
+    for name, span in pairs:
+        names.create(name, read_span(span.encode()))
+    return names

@@ -20,11 +20,12 @@ import sys
 import tempfile
 from typing import NamedTuple
 
-from .answers import leave_out
+from .built import leave_out
 from .cases import SEED, Texts, WORDS, is_read, worked
 from .cli import run
 from .data_keys import DataKeys, file_of
 from .files import file_for_runs
+from .keys import typed
 from .macro_keys import MacroKeys
 from .menu_keys import FILES, MenuKeys, SPELLED
 from .names import Names
@@ -79,10 +80,7 @@ class Typist:
             out[r.choice(['a.wk1', 'B.wk1', 'C', 'A.TXT', 'A.WK1.old'])] = b'other'
         return out
 
-    def typed(self, text):
-        """The key notation of typed bytes."""
-        special = {126: b'{~}', 123: b'{{}', 125: b'{}}'}
-        return b''.join(special.get(byte) or bytes([byte]) for byte in text)
+    typed = staticmethod(typed)
 
     def arrow(self):
         r = self.r

@@ -19,14 +19,17 @@ import re
 import shlex
 import sys
 
-from . import stored_base, stored_files, stored_formulas, stored_numbers
+from . import (stored_base, stored_data, stored_files, stored_formulas, stored_numbers, stored_rooms, stored_sheets,
+               stored_words)
 from .cases import HERE, SEED
 from .runs import difference, expected, got, prepare, read_run, why_differs
 
 STORED = os.path.join(HERE, 'stored')
 # what makes the runs of each name
 MAKERS = {'base': stored_base.base, 'numbers': stored_numbers.numbers, 'formulas': stored_formulas.formulas,
-          'values': stored_formulas.values, 'adjustments': stored_formulas.adjustments, 'files': stored_files.files}
+          'values': stored_formulas.values, 'adjustments': stored_formulas.adjustments, 'files': stored_files.files,
+          'edits': stored_sheets.edits, 'screens': stored_sheets.screens, 'data': stored_data.data, 'macros': stored_data.macros,
+          'rooms': stored_rooms.rooms, 'words': stored_words.words}
 # bytes that stand several times behind one another
 REPEATED = re.compile(rb'(.{1,300}?)\1{7,}', re.DOTALL)
 

@@ -11,11 +11,10 @@ name, and the formula's text. The letters are `M` for a move, `r` and `c` for ro
 has, and `R` and `C` for its rows and columns deleted."""
 from . import formula
 from .address import col_text, read_cell
-from .answers import names_of
 from .cases import Texts, WORDS, broken, is_read, mixed, worked
 from .fixed import read_decimal
 from .formula import LEFT_OUT_NAMES
-from .names import Names
+from .names import Names, names_of
 from .runs import Run
 from .sheet import State
 from .stored_parts import (AS_LABEL, as_value, entered, file_of, goto, in_parts, is_value, named, of_formula, of_label, of_number,

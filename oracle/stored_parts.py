@@ -3,20 +3,14 @@ import struct
 
 from . import fixed, formula, wk1
 from .address import cell_text
+from .keys import typed
 from .session import VALUE_BEGINS
 from .sheet import DEFAULT_FORMAT, Saved, State
 from .values import num, string
 
-# the bytes that are spelled in braces
-SPELLED = {126: b'{~}', 123: b'{{}', 125: b'{}}'}
 # what stands in a cell becomes a label of the same text
 AS_LABEL = b"{HOME}'~"
 LONGEST = 240
-
-
-def typed(text):
-    """The key notation of typed bytes."""
-    return b''.join(SPELLED.get(byte) or bytes([byte]) for byte in text)
 
 
 def goto(cell):

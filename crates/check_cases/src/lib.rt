@@ -14,4 +14,4 @@ mod words;
 
 pub use comparison::{Subject, check};
 pub use stop::Stop;
-pub use words::{Words, bytes_of, text_of, whole_of};
+pub use words::{Words, bytes_of, sum_of, text_of, whole_of};

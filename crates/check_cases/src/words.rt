@@ -47,6 +47,15 @@ pub fn bytes_of(alloc: Global, digits: &[u8]) -> Result<Vec<u8>, Stop> {
     Ok(bytes)
 }
 
+/// The sum of bytes in which each place counts.
+pub fn sum_of(bytes: &[u8]) -> u64 {
+    let mut sum: u64 = 14_695_981_039_346_656_037;
+    for byte in bytes {
+        sum = (sum ^ u64::from(*byte)).wrapping_mul(1_099_511_628_211);
+    }
+    sum
+}
+
 /// A text of these bytes.
 pub fn text_of(alloc: Global, bytes: &[u8]) -> Result<Text, Stop> {
     match Text::from_bytes(alloc, bytes) {

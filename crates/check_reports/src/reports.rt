@@ -3,7 +3,7 @@ ghost use Rattle.std.specs.Prelude.{◌≤◌, IfOk};
 
 use crate::digits::write_bytes;
 use crate::states::{state_in, text_in};
-use check_cases::{Stop, Subject, Words, bytes_of};
+use check_cases::{Stop, Subject, Words, bytes_of, sum_of};
 use grid_address::{Cell, Format, Span};
 use outside_world::ByteBuffer;
 use print_report::{PrintFault, PrintSettings, report};
@@ -93,15 +93,6 @@ fn settings_in(alloc: Global, words: &mut Words) -> Result<PrintSettings, Stop> 
         bottom,
         length,
     })
-}
-
-// The sum of bytes in which each place counts.
-fn sum_of(bytes: &[u8]) -> u64 {
-    let mut sum: u64 = 14_695_981_039_346_656_037;
-    for byte in bytes {
-        sum = (sum ^ u64::from(*byte)).wrapping_mul(1_099_511_628_211);
-    }
-    sum
 }
 
 // Writes what a report holds, or why there is none.
