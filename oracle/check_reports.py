@@ -1,5 +1,6 @@
 """Reports of small worksheets: the data of check_reports, and what it must answer. Its own text tells the lines."""
 from . import formula, report
+from .address import cell_text, read_cell, read_span, span_text
 from .cases import TEXT_BYTES, worked
 from .dates import Moment
 from .gen import generate
@@ -33,12 +34,12 @@ class Desk:
         self.saved = Saved()
         self.saved.settings.width, self.saved.settings.format = int(width), int(code)
 
-    def name(self, name, *corners):
-        self.saved.names.create(bytes_of(name), span_of(corners))
+    def name(self, name, span):
+        self.saved.names.create(bytes_of(name), read_span(span))
 
-    def put(self, col, row, code, kind, *rest):
+    def put(self, cell, code, kind, *rest):
         """A cell: `b` for blank, or a number, a label, or a formula with its value."""
-        cell = int(col), int(row)
+        cell = read_cell(cell)
         if kind == b'b':
             content, value = C_BLANK, BLANK
         elif kind == b'n':
@@ -57,9 +58,9 @@ class Desk:
 
     def report(self, *words):
         """The bytes of a report."""
-        day, left, right, top, bottom, length = (int(word) for word in words[4:10])
-        settings = report.PrintSettings(bytes_of(words[10]), bytes_of(words[11]), left, right, top, bottom, length)
-        return report.report(span_of(words[:4]), settings, self.saved, Moment(day or None, 0))
+        day, left, right, top, bottom, length = (int(word) for word in words[1:7])
+        settings = report.PrintSettings(bytes_of(words[7]), bytes_of(words[8]), left, right, top, bottom, length)
+        return report.report(read_span(words[0]), settings, self.saved, Moment(day or None, 0))
 
     def told(self, is_whole, words):
         """A report as it is printed: whole, or its length and its sum."""
@@ -89,11 +90,6 @@ class Desk:
         return b''
 
 
-def span_of(corners):
-    (a, b), (c, d) = ((int(col), int(row)) for col, row in (corners[:2], corners[2:]))
-    return (min(a, c), min(b, d)), (max(a, c), max(b, d))
-
-
 def value_of(kind, held=b''):
     """A formula's value."""
     return {b'n': lambda: num(int(held)), b's': lambda: string(bytes_of(held)), b'e': lambda: ERR, b'a': lambda: NA}[kind]()
@@ -121,13 +117,14 @@ class Reports:
         """A new worksheet: its width and format, names, own widths and hidden columns, and cells near one corner."""
         r = self.r
         self.left, self.top = r.choice([(0, 0), (0, 0), (0, 7), (3, 8180), (250, 8180)])
-        near = lambda: (self.left, self.top, min(self.left + 2, 255), min(self.top + 3, 8191))
+        corner = self.left, self.top
+        near = span_text((corner, (min(self.left + 2, 255), min(self.top + 3, 8191))))
         out = [b'n %d %d' % (r.choice([9, 9, 9, 3, 1, 40, 155, 240]), r.choice([113, 113, 113, 2, 34, 114, 117, 118, 122])),
-               b'm %s %d %d %d %d' % (b'TOTAL'.hex().encode(), *near()[:2], *near()[:2]), b'm %s %d %d %d %d' % (b'RATES'.hex().encode(), *near())]
+               b'm %s %s' % (b'TOTAL'.hex().encode(), cell_text(corner)), b'm %s %s' % (b'RATES'.hex().encode(), near)]
         out += [b'w %d %d' % (self.col(), r.choice([1, 2, 3, 12, 20, 72, 73, 200, 240])) for _ in range(r.choice([0, 0, 1, 2, 3]))]
         out += [b'h %d' % self.col() for _ in range(r.choice([0, 0, 1, 2]))]
         cells = {(self.col(), min(self.top + r.randrange(12), 8191)) for _ in range(r.choice([0, 2, 6, 12, 16]))}
-        return out + [b'c %d %d %d ' % (*cell, r.choice(self.CODES)) + self.content() for cell in sorted(cells)]
+        return out + [b'c %s %d ' % (cell_text(cell), r.choice(self.CODES)) + self.content() for cell in sorted(cells)]
 
     def col(self):
         return min(self.left + self.r.randrange(15), 255)
@@ -163,8 +160,8 @@ class Reports:
         top, bottom = r.choice([0, 0, 1, 2, 5, 10]), r.choice([0, 1, 2, 10])
         length = r.choice([top + bottom + 6, top + bottom + 7, top + bottom + 7, top + bottom + 8, top + bottom + 12, 66, 66, 100])
         day = r.choice([0, 1, 60, 31929, LAST_DAY])
-        words = (*first, *last, day, left, min(max(right, 0), 240), top, bottom, max(10, length))
-        return call + b''.join(b' %d' % word for word in words) + b''.join(b' ' + self.running().hex().encode() for _ in range(2))
+        words = (day, left, min(max(right, 0), 240), top, bottom, max(10, length))
+        return call + b' ' + span_text((first, last)) + b''.join(b' %d' % word for word in words) + b''.join(b' ' + self.running().hex().encode() for _ in range(2))
 
     def reports(self, count):
         """So many reports, each of a worksheet of its own, or some of one; one in forty is printed whole."""
@@ -175,7 +172,7 @@ class Reports:
 
 
 # a worksheet without cells, and reports of it that hold the most bytes that a file may, and more
-MOST = [b'n 9 113', b'p 0 0 63 8191 0 0 1 28 29 64  ', b'p 0 0 63 8191 0 0 1 28 29 64 78 ']
+MOST = [b'n 9 113', b'p A1..BL8192 0 0 1 28 29 64  ', b'p A1..BL8192 0 0 1 28 29 64 78 ']
 
 
 def generated():
@@ -184,7 +181,7 @@ def generated():
         for code in (2, 117):
             yield b'n 20 %d' % code
             yield b'g %d' % rows
-            yield b'%s 0 0 3 %d 0 0 80 0 0 100  ' % (b'q' if rows < 20 else b'p', min(rows, 8191))
+            yield b'%s A1..D%d 0 0 80 0 0 100  ' % (b'q' if rows < 20 else b'p', rows + 1)
 
 
 def data(r):

@@ -86,12 +86,11 @@ fn doubled(alloc: Global, words: &mut Words) -> Result<ByteBuffer, Stop> {
     Ok(list)
 }
 
-// Numbers up to the end of the line.
+// Two numbers; 0 where there is none.
 fn numbers_in(alloc: Global, words: &mut Words) -> Result<Vec<u64>, Stop> {
     let mut list = Vec::new(alloc);
-    for word in words.rest().split(|byte| *byte == b' ') {
-        list.push(whole_of(word).unsigned_abs())?;
-    }
+    list.push(whole_of(words.next()).unsigned_abs())?;
+    list.push(whole_of(words.next()).unsigned_abs())?;
     Ok(list)
 }
 

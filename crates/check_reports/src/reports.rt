@@ -4,7 +4,7 @@ ghost use Rattle.std.specs.Prelude.{◌≤◌, IfOk};
 use crate::digits::write_bytes;
 use crate::states::{state_in, text_in};
 use check_cases::{Stop, Subject, Words, bytes_of, sum_of};
-use grid_address::{Cell, Format, Span};
+use grid_address::{Format, Span};
 use outside_world::ByteBuffer;
 use print_report::{PrintFault, PrintSettings, report};
 use range_names::Names;
@@ -20,33 +20,11 @@ pub struct ReportDesk {
     saved: SavedSheet,
 }
 
-// How many rows a sheet has.
-const ROWS: usize = 8192;
-
 // The most rows of a worksheet that is generated.
-const MOST_GENERATED: usize = 8000;
+const MOST_GENERATED: u16 = 8000;
 
 // The last day of the calendar.
-const LAST_DAY: usize = 73_050;
-
-// A column and a row.
-fn cell_in(words: &mut Words) -> Result<Cell, Stop> {
-    let col = words.byte()?;
-    let row = words.count()?;
-    if row >= ROWS {
-        return Err(Stop::Line);
-    }
-    Ok(Cell {
-        row: row as u16,
-        col,
-    })
-}
-
-// Two cells as corners.
-fn span_in(words: &mut Words) -> Result<Span, Stop> {
-    let first = cell_in(words)?;
-    Ok(Span::of(first, cell_in(words)?))
-}
+const LAST_DAY: u32 = 73_050;
 
 // A width of 1 to 240.
 fn width_in(words: &mut Words) -> Result<u8, Stop>
@@ -62,17 +40,14 @@ fn width_in(words: &mut Words) -> Result<u8, Stop>
 
 // A day; 0 stands for none.
 fn moment_in(words: &mut Words) -> Result<Moment, Stop> {
-    let day = words.count()?;
-    if day < 1 {
-        return Ok(Moment::unknown());
+    match u32::try_from(words.count()?) {
+        Ok(0) => Ok(Moment::unknown()),
+        Ok(day) if day <= LAST_DAY => Ok(Moment {
+            day: Some(day),
+            second: 0,
+        }),
+        _ => Err(Stop::Line),
     }
-    if day > LAST_DAY {
-        return Err(Stop::Line);
-    }
-    Ok(Moment {
-        day: Some(day as u32),
-        second: 0,
-    })
 }
 
 // Margins, lines and texts.
@@ -147,7 +122,7 @@ impl ReportDesk {
 
     // Puts a cell.
     fn put(&mut self, alloc: Global, words: &mut Words) -> Result<(), Stop> {
-        let cell = cell_in(words)?;
+        let cell = words.cell()?;
         let state = state_in(alloc, words, cell, &self.saved.names)?;
         self.saved.store.put(cell, state)?;
         Ok(())
@@ -156,7 +131,7 @@ impl ReportDesk {
     // Names a span.
     fn name(&mut self, alloc: Global, words: &mut Words) -> Result<(), Stop> {
         let name = bytes_of(alloc, words.next())?;
-        match self.saved.names.create(name.as_slice(), span_in(words)?) {
+        match self.saved.names.create(name.as_slice(), words.span()?) {
             Ok(()) => Ok(()),
             Err(_) => Err(Stop::Line),
         }
@@ -169,6 +144,19 @@ impl ReportDesk {
         Ok(())
     }
 
+    // How many cells have the sheet's format.
+    fn plain_cells(&self) -> Result<usize, Stop> {
+        let mut count: usize = 0;
+        for cell in self.saved.store.cells_in(Span::whole())?.as_slice() {
+            if let Some(state) = self.saved.store.get(*cell)
+                && state.format() == Format::DEFAULT
+            {
+                count = count.saturating_add(1);
+            }
+        }
+        Ok(count)
+    }
+
     // Takes the cells of a generated worksheet, and tells how many of them have the sheet's format.
     fn generate<W: Write>(
         &mut self,
@@ -176,21 +164,14 @@ impl ReportDesk {
         words: &mut Words,
         out: &mut W,
     ) -> Result<(), Stop> {
-        let rows = words.count()?;
+        let Ok(rows) = u16::try_from(words.count()?) else {
+            return Err(Stop::Line);
+        };
         if rows < 1 || rows > MOST_GENERATED {
             return Err(Stop::Line);
         }
-        self.saved.store = generate(alloc, rows as u16)?.store;
-        let cells = self.saved.store.cells_in(Span::whole())?;
-        let mut plain: usize = 0;
-        for cell in cells.as_slice() {
-            if let Some(state) = self.saved.store.get(*cell)
-                && state.format() == Format::DEFAULT
-            {
-                plain = plain.saturating_add(1);
-            }
-        }
-        writeln!(out, "{plain}")?;
+        self.saved.store = generate(alloc, rows)?.store;
+        writeln!(out, "{}", self.plain_cells()?)?;
         Ok(())
     }
 
@@ -202,7 +183,7 @@ impl ReportDesk {
         is_whole: bool,
         out: &mut W,
     ) -> Result<(), Stop> {
-        let range = span_in(words)?;
+        let range = words.span()?;
         let now = moment_in(words)?;
         let set = settings_in(alloc, words)?;
         write_report(report(alloc, range, &set, &self.saved, &now), is_whole, out)
