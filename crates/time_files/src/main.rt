@@ -6,11 +6,11 @@
 #![tactic(auto)]
 
 use lics_text::Memory;
-use std::alloc::{AllocFailed, Global};
+use sheet_store::SavedSheet;
+use std::alloc::Global;
 use std::env;
 use std::io::{Error, Read, Write};
 use std::process::ExitCode;
-use std::rt::Clock;
 use std::time::Instant;
 use wk1_file::{read, write};
 
@@ -34,40 +34,26 @@ impl From<Error> for Stop {
     }
 }
 
-// The last used row and column of the sheet that is read, as one number.
-fn last_used(alloc: Global, file: &[u8]) -> Result<u64, Stop> {
-    let Ok(sheet) = read(alloc, file) else {
-        return Err(Stop::File);
-    };
-    match sheet.store.last_used() {
-        Some(cell) => Ok(u64::from(cell.row) * 256 + u64::from(cell.col)),
-        None => Ok(0),
+// The sheet that a file is read as.
+fn sheet_of(alloc: Global, file: &[u8]) -> Result<SavedSheet, Stop> {
+    match read(alloc, file) {
+        Ok(sheet) => Ok(sheet),
+        Err(_) => Err(Stop::File),
     }
 }
 
-// How many bytes the sheet's own file has, which is written when the one that was read is let go.
-fn rewritten(alloc: Global, file: Vec<u8>) -> Result<u64, Stop> {
-    let Ok(sheet) = read(alloc, file.as_slice()) else {
-        return Err(Stop::File);
-    };
-    drop(file);
-    Ok(write(alloc, &sheet)?.len() as u64)
-}
-
-// How many bytes the sheet's own file has, which is written beside the one that was read.
-fn rewritten_beside(alloc: Global, file: &[u8]) -> Result<u64, Stop> {
-    let Ok(sheet) = read(alloc, file) else {
-        return Err(Stop::File);
-    };
-    Ok(write(alloc, &sheet)?.len() as u64)
+// The last used row and column, as one number.
+fn last_used(sheet: &SavedSheet) -> u64 {
+    match sheet.store.last_used() {
+        Some(cell) => u64::from(cell.row) * 256 + u64::from(cell.col),
+        None => 0,
+    }
 }
 
 // Tells the bytes of the file and of the one that is written, and how many microseconds reading and writing took.
 fn time<W: Write>(rt: &HostRuntime, alloc: Global, file: &[u8], out: &mut W) -> Result<(), Stop> {
     let start = Instant::now(rt)?;
-    let Ok(sheet) = read(alloc, file) else {
-        return Err(Stop::File);
-    };
+    let sheet = sheet_of(alloc, file)?;
     let reading = start.elapsed(rt)?.as_micros();
     let middle = Instant::now(rt)?;
     let written = write(alloc, &sheet)?.len();
@@ -87,9 +73,13 @@ fn work(rt: &HostRuntime) -> Result<(), Stop> {
     };
     let told = match step.as_str() {
         "make" => file.len() as u64,
-        "read" => last_used(alloc, file.as_slice())?,
-        "write" => rewritten(alloc, file)?,
-        "write-beside" => rewritten_beside(alloc, file.as_slice())?,
+        "read" => last_used(&sheet_of(alloc, file.as_slice())?),
+        "write" => {
+            let sheet = sheet_of(alloc, file.as_slice())?;
+            drop(file);
+            write(alloc, &sheet)?.len() as u64
+        }
+        "write-beside" => write(alloc, &sheet_of(alloc, file.as_slice())?)?.len() as u64,
         "time" => return time(rt, alloc, file.as_slice(), &mut out),
         _ => return Err(Stop::Word),
     };
