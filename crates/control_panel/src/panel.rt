@@ -5,7 +5,7 @@ ghost use Rattle.control_panel.specs.Panels.{line_panel, plain_panel};
 use lics_text::{Line, MAX_LEN};
 
 /// The mode that is told.
-#[derive(Clone, Copy, Debug, PartialEq, Eq)]
+#[derive(Clone, Copy, PartialEq, Eq)]
 pub enum Mode {
     Ready,
     Label,

@@ -6,7 +6,7 @@ use data_blocks::SortKey;
 use grid_address::{Cell, Span};
 
 /// The last query that was made.
-#[derive(Clone, Copy, Debug, PartialEq, Eq)]
+#[derive(Clone, Copy, PartialEq, Eq)]
 pub enum LastQuery {
     Nothing,
     Extract,

@@ -11,7 +11,7 @@ use std::marker::Model;
 pub const MAX_SIZE: u64 = 999_999_999_999_999;
 
 /// A number: a whole count of millionths of a size of at most 999,999,999,999,999.
-#[derive(Clone, Copy, Debug, PartialEq, Eq)]
+#[derive(Clone, Copy, PartialEq, Eq)]
 pub struct Fixed {
     millionths: i64,
 }

@@ -5,7 +5,7 @@ use std::marker::Model;
 
 /// A cell: a column of 0 to 255 (A to IV) and a row of 0 to 8191. The fields stand in the order of
 /// comparison, which is row order: by row, then by column.
-#[derive(Clone, Copy, Debug, PartialEq, Eq, PartialOrd, Ord, Hash)]
+#[derive(Clone, Copy, PartialEq, Eq, PartialOrd, Ord, Hash)]
 pub struct Cell {
     pub row: u16,
     pub col: u8,

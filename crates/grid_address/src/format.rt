@@ -5,7 +5,7 @@ ghost use Rattle.grid_address.specs.Formats.{has_protection, is_shown_as, kind_o
 /// 0 its detail. Kinds 0 fixed, 1 scientific, 2 currency, 3 percent and 4 comma have the number of decimals
 /// as detail; kind 7 has 0 bar, 1 general, 2 to 4 the dates 1 to 3, 5 text, 6 hidden and 15 default. Each
 /// other byte is shown as general.
-#[derive(Clone, Copy, Debug, PartialEq, Eq)]
+#[derive(Clone, Copy, PartialEq, Eq)]
 pub struct Format(pub u8);
 
 impl Format {

@@ -7,14 +7,14 @@ use std::marker::Model;
 
 /// A coordinate of a reference: an absolute number, or an offset that is added and wraps at the edge of
 /// the sheet.
-#[derive(Clone, Copy, Debug, PartialEq, Eq)]
+#[derive(Clone, Copy, PartialEq, Eq)]
 pub enum Axis {
     Fixed(u16),
     Offset(u16),
 }
 
 /// A reference to a cell: its numbers are below 256 for the column and below 8192 for the row.
-#[derive(Clone, Copy, Debug, PartialEq, Eq)]
+#[derive(Clone, Copy, PartialEq, Eq)]
 pub struct Ref {
     pub col: Axis,
     pub row: Axis,

@@ -5,7 +5,7 @@ use crate::{COLUMNS, Cell, LAST_COLUMN, LAST_ROW, ROWS};
 use std::marker::Model;
 
 /// A rectangle of cells by its corners, of which the first is at the top left.
-#[derive(Clone, Copy, Debug, PartialEq, Eq)]
+#[derive(Clone, Copy, PartialEq, Eq)]
 pub struct Span {
     pub first: Cell,
     pub last: Cell,

@@ -5,7 +5,7 @@ use lics_text::TextByte;
 
 /// A key of Release 2, or one of this project's additions, which are Break and Undo. A typed byte is 32 to 255, and Alt
 /// comes with its letter.
-#[derive(Clone, Copy, Debug, PartialEq, Eq)]
+#[derive(Clone, Copy, PartialEq, Eq)]
 pub enum Key {
     Byte(TextByte),
     Enter,

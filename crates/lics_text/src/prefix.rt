@@ -2,7 +2,7 @@ ghost use Rattle.std.specs.Prelude.{◌≡◌};
 ghost use Rattle.lics_text.specs.Prefixes.{prefix_byte, prefix_of};
 
 /// How a label stands in its cell, by the byte that it begins with (Release 2 manual).
-#[derive(Clone, Copy, Debug, PartialEq, Eq)]
+#[derive(Clone, Copy, PartialEq, Eq)]
 pub enum LabelPrefix {
     /// `'`: at the left edge.
     Left,

@@ -9,7 +9,7 @@ use byte_list::ByteList;
 use std::marker::Model;
 
 /// Which kind of file a name is for.
-#[derive(Clone, Copy, PartialEq, Eq, Debug)]
+#[derive(Clone, Copy, PartialEq, Eq)]
 pub enum Ext {
     /// A worksheet, `.WK1`.
     Wk1,

@@ -1,5 +1,5 @@
 /// Why a call on names is refused, in the order in which the causes are tried.
-#[derive(Clone, Copy, Debug, PartialEq, Eq)]
+#[derive(Clone, Copy, PartialEq, Eq)]
 pub enum NameFault {
     /// A name has no bytes.
     Empty,

@@ -6,7 +6,7 @@ use crate::Recorder;
 use outside_world::Failed;
 
 /// The kinds of display.
-#[derive(Clone, Copy, PartialEq, Eq, Debug)]
+#[derive(Clone, Copy, PartialEq, Eq)]
 pub enum DisplayKind {
     /// Each frame is a page of lines.
     Pages,

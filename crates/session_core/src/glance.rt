@@ -11,7 +11,7 @@ use grid_address::Cell;
 use screen_show::LineSet;
 
 /// The day, where the clock has one, the hour and the minute.
-#[derive(Clone, Copy, Debug, PartialEq, Eq)]
+#[derive(Clone, Copy, PartialEq, Eq)]
 pub struct Minute {
     pub day: Option<u32>,
     pub hour: u32,
@@ -19,7 +19,7 @@ pub struct Minute {
 }
 
 /// Whether CALC, CIRC, END and CMD are told.
-#[derive(Clone, Copy, Debug, PartialEq, Eq)]
+#[derive(Clone, Copy, PartialEq, Eq)]
 pub struct Marks {
     pub calc: bool,
     pub circ: bool,
@@ -28,7 +28,7 @@ pub struct Marks {
 }
 
 /// What the last line hangs on where no message is told.
-#[derive(Clone, Copy, Debug, PartialEq, Eq)]
+#[derive(Clone, Copy, PartialEq, Eq)]
 pub struct Foot {
     pub minute: Minute,
     pub marks: Marks,
@@ -36,7 +36,7 @@ pub struct Foot {
 
 /// What the lines of the screen hang on beside the cells and the line that is typed: the cell at the top left, the mode
 /// in READY and while a line is typed, and what the last line then shows.
-#[derive(Clone, Copy, Debug, PartialEq, Eq)]
+#[derive(Clone, Copy, PartialEq, Eq)]
 pub struct Glance {
     pub corner: Cell,
     pub mode: Option<Mode>,

@@ -9,7 +9,7 @@ use std::marker::Model;
 
 /// The settings of a sheet: 1 to 50 passes of a recalculation, a label prefix of `'`, `"` or `^`, and a column width of
 /// 1 to 240 (Release 2 manual for the quantities, this project's choice for the most passes).
-#[derive(Clone, Copy, Debug, PartialEq, Eq)]
+#[derive(Clone, Copy, PartialEq, Eq)]
 pub struct Settings {
     pub automatic: bool,
     pub passes: u8,

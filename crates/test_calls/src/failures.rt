@@ -49,7 +49,8 @@ fn keys_fail(rt: HostRuntime) -> Result<(), Fail> {
 
 #[test]
 fn notes_fail(rt: HostRuntime) -> Result<(), Fail> {
-    let mut notes = ListNotes::new(rt.alloc(), 3, [2].to_vec(rt.alloc())?)?;
+    let room = ListNotes::new(rt.alloc(), 3, [2].to_vec(rt.alloc())?);
+    let mut notes = room.ok().expect(&rt, "memory");
     for wanted in [true, false, true, true, false] {
         assert!(&rt; is_noted(&mut notes, b'a') == wanted);
     }
@@ -69,7 +70,8 @@ fn a_shelf_fails(rt: HostRuntime) -> Result<(), Fail> {
 #[test]
 fn a_display_fails(rt: HostRuntime) -> Result<(), Fail> {
     let alloc = rt.alloc();
-    let mut display = Recorder::new(alloc, DisplayKind::Pages, 1, [2, 4, 7].to_vec(alloc)?)?;
+    let room = Recorder::new(alloc, DisplayKind::Pages, 1, [2, 4, 7].to_vec(alloc)?);
+    let mut display = room.ok().expect(&rt, "memory");
     for wanted in [true, false] {
         assert!(&rt; is_put(&mut display) == wanted);
     }

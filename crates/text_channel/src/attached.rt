@@ -1,7 +1,7 @@
 use outside_world::{ByteBuffer, FileName};
 
 /// What a channel may do with its file.
-#[derive(Clone, Copy, PartialEq, Eq, Debug)]
+#[derive(Clone, Copy, PartialEq, Eq)]
 pub enum Access {
     Read,
     Write,

@@ -5,7 +5,7 @@ use lics_text::{Line, MAX_LEN, Memory, Text};
 use std::alloc::Global;
 
 /// What is read of the bytes that are left: how many stand in the text, and how many are passed over.
-#[derive(Clone, Copy, Debug)]
+#[derive(Clone, Copy)]
 pub(crate) struct Taken {
     pub text: usize,
     pub passed: usize,

@@ -30,7 +30,7 @@ pub struct Item {
 }
 
 /// What stands over one operand.
-#[derive(Clone, Copy, Debug, PartialEq, Eq)]
+#[derive(Clone, Copy, PartialEq, Eq)]
 pub enum One {
     Group,
     Neg,

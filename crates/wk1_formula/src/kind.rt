@@ -7,7 +7,7 @@ use formula_tree::{Function, Op};
 use function_codes::function_of;
 
 /// What a byte of code stands for.
-#[derive(Clone, Copy, Debug, PartialEq, Eq)]
+#[derive(Clone, Copy, PartialEq, Eq)]
 pub enum Kind {
     Double,
     Reference,
