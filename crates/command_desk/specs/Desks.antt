@@ -1,7 +1,7 @@
 -- The desk: the worksheet, what the commands on data keep, and the name of the file that was saved last.
 use Rattle.std.specs.Prelude.{ℕ, List, Option, None}
-use Rattle.desk_ranges.specs.Ranges.{no_ranges}
-use Rattle.desk_ranges.specs.declared.ranges.DeskRanges.{DeskRanges}
+use Rattle.data_blocks.specs.Ranges.{no_ranges}
+use Rattle.data_blocks.specs.declared.ranges.DeskRanges.{DeskRanges}
 use Rattle.work_sheet.specs.Seen.{fresh_sheet, of_worksheet, Sheet}
 use Rattle.command_desk.specs.declared.desk.Desk as declared
 

@@ -2,7 +2,7 @@
 ghost use Rattle.std.specs.Prelude.{◌≡◌, []};
 ghost use Rattle.command_desk.specs.Desks.{fresh_desk, of_desk};
 
-use desk_ranges::DeskRanges;
+use data_blocks::DeskRanges;
 use outside_world::FileName;
 use std::alloc::Global;
 use work_sheet::Sheet;

@@ -10,8 +10,8 @@ mod settling;
 mod writing;
 
 pub use answers::{cell_at, decimal_at, line_at, order_at, span_at, whole_at};
+pub use data_blocks::{DeskRanges, LastQuery, LastTable, SortKey};
 pub use desk::Desk;
-pub use desk_ranges::{DeskRanges, LastQuery, LastTable, SortKey};
 pub use ending::{CommandEnd, settled};
 pub use formats::FormatChoice;
 pub use moving::move_cells;

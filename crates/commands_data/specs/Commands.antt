@@ -21,9 +21,9 @@ use Rattle.data_blocks.specs.declared.key.SortKey.{SortKey}
 use Rattle.data_query.specs.Extraction.{extraction}
 use Rattle.data_query.specs.Selection.{deletion}
 use Rattle.desk_errors.specs.declared.error.CommandError.TheVariants as error
-use Rattle.desk_ranges.specs.declared.ranges.DeskRanges.{DeskRanges}
-use Rattle.desk_ranges.specs.declared.ranges.LastQuery.{LastQuery}
-use Rattle.desk_ranges.specs.declared.ranges.LastQuery.TheVariants as query
+use Rattle.data_blocks.specs.declared.ranges.DeskRanges.{DeskRanges}
+use Rattle.data_blocks.specs.declared.ranges.LastQuery.{LastQuery}
+use Rattle.data_blocks.specs.declared.ranges.LastQuery.TheVariants as query
 use Rattle.formula_eval.specs.Outlook.{Outlook}
 use Rattle.formula_eval.specs.Scenes.{outlook_of}
 use Rattle.formula_eval.specs.declared.look.Scene.{Scene}

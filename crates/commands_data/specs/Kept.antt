@@ -11,8 +11,8 @@ use Rattle.commands_data.specs.declared.keeping.RangeSetting.{RangeSetting}
 use Rattle.commands_data.specs.declared.keeping.RangeSetting.TheVariants as range
 use Rattle.data_blocks.specs.declared.key.SortKey.{SortKey}
 use Rattle.desk_errors.specs.declared.error.CommandError.{CommandError}
-use Rattle.desk_ranges.specs.declared.ranges.DeskRanges.{DeskRanges}
-use Rattle.desk_ranges.specs.declared.ranges.LastQuery.{LastQuery}
+use Rattle.data_blocks.specs.declared.ranges.DeskRanges.{DeskRanges}
+use Rattle.data_blocks.specs.declared.ranges.LastQuery.{LastQuery}
 use Rattle.grid_address.specs.Place.{Extent}
 
 -- the range of a sort, or one of a query's

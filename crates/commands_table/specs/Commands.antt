@@ -8,9 +8,9 @@ use Rattle.command_desk.specs.Desks.{Desk}
 use Rattle.command_desk.specs.OnDesk as on_the_desk
 use Rattle.command_desk.specs.declared.ending.CommandEnd.{CommandEnd}
 use Rattle.command_desk.specs.declared.ending.CommandEnd.TheVariants.{Finished, Quits, Refused}
-use Rattle.desk_ranges.specs.declared.ranges.DeskRanges.{DeskRanges}
-use Rattle.desk_ranges.specs.declared.ranges.LastTable.{LastTable}
-use Rattle.desk_ranges.specs.declared.ranges.LastTable.TheVariants as table
+use Rattle.data_blocks.specs.declared.ranges.DeskRanges.{DeskRanges}
+use Rattle.data_blocks.specs.declared.ranges.LastTable.{LastTable}
+use Rattle.data_blocks.specs.declared.ranges.LastTable.TheVariants as table
 use Rattle.commands_table.specs.Trying as trying
 use Rattle.data_blocks.specs.Tables.{columns_behind, shape_fault}
 use Rattle.data_blocks.specs.declared.fault.BlockFault.{BlockFault}

@@ -1,7 +1,7 @@
 // A table is made on a worksheet.
 ghost use Rattle.std.specs.Prelude.{◌≡◌, IfOk, OnOk};
 ghost use Rattle.command_desk.specs.Acting.{error_of, HasActedBy};
-ghost use Rattle.desk_ranges.specs.declared.ranges.LastTable.TheVariants as table;
+ghost use Rattle.data_blocks.specs.declared.ranges.LastTable.TheVariants as table;
 ghost use Rattle.commands_table.specs.Commands.{changed_cells, block_error, made, refusal_by};
 ghost use Rattle.commands_table.specs.Trying.{table_one, table_two};
 ghost use Rattle.work_sheet.specs.Did.{Did};

@@ -17,4 +17,4 @@ pub use fault::QueryFault;
 pub use formula_eval::{Match, content_holds, matches};
 pub use range_lines::rows_down;
 pub use selecting::select;
-pub use value_conditions::{equals_number, fits, is_true, value_is_like};
+pub use value_functions::{equals_number, fits, is_true, value_is_like};

@@ -7,8 +7,8 @@ use Rattle.formula_tree.specs.declared.value.Content.{Content}
 use Rattle.formula_tree.specs.declared.value.Content.TheVariants as content
 use Rattle.formula_tree.specs.declared.value.Value.{Value}
 use Rattle.formula_tree.specs.declared.value.Value.TheVariants as value
-use Rattle.value_conditions.specs.Numbers.{equals_number, is_true}
-use Rattle.value_conditions.specs.Patterns.{fits}
+use Rattle.value_functions.specs.Numbers.{equals_number, is_true}
+use Rattle.value_functions.specs.Patterns.{fits}
 use Rattle.formula_eval.specs.Fields.{field_named, has_fields, is_no_field}
 use Rattle.formula_eval.specs.Outlook.{Outlook, Sight}
 use Rattle.formula_eval.specs.Parts.{mean_within}

@@ -14,7 +14,7 @@ use grid_address::{Cell, Span};
 use lics_text::Memory;
 use range_lines::{column_at, count_below, header, row_below, rows_behind, rows_down};
 use std::alloc::Global;
-use value_conditions::{equals_number, fits, is_true};
+use value_functions::{equals_number, fits, is_true};
 
 /// Whether a condition holds of the value of a field: a blank one does, a number of an equal number, a label of what
 /// fits it, and a formula where its value at `place` is a number other than 0; a function of records in it is ERR.

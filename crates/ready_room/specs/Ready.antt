@@ -7,9 +7,9 @@ use Rattle.control_panel.specs.Panels.{plain_panel}
 use Rattle.control_panel.specs.declared.panel.Panel.{Panel}
 use Rattle.control_panel.specs.declared.panel.Mode.TheVariants as mode
 use Rattle.desk_errors.specs.declared.error.CommandError.TheVariants as error
-use Rattle.desk_ranges.specs.declared.ranges.DeskRanges.{DeskRanges}
-use Rattle.desk_ranges.specs.declared.ranges.LastQuery.{LastQuery}
-use Rattle.desk_ranges.specs.declared.ranges.LastQuery.TheVariants as query
+use Rattle.data_blocks.specs.declared.ranges.DeskRanges.{DeskRanges}
+use Rattle.data_blocks.specs.declared.ranges.LastQuery.{LastQuery}
+use Rattle.data_blocks.specs.declared.ranges.LastQuery.TheVariants as query
 use Rattle.key_words.specs.declared.key.Key.{Key}
 use Rattle.key_words.specs.declared.key.Key.TheVariants as key
 use Rattle.menu_tree.specs.declared.menu.Action.TheVariants as action

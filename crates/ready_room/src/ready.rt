@@ -6,8 +6,8 @@ ghost use Rattle.work_sheet.specs.Seen.{of_worksheet};
 
 use cell_pointer::{Way, move_after_end, move_of};
 use control_panel::{Mode, Panel};
+use data_blocks::{DeskRanges, LastQuery};
 use desk_errors::CommandError;
-use desk_ranges::{DeskRanges, LastQuery};
 use entry_line::EntryLine;
 use grid_address::Cell;
 use key_words::Key;

@@ -1,3 +1,5 @@
+pub mod Numbers
 pub mod Operators
+pub mod Patterns
 pub mod Scalars
 pub mod Values

@@ -25,10 +25,10 @@ use Rattle.wk1_formula.specs.Reading.{axis_of, before_zero, both_axes, text_code
 use Rattle.wk1_formula.specs.Written.{coordinate, function_bytes, number_bytes, reference_bytes}
 use Rattle.wk1_formula.proofs.Bits.{bits_back, written}
 use Rattle.formula_tree.specs.declared.function.Function.{Function}
-use Rattle.function_codes.specs.Codes as table
+use Rattle.wk1_formula.specs.FunctionCodes as table
 use Rattle.formula_tree.specs.declared.table.Counts.{Counts}
 use Rattle.formula_tree.specs.declared.table.Counts.TheVariants.{Exactly, AtLeast}
-use Rattle.function_codes.proofs.CodesFound.{found, least}
+use Rattle.wk1_formula.proofs.CodesFound.{found, least}
 
 pub no_less : (a b : ℕ) → b ≤ a → nat_lt a b ≡ false
 no_less a b h = grind (arith, nat_tests, h)

@@ -11,7 +11,7 @@ use Rattle.formula_tree.specs.Tree.{Tree, num, str, cell, span, group, neg, not,
 use Rattle.wk1_formula.specs.Codes.{brackets, function, minus, negation, operator, postfix, postfix_all, Code}
 use Rattle.wk1_formula.specs.Written.{bytes_of, code_of, function_bytes, number_bytes, spelled}
 use Rattle.formula_tree.specs.declared.function.Function.{Function}
-use Rattle.function_codes.specs.Codes as table
+use Rattle.wk1_formula.specs.FunctionCodes as table
 use Rattle.formula_tree.specs.declared.table.Counts.{Counts}
 use Rattle.formula_tree.specs.declared.table.Counts.TheVariants.{Exactly, AtLeast}
 

@@ -2,7 +2,7 @@
 use Rattle.std.specs.List.{list_any}
 use Rattle.std.specs.Prelude.{ℕ, Bool, ◌==◌, List, Option, Some, None, [], ◌∷◌, if◌then◌else◌}
 use Rattle.formula_tree.specs.declared.function.Function.{Function}
-use Rattle.function_codes.specs.Codes.{function_of}
+use Rattle.wk1_formula.specs.FunctionCodes.{function_of}
 use Rattle.formula_tree.specs.declared.ast.Op.{Op}
 use Rattle.formula_tree.specs.declared.ast.Op.TheVariants.{Pow, Mul, Div, Add, Sub, Eq, Ne, Lt, Gt, Le, Ge, And, Or, Join}
 use Rattle.wk1_formula.specs.declared.opcodes.TheConstants as opcode

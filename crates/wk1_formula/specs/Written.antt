@@ -10,7 +10,7 @@ use Rattle.formula_tree.specs.Shape.{is_short}
 use Rattle.formula_tree.specs.Table.{call_size}
 use Rattle.formula_tree.specs.declared.function.Function.{Function}
 use Rattle.formula_tree.specs.Tree.{Tree}
-use Rattle.function_codes.specs.Codes as table
+use Rattle.wk1_formula.specs.FunctionCodes as table
 use Rattle.wk1_formula.specs.Codes.{Code, number, error, missing, reference, range, text, brackets, minus, plus, negation, operator, function, postfix}
 use Rattle.wk1_formula.specs.Doubles.{bits_of}
 use Rattle.wk1_formula.specs.Kinds.{op_code}

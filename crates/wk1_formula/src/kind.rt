@@ -2,9 +2,9 @@
 ghost use Rattle.std.specs.Prelude.{◌≡◌};
 ghost use Rattle.wk1_formula.specs.Kinds.{front_kind, is_left_out, kind_of, op_code, operator_of};
 
+use crate::function_codes::function_of;
 use crate::opcodes;
 use formula_tree::{Function, Op};
-use function_codes::function_of;
 
 /// What a byte of code stands for.
 #[derive(Clone, Copy, PartialEq, Eq)]

@@ -12,7 +12,7 @@ ghost use Rattle.wk1_formula.specs.Written.{bytes_of, code_of, coordinate, funct
 
 use crate::bytes::{put, put_short};
 use crate::kind::op_code;
-use crate::opcodes;
+use crate::{function_codes, opcodes};
 use fixed_value::{Fixed, to_double_bits};
 use formula_tree::{Expr, Formula, Function, call_size};
 use grid_address::{Axis, COLUMNS, Cell, ROWS, Ref};

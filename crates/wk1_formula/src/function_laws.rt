@@ -1,7 +1,7 @@
 // Laws of the table. Nothing is done here: the contracts are the laws.
 ghost use Rattle.std.specs.Prelude.{◌≡◌, ◌≤◌, ℕ, Some};
 ghost use Rattle.formula_tree.specs.declared.function.Function.{Function};
-ghost use Rattle.function_codes.specs.Codes.{code_of, function_of};
+ghost use Rattle.wk1_formula.specs.FunctionCodes.{code_of, function_of};
 
 /// The code of a function is that function's alone, and is one of 31 to 115.
 pub fn functions_have_codes()

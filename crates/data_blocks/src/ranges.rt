@@ -1,8 +1,8 @@
 // What the commands on data keep.
 ghost use Rattle.std.specs.Prelude.{◌≡◌};
-ghost use Rattle.desk_ranges.specs.Ranges.{no_ranges};
+ghost use Rattle.data_blocks.specs.Ranges.{no_ranges};
 
-use data_blocks::SortKey;
+use crate::SortKey;
 use grid_address::{Cell, Span};
 
 /// The last query that was made.

@@ -1,8 +1,8 @@
 -- What the commands on data keep.
 use Rattle.std.specs.Prelude.{None}
-use Rattle.desk_ranges.specs.declared.ranges.DeskRanges.{DeskRanges}
-use Rattle.desk_ranges.specs.declared.ranges.LastQuery.TheVariants as query
-use Rattle.desk_ranges.specs.declared.ranges.LastTable.TheVariants as table
+use Rattle.data_blocks.specs.declared.ranges.DeskRanges.{DeskRanges}
+use Rattle.data_blocks.specs.declared.ranges.LastQuery.TheVariants as query
+use Rattle.data_blocks.specs.declared.ranges.LastTable.TheVariants as table
 
 -- nothing is kept
 abbrev pub no_ranges : DeskRanges

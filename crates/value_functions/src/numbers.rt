@@ -2,7 +2,7 @@
 ghost use Rattle.std.specs.Prelude.{◌≡◌, ◌==◌, nat_abs, not};
 ghost use Rattle.std.specs.Ordering.{int_eq};
 ghost use Rattle.formula_tree.specs.Seen.{seen_value};
-ghost use Rattle.value_conditions.specs.Numbers.{equals_number, is_true};
+ghost use Rattle.value_functions.specs.Numbers.{equals_number, is_true};
 
 use fixed_value::Fixed;
 use formula_tree::{Value, ValueRef};

@@ -5,7 +5,7 @@ use Rattle.std.proofs.lemmas.Bool.Decides.{nat_tests}
 use Rattle.formula_tree.specs.Table.{functions}
 use Rattle.formula_tree.specs.declared.function.Function.{Function}
 use Rattle.formula_tree.specs.declared.function.Function.TheVariants as function
-use Rattle.function_codes.specs.Codes.{code_of, found_in, function_of}
+use Rattle.wk1_formula.specs.FunctionCodes.{code_of, found_in, function_of}
 
 -- the first row stands apart, so that the others are taken one by one
 pub found : (f : Function) → function_of (code_of f) ≡ Some f

@@ -2,7 +2,7 @@
 ghost use Rattle.std.specs.Prelude.{◌≡◌, ◌≤◌, ◌==◌, ◌||◌, length, true};
 ghost use Rattle.ascii_bytes.specs.Ascii as ascii;
 ghost use Rattle.formula_tree.specs.Seen.{seen_value};
-ghost use Rattle.value_conditions.specs.Patterns.{fits, is_like, is_negated, same_letter, value_is_like};
+ghost use Rattle.value_functions.specs.Patterns.{fits, is_like, is_negated, same_letter, value_is_like};
 
 use formula_tree::ValueRef;
 use lics_text::Text;

@@ -1,6 +1,6 @@
 // The table of codes.
 ghost use Rattle.std.specs.Prelude.{◌≡◌};
-ghost use Rattle.function_codes.specs.Codes as spec;
+ghost use Rattle.wk1_formula.specs.FunctionCodes as spec;
 
 use formula_tree::Function;
 
