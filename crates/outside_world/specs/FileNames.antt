@@ -19,7 +19,7 @@ folded bytes = map to_ascii_uppercase bytes
 
 -- the last four bytes, folded, are the extension
 abbrev pub has_ending : Ext → List ℕ → Bool
-has_ending ext bytes = nat_le 4 (length bytes) && bytes_eq (folded (drop (length bytes - 4) bytes)) (dotted ext)
+has_ending ext bytes = nat_le 4 (length bytes) && bytes_eq (dotted ext) (folded (drop (length bytes - 4) bytes))
 
 -- the bytes before the extension; all, where it isn't there
 abbrev pub stem_in : Ext → List ℕ → List ℕ

@@ -1,9 +1,9 @@
 /// A call of the outside failed. The object's count of faults rose in that call.
-#[derive(Clone, Copy, PartialEq, Eq)]
+#[derive(Clone, Copy)]
 pub struct Failed;
 
 /// Why a call of a shelf gives no answer.
-#[derive(Clone, Copy, PartialEq, Eq)]
+#[derive(Clone, Copy)]
 pub enum ShelfFault {
     /// The shelf failed, and its count of faults rose.
     Failed,

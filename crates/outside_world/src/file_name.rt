@@ -6,10 +6,11 @@ ghost use Rattle.outside_world.specs.declared.file_name.Ext.TheVariants as of;
 ghost use Rattle.std.specs.Str.{bytes_eq};
 
 use byte_list::ByteList;
+use lics_text::is_name;
 use std::marker::Model;
 
 /// Which kind of file a name is for.
-#[derive(Clone, Copy, PartialEq, Eq)]
+#[derive(Clone, Copy)]
 pub enum Ext {
     /// A worksheet, `.WK1`.
     Wk1,
@@ -107,15 +108,7 @@ impl FileName {
 fn has_ending(ext: Ext, bytes: &[u8]) -> bool
     ensures { result ≡ has_ending ext bytes.now }
 {
-    if bytes.len() < 4 {
-        return false;
-    }
-    let end = &bytes[bytes.len() - 4..];
-    let wanted = ext.dotted();
-    end[0].to_ascii_uppercase() == wanted[0]
-        && end[1].to_ascii_uppercase() == wanted[1]
-        && end[2].to_ascii_uppercase() == wanted[2]
-        && end[3].to_ascii_uppercase() == wanted[3]
+    bytes.len() >= 4 && is_name(&ext.dotted(), &bytes[bytes.len() - 4..])
 }
 
 // What stands before the extension, where it is there.
