@@ -5,7 +5,7 @@ ghost use Rattle.cell_format.specs.Format.{shape_by, shape_of, special, HasFewPl
 use grid_address::Format;
 
 /// How a day is shown: 01-Jun-87, 01-Jun or Jun-87.
-#[derive(Clone, Copy, PartialEq, Eq)]
+#[derive(Clone, Copy)]
 pub enum DateForm {
     DayMonthYear,
     DayMonth,
@@ -14,7 +14,7 @@ pub enum DateForm {
 
 /// What a format byte asks for, without its protection. The first five have their decimals, 0 to 15.
 /// (Worksheet file format.)
-#[derive(Clone, Copy, PartialEq, Eq)]
+#[derive(Clone, Copy)]
 pub enum Shape {
     Fixed(u8),
     Scientific(u8),

@@ -1,7 +1,7 @@
 // The ways in which the pointer moves.
 
 /// An arrow.
-#[derive(Clone, Copy, PartialEq, Eq)]
+#[derive(Clone, Copy)]
 pub enum Arrow {
     Up,
     Down,
@@ -10,7 +10,7 @@ pub enum Arrow {
 }
 
 /// Where a key moves the pointer.
-#[derive(Clone, Copy, PartialEq, Eq)]
+#[derive(Clone, Copy)]
 pub enum Way {
     /// It stays.
     Stay,

@@ -10,7 +10,7 @@ use sheet_store::SheetFault;
 use work_sheet::Sheet;
 
 /// What a command came to.
-#[derive(Clone, Copy, PartialEq, Eq)]
+#[derive(Clone, Copy)]
 pub enum CommandEnd {
     /// It was carried out.
     Finished,

@@ -9,7 +9,7 @@ const PERCENT: u8 = 0x30;
 const COMMA: u8 = 0x40;
 
 /// A format that a menu sets, with its decimals where it has some; `Default` is that of the sheet.
-#[derive(Clone, Copy, PartialEq, Eq)]
+#[derive(Clone, Copy)]
 pub enum FormatChoice {
     Fixed(u8),
     Currency(u8),

@@ -13,7 +13,7 @@ use range_names::Names;
 use session_rooms::Answers;
 
 /// Which range is kept: that of a sort, or one of a query's.
-#[derive(Clone, Copy, PartialEq, Eq)]
+#[derive(Clone, Copy)]
 pub enum RangeSetting {
     Sort,
     Input,
@@ -22,7 +22,7 @@ pub enum RangeSetting {
 }
 
 /// Which of a sort's keys is kept.
-#[derive(Clone, Copy, PartialEq, Eq)]
+#[derive(Clone, Copy)]
 pub enum KeySetting {
     Primary,
     Secondary,

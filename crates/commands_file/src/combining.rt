@@ -24,7 +24,7 @@ use work_sheet::Sheet;
 const COLS: u16 = 256;
 
 /// How a file's cells are combined with those of the sheet.
-#[derive(Clone, Copy, PartialEq, Eq)]
+#[derive(Clone, Copy)]
 pub enum Combining {
     /// They take the place of the sheet's.
     Copy,

@@ -16,7 +16,7 @@ use sheet_store::{CellState, SavedSheet, Store};
 use work_sheet::Sheet;
 
 /// What is saved of cells.
-#[derive(Clone, Copy, PartialEq, Eq)]
+#[derive(Clone, Copy)]
 pub enum Extracting {
     /// What they hold.
     Formulas,

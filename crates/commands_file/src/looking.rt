@@ -9,7 +9,7 @@ use outside_world::{FileName, Memory, Shelf, ShelfFault};
 use session_rooms::Answers;
 
 /// What a look at the shelf comes to.
-#[derive(Clone, Copy, PartialEq, Eq)]
+#[derive(Clone, Copy)]
 pub enum Looked {
     /// Whether the file is there.
     There(bool),

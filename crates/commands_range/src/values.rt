@@ -20,7 +20,7 @@ use sheet_store::Writes;
 use work_sheet::Sheet;
 
 /// How the values of a span are laid out where they are written.
-#[derive(Clone, Copy, PartialEq, Eq)]
+#[derive(Clone, Copy)]
 pub enum Layout {
     /// As they stand.
     Straight,

@@ -15,7 +15,7 @@ use sheet_shifts::Shift;
 use work_sheet::Sheet;
 
 /// What becomes of the columns or the rows that a span has.
-#[derive(Clone, Copy, PartialEq, Eq)]
+#[derive(Clone, Copy)]
 pub enum LineEdit {
     InsertColumns,
     InsertRows,

@@ -5,7 +5,7 @@ use sheet_store::SheetFault;
 
 /// Why a block is refused: the step of a fill is 0, a table has one row or one column, an input cell lies in its
 /// table (the first given), or the sheet refuses.
-#[derive(Clone, Copy, PartialEq, Eq)]
+#[derive(Clone, Copy)]
 pub enum BlockFault {
     ZeroStep,
     NoTable,

@@ -6,7 +6,7 @@ use crate::SortKey;
 use grid_address::{Cell, Span};
 
 /// The last query that was made.
-#[derive(Clone, Copy, PartialEq, Eq)]
+#[derive(Clone, Copy)]
 pub enum LastQuery {
     Nothing,
     Extract,

@@ -3,7 +3,7 @@ use grid_address::Cell;
 
 /// Why a query is refused: the first row of the input names no fields, a header names none of them, or the output
 /// has too few rows for so many records.
-#[derive(Clone, Copy, PartialEq, Eq)]
+#[derive(Clone, Copy)]
 pub enum QueryFault {
     NoFieldRow,
     FieldAbsent(Cell),

@@ -9,7 +9,7 @@ use lics_text::Line;
 use range_names::NameFault;
 
 /// Why a command, an answer or a key is refused. An answer is named by its place among the answers, counted from 0.
-#[derive(Clone, Copy, PartialEq, Eq)]
+#[derive(Clone, Copy)]
 pub enum CommandError {
     /// The answer is neither an address, nor a span, nor fit to be a name.
     InvalidAddress(usize),

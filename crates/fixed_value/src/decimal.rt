@@ -9,7 +9,7 @@ ghost use Rattle.fixed_value.specs.Decimals.{behind_digits, decimal_of, fraction
 use crate::Fixed;
 
 /// What bytes spell as a decimal.
-#[derive(Clone, Copy, PartialEq, Eq)]
+#[derive(Clone, Copy)]
 pub enum Decimal {
     Num(Fixed),
     TooLarge,

@@ -11,7 +11,7 @@ const FRACTIONS: u64 = 4_503_599_627_370_496;
 const SIGN: u64 = 9_223_372_036_854_775_808;
 
 /// What the bits of a double hold.
-#[derive(Clone, Copy, PartialEq, Eq)]
+#[derive(Clone, Copy)]
 pub enum DoubleRead {
     Num(Fixed),
     Na,

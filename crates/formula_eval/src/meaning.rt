@@ -24,7 +24,7 @@ use std::alloc::Global;
 use value_functions::{binary, denied, negated};
 
 /// A count of evaluations. It stays at the last number that it can hold.
-#[derive(Clone, Copy, PartialEq, Eq, Drop)]
+#[derive(Clone, Copy, Drop)]
 pub struct Tally {
     count: u64,
 }

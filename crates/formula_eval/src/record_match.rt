@@ -14,7 +14,7 @@ use std::alloc::Global;
 
 /// Whether a record matches: it does or doesn't, the first row of the input names no fields, or a header of the
 /// criterion above a number or a label names none of them (the first such header).
-#[derive(Clone, Copy, PartialEq, Eq)]
+#[derive(Clone, Copy)]
 pub enum Match {
     Yes,
     No,

@@ -1,7 +1,7 @@
 // Why a text spells no formula.
 
 /// Why a text spells no formula. A place is the index of a byte in the text.
-#[derive(Clone, Copy, PartialEq, Eq)]
+#[derive(Clone, Copy)]
 pub enum ParseFault {
     /// Nothing that may stand here begins at this byte.
     Unexpected(usize),

@@ -14,7 +14,7 @@ use lics_text::{MAX_LEN, Text};
 use std::alloc::Global;
 
 // The innermost open bracket: a plain one or none, or a function's with so many complete arguments.
-#[derive(Clone, Copy, PartialEq, Eq)]
+#[derive(Clone, Copy)]
 pub enum Bracket {
     Plain,
     Call(Function, usize),

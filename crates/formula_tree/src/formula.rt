@@ -19,7 +19,7 @@ use std::marker::Model;
 use std::rc::Rc;
 
 /// Why a tree is no formula's: it is deeper than 256, or it has no formula's shape.
-#[derive(Clone, Copy, PartialEq, Eq)]
+#[derive(Clone, Copy)]
 pub enum TreeFault {
     TooDeep,
     BadShape,

@@ -1,5 +1,5 @@
 /// A function that a formula may call (Release 2 manual). `Pointed` is @@, the value where a text points to.
-#[derive(Clone, Copy, PartialEq, Eq)]
+#[derive(Clone, Copy)]
 pub enum Function {
     Na,
     Err,

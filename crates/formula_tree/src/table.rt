@@ -8,7 +8,7 @@ use crate::Function;
 const MOST_ARGUMENTS: usize = 255;
 
 /// How many arguments a function takes: exactly so many, or at least so many and at most 255.
-#[derive(Clone, Copy, PartialEq, Eq)]
+#[derive(Clone, Copy)]
 pub enum Counts {
     Exactly(u8),
     AtLeast(u8),

@@ -9,13 +9,13 @@ use crate::{COLUMNS, Cell, ROWS, Span};
 
 /// The bytes are no address, or no span: `at` is the first byte that can't go on, or the number of bytes where they end
 /// too early.
-#[derive(Clone, Copy, PartialEq, Eq)]
+#[derive(Clone, Copy)]
 pub struct NotAnAddress {
     pub at: usize,
 }
 
 // How far an address is read.
-#[derive(Clone, Copy, PartialEq, Eq)]
+#[derive(Clone, Copy)]
 enum Progress {
     Nothing,
     Letter(u8),

@@ -6,7 +6,7 @@ ghost use Rattle.key_words.specs.Commands as spec;
 use lics_text::name_in;
 
 /// A command of macros, by its name (Release 2 manual), in the manual's order with the words for text files last.
-#[derive(Clone, Copy, PartialEq, Eq)]
+#[derive(Clone, Copy)]
 pub enum Command {
     Branch,
     Dispatch,
@@ -104,7 +104,7 @@ pub fn command_named(name: &[u8]) -> Option<Command>
 }
 
 /// What a word of a slash, X and a letter stands for.
-#[derive(Clone, Copy, PartialEq, Eq)]
+#[derive(Clone, Copy)]
 pub enum SlashWord {
     /// A command that takes no argument.
     Alone(Command),

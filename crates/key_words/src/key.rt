@@ -5,7 +5,7 @@ use lics_text::TextByte;
 
 /// A key of Release 2, or one of this project's additions, which are Break and Undo. A typed byte is 32 to 255, and Alt
 /// comes with its letter.
-#[derive(Clone, Copy, PartialEq, Eq)]
+#[derive(Clone, Copy)]
 pub enum Key {
     Byte(TextByte),
     Enter,

@@ -6,7 +6,7 @@ ghost use Rattle.ascii_bytes.specs.Ascii as ascii;
 use std::marker::Model;
 
 /// A letter, A to Z.
-#[derive(Clone, Copy, PartialEq, Eq)]
+#[derive(Clone, Copy)]
 pub struct Letter {
     byte: u8,
 }

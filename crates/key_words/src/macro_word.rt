@@ -11,14 +11,14 @@ use crate::name::{Named, look_up};
 use lics_text::TextByte;
 
 /// A part of a text: the bytes from one offset on up to another.
-#[derive(Clone, Copy, PartialEq, Eq)]
+#[derive(Clone, Copy)]
 pub struct Cut {
     pub from: usize,
     pub to: usize,
 }
 
 /// The arguments of a word.
-#[derive(Clone, Copy, PartialEq, Eq)]
+#[derive(Clone, Copy)]
 pub enum Arguments {
     /// None: no space stands behind the word's name.
     Nothing,
@@ -32,7 +32,7 @@ pub enum Arguments {
 }
 
 /// A word of a macro's text.
-#[derive(Clone, Copy, PartialEq, Eq)]
+#[derive(Clone, Copy)]
 pub enum MacroWord {
     /// A key.
     Key(Key),

@@ -8,7 +8,7 @@ use lics_text::name_in;
 use std::marker::Model;
 
 /// What a name in key notation stands for.
-#[derive(Clone, Copy, PartialEq, Eq)]
+#[derive(Clone, Copy)]
 pub enum Named {
     /// A key, behind which a number of repeats may stand.
     Repeated(Key),

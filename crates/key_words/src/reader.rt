@@ -9,7 +9,7 @@ use crate::Key;
 use crate::begun::{Begun, Next};
 
 /// What a byte came to.
-#[derive(Clone, Copy, PartialEq, Eq)]
+#[derive(Clone, Copy)]
 pub enum Fed {
     /// A word has ended: a key, to be taken so many times, 1 to 9999.
     Key(Key, u16),

@@ -5,7 +5,7 @@ ghost use Rattle.ascii_bytes.specs.Ascii as ascii;
 use std::marker::Model;
 
 /// A byte that a text may hold: 32 to 255.
-#[derive(Clone, Copy, PartialEq, Eq)]
+#[derive(Clone, Copy)]
 pub struct TextByte {
     byte: u8,
 }

@@ -2,11 +2,11 @@
 use std::alloc::{AllocError, AllocFailed};
 
 /// Want of memory.
-#[derive(Clone, Copy, PartialEq, Eq)]
+#[derive(Clone, Copy)]
 pub struct Memory;
 
 /// Why a list of bytes is no text.
-#[derive(Clone, Copy, PartialEq, Eq)]
+#[derive(Clone, Copy)]
 pub enum TextFault {
     /// There would be more than 240 bytes.
     TooLong,

@@ -15,7 +15,7 @@ use macro_words::{Deed, Move, Row, Running, return_row, row};
 use work_sheet::Sheet;
 
 /// What a step of a macro comes to.
-#[derive(Clone, Copy, PartialEq, Eq)]
+#[derive(Clone, Copy)]
 pub enum StepEnd {
     /// A key is typed, as by hand.
     Types(Key),

@@ -17,7 +17,7 @@ use range_names::Names;
 use std::alloc::Global;
 
 /// Why a macro stops with an error.
-#[derive(Clone, Copy, PartialEq, Eq)]
+#[derive(Clone, Copy)]
 pub enum MacroFault {
     /// No name is a backslash and the letter that was given with Alt.
     NoSuchMacro,
@@ -32,7 +32,7 @@ pub enum MacroFault {
 }
 
 /// What a macro does next.
-#[derive(Clone, Copy, PartialEq, Eq)]
+#[derive(Clone, Copy)]
 pub enum Unit {
     /// It types a key.
     Key(Key),

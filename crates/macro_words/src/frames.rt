@@ -10,7 +10,7 @@ use std::marker::Model;
 
 /// A loop that FOR began: the place behind its word, the cell that counts, the cell whose routine it calls, and the
 /// number that the count may not be past, with the step.
-#[derive(Clone, Copy, PartialEq, Eq)]
+#[derive(Clone, Copy)]
 pub struct Loop {
     pub behind: Spot,
     pub counter: Cell,
@@ -20,7 +20,7 @@ pub struct Loop {
 }
 
 /// What a return goes back to.
-#[derive(Clone, Copy, PartialEq, Eq)]
+#[derive(Clone, Copy)]
 pub enum Frame {
     /// A call: the place of its word, and the place to go on at.
     Call(Spot, Spot),

@@ -7,7 +7,7 @@ use macro_text::{MacroFault, Position, Spot};
 use sheet_store::Writes;
 
 /// Where a macro goes on after an error, and the cell that takes its message.
-#[derive(Clone, Copy, PartialEq, Eq)]
+#[derive(Clone, Copy)]
 pub struct Handler {
     pub place: Cell,
     pub message: Option<Cell>,
@@ -22,7 +22,7 @@ pub struct Running {
 }
 
 /// How a word moves the macro, which stands behind the word already.
-#[derive(Clone, Copy, PartialEq, Eq)]
+#[derive(Clone, Copy)]
 pub enum Move {
     /// It goes on where it stands.
     Stay,

@@ -29,7 +29,7 @@ use sheet_store::{Order, Settings, Store};
 use std::alloc::Global;
 
 /// Whether a circle is told after a recalculation.
-#[derive(Clone, Copy, PartialEq, Eq)]
+#[derive(Clone, Copy)]
 pub struct Circ(pub bool);
 
 // Those of the cells that are in the set.

@@ -16,7 +16,7 @@ pub struct PrintSettings {
 }
 
 /// Why there is no report, in the order in which the causes are tried.
-#[derive(Clone, Copy, PartialEq, Eq)]
+#[derive(Clone, Copy)]
 pub enum PrintFault {
     /// The page has no room for a row, or none for a byte beside the margin.
     PageTooSmall,

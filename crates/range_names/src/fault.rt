@@ -1,5 +1,5 @@
 /// Why a call on names is refused, in the order in which the causes are tried.
-#[derive(Clone, Copy, PartialEq, Eq)]
+#[derive(Clone, Copy)]
 pub enum NameFault {
     /// A name has no bytes.
     Empty,

@@ -9,7 +9,7 @@ use grid_address::{COLUMNS, Cell, ROWS, Ref, Span};
 use lics_text::Memory;
 
 /// Lines inserted or deleted: the first line and the count.
-#[derive(Clone, Copy, PartialEq, Eq)]
+#[derive(Clone, Copy)]
 pub enum Change {
     InsertRows(u16, u16),
     InsertColumns(u16, u16),

@@ -18,7 +18,7 @@ const LEAP_DAY_1900: u32 = 60;
 const DAYS_BEFORE_1900: u32 = 4_346_019;
 
 /// A date by year, month (1 to 12) and day of the month.
-#[derive(Clone, Copy, PartialEq, Eq)]
+#[derive(Clone, Copy)]
 pub struct Civil {
     pub year: i16,
     pub month: i8,

@@ -8,7 +8,7 @@ use jiff::civil::{DateTime, Time};
 
 /// A moment, as a clock tells it: a day number, where the clock has one, and a second of the day.
 /// Day 1 is 1 January 1900 and day 73050 is 31 December 2099; the second is below 86400.
-#[derive(Clone, Copy, PartialEq, Eq)]
+#[derive(Clone, Copy)]
 pub struct Moment {
     pub day: Option<u32>,
     pub second: u32,

@@ -4,14 +4,14 @@ ghost use Rattle.std.specs.Prelude.{◌≡◌, false, true};
 use key_words::Key;
 
 /// What a step takes: a key, or the next unit of a running macro.
-#[derive(Clone, Copy, PartialEq, Eq)]
+#[derive(Clone, Copy)]
 pub enum Event {
     Key(Key),
     Unit,
 }
 
 /// What a step answers.
-#[derive(Clone, Copy, PartialEq, Eq)]
+#[derive(Clone, Copy)]
 pub enum Stepped {
     /// The step was made.
     More,

@@ -28,7 +28,7 @@ pub struct Marks {
 }
 
 /// What the last line hangs on where no message is told.
-#[derive(Clone, Copy, PartialEq, Eq)]
+#[derive(Clone, Copy)]
 pub struct Foot {
     pub minute: Minute,
     pub marks: Marks,
@@ -36,7 +36,7 @@ pub struct Foot {
 
 /// What the lines of the screen hang on beside the cells and the line that is typed: the cell at the top left, the mode
 /// in READY and while a line is typed, and what the last line then shows.
-#[derive(Clone, Copy, PartialEq, Eq)]
+#[derive(Clone, Copy)]
 pub struct Glance {
     pub corner: Cell,
     pub mode: Option<Mode>,

@@ -6,7 +6,7 @@ use lics_text::Line;
 use menu_tree::Menu;
 
 /// How a line is typed: it began as a label or as a value, to whose end bytes are added, or it is edited at its cursor.
-#[derive(Clone, Copy, PartialEq, Eq)]
+#[derive(Clone, Copy)]
 pub enum TypingMode {
     Label,
     Value,

@@ -12,7 +12,7 @@ use wk1_file::{Wk1Fault, read};
 use work_sheet::Sheet;
 
 /// Why a start file isn't read as a sheet.
-#[derive(Clone, Copy, PartialEq, Eq)]
+#[derive(Clone, Copy)]
 pub enum NotRead {
     /// The shelf has no such file.
     NoSuchFile,
@@ -23,7 +23,7 @@ pub enum NotRead {
 }
 
 /// Why a run doesn't begin.
-#[derive(Clone, Copy, PartialEq, Eq)]
+#[derive(Clone, Copy)]
 pub enum NotBegun {
     NotRead(NotRead),
     Memory,

@@ -23,7 +23,7 @@ pub struct Options {
 }
 
 /// An option that waits for its value, which is the next word.
-#[derive(Clone, Copy, PartialEq, Eq)]
+#[derive(Clone, Copy)]
 pub enum Wanted {
     File,
     Steps,
@@ -31,7 +31,7 @@ pub enum Wanted {
 }
 
 /// What is refused of the words.
-#[derive(Clone, Copy, PartialEq, Eq)]
+#[derive(Clone, Copy)]
 pub enum Refused {
     /// The bytes of the word at this place, from this byte on.
     Part { place: usize, from: usize },

@@ -8,7 +8,7 @@ use lics_text::Memory;
 use ref_adjust::{Change, cell_moved, cell_shifted, moved, shifted, span_moved, span_shifted};
 
 /// An edit that moves cells.
-#[derive(Clone, Copy, PartialEq, Eq)]
+#[derive(Clone, Copy)]
 pub enum Shift {
     /// Rows or columns are inserted or deleted.
     Lines(Change),

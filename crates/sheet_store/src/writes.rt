@@ -81,7 +81,7 @@ pub struct SavedSheet {
 
 /// Why an edit is refused. `Protected` carries the first protected cell in row order, `PushedOff` the first filled
 /// cell in row order that would leave the sheet, and `OutOfSheet` the source span.
-#[derive(Clone, Copy, PartialEq, Eq)]
+#[derive(Clone, Copy)]
 pub enum SheetFault {
     Protected(Cell),
     PushedOff(Cell),

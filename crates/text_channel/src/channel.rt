@@ -14,7 +14,7 @@ use std::marker::Model;
 const LIMIT: usize = 67_108_864;
 
 /// Why a call of a channel gives no answer.
-#[derive(Clone, Copy, PartialEq, Eq)]
+#[derive(Clone, Copy)]
 pub enum ChannelFault {
     /// The shelf failed, and its count of faults rose.
     Failed,

@@ -30,7 +30,7 @@ pub struct Item {
 }
 
 /// What stands over one operand.
-#[derive(Clone, Copy, PartialEq, Eq)]
+#[derive(Clone, Copy)]
 pub enum One {
     Group,
     Neg,

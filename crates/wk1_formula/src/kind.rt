@@ -7,7 +7,7 @@ use crate::opcodes;
 use formula_tree::{Function, Op};
 
 /// What a byte of code stands for.
-#[derive(Clone, Copy, PartialEq, Eq)]
+#[derive(Clone, Copy)]
 pub enum Kind {
     Double,
     Reference,

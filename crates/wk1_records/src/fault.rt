@@ -1,7 +1,7 @@
 /// Why bytes are no worksheet file. A fault carries the number of its record, counted from 0; `Truncated` carries the
 /// offset at which no whole record stands, `BadCode` also the offset within the code, and `FunctionOutside` also the
 /// function's code.
-#[derive(Clone, Copy, PartialEq, Eq)]
+#[derive(Clone, Copy)]
 pub enum Wk1Fault {
     NoBof,
     Truncated(u32),

@@ -5,7 +5,7 @@ ghost use Rattle.wk1_records.specs.Kinds.{kind_of};
 use crate::numbers;
 
 /// The type of a record (worksheet file format).
-#[derive(Clone, Copy, PartialEq, Eq)]
+#[derive(Clone, Copy)]
 pub enum Kind {
     Bof,
     Eof,
