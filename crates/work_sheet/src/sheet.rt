@@ -47,6 +47,7 @@ use sheet_shifts::{Shift, names_after, refusal, store_after};
 use sheet_store::{CellState, MOST_WIDTH, Order, SavedSheet, Settings, SheetFault, Store, Writes};
 use std::alloc::Global;
 use std::marker::{Model, PhantomData};
+use std::mem::replace;
 
 /// A sheet over an evaluator: its cells and columns, its names and its settings. It keeps which formulas are dirty, so
 /// that a recalculation evaluates those alone: a formula that isn't dirty has its meaning as its value.
@@ -152,13 +153,18 @@ impl<E: Means> SheetOf<E> {
         let graph = graph_of(&store)?;
         let all = all_dirty(&store)?;
         let _ = all.len();
-        self.store = store;
-        self.graph = graph;
-        self.dirty = all;
-        self.circular = kept.circular;
-        self.stale = kept.stale;
-        self.names = names;
-        self.settings = kept.saved.settings;
+        let sheet = SheetOf {
+            store,
+            graph,
+            dirty: all,
+            circular: kept.circular,
+            stale: kept.stale,
+            names,
+            settings: kept.saved.settings,
+            with: PhantomData,
+        };
+        // An assignment would let each part of the old sheet go here, and not in one call that is proved once.
+        drop(replace(self, sheet));
         Ok(())
     }
 
@@ -545,11 +551,17 @@ impl<E: Means> SheetOf<E> {
         let graph = graph_of(&store)?;
         let formulas = all_dirty(&store)?;
         let _ = formulas.len();
-        self.store = store;
-        self.names = names;
-        self.graph = graph;
-        self.dirty = formulas;
-        mark(&mut self.stale);
+        let sheet = SheetOf {
+            store,
+            graph,
+            dirty: formulas,
+            circular: self.circular,
+            stale: true,
+            names,
+            settings: self.settings,
+            with: PhantomData,
+        };
+        drop(replace(self, sheet));
         Ok(())
     }
 
