@@ -1,11 +1,16 @@
-//! The work that bench/files measures: a worksheet file is taken from standard input, read and written. Its word is a
-//! step. `make` takes the bytes alone, `read` reads the sheet too, `write` then lets the bytes go and writes the sheet
-//! again, `write-beside` writes it while the bytes stay in memory, and `time` tells the bytes that were read and
-//! written and the microseconds of each. `read` tells the last used cell, as a number in row order, and the others how
-//! many bytes there are in the end.
+//! The work that bench/files and bench/digits measure; its word is a step or a kind of numbers. For bench/files a
+//! worksheet file is taken from standard input, read and written. `make` takes the bytes alone, `read` reads the sheet
+//! too, `write` then lets the bytes go and writes the sheet again, `write-beside` writes it while the bytes stay in
+//! memory, and `time` tells the bytes that were read and written and the microseconds of each. `read` tells the last
+//! used cell, as a number in row order, and the others how many bytes there are in the end. For bench/digits 10,000
+//! numbers of the kind `tenths`, `whole`, `rounded`, `fixed` or `hidden` are shown in cells, and the sum of their last
+//! bytes is told.
 #![tactic(auto)]
 
+mod numbers;
+
 use lics_text::Memory;
+use numbers::{kind_of, shown_sum};
 use sheet_store::SavedSheet;
 use std::alloc::Global;
 use std::env;
@@ -50,19 +55,45 @@ fn last_used(sheet: &SavedSheet) -> u64 {
     }
 }
 
+// How many bytes a sheet is written in. The sheet is let go before a fault is told.
+fn written_len(alloc: Global, sheet: SavedSheet) -> Result<u64, Stop> {
+    let written = write(alloc, &sheet);
+    drop(sheet);
+    Ok(written?.len() as u64)
+}
+
+// The last used cell of the sheet that a file is read as.
+fn last_used_in(alloc: Global, file: &[u8]) -> Result<u64, Stop> {
+    let sheet = sheet_of(alloc, file)?;
+    let last = last_used(&sheet);
+    drop(sheet);
+    Ok(last)
+}
+
 // Tells the bytes of the file and of the one that is written, and how many microseconds reading and writing took.
 fn time<W: Write>(rt: &HostRuntime, alloc: Global, file: &[u8], out: &mut W) -> Result<(), Stop> {
     let start = Instant::now(rt)?;
     let sheet = sheet_of(alloc, file)?;
-    let reading = start.elapsed(rt)?.as_micros();
-    let middle = Instant::now(rt)?;
-    let written = write(alloc, &sheet)?.len();
-    let writing = middle.elapsed(rt)?.as_micros();
+    let read = start.elapsed(rt);
+    let written = write(alloc, &sheet);
+    let both = start.elapsed(rt);
+    drop(sheet);
+    let reading = read?.as_micros();
+    let writing = both?.as_micros().saturating_sub(reading);
+    let written = written?.len();
     writeln!(out, "{} {written} {reading} {writing}", file.len())?;
     Ok(())
 }
 
-// Takes the file and does the step of the word.
+// The sum of the last bytes of numbers of the kind that a word names.
+fn sum_of(word: &str) -> Result<u64, Stop> {
+    match kind_of(word) {
+        Some(kind) => Ok(shown_sum(kind)),
+        None => Err(Stop::Word),
+    }
+}
+
+// Takes the file and does what the word names.
 fn work(rt: &HostRuntime) -> Result<(), Stop> {
     let alloc = rt.alloc();
     let mut file = Vec::new(alloc);
@@ -73,15 +104,15 @@ fn work(rt: &HostRuntime) -> Result<(), Stop> {
     };
     let told = match step.as_str() {
         "make" => file.len() as u64,
-        "read" => last_used(&sheet_of(alloc, file.as_slice())?),
+        "read" => last_used_in(alloc, file.as_slice())?,
         "write" => {
             let sheet = sheet_of(alloc, file.as_slice())?;
             drop(file);
-            write(alloc, &sheet)?.len() as u64
+            written_len(alloc, sheet)?
         }
-        "write-beside" => write(alloc, &sheet_of(alloc, file.as_slice())?)?.len() as u64,
+        "write-beside" => written_len(alloc, sheet_of(alloc, file.as_slice())?)?,
         "time" => return time(rt, alloc, file.as_slice(), &mut out),
-        _ => return Err(Stop::Word),
+        kind => sum_of(kind)?,
     };
     writeln!(out, "{told}")?;
     Ok(())
