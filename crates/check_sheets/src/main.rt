@@ -12,34 +12,14 @@
 
 mod undo;
 
-use check_cases::{Stop, Subject, check};
-use std::alloc::Global;
+use check_cases::check;
 use std::process::ExitCode;
 use undo::UndoDesk;
 
-// What answers the lines.
-#[derive(Drop)]
-struct Parts {
-    undo: UndoDesk,
-}
-
-impl Subject for Parts {
-    fn answer(&mut self, alloc: Global, line: &[u8], answer: &mut Vec<u8>) -> Result<(), Stop> {
-        self.undo.answer(alloc, line, answer)
-    }
-
-    fn turn_to(&mut self, name: &[u8]) -> Result<(), Stop> {
-        match name {
-            b"undo" => Ok(()),
-            _ => Err(Stop::Line),
-        }
-    }
-}
-
 fn main(rt: HostRuntime) -> ExitCode {
     let alloc = rt.alloc();
-    let mut parts = Parts {
-        undo: UndoDesk::new(alloc),
-    };
-    check(alloc, &mut parts, rt.reader(), &mut rt.stdout())
+    let mut desk = UndoDesk::new(alloc);
+    let status = check(alloc, &mut desk, rt.reader(), &mut rt.stdout());
+    drop(desk);
+    status
 }

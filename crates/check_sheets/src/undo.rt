@@ -9,6 +9,7 @@ use sheet_store::{CellState, SavedSheet, Store, Write as Entry, Writes};
 use sheet_undo::History;
 use std::alloc::Global;
 use std::io::Write;
+use std::mem::replace;
 use wk1_file::{read, write};
 use work_sheet::Sheet;
 
@@ -71,7 +72,7 @@ impl UndoDesk {
 
     // Begins anew.
     fn restart(&mut self, alloc: Global) -> Result<&'static [u8], Stop> {
-        *self = UndoDesk::new(alloc);
+        drop(replace(self, UndoDesk::new(alloc)));
         Ok(b"")
     }
 
@@ -110,7 +111,8 @@ impl UndoDesk {
 
     // The sheet of a file takes the place of this one.
     fn restore(&mut self, saved: SavedSheet) -> Result<&'static [u8], Stop> {
-        self.sheet = Sheet::restore(saved)?;
+        let sheet = Sheet::restore(saved)?;
+        drop(replace(&mut self.sheet, sheet));
         Ok(b"")
     }
 
@@ -170,5 +172,12 @@ impl Subject for UndoDesk {
         let word = self.follow(alloc, line)?;
         answer.extend_from_slice(word)?;
         self.tell(answer)
+    }
+
+    fn turn_to(&mut self, name: &[u8]) -> Result<(), Stop> {
+        match name {
+            b"undo" => Ok(()),
+            _ => Err(Stop::Line),
+        }
     }
 }
