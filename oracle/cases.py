@@ -1,4 +1,4 @@
-"""The data of each checking program, made from a seed: worked lines first where there are any, and then random ones."""
+"""What the data of check_calls and the stored runs draw from: worked lines, and random ones made from a seed."""
 import os
 import struct
 

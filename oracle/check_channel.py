@@ -1,4 +1,4 @@
-"""Calls of a channel over a shelf in memory: the data of this part of check_reports, and what it must answer. Its
+"""Calls of a channel over a shelf in memory: the data of this part of check_calls, and what it must answer. Its
 own text tells the lines."""
 from .cases import worked
 from .channel import Channel

@@ -1,5 +1,5 @@
-"""Reports of small worksheets: the data of check_reports, and what it must answer. Its own text tells the lines."""
-from . import formula, report
+"""Reports of small worksheets: the data of this part of check_calls, and what it must answer. Its own text tells the lines."""
+from . import formula, report, wk1
 from .address import cell_text, read_cell, read_span, span_text
 from .cases import TEXT_BYTES, worked
 from .dates import Moment
@@ -25,31 +25,10 @@ def sum_of(text):
 
 
 class Desk:
-    """A worksheet, and what a line's words do with it."""
+    """A worksheet, and what a line does with it."""
 
     def __init__(self):
         self.saved = Saved()
-
-    def clear(self, width, code):
-        self.saved = Saved()
-        self.saved.settings.width, self.saved.settings.format = int(width), int(code)
-
-    def name(self, name, span):
-        self.saved.names.create(bytes_of(name), read_span(span))
-
-    def put(self, cell, code, kind, *rest):
-        """A cell: `b` for blank, or a number, a label, or a formula with its value."""
-        cell = read_cell(cell)
-        if kind == b'b':
-            content, value = C_BLANK, BLANK
-        elif kind == b'n':
-            content, value = ('number', int(rest[0])), num(int(rest[0]))
-        elif kind == b'l':
-            text = bytes_of(rest[1])
-            content, value = ('label', int(rest[0]), text), string(text)
-        else:
-            content, value = ('formula', formula.read(bytes_of(rest[0]), cell, self.saved.names)), value_of(*rest[1:])
-        self.saved.cells[cell] = State(content, value, int(code))
 
     def generate(self, rows):
         """Takes the cells of a generated worksheet; how many of them have the sheet's format."""
@@ -72,27 +51,11 @@ class Desk:
 
     def line(self, line):
         """What a line comes to: a line of a report, or of a generated worksheet, or none."""
+        if line[:1] == b'=':
+            self.saved = wk1.read(bytes_of(line[1:]))
+            return b''
         head, *words = line.split(b' ')
-        if head in (b'p', b'q'):
-            return self.told(head == b'q', words) + b'\n'
-        if head == b'g':
-            return b'%d\n' % self.generate(*words)
-        if head == b'n':
-            self.clear(*words)
-        elif head == b'w':
-            self.saved.widths[int(words[0])] = int(words[1])
-        elif head == b'h':
-            self.saved.hidden.add(int(words[0]))
-        elif head == b'm':
-            self.name(*words)
-        else:
-            self.put(*words)
-        return b''
-
-
-def value_of(kind, held=b''):
-    """A formula's value."""
-    return {b'n': lambda: num(int(held)), b's': lambda: string(bytes_of(held)), b'e': lambda: ERR, b'a': lambda: NA}[kind]()
+        return b'%d\n' % self.generate(*words) if head == b'g' else self.told(head == b'q', words) + b'\n'
 
 
 def answers(lines):
@@ -103,6 +66,59 @@ def answers(lines):
 
 
 # ---------------------------------------------------------------- the worksheets
+
+class Worksheet:
+    """A worksheet that is made by lines: `n WIDTH FORMAT` for a new one, `w COLUMN WIDTH` for a column's own width, `h COLUMN` to hide one,
+    `m NAME SPAN` for a name, and `c CELL FORMAT CONTENT` for a cell. A content is `b` for blank, `n MILLIONTHS`, `l PREFIX TEXT` or
+    `f TEXT VALUE`, where a value is `n MILLIONTHS`, `s TEXT`, `e` for ERR or `a` for NA."""
+
+    def __init__(self):
+        self.clear(9, 113)
+
+    def clear(self, width, code):
+        self.saved = Saved()
+        self.saved.settings.width, self.saved.settings.format = int(width), int(code)
+
+    def widen(self, col, width):
+        self.saved.widths[int(col)] = int(width)
+
+    def hide(self, col):
+        self.saved.hidden.add(int(col))
+
+    def name(self, name, span):
+        self.saved.names.create(bytes_of(name), read_span(span))
+
+    def put(self, cell, code, kind, *rest):
+        """A cell: `b` for blank, or a number, a label, or a formula with its value."""
+        cell = read_cell(cell)
+        if kind == b'b':
+            content, value = C_BLANK, BLANK
+        elif kind == b'n':
+            content, value = ('number', int(rest[0])), num(int(rest[0]))
+        elif kind == b'l':
+            text = bytes_of(rest[1])
+            content, value = ('label', int(rest[0]), text), string(text)
+        else:
+            content, value = ('formula', formula.read(bytes_of(rest[0]), cell, self.saved.names)), value_of(*rest[1:])
+        self.saved.cells[cell] = State(content, value, int(code))
+
+    def told(self, lines):
+        """The lines that the program answers: a worksheet's file stands before what is asked of it."""
+        is_told = False
+        for line in lines:
+            head, *words = line.split(b' ')
+            if head in (b'g', b'p', b'q'):
+                yield from [line] if is_told else [b'=' + wk1.write(self.saved).hex().encode(), line]
+                is_told = True
+            else:
+                {b'n': self.clear, b'w': self.widen, b'h': self.hide, b'm': self.name, b'c': self.put}[head](*words)
+                is_told = False
+
+
+def value_of(kind, held=b''):
+    """A formula's value."""
+    return {b'n': lambda: num(int(held)), b's': lambda: string(bytes_of(held)), b'e': lambda: ERR, b'a': lambda: NA}[kind]()
+
 
 class Reports:
     """Small worksheets, and reports of their ranges."""
@@ -186,4 +202,5 @@ def generated():
 
 def data(r):
     """The worked lines, 1,000 reports of random worksheets, those at the most bytes, and those of generated worksheets."""
-    return worked('reports') + b''.join(line + b'\n' for line in [*Reports(r).reports(1000), *MOST, *generated()])
+    lines = [*worked('reports').splitlines(), *Reports(r).reports(1000), *MOST, *generated()]
+    return b''.join(line + b'\n' for line in Worksheet().told(lines))

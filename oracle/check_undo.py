@@ -1,4 +1,4 @@
-"""Undo: the data of check_sheets, and what it must answer. Its own text tells the lines; those of worked/undo and of `cases.Sheets` are told
+"""Undo: the data of this part of check_calls, and what it must answer. Its own text tells the lines; those of worked/undo and of `cases.Sheets` are told
 by them."""
 from . import wk1
 from .address import cell_text, read_span, row_order

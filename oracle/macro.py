@@ -9,7 +9,7 @@ from .outside import Failed, file_name
 ERR_CONTENT = ('formula', ('call', 0x20, []))
 NA_CONTENT = ('formula', ('call', 0x1F, []))
 LIMIT = 999_999_999_999_999
-# command words that are none as yet; a checking program sets it
+# command words that are none as yet; `built.leave_out` sets it
 NOT_BUILT = set()
 APOSTROPHE = ord("'")
 

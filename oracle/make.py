@@ -1,7 +1,7 @@
-"""The data of a checking program: each line that it answers, and below it the lines of the answer that is wanted.
+"""The data of check_calls: each line that it answers, and below it the lines of the answer that is wanted.
 
-python3 -B -m oracle.make NAME [SEED]. A line that begins a case stands behind `>`, a further one of the case behind `+`, and an answer's line
-behind `=`. The data of each part of a program stand one behind another, each behind a line `#` with its name."""
+python3 -B -m oracle.make [SEED]. A line that begins a case stands behind `>`, a further one of the case behind `+`, and an answer's line
+behind `=`. The data of each part stand one behind another, each behind a line `#` with its name."""
 import random
 import sys
 
@@ -9,8 +9,8 @@ from . import check_channel, check_reports, check_undo
 from .built import leave_out
 from .cases import SEED
 
-# the parts of each program: their data and answers, and how a line begins that makes a fresh sheet or shelf
-PARTS = {'reports': {'reports': (check_reports, b'n'), 'channel': (check_channel, b'n')}, 'sheets': {'undo': (check_undo, b':')}}
+# the parts: their data and answers, and how a line begins that makes a fresh sheet or shelf
+PARTS = {'reports': (check_reports, b'='), 'channel': (check_channel, b'n'), 'undo': (check_undo, b':')}
 
 
 def made(name, of, begin, seed):
@@ -21,17 +21,17 @@ def made(name, of, begin, seed):
         yield from (b'=' + told + b'\n' for told in answer.split(b'\n')[:-1])
 
 
-def whole(program, seed=SEED):
-    """The standard input of crates/check_NAME."""
-    for name, (of, begin) in PARTS[program].items():
+def whole(seed=SEED):
+    """The standard input of crates/check_calls."""
+    for name, (of, begin) in PARTS.items():
         yield b'#' + name.encode() + b'\n'
         yield from made(name, of, begin, seed)
 
 
 def main(words):
     leave_out()
-    if not words or words[0] not in PARTS or len(words) > 2:
-        print('oracle.make takes one of', *PARTS, 'and a seed', file=sys.stderr)
+    if len(words) > 1:
+        print('oracle.make takes a seed', file=sys.stderr)
         return 2
     for line in whole(*words):
         sys.stdout.buffer.write(line)

@@ -1,25 +1,14 @@
 // Answers compared with those that are wanted.
 ghost use Rattle.std.specs.Prelude.{◌≡◌, ◌<◌, ◌≤◌, true, false};
 
-use crate::Stop;
+use crate::parts::Parts;
+use crate::stop::Stop;
 use std::alloc::Global;
 use std::io::{BufRead, Write};
 use std::process::ExitCode;
 
 /// How many answers that differ are printed.
 const MOST_TOLD: u64 = 5;
-
-/// What answers lines.
-pub trait Subject {
-    /// Answers a line: writes the lines of its answer, each with its end, or nothing. `Stop::Line` is a line that
-    /// doesn't say what it should.
-    fn answer(&mut self, alloc: Global, line: &[u8], answer: &mut Vec<u8>) -> Result<(), Stop>;
-
-    /// Lets what has this name answer from here on. `Stop::Line` is a name of nothing that answers here.
-    fn turn_to(&mut self, _name: &[u8]) -> Result<(), Stop> {
-        Err(Stop::Line)
-    }
-}
 
 /// How many cases and answers there were, and how many of these differ.
 #[derive(Clone, Copy)]
@@ -119,24 +108,24 @@ impl Comparison {
     }
 
     // A line of the case is answered.
-    fn ask<S: Subject>(
+    fn ask(
         &mut self,
         alloc: Global,
-        subject: &mut S,
+        parts: &mut Parts,
         line: &[u8],
         asked: &[u8],
     ) -> Result<(), Stop> {
         self.case.extend_from_slice(line)?;
         self.case.push(b'\n')?;
         self.asked = self.line;
-        subject.answer(alloc, asked, &mut self.found)
+        parts.answer(alloc, asked, &mut self.found)
     }
 
     // Does what a line of the data says.
-    fn follow<S: Subject, W: Write>(
+    fn follow<W: Write>(
         &mut self,
         alloc: Global,
-        subject: &mut S,
+        parts: &mut Parts,
         line: &[u8],
         out: &mut W,
     ) -> Result<(), Stop> {
@@ -151,32 +140,32 @@ impl Comparison {
                 self.settle(out)?;
                 self.tally.cases = self.tally.cases.saturating_add(1);
                 self.case.clear();
-                self.ask(alloc, subject, line, asked)
+                self.ask(alloc, parts, line, asked)
             }
             [b'+', asked @ ..] => {
                 self.settle(out)?;
-                self.ask(alloc, subject, line, asked)
+                self.ask(alloc, parts, line, asked)
             }
             [b'#', name @ ..] => {
                 self.settle(out)?;
                 self.case.clear();
-                subject.turn_to(name)
+                parts.turn_to(name)
             }
             _ => Err(Stop::Line),
         }
     }
 
     // Does what the lines of the data say, and prints the counts.
-    fn follow_all<S: Subject, R: BufRead + Drop, W: Write>(
+    fn follow_all<R: BufRead + Drop, W: Write>(
         &mut self,
         alloc: Global,
-        subject: &mut S,
+        parts: &mut Parts,
         data: R,
         out: &mut W,
     ) -> Result<ExitCode, Stop> {
         for line in data.split(alloc, b'\n') {
             match line {
-                Ok(line) => self.follow(alloc, subject, line.as_slice(), out)?,
+                Ok(line) => self.follow(alloc, parts, line.as_slice(), out)?,
                 Err(_) => return Err(Stop::Stream),
             }
         }
@@ -186,17 +175,15 @@ impl Comparison {
     }
 }
 
-/// Asks a subject all that the data tells, and prints what differs, and the counts. The status is 0 where each answer
+/// Asks the parts all that the data tells, and prints what differs, and the counts. The status is 0 where each answer
 /// is the one that is wanted, 1 for want of memory, 2 where a stream failed, 3 where a line doesn't say what it
 /// should, which is told, and 4 where an answer differs.
-pub fn check<S: Subject, R: BufRead + Drop, W: Write>(
-    alloc: Global,
-    subject: &mut S,
-    data: R,
-    out: &mut W,
-) -> ExitCode {
+pub fn check<R: BufRead + Drop, W: Write>(alloc: Global, data: R, out: &mut W) -> ExitCode {
+    let mut parts = Parts::new(alloc);
     let mut comparison = Comparison::new(alloc);
-    match comparison.follow_all(alloc, subject, data, out) {
+    let outcome = comparison.follow_all(alloc, &mut parts, data, out);
+    drop(parts);
+    match outcome {
         Ok(status) => status,
         Err(Stop::Memory) => ExitCode::from(1),
         Err(Stop::Stream) => ExitCode::from(2),

@@ -1,18 +1,17 @@
 // A worksheet, and what the lines do with it.
-ghost use Rattle.std.specs.Prelude.{◌≤◌, IfOk};
 
-use crate::digits::write_bytes;
-use crate::states::{state_in, text_in};
-use check_cases::{Stop, Subject, Words, bytes_of, sum_of};
+use crate::stop::Stop;
+use crate::words::{Words, sum_of, worksheet_of, write_bytes};
 use grid_address::{Format, Span};
 use outside_world::ByteBuffer;
 use print_report::{PrintFault, PrintSettings, report};
 use range_names::Names;
 use serial_date::Moment;
 use sheet_gen::generate;
-use sheet_store::{MOST_WIDTH, SavedSheet, Settings, Store};
+use sheet_store::{SavedSheet, Settings, Store};
 use std::alloc::Global;
 use std::io::Write;
+use std::mem::replace;
 
 /// A worksheet.
 #[derive(Drop)]
@@ -26,21 +25,9 @@ const MOST_GENERATED: u16 = 8000;
 // The last day of the calendar.
 const LAST_DAY: u32 = 73_050;
 
-// A width of 1 to 240.
-fn width_in(words: &mut Words) -> Result<u8, Stop>
-    ensures some { IfOk result (λ w. 1 ≤ w) }
-    ensures most { IfOk result (λ w. w ≤ MOST_WIDTH) }
-{
-    let width = words.byte()?;
-    if width < 1 || width > MOST_WIDTH {
-        return Err(Stop::Line);
-    }
-    Ok(width)
-}
-
 // A day; 0 stands for none.
 fn moment_in(words: &mut Words) -> Result<Moment, Stop> {
-    match u32::try_from(words.count()?) {
+    match u32::try_from(words.number()) {
         Ok(0) => Ok(Moment::unknown()),
         Ok(day) if day <= LAST_DAY => Ok(Moment {
             day: Some(day),
@@ -57,8 +44,8 @@ fn settings_in(alloc: Global, words: &mut Words) -> Result<PrintSettings, Stop> 
     let top = words.byte()?;
     let bottom = words.byte()?;
     let length = words.byte()?;
-    let header = text_in(alloc, words)?;
-    let footer = text_in(alloc, words)?;
+    let header = words.text(alloc)?;
+    let footer = words.text(alloc)?;
     Ok(PrintSettings {
         header,
         footer,
@@ -101,46 +88,10 @@ impl ReportDesk {
         }
     }
 
-    // Begins a worksheet of this width and format.
-    fn clear(&mut self, alloc: Global, words: &mut Words) -> Result<(), Stop> {
-        *self = ReportDesk::new(alloc);
-        let width = width_in(words)?;
-        let format = Format(words.byte()?);
-        let fresh = Settings::fresh();
-        self.saved.settings = Settings {
-            automatic: fresh.automatic,
-            passes: fresh.passes,
-            prefix: fresh.prefix,
-            format,
-            width,
-            protection: fresh.protection,
-            pointer: fresh.pointer,
-            order: fresh.order,
-        };
-        Ok(())
-    }
-
-    // Puts a cell.
-    fn put(&mut self, alloc: Global, words: &mut Words) -> Result<(), Stop> {
-        let cell = words.cell()?;
-        let state = state_in(alloc, words, cell, &self.saved.names)?;
-        self.saved.store.put(cell, state)?;
-        Ok(())
-    }
-
-    // Names a span.
-    fn name(&mut self, alloc: Global, words: &mut Words) -> Result<(), Stop> {
-        let name = bytes_of(alloc, words.next())?;
-        match self.saved.names.create(name.as_slice(), words.span()?) {
-            Ok(()) => Ok(()),
-            Err(_) => Err(Stop::Line),
-        }
-    }
-
-    // Gives a column a width of its own.
-    fn widen(&mut self, words: &mut Words) -> Result<(), Stop> {
-        let col = words.byte()?;
-        self.saved.store.set_width(col, Some(width_in(words)?));
+    // The worksheet of a file takes the place of this one.
+    fn take(&mut self, alloc: Global, digits: &[u8]) -> Result<(), Stop> {
+        let saved = worksheet_of(alloc, digits)?;
+        drop(replace(&mut self.saved, saved));
         Ok(())
     }
 
@@ -161,10 +112,10 @@ impl ReportDesk {
     fn generate<W: Write>(
         &mut self,
         alloc: Global,
-        words: &mut Words,
+        digits: &[u8],
         out: &mut W,
     ) -> Result<(), Stop> {
-        let Ok(rows) = u16::try_from(words.count()?) else {
+        let Ok(rows) = u16::try_from(Words::of(digits).number()) else {
             return Err(Stop::Line);
         };
         if rows < 1 || rows > MOST_GENERATED {
@@ -179,32 +130,24 @@ impl ReportDesk {
     fn print<W: Write>(
         &self,
         alloc: Global,
-        words: &mut Words,
+        line: &[u8],
         is_whole: bool,
         out: &mut W,
     ) -> Result<(), Stop> {
+        let mut words = Words::of(line);
         let range = words.span()?;
-        let now = moment_in(words)?;
-        let set = settings_in(alloc, words)?;
+        let now = moment_in(&mut words)?;
+        let set = settings_in(alloc, &mut words)?;
         write_report(report(alloc, range, &set, &self.saved, &now), is_whole, out)
     }
-}
 
-impl Subject for ReportDesk {
-    fn answer(&mut self, alloc: Global, line: &[u8], answer: &mut Vec<u8>) -> Result<(), Stop> {
-        let mut words = Words::of(line);
-        match words.next() {
-            b"n" => self.clear(alloc, &mut words),
-            b"w" => self.widen(&mut words),
-            b"h" => {
-                self.saved.store.set_hidden(words.byte()?, true);
-                Ok(())
-            }
-            b"m" => self.name(alloc, &mut words),
-            b"c" => self.put(alloc, &mut words),
-            b"g" => self.generate(alloc, &mut words, answer),
-            b"p" => self.print(alloc, &mut words, false, answer),
-            b"q" => self.print(alloc, &mut words, true, answer),
+    /// Answers a line.
+    pub fn answer(&mut self, alloc: Global, line: &[u8], answer: &mut Vec<u8>) -> Result<(), Stop> {
+        match line {
+            [b'=', digits @ ..] => self.take(alloc, digits),
+            [b'g', b' ', rows @ ..] => self.generate(alloc, rows, answer),
+            [b'p', b' ', words @ ..] => self.print(alloc, words, false, answer),
+            [b'q', b' ', words @ ..] => self.print(alloc, words, true, answer),
             _ => Err(Stop::Line),
         }
     }

@@ -1,18 +1,19 @@
 // A shelf, a channel over it, and what the lines ask of them.
 
-use crate::digits::write_bytes;
-use check_cases::{Stop, Subject, Words, bytes_of, whole_of};
+use crate::stop::Stop;
+use crate::words::{Words, bytes_of, write_bytes};
 use lics_text::{Memory, Text};
 use outside_world::{ByteBuffer, Ext, FileName, MapShelf, Shelf, ShelfFault};
 use std::alloc::Global;
 use std::io::{Error, Write};
+use std::mem::replace;
 use text_channel::{Access, Channel, ChannelFault};
 
 // The most bytes of one read.
-const MOST_READ: usize = 240;
+const MOST_READ: u64 = 240;
 
 // The farthest position that a call can name.
-const FARTHEST: usize = 4_294_967_295;
+const FARTHEST: u64 = 4_294_967_295;
 
 /// What is answered to a line.
 #[derive(Drop)]
@@ -75,7 +76,7 @@ fn bytes_in(alloc: Global, words: &mut Words) -> Result<ByteBuffer, Stop> {
 
 // A byte that is doubled so many times, with some bytes behind.
 fn doubled(alloc: Global, words: &mut Words) -> Result<ByteBuffer, Stop> {
-    let count = words.count()?;
+    let count = words.number();
     let more = bytes_in(alloc, words)?;
     let mut list = ByteBuffer::from_slice(alloc, b"x")?;
     for _ in 0..count {
@@ -89,8 +90,8 @@ fn doubled(alloc: Global, words: &mut Words) -> Result<ByteBuffer, Stop> {
 // Two numbers; 0 where there is none.
 fn numbers_in(alloc: Global, words: &mut Words) -> Result<Vec<u64>, Stop> {
     let mut list = Vec::new(alloc);
-    list.push(whole_of(words.next()).unsigned_abs())?;
-    list.push(whole_of(words.next()).unsigned_abs())?;
+    list.push(words.number())?;
+    list.push(words.number())?;
     Ok(list)
 }
 
@@ -108,6 +109,12 @@ impl ChannelDesk {
             channel: Channel::new(),
             shelf: MapShelf::new(failing),
         }
+    }
+
+    // Begins anew, on a shelf of which these calls fail.
+    fn restart(&mut self, failing: Vec<u64>) -> Result<Answer, Stop> {
+        drop(replace(self, ChannelDesk::new(failing)));
+        Ok(Answer::Done(true))
     }
 
     // Puts a file on the shelf.
@@ -135,7 +142,7 @@ impl ChannelDesk {
 
     // Reads so many bytes.
     fn read(&mut self, alloc: Global, words: &mut Words) -> Result<Answer, Stop> {
-        let count = words.count()?.min(MOST_READ) as u8;
+        let count = words.number().min(MOST_READ) as u8;
         Ok(Answer::Text(self.channel.read(alloc, count)?))
     }
 
@@ -147,17 +154,14 @@ impl ChannelDesk {
 
     // Sets the position.
     fn set_position(&mut self, words: &mut Words) -> Result<Answer, Stop> {
-        let at = words.count()?.min(FARTHEST) as u32;
+        let at = words.number().min(FARTHEST) as u32;
         Ok(Answer::Done(self.channel.set_position(at)))
     }
 
     // Makes the call of a line.
     fn call(&mut self, alloc: Global, words: &mut Words) -> Result<Answer, Stop> {
         match words.next() {
-            b"n" => {
-                *self = ChannelDesk::new(numbers_in(alloc, words)?);
-                Ok(Answer::Done(true))
-            }
+            b"n" => self.restart(numbers_in(alloc, words)?),
             b"p" => {
                 let name = name_in(words)?;
                 self.put(name, bytes_in(alloc, words)?)
@@ -178,10 +182,9 @@ impl ChannelDesk {
             _ => Err(Stop::Line),
         }
     }
-}
 
-impl Subject for ChannelDesk {
-    fn answer(&mut self, alloc: Global, line: &[u8], answer: &mut Vec<u8>) -> Result<(), Stop> {
+    /// Answers a line.
+    pub fn answer(&mut self, alloc: Global, line: &[u8], answer: &mut Vec<u8>) -> Result<(), Stop> {
         self.call(alloc, &mut Words::of(line))?.write(answer)?;
         answer.push(b'\n')?;
         Ok(())

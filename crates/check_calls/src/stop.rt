@@ -5,7 +5,7 @@ use std::alloc::{AllocError, AllocFailed};
 use std::io::Error;
 
 /// Why the work stopped: want of memory, a stream that failed, or a line that doesn't say what it should.
-#[derive(Clone, Copy, Debug, PartialEq, Eq)]
+#[derive(Clone, Copy)]
 pub enum Stop {
     Memory,
     Stream,

@@ -1,6 +1,7 @@
 // A sheet with its history, and what the lines do with them.
 
-use check_cases::{Stop, Subject, Words, bytes_of, sum_of};
+use crate::stop::Stop;
+use crate::words::{Words, sum_of, worksheet_of};
 use formula_eval::{Scene, Tally};
 use grid_address::{Cell, Span};
 use lics_text::Memory;
@@ -10,7 +11,7 @@ use sheet_undo::History;
 use std::alloc::Global;
 use std::io::Write;
 use std::mem::replace;
-use wk1_file::{read, write};
+use wk1_file::write;
 use work_sheet::Sheet;
 
 // The pointer in C2, and noon and after on 1 June 1987.
@@ -28,15 +29,6 @@ pub struct UndoDesk {
     sheet: Sheet,
     tally: Tally,
     history: History,
-}
-
-// What a worksheet file tells.
-fn saved_in(alloc: Global, digits: &[u8]) -> Result<SavedSheet, Stop> {
-    let file = bytes_of(alloc, digits)?;
-    match read(alloc, file.as_slice()) {
-        Ok(saved) => Ok(saved),
-        Err(_) => Err(Stop::Line),
-    }
 }
 
 // Writes of the contents and the formats of all cells.
@@ -141,8 +133,8 @@ impl UndoDesk {
             [b')'] => self.end(),
             [b'<'] => self.undo(),
             [b'!'] => self.calc(),
-            [b'=', digits @ ..] => self.restore(saved_in(alloc, digits)?),
-            [b'+', digits @ ..] => self.enter(saved_in(alloc, digits)?),
+            [b'=', digits @ ..] => self.restore(worksheet_of(alloc, digits)?),
+            [b'+', digits @ ..] => self.enter(worksheet_of(alloc, digits)?),
             [b'-', span @ ..] => self.erase(Words::of(span).span()?),
             _ => Err(Stop::Line),
         }
@@ -160,10 +152,9 @@ impl UndoDesk {
         out.push(b'\n')?;
         Ok(())
     }
-}
 
-impl Subject for UndoDesk {
-    fn answer(&mut self, alloc: Global, line: &[u8], answer: &mut Vec<u8>) -> Result<(), Stop> {
+    /// Answers a line.
+    pub fn answer(&mut self, alloc: Global, line: &[u8], answer: &mut Vec<u8>) -> Result<(), Stop> {
         if line == b"?".as_slice() {
             let file = write(alloc, &self.sheet.snapshot()?)?;
             writeln!(answer, "{:016x}", sum_of(file.as_slice()))?;
@@ -172,12 +163,5 @@ impl Subject for UndoDesk {
         let word = self.follow(alloc, line)?;
         answer.extend_from_slice(word)?;
         self.tell(answer)
-    }
-
-    fn turn_to(&mut self, name: &[u8]) -> Result<(), Stop> {
-        match name {
-            b"undo" => Ok(()),
-            _ => Err(Stop::Line),
-        }
     }
 }

@@ -1,9 +1,12 @@
 // The words of a line.
 
-use crate::Stop;
-use grid_address::{Cell, Span, read_cell, read_span};
+use crate::stop::Stop;
+use grid_address::{Span, read_span};
 use lics_text::Text;
+use sheet_store::SavedSheet;
 use std::alloc::Global;
+use std::io::{Error, Write};
+use wk1_file::read;
 
 // The value of a hexadecimal digit.
 fn digit(byte: u8) -> Result<u8, Stop> {
@@ -15,22 +18,14 @@ fn digit(byte: u8) -> Result<u8, Stop> {
 }
 
 // What decimal digits stand for, or the largest number.
-fn size_of(digits: &[u8]) -> i64 {
-    let mut size: i64 = 0;
+fn number_of(digits: &[u8]) -> u64 {
+    let mut number: u64 = 0;
     for byte in digits {
-        size = size
+        number = number
             .saturating_mul(10)
-            .saturating_add(i64::from(byte.wrapping_sub(b'0')));
+            .saturating_add(u64::from(byte.wrapping_sub(b'0')));
     }
-    size
-}
-
-/// A whole number in decimal digits, with `-` in front of one below zero.
-pub fn whole_of(digits: &[u8]) -> i64 {
-    match digits {
-        [b'-', size @ ..] => size_of(size).wrapping_neg(),
-        _ => size_of(digits),
-    }
+    number
 }
 
 /// The bytes of pairs of hexadecimal digits; `-` stands for none.
@@ -47,6 +42,15 @@ pub fn bytes_of(alloc: Global, digits: &[u8]) -> Result<Vec<u8>, Stop> {
     Ok(bytes)
 }
 
+/// Writes bytes in hexadecimal digits, behind `=`.
+pub fn write_bytes<W: Write>(bytes: &[u8], out: &mut W) -> Result<(), Error> {
+    out.write_all(b"=")?;
+    for byte in bytes {
+        write!(out, "{byte:02x}")?;
+    }
+    Ok(())
+}
+
 /// The sum of bytes in which each place counts.
 pub fn sum_of(bytes: &[u8]) -> u64 {
     let mut sum: u64 = 14_695_981_039_346_656_037;
@@ -56,10 +60,11 @@ pub fn sum_of(bytes: &[u8]) -> u64 {
     sum
 }
 
-/// A text of these bytes.
-pub fn text_of(alloc: Global, bytes: &[u8]) -> Result<Text, Stop> {
-    match Text::from_bytes(alloc, bytes) {
-        Ok(text) => Ok(text),
+/// The worksheet of a file, by its bytes. `Stop::Line` is a file that tells none.
+pub fn worksheet_of(alloc: Global, digits: &[u8]) -> Result<SavedSheet, Stop> {
+    let file = bytes_of(alloc, digits)?;
+    match read(alloc, file.as_slice()) {
+        Ok(saved) => Ok(saved),
         Err(_) => Err(Stop::Line),
     }
 }
@@ -76,11 +81,6 @@ impl<'a> Words<'a> {
         Words { rest: line }
     }
 
-    /// All that is left.
-    pub fn rest(self) -> &'a [u8] {
-        self.rest
-    }
-
     /// The next word, which ends before a blank.
     pub fn next(&mut self) -> &'a [u8] {
         let line = self.rest;
@@ -94,26 +94,15 @@ impl<'a> Words<'a> {
         line
     }
 
-    /// The next word as a count.
-    pub fn count(&mut self) -> Result<usize, Stop> {
-        match usize::try_from(whole_of(self.next())) {
-            Ok(count) => Ok(count),
-            Err(_) => Err(Stop::Line),
-        }
+    /// The next word as a whole number, or the largest one.
+    pub fn number(&mut self) -> u64 {
+        number_of(self.next())
     }
 
     /// The next word as a number below 256.
     pub fn byte(&mut self) -> Result<u8, Stop> {
-        match u8::try_from(self.count()?) {
+        match u8::try_from(self.number()) {
             Ok(byte) => Ok(byte),
-            Err(_) => Err(Stop::Line),
-        }
-    }
-
-    /// The next word as an address.
-    pub fn cell(&mut self) -> Result<Cell, Stop> {
-        match read_cell(self.next()) {
-            Ok(cell) => Ok(cell),
             Err(_) => Err(Stop::Line),
         }
     }
@@ -122,6 +111,15 @@ impl<'a> Words<'a> {
     pub fn span(&mut self) -> Result<Span, Stop> {
         match read_span(self.next()) {
             Ok(span) => Ok(span),
+            Err(_) => Err(Stop::Line),
+        }
+    }
+
+    /// The next word as a text, by its bytes.
+    pub fn text(&mut self, alloc: Global) -> Result<Text, Stop> {
+        let bytes = bytes_of(alloc, self.next())?;
+        match Text::from_bytes(alloc, bytes.as_slice()) {
+            Ok(text) => Ok(text),
             Err(_) => Err(Stop::Line),
         }
     }

@@ -1,5 +1,5 @@
 use Rattle.std.proofs.Common.{length}
-use Rattle.check_cases.proofs.words.bytes_of.Given as goal
+use Rattle.check_calls.proofs.words.bytes_of.Given as goal
 
 abbrev pub decreases-loop-rest : goal.decreases-loop-rest
 decreases-loop-rest l = length l.rest
