@@ -324,7 +324,7 @@ def test_reports():
 
 
 class SheetBench:
-    """A bench over a sheet, as sheet_commands makes one."""
+    """A bench over a sheet, as the commands of tables make one."""
 
     def __init__(self, bed):
         self.b = bed

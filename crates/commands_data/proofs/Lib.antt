@@ -1,1 +1,5 @@
+pub mod Behind
+pub mod Entered
+pub mod First
 pub mod Made
+pub mod Turned

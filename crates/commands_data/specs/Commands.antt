@@ -13,7 +13,7 @@ use Rattle.commands_data.specs.declared.keeping.KeySetting.{KeySetting}
 use Rattle.commands_data.specs.declared.keeping.KeySetting.TheVariants.{Primary, Secondary}
 use Rattle.commands_data.specs.declared.keeping.RangeSetting.{RangeSetting}
 use Rattle.commands_data.specs.declared.keeping.RangeSetting.TheVariants as range
-use Rattle.commands_table.specs.Commands as tables
+use Rattle.commands_data.specs.TableCommands as tables
 use Rattle.data_blocks.specs.Distribution.{distribution}
 use Rattle.data_blocks.specs.Filling.{fill}
 use Rattle.data_blocks.specs.Sorting.{rows_sorted}

@@ -2,7 +2,7 @@
 use Rattle.std.specs.Prelude.{◌≡◌, ◌⊎◌, List, Result, Ok, Err}
 use Rattle.command_desk.specs.Acting.{refused, Acted}
 use Rattle.command_desk.specs.Writing.{all_made}
-pub use Rattle.commands_table.specs.Commands.{block_error}
+pub use Rattle.commands_data.specs.TableCommands.{block_error}
 use Rattle.data_query.specs.declared.fault.QueryFault.{QueryFault}
 use Rattle.data_query.specs.declared.fault.QueryFault.TheVariants as query
 use Rattle.desk_errors.specs.declared.error.CommandError.{CommandError}

@@ -9,8 +9,8 @@ use crate::filling::fill;
 use crate::keeping::{KeySetting, RangeSetting, forget_query, forget_sort, keep_key, keep_range};
 use crate::querying::make_query_of;
 use crate::sorting::sort;
+use crate::tables::{forget_table, repeat_table, table_one, table_two};
 use command_desk::{CommandEnd, Desk, LastQuery};
-use commands_table::{forget_table, repeat_table, table_one, table_two};
 use formula_eval::{Scene, Tally};
 use lics_text::Memory;
 use menu_tree::DataAction;
@@ -28,7 +28,7 @@ use session_rooms::Answers;
 /// - Go puts the rows of the range in the order of the keys.
 /// - Extract writes the records that match into the output, Unique those of them that differ, and Delete takes them out
 ///   of the input. The query that was carried out is the last one.
-/// - Table 1, Table 2, their Reset and the key TABLE are those of commands_table, which tells what refuses them.
+/// - Table 1, Table 2, their Reset and the key TABLE are those of `tables`, which tells what refuses them.
 ///
 /// In Automatic mode a recalculation follows each that writes, and tables recalculate in either mode; where there is no
 /// memory for it, the writes stand.

@@ -1,12 +1,17 @@
-//! The commands below Data, but for those of tables.
+//! The commands below Data.
 #![tactic(auto)]
 
 mod acting;
+mod bench;
 mod distributing;
 mod faults;
 mod filling;
 mod keeping;
+mod making;
+mod protection;
 mod querying;
 mod sorting;
+mod tables;
+mod trying;
 
 pub use acting::act;

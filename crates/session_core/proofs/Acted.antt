@@ -8,7 +8,7 @@ use Rattle.commands_file.specs.Commands.{FileActed, HasActedOver}
 use Rattle.formula_eval.specs.declared.look.Scene.{Scene}
 use Rattle.menu_tree.specs.declared.menu.Action.{Action}
 use Rattle.serial_date.specs.declared.moment.Moment.{Moment}
-use Rattle.sheet_commands.specs.Act.{act}
+use Rattle.session_core.specs.Act.{act}
 use Rattle.work_sheet.proofs.OneWork.{worked_both}
 use Rattle.work_sheet.specs.Did.{work_of}
 use Rattle.work_sheet.specs.Work.{HasWorked, Work}

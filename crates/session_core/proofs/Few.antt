@@ -13,7 +13,7 @@ use Rattle.menu_tree.specs.declared.menu.Action.{Action}
 use Rattle.menu_tree.specs.declared.menu.Action.TheVariants as action
 use Rattle.menu_tree.specs.declared.menu.FileAction.{FileAction}
 use Rattle.menu_tree.specs.declared.menu.FileAction.TheVariants as file
-use Rattle.sheet_commands.specs.Act.{act}
+use Rattle.session_core.specs.Act.{act}
 use Rattle.commands_file.proofs.Broken.{answered_keeps, none_broken}
 
 -- at most one call

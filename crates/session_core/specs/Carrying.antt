@@ -35,7 +35,7 @@ use Rattle.session_rooms.specs.declared.rooms.Room.TheVariants as room
 use Rattle.session_rooms.specs.declared.rooms.TypingMode.TheVariants as typing
 use Rattle.session_rooms.specs.declared.turn.Turn.{Turn}
 use Rattle.session_rooms.specs.declared.turn.Turn.TheVariants as turn
-use Rattle.sheet_commands.specs.Act.{act}
+use Rattle.session_core.specs.Act.{act}
 use Rattle.sheet_edits.specs.Edits.{is_protected}
 use Rattle.work_sheet.specs.Doing as doing
 use Rattle.session_core.specs.Entering.{meaning_of}

@@ -1,3 +1,4 @@
+pub mod Act
 pub mod Carrying
 pub mod Entering
 pub mod Faults

@@ -1,6 +1,7 @@
 //! One step of the worksheet session, and the screen that it shows.
 #![tactic(auto)]
 
+mod acting;
 mod entering;
 mod event;
 mod faults;

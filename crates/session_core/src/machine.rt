@@ -17,6 +17,7 @@ ghost use Rattle.session_core.specs.Step.{come_to, event_taken, framed, is_key, 
 ghost use Rattle.session_core.specs.Touches.{touches_row, HasTouched, Settles};
 ghost use Rattle.work_sheet.specs.Did.{work_of};
 
+use crate::acting::act;
 use crate::entering::{Meant, meaning_of};
 use crate::event::Event;
 use crate::faults::fault_message;
@@ -25,7 +26,8 @@ use crate::pressing::{plain_mode, plain_view, room_panel, turn_of};
 use crate::rows::{ROWS, insert_cells, insert_row};
 use crate::touched::{Taken, Touched};
 use cell_pointer::{Way, moved};
-use command_desk::settle;
+use command_desk::{CommandEnd, Desk, settle};
+use commands_file::{Looked, look};
 use desk_errors::CommandError;
 use entry_line::EntryLine;
 use formula_eval::{Look, Scene, Tally};
@@ -44,7 +46,6 @@ use screen_layout::{PanelView, columns_shown, corner_for, paint_lines, wants_rec
 use screen_show::{LineSet, Screen};
 use serial_date::Moment;
 use session_rooms::{AnsweredCommand, Answering, PromptRoom, Room, Turn, TypingMode, TypingRoom};
-use sheet_commands::{CommandEnd, Desk, Looked, act, look};
 use sheet_store::{Settings, SheetFault};
 use std::marker::Model;
 use std::mem;

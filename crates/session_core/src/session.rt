@@ -13,10 +13,10 @@ ghost use Rattle.work_sheet.specs.Did.{work_of};
 use crate::glance::changed_lines;
 use crate::machine::Machine;
 use crate::{Event, Stepped};
+use command_desk::Desk;
 use outside_world::{Memory, Shelf};
 use screen_show::{LineSet, Screen};
 use serial_date::Moment;
-use sheet_commands::Desk;
 use std::marker::Model;
 
 /// A session: the worksheet, the pointer, and what is being typed, pointed at or asked for. It keeps its screen, and

@@ -1,6 +1,6 @@
 use Rattle.std.proofs.Common.{rules}
 use Rattle.commands_file.proofs.Broken.{on_err}
-use Rattle.sheet_commands.specs.Act.{act}
+use Rattle.session_core.specs.Act.{act}
 use Rattle.session_core.proofs.Acted.{acted_broken, acted_over}
 use Rattle.session_core.proofs.Alone.{ok_map}
 use Rattle.session_core.proofs.Failing.{left_calls}

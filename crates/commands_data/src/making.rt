@@ -1,0 +1,172 @@
+// A table is made on a worksheet.
+ghost use Rattle.std.specs.Prelude.{◌≡◌, IfOk, OnOk};
+ghost use Rattle.command_desk.specs.Acting.{error_of, HasActedBy};
+ghost use Rattle.data_blocks.specs.declared.ranges.LastTable.TheVariants as table;
+ghost use Rattle.commands_data.specs.TableCommands.{changed_cells, block_error, made, refusal_by};
+ghost use Rattle.commands_data.specs.Trying.{table_one, table_two};
+ghost use Rattle.work_sheet.specs.Did.{Did};
+ghost use Rattle.work_sheet.specs.Seen.{of_worksheet};
+
+use crate::bench::TableBench;
+use crate::protection::first_protected;
+use crate::trying::{contents_of, write_out};
+use command_desk::{CommandEnd, LastTable};
+use data_blocks::{BlockFault, shape_one, shape_two, table_one, table_two};
+use desk_errors::CommandError;
+use formula_eval::{Scene, Tally};
+use grid_address::{Cell, Span};
+use lics_text::Memory;
+use sheet_store::SheetFault;
+use work_sheet::Sheet;
+
+// The error of a fault of the sheet.
+fn sheet_error(fault: SheetFault) -> CommandError
+    ensures { result ≡ error_of fault }
+{
+    match fault {
+        SheetFault::Protected(cell) => CommandError::Protected(cell),
+        SheetFault::PushedOff(cell) => CommandError::PushedOff(cell),
+        SheetFault::OutOfSheet(span) => CommandError::OutOfSheet(span),
+        SheetFault::Memory => CommandError::Memory,
+    }
+}
+
+// The error of a block's fault.
+fn block_error(fault: BlockFault) -> CommandError
+    ensures { result ≡ block_error fault }
+{
+    match fault {
+        BlockFault::ZeroStep => CommandError::ZeroStep,
+        BlockFault::NoTable => CommandError::InvalidTable,
+        BlockFault::InputInTable(cell) => CommandError::InputInTable(cell),
+        BlockFault::Sheet(fault) => sheet_error(fault),
+        BlockFault::Memory => CommandError::Memory,
+    }
+}
+
+// Why a table is refused: by its shape, or by a protected cell of those that it writes.
+fn refusal(
+    shape: Option<BlockFault>,
+    sheet: &Sheet,
+    span: Span,
+    inputs: &[Cell],
+) -> Option<CommandError>
+    ensures { result ≡ refusal_by shape (changed_cells span inputs.now) (of_worksheet sheet.now) }
+{
+    match shape {
+        Some(fault) => Some(block_error(fault)),
+        None => match first_protected(sheet, span, inputs) {
+            Some(cell) => Some(CommandError::Protected(cell)),
+            None => None,
+        },
+    }
+}
+
+// Makes table 1 over a span, which nothing refuses.
+fn make_one(
+    span: Span,
+    input: Cell,
+    sheet: &mut Sheet,
+    scene: &Scene,
+    tally: &mut Tally,
+) -> Result<(), Memory>
+    ensures { let done = table_one scene.entry.now span input (of_worksheet sheet.old) in
+        OnOk result (Did done sheet.old sheet.new tally.old.count tally.new.count) }
+{
+    let alloc = sheet.alloc();
+    let kept = contents_of(sheet, &[input])?;
+    let mut bench = TableBench {
+        sheet: &mut *sheet,
+        tally: &mut *tally,
+        scene: *scene,
+        kept: &kept,
+    };
+    match table_one(alloc, span, input, &mut bench) {
+        Ok(writes) => write_out(&writes, sheet, scene, tally),
+        Err(_) => Err(Memory),
+    }
+}
+
+// Makes table 2 over a span, which nothing refuses.
+fn make_two(
+    span: Span,
+    down: Cell,
+    across: Cell,
+    sheet: &mut Sheet,
+    scene: &Scene,
+    tally: &mut Tally,
+) -> Result<(), Memory>
+    ensures { let done = table_two scene.entry.now span down across (of_worksheet sheet.old) in
+        OnOk result (Did done sheet.old sheet.new tally.old.count tally.new.count) }
+{
+    let alloc = sheet.alloc();
+    let kept = contents_of(sheet, &[down, across])?;
+    let mut bench = TableBench {
+        sheet: &mut *sheet,
+        tally: &mut *tally,
+        scene: *scene,
+        kept: &kept,
+    };
+    match table_two(alloc, span, down, across, &mut bench) {
+        Ok(writes) => write_out(&writes, sheet, scene, tally),
+        Err(_) => Err(Memory),
+    }
+}
+
+// Makes table 1, where nothing refuses it.
+fn one_made(
+    span: Span,
+    input: Cell,
+    sheet: &mut Sheet,
+    scene: &Scene,
+    tally: &mut Tally,
+) -> Result<CommandEnd, Memory>
+    ensures { IfOk result (λ end. HasActedBy (made (table.One span input) scene.entry.now)
+        end sheet.old sheet.new tally.old.count tally.new.count) }
+{
+    match refusal(shape_one(span, input), sheet, span, &[input]) {
+        Some(error) => Ok(CommandEnd::Refused(error)),
+        None => {
+            make_one(span, input, sheet, scene, tally)?;
+            Ok(CommandEnd::Finished)
+        }
+    }
+}
+
+// Makes table 2, where nothing refuses it.
+fn two_made(
+    span: Span,
+    down: Cell,
+    across: Cell,
+    sheet: &mut Sheet,
+    scene: &Scene,
+    tally: &mut Tally,
+) -> Result<CommandEnd, Memory>
+    ensures { IfOk result (λ end. HasActedBy (made (table.Two span down across) scene.entry.now)
+        end sheet.old sheet.new tally.old.count tally.new.count) }
+{
+    match refusal(shape_two(span, down, across), sheet, span, &[down, across]) {
+        Some(error) => Ok(CommandEnd::Refused(error)),
+        None => {
+            make_two(span, down, across, sheet, scene, tally)?;
+            Ok(CommandEnd::Finished)
+        }
+    }
+}
+
+/// Makes a table, or refuses it.
+pub fn make(
+    table: &LastTable,
+    sheet: &mut Sheet,
+    scene: &Scene,
+    tally: &mut Tally,
+) -> Result<CommandEnd, Memory>
+    ensures { IfOk result (λ end. HasActedBy (made table.now scene.entry.now)
+        end sheet.old sheet.new tally.old.count tally.new.count) }
+{
+    match table {
+        LastTable::Nothing => Ok(CommandEnd::Refused(CommandError::InvalidTable)),
+        LastTable::One(span, input) => one_made(*span, *input, sheet, scene, tally),
+        LastTable::Two(span, down, across) => two_made(*span, *down, *across, sheet, scene, tally),
+    }
+}

@@ -1,4 +1,0 @@
-pub mod Behind
-pub mod Entered
-pub mod First
-pub mod Turned

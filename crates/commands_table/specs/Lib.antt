@@ -1,4 +1,0 @@
-pub mod Benched
-pub mod Commands
-pub mod Held
-pub mod Trying
