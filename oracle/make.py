@@ -5,19 +5,20 @@ behind `=`. The data of each part stand one behind another, each behind a line `
 import random
 import sys
 
-from . import check_channel, check_reports, check_undo
+from . import check_channel, check_outside, check_reports, check_undo
 from .built import leave_out
 from .cases import SEED
 
-# the parts: their data and answers, and how a line begins that makes a fresh sheet or shelf
-PARTS = {'reports': (check_reports, b'='), 'channel': (check_channel, b'n'), 'undo': (check_undo, b':')}
+# the parts: their data and answers, and how a line begins that makes anything anew
+PARTS = {'reports': (check_reports, (b'=',)), 'channel': (check_channel, (b'n ',)), 'outside': (check_outside, (b'keys', b'notes', b'display')),
+         'undo': (check_undo, (b':',))}
 
 
 def made(name, of, begin, seed):
     """The data of a part."""
     lines = of.data(random.Random(f'{seed} {name}')).split(b'\n')[:-1]
     for line, answer in zip(lines, of.answers(lines)):
-        yield (b'>' if line[:1] == begin else b'+') + line + b'\n'
+        yield (b'>' if line.startswith(begin) else b'+') + line + b'\n'
         yield from (b'=' + told + b'\n' for told in answer.split(b'\n')[:-1])
 
 

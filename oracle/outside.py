@@ -85,23 +85,29 @@ class ListClock:
 
 
 class ListNotes:
-    def __init__(self, failing=()):
+    """A write past the room, where that is stated, fails."""
+
+    def __init__(self, failing=(), room=None):
         self.bytes = b''
+        self.room = room
         self.failing = set(failing)
         self.calls = 0
         self.faults = 0
 
     def write(self, data):
         self.calls += 1
-        if self.calls in self.failing:
+        if self.calls in self.failing or self.room is not None and len(self.bytes) + len(data) > self.room:
             self.faults += 1
             raise Failed()
         self.bytes += data
 
 
 class Recorder:
-    def __init__(self, kind='pages', failing=()):
+    """A frame past the room, where that is stated, fails."""
+
+    def __init__(self, kind='pages', failing=(), room=None):
         self.kind = kind
+        self.room = room
         self.failing = set(failing)
         self.calls = 0
         self.faults = 0
@@ -127,6 +133,9 @@ class Recorder:
 
     def done(self):
         self._call()
+        if self.room is not None and len(self.frames) >= self.room:
+            self.faults += 1
+            raise Failed()
         self.closed = False
         self.frames.append([bytes(line) for line in self.grid])
         self.per_frame.append((self.puts, self.bytes_put))

@@ -1,7 +1,7 @@
 // A shelf, a channel over it, and what the lines ask of them.
 
 use crate::stop::Stop;
-use crate::words::{Words, bytes_of, write_bytes};
+use crate::words::{Words, write_bytes};
 use lics_text::{Memory, Text};
 use outside_world::{ByteBuffer, Ext, FileName, MapShelf, Shelf, ShelfFault};
 use std::alloc::Global;
@@ -70,7 +70,7 @@ fn access_of(word: &[u8]) -> Access {
 
 // Bytes in hexadecimal digits.
 fn bytes_in(alloc: Global, words: &mut Words) -> Result<ByteBuffer, Stop> {
-    let bytes = bytes_of(alloc, words.next())?;
+    let bytes = words.bytes(alloc)?;
     Ok(ByteBuffer::from_slice(alloc, bytes.as_slice())?)
 }
 
@@ -84,14 +84,6 @@ fn doubled(alloc: Global, words: &mut Words) -> Result<ByteBuffer, Stop> {
         list.put_at(list.len(), copy.bytes())?;
     }
     list.put_at(list.len(), more.bytes())?;
-    Ok(list)
-}
-
-// Two numbers; 0 where there is none.
-fn numbers_in(alloc: Global, words: &mut Words) -> Result<Vec<u64>, Stop> {
-    let mut list = Vec::new(alloc);
-    list.push(words.number())?;
-    list.push(words.number())?;
     Ok(list)
 }
 
@@ -161,7 +153,7 @@ impl ChannelDesk {
     // Makes the call of a line.
     fn call(&mut self, alloc: Global, words: &mut Words) -> Result<Answer, Stop> {
         match words.next() {
-            b"n" => self.restart(numbers_in(alloc, words)?),
+            b"n" => self.restart(words.two_numbers(alloc)?),
             b"p" => {
                 let name = name_in(words)?;
                 self.put(name, bytes_in(alloc, words)?)

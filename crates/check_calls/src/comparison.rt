@@ -179,7 +179,9 @@ impl Comparison {
 /// is the one that is wanted, 1 for want of memory, 2 where a stream failed, 3 where a line doesn't say what it
 /// should, which is told, and 4 where an answer differs.
 pub fn check<R: BufRead + Drop, W: Write>(alloc: Global, data: R, out: &mut W) -> ExitCode {
-    let mut parts = Parts::new(alloc);
+    let Ok(mut parts) = Parts::new(alloc) else {
+        return ExitCode::from(1);
+    };
     let mut comparison = Comparison::new(alloc);
     let outcome = comparison.follow_all(alloc, &mut parts, data, out);
     drop(parts);

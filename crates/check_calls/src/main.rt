@@ -19,6 +19,11 @@
 //! `w BYTES` to write, `s` for the size, `c` for the position, `t N` to set it, and `g NAME` for what the shelf
 //! holds.
 //!
+//! `outside`: calls of keys, notes and a display in memory, of which those with the given numbers fail, and those for
+//! which there is no room. `keys BYTES N N` takes new keys, of which `key` asks for the next, `notes ROOM N N` new
+//! notes, to which `note BYTES` adds, and `display ROOM N N` a new display, on which `put` puts a byte, `done` ends a
+//! frame and `close` ends all.
+//!
 //! `undo`: makes changes of a sheet, some of them commands, and undoes commands. `(` begins a command, `)` ends it
 //! and `<` undoes one; each is answered by what came of it: a command is `begun`, its state is `kept` or the sheet
 //! `alike`, one is `undone`, or there is `none`. `=BYTES` makes the sheet that a file tells, `+BYTES` writes the
@@ -29,6 +34,7 @@
 
 mod channel;
 mod comparison;
+mod outside;
 mod parts;
 mod reports;
 mod stop;

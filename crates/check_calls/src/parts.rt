@@ -1,6 +1,7 @@
 // The parts, and which of them answers.
 
 use crate::channel::ChannelDesk;
+use crate::outside::OutsideDesk;
 use crate::reports::ReportDesk;
 use crate::stop::Stop;
 use crate::undo::UndoDesk;
@@ -11,6 +12,7 @@ use std::alloc::Global;
 enum Part {
     Reports,
     Channel,
+    Outside,
     Undo,
 }
 
@@ -20,18 +22,21 @@ pub struct Parts {
     part: Part,
     reports: ReportDesk,
     channel: ChannelDesk,
+    outside: OutsideDesk,
     undo: UndoDesk,
 }
 
 impl Parts {
     /// Reports come first, of an empty worksheet.
-    pub fn new(alloc: Global) -> Parts {
-        Parts {
+    pub fn new(alloc: Global) -> Result<Parts, Stop> {
+        let outside = OutsideDesk::new(alloc)?;
+        Ok(Parts {
             part: Part::Reports,
             reports: ReportDesk::new(alloc),
             channel: ChannelDesk::new(Vec::new(alloc)),
+            outside,
             undo: UndoDesk::new(alloc),
-        }
+        })
     }
 
     /// Answers a line: writes the lines of its answer, each with its end, or nothing. `Stop::Line` is a line that
@@ -40,6 +45,7 @@ impl Parts {
         match self.part {
             Part::Reports => self.reports.answer(alloc, line, answer),
             Part::Channel => self.channel.answer(alloc, line, answer),
+            Part::Outside => self.outside.answer(alloc, line, answer),
             Part::Undo => self.undo.answer(alloc, line, answer),
         }
     }
@@ -49,6 +55,7 @@ impl Parts {
         self.part = match name {
             b"reports" => Part::Reports,
             b"channel" => Part::Channel,
+            b"outside" => Part::Outside,
             b"undo" => Part::Undo,
             _ => return Err(Stop::Line),
         };

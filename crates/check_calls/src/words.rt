@@ -28,8 +28,8 @@ fn number_of(digits: &[u8]) -> u64 {
     number
 }
 
-/// The bytes of pairs of hexadecimal digits; `-` stands for none.
-pub fn bytes_of(alloc: Global, digits: &[u8]) -> Result<Vec<u8>, Stop> {
+// The bytes of pairs of hexadecimal digits; `-` stands for none.
+fn bytes_of(alloc: Global, digits: &[u8]) -> Result<Vec<u8>, Stop> {
     let mut bytes = Vec::new(alloc);
     if digits == b"-".as_slice() {
         return Ok(bytes);
@@ -115,9 +115,21 @@ impl<'a> Words<'a> {
         }
     }
 
+    /// The bytes of the next word's digits.
+    pub fn bytes(&mut self, alloc: Global) -> Result<Vec<u8>, Stop> {
+        bytes_of(alloc, self.next())
+    }
+
+    /// The next two words as numbers; 0 where there is none.
+    pub fn two_numbers(&mut self, alloc: Global) -> Result<Vec<u64>, Stop> {
+        let first = self.number();
+        let second = self.number();
+        Ok([first, second].to_vec(alloc)?)
+    }
+
     /// The next word as a text, by its bytes.
     pub fn text(&mut self, alloc: Global) -> Result<Text, Stop> {
-        let bytes = bytes_of(alloc, self.next())?;
+        let bytes = self.bytes(alloc)?;
         match Text::from_bytes(alloc, bytes.as_slice()) {
             Ok(text) => Ok(text),
             Err(_) => Err(Stop::Line),
