@@ -30,10 +30,14 @@
 //! cells of such a file into the sheet, `-SPAN` erases, `!` recalculates, and `:` begins a fresh sheet without kept
 //! states. Behind each stand how many states are kept, the count of evaluations and the marks CIRC and CALC. `?`
 //! asks for the sum of the sheet's own file.
+//!
+//! With a word it does one piece of work, which bench/files and bench/digits measure: `measure` tells which.
 #![tactic(auto)]
 
 mod channel;
 mod comparison;
+mod measuring;
+mod numbers;
 mod outside;
 mod parts;
 mod reports;
@@ -42,8 +46,27 @@ mod undo;
 mod words;
 
 use comparison::check;
+use measuring::measure;
+use std::env;
 use std::process::ExitCode;
+use stop::Stop;
+
+// Does the work that a word names, or with none asks the parts all that the data tells.
+fn work(rt: &HostRuntime) -> Result<ExitCode, Stop> {
+    match env::args(rt)?.nth(1) {
+        None => Ok(check(rt.alloc(), rt.reader(), &mut rt.stdout())),
+        Some(word) => {
+            measure(rt, word.as_str())?;
+            Ok(ExitCode::SUCCESS)
+        }
+    }
+}
 
 fn main(rt: HostRuntime) -> ExitCode {
-    check(rt.alloc(), rt.reader(), &mut rt.stdout())
+    match work(&rt) {
+        Ok(status) => status,
+        Err(Stop::Memory) => ExitCode::from(1),
+        Err(Stop::Stream) => ExitCode::from(2),
+        Err(Stop::Line) => ExitCode::from(3),
+    }
 }

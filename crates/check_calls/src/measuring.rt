@@ -1,49 +1,18 @@
-//! The work that bench/files and bench/digits measure; its word is a step or a kind of numbers. For bench/files a
-//! worksheet file is taken from standard input, read and written. `make` takes the bytes alone, `read` reads the sheet
-//! too, `write` then lets the bytes go and writes the sheet again, `write-beside` writes it while the bytes stay in
-//! memory, and `time` tells the bytes that were read and written and the microseconds of each. `read` tells the last
-//! used cell, as a number in row order, and the others how many bytes there are in the end. For bench/digits 10,000
-//! numbers of the kind `tenths`, `whole`, `rounded`, `fixed` or `hidden` are shown in cells, and the sum of their last
-//! bytes is told.
-#![tactic(auto)]
+// The work that bench/files and bench/digits measure.
 
-mod numbers;
-
-use lics_text::Memory;
-use numbers::{kind_of, shown_sum};
+use crate::numbers::{kind_of, shown_sum};
+use crate::stop::Stop;
 use sheet_store::SavedSheet;
 use std::alloc::Global;
-use std::env;
-use std::io::{Error, Read, Write};
-use std::process::ExitCode;
+use std::io::{Read, Write};
 use std::time::Instant;
 use wk1_file::{read, write};
-
-/// Why the work stops: want of memory, a stream or the clock that fails, a file that can't be read, or an unknown word.
-enum Stop {
-    Memory,
-    Stream,
-    File,
-    Word,
-}
-
-impl From<Memory> for Stop {
-    fn from(_cause: Memory) -> Stop {
-        Stop::Memory
-    }
-}
-
-impl From<Error> for Stop {
-    fn from(_cause: Error) -> Stop {
-        Stop::Stream
-    }
-}
 
 // The sheet that a file is read as.
 fn sheet_of(alloc: Global, file: &[u8]) -> Result<SavedSheet, Stop> {
     match read(alloc, file) {
         Ok(sheet) => Ok(sheet),
-        Err(_) => Err(Stop::File),
+        Err(_) => Err(Stop::Line),
     }
 }
 
@@ -89,20 +58,22 @@ fn time<W: Write>(rt: &HostRuntime, alloc: Global, file: &[u8], out: &mut W) -> 
 fn sum_of(word: &str) -> Result<u64, Stop> {
     match kind_of(word) {
         Some(kind) => Ok(shown_sum(kind)),
-        None => Err(Stop::Word),
+        None => Err(Stop::Line),
     }
 }
 
-// Takes the file and does what the word names.
-fn work(rt: &HostRuntime) -> Result<(), Stop> {
+/// Takes a file from standard input and does what the word names: `make` takes the bytes alone, `read` reads the
+/// sheet too, `write` then lets the bytes go and writes the sheet again, `write-beside` writes it while the bytes stay
+/// in memory, and `time` tells the bytes that were read and written and the microseconds of each. `read` tells the
+/// last used cell, as a number in row order, and the others how many bytes there are in the end. With a kind of
+/// numbers, `tenths`, `whole`, `rounded`, `fixed` or `hidden`, 10,000 of them are shown in cells, and the sum of their
+/// last bytes is told. `Stop::Line` is another word, or a file that can't be read.
+pub fn measure(rt: &HostRuntime, word: &str) -> Result<(), Stop> {
     let alloc = rt.alloc();
     let mut file = Vec::new(alloc);
     rt.reader().read_to_end(&mut file)?;
     let mut out = rt.stdout();
-    let Some(step) = env::args(rt)?.nth(1) else {
-        return Err(Stop::Word);
-    };
-    let told = match step.as_str() {
+    let told = match word {
         "make" => file.len() as u64,
         "read" => last_used_in(alloc, file.as_slice())?,
         "write" => {
@@ -116,14 +87,4 @@ fn work(rt: &HostRuntime) -> Result<(), Stop> {
     };
     writeln!(out, "{told}")?;
     Ok(())
-}
-
-fn main(rt: HostRuntime) -> ExitCode {
-    match work(&rt) {
-        Ok(()) => ExitCode::SUCCESS,
-        Err(Stop::Memory) => ExitCode::from(1),
-        Err(Stop::Stream) => ExitCode::from(2),
-        Err(Stop::Word) => ExitCode::from(3),
-        Err(Stop::File) => ExitCode::from(4),
-    }
 }
