@@ -5,6 +5,7 @@ ghost use Rattle.formula_tree.specs.Shape.{IsFormula};
 ghost use Rattle.formula_tree.specs.Tree.{binary, cell, num};
 ghost use Rattle.formula_tree.specs.View.{tree_of};
 ghost use Rattle.grid_address.specs.Place.{Place};
+ghost use Rattle.sheet_store.specs.Grid.{put_state};
 ghost use Rattle.sheet_gen.specs.Rows.{above, chain, formula_state, left, number_state, seed, triple, whole, with_row};
 
 use fixed_value::Fixed;
@@ -90,19 +91,23 @@ fn formula_state(alloc: Global, expr: Expr) -> Result<CellState, Memory>
     }
 }
 
+// Puts a formula that wasn't calculated yet into a cell of a store.
+fn put_formula(alloc: Global, store: &mut Store, cell: Cell, expr: Expr) -> Result<(), Memory>
+    ensures { OnOk result (store.new ≡ put_state store.old cell (formula_state (tree_of expr))) }
+{
+    let state = formula_state(alloc, expr)?;
+    store.put(cell, state)
+}
+
 /// Puts the three cells of a row into a store.
-#[tactic(auto, using(crate::proofs::Putting::is_sound_number, crate::proofs::Putting::is_sound_formula))]
 pub(crate) fn put_row(alloc: Global, store: &mut Store, row: u16) -> Result<(), Memory>
     requires { row < 8000 }
     ensures cells { OnOk result ((p : Place) → map.get store.new.cells p ≡ with_row row p (map.get store.old.cells p)) }
     ensures widths { OnOk result (store.new.widths ≡ store.old.widths) }
     ensures hidden { OnOk result (store.new.hidden ≡ store.old.hidden) }
 {
-    let number = number_state(row);
-    let triple = formula_state(alloc, triple(alloc)?)?;
-    let chain = formula_state(alloc, chain(alloc, row)?)?;
-    store.put(Cell { row, col: 0 }, number)?;
-    store.put(Cell { row, col: 1 }, triple)?;
-    store.put(Cell { row, col: 2 }, chain)?;
+    store.put(Cell { row, col: 0 }, number_state(row))?;
+    put_formula(alloc, store, Cell { row, col: 1 }, triple(alloc)?)?;
+    put_formula(alloc, store, Cell { row, col: 2 }, chain(alloc, row)?)?;
     Ok(())
 }
