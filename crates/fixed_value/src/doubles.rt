@@ -4,7 +4,7 @@ ghost use Rattle.fixed_value.specs.Doubles.{double_of, mantissa_of, nearest_even
 ghost use Rattle.fixed_value.specs.declared.doubles.DoubleRead.TheVariants.{Num};
 
 use crate::Fixed;
-use crate::parts::{is_negative, wide};
+use crate::digits::is_minus;
 
 const FRACTIONS: u64 = 4_503_599_627_370_496;
 
@@ -111,11 +111,7 @@ fn sign_bit(value: Fixed) -> u64
     ensures value { result ≡ sign_bit value }
     ensures size { result ≤ 9223372036854775808 }
 {
-    if is_negative(wide(value.millionths())) {
-        SIGN
-    } else {
-        0
-    }
+    if is_minus(value) { SIGN } else { 0 }
 }
 
 // The bits of a number that isn't 0.

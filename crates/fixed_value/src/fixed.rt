@@ -2,7 +2,8 @@ ghost use Rattle.std.specs.Prelude.{◌≡◌, ◌≤◌, ◌<◌, ℤ, pos, ◌
 ghost use Rattle.fixed_value.specs.Numbers.{within, rounded, signed, product, quotient, remainder, whole_part, IsNearest};
 ghost use Rattle.fixed_value.specs.Powers.{power, rounded_to};
 
-use crate::parts::{is_negative, millionth, product, ratio, wide, with_sign};
+use crate::digits::is_minus;
+use crate::parts::{millionth, product, ratio, wide, with_sign};
 use crate::power::power;
 use crate::round::rounded_to;
 use std::marker::Model;
@@ -135,7 +136,7 @@ impl Fixed {
         }
         let left = self.millionths.unsigned_abs() % other.millionths.unsigned_abs();
         Some(Fixed {
-            millionths: with_sign(is_negative(wide(self.millionths)), left),
+            millionths: with_sign(is_minus(self), left),
         })
     }
 

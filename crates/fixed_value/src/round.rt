@@ -5,7 +5,8 @@ ghost use Rattle.fixed_value.specs.Numbers.{within};
 ghost use Rattle.fixed_value.specs.Powers.{nearest_multiple, rounded_to, unit_of};
 
 use crate::Fixed;
-use crate::parts::{is_negative, wide, with_sign};
+use crate::digits::is_minus;
+use crate::parts::with_sign;
 use crate::power_of_ten::ten_to;
 
 // The nearest multiple of a unit.
@@ -19,7 +20,7 @@ fn to_multiple(x: Fixed, unit: u128) -> Option<Fixed>
     if multiple > 999_999_999_999_999 {
         return None;
     }
-    Fixed::of(with_sign(is_negative(wide(x.millionths())), multiple as u64))
+    Fixed::of(with_sign(is_minus(x), multiple as u64))
 }
 
 /// The number rounded to so many decimals.
