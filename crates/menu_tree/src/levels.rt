@@ -10,35 +10,24 @@ pub fn parent(menu: Menu) -> Option<Menu>
 {
     match menu {
         Menu::Main => None,
-        Menu::Worksheet => Some(Menu::Main),
-        Menu::Global => Some(Menu::Worksheet),
-        Menu::GlobalFormat => Some(Menu::Global),
+        Menu::Worksheet | Menu::Range | Menu::File | Menu::Print | Menu::Data | Menu::Quit => {
+            Some(Menu::Main)
+        }
+        Menu::Global | Menu::Insert | Menu::Delete | Menu::Column | Menu::WorksheetErase => {
+            Some(Menu::Worksheet)
+        }
+        Menu::GlobalFormat | Menu::LabelPrefix | Menu::Recalculation | Menu::Protection => {
+            Some(Menu::Global)
+        }
         Menu::GlobalDate => Some(Menu::GlobalFormat),
-        Menu::LabelPrefix => Some(Menu::Global),
-        Menu::Recalculation => Some(Menu::Global),
-        Menu::Protection => Some(Menu::Global),
-        Menu::Insert => Some(Menu::Worksheet),
-        Menu::Delete => Some(Menu::Worksheet),
-        Menu::Column => Some(Menu::Worksheet),
-        Menu::WorksheetErase => Some(Menu::Worksheet),
-        Menu::Range => Some(Menu::Main),
-        Menu::RangeFormat => Some(Menu::Range),
+        Menu::RangeFormat | Menu::Label | Menu::Name => Some(Menu::Range),
         Menu::RangeDate => Some(Menu::RangeFormat),
-        Menu::Label => Some(Menu::Range),
-        Menu::Name => Some(Menu::Range),
-        Menu::File => Some(Menu::Main),
-        Menu::Combine => Some(Menu::File),
-        Menu::Xtract => Some(Menu::File),
-        Menu::Print => Some(Menu::Main),
+        Menu::Combine | Menu::Xtract => Some(Menu::File),
         Menu::PrintFileMenu => Some(Menu::Print),
         Menu::Options => Some(Menu::PrintFileMenu),
         Menu::Margins => Some(Menu::Options),
-        Menu::Data => Some(Menu::Main),
-        Menu::Table => Some(Menu::Data),
-        Menu::Sort => Some(Menu::Data),
-        Menu::Query => Some(Menu::Data),
+        Menu::Table | Menu::Sort | Menu::Query => Some(Menu::Data),
         Menu::QueryDelete => Some(Menu::Query),
-        Menu::Quit => Some(Menu::Main),
     }
 }
 
