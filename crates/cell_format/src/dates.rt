@@ -1,5 +1,6 @@
 // Days as they are shown.
-ghost use Rattle.std.specs.Prelude.{◌≡◌, ◌≤◌, ◌+◌, ◌++◌, length, unsigned_abs};
+ghost use Rattle.std.specs.Prelude.{◌≡◌, ◌≤◌, ◌+◌, ◌++◌, ◌∷◌, length, unsigned_abs};
+ghost use Rattle.ascii_bytes.specs.Ascii as ascii;
 ghost use Rattle.cell_format.specs.Numbers.{date_text, dated, month_name, two_digits};
 ghost use Rattle.serial_date.specs.Calendar.{date_of};
 ghost use Rattle.serial_date.specs.Fractions.{whole_day};
@@ -10,13 +11,11 @@ use fixed_value::Fixed;
 use lics_text::{Line, MAX_LEN};
 use serial_date::{Civil, civil_of, whole_day};
 
-// Adds the last two digits.
-fn push_two_digits(into: &mut Line, number: u16)
-    requires { length into.old + 2 ≤ MAX_LEN }
-    ensures { into.new ≡ into.old ++ two_digits number }
+// The last two digits.
+fn two_digits(number: u16) -> [u8; 2]
+    ensures { result ≡ two_digits number }
 {
-    push(into, b'0' + (number / 10 % 10) as u8);
-    push(into, b'0' + (number % 10) as u8);
+    [b'0' + (number / 10 % 10) as u8, b'0' + (number % 10) as u8]
 }
 
 // Jan to Dec.
@@ -41,35 +40,43 @@ fn month_name(month: u8) -> &'static [u8]
     }
 }
 
+// Adds a minus and these bytes.
+fn put_dashed(into: &mut Line, bytes: &[u8])
+    requires { length into.old + 1 + length bytes.now ≤ MAX_LEN }
+    ensures { into.new ≡ into.old ++ ascii.minus ∷ bytes.now }
+{
+    push(into, b'-');
+    into.put_all(bytes);
+}
+
+// Two parts with a minus between them.
+fn dashed(first: &[u8], second: &[u8]) -> Line
+    requires { length first.now + 1 + length second.now ≤ MAX_LEN }
+    ensures { result ≡ first.now ++ ascii.minus ∷ second.now }
+{
+    let mut text = Line::new();
+    text.put_all(first);
+    put_dashed(&mut text, second);
+    text
+}
+
 // 01-Jun-87, 01-Jun or Jun-87.
 fn date_text(form: DateForm, date: &Civil) -> Line
     ensures { result ≡
         date_text form (unsigned_abs date.now.year) (unsigned_abs date.now.month) (unsigned_abs date.now.day) }
 {
-    let year = date.year.unsigned_abs();
+    let day = two_digits(u16::from(date.day.unsigned_abs()));
     let name = month_name(date.month.unsigned_abs());
-    let day = u16::from(date.day.unsigned_abs());
-    let mut text = Line::new();
+    let year = two_digits(date.year.unsigned_abs());
     match form {
         DateForm::DayMonthYear => {
-            push_two_digits(&mut text, day);
-            push(&mut text, b'-');
-            text.put_all(name);
-            push(&mut text, b'-');
-            push_two_digits(&mut text, year);
+            let mut text = dashed(&day, name);
+            put_dashed(&mut text, &year);
+            text
         }
-        DateForm::DayMonth => {
-            push_two_digits(&mut text, day);
-            push(&mut text, b'-');
-            text.put_all(name);
-        }
-        DateForm::MonthYear => {
-            text.put_all(name);
-            push(&mut text, b'-');
-            push_two_digits(&mut text, year);
-        }
+        DateForm::DayMonth => dashed(&day, name),
+        DateForm::MonthYear => dashed(name, &year),
     }
-    text
 }
 
 // The day that a number is; none where it is none.

@@ -119,12 +119,12 @@ fn put_number(value: Fixed, format: Format, width: usize, into: &mut Line)
         Shape::Percent(places) => put_percent(value, places, width, into),
         Shape::Date(form) => put_day(form, value, width, into),
         Shape::Hidden => put_right(b"", width, into),
-        Shape::Scientific(_) => put_general(value, width, into),
-        Shape::Bar => put_general(value, width, into),
-        Shape::General => put_general(value, width, into),
-        Shape::Text => put_general(value, width, into),
-        Shape::Default => put_general(value, width, into),
-        Shape::Unnamed => put_general(value, width, into),
+        Shape::Scientific(_)
+        | Shape::Bar
+        | Shape::General
+        | Shape::Text
+        | Shape::Default
+        | Shape::Unnamed => put_general(value, width, into),
     }
 }
 

@@ -12,18 +12,18 @@ fn is_general(shape: Shape) -> bool
     ensures { result ≡ true → (v : ℤ) (room : ℕ) → number_text shape v room ≡ fitting 6 v room }
 {
     match shape {
-        Shape::Fixed(_) => false,
-        Shape::Currency(_) => false,
-        Shape::Percent(_) => false,
-        Shape::Comma(_) => false,
-        Shape::Date(_) => false,
-        Shape::Hidden => false,
-        Shape::Scientific(_) => true,
-        Shape::Bar => true,
-        Shape::General => true,
-        Shape::Text => true,
-        Shape::Default => true,
-        Shape::Unnamed => true,
+        Shape::Fixed(_)
+        | Shape::Currency(_)
+        | Shape::Percent(_)
+        | Shape::Comma(_)
+        | Shape::Date(_)
+        | Shape::Hidden => false,
+        Shape::Scientific(_)
+        | Shape::Bar
+        | Shape::General
+        | Shape::Text
+        | Shape::Default
+        | Shape::Unnamed => true,
     }
 }
 
