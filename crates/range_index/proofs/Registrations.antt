@@ -2,19 +2,19 @@
 use Rattle.std.specs.Prelude.{◌≡◌, Bool, true, false, cond, refl, List}
 use Rattle.std.specs.declared.cmp.Ordering.{Ordering}
 use Rattle.std.specs.declared.cmp.Ordering.TheVariants.{Less, Equal, Greater}
-use Rattle.std.specs.Ordering.{ordering_then}
+use Rattle.std.specs.Ordering.{is_eq, ordering_then}
 use Rattle.std.specs.Cmp.{IsTotalOrder, nat_cmp_total}
 use Rattle.std.specs.BTreeMap.{is_at}
 use Rattle.std.specs.List.{list_any}
-use Rattle.std.proofs.Common.{sym, ◌∙◌, ap, inl, inr}
+use Rattle.std.proofs.Common.{sym, ◌∙◌, ap, inl, inr, rules, subst}
 use Rattle.std.proofs.lemmas.Bool.{and_from, and_parts, cases_Bool, true≢false}
-use Rattle.std.proofs.lemmas.Cmp.{on_total, then_total}
+use Rattle.std.proofs.lemmas.Cmp.{on_total, then_total, tied_itself}
 use Rattle.grid_address.proofs.Maps.{equal_of}
 use Rattle.grid_address.proofs.Places.{cells_exact, cells_total, same_place_itself}
-use Rattle.grid_address.specs.Place.{place_cmp, same_place, Place}
-use Rattle.range_index.specs.Blocks.{size_of}
+use Rattle.grid_address.specs.Place.{is_within, place_cmp, same_place, whole, Extent, InSheet, Place}
+use Rattle.range_index.specs.Blocks.{are_one, size_of}
 use Rattle.range_index.specs.Powers.{powers_cmp, Powers}
-use Rattle.range_index.specs.Registered.{block_cmp, has_registration, has_size, registered, registration_cmp, StaysRegistered}
+use Rattle.range_index.specs.Registered.{block_cmp, has_registration, has_size, is_registered, registered, registration_cmp, StaysRegistered}
 use Rattle.range_index.specs.declared.register.Registration.{Registration}
 
 pub then_parts : (a b : Ordering) → ordering_then a b ≡ Equal → (a ≡ Equal) × (b ≡ Equal)
@@ -38,6 +38,21 @@ grows R old new k q h e = h ∙ ap (cond (is_at (R k) q) true) e ∙ same (is_at
     same : (b : Bool) → cond b true true ≡ true
     same true = refl
     same false = refl
+
+-- a set has the key that it gained
+gains : {K : Type 0} {R : K → K → Ordering} (total : IsTotalOrder R) (old new : List K) (k q : K) → k ≡ q → ((x : K) → list_any (is_at (R x)) new ≡ cond (is_at (R k) x) true (list_any (is_at (R x)) old)) → list_any (is_at (R q)) new ≡ true
+gains {R = R} total old new k q e h = subst (λ x. list_any (is_at (R x)) new ≡ true) e (h k ∙ ap (λ o. cond (is_eq o) true (list_any (is_at (R k)) old)) (tied_itself total k))
+
+-- the whole sheet holds each of its places
+in_whole : (p : Place) → InSheet p → is_within whole p ≡ true
+in_whole p h = search rules
+
+-- where its size and its registration were put in, a span is registered
+pub entered : (sizes sizes' : List Powers) (rs rs' : List Registration) (z : Powers) (r : Registration) (o : Place) (s : Extent) → InSheet o → are_one s ≡ true → z ≡ size_of s → r ≡ registered o s
+    → ((y : Powers) → has_size sizes' y ≡ cond (is_at (powers_cmp z) y) true (has_size sizes y))
+    → ((x : Registration) → has_registration rs' x ≡ cond (is_at (registration_cmp r) x) true (has_registration rs x)) → is_registered sizes' rs' o s ≡ true
+entered sizes sizes' rs rs' z r o s inside one ez er hz hr = and_from _ _ (and_from _ _ (in_whole o inside) one)
+    (and_from _ _ (gains powers_total sizes sizes' z (size_of s) ez hz) (gains registration_total rs rs' r (registered o s) er hr))
 
 pub stays : (sizes sizes' : List Powers) (rs rs' : List Registration) → ((z : Powers) → has_size sizes z ≡ true → has_size sizes' z ≡ true) → ((r : Registration) → has_registration rs r ≡ true → has_registration rs' r ≡ true) → StaysRegistered sizes rs sizes' rs'
 stays sizes sizes' rs rs' hz hr o s h =

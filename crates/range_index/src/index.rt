@@ -82,13 +82,12 @@ impl RangeIndex {
     pub fn owners_of(&self, cell: Cell) -> Result<CellList, Memory>
         ensures { IfOk result (λ l. l ≡ owners_of self.now cell) }
     {
-        let list = owners_of(
+        owners_of(
             self.alloc,
             &self.owners,
             &self.sizes,
             &self.registrations,
             cell,
-        )?;
-        Ok(list)
+        )
     }
 }

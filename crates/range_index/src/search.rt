@@ -121,6 +121,5 @@ pub fn owners_of(
     let _owners = owners.len();
     let found = gather_all(alloc, owners, sizes, registrations, cell)?;
     let _found = found.len();
-    let list = listed(alloc, &found)?;
-    Ok(list)
+    listed(alloc, &found)
 }

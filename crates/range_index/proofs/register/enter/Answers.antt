@@ -1,9 +1,13 @@
 use Rattle.std.specs.Prelude.{◌≡◌, true}
 use Rattle.std.proofs.Common.{sym, subst}
-use Rattle.range_index.proofs.Registrations.{grows, stays}
+use Rattle.range_index.proofs.Registrations.{entered, grows, stays}
 use Rattle.range_index.specs.Powers.{powers_cmp}
 use Rattle.range_index.specs.Registered.{has_registration, registration_cmp}
 use Rattle.range_index.proofs.register.enter.Goals as goal
+
+pub returns-clause-done : goal.returns-clause-done
+returns-clause-done c = entered _ c.insert.new.self.keys _ c.insert-2.new.self.keys c.size_of-size.result c.place_of.result c.args.owner c.args.span
+    c.is_on_sheet.ensures c.size_of-size.ensures.one c.size_of-size.ensures.is c.place_of.ensures c.in_ok-insert.ensures.updates.0 c.in_ok-insert-2.ensures.updates.0
 
 pub returns-clause-kept : goal.returns-clause-kept
 returns-clause-kept c = stays _ _ _ _
