@@ -286,3 +286,29 @@ pub has_get : (xs : List Place) (i : ℕ) (d : Place) → i < length xs → has 
 has_get [] i d h = absurd (omega arith)
 has_get (x ∷ xs) zero d h = or_left _ _ (same_place_itself x)
 has_get (x ∷ xs) (suc i) d h = or_right _ _ (has_get xs i d (omega arith))
+
+-- before any frame is begun, the walk that goes on at a root is the walk of the root
+pub begun_walk : (pre : Place → List Place) (n : ℕ) (fs : List Frame) (s : Walked Place) (c : Place) → fs ≡ [] → finish pre n [] fs (walk_on pre n (trail [] fs) s c) ≡ walk same_place pre n [] s c
+begun_walk pre n fs s c e =
+    let all_left : n - 0 ≡ n = omega arith in
+    ap (λ gs. finish pre n [] gs (walk_on pre n (trail [] gs) s c)) e ∙ ap (λ k. walk same_place pre k [] s c) all_left
+
+-- the walks of the roots from a place on begin with that of the root there
+pub walked_more : (f : Walked Place → Place → Walked Place) (s : Walked Place) (roots : List Place) (i : ℕ) (x : Place) → i < length roots → x ≡ get_or roots i x → fold f (f s x) (drop (i + 1) roots) ≡ fold f s (drop i roots)
+walked_more f s roots i x lt is =
+    let e : i + 1 ≡ suc i = omega arith in
+    ap (λ k. fold f (f s x) (drop k roots)) e ∙ ap (λ y. fold f (f s y) (drop (suc i) roots)) is ∙ sym (ap (fold f s) (drop-cons roots i x lt))
+
+-- a frame with one read less to walk is less work
+pub advanced_less : (pre : Place → List Place) (all done path : List Place) (rest : List Frame) (f : Frame) → f.next < length f.reads.items → work_left pre all done path (rest ++ advanced f ∷ []) < work_left pre all done path (rest ++ f ∷ [])
+advanced_less pre all done path rest f lt =
+    let new : sum_by (λ (g : Frame). length (left g) + 1) (rest ++ advanced f ∷ []) ≡ sum_by (λ (g : Frame). length (left g) + 1) rest + (0 + (length (left (advanced f)) + 1)) =
+    sum_by-append (λ (g : Frame). length (left g) + 1) rest (advanced f ∷ []) in
+    let old : sum_by (λ (g : Frame). length (left g) + 1) (rest ++ f ∷ []) ≡ sum_by (λ (g : Frame). length (left g) + 1) rest + (0 + (length (left f) + 1)) =
+    sum_by-append (λ (g : Frame). length (left g) + 1) rest (f ∷ []) in
+    let one : length (left f) ≡ suc (length (left (advanced f))) = ap length (left-advanced f f.cell lt) in
+    omega arith
+
+-- what is no more than a smaller number is smaller
+pub less_still : {a b c : ℕ} → a ≤ b → b < c → a < c
+less_still h k = omega (arith, h, k)

@@ -6,7 +6,7 @@ use Rattle.natural_order.specs.Walk.{Walked}
 use Rattle.grid_address.specs.Place.{same_place, Place}
 use Rattle.natural_order.specs.Machine.{walked, finish, fuel, work_left, IsOnPath, left, walk_on, trail}
 use Rattle.natural_order.specs.declared.walker.Frame.{Frame}
-use Rattle.natural_order.proofs.Machine.{on-advanced, advanced, reads-last, has_at, finish-advanced, left-advanced, finish-closed, path-last, last-apart, closed_less, inserted_new}
+use Rattle.natural_order.proofs.Machine.{on-advanced, advanced, reads-last, has_at, finish-advanced, left-advanced, finish-closed, path-last, last-apart, closed_less, inserted_new, on-closed, advanced_less, less_still}
 use Rattle.natural_order.proofs.walker.Walker.step.Goals as goal
 
 pub visit-requires-clause-known : goal.visit-requires-clause-known
@@ -42,6 +42,36 @@ returns-in_ok-visit-clause-same g c =
     ∙ sym (finish-advanced pre all c.args.self.now.done.keys c.args.self.now.path.keys c.pop.new.self.items f on s d
     (left-advanced f d lt ∙ ap (λ (x : Place). x ∷ left (advanced f)) (sym c.index-cell.ensures)))
     ∙ ap (λ (fs : List Frame). finish pre (fuel all) [] fs s) (sym c.in-Some.ensures.items)
+
+pub returns-in_ok-visit-clause-on : goal.returns-in_ok-visit-clause-on
+returns-in_ok-visit-clause-on g c = c.in_ok-visit.ensures.on
+
+pub returns-in_ok-visit-clause-less : goal.returns-in_ok-visit-clause-less
+returns-in_ok-visit-clause-less g c =
+    let pre = g.G.Precedents.pre c.args.graph.now in
+    let all = g.G.Precedents.all c.args.graph.now in
+    let done : List Place = c.args.self.now.done.keys in
+    let path : List Place = c.args.self.now.path.keys in
+    let f : Frame = c.in-Some.frame in
+    let lt : f.next < length f.reads.items = omega arith in
+    less_still
+    (subst (λ (fs : List Frame). work_left pre all c.visit.new.self.done.keys c.visit.new.self.path.keys c.visit.new.self.stack.items ≤ work_left pre all done path fs) c.in_ok-push.ensures c.in_ok-visit.ensures.less)
+    (subst (λ (fs : List Frame). work_left pre all done path (c.pop.new.self.items ++ advanced f ∷ []) < work_left pre all done path fs) (sym c.in-Some.ensures.items)
+    (advanced_less pre all done path c.pop.new.self.items f lt))
+
+pub returns-in_ok-insert-clause-on : goal.returns-in_ok-insert-clause-on
+returns-in_ok-insert-clause-on g c =
+    let pre = g.G.Precedents.pre c.args.graph.now in
+    let all = g.G.Precedents.all c.args.graph.now in
+    let f : Frame = c.in-Some.frame in
+    let done : List Place = c.args.self.now.done.keys in
+    let path : List Place = c.args.self.now.path.keys in
+    let rest : List Frame = c.pop.new.self.items in
+    let on : IsOnPath pre all done path (rest ++ f ∷ []) = subst (IsOnPath pre all done path) c.in-Some.ensures.items c.requires.on in
+    let front : List Place = c.pop-else-frame-len.new.self.keys in
+    let last : path ≡ front ++ f.cell ∷ [] = path-last pre all done path rest f on front c.pop-else-frame-len.result c.pop-else-frame-len.ensures.keys c.pop-else-frame-len.ensures.found.1 in
+    let keys : c.insert.new.set.keys ≡ done ++ f.cell ∷ [] = c.in_ok-insert.ensures.keys ∙ inserted_new done f.cell (last-apart pre all done path rest f on front last) in
+    subst (λ (ds : List Place). IsOnPath pre all ds front rest) (sym keys) (on-closed pre all done path rest f on front last)
 
 pub returns-in_ok-insert-clause-same : goal.returns-in_ok-insert-clause-same
 returns-in_ok-insert-clause-same g c =
