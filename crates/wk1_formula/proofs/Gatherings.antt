@@ -1,5 +1,5 @@
 -- What is kept of the arguments of a call.
-use Rattle.std.proofs.Common.{◌≡◌, ◌+◌, ◌<◌, max, min, Bool, true, false, ◌&&◌, List, [], ◌∷◌, ◌++◌, length, reverse, refl, ap, ◌∙◌, sym, subst, append_assoc, arith, inl, inr}
+use Rattle.std.proofs.Common.{◌≡◌, ℕ, ◌+◌, ◌≤◌, ◌<◌, max, min, Bool, true, false, ◌&&◌, List, [], ◌∷◌, ◌++◌, length, reverse, refl, ap, ◌∙◌, sym, subst, append_assoc, arith, inl, inr, length-append}
 use Rattle.std.specs.Option.{ForSome}
 use Rattle.std.specs.Prelude.{Option, Some, None, ◌⊎◌}
 use Rattle.std.proofs.lemmas.List.{append-nil, reverse-append}
@@ -73,6 +73,13 @@ parted (j ∷ js) i [] h = absurd h
 parted (j ∷ js) i (t ∷ ts) h =
     let p = parted js i ts h.1 in
     record { front = t ∷ p.front; last = p.last; whole = ap (λ l. t ∷ l) p.whole; items = (h.0, p.items); item = p.item }
+
+-- the last of some items goes to those that were taken
+pub last_taken : (stack now args new old : List Item) (i : Item) (n count : ℕ) → stack ≡ now ++ i ∷ [] → new ≡ args ++ i ∷ []
+    → (stack ++ reverse args ≡ old) × (length args ≡ n) × (count ≤ length stack + n) → (now ++ reverse new ≡ old) × (length new ≡ n + 1) × (count ≤ length now + (n + 1))
+last_taken stack now args new old i n count left taken h =
+    let kept = ap (λ l. now ++ reverse l) taken ∙ ap (λ l. now ++ l) (reverse-append args (i ∷ [])) ∙ sym (append_assoc now (i ∷ []) (reverse args)) ∙ ap (λ l. l ++ reverse args) (sym left) ∙ h.0 in
+    (kept, omega (arith, h.1, ap length taken, length-append args (i ∷ [])), omega (arith, h.2, ap length left, length-append now (i ∷ [])))
 
 -- some of the trees wait, and the others are gathered
 pub record Waits (is : List Item) (g : Gathered) (ts : List Tree) : Type 0 where

@@ -1,6 +1,7 @@
 -- The stack of trees after each code.
 use Rattle.std.proofs.Common.{◌≡◌, ℕ, ◌≤◌, ◌<◌, true, false, nat_le, List, [], ◌∷◌, ◌++◌, length, take, drop, reverse, refl, ap, ◌∙◌, sym, subst, arith, length-append}
-use Rattle.std.specs.Prelude.{nat_lt, Some, None}
+use Rattle.std.specs.Prelude.{nat_lt, Some, None, Bool, IfOk, Result, Ok, Err}
+use Rattle.std.proofs.lemmas.Bool.{false≢true}
 use Rattle.std.proofs.lemmas.Bool.Decides.{nat_tests}
 use Rattle.std.proofs.lemmas.List.{length-reverse, reverse-append, reverse-reverse}
 use Rattle.formula_tree.specs.Tree.{Tree, binary, call}
@@ -20,8 +21,20 @@ use Rattle.formula_tree.specs.declared.function.Function.{Function}
 use Rattle.formula_tree.specs.declared.function.Function.TheVariants as function_named
 
 -- a code that puts a tree
-pub put : (c : Code) (t : Tree) (i : Item) (old now : List Item) → ((ts : List Tree) → after c ts ≡ Some (t ∷ ts)) → now ≡ i ∷ old → IsItem i t → (ts : List Tree) → AreItems old ts → HasStepped c true now ts
+put : (c : Code) (t : Tree) (i : Item) (old now : List Item) → ((ts : List Tree) → after c ts ≡ Some (t ∷ ts)) → now ≡ i ∷ old → IsItem i t → (ts : List Tree) → AreItems old ts → HasStepped c true now ts
 put c t i old now does is item ts h = (t ∷ ts, does ts, subst (λ l. AreItems l (t ∷ ts)) (sym is) (item, h))
+
+-- what going on with an item comes to
+pub went_on : {E : Type 0} (c : Code) (i : Item) (old start now : List Item) (r : Result Bool E) → (now ≡ i ∷ old → (ts : List Tree) → AreItems start ts → HasStepped c true now ts)
+    → IfOk r (λ went. (went ≡ true) × (now ≡ i ∷ old)) → IfOk r (λ went. (ts : List Tree) → AreItems start ts → HasStepped c went now ts)
+went_on c i old start now (Ok true) does h = does h.1
+went_on c i old start now (Ok false) does h = absurd (false≢true h.0)
+went_on c i old start now (Err e) does h = tt
+
+-- the same of a code that puts a tree
+pub put_on : {E : Type 0} (k c : Code) (t : Tree) (i : Item) (old now : List Item) (r : Result Bool E) → k ≡ c → ((ts : List Tree) → after c ts ≡ Some (t ∷ ts)) → IsItem i t
+    → IfOk r (λ went. (went ≡ true) × (now ≡ i ∷ old)) → IfOk r (λ went. (ts : List Tree) → AreItems old ts → HasStepped k went now ts)
+put_on k c t i old now r is does item = went_on k i old old now r (λ e. subst (λ d. (ts : List Tree) → AreItems old ts → HasStepped d true now ts) (sym is) (put c t i old now does e item))
 
 over_does : (one : One) (t : Tree) (ts : List Tree) → after (code_over one) (t ∷ ts) ≡ Some (built one (held one t) ∷ ts)
 over_does Group t ts = refl

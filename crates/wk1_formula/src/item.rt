@@ -1,8 +1,8 @@
 // Trees on the stack.
-ghost use Rattle.std.specs.Prelude.{◌≡◌, ◌≤◌, ◌<◌, ◌+◌, ◌⊎◌, ◌++◌, ◌∷◌, [], min, IfOk, None, Some, true, nat_le, nat_lt};
+ghost use Rattle.std.specs.Prelude.{◌≡◌, ◌≤◌, ◌<◌, ◌+◌, ◌⊎◌, ◌++◌, ◌∷◌, [], min, IfOk, None, Some, true, nat_le, nat_lt, if◌then◌else◌};
 ghost use Rattle.std.specs.Option.{ForSome};
 ghost use Rattle.formula_tree.specs.Shape.{depth, every, is_fine, level, lowest, nodes_size, top};
-ghost use Rattle.formula_tree.specs.Tree.{binary, Tree};
+ghost use Rattle.formula_tree.specs.Tree.{binary, group, Tree};
 ghost use Rattle.formula_tree.specs.View.{tree_of};
 ghost use Rattle.wk1_formula.specs.Items.{built, edge_of, fits, IsItem};
 ghost use Rattle.wk1_formula.specs.Stack.{front_operand, left_operand, right_operand};
@@ -131,36 +131,56 @@ pub fn over(alloc: Global, one: One, item: Item) -> Result<Item, Memory>
     }
 }
 
-/// Puts a bracket round an operand that a minus or a NOT wouldn't hold.
-pub fn front_operand(alloc: Global, item: Item, least: u8) -> Result<Item, Memory>
-    ensures { IfOk result (λ i. (t : Tree) → IsItem item t → IsItem i (front_operand least t)) }
+// An operand as it stands where it is held, and else with a bracket round it.
+fn bracketed(alloc: Global, is_held: bool, item: Item) -> Result<Item, Memory>
+    ensures { IfOk result (λ i. (t : Tree) → IsItem item t → IsItem i (if is_held then t else group t)) }
 {
-    if least < item.top {
+    if is_held {
         Ok(item)
     } else {
         over(alloc, One::Group, item)
     }
+}
+
+/// Puts a bracket round an operand that a minus or a NOT wouldn't hold.
+pub fn front_operand(alloc: Global, item: Item, least: u8) -> Result<Item, Memory>
+    ensures { IfOk result (λ i. (t : Tree) → IsItem item t → IsItem i (front_operand least t)) }
+{
+    bracketed(alloc, least < item.top, item)
 }
 
 /// Puts a bracket round a left operand that an operator wouldn't hold.
 pub fn left_operand(alloc: Global, op: Op, item: Item) -> Result<Item, Memory>
     ensures { IfOk result (λ i. (t : Tree) → IsItem item t → IsItem i (left_operand op t)) }
 {
-    if level(op) <= item.edge {
-        Ok(item)
-    } else {
-        over(alloc, One::Group, item)
-    }
+    bracketed(alloc, level(op) <= item.edge, item)
 }
 
 /// Puts a bracket round a right operand that an operator wouldn't hold.
 pub fn right_operand(alloc: Global, op: Op, item: Item) -> Result<Item, Memory>
     ensures { IfOk result (λ i. (t : Tree) → IsItem item t → IsItem i (right_operand op t)) }
 {
-    if level(op) < item.top {
-        Ok(item)
-    } else {
-        over(alloc, One::Group, item)
+    bracketed(alloc, level(op) < item.top, item)
+}
+
+// The tree of an operator between two others that stands at a depth, where it is kept.
+fn joined(
+    alloc: Global,
+    op: Op,
+    left: Option<Expr>,
+    right: Option<Expr>,
+    depth: u32,
+) -> Result<Option<Expr>, Memory>
+    ensures some { IfOk result (λ o. ForSome o (λ e. (a b : Tree) → ForSome left (λ l. tree_of l ≡ a)
+        → ForSome right (λ r. tree_of r ≡ b) → tree_of e ≡ binary op a b)) }
+    ensures none { IfOk result (λ o. o ≡ None → ((left ≡ None) ⊎ (right ≡ None)) ⊎ (256 < depth)) }
+{
+    match boxed(alloc, left, depth)? {
+        Some(left) => match boxed(alloc, right, depth)? {
+            Some(right) => Ok(Some(Expr::Binary(op, left, right))),
+            None => Ok(None),
+        },
+        None => Ok(None),
     }
 }
 
@@ -171,31 +191,14 @@ pub fn between(alloc: Global, op: Op, left: Item, right: Item) -> Result<Item, M
 {
     let depth = deeper(left.depth.max(right.depth));
     let size = larger(larger(left.size, right.size), 1);
-    let edge = right.edge.min(level(op));
     let top = level(op);
-    let Some(left) = boxed(alloc, left.expr, depth)? else {
-        return Ok(Item {
-            expr: None,
-            depth,
-            size,
-            top,
-            edge,
-        });
-    };
-    match boxed(alloc, right.expr, depth)? {
-        Some(right) => Ok(Item {
-            expr: Some(Expr::Binary(op, left, right)),
-            depth,
-            size,
-            top,
-            edge,
-        }),
-        None => Ok(Item {
-            expr: None,
-            depth,
-            size,
-            top,
-            edge,
-        }),
-    }
+    let edge = right.edge.min(top);
+    let expr = joined(alloc, op, left.expr, right.expr, depth)?;
+    Ok(Item {
+        expr,
+        depth,
+        size,
+        top,
+        edge,
+    })
 }

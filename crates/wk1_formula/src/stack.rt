@@ -1,6 +1,6 @@
 // The stack of trees after each code.
 ghost use Rattle.std.specs.Int.RustNames.{int_lt};
-ghost use Rattle.std.specs.Prelude.{◌≡◌, ◌≤◌, ◌<◌, ◌+◌, ◌++◌, ◌∷◌, [], IfOk, IfSome, IfNone, OnOk, None, Some, true, false, length, pos, nat_abs, reverse, List};
+ghost use Rattle.std.specs.Prelude.{◌≡◌, ◌≤◌, ◌<◌, ◌+◌, ◌++◌, ◌∷◌, [], IfOk, IfSome, IfNone, None, Some, true, false, length, pos, nat_abs, reverse, List};
 ghost use Rattle.formula_tree.specs.Shape.{is_short, node_size};
 ghost use Rattle.formula_tree.specs.Table.{counts_of, takes};
 ghost use Rattle.formula_tree.specs.Tree.{binary, call, no_trees, num, str, Tree};
@@ -71,12 +71,12 @@ fn bare_call(alloc: Global, function: Function) -> Item
     called(function, nothing(alloc))
 }
 
-// Adds an item.
-fn push(stack: &mut Vec<Item>, item: Item) -> Result<(), Memory>
-    ensures { OnOk result (reverse stack.new.items ≡ item ∷ reverse stack.old.items) }
+// Goes on with one item more.
+fn go_on(stack: &mut Vec<Item>, item: Item) -> Result<bool, Memory>
+    ensures { IfOk result (λ went. (went ≡ true) × (reverse stack.new.items ≡ item ∷ reverse stack.old.items)) }
 {
     stack.push(item)?;
-    Ok(())
+    Ok(true)
 }
 
 // Takes the last item.
@@ -99,7 +99,6 @@ fn hold(alloc: Global, one: One, item: Item) -> Result<Item, Memory>
 }
 
 // A bracket, a minus or a NOT over an operand with the bracket that it needs.
-#[tactic(auto, using(crate::proofs::Numbers::held_fits))]
 fn held_over(alloc: Global, one: One, item: Item) -> Result<Item, Memory>
     ensures { IfOk result (λ i. (t : Tree) → IsItem item t → IsItem i (built one (held one t))) }
 {
@@ -108,7 +107,6 @@ fn held_over(alloc: Global, one: One, item: Item) -> Result<Item, Memory>
 }
 
 // An operator between two operands with the brackets that they need.
-#[tactic(auto, using(crate::proofs::Numbers::left_fits, crate::proofs::Numbers::right_fits))]
 fn held_between(alloc: Global, op: Op, left: Item, right: Item) -> Result<Item, Memory>
     ensures { IfOk result (λ i. (a b : Tree) → IsItem left a → IsItem right b
         → IsItem i (binary op (left_operand op a) (right_operand op b))) }
@@ -126,8 +124,7 @@ fn over_one(alloc: Global, stack: &mut Vec<Item>, one: One) -> Result<bool, Memo
     match pop(stack) {
         Some(item) => {
             let item = held_over(alloc, one, item)?;
-            push(stack, item)?;
-            Ok(true)
+            go_on(stack, item)
         }
         None => Ok(false),
     }
@@ -142,8 +139,7 @@ fn over_two(alloc: Global, stack: &mut Vec<Item>, op: Op) -> Result<bool, Memory
         Some(right) => match pop(stack) {
             Some(left) => {
                 let item = held_between(alloc, op, left, right)?;
-                push(stack, item)?;
-                Ok(true)
+                go_on(stack, item)
             }
             None => Ok(false),
         },
@@ -162,8 +158,7 @@ fn call(alloc: Global, stack: &mut Vec<Item>, function: Function, count: u8) -> 
     }
     let args = take_last(alloc, stack, count)?;
     let gathered = gather(alloc, args)?;
-    push(stack, called(function, gathered))?;
-    Ok(true)
+    go_on(stack, called(function, gathered))
 }
 
 // Goes on with a plus, which is left out of the tree.
@@ -191,29 +186,13 @@ pub fn step(alloc: Global, stack: &mut Vec<Item>, code: Code) -> Result<bool, Me
     match code {
         Code::Number(number) => {
             let item = number_item(alloc, number)?;
-            push(stack, item)?;
-            Ok(true)
+            go_on(stack, item)
         }
-        Code::Error => {
-            push(stack, bare_call(alloc, Function::Err))?;
-            Ok(true)
-        }
-        Code::Missing => {
-            push(stack, bare_call(alloc, Function::Na))?;
-            Ok(true)
-        }
-        Code::Reference(reference) => {
-            push(stack, leaf(Expr::Cell(reference), 5))?;
-            Ok(true)
-        }
-        Code::Range(first, last) => {
-            push(stack, leaf(Expr::Span(first, last), 9))?;
-            Ok(true)
-        }
-        Code::Text(text) => {
-            push(stack, text_item(text))?;
-            Ok(true)
-        }
+        Code::Error => go_on(stack, bare_call(alloc, Function::Err)),
+        Code::Missing => go_on(stack, bare_call(alloc, Function::Na)),
+        Code::Reference(reference) => go_on(stack, leaf(Expr::Cell(reference), 5)),
+        Code::Range(first, last) => go_on(stack, leaf(Expr::Span(first, last), 9)),
+        Code::Text(text) => go_on(stack, text_item(text)),
         Code::Brackets => over_one(alloc, stack, One::Group),
         Code::Minus => over_one(alloc, stack, One::Neg),
         Code::Plus => Ok(over_plus(stack.as_slice())),

@@ -2,19 +2,22 @@
 ghost use Rattle.std.specs.Int.{to_le_bytes, w16};
 ghost use Rattle.std.specs.Prelude.{◌≡◌, ◌≤◌, ◌<◌, ◌/◌, ◌++◌, ◌∷◌, [], OnOk, nat_abs, pos, true, false, flat_map};
 ghost use Rattle.grid_address.specs.Axes.{number_of};
+ghost use Rattle.grid_address.specs.Place.{Place};
 ghost use Rattle.std.specs.List.{list_all};
 ghost use Rattle.formula_tree.specs.Shape.{every, is_counted, is_short};
 ghost use Rattle.formula_tree.specs.View.{tree_of};
-ghost use Rattle.wk1_formula.specs.Codes.{brackets, function, minus, negation, number, operator, postfix, range, reference, text};
+ghost use Rattle.wk1_formula.specs.Codes.{operator, postfix, range, reference};
 ghost use Rattle.wk1_formula.specs.Doubles.{bits_of};
+ghost use Rattle.wk1_formula.specs.Steps.{code_over};
 ghost use Rattle.wk1_formula.specs.declared.opcodes.TheConstants as opcodes;
 ghost use Rattle.wk1_formula.specs.Written.{bytes_of, code_of, coordinate, function_bytes, number_bytes, reference_bytes, spelled};
 
 use crate::bytes::{put, put_short};
+use crate::item::One;
 use crate::kind::op_code;
 use crate::{function_codes, opcodes};
 use fixed_value::{Fixed, to_double_bits};
-use formula_tree::{Expr, Formula, Function, call_size};
+use formula_tree::{Expr, Formula, Function, Op, call_size};
 use grid_address::{Axis, COLUMNS, Cell, ROWS, Ref};
 use lics_text::{Memory, Text};
 
@@ -103,11 +106,40 @@ fn put_reference(reference: Ref, at: Cell, into: &mut Vec<u8>) -> Result<(), Mem
 fn put_function(function: Function, count: u8, into: &mut Vec<u8>) -> Result<(), Memory>
     ensures { OnOk result (into.new.items ≡ into.old.items ++ function_bytes function count) }
 {
-    put_byte(function_codes::code_of(function), into)?;
+    let code = function_codes::code_of(function);
     if call_size(function) == 2 {
-        put_byte(count, into)?;
+        put(&[code, count], into)
+    } else {
+        put_byte(code, into)
     }
-    Ok(())
+}
+
+// Adds a reference's code.
+fn put_cell(place: Ref, at: Cell, into: &mut Vec<u8>) -> Result<(), Memory>
+    ensures { OnOk result (into.new.items ≡ into.old.items ++ bytes_of at (reference place)) }
+{
+    put_byte(opcodes::REFERENCE, into)?;
+    put_reference(place, at, into)
+}
+
+// Adds a range's code.
+fn put_span(first: Ref, last: Ref, at: Cell, into: &mut Vec<u8>) -> Result<(), Memory>
+    ensures { OnOk result (into.new.items ≡ into.old.items ++ bytes_of at (range first last)) }
+{
+    put_byte(opcodes::RANGE, into)?;
+    put_reference(first, at, into)?;
+    put_reference(last, at, into)
+}
+
+// The code of what stands over one operand.
+fn over_code(one: One) -> u8
+    ensures { (at : Place) → bytes_of at (code_over one) ≡ result ∷ [] }
+{
+    match one {
+        One::Group => opcodes::BRACKETS,
+        One::Neg => opcodes::MINUS,
+        One::Not => opcodes::NOT,
+    }
 }
 
 /// Adds the codes of a tree that stands in a cell.
@@ -119,37 +151,47 @@ fn put_tree(expr: &Expr, at: Cell, into: &mut Vec<u8>) -> Result<(), Memory>
     match expr {
         Expr::Num(value) => put_number(*value, into),
         Expr::Str(text) => put_text(text, into),
-        Expr::Cell(place) => {
-            put_byte(opcodes::REFERENCE, into)?;
-            put_reference(*place, at, into)
-        }
-        Expr::Span(first, last) => {
-            put_byte(opcodes::RANGE, into)?;
-            put_reference(*first, at, into)?;
-            put_reference(*last, at, into)
-        }
-        Expr::Group(inner) => {
-            put_tree(inner, at, into)?;
-            put_byte(opcodes::BRACKETS, into)
-        }
-        Expr::Neg(inner) => {
-            put_tree(inner, at, into)?;
-            put_byte(opcodes::MINUS, into)
-        }
-        Expr::Not(inner) => {
-            put_tree(inner, at, into)?;
-            put_byte(opcodes::NOT, into)
-        }
-        Expr::Binary(op, left, right) => {
-            put_tree(left, at, into)?;
-            put_tree(right, at, into)?;
-            put_byte(op_code(*op), into)
-        }
+        Expr::Cell(place) => put_cell(*place, at, into),
+        Expr::Span(first, last) => put_span(*first, *last, at, into),
+        Expr::Group(inner) => put_over(One::Group, inner, at, into),
+        Expr::Neg(inner) => put_over(One::Neg, inner, at, into),
+        Expr::Not(inner) => put_over(One::Not, inner, at, into),
+        Expr::Binary(op, left, right) => put_between(*op, left, right, at, into),
         Expr::Call(function, args) => {
             put_trees(args.items(), at, into)?;
             put_function(*function, args.items().len() as u8, into)
         }
     }
+}
+
+// Adds the codes of a tree with a bracket, a minus or a NOT over it.
+#[cycle(put_tree)]
+fn put_over(one: One, inner: &Expr, at: Cell, into: &mut Vec<u8>) -> Result<(), Memory>
+    requires { every is_counted (tree_of inner.now) ≡ true }
+    ensures { OnOk result (into.new.items
+        ≡ into.old.items ++ spelled at (postfix (tree_of inner.now) ++ code_over one ∷ [])) }
+{
+    put_tree(inner, at, into)?;
+    put_byte(over_code(one), into)
+}
+
+// Adds the codes of two trees with an operator between them.
+#[cycle(put_tree)]
+fn put_between(
+    op: Op,
+    left: &Expr,
+    right: &Expr,
+    at: Cell,
+    into: &mut Vec<u8>,
+) -> Result<(), Memory>
+    requires left_counted { every is_counted (tree_of left.now) ≡ true }
+    requires right_counted { every is_counted (tree_of right.now) ≡ true }
+    ensures { OnOk result (into.new.items ≡ into.old.items
+        ++ spelled at (postfix (tree_of left.now) ++ (postfix (tree_of right.now) ++ operator op ∷ []))) }
+{
+    put_tree(left, at, into)?;
+    put_tree(right, at, into)?;
+    put_byte(op_code(op), into)
 }
 
 // Adds the codes of arguments.

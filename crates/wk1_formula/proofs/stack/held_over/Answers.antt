@@ -1,0 +1,8 @@
+use Rattle.wk1_formula.specs.Steps.{held}
+use Rattle.wk1_formula.proofs.Numbers.{held_fits}
+use Rattle.wk1_formula.proofs.Oks.{ok_weaker}
+use Rattle.wk1_formula.proofs.stack.held_over.Goals as goal
+
+pub returns : goal.returns
+returns c =
+    ok_weaker _ _ c.over.result (λ i h t p. h (held c.args.one t) (c.in_ok-item.ensures t p) (held_fits c.args.one t)) c.over.ensures
