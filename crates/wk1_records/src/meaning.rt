@@ -40,25 +40,18 @@ fn is_long(kind: Kind, body: &[u8]) -> bool
     ensures { result ≡ not (nat_lt (length body.now) (least_length kind body.now)) }
 {
     match kind {
+        Kind::Eof | Kind::Other => true,
+        Kind::CalcMode | Kind::CalcOrder | Kind::CalcCount | Kind::Protection | Kind::LabelFormat =>
+            body.len() >= 1,
         Kind::Bof => body.len() >= 2,
-        Kind::Eof => true,
-        Kind::CalcMode => body.len() >= 1,
-        Kind::CalcOrder => body.len() >= 1,
-        Kind::Range => body.len() >= 8,
-        Kind::Window => body.len() >= 8,
         Kind::ColumnWidth => body.len() >= 3,
-        Kind::Name => body.len() >= 24,
-        Kind::Blank => body.len() >= 5,
+        Kind::Blank | Kind::Label | Kind::Str => body.len() >= 5,
         Kind::Integer => body.len() >= 7,
+        Kind::Range | Kind::Window => body.len() >= 8,
         Kind::Number => body.len() >= 13,
-        Kind::Label => body.len() >= 5,
         Kind::Formula => has_code(body),
-        Kind::Protection => body.len() >= 1,
-        Kind::LabelFormat => body.len() >= 1,
-        Kind::CalcCount => body.len() >= 1,
-        Kind::Str => body.len() >= 5,
+        Kind::Name => body.len() >= 24,
         Kind::HiddenColumns => body.len() >= 32,
-        Kind::Other => true,
     }
 }
 

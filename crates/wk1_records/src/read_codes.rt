@@ -6,6 +6,7 @@ use formula_tree::Formula;
 use lics_text::Memory;
 use std::alloc::Global;
 use std::marker::Model;
+use std::mem::replace;
 use wk1_formula::{CodeFault, read_code};
 
 /// How many codes are kept.
@@ -112,7 +113,7 @@ impl ReadCodes {
         let read = ReadCode::of(self.alloc, code, formula)?;
         let read = Box::new(self.alloc, read)?;
         if let Some(place) = self.places.get_mut(place_of(code)) {
-            *place = Some(read);
+            drop(replace(place, Some(read)));
         }
         Ok(())
     }
