@@ -119,16 +119,25 @@ impl EntryLine {
         LineEvent::Going
     }
 
+    // Bytes are taken out and others come in, behind which the cursor then stands.
+    fn splice(&mut self, from: usize, inside: &[u8], to: usize)
+        requires order { (from ≤ to) × (to ≤ length self.old.text) }
+        requires room { from + length inside.now + (length self.old.text - to) ≤ MAX_LEN }
+        requires bytes { IsText inside.now }
+        ensures text { self.new.text ≡ take from self.old.text ++ (inside.now ++ drop to self.old.text) }
+        ensures cursor { self.new.cursor ≡ from + length inside.now }
+    {
+        self.line = spliced(self.line.bytes(), from, inside, to);
+        self.cursor = from + inside.len();
+    }
+
     // Puts a byte in at the cursor, where there is room.
     fn put(&mut self, byte: TextByte) -> LineEvent
         ensures line { self.new ≡ typed self.old byte }
         ensures event { result ≡ event (Key.Byte byte) self.old }
     {
-        let cursor = self.cursor;
-        let bytes = self.line.bytes();
-        if bytes.len() < MAX_LEN {
-            self.line = spliced(bytes, cursor, &[byte.get()], cursor);
-            self.cursor = cursor + 1;
+        if self.line.bytes().len() < MAX_LEN {
+            self.splice(self.cursor, &[byte.get()], self.cursor);
             LineEvent::Going
         } else {
             LineEvent::LineFull
@@ -141,9 +150,8 @@ impl EntryLine {
         ensures event { result ≡ LineEvent.Going }
     {
         let cursor = self.cursor;
-        let bytes = self.line.bytes();
-        if cursor < bytes.len() {
-            self.line = spliced(bytes, cursor, b"", cursor + 1);
+        if cursor < self.line.bytes().len() {
+            self.splice(cursor, b"", cursor + 1);
         }
         LineEvent::Going
     }
@@ -155,8 +163,7 @@ impl EntryLine {
     {
         let cursor = self.cursor;
         if cursor > 0 {
-            self.line = spliced(self.line.bytes(), cursor - 1, b"", cursor);
-            self.cursor = cursor - 1;
+            self.splice(cursor - 1, b"", cursor);
         }
         LineEvent::Going
     }
