@@ -87,6 +87,18 @@ pub fn code(text: &Text) -> Option<Fixed>
     }
 }
 
+// The bytes of three parts, one behind the other.
+fn joined(front: &[u8], middle: &[u8], back: &[u8]) -> Line
+    requires { length front.now + length middle.now + length back.now ≤ MAX_LEN }
+    ensures { result ≡ front.now ++ (middle.now ++ back.now) }
+{
+    let mut line = Line::new();
+    line.put_all(front);
+    line.put_all(middle);
+    line.put_all(back);
+    line
+}
+
 /// A text with so many bytes from a place on replaced by new ones, which are put behind it for a place past its
 /// end; none past 240 bytes, and for a place or a count below zero.
 pub fn replace(text: &Text, start: Fixed, count: Fixed, new: &Text) -> Result<Option<Text>, Memory>
@@ -100,14 +112,12 @@ pub fn replace(text: &Text, start: Fixed, count: Fixed, new: &Text) -> Result<Op
     };
     let bytes = text.bytes();
     let front = part(bytes, 0, start as usize);
+    let middle = new.bytes();
     let back = part(bytes, start as usize + count as usize, bytes.len());
-    if front.len() + new.bytes().len() + back.len() > MAX_LEN {
+    if front.len() + middle.len() + back.len() > MAX_LEN {
         return Ok(None);
     }
-    let mut line = Line::new();
-    line.put_all(front);
-    line.put_all(new.bytes());
-    line.put_all(back);
+    let line = joined(front, middle, back);
     Ok(Some(text.like(line.bytes())?))
 }
 
