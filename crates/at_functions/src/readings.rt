@@ -2,6 +2,7 @@
 ghost use Rattle.std.specs.Char.{is_ascii_digit};
 ghost use Rattle.std.specs.Prelude.{◌≡◌, ◌≤◌, ◌<◌, ◌+◌, IfNone, IfSome, Some, None, drop, length, take, map};
 ghost use Rattle.std.specs.Option.{ForSome};
+ghost use Rattle.ascii_bytes.specs.Ascii as ascii;
 ghost use Rattle.at_functions.specs.Readings.{before, behind, clock, dashed, datevalue, is_name, month_named, month_number, number_in, short_number, slashed, three, timevalue, two_digits, value, with_minutes, with_seconds};
 
 use crate::dates::{date_by, time_of};
@@ -139,14 +140,11 @@ fn clock(hour: Option<u16>, minute: Option<u16>, second: Option<u16>) -> Option<
     time_of(i64::from(hour?), i64::from(minute?), i64::from(second?))
 }
 
-/// The part of a day of a time H:MM or H:MM:SS, hours to 23; the hour has one or two digits.
-pub fn timevalue(text: &Text) -> Option<Fixed>
-    ensures { result ≡ timevalue text.now }
+// The time of an hour and what stands behind its colon.
+fn behind_hour(hour: &[u8], rest: &[u8]) -> Option<Fixed>
+    ensures { result ≡ with_seconds hour.now (before ascii.colon rest.now) (behind ascii.colon rest.now) }
 {
-    let bytes = text.bytes();
-    let first = place_of(bytes, b':')?;
-    let hour = short_number(&bytes[..first]);
-    let rest = &bytes[first + 1..];
+    let hour = short_number(hour);
     match place_of(rest, b':') {
         Some(second) => clock(
             hour,
@@ -155,4 +153,13 @@ pub fn timevalue(text: &Text) -> Option<Fixed>
         ),
         None => clock(hour, two_digits(rest), Some(0)),
     }
+}
+
+/// The part of a day of a time H:MM or H:MM:SS, hours to 23; the hour has one or two digits.
+pub fn timevalue(text: &Text) -> Option<Fixed>
+    ensures { result ≡ timevalue text.now }
+{
+    let bytes = text.bytes();
+    let first = place_of(bytes, b':')?;
+    behind_hour(&bytes[..first], &bytes[first + 1..])
 }
