@@ -2,6 +2,7 @@
 import glob
 import os
 import re
+import resource
 import subprocess
 import sys
 import time
@@ -102,9 +103,15 @@ def without_past_work(crate, of):
     return {kind: of[kind] if has[kind] else 0 for kind in KINDS}
 
 
+def used_by_children():
+    """The seconds of the processes that have ended below this one."""
+    of = resource.getrusage(resource.RUSAGE_CHILDREN)
+    return of.ru_utime + of.ru_stime
+
+
 def main(words):
     used, known = {}, {}
-    ran = None if words else subprocess.Popen(["rt", "ci"])
+    ran = None if words else subprocess.Popen(["taskset", "--cpu-list", "0", "rt", "ci", "--anew"])
     gate = int(words[0]) if words else ran.pid
     while look(gate, known, used) and (ran is None or ran.poll() is None):
         time.sleep(0.5)
@@ -121,8 +128,12 @@ def main(words):
     listed = crates()
     with open(PAGE, "w", encoding="utf-8") as it:
         it.write(page[:start] + table({crate: without_past_work(crate, of) for crate, of in rows.items() if crate in listed}) + page[end:])
-    print(f"gate: {sum(seconds for _, seconds in used.values()) / 60:.0f} minutes of one processor were seen")
-    return ran.wait() if ran else 0
+    print(f"gate: {sum(seconds for _, seconds in used.values()) / 60:.1f} minutes of one processor were seen")
+    if ran is None:
+        return 0
+    status = ran.wait()
+    print(f"gate: {used_by_children() / 60:.1f} minutes of one processor in all")
+    return status
 
 
 if __name__ == "__main__":
