@@ -13,7 +13,7 @@ use Rattle.std.specs.Option.{option_map}
 use Rattle.std.proofs.lemmas.Option.{slice_get-get_or, slice_get-map, slice_get_within}
 use Rattle.grid_address.specs.Place.{place_cmp, same_place, InSheet, Place}
 use Rattle.grid_address.proofs.Places.{cells_exact, cells_total, get_inserted, get_removed, place_tied, same_place_is, same_place_itself, same_places}
-use Rattle.cell_numbers.specs.Numbers.{number_at}
+use Rattle.cell_numbers.specs.Numbers.{number_at, Numbers}
 use Rattle.cell_numbers.specs.Filled.{cell_in, cells_of, filled, item_in, with_item, AreNumbered}
 use Rattle.cell_numbers.specs.declared.held.Held.{Held}
 use Rattle.cell_numbers.specs.declared.held.Held.TheVariants as held
@@ -82,7 +82,7 @@ module _ {T : Type 0} where
   same_cells (x ∷ hs) zero g e = ap (λ c. c ∷ cells_of hs) (sym (same_some e))
   same_cells (x ∷ hs) (suc i) g e = ap (λ l. cell_in x ∷ l) (same_cells hs i g e)
 
-  module _ (bands : List (List ℕ)) (hs : List (Held T)) (ok : AreNumbered bands (cells_of hs)) (c : Place) (inside : InSheet c) where
+  module _ (bands : Numbers) (hs : List (Held T)) (ok : AreNumbered bands (cells_of hs)) (c : Place) (inside : InSheet c) where
     only : (i : ℕ) → number_at bands c ≡ suc i → (j : ℕ) → slice_get (cells_of hs) j ≡ Some c → j ≡ i
     only i e j k = same_suc (sym (ok.told j c k) ∙ e)
 
@@ -163,7 +163,7 @@ last_is [] x = refl
 last_is (y ∷ xs) x = last_is xs x
 
 -- one cell more, which gets the next number
-pub number_last : (old new : List (List ℕ)) (cells : List Place) (c : Place) → AreNumbered old cells → InSheet c → number_at old c ≡ 0
+pub number_last : (old new : Numbers) (cells : List Place) (c : Place) → AreNumbered old cells → InSheet c → number_at old c ≡ 0
     → ((d : Place) → InSheet d → number_at new d ≡ cond (same_place c d) (suc (length cells)) (number_at old d)) → AreNumbered new (cells ++ c ∷ [])
 number_last old new cells c ok inside z h = record {
   inside = λ i d k. elim (last_or cells c d i k) [ inl e ↦ ok.inside i d e | inr e ↦ subst InSheet e.1 inside ];
@@ -188,13 +188,13 @@ cells_pushed : {T : Type 0} (hs : List (Held T)) (h : Held T) → cells_of (hs +
 cells_pushed [] h = refl
 cells_pushed (x ∷ hs) h = ap (λ l. cell_in x ∷ l) (cells_pushed hs h)
 
-pub added_numbered : {T : Type 0} (old new : List (List ℕ)) (hs : List (Held T)) (c : Place) (x : T) → AreNumbered old (cells_of hs) → InSheet c → number_at old c ≡ 0
+pub added_numbered : {T : Type 0} (old new : Numbers) (hs : List (Held T)) (c : Place) (x : T) → AreNumbered old (cells_of hs) → InSheet c → number_at old c ≡ 0
     → ((d : Place) → InSheet d → number_at new d ≡ cond (same_place c d) (suc (length hs)) (number_at old d)) → AreNumbered new (cells_of (hs ++ held.Filled c x ∷ []))
 added_numbered {T} old new hs c x ok inside z h = subst (AreNumbered new) (sym (cells_pushed hs (held.Filled c x)))
     (number_last old new (cells_of hs) c ok inside z (λ d k. h d k ∙ ap (λ n. cond (same_place c d) (suc n) (number_at old d)) (sym (length-map hs cell_in))))
 
 -- the same numbers in another table
-pub same_table : (old new : List (List ℕ)) (cells : List Place) → ((d : Place) → number_at new d ≡ number_at old d) → AreNumbered old cells → AreNumbered new cells
+pub same_table : (old new : Numbers) (cells : List Place) → ((d : Place) → number_at new d ≡ number_at old d) → AreNumbered old cells → AreNumbered new cells
 same_table old new cells h ok = record { inside = ok.inside; told = λ i c k. h c ∙ ok.told i c k; found = λ c i k e. ok.found c i k (sym (h c) ∙ e) }
 
 -- a place as a number, row by row
@@ -208,7 +208,7 @@ same_number c d hc hd e =
     λ i. record { row = r i; col = s i }
 
 -- the cells of a table are told apart by their places
-module _ (bands : List (List ℕ)) (cells : List Place) (ok : AreNumbered bands cells) where
+module _ (bands : Numbers) (cells : List Place) (ok : AreNumbered bands cells) where
   at : (i : ℕ) (d : Place) → i < length cells → slice_get cells i ≡ Some (get_or cells i d)
   at i d h = slice_get-get_or cells i d h
 
@@ -250,5 +250,5 @@ module _ (bands : List (List ℕ)) (cells : List Place) (ok : AreNumbered bands 
   few_places = subst (λ n. n ≤ 2097152) long (length-le_from_distinct_below (map number_of cells) 2097152 distinct below)
 
 -- the same of held cells
-pub few : {T : Type 0} (bands : List (List ℕ)) (hs : List (Held T)) → AreNumbered bands (cells_of hs) → length hs ≤ 2097152
+pub few : {T : Type 0} (bands : Numbers) (hs : List (Held T)) → AreNumbered bands (cells_of hs) → length hs ≤ 2097152
 few {T} bands hs ok = subst (λ n. n ≤ 2097152) (length-map hs cell_in) (few_places bands (cells_of hs) ok)

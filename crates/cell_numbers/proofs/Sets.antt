@@ -3,13 +3,12 @@ use Rattle.std.specs.Prelude.{ℕ, suc, zero, ◌≡◌, ◌<◌, ◌≤◌, ◌
 use Rattle.std.specs.List.{AllByRecursion, IsDistinct}
 use Rattle.std.proofs.Common.{sym, ◌∙◌, ap, subst, arith, inl, inr, ◌⊎◌}
 use Rattle.std.proofs.lemmas.Bool.{cases_Bool, eq-eqb, eqb-true, false≢true, false_from_ne_true, ltb-false, ltb-true}
-use Rattle.std.proofs.lemmas.List.{get_or_past}
 use Rattle.std.proofs.lemmas.Map.Keys.{IsDistinct-from_apart}
 use Rattle.std.proofs.lemmas.Option.{slice_get-get_or, slice_get_within}
 use Rattle.grid_address.specs.Place.{same_place, InSheet, Place}
 use Rattle.grid_address.proofs.Places.{same_place_is, same_place_itself, same_place_laws}
 use Rattle.cell_numbers.specs.Filled.{AreNumbered}
-use Rattle.cell_numbers.specs.Numbers.{number_at, page_of, place_of, HasRoom}
+use Rattle.cell_numbers.specs.Numbers.{head_of, number_at, number_in, place_of, HasRoom, Numbers}
 use Rattle.cell_numbers.specs.Sets.{has}
 use Rattle.cell_numbers.proofs.Filled.{last_is, last_or, longer}
 
@@ -61,15 +60,14 @@ fresh (x ∷ xs) (suc i) c d h e = ap (λ b. b || has same_place (take i xs) c) 
     all_at (z ∷ ys) (suc j) y a k f = all_at ys j y a.1 (omega (arith, k)) f
 
 -- a place with a number has room for one
-pub room : (bands : List (List ℕ)) (c : Place) (i : ℕ) → number_at bands c ≡ suc i → HasRoom bands c
-room bands c i e = below (get_or bands (page_of c) []) (place_of c) e
+pub room : (bands : Numbers) (c : Place) (i : ℕ) → number_at bands c ≡ suc i → HasRoom bands c
+room bands c i e = above (head_of bands c) e
   where
-    below : (xs : List ℕ) (j : ℕ) → get_or xs j 0 ≡ suc i → j < length xs
-    below [] j h = (let p : ◌≡◌ {A = ℕ} (get_or [] j 0) 0 = get_or_past [] j 0 (omega arith) in let z : 0 ≡ suc i = sym p ∙ h in absurd (omega (arith, z)))
-    below (x ∷ xs) zero h = omega arith
-    below (x ∷ xs) (suc j) h = let k = below xs j h in omega (arith, k)
+    above : (h : ℕ) → number_in bands.numbers h (place_of c) ≡ suc i → 0 < h
+    above zero k = absurd (omega (arith, k))
+    above (suc h) k = omega arith
 
-module _ (bands : List (List ℕ)) (cells : List Place) (ok : AreNumbered bands cells) where
+module _ (bands : Numbers) (cells : List Place) (ok : AreNumbered bands cells) where
   -- a member lies on the sheet and has a number
   pub told_member : (c : Place) → has same_place cells c ≡ true → (i : ℕ) × ((number_at bands c ≡ suc i) × InSheet c)
   told_member c h = let a = at_some cells c h in (a.0, (ok.told a.0 c a.1, ok.inside a.0 c a.1))
@@ -127,7 +125,7 @@ set_past (x ∷ xs) zero y h = absurd (omega (arith, h))
 set_past (x ∷ xs) (suc i) y h = ap (λ l. x ∷ l) (set_past xs i y (omega (arith, h)))
 
 -- the last cell is taken out
-module _ (old new : List (List ℕ)) (cells : List Place) (c : Place) (ok : AreNumbered old (cells ++ c ∷ []))
+module _ (old new : Numbers) (cells : List Place) (c : Place) (ok : AreNumbered old (cells ++ c ∷ []))
     (h : (d : Place) → InSheet d → number_at new d ≡ cond (same_place c d) 0 (number_at old d)) where
   last : number_at old c ≡ suc (length cells)
   last = ok.told (length cells) c (last_is cells c)
@@ -154,7 +152,7 @@ module _ (old new : List (List ℕ)) (cells : List Place) (c : Place) (ok : AreN
       ]
 
 -- a cell still has its number when the last one has it too
-pub still_here : (old mid : List (List ℕ)) (at : ℕ) (c last : Place) → InSheet c → number_at old c ≡ suc at
+pub still_here : (old mid : Numbers) (at : ℕ) (c last : Place) → InSheet c → number_at old c ≡ suc at
     → ((d : Place) → InSheet d → number_at mid d ≡ cond (same_place last d) (suc at) (number_at old d)) → number_at mid c ≡ suc at
 still_here old mid at c last on_sheet here moved = moved c on_sheet ∙ elim (cases_Bool (same_place last c)) [
   | inl t ↦ ap (λ b. cond b (suc at) (number_at old c)) t
@@ -162,7 +160,7 @@ still_here old mid at c last on_sheet here moved = moved c on_sheet ∙ elim (ca
 ]
 
 -- a cell is taken out, and the last one takes its place
-module _ (old mid new : List (List ℕ)) (cells : List Place) (at : ℕ) (c last : Place) (ok : AreNumbered old (cells ++ last ∷ []))
+module _ (old mid new : Numbers) (cells : List Place) (at : ℕ) (c last : Place) (ok : AreNumbered old (cells ++ last ∷ []))
     (on_sheet : InSheet c) (here : number_at old c ≡ suc at)
     (moved : (d : Place) → InSheet d → number_at mid d ≡ cond (same_place last d) (suc at) (number_at old d))
     (gone : (d : Place) → InSheet d → number_at new d ≡ cond (same_place c d) 0 (number_at mid d)) where

@@ -1,7 +1,12 @@
 -- The number of a place, in pages of 256 rows and 4 columns.
-use Rattle.std.specs.Prelude.{ℕ, ◌+◌, ◌*◌, ◌/◌, ◌%◌, ◌<◌, List, [], map, length, get_or}
-use Rattle.std.specs.Global.{Vec}
+use Rattle.std.specs.Prelude.{ℕ, zero, suc, ◌≡◌, ◌+◌, ◌*◌, ◌/◌, ◌%◌, ◌<◌, ◌≤◌, ◌⊎◌, List, [], ◌∷◌, length, get_or}
 use Rattle.grid_address.specs.Place.{Place}
+
+-- for each page of the sheet which one of the pages with room it is, the first with 1, and 0 where it has none; and the
+-- numbers of those, page behind page
+pub record Numbers : Type 0 where
+  pub heads : List ℕ
+  pub numbers : List ℕ
 
 -- the band of a place: 256 rows
 abbrev pub band_of : Place → ℕ
@@ -15,14 +20,32 @@ page_of c = c.row / 256 * 64 + c.col / 4
 abbrev pub place_of : Place → ℕ
 place_of c = c.row % 256 * 4 + c.col % 4
 
--- the number of a place, 0 where it has none; what lies past the end is 0
-abbrev pub number_at : List (List ℕ) → Place → ℕ
-number_at pages c = get_or (get_or pages (page_of c) []) (place_of c) 0
+-- which one of the pages with room the page of a place is
+abbrev pub head_of : Numbers → Place → ℕ
+head_of t c = get_or t.heads (page_of c) 0
+
+-- the number at a place of one of the pages; a page without room has zeros
+abbrev pub number_in : List ℕ → ℕ → ℕ → ℕ
+number_in numbers zero p = 0
+number_in numbers (suc k) p = get_or numbers (k * 1024 + p) 0
+
+-- the number of a place, 0 where it has none
+abbrev pub number_at : Numbers → Place → ℕ
+number_at t c = number_in t.numbers (head_of t c) (place_of c)
 
 -- a number of the place can be set
-abbrev pub HasRoom : List (List ℕ) → Place → Type 0
-HasRoom pages c = place_of c < length (get_or pages (page_of c) [])
+abbrev pub HasRoom : Numbers → Place → Type 0
+HasRoom t c = 0 < head_of t c
 
--- the pages as lists
-abbrev pub items_of : List (Vec ℕ) → List (List ℕ)
-items_of pages = map (λ p. p.items) pages
+-- how many of the heads are those of pages with room
+abbrev pub used : List ℕ → ℕ
+used [] = 0
+used (zero ∷ heads) = used heads
+used (suc k ∷ heads) = suc (used heads)
+
+-- each page with room has 1,024 numbers of its own, and there are no others; there are the heads of all pages or none
+pub record AreParted (t : Numbers) : Type 0 where
+  pub apart : (i j : ℕ) → get_or t.heads i 0 ≡ get_or t.heads j 0 → 0 < get_or t.heads i 0 → i ≡ j
+  pub room : (i : ℕ) → get_or t.heads i 0 * 1024 ≤ length t.numbers
+  pub full : length t.numbers ≡ used t.heads * 1024
+  pub short : (length t.heads ≡ 0) ⊎ (length t.heads ≡ 2048)

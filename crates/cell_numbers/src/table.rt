@@ -1,7 +1,7 @@
 // The numbers of places.
-ghost use Rattle.std.specs.Prelude.{◌≡◌, false, true, ℕ, ◌<◌, ◌≤◌, ◌+◌, ◌*◌, ◌/◌, ◌%◌, cond, length, map, [], ◌∷◌, get_or, OnOk, List};
+ghost use Rattle.std.specs.Prelude.{◌≡◌, false, true, ℕ, ◌<◌, ◌≤◌, ◌+◌, ◌-◌, ◌*◌, ◌/◌, ◌%◌, ◌⊎◌, cond, length, get_or, OnOk, OnErr};
 ghost use Rattle.grid_address.specs.Place.{same_place, InSheet, Place};
-ghost use Rattle.cell_numbers.specs.Numbers.{band_of, number_at, page_of, place_of, HasRoom, items_of};
+ghost use Rattle.cell_numbers.specs.Numbers.{band_of, head_of, number_at, page_of, place_of, used, HasRoom};
 
 use grid_address::{COLUMNS, Cell};
 use std::alloc::{AllocError, Global};
@@ -19,21 +19,28 @@ const PAGES: usize = 64;
 /// How many places a page has.
 const PLACES: usize = 1_024;
 
-/// A number for each place of the sheet; 0 stands for none. The places lie in pages of 256 rows and 4 columns, and a
-/// page without a number takes no room but its head's.
+/// The heads of pages without room.
+const NO_HEADS: [u16; 2_048] = [0; 2_048];
+
+/// The numbers of a page that has just got room.
+const NO_NUMBERS: [u32; PLACES] = [0; PLACES];
+
+/// A number for each place of the sheet; 0 stands for none. The places lie in pages of 256 rows and 4 columns. Once a
+/// number was set each page has a head of two bytes, and a page without a number takes no more room than that.
 #[derive(Drop)]
 pub struct PlaceTable {
-    pages: Vec<Vec<u32>>,
-    alloc: Global,
+    heads: Vec<u16>,
+    numbers: Vec<u32>,
 }
 
 impl Model for PlaceTable {
-    ghost use Rattle.std.specs.Prelude.{ℕ, List};
-    ghost use Rattle.cell_numbers.specs.Numbers.{items_of};
+    ghost use Rattle.cell_numbers.specs.Numbers.{AreParted, Numbers};
 
-    ghost Value = { List (List ℕ) };
+    ghost Value = { Numbers };
 
-    ghost view = { λ t. items_of t.pages.items };
+    ghost view = { λ t. record { heads = t.heads.items; numbers = t.numbers.items } };
+
+    ghost invariant = { λ t. AreParted (record { heads = t.heads.items; numbers = t.numbers.items }) };
 }
 
 // The page of a cell.
@@ -51,36 +58,57 @@ fn place_of(cell: Cell) -> usize
     usize::from(cell.row % PAGE_ROWS) * 4 + usize::from(cell.col % PAGE_COLUMNS)
 }
 
-// Adds empty pages, up to this one.
-fn add_pages(pages: &mut Vec<Vec<u32>>, alloc: Global, page: usize) -> Result<(), AllocError>
-    ensures same { (d : Place) → number_at (items_of pages.new.items) d ≡ number_at (items_of pages.old.items) d }
-    ensures long { OnOk result (page < length pages.new.items) }
+// Where the number of a cell stands among those of all pages, where its page is the given one of them.
+fn index_in(head: u16, cell: Cell) -> usize
+    requires { 0 < head }
+    ensures index { result ≡ (head - 1) * 1024 + place_of cell }
+    ensures below { result < head * 1024 }
 {
-    while pages.len() <= page {
-        pages.push(Vec::new(alloc))?;
+    usize::from(head - 1) * PLACES + place_of(cell)
+}
+
+// Adds the heads of all pages, where there are none.
+fn add_heads(heads: &mut Vec<u16>) -> Result<(), AllocError>
+    requires { (length heads.old.items ≡ 0) ⊎ (length heads.old.items ≡ 2048) }
+    ensures same { (j : ℕ) → get_or heads.new.items j 0 ≡ get_or heads.old.items j 0 }
+    ensures used { used heads.new.items ≡ used heads.old.items }
+    ensures long { OnOk result (length heads.new.items ≡ 2048) }
+    ensures err { OnErr result (heads.new.items ≡ heads.old.items) }
+{
+    if heads.is_empty() {
+        heads.extend_from_slice(&NO_HEADS)?;
     }
     Ok(())
 }
 
-// Fills a page with zeros.
-fn fill_page(page: &mut Vec<u32>) -> Result<(), AllocError>
-    ensures same { (j : ℕ) → get_or page.new.items j 0 ≡ get_or page.old.items j 0 }
-    ensures long { OnOk result (1024 ≤ length page.new.items) }
+// Adds a page of zeros behind the others.
+fn add_page(numbers: &mut Vec<u32>) -> Result<(), AllocError>
+    ensures same { (j : ℕ) → get_or numbers.new.items j 0 ≡ get_or numbers.old.items j 0 }
+    ensures long { OnOk result (length numbers.new.items ≡ length numbers.old.items + 1024) }
+    ensures err { OnErr result (numbers.new.items ≡ numbers.old.items) }
 {
-    if page.len() < PLACES {
-        page.resize(PLACES, 0)?;
-    }
+    numbers.extend_from_slice(&NO_NUMBERS)?;
     Ok(())
 }
 
 impl PlaceTable {
     /// A table without numbers. It takes no memory.
     pub fn new(alloc: Global) -> PlaceTable
-        ensures { result ≡ [] }
+        ensures { (d : Place) → number_at result d ≡ 0 }
     {
         PlaceTable {
-            pages: Vec::new(alloc),
-            alloc,
+            heads: Vec::new(alloc),
+            numbers: Vec::new(alloc),
+        }
+    }
+
+    // Which one of the pages with room a cell's page is, 0 where it has none.
+    fn head_of(&self, cell: Cell) -> u16
+        ensures { result ≡ head_of self.now cell }
+    {
+        match self.heads.get(page_of(cell)) {
+            Some(head) => *head,
+            None => 0,
         }
     }
 
@@ -88,22 +116,9 @@ impl PlaceTable {
     pub fn number_at(&self, cell: Cell) -> u32
         ensures { result ≡ number_at self.now cell }
     {
-        match self.pages.get(page_of(cell)) {
-            Some(page) => match page.get(place_of(cell)) {
-                Some(number) => *number,
-                None => 0,
-            },
-            None => 0,
-        }
-    }
-
-    // Whether some place of a cell's page may have a number.
-    fn has_page(&self, cell: Cell) -> bool
-        ensures { result ≡ false → get_or self.now (page_of cell) [] ≡ [] }
-    {
-        match self.pages.get(page_of(cell)) {
-            Some(page) => !page.is_empty(),
-            None => false,
+        match self.head_of(cell) {
+            0 => 0,
+            head => self.numbers[index_in(head, cell)],
         }
     }
 
@@ -120,7 +135,7 @@ impl PlaceTable {
                 row: cell.row,
                 col: col as u8,
             };
-            if self.has_page(place) {
+            if self.head_of(place) != 0 {
                 return col;
             }
             col = col / 4 * 4 + 4;
@@ -128,26 +143,19 @@ impl PlaceTable {
         col
     }
 
-    // Whether a cell has room for a number.
-    fn has_room(&self, cell: Cell) -> bool
-        ensures { result ≡ true → HasRoom self.now cell }
-    {
-        match self.pages.get(page_of(cell)) {
-            Some(page) => place_of(cell) < page.len(),
-            None => false,
-        }
-    }
-
-    // Adds room for the number of a cell.
+    // Adds room for the number of a cell whose page has none.
     #[inline(never)]
     fn add_room(&mut self, cell: Cell) -> Result<(), AllocError>
+        requires { head_of self.old cell ≡ 0 }
         ensures same { (d : Place) → number_at self.new d ≡ number_at self.old d }
         ensures room { OnOk result (HasRoom self.new cell) }
     {
         cell.is_on_sheet();
-        let at = page_of(cell);
-        add_pages(&mut self.pages, self.alloc, at)?;
-        fill_page(&mut self.pages[at])?;
+        let page = page_of(cell);
+        let pages = self.numbers.len() / PLACES;
+        add_heads(&mut self.heads)?;
+        add_page(&mut self.numbers)?;
+        self.heads[page] = pages as u16 + 1;
         Ok(())
     }
 
@@ -156,7 +164,7 @@ impl PlaceTable {
         ensures same { (d : Place) → number_at self.new d ≡ number_at self.old d }
         ensures room { OnOk result (HasRoom self.new cell) }
     {
-        if self.has_room(cell) {
+        if self.head_of(cell) != 0 {
             return Ok(());
         }
         self.add_room(cell)
@@ -169,8 +177,7 @@ impl PlaceTable {
             number_at self.new d ≡ cond (same_place cell d) number (number_at self.old d) }
     {
         cell.is_on_sheet();
-        let at = page_of(cell);
-        let page = &mut self.pages[at];
-        page[place_of(cell)] = number;
+        let at = index_in(self.head_of(cell), cell);
+        self.numbers[at] = number;
     }
 }

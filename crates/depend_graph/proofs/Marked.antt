@@ -1,9 +1,9 @@
 -- One formula more of those that are gone over from the last one on.
-use Rattle.std.specs.Prelude.{ℕ, suc, ◌≡◌, ◌≤◌, ◌-◌, Bool, true, false, cond, List, ◌∷◌, length, take, drop}
+use Rattle.std.specs.Prelude.{ℕ, suc, ◌≡◌, ◌≤◌, ◌-◌, Bool, true, false, cond, List, [], ◌∷◌, length, take, drop}
 use Rattle.std.proofs.Common.{sym, ◌∙◌, ap, subst, refl, inl, inr, arith, drop-cons, get_or}
-use Rattle.std.proofs.lemmas.Bool.{or_cases}
+use Rattle.std.proofs.lemmas.Bool.{false≢true, or_cases}
 use Rattle.std.proofs.lemmas.List.{length-drop, take_all}
-use Rattle.cell_numbers.specs.Numbers.{number_at}
+use Rattle.cell_numbers.specs.Numbers.{number_at, Numbers}
 use Rattle.cell_numbers.specs.Sets.{has}
 use Rattle.grid_address.proofs.Places.{same_place_is, same_place_itself}
 use Rattle.grid_address.specs.Place.{same_place, InSheet, Place}
@@ -16,7 +16,7 @@ whole_rest cells n = take_all (length cells - n) (drop n cells) (let h = length-
 front : (cells : List Place) (i n : ℕ) (x : Place) → i ≡ suc n → i ≤ length cells → x ≡ get_or cells n x → drop n cells ≡ x ∷ drop i cells
 front cells i n x e le is = drop-cons cells n x (let h = le in let k = e in omega (arith, h, k)) ∙ ap (λ y. y ∷ drop (suc n) cells) (sym is) ∙ ap (λ k. x ∷ drop k cells) (sym e)
 
-pub marked_more : (cells : List Place) (i n : ℕ) (x : Place) (old new : List (List ℕ)) → i ≡ suc n → i ≤ length cells → x ≡ get_or cells n x → InSheet x → AreMarked old (drop i cells)
+pub marked_more : (cells : List Place) (i n : ℕ) (x : Place) (old new : Numbers) → i ≡ suc n → i ≤ length cells → x ≡ get_or cells n x → InSheet x → AreMarked old (drop i cells)
     → ((d : Place) → InSheet d → number_at new d ≡ cond (same_place x d) 1 (number_at old d)) → AreMarked new (drop n cells)
 marked_more cells i n x old new e le is inside all set d m = elim (or_cases (same_place d x) (has same_place (drop i cells) d) (sym (ap (λ l. has same_place l d) (front cells i n x e le is)) ∙ m)) [
   | inl q ↦
@@ -35,3 +35,21 @@ pub goes_more : (g : Network) (cells : List Place) (i n : ℕ) (x : Place) → i
 goes_more g cells i n x e le is first rest =
     let f = front cells i n x e le is in
     subst (GoesInOrder g) (sym f) (subst (λ l. StandsFirst (is_volatile_at g) (reads g) l x) f first, rest)
+
+-- a list of one cell
+pub one_is : (cells : List Place) (x : Place) → length cells ≡ 1 → x ≡ get_or cells 0 x → cells ≡ x ∷ []
+one_is [] x l is = absurd (omega (arith, l))
+one_is (c ∷ []) x l is = ap (λ y. y ∷ []) (sym is)
+one_is (c ∷ d ∷ cs) x l is = absurd (omega (arith, l))
+
+pub goes_alone : (g : Network) (c : Place) → is_volatile_at g c ≡ false → reads g c c ≡ false → GoesInOrder g (c ∷ [])
+goes_alone g c steady none = (
+  record {
+    steady = steady;
+    ahead = λ d m. elim (or_cases (same_place d c) false m) [
+      | inl q ↦ ap (reads g c) (same_place_is d c q) ∙ none
+      | inr k ↦ absurd (false≢true k)
+    ];
+  },
+  tt,
+)

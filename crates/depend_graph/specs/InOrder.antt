@@ -1,7 +1,7 @@
 -- Formulas in an order in which each comes after all of them that it reads.
-use Rattle.std.specs.Prelude.{ℕ, ◌≡◌, Bool, true, false, List, [], ◌∷◌, Option, None, Some}
+use Rattle.std.specs.Prelude.{◌≡◌, Bool, true, false, List, [], ◌∷◌, Option, None, Some}
 use Rattle.std.specs.FinMap.{get}
-use Rattle.cell_numbers.specs.Numbers.{number_at}
+use Rattle.cell_numbers.specs.Numbers.{number_at, Numbers}
 use Rattle.cell_numbers.specs.Sets.{has}
 use Rattle.grid_address.specs.Place.{same_place, InSheet, Place}
 use Rattle.depend_graph.specs.Network.{reads, Network}
@@ -33,5 +33,5 @@ abbrev pub GoesInOrder : Network → List Place → Type 0
 GoesInOrder g cells = AreInOrder (is_volatile_at g) (reads g) cells
 
 -- each of the cells lies on the sheet and is marked
-abbrev pub AreMarked : List (List ℕ) → List Place → Type 0
+abbrev pub AreMarked : Numbers → List Place → Type 0
 AreMarked marked cells = (d : Place) → has same_place cells d ≡ true → InSheet d × (number_at marked d ≡ 1)

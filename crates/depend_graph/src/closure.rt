@@ -7,22 +7,24 @@ ghost use Rattle.depend_graph.specs.Backward.{work_left, IsDeeper, IsSearched};
 ghost use Rattle.depend_graph.specs.Network.{is_formula, IsSpread, Network};
 ghost use Rattle.depend_graph.specs.Within.{Within};
 
-use crate::{Graph, Marks};
+use crate::Graph;
+use crate::marks::put_mark;
+use cell_numbers::PlaceTable;
 use grid_address::{Cell, CellList};
 use lics_text::Memory;
 use std::alloc::Global;
 
 /// The mark of a cell that was met.
-const MET: u8 = 1;
+const MET: u32 = 1;
 
 /// The mark of a cell of which all readers were gone into.
-const LEFT: u8 = 2;
+const LEFT: u32 = 2;
 
 // The cells that were met, with their marks, those of them that were left, in this order, and those that are still to
 // be gone into or left, the next one last.
 #[derive(Drop)]
 struct Search {
-    marks: Marks,
+    marks: PlaceTable,
     met: Vec<Cell>,
     left: Vec<Cell>,
     stack: Vec<Cell>,
@@ -52,7 +54,7 @@ impl Search {
         let mut stack = Vec::new(alloc);
         push_all(&mut stack, cells)?;
         Ok(Search {
-            marks: Marks::new(alloc),
+            marks: PlaceTable::new(alloc),
             met: Vec::new(alloc),
             left: Vec::new(alloc),
             stack,
@@ -67,7 +69,7 @@ impl Search {
         ensures left { OnOk result (self.new.left.items ≡ self.old.left.items) }
         ensures stack { OnOk result (IsDeeper graph.now cell self.old.stack.items self.new.stack.items) }
     {
-        self.marks.set(cell, MET)?;
+        put_mark(&mut self.marks, cell, MET)?;
         push(&mut self.met, cell)?;
         push(&mut self.stack, cell)?;
         graph.add_readers(cell, &mut self.stack)?;
@@ -82,7 +84,7 @@ impl Search {
         ensures left { OnOk result (self.new.left.items ≡ self.old.left.items ++ cell ∷ []) }
         ensures stack { OnOk result (self.new.stack.items ≡ self.old.stack.items) }
     {
-        self.marks.set(cell, LEFT)?;
+        put_mark(&mut self.marks, cell, LEFT)?;
         push(&mut self.left, cell)?;
         Ok(())
     }
@@ -99,7 +101,7 @@ impl Search {
             return Ok(());
         };
         cell.is_on_sheet();
-        match self.marks.get(cell) {
+        match self.marks.number_at(cell) {
             0 => {
                 self.enter(graph, cell)?;
                 Ok(())

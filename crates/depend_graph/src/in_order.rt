@@ -1,5 +1,5 @@
 // Whether formulas stand in an order in which each comes after all of them that it reads.
-ghost use Rattle.std.specs.Prelude.{◌≡◌, ◌<◌, ◌≤◌, IfOk, true, false};
+ghost use Rattle.std.specs.Prelude.{◌≡◌, ◌<◌, ◌≤◌, ◌∷◌, [], IfOk, true, false};
 ghost use Rattle.cell_numbers.specs.Numbers.{number_at};
 ghost use Rattle.cell_numbers.specs.Sets.{has};
 ghost use Rattle.grid_address.specs.Place.{is_within, same_place, whole, Place};
@@ -8,14 +8,17 @@ ghost use Rattle.depend_graph.specs.Banks.{is_one};
 ghost use Rattle.depend_graph.specs.InOrder.{is_volatile_at, AreMarked, GoesInOrder, StandsFirst};
 ghost use Rattle.depend_graph.specs.Network.{reads};
 
+use crate::Graph;
 use crate::lists::is_one;
-use crate::{Graph, Marks};
+use crate::marks::put_mark;
+use cell_numbers::PlaceTable;
 use grid_address::{Cell, Span};
 use lics_text::Memory;
+use range_index::hold;
 use std::alloc::Global;
 
 // Whether no cell of a row, from one column to another, is marked.
-fn row_is_clear(marked: &Marks, row: u16, first: u8, last: u8) -> bool
+fn row_is_clear(marked: &PlaceTable, row: u16, first: u8, last: u8) -> bool
     requires { row ≤ whole.last.row }
     ensures { result ≡ true → (d : Place) → d.row ≡ row → first ≤ d.col → d.col ≤ last → number_at marked.now d ≡ 0 }
 {
@@ -24,7 +27,7 @@ fn row_is_clear(marked: &Marks, row: u16, first: u8, last: u8) -> bool
             row,
             col: col as u8,
         };
-        if marked.get(cell) != 0 {
+        if marked.number_at(cell) != 0 {
             return false;
         }
     }
@@ -32,7 +35,7 @@ fn row_is_clear(marked: &Marks, row: u16, first: u8, last: u8) -> bool
 }
 
 // Whether no cell of a span is marked.
-fn places_are_clear(marked: &Marks, span: Span) -> bool
+fn places_are_clear(marked: &PlaceTable, span: Span) -> bool
     ensures { result ≡ true → (d : Place) → is_within span d ≡ true → number_at marked.now d ≡ 0 }
 {
     span.last.is_on_sheet();
@@ -45,11 +48,11 @@ fn places_are_clear(marked: &Marks, span: Span) -> bool
 }
 
 // Whether the one cell of a span isn't marked.
-fn is_unmarked(marked: &Marks, span: Span) -> bool
+fn is_unmarked(marked: &PlaceTable, span: Span) -> bool
     requires { is_one span ≡ true }
     ensures { result ≡ true → (d : Place) → is_within span d ≡ true → number_at marked.now d ≡ 0 }
 {
-    marked.get(span.first) == 0
+    marked.number_at(span.first) == 0
 }
 
 // Whether a span holds none of the cells.
@@ -66,7 +69,7 @@ fn holds_none(span: Span, cells: &[Cell]) -> bool
 
 // Whether a span holds none of the cells, which are marked: it looks at each place of the span, or at each of the
 // cells, whichever are fewer.
-fn is_clear(marked: &Marks, cells: &[Cell], span: Span) -> bool
+fn is_clear(marked: &PlaceTable, cells: &[Cell], span: Span) -> bool
     requires { AreMarked marked.now cells.now }
     ensures { result ≡ true → (d : Place) → has same_place cells.now d ≡ true → is_within span d ≡ false }
 {
@@ -82,7 +85,7 @@ fn is_clear(marked: &Marks, cells: &[Cell], span: Span) -> bool
 }
 
 // Whether the spans hold none of the cells, which are marked.
-fn are_clear(marked: &Marks, cells: &[Cell], spans: &[Span]) -> bool
+fn are_clear(marked: &PlaceTable, cells: &[Cell], spans: &[Span]) -> bool
     requires { AreMarked marked.now cells.now }
     ensures { result ≡ true → (d : Place) → has same_place cells.now d ≡ true → hold spans.now d ≡ false }
 {
@@ -95,7 +98,7 @@ fn are_clear(marked: &Marks, cells: &[Cell], spans: &[Span]) -> bool
 }
 
 // Whether the formula of a cell isn't volatile, and reads none of the cells, which are marked.
-fn stands_first(graph: &Graph, marked: &Marks, cells: &[Cell], cell: Cell) -> bool
+fn stands_first(graph: &Graph, marked: &PlaceTable, cells: &[Cell], cell: Cell) -> bool
     requires { AreMarked marked.now cells.now }
     ensures { result ≡ true → StandsFirst (is_volatile_at graph.now) (reads graph.now) cells.now cell }
 {
@@ -105,17 +108,31 @@ fn stands_first(graph: &Graph, marked: &Marks, cells: &[Cell], cell: Cell) -> bo
     }
 }
 
-/// Whether no formula of the cells is volatile, and none reads itself or one that stands behind it.
+// Whether the formula of a cell isn't volatile, and doesn't read the cell.
+fn stands_alone(graph: &Graph, cell: Cell) -> bool
+    ensures { result ≡ true → GoesInOrder graph.now (cell ∷ []) }
+{
+    match graph.get(cell) {
+        Some(node) => !node.volatile && !hold(node.reads.as_slice(), cell),
+        None => true,
+    }
+}
+
+/// Whether no formula of the cells is volatile, and none reads itself or one that stands behind it. One cell takes no
+/// memory.
 pub fn is_in_order(alloc: Global, graph: &Graph, cells: &[Cell]) -> Result<bool, Memory>
     ensures { IfOk result (λ b. b ≡ true → GoesInOrder graph.now cells.now) }
 {
-    let mut marked = Marks::new(alloc);
+    if cells.len() == 1 {
+        return Ok(stands_alone(graph, cells[0]));
+    }
+    let mut marked = PlaceTable::new(alloc);
     let mut next = cells.len();
     'back: while next > 0 {
         next -= 1;
         let cell = cells[next];
         cell.is_on_sheet();
-        marked.set(cell, 1)?;
+        put_mark(&mut marked, cell, 1)?;
         if !stands_first(graph, &marked, &cells[next..], cell) {
             return Ok(false);
         }

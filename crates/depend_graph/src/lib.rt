@@ -14,6 +14,5 @@ mod slots;
 mod spread;
 
 pub use graph::Graph;
-pub use marks::Marks;
 pub use node::Node;
 pub use sets::{cut_back, insert, insert_all};

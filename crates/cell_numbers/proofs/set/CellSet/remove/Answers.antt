@@ -1,9 +1,9 @@
-use Rattle.std.specs.Prelude.{ℕ, ◌≡◌, ◌<◌, ◌+◌, ◌≤◌, ◌++◌, ◌∷◌, [], suc, cond, false, length, List}
+use Rattle.std.specs.Prelude.{ℕ, ◌≡◌, ◌<◌, ◌+◌, ◌≤◌, ◌++◌, ◌∷◌, [], suc, cond, false, length}
 use Rattle.std.proofs.lemmas.Option.{slice_get_within}
 use Rattle.std.proofs.Common.{ap, arith, subst, sym, ◌∙◌}
 use Rattle.grid_address.specs.Place.{same_place, InSheet, Place}
 use Rattle.cell_numbers.specs.Filled.{AreNumbered}
-use Rattle.cell_numbers.specs.Numbers.{number_at}
+use Rattle.cell_numbers.specs.Numbers.{number_at, Numbers}
 use Rattle.cell_numbers.specs.Sets.{has, Cells}
 use Rattle.cell_numbers.proofs.Filled.{few_places, last_is}
 use Rattle.cell_numbers.proofs.Sets.{none_gone, others, removed, room, set_past, still_here}
@@ -36,7 +36,7 @@ set-requires c =
     room c.self.inside.table c.in-Some-pop.last (length rest) ((numbered c).told (length rest) c.in-Some-pop.last (last_is rest c.in-Some-pop.last))
 
 -- the number that the last cell gets
-one_more : (new old : List (List ℕ)) (last : Place) (at : ℕ) → ((d : Place) → InSheet d → number_at new d ≡ cond (same_place last d) (at + 1) (number_at old d))
+one_more : (new old : Numbers) (last : Place) (at : ℕ) → ((d : Place) → InSheet d → number_at new d ≡ cond (same_place last d) (at + 1) (number_at old d))
     → (d : Place) → InSheet d → number_at new d ≡ cond (same_place last d) (suc at) (number_at old d)
 one_more new old last at h d inside = (let e : at + 1 ≡ suc at = omega arith in h d inside ∙ ap (λ n. cond (same_place last d) n (number_at old d)) e)
 

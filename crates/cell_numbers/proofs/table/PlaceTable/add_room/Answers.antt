@@ -1,23 +1,25 @@
-use Rattle.std.proofs.Common.{◌≡◌, ◌<◌, ap, sym, ◌∙◌, subst, get_or, set, ℕ, length, arith}
-use Rattle.std.specs.Global.{Vec}
-use Rattle.cell_numbers.specs.Numbers.{page_of, items_of, number_at, HasRoom}
-use Rattle.cell_numbers.proofs.Tables.{place_below, refill, refilled}
+use Rattle.std.proofs.Common.{◌≡◌, ◌/◌, ap, arith, get_or, ◌∙◌}
+use Rattle.cell_numbers.specs.Numbers.{head_of, number_at, Numbers}
+use Rattle.cell_numbers.proofs.Tables.{few_pages, parted_grown, same_grown}
 use Rattle.cell_numbers.proofs.table.PlaceTable.add_room.Goals as goal
+
+pub overflow_cast-pages : goal.overflow_cast-pages
+overflow_cast-pages c = let few = few_pages _ c.self.invariant in let e = c.len-pages.ensures in omega (arith, few, e)
+
+pub overflow_add-pages : goal.overflow_add-pages
+overflow_add-pages c = let few = few_pages _ c.self.invariant in let e = c.len-pages.ensures in omega (arith, few, e)
+
+pub invariant_of-self-2 : goal.invariant_of-self-2
+invariant_of-self-2 c =
+    let t : Numbers = record { heads = c.self.inside.heads.items; numbers = c.self.inside.numbers.items } in
+    let free : get_or t.heads c.page_of-page.result 0 ≡ 0 = ap (λ i. get_or t.heads i 0) c.page_of-page.ensures ∙ ap (λ (u : Numbers). head_of u c.args.cell) c.self.view_is ∙ c.requires in
+    parted_grown t c.self.invariant c.add_heads.new.heads.items c.add_page.new.numbers.items c.page_of-page.result (c.len-pages.result / 1024) c.add_heads.ensures.same c.add_heads.ensures.used c.in_ok-add_heads.ensures.long
+    (let e = c.page_of-page.ensures in let l = c.in_ok-add_heads.ensures.long in let on = c.is_on_sheet.ensures in omega (arith, e, l, on.0, on.1)) free (let e = c.len-pages.ensures in omega (arith, e)) c.add_page.ensures.same c.in_ok-add_page.ensures.long
 
 pub returns-clause-same : goal.returns-clause-same
 returns-clause-same c = λ d.
-    refill c.add_pages.new.pages.items c.page_of-at.result c.index_mut.result.now c.fill_page.new.page c.in_ok-add_pages.ensures.long (λ j. c.fill_page.ensures.same j ∙ ap (λ (w : Vec ℕ). get_or w.items j 0) c.index_mut.ensures.value) d
-    ∙ c.add_pages.ensures.same d ∙ ap (λ t. number_at t d) c.self.view_is
-
-pub returns-clause-room : goal.returns-clause-room
-returns-clause-room c =
-    let b : c.page_of-at.result ≡ page_of c.args.cell = c.page_of-at.ensures in
-    let low = place_below c.args.cell c.is_on_sheet.ensures in
-    let long = c.in_ok-fill_page.ensures.long in
-    subst (λ x. HasRoom (items_of (set c.add_pages.new.pages.items x c.fill_page.new.page)) c.args.cell) (sym b)
-    (refilled c.add_pages.new.pages.items c.fill_page.new.page c.args.cell (subst (λ x. x < length c.add_pages.new.pages.items) b c.in_ok-add_pages.ensures.long) (omega (arith, low, long)))
-
-pub returns-in_err-fill_page-clause-same : goal.returns-in_err-fill_page-clause-same
-returns-in_err-fill_page-clause-same c = λ d.
-    refill c.add_pages.new.pages.items c.page_of-at.result c.index_mut.result.now c.fill_page.new.page c.in_ok-add_pages.ensures.long (λ j. c.fill_page.ensures.same j ∙ ap (λ (w : Vec ℕ). get_or w.items j 0) c.index_mut.ensures.value) d
-    ∙ c.add_pages.ensures.same d ∙ ap (λ t. number_at t d) c.self.view_is
+    (let t : Numbers = record { heads = c.self.inside.heads.items; numbers = c.self.inside.numbers.items } in
+    let free : get_or t.heads c.page_of-page.result 0 ≡ 0 = ap (λ i. get_or t.heads i 0) c.page_of-page.ensures ∙ ap (λ (u : Numbers). head_of u c.args.cell) c.self.view_is ∙ c.requires in
+    same_grown t c.self.invariant c.add_heads.new.heads.items c.add_page.new.numbers.items c.page_of-page.result (c.len-pages.result / 1024) c.add_heads.ensures.same c.add_heads.ensures.used c.in_ok-add_heads.ensures.long
+    (let e = c.page_of-page.ensures in let l = c.in_ok-add_heads.ensures.long in let on = c.is_on_sheet.ensures in omega (arith, e, l, on.0, on.1)) free (let e = c.len-pages.ensures in omega (arith, e)) c.add_page.ensures.same c.in_ok-add_page.ensures.long d
+    ∙ ap (λ u. number_at u d) c.self.view_is)
