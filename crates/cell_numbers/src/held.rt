@@ -25,4 +25,13 @@ impl<T> Held<T> {
             Held::Erased(_) => None,
         }
     }
+    // Its item, if it has one, by value.
+    pub(crate) fn into_item(self) -> Option<T>
+        ensures { result ≡ item_in self }
+    {
+        match self {
+            Held::Filled(_, item) => Some(item),
+            Held::Erased(_) => None,
+        }
+    }
 }

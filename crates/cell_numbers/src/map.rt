@@ -10,6 +10,7 @@ use crate::{Held, PlaceTable};
 use grid_address::{COLUMNS, Cell};
 use std::alloc::{AllocError, Global};
 use std::marker::Model;
+use std::mem::replace;
 
 /// A finite map from cells to items. Each cell that was ever put in keeps a number, and an item is found by its cell's
 /// number, so that only a cell that is put in for the first time takes memory.
@@ -148,6 +149,20 @@ impl<T> CellMap<T> {
         cell.is_on_sheet();
         if let Some(at) = index_of(&self.table, cell) {
             self.held[at] = Held::Erased(cell);
+        }
+    }
+
+    /// Takes a cell's item out, and gives it to the caller; none where the cell has none. The cell keeps its number.
+    pub fn take(&mut self, cell: Cell) -> Option<T>
+    where
+        T: Drop,
+        ensures item { result ≡ map.get self.old cell }
+        ensures rest { self.new ≡ map.remove self.old cell }
+    {
+        cell.is_on_sheet();
+        match index_of(&self.table, cell) {
+            Some(at) => replace(&mut self.held[at], Held::Erased(cell)).into_item(),
+            None => None,
         }
     }
 
