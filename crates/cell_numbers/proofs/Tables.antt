@@ -1,5 +1,5 @@
 -- A table's numbers after room is made and after one is set.
-use Rattle.std.specs.Prelude.{ℕ, suc, zero, ◌≡◌, ◌<◌, ◌≤◌, ◌+◌, ◌-◌, ◌*◌, ◌/◌, nat_lt, ◌++◌, cond, refl, true, false, nat_eq, List, [], ◌∷◌, length, replicate, get_or, set, ◌≢◌}
+use Rattle.std.specs.Prelude.{ℕ, suc, zero, ◌≡◌, ◌<◌, ◌≤◌, ◌+◌, ◌-◌, ◌*◌, ◌/◌, ◌%◌, nat_lt, ◌++◌, cond, refl, true, false, nat_eq, List, [], ◌∷◌, length, replicate, get_or, set, ◌≢◌}
 use Rattle.std.proofs.Common.{sym, ◌∙◌, ap, subst, arith, inl, inr, ◌⊎◌, get_or-set_same, get_or-set_other}
 use Rattle.std.proofs.lemmas.Bool.{cases_Bool, eq-eqb, eqb-true, false≢true, ltb-false, ltb-true}
 use Rattle.std.proofs.lemmas.List.{get_or_past, length-set}
@@ -196,13 +196,13 @@ module _ (t : Numbers) (ok : AreParted t) (c : Place) (n : ℕ) (inside : InShee
           let z : head_of t d ≡ 0 = let l = ltb-false 0 (head_of t d) none in omega (arith, l) in
           ap (λ h. number_in (set t.numbers at n) h (place_of d)) z ∙ sym (ap (λ h. number_in t.numbers h (place_of d)) z)
 
--- no place has a number up to the end of a page without room, where none has one before the column in it
-pub none_further : (t : Numbers) (c : Place) (col : ℕ) → ((d : Place) → InSheet d → band_of d ≡ band_of c → c.col ≤ d.col → d.col < col → number_at t d ≡ 0)
-    → head_of t (record { row = c.row; col = col }) ≡ 0 → (d : Place) → InSheet d → band_of d ≡ band_of c → c.col ≤ d.col → d.col < col / 4 * 4 + 4 → number_at t d ≡ 0
-none_further t c col before empty d inside same from below = elim (cases_Bool (nat_lt d.col col)) [
-  | inl below' ↦ before d inside same from (ltb-true d.col col below')
-  | inr past' ↦
-      let past : col ≤ d.col = ltb-false d.col col past' in
-      let page : page_of d ≡ page_of (record { row = c.row; col = col }) = omega (arith, same, below, past) in
+-- no place has a number from the column of a page without room on, where none has one behind that page
+pub none_behind : (t : Numbers) (c : Place) (col : ℕ) → ((d : Place) → InSheet d → band_of d ≡ band_of c → col ≤ d.col → number_at t d ≡ 0) → col % 4 ≡ 0 → 0 < col
+    → head_of t (record { row = c.row; col = col - 4 }) ≡ 0 → (d : Place) → InSheet d → band_of d ≡ band_of c → col - 4 ≤ d.col → number_at t d ≡ 0
+none_behind t c col behind even some empty d inside same from = elim (cases_Bool (nat_lt d.col col)) [
+  | inl t' ↦
+      let below : d.col < col = ltb-true d.col col t' in
+      let page : page_of d ≡ page_of (record { row = c.row; col = col - 4 }) = omega (arith, same, below, from, even, some) in
       ap (λ h. number_in t.numbers h (place_of d)) (ap (λ p. get_or t.heads p 0) page ∙ empty)
+  | inr f ↦ behind d inside same (ltb-false d.col col f)
 ]

@@ -97,14 +97,23 @@ impl<T> CellMap<T> {
         }
     }
 
-    /// A column from the cell's on, up to 256, before which no cell of its band of 256 rows has an item, from its own
-    /// column on.
-    pub fn next_column(&self, cell: Cell) -> u16
+    /// A column from the cell's on before which no cell of its row has an item, from its own column on. It is one that
+    /// may have an item, and else the end, or the cell's own column where that lies behind the end.
+    pub fn next_column(&self, cell: Cell, end: u16) -> u16
+        requires { end ≤ COLUMNS }
         ensures within { (cell.col ≤ result) × (result ≤ COLUMNS) }
-        ensures none { (c : Place) → InSheet c → band_of c ≡ band_of cell → cell.col ≤ c.col → c.col < result →
+        ensures none { (c : Place) → InSheet c → c.row ≡ cell.row → cell.col ≤ c.col → c.col < result →
             map.get self.now c ≡ None }
     {
-        self.table.next_column(cell)
+        self.table.next_column(cell, end)
+    }
+
+    /// A column, up to 256, from which on no cell of the cell's band of 256 rows has an item.
+    pub fn band_end(&self, cell: Cell) -> u16
+        ensures within { result ≤ COLUMNS }
+        ensures none { (c : Place) → InSheet c → band_of c ≡ band_of cell → result ≤ c.col → map.get self.now c ≡ None }
+    {
+        self.table.band_end(cell)
     }
 
     /// The item of a cell, to be changed in place.

@@ -122,25 +122,45 @@ impl PlaceTable {
         }
     }
 
-    /// A column from the cell's on, up to 256, before which no place of the cell's band of 256 rows has a number, from
-    /// the cell's column on.
-    pub fn next_column(&self, cell: Cell) -> u16
+    /// The next column from the cell's on, before the end, in which its row has a number. Where none is left, it is the
+    /// end, or the cell's own column where that lies behind the end.
+    pub fn next_column(&self, cell: Cell, end: u16) -> u16
+        requires { end ≤ COLUMNS }
         ensures within { (cell.col ≤ result) × (result ≤ COLUMNS) }
-        ensures none { (d : Place) → InSheet d → band_of d ≡ band_of cell → cell.col ≤ d.col → d.col < result →
+        ensures none { (d : Place) → InSheet d → d.row ≡ cell.row → cell.col ≤ d.col → d.col < result →
             number_at self.now d ≡ 0 }
     {
         let mut col = u16::from(cell.col);
-        while col < COLUMNS {
+        while col < end {
             let place = Cell {
                 row: cell.row,
                 col: col as u8,
             };
-            if self.head_of(place) != 0 {
+            if self.number_at(place) != 0 {
                 return col;
             }
-            col = col / 4 * 4 + 4;
+            col += 1;
         }
         col
+    }
+
+    /// A column, up to 256, from which on no place of the cell's band of 256 rows has a number.
+    pub fn band_end(&self, cell: Cell) -> u16
+        ensures within { result ≤ COLUMNS }
+        ensures none { (d : Place) → InSheet d → band_of d ≡ band_of cell → result ≤ d.col → number_at self.now d ≡ 0 }
+    {
+        let mut end = COLUMNS;
+        while end > 0 {
+            let place = Cell {
+                row: cell.row,
+                col: (end - 4) as u8,
+            };
+            if self.head_of(place) != 0 {
+                return end;
+            }
+            end -= 4;
+        }
+        end
     }
 
     // Adds room for the number of a cell whose page has none.

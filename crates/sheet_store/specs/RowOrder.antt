@@ -1,11 +1,13 @@
 -- Cells with their states, in row order.
-use Rattle.std.specs.Prelude.{◌≡◌, false, List, Some}
+use Rattle.std.specs.Prelude.{◌≡◌, ◌≤◌, false, List, None, Some}
 use Rattle.std.specs.FinMap.{get}
 use Rattle.std.specs.List.{filter}
 use Rattle.std.specs.Ordering.{is_le, is_lt}
+use Rattle.cell_numbers.specs.Numbers.{band_of}
 use Rattle.grid_address.specs.Place.{place_cmp, InSheet, Place}
 use Rattle.sheet_store.specs.Grid.{Cells}
 use Rattle.sheet_store.specs.State.{CellState}
+use Rattle.sheet_store.specs.declared.entries.Edge.{Edge}
 
 -- the entries behind a place
 abbrev pub entries_behind : Place → List (Place × CellState) → List (Place × CellState)
@@ -19,3 +21,7 @@ NextHeld cells c d =
 -- no cell with a state lies behind a place
 abbrev pub NoneHeldBehind : Cells → Place → Type 0
 NoneHeldBehind cells c = (p : Place) (s : CellState) → InSheet p → get cells p ≡ Some s → is_lt (place_cmp c p) ≡ false
+
+-- from the column of an edge on, no cell of its band has a state, and the column is at most the sheet's end
+abbrev pub IsEdge : Cells → Edge → Type 0
+IsEdge cells e = (e.col ≤ 256) × ((c : Place) → InSheet c → band_of c ≡ e.band → e.col ≤ c.col → get cells c ≡ None)

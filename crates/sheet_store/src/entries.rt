@@ -1,20 +1,30 @@
 // The cells of a store, one after another.
-ghost use Rattle.std.specs.Prelude.{◌≡◌, ◌∷◌, ◌<◌, [], false, None, IfSome, IfNone};
+ghost use Rattle.std.specs.Prelude.{◌≡◌, ◌∷◌, ◌<◌, ◌≤◌, [], false, None, IfSome, IfNone};
 ghost use Rattle.std.specs.Ordering.{is_le, is_lt};
 ghost use Rattle.std.specs.FinMap as map;
+ghost use Rattle.cell_numbers.specs.Numbers.{band_of};
 ghost use Rattle.grid_address.specs.Place.{place_cmp, InSheet, Place};
-ghost use Rattle.sheet_store.specs.RowOrder.{entries_behind, NextHeld, NoneHeldBehind};
+ghost use Rattle.sheet_store.specs.RowOrder.{entries_behind, IsEdge, NextHeld, NoneHeldBehind};
 ghost use Rattle.sheet_store.specs.Scan.{left_from, number_of};
 
 use crate::{CellState, Store};
 use grid_address::{COLUMNS, Cell, LAST_COLUMN, LAST_ROW};
 use std::marker::Model;
 
-/// The cells of a store that are still to come, with their states, in row order.
+/// A band of rows, and a column, up to 256, from which on none of its cells has a state.
+#[derive(Clone, Copy)]
+pub(crate) struct Edge {
+    band: u16,
+    col: u16,
+}
+
+/// The cells of a store that are still to come, with their states, in row order. The edge of the last band is kept, so
+/// that each of its rows is left there.
 #[derive(Drop)]
 pub struct Entries<'a> {
     store: &'a Store,
     from: Option<Cell>,
+    edge: Edge,
 }
 
 impl<'a> Model for Entries<'a> {
@@ -30,7 +40,11 @@ impl<'a> Model for Entries<'a> {
 
     ghost coded = { Prim.hlevel (codes, formula.the_row.coded) };
 
+    ghost use Rattle.sheet_store.specs.RowOrder.{IsEdge};
+
     ghost view = { λ e. left_from e.from (map.entries e.store.now.cells) };
+
+    ghost invariant = { λ e. IsEdge e.store.now.cells e.edge };
 }
 
 impl<'a> Entries<'a> {
@@ -40,7 +54,7 @@ impl<'a> Entries<'a> {
         ensures none { IfNone result (self.old ≡ []) }
     {
         self.store.are_held();
-        match first_from(self.store, self.from) {
+        match first_from(self.store, self.from, &mut self.edge) {
             Some(entry) => {
                 self.from = place_after(entry.0);
                 Some(entry)
@@ -56,9 +70,11 @@ impl Store {
         ensures { result ≡ map.entries self.now.cells }
     {
         self.are_held();
+        let first = Cell { row: 0, col: 0 };
         Entries {
             store: self,
-            from: Some(Cell { row: 0, col: 0 }),
+            from: Some(first),
+            edge: edge_of(self, first),
         }
     }
 }
@@ -90,35 +106,71 @@ fn place_after(place: Cell) -> Option<Cell>
     row_start(place.row + 1)
 }
 
-/// The rows of a band, in which a store tells the next column that may hold a cell.
+/// The rows of a band.
 const BAND: u16 = 256;
 
+// The edge of a place's band.
+fn edge_of(store: &Store, place: Cell) -> Edge
+    ensures band { result.band ≡ band_of place }
+    ensures edge { IsEdge store.now.cells result }
+{
+    Edge {
+        band: place.row / BAND,
+        col: store.band_end(place),
+    }
+}
+
+// The edge of a place's band, which is the one that is known where that is of the same band.
+fn edge_at(store: &Store, place: Cell, known: Edge) -> Edge
+    requires { IsEdge store.now.cells known }
+    ensures band { result.band ≡ band_of place }
+    ensures edge { IsEdge store.now.cells result }
+{
+    if known.band == place.row / BAND {
+        known
+    } else {
+        edge_of(store, place)
+    }
+}
+
 // A place behind one without a state, and no cell with a state lies between them: the next place, or the first that may
-// have one in the row, or in the next row, or in the next band where the store holds no cell in this one.
-fn place_past(store: &Store, place: Cell) -> Option<Cell>
-    requires { map.get store.now.cells place ≡ None }
+// have one in the row, or in the next row, or in the next band where the store holds no cell in this one. The edge is
+// that of the place's band.
+fn place_past(store: &Store, place: Cell, edge: Edge) -> Option<Cell>
+    requires absent { map.get store.now.cells place ≡ None }
+    requires band { edge.band ≡ band_of place }
+    requires edge { IsEdge store.now.cells edge }
     ensures some { IfSome result (λ c. NextHeld store.now.cells place c) }
     ensures behind { IfSome result (λ c. number_of place < number_of c) }
     ensures none { IfNone result (NoneHeldBehind store.now.cells place) }
 {
-    let col = store.next_column(place);
+    if edge.col == 0 {
+        return row_start(place.row / BAND * BAND + BAND);
+    }
+    if edge.col <= u16::from(place.col) {
+        return row_start(place.row + 1);
+    }
+    let col = store.next_column(place, edge.col);
     if col <= u16::from(place.col) {
         return place_after(place);
     }
-    if col < COLUMNS {
+    if col < edge.col {
         return Some(Cell {
             row: place.row,
             col: col as u8,
         });
     }
-    if place.col == 0 {
-        return row_start(place.row / BAND * BAND + BAND);
-    }
     row_start(place.row + 1)
 }
 
 // The first cell with a state from a place on.
-fn first_from<'a>(store: &'a Store, from: Option<Cell>) -> Option<(Cell, &'a CellState)>
+fn first_from<'a>(
+    store: &'a Store,
+    from: Option<Cell>,
+    edge: &mut Edge,
+) -> Option<(Cell, &'a CellState)>
+    requires { IsEdge store.now.cells edge.old }
+    ensures edge { IsEdge store.now.cells edge.new }
     ensures some { IfSome result (λ entry.
         left_from from (map.entries store.now.cells) ≡
         (entry.0, entry.1.now) ∷ entries_behind entry.0 (map.entries store.now.cells)) }
@@ -132,7 +184,8 @@ fn first_from<'a>(store: &'a Store, from: Option<Cell>) -> Option<(Cell, &'a Cel
             Some(state) => return Some((place, state)),
             None => {}
         }
-        next = place_past(store, place);
+        *edge = edge_at(store, place, *edge);
+        next = place_past(store, place, *edge);
     }
     None
 }

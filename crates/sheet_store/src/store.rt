@@ -79,14 +79,24 @@ impl Store {
         are_marks(&self.hidden);
     }
 
-    // A column from the cell's on, up to 256, before which no cell of its band of 256 rows has a state, from its own
-    // column on.
-    pub(crate) fn next_column(&self, cell: Cell) -> u16
+    // A column from the cell's on before which no cell of its row has a state, from its own column on. It is one that
+    // may have a state, and else the end, or the cell's own column where that lies behind the end.
+    pub(crate) fn next_column(&self, cell: Cell, end: u16) -> u16
+        requires { end ≤ 256 }
         ensures within { (cell.col ≤ result) × (result ≤ 256) }
-        ensures none { (c : Place) → InSheet c → band_of c ≡ band_of cell → cell.col ≤ c.col → c.col < result →
+        ensures none { (c : Place) → InSheet c → c.row ≡ cell.row → cell.col ≤ c.col → c.col < result →
             map.get self.now.cells c ≡ None }
     {
-        self.cells.next_column(cell)
+        self.cells.next_column(cell, end)
+    }
+
+    // A column, up to 256, from which on no cell of the cell's band of 256 rows has a state.
+    pub(crate) fn band_end(&self, cell: Cell) -> u16
+        ensures within { result ≤ 256 }
+        ensures none { (c : Place) → InSheet c → band_of c ≡ band_of cell → result ≤ c.col →
+            map.get self.now.cells c ≡ None }
+    {
+        self.cells.band_end(cell)
     }
 
     /// The state of a cell.

@@ -1,10 +1,14 @@
 use Rattle.std.proofs.Common.{◌≡◌}
 use Rattle.std.specs.FinMap.{entries}
+use Rattle.sheet_store.specs.RowOrder.{IsEdge}
 use Rattle.sheet_store.specs.Scan.{left_from, places_left}
 use Rattle.sheet_store.proofs.entries.first_from.Given as goal
 
 abbrev pub invariant-loop-next : goal.invariant-loop-next
-invariant-loop-next l = left_from l.next (entries l.store.cells) ≡ left_from l.fn.from (entries l.store.cells)
+invariant-loop-next l = record {
+  edge : IsEdge l.store.cells l.edge;
+  left : left_from l.next (entries l.store.cells) ≡ left_from l.fn.from (entries l.store.cells);
+}
 
 abbrev pub decreases-loop-next : goal.decreases-loop-next
 decreases-loop-next l = places_left l.next
