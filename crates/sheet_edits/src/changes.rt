@@ -3,17 +3,17 @@ ghost use Rattle.std.specs.Prelude.{◌≡◌, OnOk, option_copied};
 ghost use Rattle.std.specs.FinMap as map;
 ghost use Rattle.grid_address.specs.Place.{place_cmp};
 
+use cell_numbers::CellMap;
 use grid_address::Cell;
 use lics_text::Memory;
 use sheet_store::CellState;
 use std::alloc::Global;
-use std::collections::BTreeMap;
 use std::marker::Model;
 
 /// States that cells are to have, one for a cell.
 #[derive(Drop)]
 pub struct Changes {
-    states: BTreeMap<Cell, CellState>,
+    states: CellMap<CellState>,
 }
 
 impl Model for Changes {
@@ -26,7 +26,7 @@ impl Model for Changes {
 
     ghost coded = { Prim.hlevel (codes, map.code, formula.the_row.coded) };
 
-    ghost view = { λ a. map.from_entries a.states.entries };
+    ghost view = { λ a. a.states };
 }
 
 impl Changes {
@@ -35,7 +35,7 @@ impl Changes {
         ensures { result ≡ map.empty }
     {
         Changes {
-            states: BTreeMap::new(alloc),
+            states: CellMap::new(alloc),
         }
     }
 
@@ -51,7 +51,7 @@ impl Changes {
     pub fn get(&self, cell: Cell) -> Option<&CellState>
         ensures { option_copied result ≡ map.get self.now cell }
     {
-        self.states.get(&cell)
+        self.states.get(cell)
     }
 
     /// Takes the state of a cell out; none where it has none.
@@ -59,6 +59,6 @@ impl Changes {
         ensures state { result ≡ map.get self.old cell }
         ensures rest { self.new ≡ map.remove self.old cell }
     {
-        self.states.remove(&cell)
+        self.states.take(cell)
     }
 }
