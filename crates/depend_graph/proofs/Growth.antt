@@ -1,15 +1,15 @@
 -- What goes into the set, and that it ends with all that is within.
-use Rattle.std.specs.Prelude.{◌≡◌, ◌≤◌, ◌+◌, true, cond, refl, List, [], ◌∷◌, ◌++◌, length, ◌↔◌, ◌⊎◌, Option, Some, None, is_some}
+use Rattle.std.specs.Prelude.{◌≡◌, ◌≤◌, ◌+◌, true, false, cond, refl, List, [], ◌∷◌, ◌++◌, length, ◌↔◌, ◌⊎◌, Option, Some, None, is_some}
 use Rattle.std.specs.FinMap.{entries, get}
 use Rattle.std.specs.BTreeMap.{is_at}
 use Rattle.std.specs.List.{IsDistinct}
 use Rattle.std.specs.Map.{keys_of, lookup}
 use Rattle.std.proofs.Common.{sym, ◌∙◌, ap, inl, inr, arith, length-append}
-use Rattle.std.proofs.lemmas.Bool.{false≢true, cases_Bool, or_left, or_right}
+use Rattle.std.proofs.lemmas.Bool.{false≢true, cases_Bool, or_cases, or_left, or_right}
 use Rattle.std.proofs.lemmas.Map.Made.{length-le_from_is_member}
 use Rattle.cell_numbers.specs.Sets.{has}
 use Rattle.grid_address.proofs.Maps.{get_lookup}
-use Rattle.grid_address.proofs.Places.{cells_total, place_tied, same_place_laws}
+use Rattle.grid_address.proofs.Places.{cells_total, place_tied, same_place_is, same_place_laws}
 use Rattle.grid_address.specs.Place.{place_cmp, same_place, Place}
 use Rattle.depend_graph.specs.Network.{holds, is_formula, reads, IsSpread, Network, ReachesCell, ReachesOneOf}
 use Rattle.depend_graph.specs.Network.ReachesCell.{direct, through}
@@ -63,3 +63,21 @@ module _ (g : Network) (cells : List Place) where
     (λ h. record { formula = within_formula h.0 h.1; way = reaches h.0 }),
     (λ s. (elim s.way [ inl m ↦ seed m | inr q ↦ reached_within q.reached q.among ], λ m. s.formula)),
   )
+
+-- no formula reaches a cell that none reads
+no_way : (g : Network) (c d : Place) → ((e : Place) → reads g e d ≡ false) → ReachesCell (reads g) c d → ⊥
+no_way g c d none (direct r) = false≢true (sym (none c) ∙ r)
+no_way g c d none (through {e = e} r more) = no_way g e d none more
+
+-- so it is all that there is of itself
+pub spread_alone : (g : Network) (cells : List Place) (d : Place) → cells ≡ d ∷ [] → ((e : Place) → reads g e d ≡ false) → (c : Place) → ((has same_place cells c ≡ true) × (is_formula g c ≡ true)) ↔ IsSpread g cells c
+spread_alone g cells d is none c = (
+  (λ h. record { formula = h.1; way = inl h.0 }),
+  (λ s. elim s.way [
+    | inl m ↦ (m, s.formula)
+    | inr q ↦ elim (or_cases (same_place q.cell d) false (sym (ap (λ l. has same_place l q.cell) is) ∙ q.among)) [
+      | inl k ↦ absurd (no_way g c q.cell (λ e. ap (reads g e) (same_place_is q.cell d k) ∙ none e) q.reached)
+      | inr k ↦ absurd (false≢true k)
+    ]
+  ]),
+)

@@ -1,10 +1,10 @@
 // What reaches cells through what formulas read, by a search that goes depth first.
-ghost use Rattle.std.specs.Prelude.{◌≡◌, ◌<◌, ◌^◌, ◌⊎◌, ◌↔◌, ◌++◌, ◌∷◌, [], List, cond, length, true, IfOk, OnOk};
+ghost use Rattle.std.specs.Prelude.{◌≡◌, ◌<◌, ◌^◌, ◌⊎◌, ◌↔◌, ◌++◌, ◌∷◌, [], List, cond, length, true, false, IfOk, OnOk};
 ghost use Rattle.cell_numbers.specs.Numbers.{number_at};
 ghost use Rattle.cell_numbers.specs.Sets.{has};
 ghost use Rattle.grid_address.specs.Place.{same_place, InSheet, Place};
 ghost use Rattle.depend_graph.specs.Backward.{work_left, IsDeeper, IsSearched};
-ghost use Rattle.depend_graph.specs.Network.{is_formula, IsSpread, Network};
+ghost use Rattle.depend_graph.specs.Network.{is_formula, reads, IsSpread, Network};
 ghost use Rattle.depend_graph.specs.Within.{Within};
 
 use crate::Graph;
@@ -143,10 +143,23 @@ fn formulas_backward(alloc: Global, graph: &Graph, cells: &[Cell]) -> Result<Cel
     Ok(list)
 }
 
-/// The formulas among the cells, and those that reach one of them, the last one that the search left first.
+// Whether no formula reads a cell.
+fn is_unread(alloc: Global, graph: &Graph, cell: Cell) -> Result<bool, Memory>
+    ensures { IfOk result (λ b. b ≡ true → (d : Place) → reads graph.now d cell ≡ false) }
+{
+    let mut readers = Vec::new(alloc);
+    graph.add_readers(cell, &mut readers)?;
+    Ok(readers.is_empty())
+}
+
+/// The formulas among the cells, and those that reach one of them, the last one that the search left first. One cell
+/// that no formula reads takes no search.
 pub fn closure(alloc: Global, graph: &Graph, cells: &[Cell]) -> Result<CellList, Memory>
     ensures { IfOk result (λ l. (c : Place) → (has same_place l c ≡ true) ↔ IsSpread graph.now cells.now c) }
 {
+    if cells.len() == 1 && is_unread(alloc, graph, cells[0])? {
+        return formulas_backward(alloc, graph, cells);
+    }
     let left = within(alloc, graph, cells)?;
     let list = formulas_backward(alloc, graph, left.as_slice())?;
     Ok(list)
