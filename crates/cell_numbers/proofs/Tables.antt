@@ -206,3 +206,14 @@ none_behind t c col behind even some empty d inside same from = elim (cases_Bool
       ap (λ h. number_in t.numbers h (place_of d)) (ap (λ p. get_or t.heads p 0) page ∙ empty)
   | inr f ↦ behind d inside same (ltb-false d.col col f)
 ]
+
+-- no place has a number up to the end of a page without room, where none has one before the column in it
+pub none_further : (t : Numbers) (c : Place) (col : ℕ) → ((d : Place) → InSheet d → band_of d ≡ band_of c → c.col ≤ d.col → d.col < col → number_at t d ≡ 0)
+    → head_of t (record { row = c.row; col = col }) ≡ 0 → (d : Place) → InSheet d → band_of d ≡ band_of c → c.col ≤ d.col → d.col < col / 4 * 4 + 4 → number_at t d ≡ 0
+none_further t c col before empty d inside same from below = elim (cases_Bool (nat_lt d.col col)) [
+  | inl t' ↦ before d inside same from (ltb-true d.col col t')
+  | inr f ↦
+      let past : col ≤ d.col = ltb-false d.col col f in
+      let page : page_of d ≡ page_of (record { row = c.row; col = col }) = omega (arith, same, below, past) in
+      ap (λ h. number_in t.numbers h (place_of d)) (ap (λ p. get_or t.heads p 0) page ∙ empty)
+]

@@ -108,6 +108,16 @@ impl<T> CellMap<T> {
         self.table.next_column(cell, end)
     }
 
+    /// A column from the cell's on, up to 256, before which no cell of its band of 256 rows has an item, from its own
+    /// column on.
+    pub fn next_page(&self, cell: Cell) -> u16
+        ensures within { (cell.col ≤ result) × (result ≤ COLUMNS) }
+        ensures none { (c : Place) → InSheet c → band_of c ≡ band_of cell → cell.col ≤ c.col → c.col < result →
+            map.get self.now c ≡ None }
+    {
+        self.table.next_page(cell)
+    }
+
     /// A column, up to 256, from which on no cell of the cell's band of 256 rows has an item.
     pub fn band_end(&self, cell: Cell) -> u16
         ensures within { result ≤ COLUMNS }

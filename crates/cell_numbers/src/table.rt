@@ -144,6 +144,27 @@ impl PlaceTable {
         col
     }
 
+    /// A column from the cell's on, up to 256, before which no place of the cell's band of 256 rows has a number, from
+    /// the cell's own column on. It is the cell's own where its page has room, or the first of a page that has, or 256.
+    pub fn next_page(&self, cell: Cell) -> u16
+        ensures within { (cell.col ≤ result) × (result ≤ COLUMNS) }
+        ensures none { (d : Place) → InSheet d → band_of d ≡ band_of cell → cell.col ≤ d.col → d.col < result →
+            number_at self.now d ≡ 0 }
+    {
+        let mut col = u16::from(cell.col);
+        while col < COLUMNS {
+            let here = Cell {
+                row: cell.row,
+                col: col as u8,
+            };
+            if self.head_of(here) != 0 {
+                return col;
+            }
+            col = col / 4 * 4 + 4;
+        }
+        col
+    }
+
     /// A column, up to 256, from which on no place of the cell's band of 256 rows has a number.
     pub fn band_end(&self, cell: Cell) -> u16
         ensures within { result ≤ COLUMNS }

@@ -4,3 +4,4 @@ pub mod Grids
 pub mod Held
 pub mod RowOrder
 pub mod Scans
+pub mod Unused

@@ -106,8 +106,8 @@ fn place_after(place: Cell) -> Option<Cell>
     row_start(place.row + 1)
 }
 
-/// The rows of a band.
-const BAND: u16 = 256;
+/// The rows of a band, of which a store tells at once in which columns none of its cells has a state.
+pub const BAND: u16 = 256;
 
 // The edge of a place's band.
 fn edge_of(store: &Store, place: Cell) -> Edge

@@ -3,12 +3,13 @@ ghost use Rattle.std.specs.Prelude.{length, ◌≡◌, ◌≤◌, ◌<◌, ◌++
 ghost use Rattle.std.specs.Option.{ForSome};
 ghost use Rattle.std.specs.FinMap as map;
 ghost use Rattle.cell_numbers.specs.Filled.{cell_in, filled, item_in, with_item};
-ghost use Rattle.grid_address.specs.Place.{place_cmp, InSheet, Place};
+ghost use Rattle.grid_address.specs.Place.{is_within, place_cmp, InSheet, Place};
 ghost use Rattle.cell_numbers.specs.Numbers.{band_of};
 ghost use Rattle.sheet_store.specs.Copies.{inserted_all};
 ghost use Rattle.sheet_store.specs.Grid.{any_state, cells_within, clear_cell, formatted, formulas, formulas_within, further, holds_formula, is_hidden, last_among, last_used, picked, put_state, set_format_of, set_hidden_of, set_value_at, set_width_of, width_of, AreHeld, HasContent, HasFormula, IsBlankAt, IsSound};
 
 use crate::CellState;
+use crate::entries::BAND;
 use crate::own_width::{MOST_WIDTH, OwnWidth};
 use crate::scan::scan;
 use cell_numbers::{CellMap, Held};
@@ -90,6 +91,16 @@ impl Store {
         self.cells.next_column(cell, end)
     }
 
+    // A column from the cell's on, up to 256, before which no cell of its band of 256 rows has a state, from its own
+    // column on.
+    fn next_page(&self, cell: Cell) -> u16
+        ensures within { (cell.col ≤ result) × (result ≤ 256) }
+        ensures none { (c : Place) → InSheet c → band_of c ≡ band_of cell → cell.col ≤ c.col → c.col < result →
+            map.get self.now.cells c ≡ None }
+    {
+        self.cells.next_page(cell)
+    }
+
     // A column, up to 256, from which on no cell of the cell's band of 256 rows has a state.
     pub(crate) fn band_end(&self, cell: Cell) -> u16
         ensures within { result ≤ 256 }
@@ -97,6 +108,17 @@ impl Store {
             map.get self.now.cells c ≡ None }
     {
         self.cells.band_end(cell)
+    }
+
+    /// Whether no cell of a span has a state, as far as one look at its band tells: it is false where some may have
+    /// one.
+    pub fn is_unused(&self, span: Span) -> bool
+        ensures { result ≡ true → (c : Place) → is_within span c ≡ true → map.get self.now.cells c ≡ None }
+    {
+        span.last.is_on_sheet();
+        let band = span.first.row / BAND;
+        let col = self.next_page(span.first);
+        band == span.last.row / BAND && col > u16::from(span.last.col)
     }
 
     /// The state of a cell.
