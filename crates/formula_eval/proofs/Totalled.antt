@@ -1,10 +1,11 @@
 -- The total of the cells of a range, one cell and one row at a time.
-use Rattle.std.proofs.Common.{◌≡◌, ℕ, zero, suc, ◌+◌, List, [], ◌∷◌, ◌++◌, length, fold, cond, Some, None, refl, sym, ap, ◌∙◌, append_assoc, arith}
+use Rattle.std.proofs.Common.{◌≡◌, ℕ, zero, suc, ◌+◌, ◌-◌, ◌≤◌, ◌<◌, List, [], ◌∷◌, ◌++◌, length, fold, cond, Some, None, refl, sym, ap, ◌∙◌, append_assoc, arith}
 use Rattle.std.specs.Prelude.{Bool, true, false, ◌||◌, ℤ, pos, ◌+ℤ◌, Option, IfSome}
 use Rattle.std.specs.List.{filter, list_any}
+use Rattle.std.proofs.lemmas.Bool.Decides.{nat_tests}
 use Rattle.std.proofs.lemmas.List.{append-nil}
 use Rattle.fixed_value.specs.Numbers.{within}
-use Rattle.grid_address.specs.Place.{Place}
+use Rattle.grid_address.specs.Place.{is_within, width_of, Extent, Place}
 use Rattle.formula_tree.specs.Values.{is_filled}
 use Rattle.formula_tree.specs.declared.ast.Op.TheVariants.{Div}
 use Rattle.formula_tree.specs.declared.function.Function.{Function}
@@ -19,7 +20,7 @@ use Rattle.formula_eval.specs.declared.totals.Total.{Total}
 use Rattle.formula_eval.specs.Lists.{in_range, is_err, is_na, items_in, larger, list_row, list_value, size_of, smaller}
 use Rattle.formula_eval.specs.Outlook.{block_cells, row_cells}
 use Rattle.formula_eval.proofs.Blocks.{block_more, place, row_more}
-use Rattle.formula_eval.specs.Totals.{IsTotal}
+use Rattle.formula_eval.specs.Totals.{so_far, IsTotal}
 
 -- blank cells have no items
 pub unfiltered : (values : Place → Value) (ps : List Place) → items_in values (filter (λ p. is_filled (values p)) ps) ≡ items_in values ps
@@ -68,6 +69,40 @@ pub row_put : (values : Place → Value) (row col rows cols : ℕ) →
 row_put values row col rows cols =
     sym (items_append values (block_cells row col rows cols) (row_cells (row + rows) col cols))
     ∙ ap (items_in values) (sym (block_more row col rows cols))
+
+-- blank cells of a row have no items
+blank_row : (values : Place → Value) (row col count : ℕ) → ((k : ℕ) → col ≤ k → k < col + count → values (place row k) ≡ value.Blank) → items_in values (row_cells row col count) ≡ []
+blank_row values row col zero blank = refl
+blank_row values row col (suc count) blank =
+    ap (λ v. in_range v ++ items_in values (row_cells row (col + 1) count)) (blank col (omega arith) (omega arith))
+    ∙ blank_row values row (col + 1) count (λ k low high. blank k (omega (arith, low)) (omega (arith, high)))
+
+lies_in : (s : Extent) (row col : ℕ) → s.first.row ≤ row → row ≤ s.last.row → s.first.col ≤ col → col ≤ s.last.col → is_within s (place row col) ≡ true
+lies_in s row col a b c d = grind (arith, nat_tests)
+
+-- rows of blank cells have none
+blank_rows : (values : Place → Value) (s : Extent) (from count : ℕ) → ((row col : ℕ) → s.first.row + from ≤ row → row < s.first.row + (from + count) → s.first.col ≤ col → col ≤ s.last.col → values (place row col) ≡ value.Blank) →
+    so_far values s (from + count) ≡ so_far values s from
+blank_rows values s from zero blank = ap (so_far values s) (let e : from + 0 ≡ from = omega arith in e)
+blank_rows values s from (suc count) blank =
+    ap (so_far values s) (let e : from + suc count ≡ from + count + 1 = omega arith in e)
+    ∙ sym (row_put values s.first.row s.first.col (from + count) (width_of s))
+    ∙ ap (λ l. so_far values s (from + count) ++ l) (blank_row values (s.first.row + (from + count)) s.first.col (width_of s) (λ k low high.
+    blank (s.first.row + (from + count)) k (omega arith) (omega arith) low (omega (arith, low, high))))
+    ∙ append-nil (so_far values s (from + count))
+    ∙ blank_rows values s from count (λ row col above below left right. blank row col above (omega (arith, below)) left right)
+
+-- an unused part of a range adds nothing
+pub unused_put : (values : Place → Value) (s b : Extent) (from to : ℕ) → from < to → b.first ≡ place (s.first.row + from) s.first.col → b.last ≡ place (s.first.row + (to - 1)) s.last.col → ((p : Place) → is_within b p ≡ true → values p ≡ value.Blank) →
+    so_far values s to ≡ so_far values s from
+unused_put values s b from to some first last blank =
+    ap (so_far values s) (let e : to ≡ from + (to - from) = omega (arith, some) in e)
+    ∙ blank_rows values s from (to - from) (λ row col above below left right.
+    blank (place row col) (lies_in b row col
+    (let e : b.first.row ≤ row = omega (arith, above, ap (λ (p : Place). p.row) first) in e)
+    (let e : row ≤ b.last.row = omega (arith, below, some, ap (λ (p : Place). p.row) last) in e)
+    (let e : b.first.col ≤ col = omega (arith, left, ap (λ (p : Place). p.col) first) in e)
+    (let e : col ≤ b.last.col = omega (arith, right, ap (λ (p : Place). p.col) last) in e)))
 
 fold_behind : {X Y : Type 0} (f : Y → X → Y) (start : Y) (l : List X) (x : X) → fold f start (l ++ x ∷ []) ≡ f (fold f start l) x
 fold_behind f start [] x = refl

@@ -1,7 +1,8 @@
 // What formulas look at.
-ghost use Rattle.std.specs.Prelude.{◌≡◌, ◌≤◌, IfOk, IfNone, IfSome, Some, None, ℕ, pos};
-ghost use Rattle.grid_address.specs.Place.{Place};
+ghost use Rattle.std.specs.Prelude.{◌≡◌, ◌≤◌, IfOk, IfNone, IfSome, Some, None, true, ℕ, pos};
+ghost use Rattle.grid_address.specs.Place.{is_within, Place};
 ghost use Rattle.formula_tree.specs.Seen.{seen_content, seen_value};
+ghost use Rattle.formula_tree.specs.declared.value.Value.TheVariants as value;
 ghost use Rattle.formula_eval.specs.Outlook.{filled, Outlook, Sight};
 
 use formula_tree::{ContentRef, ValueRef};
@@ -38,6 +39,10 @@ pub trait Look {
     /// The cells of a span that aren't blank, in row order.
     fn filled(&self, span: Span) -> Result<CellList, Memory>
         ensures { IfOk result (λ l. l ≡ filled (sight self.now).values span) };
+
+    /// Whether all cells of a span are known to be blank without a look at each.
+    fn is_unused(&self, span: Span) -> bool
+        ensures { result ≡ true → (c : Place) → is_within span c ≡ true → (sight self.now).values c ≡ value.Blank };
 }
 
 /// The pointer's cell, and the moment of the step.

@@ -1,23 +1,27 @@
 // Functions of lists over a range, without a list of its items.
-ghost use Rattle.std.specs.Prelude.{◌≡◌, ◌<◌, ◌≤◌, ◌+◌, ◌++◌, [], IfSome, List, Bool, true};
+ghost use Rattle.std.specs.Prelude.{◌≡◌, ◌<◌, ◌≤◌, ◌+◌, ◌-◌, ◌++◌, [], IfSome, List, true};
 ghost use Rattle.grid_address.specs.Place.{height_of, width_of};
 ghost use Rattle.formula_tree.specs.Seen.{seen_value};
 ghost use Rattle.formula_tree.specs.declared.value.Value.TheVariants as value;
 ghost use Rattle.formula_eval.specs.declared.items.Item.{Item};
 ghost use Rattle.formula_eval.specs.Lists.{in_range, items_in, list_value};
 ghost use Rattle.formula_eval.specs.Outlook.{filled, row_cells, Sight};
-ghost use Rattle.formula_eval.specs.Totals.{IsTotal};
+ghost use Rattle.formula_eval.specs.Totals.{so_far, IsTotal};
 
 use crate::items::{Item, larger, smaller};
 use crate::look::Look;
 use crate::lookups::cell_at;
 use fixed_value::Fixed;
 use formula_tree::{Function, Op, ValueRef};
-use grid_address::Span;
+use grid_address::{Cell, Span};
 use value_functions::{binary_numbers, whole_number};
 
-/// A range of more cells is gone over by those of them that aren't blank, which may be few.
-const MOST_CELLS: u16 = 1_024;
+/// How many rows a sheet tells of together whether they are used.
+const BAND: u16 = 256;
+
+/// So many cells, and eight for each number, are looked at in a band. Past that a range is gone over by the cells that
+/// aren't blank, which are few.
+const MOST_BLANK: u32 = 1_024;
 
 /// What a list of numbers comes to.
 #[derive(Clone, Copy)]
@@ -40,62 +44,138 @@ fn nothing() -> Total
     }
 }
 
-// The total with a number more; none where the count or the sum has no room.
-fn add_number(total: Total, number: Fixed) -> Option<Total>
-    ensures { IfSome result (λ t. (l : List Item) → IsTotal total l → IsTotal t (l ++ in_range (value.Num number))) }
+// Adds a number; false where the count or the sum has no room.
+fn add_number(total: &mut Total, number: Fixed) -> bool
+    ensures { result ≡ true → (l : List Item) → IsTotal total.old l →
+        IsTotal total.new (l ++ in_range (value.Num number)) }
 {
-    let count = total.count.checked_add(1)?;
-    let sum = total.sum.checked_add(number.millionths())?;
+    let Some(count) = total.count.checked_add(1) else {
+        return false;
+    };
+    let Some(sum) = total.sum.checked_add(number.millionths()) else {
+        return false;
+    };
     let least = smaller(total.least, Item::Is(number));
     let greatest = larger(total.greatest, Item::Is(number));
-    Some(Total {
+    *total = Total {
         count,
         sum,
         least,
         greatest,
-    })
+    };
+    true
 }
 
-// The total with a cell more; none where it is ERR or NA.
-fn add_value(total: Total, value: &ValueRef<'_>) -> Option<Total>
-    ensures { let value = seen_value value.now in
-        IfSome result (λ t. (l : List Item) → IsTotal total l → IsTotal t (l ++ in_range value)) }
+// Adds a cell; false where it is ERR or NA, or where there is no room.
+fn add_value(total: &mut Total, value: &ValueRef<'_>) -> bool
+    ensures { result ≡ true → (l : List Item) → IsTotal total.old l →
+        IsTotal total.new (l ++ in_range (seen_value value.now)) }
 {
     match value {
-        ValueRef::Blank => Some(total),
+        ValueRef::Blank => true,
         ValueRef::Num(number) => add_number(total, *number),
         ValueRef::Str(_) => add_number(total, Fixed::ZERO),
-        ValueRef::Err | ValueRef::Na => None,
+        ValueRef::Err | ValueRef::Na => false,
     }
 }
 
-// The total with the cells of a row of a range more.
-fn add_row<K: Look>(total: Total, span: Span, row: u16, look: &K) -> Option<Total>
+// Adds the cells of a row of a range.
+fn add_row<K: Look>(total: &mut Total, span: Span, row: u16, look: &K) -> bool
     requires { row < height_of span }
     ensures { let cells = row_cells (span.first.row + row) span.first.col (width_of span) in
-        IfSome result (λ t. (l : List Item) → IsTotal total l →
-        IsTotal t (l ++ items_in (K.sight look.now).values cells)) }
+        result ≡ true → (l : List Item) → IsTotal total.old l →
+        IsTotal total.new (l ++ items_in (K.sight look.now).values cells) }
 {
-    let mut so_far = total;
     for col in 0..span.width() {
-        so_far = add_value(so_far, &look.value(cell_at(span, row, col)))?;
+        if !add_value(total, &look.value(cell_at(span, row, col))) {
+            return false;
+        }
     }
-    Some(so_far)
+    true
 }
 
-// The total of the cells of a range; none where one is ERR or NA, or where they are too many.
+// Whether so many rows hold far fewer numbers than cells.
+fn is_sparse(rows: u16, width: u16, count: u16) -> bool {
+    u32::from(rows).saturating_mul(u32::from(width)) > MOST_BLANK + 8 * u32::from(count)
+}
+
+// Adds the cells of a range from a row on up to another; false also where few of them are filled.
+fn add_rows<K: Look>(total: &mut Total, span: Span, from: u16, to: u16, look: &K) -> bool
+    requires rows { from ≤ to }
+    requires inside { to ≤ height_of span }
+    ensures { let so_far = so_far (K.sight look.now).values span in
+        result ≡ true → IsTotal total.old (so_far from) → IsTotal total.new (so_far to) }
+{
+    for row in from..to {
+        if is_sparse(row - from, span.width(), total.count) || !add_row(total, span, row, look) {
+            return false;
+        }
+    }
+    true
+}
+
+// The row behind the last of the band in which a row lies, or behind the last of the range.
+fn band_end(span: Span, row: u16) -> u16
+    requires { row < height_of span }
+    ensures behind { row < result }
+    ensures inside { result ≤ height_of span }
+{
+    let rest = BAND - (span.first.row + row) % BAND;
+    if rest < span.height() - row {
+        row + rest
+    } else {
+        span.height()
+    }
+}
+
+// Some rows of a range, of which there is one at least.
+fn rows_of(span: Span, from: u16, to: u16) -> Span
+    requires rows { from < to }
+    requires inside { to ≤ height_of span }
+    ensures first { result.first ≡ record { row = span.first.row + from; col = span.first.col } }
+    ensures last { result.last ≡ record { row = span.first.row + (to - 1); col = span.last.col } }
+{
+    let first = Cell {
+        row: span.first.row + from,
+        col: span.first.col,
+    };
+    let last = Cell {
+        row: span.first.row + (to - 1),
+        col: span.last.col,
+    };
+    Span { first, last }
+}
+
+// Adds the cells of a range from a row on, unused bands being passed over; false where one is ERR or NA, where there is
+// no room, or where few of many are filled.
+fn add_rest<K: Look>(total: &mut Total, span: Span, from: u16, look: &K) -> bool
+    requires { from ≤ height_of span }
+    ensures { let so_far = so_far (K.sight look.now).values span in
+        result ≡ true → IsTotal total.old (so_far from) → IsTotal total.new (so_far (height_of span)) }
+{
+    let height = span.height();
+    let mut row = from;
+    while row < height {
+        let end = band_end(span, row);
+        if !look.is_unused(rows_of(span, row, end)) && !add_rows(total, span, row, end, look) {
+            return false;
+        }
+        row = end;
+    }
+    true
+}
+
+// The total of the cells of a range; none where it is found otherwise.
 fn total_in<K: Look>(span: Span, look: &K) -> Option<Total>
     ensures { let values = (K.sight look.now).values in
         IfSome result (λ t. IsTotal t (items_in values (filled values span))) }
 {
-    if span.height().saturating_mul(span.width()) > MOST_CELLS {
-        return None;
-    }
     let mut total = nothing();
-    for row in 0..span.height() {
-        total = add_row(total, span, row, look)?;
+    if add_rest(&mut total, span, 0, look) {
+        Some(total)
+    } else {
+        None
     }
-    Some(total)
 }
 
 // A function of a list, by its total; none where that is no number.

@@ -72,4 +72,8 @@ impl<'a> Look for View<'a> {
         let list = filled_among(self.store, cells.as_slice())?;
         Ok(list)
     }
+
+    fn is_unused(&self, span: Span) -> bool {
+        self.store.is_unused(span)
+    }
 }

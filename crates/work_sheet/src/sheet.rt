@@ -727,4 +727,8 @@ impl<E: Means> Look for SheetOf<E> {
         };
         view.filled(span)
     }
+
+    fn is_unused(&self, span: Span) -> bool {
+        self.store.is_unused(span)
+    }
 }
