@@ -3,6 +3,7 @@ pub mod Columns
 pub mod Composed
 pub mod Gathered
 pub mod Held
+pub mod Keeping
 pub mod Lines
 pub mod Places
 pub mod Totalled

@@ -18,7 +18,7 @@ use Rattle.formula_eval.specs.declared.items.Item.{Item}
 use Rattle.formula_eval.specs.declared.items.Item.TheVariants as item
 use Rattle.formula_eval.specs.declared.totals.Total.{Total}
 use Rattle.formula_eval.specs.Lists.{in_range, is_err, is_na, items_in, larger, list_row, list_value, size_of, smaller}
-use Rattle.formula_eval.specs.Outlook.{block_cells, row_cells}
+use Rattle.formula_eval.specs.Outlook.{block_cells, cells_of, filled, row_cells}
 use Rattle.formula_eval.proofs.Blocks.{block_more, place, row_more}
 use Rattle.formula_eval.specs.Totals.{so_far, IsTotal}
 
@@ -173,3 +173,9 @@ least_by f t (Some n) is so = λ l total. ap (λ g. list_value g l) is ∙ unsto
 pub greatest_by : (f : Function) (t : Total) (found : Option ℤ) → f ≡ function.Max → found ≡ t.greatest → IfSome found (IsBy f t)
 greatest_by f t None is so = tt
 greatest_by f t (Some n) is so = λ l total. ap (λ g. list_value g l) is ∙ unstopped function.Max t l total ∙ ap answer (sym total.greatest ∙ sym so)
+
+-- the value of a function of the cells of a range, where they have that total
+pub found_by : (f : Function) (t : Total) (found : Option ℤ) (values : Place → Value) (s : Extent) → IsTotal t (items_in values (cells_of s)) → IfSome found (IsBy f t) →
+    IfSome found (λ n. list_value f (items_in values (filled values s)) ≡ value.Num n)
+found_by f t None values s total by = tt
+found_by f t (Some n) values s total by = ap (list_value f) (unfiltered values (cells_of s)) ∙ by (items_in values (cells_of s)) total

@@ -4,6 +4,7 @@ pub mod Calls
 pub mod Criteria
 pub mod Databases
 pub mod Fields
+pub mod Kept
 pub mod Laws
 pub mod Lists
 pub mod Lookalike

@@ -3,6 +3,7 @@ ghost use Rattle.std.specs.Prelude.{◌≡◌, ℕ, ◌+◌, ◌-◌, ◌^◌, �
 ghost use Rattle.formula_tree.specs.View.{listed, tree_of};
 ghost use Rattle.formula_eval.specs.Lists.{items_of, list_value};
 ghost use Rattle.formula_eval.specs.Calls.{chosen};
+ghost use Rattle.formula_eval.specs.Kept.{IsKept};
 ghost use Rattle.formula_eval.specs.Mean.{mean};
 ghost use Rattle.formula_eval.specs.Parts.{arguments_by, call_value, filled_in, mean_within, operand_of, value_by};
 ghost use Rattle.value_functions.specs.Operators.{binary_value, denied, negated};
@@ -14,6 +15,7 @@ use crate::argument::{Argument, Operand};
 use crate::calls::{called, choice};
 use crate::databases::{Databases, Recorded, Refused};
 use crate::items::{items_of, list_value};
+use crate::kept::Kept;
 use crate::look::{Look, Scene};
 use crate::numbers::number_of;
 use fixed_value::Fixed;
@@ -244,7 +246,8 @@ fn composed<D: Databases, K: Look>(
     ensures { let w = outlook_of (K.sight look.now) scene.entry.now in
         IfOk result (λ v. v ≡ value_by D.answers (tree_of expr.now) at w) }
 {
-    match number_of(expr, at, look) {
+    let mut kept = Kept::new();
+    match number_of(expr, at, look, &mut kept) {
         Some(number) => Ok(Value::Num(number)),
         None => value_of(alloc, databases, expr, at, look, scene),
     }
@@ -288,17 +291,27 @@ pub fn glance<K: Look>(
     Ok(filled_in(value))
 }
 
-/// The value of a formula that stands in a cell, by what it looks at. The tally rises by one, or stays at its last.
+/// The value of a formula that stands in a cell, by what it looks at and what was kept of that. The tally rises by one,
+/// or stays at its last.
+#[tactic(auto, unfolding(crate::specs::Mean::mean))]
 pub fn evaluate<K: Look>(
     formula: &Formula,
     at: Cell,
     look: &K,
     scene: &Scene,
     tally: &mut Tally,
+    kept: &mut Kept,
 ) -> Result<Value, Memory>
+    requires { IsKept kept.old (K.sight look.now).values }
     ensures value { IfOk result (λ v. v ≡ mean formula.now at (outlook_of (K.sight look.now) scene.entry.now)) }
     ensures counted { tally.new.count ≡ min (tally.old.count + 1) (2 ^ 64 - 1) }
+    ensures kept { IsKept kept.new (K.sight look.now).values }
 {
     tally.count = tally.count.saturating_add(1);
-    glance(formula, at, look, scene)
+    let expr = formula.expr();
+    let value = match number_of(expr, at, look, kept) {
+        Some(number) => Value::Num(number),
+        None => value_of(formula.alloc(), &Recorded, expr, at, look, scene)?,
+    };
+    Ok(filled_in(value))
 }

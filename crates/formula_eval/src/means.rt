@@ -5,11 +5,13 @@ ghost use Rattle.formula_tree.specs.Spans.{is_volatile};
 ghost use Rattle.formula_tree.specs.Tree.{Tree};
 ghost use Rattle.formula_tree.specs.declared.value.Value.{Value};
 ghost use Rattle.formula_tree.specs.declared.value.Value.TheVariants as value;
+ghost use Rattle.formula_eval.specs.Kept.{IsKept};
 ghost use Rattle.formula_eval.specs.Laws.{never_blank, reads_alone};
 ghost use Rattle.formula_eval.specs.Mean.{mean, Reads};
 ghost use Rattle.formula_eval.specs.Outlook.{Outlook};
 ghost use Rattle.formula_eval.specs.Scenes.{outlook_of};
 
+use crate::kept::Kept;
 use crate::look::{Look, Scene};
 use crate::meaning::{Tally, evaluate};
 use formula_tree::{Formula, Value};
@@ -23,16 +25,20 @@ pub trait Means {
 
     ghost count: { Self → ℕ };
 
-    /// The meaning of a formula that stands in a cell. The count rises by one, or stays at the last u64.
+    /// The meaning of a formula that stands in a cell, with what was kept of the values as they stand. The count rises
+    /// by one, or stays at the last u64.
     fn evaluate<K: Look>(
         &mut self,
         formula: &Formula,
         at: Cell,
         look: &K,
         scene: &Scene,
+        kept: &mut Kept,
     ) -> Result<Value, Memory>
+        requires { IsKept kept.old (K.sight look.now).values }
         ensures value { IfOk result (λ v. v ≡ meaning formula.now at (outlook_of (K.sight look.now) scene.entry.now)) }
-        ensures counted { count self.new ≡ min (count self.old + 1) (2 ^ 64 - 1) };
+        ensures counted { count self.new ≡ min (count self.old + 1) (2 ^ 64 - 1) }
+        ensures kept { IsKept kept.new (K.sight look.now).values };
 
     ghost never_blank: { (t : Tree) (at : Place) (w : Outlook) → meaning t at w ≡ value.Blank → ⊥ };
 
@@ -55,7 +61,8 @@ impl Means for Tally {
         at: Cell,
         look: &K,
         scene: &Scene,
+        kept: &mut Kept,
     ) -> Result<Value, Memory> {
-        evaluate(formula, at, look, scene, self)
+        evaluate(formula, at, look, scene, self, kept)
     }
 }

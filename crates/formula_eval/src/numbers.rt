@@ -1,12 +1,13 @@
 // The numbers of formulas that are made of numbers alone. No value is copied on the way to them.
 ghost use Rattle.std.specs.Prelude.{◌≡◌, map, IfSome};
 ghost use Rattle.formula_tree.specs.View.{listed, tree_of};
+ghost use Rattle.formula_eval.specs.Kept.{IsKept};
 ghost use Rattle.formula_eval.specs.Numbers.{ranged, IsCallNumber, IsNumber};
 ghost use Rattle.formula_eval.specs.Outlook.{Outlook, Sight};
 ghost use Rattle.formula_eval.specs.Parts.{arguments_by, Database};
 
+use crate::kept::Kept;
 use crate::look::Look;
-use crate::totals::range_number;
 use fixed_value::Fixed;
 use formula_tree::{Expr, Function, ValueRef};
 use grid_address::{Cell, Span};
@@ -39,27 +40,37 @@ fn only_range(exprs: &[Expr], at: Cell) -> Option<Span>
 }
 
 // The number of a function of a list over a single range; none for any other function.
-fn call_number<K: Look>(function: Function, exprs: &[Expr], at: Cell, look: &K) -> Option<Fixed>
-    ensures { let ts = listed (map tree_of exprs.now) in
+fn call_number<K: Look>(
+    function: Function,
+    exprs: &[Expr],
+    at: Cell,
+    look: &K,
+    kept: &mut Kept,
+) -> Option<Fixed>
+    requires { IsKept kept.old (K.sight look.now).values }
+    ensures number { let ts = listed (map tree_of exprs.now) in
         IfSome result (IsCallNumber function ts at (K.sight look.now)) }
+    ensures kept { IsKept kept.new (K.sight look.now).values }
 {
     match function {
         Function::Sum | Function::Avg | Function::Count | Function::Min | Function::Max => {
-            range_number(function, only_range(exprs, at)?, look)
+            kept.range_number(function, only_range(exprs, at)?, look)
         }
         _ => None,
     }
 }
 
 /// The number of a part that is made of numbers; none where it has none, or where one of its parts is found otherwise.
-/// It spares time alone.
-pub fn number_of<K: Look>(expr: &Expr, at: Cell, look: &K) -> Option<Fixed>
-    ensures { IfSome result (IsNumber (tree_of expr.now) at (K.sight look.now)) }
+/// It spares time alone, and so does what is kept.
+pub fn number_of<K: Look>(expr: &Expr, at: Cell, look: &K, kept: &mut Kept) -> Option<Fixed>
+    requires { IsKept kept.old (K.sight look.now).values }
+    ensures number { IfSome result (IsNumber (tree_of expr.now) at (K.sight look.now)) }
+    ensures kept { IsKept kept.new (K.sight look.now).values }
 {
     match expr {
-        Expr::Group(inner) => number_of(inner, at, look),
+        Expr::Group(inner) => number_of(inner, at, look, kept),
         Expr::Neg(inner) => {
-            let number = number_of(inner, at, look)?;
+            let number = number_of(inner, at, look, kept)?;
             Some(number.neg())
         }
         Expr::Binary(op, left, right) => {
@@ -68,11 +79,11 @@ pub fn number_of<K: Look>(expr: &Expr, at: Cell, look: &K) -> Option<Fixed>
             {
                 return binary_numbers(*op, x, y);
             }
-            let x = number_of(left, at, look)?;
-            let y = number_of(right, at, look)?;
+            let x = number_of(left, at, look, kept)?;
+            let y = number_of(right, at, look, kept)?;
             binary_numbers(*op, x, y)
         }
-        Expr::Call(function, exprs) => call_number(*function, exprs.items(), at, look),
+        Expr::Call(function, exprs) => call_number(*function, exprs.items(), at, look, kept),
         Expr::Num(_) | Expr::Cell(_) | Expr::Str(_) | Expr::Span(_, _) | Expr::Not(_) => {
             number_at(expr, at, look)
         }

@@ -5,7 +5,7 @@ ghost use Rattle.formula_tree.specs.Seen.{seen_value};
 ghost use Rattle.formula_tree.specs.declared.value.Value.TheVariants as value;
 ghost use Rattle.formula_eval.specs.declared.items.Item.{Item};
 ghost use Rattle.formula_eval.specs.Lists.{in_range, items_in, list_value};
-ghost use Rattle.formula_eval.specs.Outlook.{filled, row_cells, Sight};
+ghost use Rattle.formula_eval.specs.Outlook.{row_cells, Sight};
 ghost use Rattle.formula_eval.specs.Totals.{so_far, IsTotal};
 
 use crate::items::{Item, larger, smaller};
@@ -32,8 +32,8 @@ pub struct Total {
     greatest: Option<Fixed>,
 }
 
-// The total of no number.
-fn nothing() -> Total
+/// The total of no number.
+pub fn nothing() -> Total
     ensures { IsTotal result [] }
 {
     Total {
@@ -146,9 +146,9 @@ fn rows_of(span: Span, from: u16, to: u16) -> Span
     Span { first, last }
 }
 
-// Adds the cells of a range from a row on, unused bands being passed over; false where one is ERR or NA, where there is
-// no room, or where few of many are filled.
-fn add_rest<K: Look>(total: &mut Total, span: Span, from: u16, look: &K) -> bool
+/// Adds the cells of a range from a row on, unused bands being passed over; false where one is ERR or NA, where there
+/// is no room, or where few of many are filled.
+pub fn add_rest<K: Look>(total: &mut Total, span: Span, from: u16, look: &K) -> bool
     requires { from ≤ height_of span }
     ensures { let so_far = so_far (K.sight look.now).values span in
         result ≡ true → IsTotal total.old (so_far from) → IsTotal total.new (so_far (height_of span)) }
@@ -165,21 +165,8 @@ fn add_rest<K: Look>(total: &mut Total, span: Span, from: u16, look: &K) -> bool
     true
 }
 
-// The total of the cells of a range; none where it is found otherwise.
-fn total_in<K: Look>(span: Span, look: &K) -> Option<Total>
-    ensures { let values = (K.sight look.now).values in
-        IfSome result (λ t. IsTotal t (items_in values (filled values span))) }
-{
-    let mut total = nothing();
-    if add_rest(&mut total, span, 0, look) {
-        Some(total)
-    } else {
-        None
-    }
-}
-
-// A function of a list, by its total; none where that is no number.
-fn number_for(function: Function, total: Total) -> Option<Fixed>
+/// A function of a list, by its total; none where that is no number.
+pub fn number_for(function: Function, total: Total) -> Option<Fixed>
     ensures { IfSome result (λ n. (l : List Item) → IsTotal total l → list_value function l ≡ value.Num n) }
 {
     match function {
@@ -194,12 +181,4 @@ fn number_for(function: Function, total: Total) -> Option<Fixed>
         Function::Max => total.greatest,
         _ => None,
     }
-}
-
-/// SUM, AVG, COUNT, MIN and MAX over a range; none where the value is no number, or where it is found otherwise.
-pub fn range_number<K: Look>(function: Function, span: Span, look: &K) -> Option<Fixed>
-    ensures { let values = (K.sight look.now).values in
-        IfSome result (λ n. list_value function (items_in values (filled values span)) ≡ value.Num n) }
-{
-    number_for(function, total_in(span, look)?)
 }

@@ -2,12 +2,13 @@
 ghost use Rattle.std.specs.Prelude.{◌≡◌, ◌*◌, Bool, length, OnErr, OnOk, true};
 ghost use Rattle.grid_address.specs.Place.{same_place, Place};
 ghost use Rattle.cell_numbers.specs.Sets.{has};
-ghost use Rattle.natural_recalc.specs.Context.{context_of};
+ghost use Rattle.formula_eval.specs.Kept.{IsKept};
+ghost use Rattle.natural_recalc.specs.Context.{context_of, value_at};
 ghost use Rattle.natural_recalc.specs.Passes.{evaluated, pass, passes, raised_by, IsSound, SameContents};
 ghost use Rattle.natural_recalc.specs.Reading.{is_formula_at};
 
 use crate::View;
-use formula_eval::{Means, Scene};
+use formula_eval::{Kept, Means, Scene};
 use formula_tree::ContentRef;
 use grid_address::Cell;
 use lics_text::Memory;
@@ -30,6 +31,28 @@ pub fn evaluate_at<E: Means>(
     ensures err { OnErr result (store.new ≡ store.old) }
     ensures count { OnOk result (E.count tally.new ≡ raised_by 1 (E.count tally.old)) }
 {
+    let mut kept = Kept::new();
+    evaluate_next(store, cell, names, settings, scene, tally, &mut kept)
+}
+
+// The same behind other evaluations, with what they kept of the values as they stand.
+fn evaluate_next<E: Means>(
+    store: &mut Store,
+    cell: Cell,
+    names: &Names,
+    settings: &Settings,
+    scene: &Scene,
+    tally: &mut E,
+    kept: &mut Kept,
+) -> Result<(), Memory>
+    requires formula { is_formula_at store.old cell ≡ true }
+    requires kept { IsKept kept.old (value_at store.old) }
+    ensures value { OnOk result
+        (store.new ≡ evaluated E.meaning (context_of names.now settings.now scene.entry.now) store.old cell) }
+    ensures err { OnErr result (store.new ≡ store.old) }
+    ensures count { OnOk result (E.count tally.new ≡ raised_by 1 (E.count tally.old)) }
+    ensures kept { OnOk result (IsKept kept.new (value_at store.new)) }
+{
     let Some(state) = store.get(cell) else {
         return Ok(());
     };
@@ -41,8 +64,9 @@ pub fn evaluate_at<E: Means>(
         names,
         settings,
     };
-    let value = tally.evaluate(formula, cell, &view, scene)?;
+    let value = tally.evaluate(formula, cell, &view, scene, kept)?;
     store.set_value(cell, value);
+    kept.forget(cell);
     Ok(())
 }
 
@@ -64,8 +88,9 @@ pub fn pass_over<E: Means>(
         → IsSound E.meaning (context_of names.now settings.now scene.entry.now) store.new dirty }
     ensures contents { SameContents store.old store.new }
 {
+    let mut kept = Kept::new();
     for cell in cells {
-        evaluate_at(store, *cell, names, settings, scene, tally)?;
+        evaluate_next(store, *cell, names, settings, scene, tally, &mut kept)?;
     }
     Ok(())
 }

@@ -1,6 +1,7 @@
 use Rattle.std.specs.Prelude.{◌≡◌, drop, Bool}
 use Rattle.grid_address.specs.Place.{Place}
-use Rattle.natural_recalc.specs.Context.{context_of}
+use Rattle.formula_eval.specs.Kept.{IsKept}
+use Rattle.natural_recalc.specs.Context.{context_of, value_at}
 use Rattle.natural_recalc.specs.Passes.{pass, raised_by, IsSound, SameContents}
 use Rattle.natural_recalc.specs.Reading.{is_formula_at}
 use Rattle.natural_recalc.proofs.evaluate.pass_over.Given as goal
@@ -14,5 +15,6 @@ invariant-loop-cell g l =
       formulas : (c : Place) → is_formula_at l.store c ≡ is_formula_at l.fn.store c;
       sound : (dirty : Place → Bool) → IsSound mean ctx l.fn.store dirty → IsSound mean ctx l.store dirty;
       contents : SameContents l.fn.store l.store;
+      kept : IsKept l.kept (value_at l.store);
       count : g.E.Means.count l.tally ≡ raised_by l.cell-index (g.E.Means.count l.fn.tally);
     }

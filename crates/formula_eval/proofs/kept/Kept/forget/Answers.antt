@@ -1,0 +1,7 @@
+use Rattle.formula_eval.proofs.kept.Kept.forget.Goals as goal
+
+pub returns : goal.returns
+returns c = λ values others is same. record {
+  last = c.without-self.ensures values others is.last same;
+  before = c.without-self-2.ensures values others is.before same;
+}

@@ -1,0 +1,137 @@
+// What evaluations keep for those behind them.
+ghost use Rattle.std.specs.Prelude.{◌≡◌, ◌≤◌, IfSome, false, true};
+ghost use Rattle.grid_address.specs.Place.{height_of, same_place, width_of, Place};
+ghost use Rattle.formula_tree.specs.declared.value.Value.{Value};
+ghost use Rattle.formula_tree.specs.declared.value.Value.TheVariants as value;
+ghost use Rattle.formula_eval.specs.Kept.{IsKept, IsRunning};
+ghost use Rattle.formula_eval.specs.Lists.{items_in, list_value};
+ghost use Rattle.formula_eval.specs.Outlook.{cells_of, filled, Sight};
+ghost use Rattle.formula_eval.specs.Totals.{so_far, IsTotal};
+
+use crate::look::Look;
+use crate::totals::{Total, add_rest, nothing, number_for};
+use fixed_value::Fixed;
+use formula_tree::Function;
+use grid_address::{Cell, Span};
+
+/// A range with its total.
+#[derive(Clone, Copy)]
+pub struct Running {
+    span: Span,
+    total: Total,
+}
+
+/// The totals of the ranges that were added up last, from which those of ranges with more rows go on: two, so that two
+/// columns may run side by side.
+#[derive(Clone, Copy)]
+pub struct Kept {
+    last: Option<Running>,
+    before: Option<Running>,
+}
+
+impl Kept {
+    /// Nothing is kept.
+    pub fn new() -> Kept
+        ensures { (values : Place → Value) → IsKept result values }
+    {
+        Kept {
+            last: None,
+            before: None,
+        }
+    }
+
+    /// Lets go what hangs on the value of a cell, which changes.
+    pub fn forget(&mut self, cell: Cell)
+        ensures { (values others : Place → Value) → IsKept self.old values →
+            ((c : Place) → same_place c cell ≡ false → others c ≡ values c) → IsKept self.new others }
+    {
+        self.last = without(self.last, cell);
+        self.before = without(self.before, cell);
+    }
+
+    // The total of the first rows of a range, so many of them.
+    fn begun(&self, span: Span) -> (Total, u16)
+        ensures rows { result.1 ≤ height_of span }
+        ensures total { (values : Place → Value) → IsKept self.now values →
+            IsTotal result.0 (so_far values span result.1) }
+    {
+        if let Some(begun) = first_rows(self.last, span) {
+            return begun;
+        }
+        match first_rows(self.before, span) {
+            Some(begun) => begun,
+            None => (nothing(), 0),
+        }
+    }
+
+    // Keeps the total of a range in place of the one that it goes on from, or else of the older one.
+    fn keep(&mut self, span: Span, total: Total)
+        ensures { (values : Place → Value) → IsKept self.old values →
+            IsTotal total (items_in values (cells_of span)) → IsKept self.new values }
+    {
+        if let None = first_rows(self.last, span) {
+            self.before = self.last;
+        }
+        self.last = Some(Running { span, total });
+    }
+
+    /// SUM, AVG, COUNT, MIN and MAX over a range; none where the value is no number, or where it is found otherwise.
+    pub fn range_number<K: Look>(
+        &mut self,
+        function: Function,
+        span: Span,
+        look: &K,
+    ) -> Option<Fixed>
+        requires { IsKept self.old (K.sight look.now).values }
+        ensures number { let values = (K.sight look.now).values in
+            IfSome result (λ n. list_value function (items_in values (filled values span)) ≡ value.Num n) }
+        ensures kept { IsKept self.new (K.sight look.now).values }
+    {
+        let (begun, rows) = self.begun(span);
+        let mut total = begun;
+        if !add_rest(&mut total, span, rows, look) {
+            return None;
+        }
+        self.keep(span, total);
+        number_for(function, total)
+    }
+}
+
+// What is kept, unless it hangs on a cell.
+fn without(running: Option<Running>, cell: Cell) -> Option<Running>
+    ensures { (values others : Place → Value) → IfSome running (IsRunning values) →
+        ((c : Place) → same_place c cell ≡ false → others c ≡ values c) → IfSome result (IsRunning others) }
+{
+    let running = running?;
+    if running.span.contains(cell) {
+        return None;
+    }
+    Some(running)
+}
+
+// Whether a range is the first rows of another.
+fn begins(part: Span, span: Span) -> bool
+    ensures rows { result ≡ true → height_of part ≤ height_of span }
+    ensures row { result ≡ true → part.first.row ≡ span.first.row }
+    ensures col { result ≡ true → part.first.col ≡ span.first.col }
+    ensures width { result ≡ true → width_of part ≡ width_of span }
+{
+    part.first.row == span.first.row
+        && part.first.col == span.first.col
+        && part.last.col == span.last.col
+        && part.last.row <= span.last.row
+}
+
+// The total that is kept, with how many rows it is of, where these are the first rows of a range.
+fn first_rows(running: Option<Running>, span: Span) -> Option<(Total, u16)>
+    ensures rows { IfSome result (λ r. r.1 ≤ height_of span) }
+    ensures total { IfSome result (λ r. (values : Place → Value) → IfSome running (IsRunning values) →
+        IsTotal r.0 (so_far values span r.1)) }
+{
+    let running = running?;
+    if begins(running.span, span) {
+        Some((running.total, running.span.height()))
+    } else {
+        None
+    }
+}
