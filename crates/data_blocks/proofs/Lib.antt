@@ -1,3 +1,4 @@
+pub mod Halves
 pub mod InOrder
 pub mod Orders
 pub mod Reached

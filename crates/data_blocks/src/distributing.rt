@@ -1,7 +1,9 @@
 // How many values lie in each bin.
-ghost use Rattle.std.specs.Prelude.{◌≡◌, ◌⊎◌, ◌+◌, ◌<◌, ◌≤◌, ◌++◌, ◌∷◌, [], ℤ, Option, Ok, Err, IfOk, IfErr, OnOk, false};
+ghost use Rattle.std.specs.Prelude.{◌≡◌, ◌⊎◌, ◌+◌, ◌<◌, ◌≤◌, ◌++◌, ◌∷◌, [], ℤ, Option, Ok, Err, IfOk, IfErr, OnOk, not, false};
 ghost use Rattle.std.specs.Int.RustNames.{int_lt};
 ghost use Rattle.std.specs.List.{count_by};
+ghost use Rattle.std.specs.List.Sorted.{IsPermutation, IsSorted};
+ghost use Rattle.std.specs.Ordering.{int_cmp};
 ghost use Rattle.grid_address.specs.Place.{height_of};
 ghost use Rattle.formula_tree.specs.Seen.{seen_value};
 ghost use Rattle.value_functions.specs.Values.{counted};
@@ -10,7 +12,6 @@ ghost use Rattle.block_writes.specs.Writing.{as_content, at, written};
 ghost use Rattle.data_blocks.specs.Distribution.{bin_of, distributed, distribution, has_no_room, is_above, is_in_bin, number_of, numbers_in};
 
 use crate::BlockFault;
-use crate::filling::is_less;
 use crate::rows::row_cell;
 use block_writes::{content_of, written};
 use fixed_value::Fixed;
@@ -23,18 +24,18 @@ use std::alloc::Global;
 use value_functions::counted;
 
 // A value that is a number counts.
-fn put_number(numbers: &mut Vec<Fixed>, value: &ValueRef<'_>) -> Result<(), Memory>
+fn put_number(numbers: &mut Vec<i64>, value: &ValueRef<'_>) -> Result<(), Memory>
     ensures { OnOk result (numbers.new.items ≡ numbers.old.items ++ number_of (seen_value value.now)) }
 {
     match value {
-        ValueRef::Num(number) => numbers.push(*number)?,
+        ValueRef::Num(number) => numbers.push(number.millionths())?,
         ValueRef::Blank | ValueRef::Str(_) | ValueRef::Err | ValueRef::Na => {}
     }
     Ok(())
 }
 
-// The numbers among the values of a span.
-fn numbers_in<K: Look>(alloc: Global, span: Span, look: &K) -> Result<Vec<Fixed>, Memory>
+// The numbers among the values of a span, in millionths.
+fn numbers_in<K: Look>(alloc: Global, span: Span, look: &K) -> Result<Vec<i64>, Memory>
     ensures { let values = (K.sight look.now).values in
         IfOk result (λ v. v.items ≡ numbers_in values (filled values span)) }
 {
@@ -58,41 +59,51 @@ fn bin_of(value: &ValueRef<'_>) -> Fixed
     }
 }
 
-// Whether a number is above the bin before, if there is one.
-fn is_above(before: Option<Fixed>, number: Fixed) -> bool
-    ensures { result ≡ is_above before number }
+// The same numbers, ascending.
+fn ascending<K: Look>(alloc: Global, span: Span, look: &K) -> Result<Vec<i64>, Memory>
+    ensures same { let values = (K.sight look.now).values in
+        IfOk result (λ v. IsPermutation (numbers_in values (filled values span)) v.items) }
+    ensures ascends { IfOk result (λ v. IsSorted int_cmp v.items) }
+{
+    let mut numbers = numbers_in(alloc, span, look)?;
+    numbers.sort_unstable();
+    Ok(numbers)
+}
+
+// How many of ascending numbers are at most a bin.
+fn up_to(numbers: &[i64], bin: Fixed) -> usize
+    requires { IsSorted int_cmp numbers.now }
+    ensures { result ≡ count_by (λ x. not (int_lt bin x)) numbers.now }
+{
+    let most = bin.millionths();
+    numbers.partition_point(|number| !(most < *number))
+}
+
+// How many of ascending numbers are at most the bin before, if there is one.
+fn up_to_before(numbers: &[i64], before: Option<Fixed>) -> usize
+    requires { IsSorted int_cmp numbers.now }
+    ensures { result ≡ count_by (λ x. not (is_above before x)) numbers.now }
 {
     match before {
-        Some(before) => is_less(before, number),
-        None => true,
+        Some(before) => up_to(numbers, before),
+        None => 0,
     }
 }
 
-// Whether a number is at most a bin and above the bin before.
-fn is_in_bin(before: Option<Fixed>, bin: Fixed, number: Fixed) -> bool
-    ensures { result ≡ is_in_bin before bin number }
-{
-    is_above(before, number) && !is_less(bin, number)
-}
-
-// How many numbers lie in a bin.
-fn share(numbers: &[Fixed], before: Option<Fixed>, bin: Fixed) -> usize
+// How many of ascending numbers are at most a bin and above the bin before. Where the bins don't ascend there is none.
+fn share(numbers: &[i64], before: Option<Fixed>, bin: Fixed) -> usize
+    requires { IsSorted int_cmp numbers.now }
     ensures { result ≡ count_by (is_in_bin before bin) numbers.now }
 {
-    numbers
-        .iter()
-        .filter(|number| is_in_bin(before, bin, **number))
-        .count()
+    up_to(numbers, bin).saturating_sub(up_to_before(numbers, before))
 }
 
-// How many numbers are above the last bin.
-fn share_above(numbers: &[Fixed], before: Option<Fixed>) -> usize
+// How many of ascending numbers are above the last bin.
+fn share_above(numbers: &[i64], before: Option<Fixed>) -> usize
+    requires { IsSorted int_cmp numbers.now }
     ensures { result ≡ count_by (is_above before) numbers.now }
 {
-    numbers
-        .iter()
-        .filter(|number| is_above(before, **number))
-        .count()
+    numbers.len().saturating_sub(up_to_before(numbers, before))
 }
 
 // A count for a cell that keeps its format.
@@ -127,7 +138,7 @@ fn distributed<K: Look>(alloc: Global, values: Span, bins: Span, look: &K) -> Re
     requires { has_no_room bins ≡ false }
     ensures { IfOk result (λ w. w ≡ distributed (K.sight look.now) values bins) }
 {
-    let numbers = numbers_in(alloc, values, look)?;
+    let numbers = ascending(alloc, values, look)?;
     let numbers = numbers.as_slice();
     let mut writes = Writes::new(alloc);
     let mut before = None;
