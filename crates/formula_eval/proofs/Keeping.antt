@@ -29,7 +29,7 @@ block_same values others row col (suc rows) cols same =
     ∙ sym (items_append values (row_cells row col cols) (block_cells (row + 1) col rows cols))
 
 -- a cell of a span is none outside it
-other : (s : Extent) (c : Place) (r k : ℕ) → is_within s c ≡ false → s.first.row ≤ r → r < s.first.row + height_of s → s.first.col ≤ k → k < s.first.col + width_of s → same_place (place r k) c ≡ false
+pub other : (s : Extent) (c : Place) (r k : ℕ) → is_within s c ≡ false → s.first.row ≤ r → r < s.first.row + height_of s → s.first.col ≤ k → k < s.first.col + width_of s → same_place (place r k) c ≡ false
 other s c r k outside above below left right = elim (cases_Bool (same_place (place r k) c)) [
   | inl same ↦
       let row : r ≡ c.row = grind (arith, nat_tests) in

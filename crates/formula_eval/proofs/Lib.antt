@@ -1,3 +1,4 @@
+pub mod Ascent
 pub mod Blocks
 pub mod Columns
 pub mod Composed

@@ -44,7 +44,7 @@ items_append values [] qs = refl
 items_append values (p ∷ ps) qs =
     ap (λ (l : List Item). in_range (values p) ++ l) (items_append values ps qs) ∙ sym (append_assoc (in_range (values p)) (items_in values ps) (items_in values qs))
 
-same_cell : (p : Place) (row col : ℕ) → p.row ≡ row → p.col ≡ col → p ≡ place row col
+pub same_cell : (p : Place) (row col : ℕ) → p.row ≡ row → p.col ≡ col → p ≡ place row col
 same_cell p row col in_row in_col = λ i. place (in_row i) (in_col i)
 
 -- the items so far, with those of one cell more

@@ -1,14 +1,16 @@
 // What evaluations keep for those behind them.
-ghost use Rattle.std.specs.Prelude.{◌≡◌, ◌≤◌, IfSome, false, true};
-ghost use Rattle.grid_address.specs.Place.{height_of, same_place, width_of, Place};
+ghost use Rattle.std.specs.Prelude.{◌≡◌, ◌≤◌, ◌<◌, IfSome, IsSome, Some, false, true};
+ghost use Rattle.grid_address.specs.Place.{height_of, is_within, same_place, width_of, Place};
 ghost use Rattle.formula_tree.specs.declared.value.Value.{Value};
 ghost use Rattle.formula_tree.specs.declared.value.Value.TheVariants as value;
-ghost use Rattle.formula_eval.specs.Kept.{IsKept, IsRunning};
+ghost use Rattle.formula_eval.specs.Kept.{IsKept, IsRising, IsRunning};
 ghost use Rattle.formula_eval.specs.Lists.{items_in, list_value};
+ghost use Rattle.formula_eval.specs.Lookups.{by_number};
 ghost use Rattle.formula_eval.specs.Outlook.{cells_of, filled, Sight};
 ghost use Rattle.formula_eval.specs.Totals.{so_far, IsTotal};
 
 use crate::look::Look;
+use crate::rising::{number_beside, rises};
 use crate::totals::{Total, add_rest, nothing, number_for};
 use fixed_value::Fixed;
 use formula_tree::Function;
@@ -22,11 +24,14 @@ pub struct Running {
 }
 
 /// The totals of the ranges that were added up last, from which those of ranges with more rows go on: two, so that two
-/// columns may run side by side.
+/// columns may run side by side. And the column that was found last to rise, in which lookups go by halves, and the one
+/// that was found not to.
 #[derive(Clone, Copy)]
 pub struct Kept {
     last: Option<Running>,
     before: Option<Running>,
+    rising: Option<Span>,
+    uneven: Option<Span>,
 }
 
 impl Kept {
@@ -37,6 +42,8 @@ impl Kept {
         Kept {
             last: None,
             before: None,
+            rising: None,
+            uneven: None,
         }
     }
 
@@ -47,6 +54,8 @@ impl Kept {
     {
         self.last = without(self.last, cell);
         self.before = without(self.before, cell);
+        self.rising = beside(self.rising, cell);
+        self.uneven = beside(self.uneven, cell);
     }
 
     // The total of the first rows of a range, so many of them.
@@ -94,6 +103,90 @@ impl Kept {
         }
         self.keep(span, total);
         number_for(function, total)
+    }
+
+    // Whether the first column of a range rises, which is found once for many lookups.
+    fn is_rising<K: Look>(&mut self, span: Span, look: &K) -> bool
+        requires { IsKept self.old (K.sight look.now).values }
+        ensures rising { result ≡ true → IsRising (K.sight look.now).values span }
+        ensures kept { IsKept self.new (K.sight look.now).values }
+    {
+        if is_part(span, self.rising) {
+            return true;
+        }
+        let column = first_column(span);
+        if is_part(column, self.uneven) {
+            return false;
+        }
+        let found = rises(column, look);
+        if found {
+            self.rising = Some(column);
+        } else {
+            self.uneven = Some(column);
+        }
+        found
+    }
+
+    /// VLOOKUP of a number at a place of a range; none where the value is no number, or where it is found otherwise.
+    pub fn lookup_number<K: Look>(
+        &mut self,
+        span: Span,
+        place: u16,
+        x: Fixed,
+        look: &K,
+    ) -> Option<Fixed>
+        requires kept { IsKept self.old (K.sight look.now).values }
+        requires place { place < width_of span }
+        ensures number { IfSome result
+            (λ n. by_number (K.sight look.now).values false span place x ≡ value.Num n) }
+        ensures kept { IsKept self.new (K.sight look.now).values }
+    {
+        if self.is_rising(span, look) {
+            number_beside(span, place, x, look)
+        } else {
+            None
+        }
+    }
+}
+
+// A column that is kept, unless the cell lies in it.
+fn beside(column: Option<Span>, cell: Cell) -> Option<Span>
+    ensures { IfSome result (λ s. (column ≡ Some s) × (is_within s cell ≡ false)) }
+{
+    let column = column?;
+    if column.contains(cell) {
+        return None;
+    }
+    Some(column)
+}
+
+// The first column of a range.
+fn first_column(span: Span) -> Span
+    ensures { result ≡ record span { last = record { row = span.last.row; col = span.first.col } } }
+{
+    Span {
+        first: span.first,
+        last: Cell {
+            row: span.last.row,
+            col: span.first.col,
+        },
+    }
+}
+
+// Whether the first column of a range is the first rows of a column that is kept.
+fn is_part(span: Span, column: Option<Span>) -> bool
+    ensures rows { result ≡ true → IfSome column (λ s. height_of span ≤ height_of s) }
+    ensures some { result ≡ true → IsSome column }
+    ensures row { result ≡ true → IfSome column (λ s. span.first.row ≡ s.first.row) }
+    ensures col { result ≡ true → IfSome column (λ s. span.first.col ≡ s.first.col) }
+{
+    match column {
+        Some(column) => {
+            span.first.row == column.first.row
+                && span.first.col == column.first.col
+                && span.last.row <= column.last.row
+        }
+        None => false,
     }
 }
 

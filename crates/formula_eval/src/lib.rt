@@ -18,6 +18,7 @@ mod means;
 mod numbers;
 mod record_match;
 mod records;
+mod rising;
 mod totals;
 
 pub use criteria::{content_holds, fields_of, record_matches};

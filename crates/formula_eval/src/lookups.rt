@@ -92,8 +92,8 @@ fn is_at_most(x: Fixed, y: Fixed) -> bool
     !(y.millionths() < x.millionths())
 }
 
-// Whether the lookup of a number goes on past a value.
-fn passes(x: Fixed, value: &ValueRef<'_>) -> bool
+/// Whether the lookup of a number goes on past a value.
+pub fn passes(x: Fixed, value: &ValueRef<'_>) -> bool
     ensures { result ≡ passes x (seen_value value.now) }
 {
     match value {

@@ -47,8 +47,8 @@ impl Tally {
     }
 }
 
-// What an argument is as a range.
-fn operand_of(expr: &Expr, at: Cell) -> Operand
+/// What an argument is as a range.
+pub fn operand_of(expr: &Expr, at: Cell) -> Operand
     ensures { result ≡ operand_of (tree_of expr.now) at }
 {
     match expr {

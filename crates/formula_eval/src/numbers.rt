@@ -1,6 +1,7 @@
 // The numbers of formulas that are made of numbers alone. No value is copied on the way to them.
 ghost use Rattle.std.specs.Prelude.{◌≡◌, map, IfSome};
 ghost use Rattle.formula_tree.specs.View.{listed, tree_of};
+ghost use Rattle.formula_tree.specs.declared.function.Function.TheVariants as function;
 ghost use Rattle.formula_eval.specs.Kept.{IsKept};
 ghost use Rattle.formula_eval.specs.Numbers.{ranged, IsCallNumber, IsNumber};
 ghost use Rattle.formula_eval.specs.Outlook.{Outlook, Sight};
@@ -8,6 +9,8 @@ ghost use Rattle.formula_eval.specs.Parts.{arguments_by, Database};
 
 use crate::kept::Kept;
 use crate::look::Look;
+use crate::lookups::{place_in, range_of};
+use crate::meaning::operand_of;
 use fixed_value::Fixed;
 use formula_tree::{Expr, Function, ValueRef};
 use grid_address::{Cell, Span};
@@ -39,7 +42,26 @@ fn only_range(exprs: &[Expr], at: Cell) -> Option<Span>
     }
 }
 
-// The number of a function of a list over a single range; none for any other function.
+// VLOOKUP of a number, or of a cell with one, in a range.
+fn looked_up<K: Look>(exprs: &[Expr], at: Cell, look: &K, kept: &mut Kept) -> Option<Fixed>
+    requires { IsKept kept.old (K.sight look.now).values }
+    ensures number { let ts = listed (map tree_of exprs.now) in
+        IfSome result (IsCallNumber function.VLookup ts at (K.sight look.now)) }
+    ensures kept { IsKept kept.new (K.sight look.now).values }
+{
+    match exprs {
+        [x, range, number] => {
+            let span = range_of(operand_of(range, at))?;
+            let x = number_at(x, at, look)?;
+            let number = number_at(number, at, look)?;
+            let place = place_in(number, span.width())?;
+            kept.lookup_number(span, place, x, look)
+        }
+        _ => None,
+    }
+}
+
+// The number of a function of a list over a single range, or of a lookup; none for any other function.
 fn call_number<K: Look>(
     function: Function,
     exprs: &[Expr],
@@ -56,6 +78,7 @@ fn call_number<K: Look>(
         Function::Sum | Function::Avg | Function::Count | Function::Min | Function::Max => {
             kept.range_number(function, only_range(exprs, at)?, look)
         }
+        Function::VLookup => looked_up(exprs, at, look, kept),
         _ => None,
     }
 }

@@ -1,7 +1,7 @@
 use Rattle.std.proofs.Common.{sym, subst}
 use Rattle.std.specs.Prelude.{IfSome}
 use Rattle.formula_eval.specs.declared.kept.Kept.{Kept}
-use Rattle.formula_eval.specs.Kept.{IsRunning}
+use Rattle.formula_eval.specs.Kept.{IsColumn, IsRunning}
 use Rattle.formula_eval.proofs.kept.Kept.keep.Goals as goal
 use Rattle.formula_eval.proofs.kept.Kept.keep.Goals.{in-None, in_default}
 
@@ -11,5 +11,9 @@ returns c = λ values is more. record {
   before = elim c.match-first_rows.branch [
     | in-None w ↦ subst (λ (k : Kept). IfSome k.before (IsRunning values)) (sym w.self-is) is.last
     | in_default w ↦ subst (λ (k : Kept). IfSome k.before (IsRunning values)) (sym w.self-is) is.before
+  ];
+  rising = elim c.match-first_rows.branch [
+    | in-None w ↦ subst (λ (k : Kept). IfSome k.rising (IsColumn values)) (sym w.self-is) is.rising
+    | in_default w ↦ subst (λ (k : Kept). IfSome k.rising (IsColumn values)) (sym w.self-is) is.rising
   ];
 }
