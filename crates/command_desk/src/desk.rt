@@ -1,30 +1,36 @@
 // The desk.
-ghost use Rattle.std.specs.Prelude.{◌≡◌, []};
+ghost use Rattle.std.specs.Prelude.{◌≡◌, [], IfOk};
 ghost use Rattle.command_desk.specs.Desks.{fresh_desk, of_desk};
 
+use crate::printing::PrintDesk;
 use data_blocks::DeskRanges;
+use lics_text::Memory;
 use outside_world::FileName;
 use std::alloc::Global;
 use work_sheet::Sheet;
 
-/// What commands work on: the worksheet, what the commands on data keep, and the name of the file that was saved last.
+/// What commands work on: the worksheet, what the commands on data and those on reports keep, and the name of the file
+/// that was saved last.
 #[derive(Drop)]
 pub struct Desk {
     pub sheet: Sheet,
     pub ranges: DeskRanges,
     pub file_name: Option<FileName>,
+    pub print: PrintDesk,
 }
 
 impl Desk {
     /// A fresh desk: an empty worksheet, and nothing is kept.
-    pub fn new(alloc: Global) -> Desk
-        ensures desk { of_desk result ≡ fresh_desk }
-        ensures dirty { result.sheet.dirty ≡ [] }
+    pub fn new(alloc: Global) -> Result<Desk, Memory>
+        ensures desk { IfOk result (λ desk. of_desk desk ≡ fresh_desk) }
+        ensures dirty { IfOk result (λ desk. desk.sheet.dirty ≡ []) }
     {
-        Desk {
+        let print = PrintDesk::new(alloc)?;
+        Ok(Desk {
             sheet: Sheet::new(alloc),
             ranges: DeskRanges::new(),
             file_name: None,
-        }
+            print,
+        })
     }
 }

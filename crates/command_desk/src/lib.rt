@@ -6,6 +6,7 @@ mod desk;
 mod ending;
 mod formats;
 mod moving;
+mod printing;
 mod settling;
 mod writing;
 
@@ -15,5 +16,7 @@ pub use desk::Desk;
 pub use ending::{CommandEnd, settled};
 pub use formats::FormatChoice;
 pub use moving::move_cells;
+pub use print_report::PrintSettings;
+pub use printing::PrintDesk;
 pub use settling::settle;
 pub use writing::make_writes;

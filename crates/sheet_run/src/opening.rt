@@ -61,8 +61,9 @@ fn read_file<S: Shelf>(
 fn desk_over(alloc: Global, saved: SavedSheet) -> Result<Desk, Memory>
     ensures { IfOk result (IsDeskOf saved) }
 {
-    let mut desk = Desk::new(alloc);
-    desk.sheet = Sheet::restore(saved)?;
+    let mut desk = Desk::new(alloc)?;
+    let sheet = Sheet::restore(saved)?;
+    desk.sheet = sheet;
     Ok(desk)
 }
 
@@ -77,7 +78,10 @@ pub fn begin<S: Shelf>(
         (shelf_view (S.holds shelf.new) (S.faults shelf.new)) }
 {
     let Some(name) = file else {
-        return Ok(Desk::new(alloc));
+        return match Desk::new(alloc) {
+            Ok(desk) => Ok(desk),
+            Err(Memory) => Err(NotBegun::Memory),
+        };
     };
     let saved = read_file(alloc, name, shelf)?;
     match desk_over(alloc, saved) {
