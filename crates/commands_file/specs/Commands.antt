@@ -20,9 +20,12 @@ use Rattle.desk_errors.specs.declared.error.CommandError.TheVariants as error
 use Rattle.formula_eval.specs.Mean.{mean}
 use Rattle.formula_eval.specs.declared.look.Scene.{Scene}
 use Rattle.grid_address.specs.Place.{Extent}
+use Rattle.menu_tree.specs.declared.menu.Action.{Action}
+use Rattle.menu_tree.specs.declared.menu.Action.TheVariants as action
 use Rattle.menu_tree.specs.declared.menu.FileAction.{FileAction}
 use Rattle.menu_tree.specs.declared.menu.FileAction.TheVariants as file
 use Rattle.outside_world.specs.FileNames.{file_name}
+use Rattle.outside_world.specs.declared.file_name.Ext.{Ext}
 use Rattle.outside_world.specs.declared.file_name.Ext.TheVariants as ext
 use Rattle.sheet_store.specs.declared.writes.SavedSheet.{SavedSheet}
 use Rattle.wk1_file.specs.Saved.{file_bytes}
@@ -128,9 +131,9 @@ act_named file.XtractFormulas answers name scene d reply =
 act_named file.XtractValues answers name scene d reply =
     extracted_to Values name (span_at d.sheet.names answers 1) d reply
 
--- the name of the file that the first answer is
-abbrev pub named : List (List ℕ) → Option (List ℕ)
-named answers = file_name ext.Wk1 (line_at answers 0)
+-- the name of the file that the first answer is, with the extension of its kind
+abbrev pub named : Ext → List (List ℕ) → Option (List ℕ)
+named kind answers = file_name kind (line_at answers 0)
 
 -- an answer that is no file's name refuses a command, without a call
 abbrev pub act_by : Option (List ℕ) → FileAction → List (List ℕ) → Scene → Desk → Reply → FileActed
@@ -139,7 +142,7 @@ act_by (Some name) a answers scene d reply = act_named a answers name scene d re
 
 -- what a command below File does, over what the shelf answers its call
 abbrev pub act : FileAction → List (List ℕ) → Scene → Desk → Reply → FileActed
-act a answers scene d reply = act_by (named answers) a answers scene d reply
+act a answers scene d reply = act_by (named ext.Wk1 answers) a answers scene d reply
 
 -- A command that came to this end made of a desk another, of a count of evaluations another, and of a shelf another: it
 -- did what it does over some answer of the shelf, which what the shelf holds gives.
@@ -164,9 +167,14 @@ abbrev pub looked_at : Option (List ℕ) → Reply → Looking
 looked_at None reply = record { came = Unknown (error.InvalidFileName 0); calls = [] }
 looked_at (Some name) reply = record { came = looked_by reply; calls = record { call = asks name; reply = reply } ∷ [] }
 
+-- the kind of the file that a command names: Print writes reports, and all others name worksheets
+abbrev pub kind_of : Action → Ext
+kind_of (action.Print a) = ext.Prn
+kind_of a = ext.Wk1
+
 -- whether the file that a command may replace is there
-abbrev pub looked : List (List ℕ) → Reply → Looking
-looked answers reply = looked_at (named answers) reply
+abbrev pub looked : Action → List (List ℕ) → Reply → Looking
+looked a answers reply = looked_at (named (kind_of a) answers) reply
 
 -- A look at the shelf came to this, and made of the shelf another.
 pub record HasLooked (look : Reply → Looking) (came : Looked) (before now : ShelfView) : Type 0 where

@@ -6,12 +6,12 @@ ghost use Rattle.commands_file.specs.Calls.{gets, puts, shelf_view, HasBrokenOff
 ghost use Rattle.commands_file.specs.Commands.{act, act_named, by_call, combined_with, extracted_to, retrieved};
 ghost use Rattle.commands_file.specs.Commands.{retrieved_sheet, saved_as, saved_of, HasActedOver};
 ghost use Rattle.commands_file.specs.Extracted.{extracted};
-ghost use Rattle.commands_file.specs.Steps.{end_of_put, is_written, HasCalled};
+ghost use Rattle.commands_file.specs.Steps.{is_written, HasCalled};
 ghost use Rattle.wk1_file.specs.Saved.{file_bytes};
 ghost use Rattle.work_sheet.specs.Did.{Did};
 ghost use Rattle.work_sheet.specs.Seen.{of_worksheet};
 
-use crate::calling::{put_sheet, remove};
+use crate::calling::{end_of_put, put_sheet, remove};
 use crate::combining::{Combining, combine, pointer_of};
 use crate::extracting::{Extracting, extracted};
 use crate::loading::{Loaded, load};
@@ -127,17 +127,6 @@ fn extract_span<S: Shelf>(
 {
     let saved = extracted(kind, span, sheet)?;
     put_sheet(name, &saved, shelf)
-}
-
-// What the writing of a file comes to.
-fn end_of_put(written: bool) -> CommandEnd
-    ensures { result ≡ end_of_put written }
-{
-    if written {
-        CommandEnd::Finished
-    } else {
-        CommandEnd::Refused(CommandError::DiskError)
-    }
 }
 
 // What is saved of the span that the second answer is, is written.

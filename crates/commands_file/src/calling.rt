@@ -2,7 +2,7 @@
 ghost use Rattle.std.specs.Prelude.{◌≡◌, IfOk, OnErr};
 ghost use Rattle.commands_file.specs.Calls.{puts, removes, shelf_view, HasBrokenOff};
 ghost use Rattle.commands_file.specs.Calls as reply;
-ghost use Rattle.commands_file.specs.Steps.{end_of_remove, is_written, HasCalled};
+ghost use Rattle.commands_file.specs.Steps.{end_of_put, end_of_remove, is_written, HasCalled};
 ghost use Rattle.wk1_file.specs.Saved.{file_bytes};
 
 use command_desk::CommandEnd;
@@ -20,8 +20,13 @@ fn bytes_of(alloc: Global, saved: &SavedSheet) -> Result<ByteBuffer, Memory>
     ByteBuffer::from_slice(alloc, bytes.as_slice())
 }
 
-// Bytes are written as a file; false tells that the call failed.
-fn put_bytes<S: Shelf>(name: &FileName, bytes: &ByteBuffer, shelf: &mut S) -> Result<bool, Memory>
+/// Bytes are written as a file, in the place of one of that name; false tells that the call failed, and the shelf's
+/// count of faults rose in it.
+pub fn put_bytes<S: Shelf>(
+    name: &FileName,
+    bytes: &ByteBuffer,
+    shelf: &mut S,
+) -> Result<bool, Memory>
     ensures put { IfOk result (λ done. HasCalled (puts name.now bytes.now) is_written done
         (shelf_view (S.holds shelf.old) (S.faults shelf.old)) (shelf_view (S.holds shelf.new) (S.faults shelf.new))) }
     ensures memory { OnErr result (HasBrokenOff
@@ -47,6 +52,17 @@ pub(crate) fn put_sheet<S: Shelf>(
 {
     let bytes = bytes_of(saved.store.alloc(), saved)?;
     put_bytes(name, &bytes, shelf)
+}
+
+/// What the writing of a file comes to, by whether it was written.
+pub fn end_of_put(written: bool) -> CommandEnd
+    ensures { result ≡ end_of_put written }
+{
+    if written {
+        CommandEnd::Finished
+    } else {
+        CommandEnd::Refused(CommandError::DiskError)
+    }
 }
 
 // What taking a file away comes to, by whether it was there.

@@ -9,4 +9,5 @@ mod loading;
 mod looking;
 
 pub use acting::act;
+pub use calling::{end_of_put, put_bytes};
 pub use looking::{Looked, look};

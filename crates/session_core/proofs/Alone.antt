@@ -45,16 +45,16 @@ finish_calls way line scene s = meant_calls (meaning_of line.text (sheet_of s) (
 
 -- what a look came to, and what followed it
 pub looked_over : (command : AnsweredCommand) (now : Moment) (told : Bool) (a b : Worked) (x y z : ShelfView) (reply act : Reply) (came : Looked) →
-    came ≡ (looked command.answers reply).came → HaveAnswered (looked command.answers reply).calls x y →
+    came ≡ (looked command.action command.answers reply).came → HaveAnswered (looked command.action command.answers reply).calls x y →
     Leads (looked_as came command act (scene_at a.state now) a.state) told a b →
     HaveAnswered (looked_as came command act (scene_at a.state now) a.state).calls y z → LeadsOver (looking command) now told a b x z
 looked_over command now told a b x y z reply act came is had leads more =
     let o : Looked → Outcome = λ (k : Looked). looked_as k command act (scene_at a.state now) a.state in
     record {
       replies = record { look = reply; act = act };
-      leads = subst (λ (k : Looked). Leads (behind_calls (looked command.answers reply).calls (o k)) told a b) is
+      leads = subst (λ (k : Looked). Leads (behind_calls (looked command.action command.answers reply).calls (o k)) told a b) is
           (record { state = leads.state; work = leads.work; ends = leads.ends });
-      answered = answered_then (looked command.answers reply).calls (o (looked command.answers reply).came).calls x y z had
+      answered = answered_then (looked command.action command.answers reply).calls (o (looked command.action command.answers reply).came).calls x y z had
           (subst (λ (k : Looked). HaveAnswered (o k).calls y z) is more);
     }
 

@@ -13,6 +13,7 @@ use Rattle.menu_tree.specs.declared.menu.Action.{Action}
 use Rattle.menu_tree.specs.declared.menu.Action.TheVariants as action
 use Rattle.menu_tree.specs.declared.menu.FileAction.{FileAction}
 use Rattle.menu_tree.specs.declared.menu.FileAction.TheVariants as file
+use Rattle.outside_world.specs.declared.file_name.Ext.TheVariants as ext
 use Rattle.session_core.specs.Act.{act}
 use Rattle.commands_file.proofs.Broken.{answered_keeps, none_broken}
 
@@ -49,7 +50,7 @@ pub few : (a : Action) (answers : List (List ℕ)) (scene : Scene) (d : Desk) (r
 few (action.Common a) answers scene d reply = tt
 few (action.Worksheet a) answers scene d reply = tt
 few (action.Range a) answers scene d reply = tt
-few (action.File a) answers scene d reply = by_few (named answers) a answers scene d reply
+few (action.File a) answers scene d reply = by_few (named ext.Wk1 answers) a answers scene d reply
 few (action.Print a) answers scene d reply = tt
 few (action.Data a) answers scene d reply = tt
 

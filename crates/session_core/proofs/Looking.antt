@@ -1,8 +1,9 @@
 -- A look for a file changes no file.
 use Rattle.std.proofs.Common.{◌≡◌, ℕ, ◌≤◌, List, Option, None, Some, subst, arith}
+use Rattle.menu_tree.specs.declared.menu.Action.{Action}
 use Rattle.outside_world.specs.Shelf.{answered, done, failed as call_failed, file_in, OnShelf, ShelfAnswer}
 use Rattle.commands_file.specs.Calls.{asks, failed, loaded, there, written, HasBrokenOff, HaveAnswered, IsCounted, IsTold, KeepsOthers, Reply, ShelfView}
-use Rattle.commands_file.specs.Commands.{looked, looked_at, named}
+use Rattle.commands_file.specs.Commands.{kind_of, looked, looked_at, named}
 
 -- one answer more changes no file
 keeps_behind : (s : OnShelf) (answer : ShelfAnswer) (b c : Option OnShelf) → b ≡ Some (answered answer s) → KeepsOthers b c → KeepsOthers (Some s) c
@@ -36,5 +37,5 @@ look_at_keeps (Some name) reply a b c (middle, was, same) broke =
     }
 
 -- where memory ran out behind a look, no file but one may have changed since before it
-pub look_keeps : (answers : List (List ℕ)) (reply : Reply) (a b c : ShelfView) → HaveAnswered (looked answers reply).calls a b → HasBrokenOff b c → HasBrokenOff a c
-look_keeps answers reply a b c had broke = look_at_keeps (named answers) reply a b c had broke
+pub look_keeps : (a : Action) (answers : List (List ℕ)) (reply : Reply) (x y z : ShelfView) → HaveAnswered (looked a answers reply).calls x y → HasBrokenOff y z → HasBrokenOff x z
+look_keeps a answers reply x y z had broke = look_at_keeps (named (kind_of a) answers) reply x y z had broke

@@ -143,7 +143,7 @@ followed look c reply scene s = behind_calls look.calls (looked_as look.came c r
 
 -- the shelf is asked whether the file is there
 abbrev pub looking : AnsweredCommand → Replies → Scene → State → Outcome
-looking c replies scene s = followed (looked c.answers replies.look) c replies.act scene s
+looking c replies scene s = followed (looked c.action c.answers replies.look) c replies.act scene s
 
 -- the prompt, the question whether a file is there, or the command itself
 abbrev pub opened : WhatFollows → AnsweredCommand → Replies → Scene → State → Outcome

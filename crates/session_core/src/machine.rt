@@ -285,7 +285,7 @@ impl Machine {
             (shelf_view (S.holds shelf.old) (S.faults shelf.old))
             (shelf_view (S.holds shelf.new) (S.faults shelf.new))) }
     {
-        match look(&command.answers, shelf)? {
+        match look(command.action, &command.answers, shelf)? {
             Looked::There(true) => {
                 let answering = Answering::Choosing(0);
                 self.enter_room(Room::Asking(PromptRoom { command, answering }));

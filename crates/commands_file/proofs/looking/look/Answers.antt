@@ -2,17 +2,19 @@ use Rattle.std.specs.Prelude.{◌≡◌, ℕ, List, Option, Some}
 use Rattle.std.proofs.Common.{ap, refl, subst, sym, ◌∙◌}
 use Rattle.outside_world.specs.FileNames.{file_name}
 use Rattle.outside_world.specs.Shelf.{has_file}
-use Rattle.outside_world.specs.declared.file_name.Ext.TheVariants as ext
+use Rattle.outside_world.specs.declared.file_name.Ext.{Ext}
 use Rattle.commands_file.specs.Calls.{shelf_view, there}
-use Rattle.commands_file.specs.Commands.{looked_at, named, HasLooked}
+use Rattle.commands_file.specs.Commands.{kind_of, looked_at, named, HasLooked}
 use Rattle.commands_file.specs.declared.looking.Looked.TheVariants.{There}
 use Rattle.commands_file.proofs.Broken.{read_broken}
 use Rattle.commands_file.proofs.looking.look.Goals as goal
 
 pub returns-in-Ok-clause-looked : goal.returns-in-Ok-clause-looked
 returns-in-Ok-clause-looked g c =
-    let is : Some c.in-Some.name ≡ named c.args.answers.now =
-    sym c.in-Some.is ∙ c.of.ensures ∙ ap (file_name ext.Wk1) c.line_at.ensures in
+    let kind : Ext = kind_of c.args.action in
+    let is : Some c.in-Some.name ≡ named kind c.args.answers.now =
+    sym c.in-Some.is ∙ c.with.ensures ∙ ap (λ (e : Ext). file_name e c.line_at.result.now) c.kind_of.ensures
+    ∙ ap (file_name kind) c.line_at.ensures in
     subst (λ (o : Option (List ℕ)). HasLooked (looked_at o) (There c.in-Ok.there)
     (shelf_view (g.S.Shelf.holds c.args.shelf.now) (g.S.Shelf.faults c.args.shelf.now))
     (shelf_view (g.S.Shelf.holds c.has.new.self) (g.S.Shelf.faults c.has.new.self))) is (record {

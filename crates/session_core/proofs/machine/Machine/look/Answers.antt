@@ -20,7 +20,7 @@ returns-in-There-false-clause-looked g c =
 pub returns-in-There-false-clause-memory : goal.returns-in-There-false-clause-memory
 returns-in-There-false-clause-memory g c =
     let h = c.in_ok-look.ensures.looked in
-    err_map c.act.result (look_keeps c.args.command.answers h.reply _ _ _ h.answered) c.act.ensures.memory
+    err_map c.act.result (look_keeps c.args.command.action c.args.command.answers h.reply _ _ _ h.answered) c.act.ensures.memory
 
 pub returns-in_ok-fail-in-Unknown-clause-looked : goal.returns-in_ok-fail-in-Unknown-clause-looked
 returns-in_ok-fail-in-Unknown-clause-looked g c =
@@ -30,4 +30,4 @@ returns-in_ok-fail-in-Unknown-clause-looked g c =
 pub returns-in_err-fail-in-Unknown-clause-memory : goal.returns-in_err-fail-in-Unknown-clause-memory
 returns-in_err-fail-in-Unknown-clause-memory g c =
     let h = c.in_ok-look.ensures.looked in
-    on_err _ (look_keeps c.args.command.answers h.reply _ _ _ h.answered (none_broken _ _))
+    on_err _ (look_keeps c.args.command.action c.args.command.answers h.reply _ _ _ h.answered (none_broken _ _))
