@@ -6,6 +6,8 @@ use Rattle.commands_file.specs.Calls.{Asked, HasBrokenOff, HaveAnswered, Reply, 
 use Rattle.commands_file.specs.Commands.{act_by, act_named, extracted_to, named}
 use Rattle.commands_file.specs.declared.extracting.Extracting.{Extracting}
 use Rattle.commands_file.specs.declared.extracting.Extracting.TheVariants.{Formulas, Values}
+use Rattle.commands_print.specs.Commands.{printed, report_of, reported, written_to}
+use Rattle.commands_print.specs.Commands as on_print
 use Rattle.desk_errors.specs.declared.error.CommandError.{CommandError}
 use Rattle.formula_eval.specs.declared.look.Scene.{Scene}
 use Rattle.grid_address.specs.Place.{Extent}
@@ -13,7 +15,10 @@ use Rattle.menu_tree.specs.declared.menu.Action.{Action}
 use Rattle.menu_tree.specs.declared.menu.Action.TheVariants as action
 use Rattle.menu_tree.specs.declared.menu.FileAction.{FileAction}
 use Rattle.menu_tree.specs.declared.menu.FileAction.TheVariants as file
+use Rattle.menu_tree.specs.declared.menu.PrintAction.{PrintAction}
+use Rattle.menu_tree.specs.declared.menu.PrintAction.TheVariants as print
 use Rattle.outside_world.specs.declared.file_name.Ext.TheVariants as ext
+use Rattle.print_report.specs.declared.settings.PrintFault.{PrintFault}
 use Rattle.session_core.specs.Act.{act}
 use Rattle.commands_file.proofs.Broken.{answered_keeps, none_broken}
 
@@ -44,6 +49,33 @@ by_few : (name : Option (List ℕ)) (a : FileAction) (answers : List (List ℕ))
 by_few None a answers scene d reply = tt
 by_few (Some name) a answers scene d reply = named_few a answers name scene d reply
 
+written_few : (file : Option (List ℕ)) (bytes : List ℕ) (d : Desk) (reply : Reply) → AreFew (written_to file bytes d reply).calls
+written_few None bytes d reply = tt
+written_few (Some name) bytes d reply = tt
+
+reported_few : (made : Result (List ℕ) PrintFault) (d : Desk) (reply : Reply) → AreFew (reported made d reply).calls
+reported_few (Ok bytes) d reply = written_few d.print.file bytes d reply
+reported_few (Err f) d reply = tt
+
+printed_few : (range : Option Extent) (scene : Scene) (d : Desk) (reply : Reply) → AreFew (printed range scene d reply).calls
+printed_few None scene d reply = tt
+printed_few (Some range) scene d reply = reported_few (report_of scene d range) d reply
+
+print_few : (a : PrintAction) (answers : List (List ℕ)) (scene : Scene) (d : Desk) (reply : Reply) →
+    AreFew (on_print.act a answers scene d reply).calls
+print_few print.File answers scene d reply = tt
+print_few print.Range answers scene d reply = tt
+print_few print.Go answers scene d reply = printed_few d.print.range scene d reply
+print_few print.Header answers scene d reply = tt
+print_few print.Footer answers scene d reply = tt
+print_few print.PageLength answers scene d reply = tt
+print_few print.LeaveOptions answers scene d reply = tt
+print_few print.MarginLeft answers scene d reply = tt
+print_few print.MarginRight answers scene d reply = tt
+print_few print.MarginTop answers scene d reply = tt
+print_few print.MarginBottom answers scene d reply = tt
+print_few print.LeaveMargins answers scene d reply = tt
+
 -- a command's calls are at most one
 pub few : (a : Action) (answers : List (List ℕ)) (scene : Scene) (d : Desk) (reply : Reply) →
     AreFew (act a answers scene d reply).calls
@@ -51,7 +83,7 @@ few (action.Common a) answers scene d reply = tt
 few (action.Worksheet a) answers scene d reply = tt
 few (action.Range a) answers scene d reply = tt
 few (action.File a) answers scene d reply = by_few (named ext.Wk1 answers) a answers scene d reply
-few (action.Print a) answers scene d reply = tt
+few (action.Print a) answers scene d reply = print_few a answers scene d reply
 few (action.Data a) answers scene d reply = tt
 
 -- behind at most one call no file but one may have changed

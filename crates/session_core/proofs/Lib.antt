@@ -6,6 +6,7 @@ pub mod Few
 pub mod Kept
 pub mod Looking
 pub mod Prefixed
+pub mod Reports
 pub mod Settled
 pub mod ShownRows
 pub mod Stepping

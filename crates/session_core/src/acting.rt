@@ -53,9 +53,10 @@ fn act_common(
 }
 
 /// Carries a command out, once it has all its answers, with the recalculation that follows it and the one call of the
-/// shelf that a command of files makes. A refused command leaves the desk as it was: its cause is the first that is
-/// found, in the order in which the areas tell them; `DiskError` comes exactly where the shelf failed. After want of
-/// memory the sheet is open, but keeps what it keeps, and no file but the command's own may have changed.
+/// shelf that a command of files makes, and Go of a report. A refused command leaves the desk as it was: its cause is
+/// the first that is found, in the order in which the areas tell them; `DiskError` comes exactly where the shelf
+/// failed. After want of memory the sheet is open, but keeps what it keeps, and no file but the command's own may have
+/// changed.
 pub fn act<S: Shelf>(
     command: &AnsweredCommand,
     desk: &mut Desk,
@@ -80,6 +81,6 @@ pub fn act<S: Shelf>(
         }
         Action::File(action) => commands_file::act(action, answers, desk, shelf, scene, tally),
         Action::Data(action) => commands_data::act(action, answers, desk, scene, tally),
-        Action::Print(_) => Ok(CommandEnd::Finished),
+        Action::Print(action) => commands_print::act(action, answers, desk, shelf, scene),
     }
 }

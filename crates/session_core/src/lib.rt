@@ -6,6 +6,7 @@ mod entering;
 mod event;
 mod faults;
 mod glance;
+mod laws;
 mod machine;
 mod pressing;
 mod rows;
@@ -14,4 +15,5 @@ mod touched;
 
 pub use event::{Event, Stepped};
 pub use key_words::Key;
+pub use laws::only_print_changes_what_reports_need;
 pub use session::Session;

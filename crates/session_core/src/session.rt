@@ -103,8 +103,9 @@ impl Session {
     /// One step: a key exactly where the session wants one, and else the next unit of the macro that runs. `Quit`
     /// comes exactly where the menu's Quit was confirmed (Release 2 manual). After `Memory` the session is spent. A
     /// step that only moves the pointer, types, or is passed over, takes no memory and leaves all of the sheet but the
-    /// pointer. The shelf is called where a command of files has all its answers, and once before, where it may replace
-    /// a file. The set becomes the lines in which the screen may differ from the one before.
+    /// pointer. The shelf is called where a command of files has all its answers, or a report is printed, and once
+    /// before, where a command may replace a file. The set becomes the lines in which the screen may differ from the
+    /// one before.
     pub fn step<S: Shelf>(
         &mut self,
         event: Event,
