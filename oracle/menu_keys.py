@@ -20,7 +20,11 @@ WITH_NAMES = [b'+RATE*2', b'@SUM(TOTAL)', b'$RATE+1', b'+$rate+$1', b'@COUNT(TOT
               b'@ROWS(TOTAL)*@COLS(q)', b'-IW1', b'+EXACTLY15LETTER', b'@MAX(A1..B3,Q)', b'+$Q*$RATE']
 FILES = [b'A', b'B', b'C', b'PAY-87_2']
 SPELLED = [b'%s', b'%s', b'%s', b'%s.WK1', b'%s.wk1', b'%s.Wk1']
-NO_FILE = [b'', b'TOO_LONG9', b'A.PRN', b'A B', b'../A', b'.WK1', b'A.WK1.WK1', b'A*', b'PAY/A', b'A.', b'C:A', b'~A']
+SPELLED_REPORTS = [b'%s', b'%s', b'%s', b'%s.PRN', b'%s.prn', b'%s.Prn']
+# headers and footers; none asks for the moment
+RUNNING = [b'', b'#', b'page #', b'Report|of|June', b'|#', b'||#', b'left|middle|right|more', b'#|#|#', b'a header that is longer than most pages are wide' * 2,
+           b'||a long text at the right', b'|x', b'###|##|#', b'  blanks  |  in  |  it  ', b'\x80\xe9|\xff', b'|', b'||']
+NO_FILE = [b'', b'TOO_LONG9', b'A.PRN', b'A.WK1', b'A B', b'../A', b'.WK1', b'A.WK1.WK1', b'A*', b'PAY/A', b'A.', b'C:A', b'~A']
 # what is typed where the name of the last save stands in the line; an empty text takes it
 OVER_KEPT = [b'', b'', b'', b'', b'{BS 4}', b'{BS 5}B', b'{LEFT 4}2', b'{HOME}B{DEL}', b'{ESC}', b'{LEFT}{BS 9}', b'{HOME}{DEL}X', b'{ESC}C', b'{END}']
 # how a choice is taken, and how it is given up
@@ -58,8 +62,9 @@ class MenuKeys:
         self.ways = list(ways())
         self.way_to = dict(self.ways)
         self.weights = [WEIGHTS.get(action, 2) for action, _ in self.ways]
-        # the names of files that may be there, the last one typed, and whether one was saved
-        self.there, self.named_last, self.is_kept = set(), b'', False
+        # the names of files that may be there, and of reports; the last one typed, and which of the two it is among; and whether one was saved
+        self.there, self.reports, self.is_kept = set(), set(), False
+        self.named_last, self.among = b'', self.there
 
     # ------------------------------------------------------------ the way
     def taken(self, path, place):
@@ -160,6 +165,9 @@ class MenuKeys:
         r = self.r
         return r.choice(BESIDE_NUMBERS) if r.randrange(8) == 0 else r.choice(NUMBERS + [b'1', b'2', b'-1', b'0'])
 
+    def asked_T(self):
+        return self.typist.typed(self.r.choice(RUNNING))
+
     def asked_order(self):
         return self.r.choice([b'A', b'a', b'D', b'd', b'A', b'D', b'x', b''])
 
@@ -168,9 +176,10 @@ class MenuKeys:
         r = self.r
         if r.randrange(12) == 0:
             return self.typist.typed(r.choice(NO_FILE))
-        self.named_last = r.choice(sorted(self.there)) if self.there and r.randrange(5) else r.choice(FILES)
+        self.among = self.there if ext == 'WK1' else self.reports
+        self.named_last = r.choice(sorted(self.among)) if self.among and r.randrange(5) else r.choice(FILES)
         name = self.named_last if r.randrange(3) else self.named_last.lower()
-        return r.choice(SPELLED) % name
+        return r.choice(SPELLED if ext == 'WK1' else SPELLED_REPORTS) % name
 
     def choice(self, ask):
         """A choice between two, which is mostly taken."""
@@ -179,13 +188,13 @@ class MenuKeys:
     def asked_confirm(self):
         keys = self.choice('confirm')
         if keys in TAKEN['confirm']:
-            self.there.discard(self.named_last)
+            self.among.discard(self.named_last)
         return keys
 
     def asked_replace(self):
         """The choice where the file is there, so far as that is known, and mostly nothing where it isn't."""
-        is_asked = self.named_last in self.there
-        self.there.add(self.named_last)
+        is_asked = self.named_last in self.among
+        self.among.add(self.named_last)
         if self.r.randrange(20) == 0:
             is_asked = not is_asked
         return self.choice('replace') if is_asked else b''
@@ -390,6 +399,34 @@ class MenuKeys:
             keys += r.choice(part)() + self.behind()
         return keys + self.looked([b'A1', b'A2', b'B2', b'B3', b'C3', b'D4'])
 
+    def laid_out(self):
+        """Keys from a report's menu through one of its settings, mostly a good one, and back to that menu."""
+        r = self.r
+        path = r.choice(['print', 'po', 'po', 'pm', 'pm', 'pm'])
+        way = {'print': [], 'po': [('print', 1)], 'pm': [('print', 1), ('po', 2)]}[path]
+        place = r.choice({'print': [0], 'po': [0, 1, 3], 'pm': [0, 1, 2, 3]}[path])
+        action = menu.items(path)[place][1]
+        out = b''.join(self.passed(*step[:1], False) + self.taken(*step) for step in way) + self.taken(path, place)
+        good = {'p.range': self.span(), 'po.length': b'%d' % r.choice([10, 11, 12, 15, 20, 66]), 'pm.left': b'%d' % r.choice([0, 1, 4, 10, 75]),
+                'pm.right': b'%d' % r.choice([1, 8, 20, 30, 76, 240]), 'pm.top': b'%d' % r.randrange(5), 'pm.bottom': b'%d' % r.randrange(5)}
+        out += good[action] + b'~' if action in good and r.randrange(6) else self.answer(menu.prompts(action)[0][1])
+        return out + b''.join(self.taken(up, len(menu.items(up)) - 1) if r.randrange(8) else b'{ESC}' for up, _ in [(path, 0), *reversed(way)][:len(way)])
+
+    def printed(self):
+        """Reports of what stands near A1, with settings that are kept from one to the next."""
+        r = self.r
+        keys = self.begun() + self.column(r.choice([b'A1', b'B2'])) + self.column(r.choice([b'B1', b'C2', b'A3', b'H1']))
+        keys += self.marked(r.choice([b'A1..C5', b'B2..B4'])) + self.done(r.choice(['wgc', 'wc.set', 'wc.hide', 'wgf.text', 'wc.reset'])) + b'{BREAK}'
+        for _ in range(r.randrange(1, 4)):
+            keys += b'{BREAK}' + self.way(self.way_to['p.file'])
+            keys += self.answer(('F', 'PRN')) + self.asked_replace()
+            keys += self.taken('print', 0) + self.span() + b'~' if r.randrange(6) else b''
+            keys += b''.join(self.laid_out() for _ in range(r.choice([0, 0, 1, 2, 4])))
+            keys += self.taken('print', 2 if r.randrange(8) else 3) + self.behind()
+            if r.randrange(3) == 0:
+                keys += r.choice([self.shifted, self.command, self.saved, lambda: self.done('we.yes')])()
+        return keys
+
     def shifted(self):
         """Rows or columns that are inserted or deleted, or cells that are moved, near A1."""
         r = self.r
@@ -461,7 +498,8 @@ class MenuKeys:
     def scene(self):
         """Commands that belong together."""
         return self.r.choice([self.copied, self.guarded, self.formatted, self.erased, self.labelled, self.columns, self.numbered, self.reckoned,
-                              self.ordered, self.freshened, self.named, self.named, self.valued, self.valued, self.filed, self.filed, self.filed])()
+                              self.ordered, self.freshened, self.named, self.named, self.valued, self.valued, self.filed, self.filed, self.filed,
+                              self.printed, self.printed])()
 
     def part(self):
         many = [self.scene] * 16 + [self.command] * 7 + [self.wandered, self.stayed]

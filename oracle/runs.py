@@ -63,7 +63,8 @@ class Typist:
         self.menus = MenuKeys(self)
         self.data, self.macros = DataKeys(self.menus), MacroKeys(self.menus)
         self.folder = self.some_files()
-        self.menus.there = {name[:-4].encode() for name in self.folder if is_of_shelf(name)}
+        self.menus.there = {name[:-4].encode() for name in self.folder if is_of_shelf(name, ['WK1'])}
+        self.menus.reports = {name[:-4].encode() for name in self.folder if is_of_shelf(name, ['PRN'])}
         # the file that the run begins with, where keys were made for it, and whether a macro may run
         self.opened, self.may_run = None, False
 
@@ -76,6 +77,8 @@ class Typist:
             out[name.decode() + '.WK1'] = file_for_runs(r)
         if r.randrange(10) == 0:
             out[r.choice(FILES).decode() + '.WK1'] = None
+        if r.randrange(6) == 0:
+            out[r.choice(FILES).decode() + '.PRN'] = r.choice([b'', b'a report', b'a report', None])
         if r.randrange(6) == 0:
             out[r.choice(['a.wk1', 'B.wk1', 'C', 'A.TXT', 'A.WK1.old'])] = b'other'
         return out
@@ -273,9 +276,9 @@ class Typist:
         return sum(out, [])
 
 
-def is_of_shelf(name):
-    """Whether it is a name of a worksheet's file, as the shelf spells it."""
-    return file_name(os.fsencode(name)) == name
+def is_of_shelf(name, kinds=('WK1', 'PRN')):
+    """Whether it is a name of a file of these kinds, as the shelf spells it."""
+    return any(file_name(os.fsencode(name), ext) == name for ext in kinds)
 
 
 def kind_of(words):

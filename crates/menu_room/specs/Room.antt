@@ -7,8 +7,7 @@ use Rattle.key_words.specs.declared.key.Key.{Key}
 use Rattle.key_words.specs.declared.key.Key.TheVariants as key
 use Rattle.lics_text.specs.declared.TheConstants.{MAX_LEN}
 use Rattle.menu_tree.specs.Levels.{parent}
-use Rattle.menu_tree.specs.Shown.{shown}
-use Rattle.menu_tree.specs.Tree.{chosen, item_name}
+use Rattle.menu_tree.specs.Tree.{chosen, item_name, items}
 use Rattle.menu_tree.specs.declared.menu.Item.{Item}
 use Rattle.menu_tree.specs.declared.menu.Item.TheVariants as item
 use Rattle.menu_tree.specs.declared.menu.Menu.{Menu}
@@ -40,19 +39,19 @@ taken_or (Some i) r = taken i
 
 -- where a key leaves the highlight
 abbrev pub highlight_after : Key → MenuRoom → ℕ
-highlight_after k r = highlighted k (length (shown r.menu)) r.highlight
+highlight_after k r = highlighted k (length (items r.menu)) r.highlight
 
 -- Enter takes the highlighted item, a byte the first that begins with it, ESC goes up one level, and any other key
 -- moves the highlight or is passed over
 abbrev pub press : Key → MenuRoom → Turn
-press key.Enter r = taken_or (slice_get (shown r.menu) r.highlight) r
-press (key.Byte b) r = taken_or (chosen (shown r.menu) b) r
+press key.Enter r = taken_or (slice_get (items r.menu) r.highlight) r
+press (key.Byte b) r = taken_or (chosen (items r.menu) b) r
 press key.Esc r = turn.Become (menu_or_ready (parent r.menu))
 press k r = turn.Become (room.Menu (record r { highlight = highlight_after k r }))
 
 -- the names of a menu's items
 abbrev pub names_of : Menu → List (List ℕ)
-names_of m = map item_name (shown m)
+names_of m = map item_name (items m)
 
 -- the names of the next level; an action has none
 abbrev pub names_below : Option Item → List (List ℕ)
@@ -64,5 +63,5 @@ names_below (Some (item.Menu m)) = names_of m
 abbrev pub panel : MenuRoom → Panel
 panel r = record (plain_panel mode.Menu) {
   menu = take MAX_LEN (items_line r.highlight (names_of r.menu));
-  below = take MAX_LEN (listed (names_below (slice_get (shown r.menu) r.highlight)));
+  below = take MAX_LEN (listed (names_below (slice_get (items r.menu) r.highlight)));
 }

@@ -7,7 +7,7 @@ use crate::lines::{items_line, listed};
 use crate::ring::highlighted;
 use control_panel::{Mode, Panel};
 use key_words::Key;
-use menu_tree::{Item, Menu, choose, parent, shown};
+use menu_tree::{Item, Menu, choose, items, parent};
 use session_rooms::{AnsweredCommand, Answers, MenuRoom, Room, Turn};
 use std::alloc::Global;
 
@@ -64,7 +64,7 @@ fn taken_or(alloc: Global, item: Option<Item>, room: MenuRoom) -> Turn
 pub fn press(alloc: Global, key: Key, room: MenuRoom) -> Turn
     ensures { result ≡ press key room }
 {
-    let items = shown(room.menu);
+    let items = items(room.menu);
     match key {
         Key::Enter => taken_or(alloc, item_at(items, room.highlight), room),
         Key::Byte(byte) => taken_or(alloc, choose(items, byte.get()), room),
@@ -81,7 +81,7 @@ fn items_below(item: Option<Item>) -> &'static [Item]
     ensures { map item_name result.now ≡ names_below item }
 {
     match item {
-        Some(Item::Menu(menu)) => shown(menu),
+        Some(Item::Menu(menu)) => items(menu),
         Some(Item::Action(_)) | None => &[],
     }
 }
@@ -90,7 +90,7 @@ fn items_below(item: Option<Item>) -> &'static [Item]
 pub fn panel(room: &MenuRoom) -> Panel
     ensures { result ≡ panel room.now }
 {
-    let items = shown(room.menu);
+    let items = items(room.menu);
     let mut panel = Panel::of(Mode::Menu);
     panel.menu = items_line(items, room.highlight);
     panel.below = listed(items_below(item_at(items, room.highlight)));
