@@ -11,7 +11,7 @@ use Rattle.sheet_run.specs.Notation.{Spells, SpellsInto, SpellsUpTo}
 use Rattle.sheet_run.specs.Opening.{opening, StartFile}
 use Rattle.sheet_run.specs.Options.{limit_of, words_read}
 use Rattle.sheet_run.specs.Run.{after, calls_of, keys_of, moments_of, EndAtLast, Fit, GoOn, Outside, Step}
-use Rattle.sheet_run.specs.Status.{Surroundings}
+use Rattle.sheet_run.specs.Status.{IsRun, Surroundings}
 use Rattle.sheet_run.specs.Taking.{TakesBytes, TakesReadings}
 use Rattle.sheet_run.specs.declared.options.Options.{Options}
 
@@ -109,3 +109,8 @@ ReadWell start before now = ReadToEnd start before now ⊎ ReadToQuit start befo
 -- with 0 the keys were read to their end or until the run was quit; with 9 memory ran out
 abbrev pub HasEndedWell : Option StartFile → Surroundings → Surroundings → ℕ → Type 0
 HasEndedWell start before now status = ((status ≡ 0) × ReadWell start before.outside now.outside) ⊎ (status ≡ 9)
+
+-- a run was what its status tells, and where it must end well, it has ended well
+pub record RanAsTold (words : List (List ℕ)) (before now : Surroundings) (status : ℕ) : Type 0 where
+  pub is_run : IsRun words before now status
+  pub complete : (must : MustEndWell words before now) → HasEndedWell must.start before now status

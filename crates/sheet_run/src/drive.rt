@@ -9,10 +9,10 @@ ghost use Rattle.session_core.specs.Machine.{wants_key};
 ghost use Rattle.session_core.specs.Screen.{screen};
 ghost use Rattle.session_core.specs.Step.{is_key};
 ghost use Rattle.session_core.specs.declared.event.Event.{Event};
+ghost use Rattle.sheet_run.specs.Around.{outside_of};
 ghost use Rattle.sheet_run.specs.Driving.{ComesNext, EndsAsTold, HasStepped, HasDriven};
 ghost use Rattle.sheet_run.specs.Passing.{HasSentOne, Passed};
 ghost use Rattle.sheet_run.specs.KeyFeed.{ahead, HasPressed};
-ghost use Rattle.sheet_run.specs.Run.{outside};
 ghost use Rattle.sheet_run.specs.declared.key_feed.Next.TheVariants as Next;
 
 use crate::displays::{Work, work_on_all};
@@ -164,12 +164,9 @@ pub fn drive<K: Keys, S: Shelf, C: Clock>(
 ) -> Ending
     requires fresh { session.old.spent ≡ false }
     requires room { vec_len failed.old + vec_len displays.old ≤ vec_capacity failed.old }
-    ensures driven { HasDriven limit session.old session.new
-        (outside (K.left keys.old) (K.faults keys.old) (C.readings clock.old)
-        (shelf_view (S.holds shelf.old) (S.faults shelf.old)) (map seen displays.old.items) (map seen failed.old.items))
-        (outside (K.left keys.new) (K.faults keys.new) (C.readings clock.new)
-        (shelf_view (S.holds shelf.new) (S.faults shelf.new)) (map seen displays.new.items) (map seen failed.new.items))
-        result }
+    ensures driven { let at = outside_of K.Keys S.Shelf C.Clock seen in
+        HasDriven limit session.old session.new (at keys.old shelf.old clock.old displays.old failed.old)
+        (at keys.new shelf.new clock.new displays.new failed.new) result }
     ensures room { vec_len failed.new + vec_len displays.new ≤ vec_capacity failed.new }
 {
     let mut shown = Screen::empty();

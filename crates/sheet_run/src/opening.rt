@@ -1,6 +1,6 @@
 // The start of a run: a fresh sheet, or that of the start file.
 ghost use Rattle.std.specs.Prelude.{◌≡◌, IfOk, Option, Some};
-ghost use Rattle.commands_file.specs.Calls.{shelf_view};
+ghost use Rattle.sheet_run.specs.Around.{shelf_of};
 ghost use Rattle.sheet_run.specs.Beginning.{HasBegunOr, HasLoaded, HasReadFile, HasReadSheet, IsDeskOf};
 
 use command_desk::Desk;
@@ -46,8 +46,7 @@ fn read_file<S: Shelf>(
     name: &FileName,
     shelf: &mut S,
 ) -> Result<SavedSheet, NotBegun>
-    ensures { HasReadFile name.now result (shelf_view (S.holds shelf.old) (S.faults shelf.old))
-        (shelf_view (S.holds shelf.new) (S.faults shelf.new)) }
+    ensures { let at = shelf_of S.Shelf in HasReadFile name.now result (at shelf.old) (at shelf.new) }
 {
     match shelf.get(name) {
         Ok(Some(bytes)) => read_sheet(alloc, &bytes),
@@ -74,8 +73,7 @@ pub fn begin<S: Shelf>(
     file: &Option<FileName>,
     shelf: &mut S,
 ) -> Result<Desk, NotBegun>
-    ensures { HasBegunOr file.now result (shelf_view (S.holds shelf.old) (S.faults shelf.old))
-        (shelf_view (S.holds shelf.new) (S.faults shelf.new)) }
+    ensures { let at = shelf_of S.Shelf in HasBegunOr file.now result (at shelf.old) (at shelf.new) }
 {
     let Some(name) = file else {
         return match Desk::new(alloc) {

@@ -1,11 +1,10 @@
 // The top call.
-ghost use Rattle.std.specs.Prelude.{◌≡◌, ℕ, is_some, map, true, List, Some};
-ghost use Rattle.commands_file.specs.Calls.{shelf_view};
-ghost use Rattle.sheet_run.specs.Completeness.{HasEndedWell, MustEndWell};
+ghost use Rattle.std.specs.Prelude.{◌≡◌, ℕ, is_some, true, List, Some};
+ghost use Rattle.sheet_run.specs.Around.{around};
+ghost use Rattle.sheet_run.specs.Completeness.{HasEndedWell, RanAsTold, MustEndWell};
 ghost use Rattle.sheet_run.specs.Notes.{count_of, file_note, file_status, Tells};
 ghost use Rattle.sheet_run.specs.OptionAnswers.{refused_text, IsPart};
-ghost use Rattle.sheet_run.specs.Run.{outside};
-ghost use Rattle.sheet_run.specs.Status.{surroundings, IsRun, RunsWith, Surroundings};
+ghost use Rattle.sheet_run.specs.Status.{IsRun, RunsWith, Surroundings};
 
 use crate::Words;
 use crate::displays::{Work, keep_kind, work_on_all};
@@ -74,35 +73,9 @@ pub fn run<K: Keys, S: Shelf, C: Clock, N: Notes>(
     failed: &mut Vec<Box<dyn Display>>,
     notes: &mut N,
 ) -> u8
-    ensures ran { IsRun words.now
-        (surroundings
-        (outside (K.left keys.old) (K.faults keys.old) (C.readings clock.old)
-        (shelf_view (S.holds shelf.old) (S.faults shelf.old)) (map seen displays.old.items) (map seen failed.old.items))
-        (N.written notes.old) (N.faults notes.old))
-        (surroundings
-        (outside (K.left keys.new) (K.faults keys.new) (C.readings clock.new)
-        (shelf_view (S.holds shelf.new) (S.faults shelf.new)) (map seen displays.new.items) (map seen failed.new.items))
-        (N.written notes.new) (N.faults notes.new))
-        result }
-    ensures complete { (must : MustEndWell words.now
-        (surroundings
-        (outside (K.left keys.old) (K.faults keys.old) (C.readings clock.old)
-        (shelf_view (S.holds shelf.old) (S.faults shelf.old)) (map seen displays.old.items) (map seen failed.old.items))
-        (N.written notes.old) (N.faults notes.old))
-        (surroundings
-        (outside (K.left keys.new) (K.faults keys.new) (C.readings clock.new)
-        (shelf_view (S.holds shelf.new) (S.faults shelf.new)) (map seen displays.new.items) (map seen failed.new.items))
-        (N.written notes.new) (N.faults notes.new)))
-        → HasEndedWell must.start
-        (surroundings
-        (outside (K.left keys.old) (K.faults keys.old) (C.readings clock.old)
-        (shelf_view (S.holds shelf.old) (S.faults shelf.old)) (map seen displays.old.items) (map seen failed.old.items))
-        (N.written notes.old) (N.faults notes.old))
-        (surroundings
-        (outside (K.left keys.new) (K.faults keys.new) (C.readings clock.new)
-        (shelf_view (S.holds shelf.new) (S.faults shelf.new)) (map seen displays.new.items) (map seen failed.new.items))
-        (N.written notes.new) (N.faults notes.new))
-        result }
+    ensures { let at = around K.Keys S.Shelf C.Clock N.Notes seen in
+        RanAsTold words.now (at keys.old shelf.old clock.old displays.old failed.old notes.old)
+        (at keys.new shelf.new clock.new displays.new failed.new notes.new) result }
 {
     match read_words(words) {
         Ok(options) => run_with(alloc, options, keys, shelf, clock, displays, failed, notes),
@@ -121,16 +94,9 @@ fn run_with<K: Keys, S: Shelf, C: Clock, N: Notes>(
     failed: &mut Vec<Box<dyn Display>>,
     notes: &mut N,
 ) -> u8
-    ensures { RunsWith options
-        (surroundings
-        (outside (K.left keys.old) (K.faults keys.old) (C.readings clock.old)
-        (shelf_view (S.holds shelf.old) (S.faults shelf.old)) (map seen displays.old.items) (map seen failed.old.items))
-        (N.written notes.old) (N.faults notes.old))
-        (surroundings
-        (outside (K.left keys.new) (K.faults keys.new) (C.readings clock.new)
-        (shelf_view (S.holds shelf.new) (S.faults shelf.new)) (map seen displays.new.items) (map seen failed.new.items))
-        (N.written notes.new) (N.faults notes.new))
-        result }
+    ensures { let at = around K.Keys S.Shelf C.Clock N.Notes seen in
+        RunsWith options (at keys.old shelf.old clock.old displays.old failed.old notes.old)
+        (at keys.new shelf.new clock.new displays.new failed.new notes.new) result }
 {
     let failed_before = failed.len();
     if failed.reserve(displays.len()).is_err() {

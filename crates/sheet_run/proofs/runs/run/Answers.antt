@@ -7,9 +7,9 @@ use Rattle.sheet_run.proofs.runs.run.Goals as goal
 pub returns-in-Ok : goal.returns-in-Ok
 returns-in-Ok g c =
     let is = ran c.in-Ok.options c.in-Ok.ensures c.run_with.ensures in
-    record { ran = is; complete = completes c.args.words.now _ _ _ is }
+    record { is_run = is; complete = completes c.args.words.now _ _ _ is }
 
 pub returns-in-Err : goal.returns-in-Err
 returns-in-Err g c =
     let is = refused_run c.args.words.now c.in-Err.refused c.refused_text.result.now _ _ _ c.in-Err.ensures.1 c.refused_text.ensures refl c.tell_refused.ensures in
-    record { ran = is; complete = completes c.args.words.now _ _ _ is }
+    record { is_run = is; complete = completes c.args.words.now _ _ _ is }
