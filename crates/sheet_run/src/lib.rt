@@ -8,6 +8,7 @@ mod key_feed;
 mod notes;
 mod opening;
 mod options;
+mod outside;
 mod runs;
 mod words;
 

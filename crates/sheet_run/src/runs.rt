@@ -2,6 +2,7 @@
 ghost use Rattle.std.specs.Prelude.{◌≡◌, ℕ, is_some, true, List, Some};
 ghost use Rattle.sheet_run.specs.Around.{around};
 ghost use Rattle.sheet_run.specs.Completeness.{HasEndedWell, RanAsTold, MustEndWell};
+ghost use Rattle.sheet_run.specs.Lent.{told_with, IsSame};
 ghost use Rattle.sheet_run.specs.Notes.{count_of, file_note, file_status, Tells};
 ghost use Rattle.sheet_run.specs.OptionAnswers.{refused_text, IsPart};
 ghost use Rattle.sheet_run.specs.Status.{IsRun, RunsWith, Surroundings};
@@ -12,6 +13,7 @@ use crate::drive::{Ending, drive};
 use crate::notes::{tell, tell_memory, tell_refused, tell_unread};
 use crate::opening::{NotBegun, NotRead, begin, load};
 use crate::options::{Options, Refused, Wanted, read_words, word_at};
+use crate::outside::Outside;
 use outside_world::{Clock, FileName, Keys, Notes, Shelf};
 use screen_show::Display;
 use session_core::Session;
@@ -77,8 +79,29 @@ pub fn run<K: Keys, S: Shelf, C: Clock, N: Notes>(
         RanAsTold words.now (at keys.old shelf.old clock.old displays.old failed.old notes.old)
         (at keys.new shelf.new clock.new displays.new failed.new notes.new) result }
 {
+    let mut outside = Outside {
+        shelf,
+        clock,
+        displays,
+        failed,
+    };
+    run_over(alloc, words, keys, &mut outside, notes)
+}
+
+// Runs the program over what is lent.
+fn run_over<K: Keys, S: Shelf, C: Clock, N: Notes>(
+    alloc: Global,
+    words: &Words,
+    keys: &mut K,
+    outside: &mut Outside<'_, S, C>,
+    notes: &mut N,
+) -> u8
+    ensures ran { let at = told_with K.Keys S.Shelf C.Clock N.Notes seen in
+        RanAsTold words.now (at keys.old outside.old notes.old) (at keys.new outside.new notes.new) result }
+    ensures same { IsSame outside.old outside.new }
+{
     match read_words(words) {
-        Ok(options) => run_with(alloc, options, keys, shelf, clock, displays, failed, notes),
+        Ok(options) => run_with(alloc, options, keys, outside, notes),
         Err(refused) => tell_refused(alloc, refused_text(words, refused), notes),
     }
 }
@@ -88,36 +111,33 @@ fn run_with<K: Keys, S: Shelf, C: Clock, N: Notes>(
     alloc: Global,
     options: Options,
     keys: &mut K,
-    shelf: &mut S,
-    clock: &mut C,
-    displays: &mut Vec<Box<dyn Display>>,
-    failed: &mut Vec<Box<dyn Display>>,
+    outside: &mut Outside<'_, S, C>,
     notes: &mut N,
 ) -> u8
-    ensures { let at = around K.Keys S.Shelf C.Clock N.Notes seen in
-        RunsWith options (at keys.old shelf.old clock.old displays.old failed.old notes.old)
-        (at keys.new shelf.new clock.new displays.new failed.new notes.new) result }
+    ensures ran { let at = told_with K.Keys S.Shelf C.Clock N.Notes seen in
+        RunsWith options (at keys.old outside.old notes.old) (at keys.new outside.new notes.new) result }
+    ensures same { IsSame outside.old outside.new }
 {
-    let failed_before = failed.len();
-    if failed.reserve(displays.len()).is_err() {
+    let failed_before = outside.failed.len();
+    if outside.failed.reserve(outside.displays.len()).is_err() {
         return tell_memory(notes);
     }
-    keep_kind(options.kind(), displays);
-    let desk = match begin(alloc, &options.file, shelf) {
+    keep_kind(options.kind(), outside.displays);
+    let desk = match begin(alloc, &options.file, outside.shelf) {
         Ok(desk) => desk,
         Err(NotBegun::NotRead(why)) => return tell_start(&options.file, why, notes),
         Err(NotBegun::Memory) => return tell_memory(notes),
     };
-    let Ok(mut session) = load(desk, clock) else {
+    let Ok(mut session) = load(desk, outside.clock) else {
         return tell_memory(notes);
     };
     let limit = options.limit();
-    let ending = drive(limit, keys, shelf, clock, displays, failed, &mut session);
+    let ending = drive(limit, keys, outside, &mut session);
     if let Ending::NoMemory = ending {
         return tell_memory(notes);
     }
-    work_on_all(&Work::Close, displays, failed);
-    let moved = failed.len() > failed_before;
+    work_on_all(&Work::Close, outside.displays, outside.failed);
+    let moved = outside.failed.len() > failed_before;
     tell(notes, count_of(&options, &session), limit, moved, ending)
 }
 
