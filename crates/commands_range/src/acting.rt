@@ -1,13 +1,15 @@
 // Which command below Range is carried out.
 ghost use Rattle.std.specs.Prelude.{IfOk};
-ghost use Rattle.command_desk.specs.Acting.{HasActed, HasActedBy};
+ghost use Rattle.command_desk.specs.Acting.{HasActed};
 ghost use Rattle.commands_range.specs.Commands.{act, erased, erased_span};
+ghost use Rattle.commands_range.specs.Works.{HasActedOn};
 ghost use Rattle.work_sheet.specs.Seen.{of_worksheet};
 
 use crate::formats::{decimals_of, formatted, marked};
 use crate::labels::labelled;
 use crate::naming::{create_name, delete_name, reset_names};
 use crate::values::{Layout, valued};
+use crate::work::Work;
 use command_desk::{CommandEnd, FormatChoice, line_at, settled, span_at};
 use formula_eval::{Scene, Tally};
 use grid_address::Span;
@@ -17,31 +19,19 @@ use session_rooms::Answers;
 use work_sheet::Sheet;
 
 // The cells of a span become blank.
-fn erased_span(
-    span: Span,
-    sheet: &mut Sheet,
-    scene: &Scene,
-    tally: &mut Tally,
-) -> Result<CommandEnd, Memory>
-    ensures { IfOk result (λ end. HasActedBy (erased_span span scene.entry.now)
-        end sheet.old sheet.new tally.old.count tally.new.count) }
+fn erased_span(span: Span, work: &mut Work<'_>) -> Result<CommandEnd, Memory>
+    ensures { IfOk result (HasActedOn (erased_span span) work.old work.new) }
 {
-    let answer = sheet.erase(span);
-    settled(answer, sheet, scene, tally)
+    let answer = work.sheet.erase(span);
+    settled(answer, work.sheet, work.scene, work.tally)
 }
 
 // A span is erased.
-fn erased(
-    answers: &Answers,
-    sheet: &mut Sheet,
-    scene: &Scene,
-    tally: &mut Tally,
-) -> Result<CommandEnd, Memory>
-    ensures { IfOk result (λ end. HasActedBy (erased answers.now scene.entry.now)
-        end sheet.old sheet.new tally.old.count tally.new.count) }
+fn erased(answers: &Answers, work: &mut Work<'_>) -> Result<CommandEnd, Memory>
+    ensures { IfOk result (HasActedOn (erased answers.now) work.old work.new) }
 {
-    match span_at(sheet.names(), answers, 0) {
-        Ok(span) => erased_span(span, sheet, scene, tally),
+    match span_at(work.sheet.names(), answers, 0) {
+        Ok(span) => erased_span(span, work),
         Err(error) => Ok(CommandEnd::Refused(error)),
     }
 }
@@ -79,40 +69,52 @@ pub fn act(
     ensures { IfOk result (λ end. HasActed (act answers.now scene.entry.now (of_worksheet sheet.old) action)
         end sheet.old sheet.new tally.old.count tally.new.count) }
 {
+    let mut work = Work {
+        sheet,
+        scene,
+        tally,
+    };
+    act_on(action, answers, &mut work)
+}
+
+// Carries out a command below Range.
+fn act_on(action: RangeAction, answers: &Answers, work: &mut Work<'_>) -> Result<CommandEnd, Memory>
+    ensures { IfOk result (HasActedOn (λ scene s. act answers.now scene s action) work.old work.new) }
+{
     match action {
-        RangeAction::Erase => erased(answers, sheet, scene, tally),
-        RangeAction::Protect => marked(true, answers, sheet),
-        RangeAction::Unprotect => marked(false, answers, sheet),
+        RangeAction::Erase => erased(answers, work),
+        RangeAction::Protect => marked(true, answers, work.sheet),
+        RangeAction::Unprotect => marked(false, answers, work.sheet),
         RangeAction::Fixed => match decimals_of(action, answers) {
-            Ok(decimals) => formatted(FormatChoice::Fixed(decimals), 1, answers, sheet),
+            Ok(decimals) => formatted(FormatChoice::Fixed(decimals), 1, answers, work.sheet),
             Err(error) => Ok(CommandEnd::Refused(error)),
         },
         RangeAction::Currency => match decimals_of(action, answers) {
-            Ok(decimals) => formatted(FormatChoice::Currency(decimals), 1, answers, sheet),
+            Ok(decimals) => formatted(FormatChoice::Currency(decimals), 1, answers, work.sheet),
             Err(error) => Ok(CommandEnd::Refused(error)),
         },
         RangeAction::Comma => match decimals_of(action, answers) {
-            Ok(decimals) => formatted(FormatChoice::Comma(decimals), 1, answers, sheet),
+            Ok(decimals) => formatted(FormatChoice::Comma(decimals), 1, answers, work.sheet),
             Err(error) => Ok(CommandEnd::Refused(error)),
         },
         RangeAction::Percent => match decimals_of(action, answers) {
-            Ok(decimals) => formatted(FormatChoice::Percent(decimals), 1, answers, sheet),
+            Ok(decimals) => formatted(FormatChoice::Percent(decimals), 1, answers, work.sheet),
             Err(error) => Ok(CommandEnd::Refused(error)),
         },
-        RangeAction::General => formatted(FormatChoice::General, 0, answers, sheet),
-        RangeAction::Text => formatted(FormatChoice::Text, 0, answers, sheet),
-        RangeAction::Hidden => formatted(FormatChoice::Hidden, 0, answers, sheet),
-        RangeAction::Reset => formatted(FormatChoice::Default, 0, answers, sheet),
-        RangeAction::Date1 => formatted(FormatChoice::Date1, 0, answers, sheet),
-        RangeAction::Date2 => formatted(FormatChoice::Date2, 0, answers, sheet),
-        RangeAction::Date3 => formatted(FormatChoice::Date3, 0, answers, sheet),
-        RangeAction::LabelLeft => labelled(LabelPrefix::Left, answers, sheet, scene, tally),
-        RangeAction::LabelRight => labelled(LabelPrefix::Right, answers, sheet, scene, tally),
-        RangeAction::LabelCenter => labelled(LabelPrefix::Center, answers, sheet, scene, tally),
-        RangeAction::NameCreate => create_name(answers, sheet),
-        RangeAction::NameDelete => Ok(delete_name(line_at(answers, 0), sheet)),
-        RangeAction::NameReset => Ok(reset_names(sheet)),
-        RangeAction::Value => valued(Layout::Straight, answers, sheet, scene, tally),
-        RangeAction::Transpose => valued(Layout::Turned, answers, sheet, scene, tally),
+        RangeAction::General => formatted(FormatChoice::General, 0, answers, work.sheet),
+        RangeAction::Text => formatted(FormatChoice::Text, 0, answers, work.sheet),
+        RangeAction::Hidden => formatted(FormatChoice::Hidden, 0, answers, work.sheet),
+        RangeAction::Reset => formatted(FormatChoice::Default, 0, answers, work.sheet),
+        RangeAction::Date1 => formatted(FormatChoice::Date1, 0, answers, work.sheet),
+        RangeAction::Date2 => formatted(FormatChoice::Date2, 0, answers, work.sheet),
+        RangeAction::Date3 => formatted(FormatChoice::Date3, 0, answers, work.sheet),
+        RangeAction::LabelLeft => labelled(LabelPrefix::Left, answers, work),
+        RangeAction::LabelRight => labelled(LabelPrefix::Right, answers, work),
+        RangeAction::LabelCenter => labelled(LabelPrefix::Center, answers, work),
+        RangeAction::NameCreate => create_name(answers, work.sheet),
+        RangeAction::NameDelete => Ok(delete_name(line_at(answers, 0), work.sheet)),
+        RangeAction::NameReset => Ok(reset_names(work.sheet)),
+        RangeAction::Value => valued(Layout::Straight, answers, work),
+        RangeAction::Transpose => valued(Layout::Turned, answers, work),
     }
 }

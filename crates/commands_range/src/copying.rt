@@ -2,8 +2,10 @@
 ghost use Rattle.std.specs.Prelude.{IfOk};
 ghost use Rattle.command_desk.specs.Acting.{HasActedBy};
 ghost use Rattle.commands_range.specs.Commands.{copied, copied_onto};
+ghost use Rattle.commands_range.specs.Works.{HasActedOn};
 ghost use Rattle.sheet_edits.specs.Spans.{target_of};
 
+use crate::work::Work;
 use command_desk::{CommandEnd, settled, span_at};
 use formula_eval::{Scene, Tally};
 use grid_address::Span;
@@ -12,18 +14,11 @@ use session_rooms::Answers;
 use work_sheet::Sheet;
 
 // A span is copied onto another, where the copy lies in the sheet.
-fn copied_onto(
-    from: Span,
-    to: Span,
-    sheet: &mut Sheet,
-    scene: &Scene,
-    tally: &mut Tally,
-) -> Result<CommandEnd, Memory>
-    ensures { let act = copied_onto (target_of from to) from scene.entry.now in
-        IfOk result (λ end. HasActedBy act end sheet.old sheet.new tally.old.count tally.new.count) }
+fn copied_onto(from: Span, to: Span, work: &mut Work<'_>) -> Result<CommandEnd, Memory>
+    ensures { IfOk result (HasActedOn (copied_onto (target_of from to) from) work.old work.new) }
 {
-    let answer = sheet.copy_span(from, to);
-    settled(answer, sheet, scene, tally)
+    let answer = work.sheet.copy_span(from, to);
+    settled(answer, work.sheet, work.scene, work.tally)
 }
 
 /// Carries out Copy: the contents and the formats of the span that the first answer is go to the span that the second
@@ -44,9 +39,21 @@ pub fn copy(
     ensures { IfOk result (λ end. HasActedBy (copied answers.now scene.entry.now)
         end sheet.old sheet.new tally.old.count tally.new.count) }
 {
-    match span_at(sheet.names(), answers, 0) {
-        Ok(from) => match span_at(sheet.names(), answers, 1) {
-            Ok(to) => copied_onto(from, to, sheet, scene, tally),
+    let mut work = Work {
+        sheet,
+        scene,
+        tally,
+    };
+    copy_on(answers, &mut work)
+}
+
+// Carries out Copy.
+fn copy_on(answers: &Answers, work: &mut Work<'_>) -> Result<CommandEnd, Memory>
+    ensures { IfOk result (HasActedOn (copied answers.now) work.old work.new) }
+{
+    match span_at(work.sheet.names(), answers, 0) {
+        Ok(from) => match span_at(work.sheet.names(), answers, 1) {
+            Ok(to) => copied_onto(from, to, work),
             Err(error) => Ok(CommandEnd::Refused(error)),
         },
         Err(error) => Ok(CommandEnd::Refused(error)),

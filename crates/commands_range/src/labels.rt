@@ -1,18 +1,16 @@
 // The labels of a span, and their prefixes.
 ghost use Rattle.std.specs.Prelude.{◌≡◌, ◌++◌, IfOk, OnOk, flat_map};
 ghost use Rattle.std.specs.FinMap as map;
-ghost use Rattle.command_desk.specs.Acting.{HasActed, HasActedBy};
 ghost use Rattle.commands_range.specs.Commands.{labelled, labelled_span, relabelled, relabelled_cell};
-ghost use Rattle.work_sheet.specs.Seen.{of_worksheet};
+ghost use Rattle.commands_range.specs.Works.{HasActedOn};
 
+use crate::work::Work;
 use command_desk::{CommandEnd, settled, span_at};
-use formula_eval::{Scene, Tally};
 use formula_tree::{Content, ContentRef};
 use grid_address::{Cell, Span};
 use lics_text::{LabelPrefix, Memory};
 use session_rooms::Answers;
 use sheet_store::{Store, Write, Writes};
-use work_sheet::Sheet;
 
 // Adds the label that a cell holds, with another prefix.
 fn push_relabelled(
@@ -64,19 +62,12 @@ fn relabelled(store: &Store, prefix: LabelPrefix, span: Span) -> Result<Writes, 
 }
 
 // The labels of a span alone are written.
-fn labelled_span(
-    prefix: LabelPrefix,
-    span: Span,
-    sheet: &mut Sheet,
-    scene: &Scene,
-    tally: &mut Tally,
-) -> Result<CommandEnd, Memory>
-    ensures { IfOk result (λ end. HasActedBy (labelled_span prefix span scene.entry.now)
-        end sheet.old sheet.new tally.old.count tally.new.count) }
+fn labelled_span(prefix: LabelPrefix, span: Span, work: &mut Work<'_>) -> Result<CommandEnd, Memory>
+    ensures { IfOk result (HasActedOn (labelled_span prefix span) work.old work.new) }
 {
-    let writes = relabelled(sheet.cells(), prefix, span)?;
-    let answer = sheet.write(&writes);
-    settled(answer, sheet, scene, tally)
+    let writes = relabelled(work.sheet.cells(), prefix, span)?;
+    let answer = work.sheet.write(&writes);
+    settled(answer, work.sheet, work.scene, work.tally)
 }
 
 /// Gives the labels of the span that the first answer is another prefix, with the errors of `span_at` and then
@@ -84,15 +75,12 @@ fn labelled_span(
 pub fn labelled(
     prefix: LabelPrefix,
     answers: &Answers,
-    sheet: &mut Sheet,
-    scene: &Scene,
-    tally: &mut Tally,
+    work: &mut Work<'_>,
 ) -> Result<CommandEnd, Memory>
-    ensures { IfOk result (λ end. HasActed (labelled answers.now scene.entry.now (of_worksheet sheet.old) prefix)
-        end sheet.old sheet.new tally.old.count tally.new.count) }
+    ensures { IfOk result (HasActedOn (λ scene s. labelled answers.now scene s prefix) work.old work.new) }
 {
-    match span_at(sheet.names(), answers, 0) {
-        Ok(span) => labelled_span(prefix, span, sheet, scene, tally),
+    match span_at(work.sheet.names(), answers, 0) {
+        Ok(span) => labelled_span(prefix, span, work),
         Err(error) => Ok(CommandEnd::Refused(error)),
     }
 }

@@ -8,7 +8,9 @@ mod labels;
 mod moving;
 mod naming;
 mod values;
+mod work;
 
 pub use acting::act;
 pub use copying::copy;
 pub use moving::move_span;
+pub use work::Work;

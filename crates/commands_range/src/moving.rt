@@ -2,8 +2,10 @@
 ghost use Rattle.std.specs.Prelude.{IfOk};
 ghost use Rattle.command_desk.specs.Acting.{moved_by, HasActedBy};
 ghost use Rattle.commands_range.specs.Commands.{moved};
+ghost use Rattle.commands_range.specs.Works.{HasActedOn};
 ghost use Rattle.sheet_shifts.specs.declared.shift.Shift.TheVariants.{Block};
 
+use crate::work::Work;
 use command_desk::{CommandEnd, cell_at, move_cells, span_at};
 use formula_eval::{Scene, Tally};
 use grid_address::{Cell, Span};
@@ -13,18 +15,11 @@ use sheet_shifts::Shift;
 use work_sheet::Sheet;
 
 // A span is moved so that its first corner comes to a cell.
-fn move_to(
-    from: Span,
-    to: Cell,
-    sheet: &mut Sheet,
-    scene: &Scene,
-    tally: &mut Tally,
-) -> Result<CommandEnd, Memory>
-    ensures { IfOk result (λ end. HasActedBy (moved_by (Block from to) scene.entry.now)
-        end sheet.old sheet.new tally.old.count tally.new.count) }
+fn move_to(from: Span, to: Cell, work: &mut Work<'_>) -> Result<CommandEnd, Memory>
+    ensures { IfOk result (HasActedOn (moved_by (Block from to)) work.old work.new) }
 {
     let shift = Shift::Block(from, to);
-    move_cells(&shift, sheet, scene, tally)
+    move_cells(&shift, work.sheet, work.scene, work.tally)
 }
 
 /// Carries out Move: the cells of the span that the first answer is go to the span of its size whose first cell the
@@ -43,9 +38,21 @@ pub fn move_span(
     ensures { IfOk result (λ end. HasActedBy (moved answers.now scene.entry.now)
         end sheet.old sheet.new tally.old.count tally.new.count) }
 {
-    match span_at(sheet.names(), answers, 0) {
-        Ok(from) => match cell_at(sheet.names(), answers, 1) {
-            Ok(to) => move_to(from, to, sheet, scene, tally),
+    let mut work = Work {
+        sheet,
+        scene,
+        tally,
+    };
+    move_on(answers, &mut work)
+}
+
+// Carries out Move.
+fn move_on(answers: &Answers, work: &mut Work<'_>) -> Result<CommandEnd, Memory>
+    ensures { IfOk result (HasActedOn (moved answers.now) work.old work.new) }
+{
+    match span_at(work.sheet.names(), answers, 0) {
+        Ok(from) => match cell_at(work.sheet.names(), answers, 1) {
+            Ok(to) => move_to(from, to, work),
             Err(error) => Ok(CommandEnd::Refused(error)),
         },
         Err(error) => Ok(CommandEnd::Refused(error)),

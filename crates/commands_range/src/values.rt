@@ -1,18 +1,18 @@
 // The values of a span as the contents of others.
 ghost use Rattle.std.specs.Prelude.{◌≡◌, ◌≤◌, ◌<◌, ◌+◌, ◌++◌, ◌∷◌, [], IfOk, IfSome, OnOk, map};
-ghost use Rattle.command_desk.specs.Acting.{HasActed, HasActedBy};
 ghost use Rattle.commands_range.specs.Commands.{valued};
 ghost use Rattle.commands_range.specs.Valued.{cols_in, inside, rows_in, sight_in, source_at, target_of};
 ghost use Rattle.commands_range.specs.Valued.{value_of, valued_from, valued_into, values_of};
+ghost use Rattle.commands_range.specs.Works.{HasActedOn};
 ghost use Rattle.formula_eval.specs.Outlook.{row_cells};
 ghost use Rattle.grid_address.specs.Place.{height_of, width_of};
 ghost use Rattle.sheet_edits.specs.Spans.{block_at};
 ghost use Rattle.work_sheet.specs.Seen.{of_worksheet};
 
+use crate::work::Work;
 use block_writes::{column_at, value_copied};
 use command_desk::{CommandEnd, cell_at, settled, span_at};
 use desk_errors::CommandError;
-use formula_eval::{Scene, Tally};
 use grid_address::{COLUMNS, Cell, ROWS, Span};
 use lics_text::Memory;
 use session_rooms::Answers;
@@ -141,18 +141,15 @@ fn valued_into(
     layout: Layout,
     from: Span,
     target: Span,
-    sheet: &mut Sheet,
-    scene: &Scene,
-    tally: &mut Tally,
+    work: &mut Work<'_>,
 ) -> Result<CommandEnd, Memory>
     requires height { height_of target ≡ rows_in layout from }
     requires width { width_of target ≡ cols_in layout from }
-    ensures { IfOk result (λ end. HasActedBy (valued_into layout from target scene.entry.now)
-        end sheet.old sheet.new tally.old.count tally.new.count) }
+    ensures { IfOk result (HasActedOn (valued_into layout from target) work.old work.new) }
 {
-    let writes = values_of(sheet, layout, from, target)?;
-    let answer = sheet.write(&writes);
-    settled(answer, sheet, scene, tally)
+    let writes = values_of(work.sheet, layout, from, target)?;
+    let answer = work.sheet.write(&writes);
+    settled(answer, work.sheet, work.scene, work.tally)
 }
 
 // The values of a span are written from a cell on.
@@ -160,15 +157,12 @@ fn valued_from(
     layout: Layout,
     from: Span,
     to: Cell,
-    sheet: &mut Sheet,
-    scene: &Scene,
-    tally: &mut Tally,
+    work: &mut Work<'_>,
 ) -> Result<CommandEnd, Memory>
-    ensures { IfOk result (λ end. HasActedBy (valued_from layout from to scene.entry.now)
-        end sheet.old sheet.new tally.old.count tally.new.count) }
+    ensures { IfOk result (HasActedOn (valued_from layout from to) work.old work.new) }
 {
     match target_of(layout, from, to) {
-        Some(target) => valued_into(layout, from, target, sheet, scene, tally),
+        Some(target) => valued_into(layout, from, target, work),
         None => Ok(CommandEnd::Refused(CommandError::OutOfSheet(from))),
     }
 }
@@ -177,19 +171,12 @@ fn valued_from(
 /// is: a text is a label with `'`, ERR is `@ERR` and NA is `@NA`. It is refused by the errors of `span_at` for the
 /// first answer and then for the second; by `OutOfSheet` with the source, where the written span would leave the sheet;
 /// and by `Protected`.
-pub fn valued(
-    layout: Layout,
-    answers: &Answers,
-    sheet: &mut Sheet,
-    scene: &Scene,
-    tally: &mut Tally,
-) -> Result<CommandEnd, Memory>
-    ensures { IfOk result (λ end. HasActed (valued answers.now scene.entry.now (of_worksheet sheet.old) layout)
-        end sheet.old sheet.new tally.old.count tally.new.count) }
+pub fn valued(layout: Layout, answers: &Answers, work: &mut Work<'_>) -> Result<CommandEnd, Memory>
+    ensures { IfOk result (HasActedOn (λ scene s. valued answers.now scene s layout) work.old work.new) }
 {
-    match span_at(sheet.names(), answers, 0) {
-        Ok(from) => match cell_at(sheet.names(), answers, 1) {
-            Ok(to) => valued_from(layout, from, to, sheet, scene, tally),
+    match span_at(work.sheet.names(), answers, 0) {
+        Ok(from) => match cell_at(work.sheet.names(), answers, 1) {
+            Ok(to) => valued_from(layout, from, to, work),
             Err(error) => Ok(CommandEnd::Refused(error)),
         },
         Err(error) => Ok(CommandEnd::Refused(error)),

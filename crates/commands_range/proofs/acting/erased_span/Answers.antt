@@ -1,3 +1,4 @@
+use Rattle.std.specs.Prelude.{refl}
 use Rattle.command_desk.proofs.Edited.{if_ok, edit_acted}
 use Rattle.grid_address.specs.Place.{is_within}
 use Rattle.natural_recalc.proofs.Filled.{has_cells, span_ascends}
@@ -9,7 +10,10 @@ pub returns : goal.returns
 returns c =
     let span = c.args.span in
     if_ok c.settled.result
-    (λ end settles. edit_acted (cells_of span) (is_within span) (span_ascends span) (has_cells span) (erased span) c.args.scene.now
-    c.args.sheet.now c.erase-answer.new.self c.settled.new.sheet c.args.tally.now.count c.settled.new.tally.count
-    c.erase-answer.result end c.erase-answer.ensures.answer c.erase-answer.ensures.did c.erase-answer.ensures.err settles)
+    (λ end settles. record {
+      same = record { sheet = refl; scene = refl; tally = refl };
+      acted = edit_acted (cells_of span) (is_within span) (span_ascends span) (has_cells span) (erased span) c.args.work.now.scene.now
+          c.args.work.now.sheet.now c.erase-answer.new.self c.settled.new.sheet c.args.work.now.tally.now.count c.settled.new.tally.count
+          c.erase-answer.result end c.erase-answer.ensures.answer c.erase-answer.ensures.did c.erase-answer.ensures.err settles;
+    })
     c.settled.ensures

@@ -1,4 +1,4 @@
-use Rattle.std.specs.Prelude.{◌≡◌, List}
+use Rattle.std.specs.Prelude.{refl, ◌≡◌, List}
 use Rattle.std.proofs.Common.{ap, subst, sym, ◌∙◌}
 use Rattle.natural_recalc.proofs.Filled.{span_ascends}
 use Rattle.natural_recalc.specs.Laws.{Ascends}
@@ -17,7 +17,7 @@ use Rattle.commands_range.proofs.values.valued_into.Goals as goal
 
 pub returns : goal.returns
 returns c =
-    let s : Sheet = of_worksheet c.args.sheet.now in
+    let s : Sheet = of_worksheet c.args.work.now.sheet.now in
     let writes : List Write = c.in_ok-writes.writes in
     let cells : List Place = cells_of c.args.target in
     let are : List Write = values_of c.args.layout c.args.from c.args.target (sight_in s) in
@@ -26,11 +26,14 @@ returns c =
     ap (λ (l : List Write). written_cells l) is ∙ written_are c.args.layout c.args.from c.args.target (sight_in s) in
     let ascends : Ascends cells = span_ascends c.args.target in
     if_ok c.settled.result
-    (λ end settles. subst
-    (λ (l : List Write). HasActed (written cells (all_written l s) c.args.scene.now s) end
-    c.args.sheet.now c.settled.new.sheet c.args.tally.now.count c.settled.new.tally.count) is
-    (edit_acted cells (has same_place (written_cells writes)) ascends
-    (λ x. ap (λ (l : List Place). has same_place l x) (sym all)) (all_written writes) c.args.scene.now
-    c.args.sheet.now c.write-answer.new.self c.settled.new.sheet c.args.tally.now.count c.settled.new.tally.count
-    c.write-answer.result end c.write-answer.ensures.answer c.write-answer.ensures.did c.write-answer.ensures.err settles))
+    (λ end settles. record {
+      same = record { sheet = refl; scene = refl; tally = refl };
+      acted = subst
+          (λ (l : List Write). HasActed (written cells (all_written l s) c.args.work.now.scene.now s) end
+          c.args.work.now.sheet.now c.settled.new.sheet c.args.work.now.tally.now.count c.settled.new.tally.count) is
+          (edit_acted cells (has same_place (written_cells writes)) ascends
+          (λ x. ap (λ (l : List Place). has same_place l x) (sym all)) (all_written writes) c.args.work.now.scene.now
+          c.args.work.now.sheet.now c.write-answer.new.self c.settled.new.sheet c.args.work.now.tally.now.count c.settled.new.tally.count
+          c.write-answer.result end c.write-answer.ensures.answer c.write-answer.ensures.did c.write-answer.ensures.err settles);
+    })
     c.settled.ensures
