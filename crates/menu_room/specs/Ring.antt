@@ -1,15 +1,6 @@
--- A highlight among items: how keys move it, and how the items are shown.
-use Rattle.std.specs.Prelude.{ℕ, ◌+◌, ◌-◌, Bool, true, false, nat_eq, nat_lt, List, [], ◌∷◌, ◌++◌, codes, if◌then◌else◌}
-use Rattle.key_words.specs.declared.key.Key.{Key}
-use Rattle.key_words.specs.declared.key.Key.TheVariants as key
-
--- LEFT and RIGHT move it in a ring of so many items, HOME and END go to the ends
-abbrev pub highlighted : Key → ℕ → ℕ → ℕ
-highlighted key.Left count h = if nat_eq h 0 then count - 1 else h - 1
-highlighted key.Right count h = if nat_lt (h + 1) count then h + 1 else 0
-highlighted key.Home count h = 0
-highlighted key.End count h = count - 1
-highlighted k count h = h
+-- How the items of a menu are shown, of which one is highlighted.
+use Rattle.std.specs.Prelude.{ℕ, ◌+◌, Bool, true, false, nat_eq, List, [], ◌∷◌, ◌++◌, codes}
+pub use Rattle.item_ring.specs.Ring.{highlighted}
 
 -- a name between brackets where it is highlighted, and else between spaces
 abbrev pub marked : Bool → List ℕ → List ℕ

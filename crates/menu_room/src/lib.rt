@@ -3,7 +3,6 @@
 
 mod lines;
 mod menu;
-mod ring;
 
+pub use item_ring::highlighted;
 pub use menu::{menu_or_ready, opened, panel, press};
-pub use ring::highlighted;

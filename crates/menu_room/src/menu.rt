@@ -4,8 +4,8 @@ ghost use Rattle.menu_room.specs.Room.{highlight_after, menu_or_ready, names_bel
 ghost use Rattle.menu_tree.specs.Tree.{item_name};
 
 use crate::lines::{items_line, listed};
-use crate::ring::highlighted;
 use control_panel::{Mode, Panel};
+use item_ring::highlighted;
 use key_words::Key;
 use menu_tree::{Item, Menu, choose, items, parent};
 use session_rooms::{AnsweredCommand, Answers, MenuRoom, Room, Turn};

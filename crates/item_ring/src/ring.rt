@@ -1,6 +1,6 @@
 // A highlight among items.
 ghost use Rattle.std.specs.Prelude.{◌≡◌};
-ghost use Rattle.menu_room.specs.Ring.{highlighted};
+ghost use Rattle.item_ring.specs.Ring.{highlighted};
 
 use key_words::Key;
 
