@@ -37,7 +37,8 @@ pub record Caught : Type 0 where
   pub running : Option Running
   pub done : Done
 
--- the macro goes on at the place for errors, in the calls and loops that it was in, and has none any more
+-- the macro goes on at the place for errors, in the calls and loops that it was in, waits for nothing, and has no such
+-- place any more
 abbrev pub gone_on : Running → Handler → Running
 gone_on r h = going (start_of h.place) (record r { handler = None })
 

@@ -12,6 +12,8 @@ use Rattle.macro_text.specs.declared.unit.Unit.TheVariants as unit
 use Rattle.macro_words.specs.Moves.{moved}
 use Rattle.macro_words.specs.Rows.{return_row, row, Row}
 use Rattle.macro_words.specs.declared.running.Deed.{Deed}
+use Rattle.macro_words.specs.declared.running.Move.{Move}
+use Rattle.macro_words.specs.declared.running.Move.TheVariants as move
 use Rattle.macro_words.specs.declared.running.Running.{Running}
 use Rattle.range_names.specs.Names.{NameMap}
 use Rattle.work_sheet.specs.Did.{Did}
@@ -20,7 +22,7 @@ use Rattle.work_sheet.specs.Seen.{Sheet}
 use Rattle.work_sheet.specs.Sheets.{Worksheet}
 use Rattle.macro_engine.specs.Changes.{changed, changed_cells, first_protected, outlook_in}
 use Rattle.macro_engine.specs.declared.steps.StepEnd.{StepEnd}
-use Rattle.macro_engine.specs.declared.steps.StepEnd.TheVariants.{Faulty, Refused, Types, Works}
+use Rattle.macro_engine.specs.declared.steps.StepEnd.TheVariants.{Faulty, Indicates, Refused, Types, Works}
 
 -- what a step came to, the macro behind it, which stopped where there is none, and what was done to the sheet
 pub record MacroStep : Type 0 where
@@ -41,10 +43,15 @@ abbrev pub unless_protected : Option Place → MacroStep → Running → Sheet �
 unless_protected None step r s = step
 unless_protected (Some c) step r s = idle (Refused c) r s
 
+-- what a word comes to: it may have a text for the mode's place
+abbrev pub ended : Move → StepEnd
+ended (move.Indicate t) = Indicates t
+ended _ = Works
+
 -- a word changes the sheet, and moves the macro
 abbrev pub deed_step : Scene → Running → Deed → Sheet → MacroStep
 deed_step scene r d s = unless_protected (first_protected s (changed_cells d.change))
-    (record { end = Works; running = moved d.after r; done = changed scene d.change s }) r s
+    (record { end = ended d.after; running = moved d.after r; done = changed scene d.change s }) r s
 
 -- what the word in a cell does, or its fault
 abbrev pub row_step : Scene → Running → Place → Row → Sheet → MacroStep

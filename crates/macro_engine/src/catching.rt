@@ -3,6 +3,7 @@ ghost use Rattle.std.specs.Prelude.{◌≡◌, IfOk, None, OnOk, Some};
 ghost use Rattle.lics_text.specs.Bytes.{IsText};
 ghost use Rattle.macro_text.specs.Units.{at_spot, start_of};
 ghost use Rattle.macro_engine.specs.Catching as spec;
+ghost use Rattle.macro_words.specs.declared.waiting.Waiting.TheVariants as waiting;
 ghost use Rattle.macro_engine.specs.Catching.{HasCaught};
 ghost use Rattle.work_sheet.specs.Did.{Did};
 ghost use Rattle.work_sheet.specs.Seen.{of_worksheet};
@@ -14,7 +15,7 @@ use formula_tree::Content;
 use grid_address::Cell;
 use lics_text::{LabelPrefix, Memory, Text};
 use macro_text::Position;
-use macro_words::{Change, Frames, Running, start_of};
+use macro_words::{Change, Frames, Running, Switches, Waiting, start_of};
 use sheet_store::Writes;
 use work_sheet::Sheet;
 
@@ -59,15 +60,23 @@ fn tell(
     }
 }
 
-// The macro goes on at its place for errors, in its calls and loops, and has none any more.
-fn gone_on(frames: Frames, place: Cell) -> Running
-    ensures { result ≡ record { position = at_spot (start_of place); frames = frames; handler = None } }
+// The macro goes on at its place for errors, in its calls and loops, waits for nothing, and has no such place any more.
+fn gone_on(frames: Frames, switches: Switches, place: Cell) -> Running
+    ensures { result ≡ record {
+      position = at_spot (start_of place);
+      frames = frames;
+      handler = None;
+      waiting = waiting.Nothing;
+      switches = switches;
+    } }
 {
     let spot = start_of(place);
     Running {
         position: Position { spot, typed: 0 },
         frames,
         handler: None,
+        waiting: Waiting::Nothing,
+        switches,
     }
 }
 
@@ -87,11 +96,14 @@ pub fn caught(
         position: _,
         frames,
         handler,
+        waiting,
+        switches,
     } = running;
+    drop(waiting);
     let Some(handler) = handler else {
         drop(frames);
         return Ok(None);
     };
     tell(message, handler.message, sheet, scene, tally)?;
-    Ok(Some(gone_on(frames, handler.place)))
+    Ok(Some(gone_on(frames, switches, handler.place)))
 }

@@ -1,21 +1,22 @@
 // The engine.
-ghost use Rattle.std.specs.Prelude.{◌≡◌, is_some, IfOk, None, OnErr, OnOk, Some};
+ghost use Rattle.std.specs.Prelude.{◌≡◌, is_some, option_copied, IfOk, None, OnErr, OnOk, Some};
 ghost use Rattle.lics_text.specs.Bytes.{IsText};
 ghost use Rattle.macro_engine.specs.Catching as catching;
 ghost use Rattle.macro_engine.specs.Catching.{HasCaught};
+ghost use Rattle.macro_engine.specs.Keys as keys;
 ghost use Rattle.macro_engine.specs.Steps as spec;
 ghost use Rattle.macro_engine.specs.Steps.{HasStepped};
 ghost use Rattle.macro_words.specs.Moves.{begun_at};
 ghost use Rattle.work_sheet.specs.Seen.{of_worksheet};
 
 use crate::catching::caught;
-use crate::steps::{StepEnd, stepped};
+use crate::steps::{StepEnd, key_stepped, stepped};
 use formula_eval::{Scene, Tally};
 use grid_address::Cell;
-use key_words::Letter;
+use key_words::{Key, Letter};
 use lics_text::Memory;
 use macro_text::{KeptWords, named_span};
-use macro_words::Running;
+use macro_words::{Running, Waiting};
 use range_names::Names;
 use std::alloc::Global;
 use std::marker::Model;
@@ -29,6 +30,27 @@ pub fn macro_named(names: &Names, letter: Letter) -> Option<Cell>
     match named_span(names, &[b'\\', letter.get()]) {
         Some(span) => Some(span.first),
         None => None,
+    }
+}
+
+// Whether a key is waited for.
+fn is_for_key(waiting: &Waiting) -> bool
+    ensures { result ≡ keys.is_for_key waiting.now }
+{
+    match waiting {
+        Waiting::Nothing | Waiting::Time(_) => false,
+        Waiting::OneKey(_) | Waiting::Line(_) | Waiting::Item(_) | Waiting::Enter => true,
+    }
+}
+
+// Whether a key is the macro's own, by what it waits for.
+fn is_own(key: &Key, waiting: &Waiting) -> bool
+    ensures { result ≡ keys.is_own key.now waiting.now }
+{
+    match waiting {
+        Waiting::Nothing | Waiting::Time(_) => false,
+        Waiting::OneKey(_) | Waiting::Line(_) | Waiting::Item(_) => true,
+        Waiting::Enter => matches!(key, Key::Enter | Key::Undo),
     }
 }
 
@@ -68,6 +90,13 @@ impl Engine {
         self.running.is_some()
     }
 
+    /// The macro that runs, if one does.
+    pub fn running(&self) -> Option<&Running>
+        ensures { option_copied result ≡ self.now }
+    {
+        self.running.as_ref()
+    }
+
     /// Begins a macro at a cell, in no call and no loop, and with no place for errors.
     pub fn start(&mut self, cell: Cell)
         ensures { self.new ≡ Some (begun_at cell) }
@@ -80,6 +109,39 @@ impl Engine {
         ensures { self.new ≡ None }
     {
         self.running = None;
+    }
+
+    /// Stops the macro, unless it has switched BREAK off.
+    pub fn break_off(&mut self)
+        ensures { self.new ≡ keys.broken_off self.old }
+    {
+        let stops = match &self.running {
+            Some(running) => running.switches.breaks,
+            None => false,
+        };
+        if stops {
+            self.stop();
+        }
+    }
+
+    /// Whether a macro runs that waits for a key.
+    pub fn awaits_key(&self) -> bool
+        ensures { result ≡ keys.awaits_key self.now }
+    {
+        match &self.running {
+            Some(running) => is_for_key(&running.waiting),
+            None => false,
+        }
+    }
+
+    /// Whether a macro runs that takes the key itself: while `?` hands the keys on, Enter and UNDO alone.
+    pub fn takes_key(&self, key: &Key) -> bool
+        ensures { result ≡ keys.takes_key key.now self.now }
+    {
+        match &self.running {
+            Some(running) => is_own(key, &running.waiting),
+            None => false,
+        }
     }
 
     /// Whether a macro runs that has a place for errors.
@@ -114,6 +176,30 @@ impl Engine {
             return Ok(StepEnd::Works);
         };
         let (end, next) = stepped(running, &mut self.kept, sheet, scene, tally)?;
+        self.running = next;
+        Ok(end)
+    }
+
+    /// A key that the macro takes which waits for one, by the sheet as it now stands: a row of the words that wait.
+    /// In Automatic mode a recalculation follows where it writes a cell; a protected one is refused, and the macro
+    /// then waits for nothing. A fault's cell is that of the word that waited. After `Memory` no macro runs, and the
+    /// sheet is open but for what it keeps.
+    #[tactic(auto, unfolding(crate::specs::Keys::key_step))]
+    pub fn answer(
+        &mut self,
+        key: Key,
+        sheet: &mut Sheet,
+        scene: &Scene,
+        tally: &mut Tally,
+    ) -> Result<StepEnd, Memory>
+        ensures step { let step = keys.key_step scene.entry.now key self.old (of_worksheet sheet.old) in IfOk result
+            (λ end. HasStepped step end self.new sheet.old sheet.new tally.old.count tally.new.count) }
+        ensures memory { OnErr result (self.new ≡ None) }
+    {
+        let Some(running) = self.running.take() else {
+            return Ok(StepEnd::Works);
+        };
+        let (end, next) = key_stepped(running, key, sheet, scene, tally)?;
         self.running = next;
         Ok(end)
     }

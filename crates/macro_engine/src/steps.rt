@@ -1,5 +1,6 @@
 // One step of a macro that runs.
 ghost use Rattle.std.specs.Prelude.{◌≡◌, IfOk, Some};
+ghost use Rattle.macro_engine.specs.Keys as keys;
 ghost use Rattle.macro_engine.specs.Steps as spec;
 ghost use Rattle.macro_engine.specs.Steps.{HasStepped};
 ghost use Rattle.macro_words.specs.Moves as moving;
@@ -9,18 +10,21 @@ use crate::changes::carry_out;
 use formula_eval::{Scene, Tally};
 use grid_address::Cell;
 use key_words::Key;
-use lics_text::Memory;
+use lics_text::{Memory, Text};
 use macro_text::{KeptWords, MacroFault, Position, Unit, next_unit};
-use macro_words::{Deed, Move, Row, Running, return_row, row};
+use macro_words::{Deed, Move, Row, Running, Waiting, key_row, return_row, row};
+use std::mem;
 use work_sheet::Sheet;
 
 /// What a step of a macro comes to.
-#[derive(Clone, Copy)]
+#[derive(Drop)]
 pub enum StepEnd {
     /// A key is typed, as by hand.
     Types(Key),
     /// A word was carried out, the macro went to the cell below or returned, or it ended.
     Works,
+    /// The same, and this text is shown in the mode's place, or with an empty one the mode again.
+    Indicates(Text),
     /// The macro stopped with a fault of the word in this cell.
     Faulty(MacroFault, Cell),
     /// This cell was to be written and is protected.
@@ -42,6 +46,16 @@ fn moved(mut running: Running, after: Move) -> Result<Option<Running>, Memory>
     }
 }
 
+// What a word comes to that was carried out, and the macro behind it.
+fn done(running: Running, after: Move) -> Result<Stepped, Memory>
+    ensures { IfOk result (λ x. (x.0 ≡ spec.ended after) × (x.1 ≡ moving.moved after running)) }
+{
+    match after {
+        Move::Indicate(text) => Ok((StepEnd::Indicates(text), Some(running))),
+        _ => Ok((StepEnd::Works, moved(running, after)?)),
+    }
+}
+
 // A deed of a word.
 fn deed_stepped(
     running: Running,
@@ -57,8 +71,11 @@ fn deed_stepped(
     let refused = carry_out(&change, sheet, scene, tally)?;
     drop(change);
     match refused {
-        Some(cell) => Ok((StepEnd::Refused(cell), Some(running))),
-        None => Ok((StepEnd::Works, moved(running, after)?)),
+        Some(cell) => {
+            drop(after);
+            Ok((StepEnd::Refused(cell), Some(running)))
+        }
+        None => done(running, after),
     }
 }
 
@@ -130,11 +147,15 @@ fn placed(running: Running, position: Position) -> Running
         position: _,
         frames,
         handler,
+        waiting,
+        switches,
     } = running;
     Running {
         position,
         frames,
         handler,
+        waiting,
+        switches,
     }
 }
 
@@ -152,4 +173,22 @@ pub fn stepped(
 {
     let (unit, position) = next_unit(sheet.alloc(), sheet, scene, kept, &running.position)?;
     unit_stepped(placed(running, position), &unit, sheet, scene, tally)
+}
+
+/// A key that a macro takes which waits: what it comes to, and the macro behind it.
+#[tactic(auto, unfolding(crate::specs::Keys::key_step))]
+pub fn key_stepped(
+    mut running: Running,
+    key: Key,
+    sheet: &mut Sheet,
+    scene: &Scene,
+    tally: &mut Tally,
+) -> Result<Stepped, Memory>
+    ensures { let step = keys.key_step scene.entry.now key (Some running) (of_worksheet sheet.old) in
+        IfOk result (λ x. HasStepped step x.0 x.1 sheet.old sheet.new tally.old.count tally.new.count) }
+{
+    let waiting = mem::replace(&mut running.waiting, Waiting::Nothing);
+    let cell = cell_of(&running);
+    let row = key_row(sheet.alloc(), sheet, scene, &running, waiting, key)?;
+    row_stepped(running, cell, row, sheet, scene, tally)
 }

@@ -1,3 +1,5 @@
+pub mod Items
+pub mod Keys
 pub mod Moves
 pub mod Rows
 pub mod Shown

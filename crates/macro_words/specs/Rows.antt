@@ -3,6 +3,7 @@ use Rattle.std.specs.Prelude.{ℕ, zero, ℤ, pos, ◌+◌, ◌&&◌, nat_le, na
 use Rattle.std.specs.Int.RustNames.{int_lt}
 use Rattle.at_functions.specs.Numbers.{count_of}
 use Rattle.block_writes.specs.Writing.{as_content, written}
+use Rattle.entry_line.specs.Line.{nothing}
 use Rattle.formula_eval.specs.Outlook.{Outlook}
 use Rattle.formula_text.specs.Words.{named_span}
 use Rattle.formula_tree.specs.Tree.{Tree}
@@ -20,7 +21,9 @@ use Rattle.range_names.specs.Names.{NameMap}
 use Rattle.sheet_store.specs.declared.own_width.TheConstants.{MOST_WIDTH}
 use Rattle.sheet_store.specs.declared.writes.Write.{Write}
 use Rattle.value_functions.specs.Operators.{binary_value}
+use Rattle.value_functions.specs.Scalars.{now_value}
 use Rattle.value_functions.specs.Values.{text_in}
+use Rattle.macro_words.specs.Items.{items_at}
 use Rattle.macro_words.specs.Moves.{below, innermost}
 use Rattle.macro_words.specs.Shown.{shown_cell}
 use Rattle.macro_words.specs.Values.{as_string, as_value, ends_in, label, let_value, without}
@@ -33,6 +36,11 @@ use Rattle.macro_words.specs.declared.running.Move.{Move}
 use Rattle.macro_words.specs.declared.running.Move.TheVariants as move
 use Rattle.macro_words.specs.declared.running.Running.{Running}
 use Rattle.macro_words.specs.declared.running.Sweep.{Sweep}
+use Rattle.macro_words.specs.declared.waiting.Switches.{Switches}
+use Rattle.macro_words.specs.declared.waiting.Waiting.{Waiting}
+use Rattle.macro_words.specs.declared.waiting.Waiting.TheVariants as waiting
+use Rattle.macro_words.specs.declared.waiting.Wanted.{Wanted}
+use Rattle.macro_words.specs.declared.waiting.Wanted.TheVariants as wanted
 use Rattle.macro_text.specs.Arguments.{expression_value, formula_in, number_of}
 use Rattle.macro_text.specs.Listed.{arguments_of, ends_quoted}
 use Rattle.macro_text.specs.Ranges.{place_of, range_of}
@@ -119,9 +127,13 @@ most_frames = 31
 abbrev pub has_room : Running → Bool
 has_room r = nat_lt (length r.frames) most_frames
 
+-- the word at a place calls the routine at another
+abbrev pub calls_at : Running → Spot → Spot → Row
+calls_at r at s = if has_room r then moves (move.Call at s) else Err TooDeep
+
 -- the word at a place calls a cell's routine
 abbrev pub calls : Running → Spot → Place → Row
-calls r at c = if has_room r then moves (move.Call at (start_of c)) else Err TooDeep
+calls r at c = calls_at r at (start_of c)
 
 -- a name calls the routine of its first cell
 abbrev pub call_row : Running → Spot → Option Extent → Row
@@ -163,7 +175,7 @@ is_true _ = false
 abbrev pub if_row : Outlook → Spot → List (List ℕ) → Row
 if_row w at args =
     on_some (expression_value w at.cell (arg args 0)) (λ v.
-    moves (if is_true v then move.Stay else move.Go (below at.cell)))
+    moves (if is_true v then move.Stay else move.Go (below 1 at.cell)))
 
 -- a loop begins where its first count isn't past the bound
 abbrev pub begins : Running → ℤ → Loop → Row
@@ -313,6 +325,91 @@ define_row w r at args =
     on_some (given_at w (present_call r.frames)) (λ given.
     on_some (defined_all w at.cell args given) (λ ws. puts ws move.Stay))
 
+-- ---- waiting
+
+-- the macro waits for this
+abbrev pub awaits : Waiting → Row
+awaits x = moves (move.Wait x)
+
+-- a text, as LET takes one
+abbrev pub on_text : Outlook → Place → List ℕ → (List ℕ → Row) → Row
+on_text w at text f = on_some (text_in (let_value w at text)) f
+
+-- GET
+abbrev pub get_row : Outlook → List (List ℕ) → Row
+get_row w args = on_place w (arg args 0) (λ c. awaits (waiting.OneKey c))
+
+-- GETLABEL and GETNUMBER
+abbrev pub question_row : Outlook → Spot → Wanted → List (List ℕ) → Row
+question_row w at wanted args =
+    on_text w at.cell (arg args 0) (λ prompt. on_place w (arg args 1) (λ c.
+    awaits (waiting.Line (record { prompt = prompt; line = nothing; target = c; wanted = wanted }))))
+
+-- LOOK: no key ever waits to be looked at
+abbrev pub look_row : Outlook → List (List ℕ) → Row
+look_row w args = on_place w (arg args 0) (λ c. puts_value c (value.Str []) move.Stay)
+
+-- a menu of so many items, of which the first is highlighted
+abbrev pub offers : Place → ℕ → Option Spot → Row
+offers c count caller =
+    if nat_lt 0 count
+    then awaits (waiting.Item (record { first = c; count = count; highlight = 0; caller = caller }))
+    else Err NotText
+
+-- MENUBRANCH, and by the place of its word MENUCALL
+abbrev pub menu_row : Outlook → Option Spot → List (List ℕ) → Row
+menu_row w caller args = on_place w (arg args 0) (λ c. offers c (items_at w.sight c) caller)
+
+-- a number is below another; what is no number never is
+abbrev pub is_before : Value → ℤ → Bool
+is_before (value.Num now) n = int_lt now n
+is_before value.Blank n = false
+is_before (value.Str t) n = false
+is_before value.Err n = false
+is_before value.Na n = false
+
+-- the number of the word that is waited at
+abbrev pub number_kept : Waiting → Option ℤ
+number_kept (waiting.Time n) = Some n
+number_kept _ = None
+
+-- the number is read at the word's first step
+abbrev pub kept_or_read : Outlook → Spot → List (List ℕ) → Option ℤ → Option ℤ
+kept_or_read w at args (Some n) = Some n
+kept_or_read w at args None = number_of w at.cell (arg args 0)
+
+-- the macro stays at the word while @NOW is below the number, and then goes on behind it
+abbrev pub pauses : Outlook → Running → Spot → ℤ → Row
+pauses w r at n =
+    moves (if is_before (now_value w.day w.second) n then move.Pause at n else move.Go r.position.spot)
+
+-- WAIT
+abbrev pub wait_row : Outlook → Running → Spot → List (List ℕ) → Row
+wait_row w r at args = on_some (kept_or_read w at args (number_kept r.waiting)) (pauses w r at)
+
+-- ---- the switches, and the text in the mode's place
+
+-- INDICATE: without an argument the mode is shown again
+abbrev pub indicate_row : Outlook → Spot → List (List ℕ) → Row
+indicate_row w at args =
+    if nat_lt 0 (length args)
+    then on_text w at.cell (arg args 0) (λ t. moves (move.Indicate t))
+    else moves (move.Indicate [])
+
+-- what is on behind a word that switches
+abbrev pub switches_by : Command → Switches → Switches
+switches_by command.PanelOn x = record x { panel = true }
+switches_by command.PanelOff x = record x { panel = false }
+switches_by command.WindowsOn x = record x { windows = true }
+switches_by command.WindowsOff x = record x { windows = false }
+switches_by command.BreakOn x = record x { breaks = true }
+switches_by command.BreakOff x = record x { breaks = false }
+switches_by _ x = x
+
+-- PANELON, PANELOFF, WINDOWSON, WINDOWSOFF, BREAKON and BREAKOFF
+abbrev pub switch_row : Running → Command → Row
+switch_row r c = moves (move.Switch (switches_by c r.switches))
+
 -- ---- recalculation of a range
 
 -- with a condition and no number the passes are at most so many
@@ -363,6 +460,14 @@ counts command.Contents = (2, 4)
 counts command.OnError = (1, 2)
 counts command.Recalc = (1, 3)
 counts command.RecalcCol = (1, 3)
+counts command.Get = (1, 1)
+counts command.GetLabel = (2, 2)
+counts command.GetNumber = (2, 2)
+counts command.Look = (1, 1)
+counts command.MenuBranch = (1, 1)
+counts command.MenuCall = (1, 1)
+counts command.Wait = (1, 1)
+counts command.Indicate = (0, 1)
 counts _ = (0, 0)
 
 -- a command with as many arguments as it takes
@@ -383,6 +488,22 @@ command_row w global r at command.Contents args = contents_row w global at args
 command_row w global r at command.OnError args = onerror_row w args
 command_row w global r at command.Recalc args = recalc_row w at false args
 command_row w global r at command.RecalcCol args = recalc_row w at true args
+command_row w global r at command.Get args = get_row w args
+command_row w global r at command.GetLabel args = question_row w at wanted.Label args
+command_row w global r at command.GetNumber args = question_row w at wanted.Number args
+command_row w global r at command.Look args = look_row w args
+command_row w global r at command.MenuBranch args = menu_row w None args
+command_row w global r at command.MenuCall args = menu_row w (Some at) args
+command_row w global r at command.Wait args = wait_row w r at args
+command_row w global r at command.Interact args = awaits waiting.Enter
+command_row w global r at command.Beep args = moves move.Stay
+command_row w global r at command.Indicate args = indicate_row w at args
+command_row w global r at command.PanelOn args = switch_row r command.PanelOn
+command_row w global r at command.PanelOff args = switch_row r command.PanelOff
+command_row w global r at command.WindowsOn args = switch_row r command.WindowsOn
+command_row w global r at command.WindowsOff args = switch_row r command.WindowsOff
+command_row w global r at command.BreakOn args = switch_row r command.BreakOn
+command_row w global r at command.BreakOff args = switch_row r command.BreakOff
 command_row w global r at _ args = bad
 
 -- within the fewest and the most

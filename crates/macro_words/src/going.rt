@@ -2,9 +2,11 @@
 ghost use Rattle.std.specs.Prelude.{◌≡◌, IfOk, OnOk, Some, None, true, false};
 ghost use Rattle.macro_words.specs.Moves as spec;
 ghost use Rattle.macro_words.specs.declared.frames.Frame.TheVariants as frame;
+ghost use Rattle.macro_words.specs.declared.waiting.Waiting.TheVariants as waiting;
 ghost use Rattle.macro_text.specs.Units.{at_spot, start_of};
 
-use crate::{Frame, Frames, Loop, Move, Running};
+use crate::{Frame, Frames, Loop, Move, Running, Switches, Waiting};
+use fixed_value::Fixed;
 use grid_address::Cell;
 use lics_text::Memory;
 use macro_text::{Position, Spot};
@@ -24,8 +26,15 @@ pub fn start_of(cell: Cell) -> Spot
     Spot { cell, offset: 0 }
 }
 
+/// All is on.
+pub const ALL_ON: Switches = Switches {
+    panel: true,
+    windows: true,
+    breaks: true,
+};
+
 impl Running {
-    /// A macro that begins at a cell, in no call and no loop.
+    /// A macro that begins at a cell, in no call and no loop, with no place for errors, and with all on.
     pub fn begun_at(alloc: Global, cell: Cell) -> Running
         ensures { result ≡ spec.begun_at cell }
     {
@@ -33,14 +42,33 @@ impl Running {
             position: at_spot(start_of(cell)),
             frames: Frames::new(alloc),
             handler: None,
+            waiting: Waiting::Nothing,
+            switches: ALL_ON,
         }
     }
 
-    // It goes on at a place.
+    // It goes on at a place, and waits for nothing.
     fn go(&mut self, spot: Spot)
         ensures { self.new ≡ spec.going spot self.old }
     {
         self.position = at_spot(spot);
+        self.waiting = Waiting::Nothing;
+    }
+
+    // It leaves the innermost call or loop for a place.
+    fn leave(&mut self, spot: Spot)
+        ensures { self.new ≡ spec.going spot (record self.old { frames = spec.outer self.old.frames }) }
+    {
+        self.frames.leave();
+        self.go(spot);
+    }
+
+    // It stays at a word until a time.
+    fn pause(&mut self, spot: Spot, number: Fixed)
+        ensures { self.new ≡ record self.old { position = at_spot spot; waiting = waiting.Time number } }
+    {
+        self.position = at_spot(spot);
+        self.waiting = Waiting::Time(number);
     }
 
     // One frame more, and it goes on at a place.
@@ -48,7 +76,7 @@ impl Running {
         ensures { OnOk result (self.new ≡ spec.entering frame spot self.old) }
     {
         self.frames.push(frame)?;
-        self.position = at_spot(spot);
+        self.go(spot);
         Ok(())
     }
 
@@ -74,18 +102,44 @@ impl Running {
         ensures stops { IfOk result (λ b. b ≡ false → spec.moved after self.old ≡ None) }
     {
         match after {
-            Move::Stay => {}
-            Move::Go(spot) => self.go(spot),
-            Move::Call(word, spot) => self.call(word, spot)?,
-            Move::Begin(begun) => self.begin(begun)?,
-            Move::Leave(spot) => {
-                self.frames.leave();
+            Move::Stay | Move::Indicate(_) => Ok(true),
+            Move::Stop => Ok(false),
+            Move::Go(spot) => {
                 self.go(spot);
+                Ok(true)
             }
-            Move::Forget => self.frames.clear(),
-            Move::Stop => return Ok(false),
-            Move::Handle(handler) => self.handler = Some(handler),
+            Move::Call(word, spot) => {
+                self.call(word, spot)?;
+                Ok(true)
+            }
+            Move::Begin(begun) => {
+                self.begin(begun)?;
+                Ok(true)
+            }
+            Move::Leave(spot) => {
+                self.leave(spot);
+                Ok(true)
+            }
+            Move::Forget => {
+                self.frames.clear();
+                Ok(true)
+            }
+            Move::Handle(handler) => {
+                self.handler = Some(handler);
+                Ok(true)
+            }
+            Move::Wait(waiting) => {
+                self.waiting = waiting;
+                Ok(true)
+            }
+            Move::Pause(spot, number) => {
+                self.pause(spot, number);
+                Ok(true)
+            }
+            Move::Switch(switches) => {
+                self.switches = switches;
+                Ok(true)
+            }
         }
-        Ok(true)
     }
 }

@@ -1,20 +1,27 @@
 //! What the words of a macro do: a row for each, as the sheet and the macro now stand.
 #![tactic(auto)]
 
+mod asking;
 mod define;
 mod frames;
 mod going;
+mod items;
+mod keys;
 mod looping;
 mod rows;
 mod running;
 mod shown;
 mod table;
 mod values;
+mod waiting;
 mod writing;
 
 pub use frames::{Frame, Frames, Loop};
-pub use going::start_of;
+pub use going::{ALL_ON, start_of};
+pub use items::{beside, item_text};
+pub use keys::key_row;
 pub use looping::return_row;
 pub use rows::{is_true, moves};
 pub use running::{Change, Deed, Handler, Move, Row, Running, Sweep};
 pub use table::row;
+pub use waiting::{MacroMenu, Question, Switches, Waiting, Wanted};

@@ -8,7 +8,7 @@ use crate::going::start_of;
 use crate::{Change, Deed, Handler, Move, Row, Running};
 use formula_eval::{Look, Scene};
 use formula_tree::Value;
-use grid_address::{Cell, LAST_ROW, Span};
+use grid_address::{Cell, LAST_ROW, ROWS, Span};
 use lics_text::Memory;
 use macro_text::{MacroFault, Spot, TextList, expression_value, place_of, text_in};
 use std::alloc::Global;
@@ -73,15 +73,22 @@ pub fn has_room(running: &Running) -> bool
     running.frames.len() < MOST_FRAMES
 }
 
+/// A call of the routine at a place, by the word at another.
+pub fn calls_at(running: &Running, at: &Spot, spot: Spot) -> Row
+    ensures { result ≡ spec.calls_at running.now at.now spot }
+{
+    if has_room(running) {
+        moves(Move::Call(*at, spot))
+    } else {
+        Err(MacroFault::TooDeep)
+    }
+}
+
 /// A call of a cell's routine, by the word at a place.
 pub fn calls(running: &Running, at: &Spot, cell: Cell) -> Row
     ensures { result ≡ spec.calls running.now at.now cell }
 {
-    if has_room(running) {
-        moves(Move::Call(*at, start_of(cell)))
-    } else {
-        Err(MacroFault::TooDeep)
-    }
+    calls_at(running, at, start_of(cell))
 }
 
 /// A call of a name.
@@ -97,18 +104,19 @@ pub fn call_row(running: &Running, at: &Spot, span: Option<Span>) -> Row
 // Behind every text.
 const BEHIND_ALL: usize = 240;
 
-// The cell below, or below the last row a place at which the macro returns.
-fn below(cell: Cell) -> Spot
-    ensures { result ≡ moving.below cell }
+/// So many rows below a cell, or below the last row a place of its column at which the macro returns.
+pub fn below(rows: u8, cell: Cell) -> Spot
+    ensures { result ≡ moving.below rows cell }
 {
-    if cell.row < LAST_ROW {
-        start_of(Cell {
-            row: cell.row + 1,
-            col: cell.col,
-        })
+    let row = cell.row + u16::from(rows);
+    if row < ROWS {
+        start_of(Cell { row, col: cell.col })
     } else {
         Spot {
-            cell,
+            cell: Cell {
+                row: LAST_ROW,
+                col: cell.col,
+            },
             offset: BEHIND_ALL,
         }
     }
@@ -145,7 +153,7 @@ pub fn if_row<K: Look>(
             if is_true(value) {
                 Ok(moves(Move::Stay))
             } else {
-                Ok(moves(Move::Go(below(at.cell))))
+                Ok(moves(Move::Go(below(1, at.cell))))
             }
         }
     }

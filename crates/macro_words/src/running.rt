@@ -1,8 +1,10 @@
 // A macro that runs, and what a word does.
 
-use crate::{Frames, Loop};
+use crate::{Frames, Loop, Switches, Waiting};
+use fixed_value::Fixed;
 use formula_tree::Formula;
 use grid_address::{Cell, Span};
+use lics_text::Text;
 use macro_text::{MacroFault, Position, Spot};
 use sheet_store::Writes;
 
@@ -13,16 +15,19 @@ pub struct Handler {
     pub message: Option<Cell>,
 }
 
-/// A macro that runs: where it goes on, the calls and loops that it is in, and what it does after an error.
+/// A macro that runs: where it goes on, the calls and loops that it is in, what it does after an error, what it waits
+/// for, and what it has switched on.
 #[derive(Drop)]
 pub struct Running {
     pub position: Position,
     pub frames: Frames,
     pub handler: Option<Handler>,
+    pub waiting: Waiting,
+    pub switches: Switches,
 }
 
-/// How a word moves the macro, which stands behind the word already.
-#[derive(Clone, Copy)]
+/// How a word moves the macro, which stands behind the word already. Where it goes to a place, it waits for nothing.
+#[derive(Drop)]
 pub enum Move {
     /// It goes on where it stands.
     Stay,
@@ -40,6 +45,14 @@ pub enum Move {
     Stop,
     /// It takes another place for errors.
     Handle(Handler),
+    /// It waits where it stands.
+    Wait(Waiting),
+    /// It stays at the word of this place while @NOW is less than this number.
+    Pause(Spot, Fixed),
+    /// It switches.
+    Switch(Switches),
+    /// It shows a text in the mode's place, or with an empty one the mode again.
+    Indicate(Text),
 }
 
 /// What a word does to the sheet.

@@ -4,11 +4,14 @@ ghost use Rattle.formula_eval.specs.Scenes.{outlook_of};
 ghost use Rattle.lics_text.specs.Bytes.{IsText};
 ghost use Rattle.macro_words.specs.Rows as spec;
 
+use crate::asking::{
+    awaits, get_row, indicate_row, look_row, menu_row, question_row, switch_row, wait_row,
+};
 use crate::define::define_row;
 use crate::looping::{break_row, for_row, return_row};
 use crate::rows::{bad, branch_row, call_row, calls, dispatch_row, if_row, moves, onerror_row};
 use crate::writing::{blank_row, contents_row, let_row, put_row, recalc_row};
-use crate::{Move, Row, Running};
+use crate::{Move, Row, Running, Waiting, Wanted};
 use formula_eval::{Look, Scene};
 use grid_address::Format;
 use key_words::{Command, MacroWord, unit_at};
@@ -22,17 +25,18 @@ fn counts(command: Command) -> (usize, usize)
 {
     match command {
         Command::Branch | Command::Dispatch | Command::If | Command::Blank => (1, 1),
+        Command::Get | Command::Look | Command::Wait => (1, 1),
+        Command::MenuBranch | Command::MenuCall => (1, 1),
         Command::OnError => (1, 2),
         Command::Recalc | Command::RecalcCol => (1, 3),
         Command::Define => (1, MAX_LEN),
-        Command::Let => (2, 2),
+        Command::Let | Command::GetLabel | Command::GetNumber => (2, 2),
         Command::Contents => (2, 4),
         Command::Put => (4, 4),
         Command::For => (5, 5),
         Command::Return | Command::Restart | Command::Quit | Command::ForBreak => (0, 0),
-        Command::Get | Command::GetLabel | Command::GetNumber | Command::Look => (0, 0),
-        Command::MenuBranch | Command::MenuCall | Command::Wait | Command::Interact => (0, 0),
-        Command::Beep | Command::Indicate | Command::PanelOn | Command::PanelOff => (0, 0),
+        Command::Indicate => (0, 1),
+        Command::Interact | Command::Beep | Command::PanelOn | Command::PanelOff => (0, 0),
         Command::WindowsOn | Command::WindowsOff => (0, 0),
         Command::BreakOn | Command::BreakOff => (0, 0),
         Command::Open | Command::Close | Command::Read | Command::ReadLn => (0, 0),
@@ -81,11 +85,19 @@ fn command_row<K: Look>(
         Command::OnError => Ok(onerror_row(look, scene, args)),
         Command::Recalc => recalc_row(alloc, look, scene, at, false, args),
         Command::RecalcCol => recalc_row(alloc, look, scene, at, true, args),
-        Command::Get | Command::GetLabel | Command::GetNumber | Command::Look => Ok(bad()),
-        Command::MenuBranch | Command::MenuCall | Command::Wait | Command::Interact => Ok(bad()),
-        Command::Beep | Command::Indicate | Command::PanelOn | Command::PanelOff => Ok(bad()),
-        Command::WindowsOn | Command::WindowsOff => Ok(bad()),
-        Command::BreakOn | Command::BreakOff => Ok(bad()),
+        Command::Get => Ok(get_row(look, scene, args)),
+        Command::GetLabel => question_row(alloc, look, scene, at, Wanted::Label, args),
+        Command::GetNumber => question_row(alloc, look, scene, at, Wanted::Number, args),
+        Command::Look => look_row(alloc, look, scene, args),
+        Command::MenuBranch => Ok(menu_row(look, scene, None, args)),
+        Command::MenuCall => Ok(menu_row(look, scene, Some(*at), args)),
+        Command::Wait => wait_row(alloc, look, scene, running, at, args),
+        Command::Interact => Ok(awaits(Waiting::Enter)),
+        Command::Beep => Ok(moves(Move::Stay)),
+        Command::Indicate => indicate_row(alloc, look, scene, at, args),
+        Command::PanelOn | Command::PanelOff => Ok(switch_row(running, command)),
+        Command::WindowsOn | Command::WindowsOff => Ok(switch_row(running, command)),
+        Command::BreakOn | Command::BreakOff => Ok(switch_row(running, command)),
         Command::Open | Command::Close | Command::Read | Command::ReadLn => Ok(bad()),
         Command::Write | Command::WriteLn | Command::FileSize => Ok(bad()),
         Command::GetPos | Command::SetPos => Ok(bad()),

@@ -12,7 +12,7 @@ use block_writes::{content_of, written};
 use formula_eval::{Look, Scene};
 use formula_tree::{Content, Value};
 use grid_address::Cell;
-use lics_text::{Memory, Text};
+use lics_text::{LabelPrefix, Memory, Text};
 use macro_text::{expression_value, front, rest_of};
 use sheet_store::Writes;
 use std::alloc::Global;
@@ -35,6 +35,15 @@ pub fn puts_value(alloc: Global, cell: Cell, value: &Value, after: Move) -> Resu
 {
     let content = content_of(alloc, &value.as_ref())?;
     puts_one(alloc, cell, content, after)
+}
+
+/// A text is put into a cell, as a label with `'`.
+pub fn puts_text(alloc: Global, cell: Cell, bytes: &[u8], after: Move) -> Result<Row, Memory>
+    requires { IsText bytes.now }
+    ensures { IfOk result (λ r. r ≡ rows.puts_value cell (value.Str bytes.now) after) }
+{
+    let text = Text::copy_of(alloc, bytes)?;
+    puts_one(alloc, cell, Content::Label(LabelPrefix::Left, text), after)
 }
 
 /// Whether a text ends so, in letters of either case.

@@ -6,7 +6,7 @@ use Rattle.formula_eval.specs.declared.look.Scene.{Scene}
 use Rattle.key_words.specs.declared.key.Key.{Key}
 use Rattle.macro_engine.specs.Steps.{macro_step, MacroStep}
 use Rattle.macro_engine.specs.declared.steps.StepEnd.{StepEnd}
-use Rattle.macro_engine.specs.declared.steps.StepEnd.TheVariants.{Faulty, Refused, Types, Works}
+use Rattle.macro_engine.specs.declared.steps.StepEnd.TheVariants.{Faulty, Indicates, Refused, Types, Works}
 use Rattle.screen_layout.specs.Corner.{corner_for}
 use Rattle.serial_date.specs.declared.moment.Moment.{Moment}
 use Rattle.session_core.specs.Carrying.{carried, failed, recalculated, told}
@@ -31,6 +31,7 @@ seen_from scene s = record scene { cursor = pointer_of s }
 abbrev pub come_to : StepEnd → Replies → Scene → State → Outcome
 come_to (Types k) replies scene s = taken k replies scene s
 come_to Works replies scene s = quiet s
+come_to (Indicates t) replies scene s = quiet s
 come_to (Faulty f c) replies scene s = quiet (told (fault_message f c) s)
 come_to (Refused c) replies scene s = failed (error.Protected c) scene s
 

@@ -548,6 +548,10 @@ impl Machine {
                 })
             }
             StepEnd::Works => Ok(WORKED),
+            StepEnd::Indicates(text) => {
+                drop(text);
+                Ok(WORKED)
+            }
             StepEnd::Faulty(fault, cell) => {
                 self.tell(fault_message(fault, cell));
                 Ok(WORKED)

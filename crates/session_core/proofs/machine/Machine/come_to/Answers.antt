@@ -8,6 +8,9 @@ use Rattle.session_core.proofs.machine.Machine.come_to.Goals as goal
 pub returns-in-Works-clause-ok : goal.returns-in-Works-clause-ok
 returns-in-Works-clause-ok g c = rw c.in-Works.is (alone _ _ _ _ _ _ (search rules) refl)
 
+pub returns-in-Indicates-clause-ok : goal.returns-in-Indicates-clause-ok
+returns-in-Indicates-clause-ok g c = rw c.in-Indicates.is (alone _ _ _ _ _ _ (search rules) refl)
+
 pub returns-in-Faulty-clause-ok : goal.returns-in-Faulty-clause-ok
 returns-in-Faulty-clause-ok g c = rw c.in-Faulty.is (alone _ _ _ _ _ _ (search rules) refl)
 

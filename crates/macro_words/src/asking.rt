@@ -1,0 +1,254 @@
+// Words that wait, and the text in the mode's place.
+ghost use Rattle.std.specs.Prelude.{◌≡◌, IfOk};
+ghost use Rattle.formula_eval.specs.Scenes.{outlook_of};
+ghost use Rattle.lics_text.specs.Bytes.{IsText};
+ghost use Rattle.macro_words.specs.Rows as spec;
+ghost use Rattle.macro_words.specs.Values as values;
+ghost use Rattle.value_functions.specs.Values.{text_in};
+
+use crate::items::items_at;
+use crate::rows::{bad, moves};
+use crate::values::{let_value, puts_text};
+use crate::{MacroMenu, Move, Question, Row, Running, Switches, Waiting, Wanted};
+use entry_line::EntryLine;
+use fixed_value::Fixed;
+use formula_eval::{Look, Scene};
+use formula_tree::{Function, Value};
+use grid_address::Cell;
+use key_words::Command;
+use lics_text::{Memory, Text};
+use macro_text::{MacroFault, Spot, TextList, number_of, place_of};
+use std::alloc::Global;
+use value_functions::constant_value;
+
+/// The macro waits for this.
+pub fn awaits(waiting: Waiting) -> Row
+    ensures { result ≡ spec.awaits waiting }
+{
+    moves(Move::Wait(waiting))
+}
+
+// The text that a value is.
+fn text_of(value: Value) -> Option<Text>
+    ensures { result ≡ text_in value }
+{
+    match value {
+        Value::Str(text) => Some(text),
+        Value::Blank => None,
+        Value::Num(_) => None,
+        Value::Err => None,
+        Value::Na => None,
+    }
+}
+
+// A text, as LET takes one; none where the argument's value is none.
+fn text_given<K: Look>(
+    alloc: Global,
+    look: &K,
+    scene: &Scene,
+    at: Cell,
+    text: &[u8],
+) -> Result<Option<Text>, Memory>
+    requires { IsText text.now }
+    ensures { let outlook = outlook_of (K.sight look.now) scene.entry.now in
+        IfOk result (λ t. t ≡ text_in (values.let_value outlook at text.now)) }
+{
+    let value = let_value(alloc, look, scene, at, text)?;
+    Ok(text_of(value))
+}
+
+/// GET.
+pub fn get_row<K: Look>(look: &K, scene: &Scene, args: &TextList) -> Row
+    ensures { result ≡ spec.get_row (outlook_of (K.sight look.now) scene.entry.now) args.now }
+{
+    match place_of(look.names(), args.get(0)) {
+        Some(cell) => awaits(Waiting::OneKey(cell)),
+        None => bad(),
+    }
+}
+
+/// GETLABEL and GETNUMBER.
+pub fn question_row<K: Look>(
+    alloc: Global,
+    look: &K,
+    scene: &Scene,
+    at: &Spot,
+    wanted: Wanted,
+    args: &TextList,
+) -> Result<Row, Memory>
+    ensures { let outlook = outlook_of (K.sight look.now) scene.entry.now in
+        IfOk result (λ r. r ≡ spec.question_row outlook at.now wanted args.now) }
+{
+    let Some(prompt) = text_given(alloc, look, scene, at.cell, args.get(0))? else {
+        return Ok(bad());
+    };
+    match place_of(look.names(), args.get(1)) {
+        Some(target) => Ok(awaits(Waiting::Line(Question {
+            prompt,
+            line: EntryLine::new(b""),
+            target,
+            wanted,
+        }))),
+        None => {
+            drop(prompt);
+            Ok(bad())
+        }
+    }
+}
+
+/// LOOK.
+pub fn look_row<K: Look>(
+    alloc: Global,
+    look: &K,
+    scene: &Scene,
+    args: &TextList,
+) -> Result<Row, Memory>
+    ensures { let outlook = outlook_of (K.sight look.now) scene.entry.now in
+        IfOk result (λ r. r ≡ spec.look_row outlook args.now) }
+{
+    match place_of(look.names(), args.get(0)) {
+        Some(cell) => puts_text(alloc, cell, b"", Move::Stay),
+        None => Ok(bad()),
+    }
+}
+
+// A menu of so many items.
+fn offers(first: Cell, count: usize, caller: Option<Spot>) -> Row
+    ensures { result ≡ spec.offers first count caller }
+{
+    if count == 0 {
+        return Err(MacroFault::NotText);
+    }
+    awaits(Waiting::Item(MacroMenu {
+        first,
+        count,
+        highlight: 0,
+        caller,
+    }))
+}
+
+/// MENUBRANCH, and by the place of its word MENUCALL.
+pub fn menu_row<K: Look>(look: &K, scene: &Scene, caller: Option<Spot>, args: &TextList) -> Row
+    ensures { result ≡ spec.menu_row (outlook_of (K.sight look.now) scene.entry.now) caller args.now }
+{
+    match place_of(look.names(), args.get(0)) {
+        Some(first) => offers(first, items_at(look, first), caller),
+        None => bad(),
+    }
+}
+
+// Whether a number is below another.
+fn is_before(value: &Value, bound: Fixed) -> bool
+    ensures { result ≡ spec.is_before value.now bound }
+{
+    match value {
+        Value::Num(number) => number.millionths() < bound.millionths(),
+        Value::Blank => false,
+        Value::Str(_) => false,
+        Value::Err => false,
+        Value::Na => false,
+    }
+}
+
+// The number of the word that is waited at.
+fn number_kept(waiting: &Waiting) -> Option<Fixed>
+    ensures { result ≡ spec.number_kept waiting.now }
+{
+    match waiting {
+        Waiting::Time(number) => Some(*number),
+        _ => None,
+    }
+}
+
+// The number, read at the word's first step.
+fn kept_or_read<K: Look>(
+    alloc: Global,
+    look: &K,
+    scene: &Scene,
+    at: &Spot,
+    args: &TextList,
+    kept: Option<Fixed>,
+) -> Result<Option<Fixed>, Memory>
+    ensures { let outlook = outlook_of (K.sight look.now) scene.entry.now in
+        IfOk result (λ n. n ≡ spec.kept_or_read outlook at.now args.now kept) }
+{
+    match kept {
+        Some(number) => Ok(Some(number)),
+        None => number_of(alloc, args.get(0), at.cell, look, scene),
+    }
+}
+
+/// WAIT.
+pub fn wait_row<K: Look>(
+    alloc: Global,
+    look: &K,
+    scene: &Scene,
+    running: &Running,
+    at: &Spot,
+    args: &TextList,
+) -> Result<Row, Memory>
+    ensures { let outlook = outlook_of (K.sight look.now) scene.entry.now in
+        IfOk result (λ r. r ≡ spec.wait_row outlook running.now at.now args.now) }
+{
+    let kept = number_kept(&running.waiting);
+    let Some(number) = kept_or_read(alloc, look, scene, at, args, kept)? else {
+        return Ok(bad());
+    };
+    if is_before(&constant_value(Function::Now, scene.now), number) {
+        Ok(moves(Move::Pause(*at, number)))
+    } else {
+        Ok(moves(Move::Go(running.position.spot)))
+    }
+}
+
+/// INDICATE.
+pub fn indicate_row<K: Look>(
+    alloc: Global,
+    look: &K,
+    scene: &Scene,
+    at: &Spot,
+    args: &TextList,
+) -> Result<Row, Memory>
+    ensures { let outlook = outlook_of (K.sight look.now) scene.entry.now in
+        IfOk result (λ r. r ≡ spec.indicate_row outlook at.now args.now) }
+{
+    if args.len() == 0 {
+        return Ok(moves(Move::Indicate(Text::copy_of(alloc, b"")?)));
+    }
+    match text_given(alloc, look, scene, at.cell, args.get(0))? {
+        Some(text) => Ok(moves(Move::Indicate(text))),
+        None => Ok(bad()),
+    }
+}
+
+// What is on behind a word that switches.
+fn switches_by(command: Command, switches: Switches) -> Switches
+    ensures { result ≡ spec.switches_by command switches }
+{
+    let Switches {
+        panel,
+        windows,
+        breaks,
+    } = switches;
+    let (panel, windows, breaks) = match command {
+        Command::PanelOn => (true, windows, breaks),
+        Command::PanelOff => (false, windows, breaks),
+        Command::WindowsOn => (panel, true, breaks),
+        Command::WindowsOff => (panel, false, breaks),
+        Command::BreakOn => (panel, windows, true),
+        Command::BreakOff => (panel, windows, false),
+        _ => (panel, windows, breaks),
+    };
+    Switches {
+        panel,
+        windows,
+        breaks,
+    }
+}
+
+/// PANELON, PANELOFF, WINDOWSON, WINDOWSOFF, BREAKON and BREAKOFF.
+pub fn switch_row(running: &Running, command: Command) -> Row
+    ensures { result ≡ spec.switch_row running.now command }
+{
+    moves(Move::Switch(switches_by(command, running.switches)))
+}
