@@ -5,4 +5,5 @@ mod lines;
 mod menu;
 
 pub use item_ring::highlighted;
+pub use lines::put_item;
 pub use menu::{menu_or_ready, opened, panel, press};

@@ -14,8 +14,8 @@ fn put_cut(line: &mut Line, bytes: &[u8])
     line.put_all(&bytes[..room]);
 }
 
-// Adds a name, between brackets where it is highlighted and else between spaces.
-fn put_item(line: &mut Line, name: &[u8], is_highlighted: bool)
+/// Adds a name, between brackets where it is highlighted and else between spaces; what goes past 240 bytes is cut.
+pub fn put_item(line: &mut Line, name: &[u8], is_highlighted: bool)
     ensures { line.new ≡ take MAX_LEN (line.old ++ marked is_highlighted name.now) }
 {
     if is_highlighted {

@@ -1,12 +1,16 @@
 -- The lines that are the same from step to step.
-use Rattle.std.proofs.Common.{◌≡◌, ℕ, zero, suc, ◌+◌, ◌-◌, ◌/◌, ◌%◌, ◌≤◌, ◌<◌, Bool, true, false, List, [], ◌++◌, Option, Some, None, refl, ap, sym, subst, ◌∙◌, arith, inl, inr}
-use Rattle.std.specs.Prelude.{codes, is_some, slice_get, take}
-use Rattle.std.proofs.lemmas.Bool.{cases_lt, false≢true, true≢false}
+use Rattle.std.proofs.Common.{◌≡◌, ℕ, zero, suc, ◌+◌, ◌-◌, ◌/◌, ◌%◌, ◌≤◌, ◌<◌, Bool, true, false, List, [], ◌∷◌, ◌++◌, Option, Some, None, refl, ap, sym, subst, ◌∙◌, arith, inl, inr}
+use Rattle.std.specs.Prelude.{codes, if◌then◌else◌, is_some, length, nat_eq, not, slice_get, take}
+use Rattle.std.proofs.lemmas.Bool.{and_parts, cases_lt, eqb-true, false≢true, true≢false}
+use Rattle.std.proofs.lemmas.List.{nil_from_length}
 use Rattle.std.proofs.lemmas.Option.{slice_get-get_or, slice_get_past}
 use Rattle.control_panel.specs.declared.panel.Mode.{Mode}
 use Rattle.control_panel.specs.declared.panel.Mode.TheVariants as mode
 use Rattle.control_panel.specs.declared.panel.Panel.{Panel}
 use Rattle.grid_address.specs.Place.{Place}
+use Rattle.macro_words.specs.declared.running.Running.{Running}
+use Rattle.macro_words.specs.declared.waiting.Waiting.{Waiting}
+use Rattle.macro_words.specs.declared.waiting.Waiting.TheVariants as waiting
 use Rattle.screen_layout.proofs.Painted.{line_at, shaped}
 use Rattle.screen_layout.proofs.Window.{letters_same, row_same}
 use Rattle.screen_layout.specs.Alike.{AreAlike}
@@ -21,11 +25,12 @@ use Rattle.session_rooms.specs.declared.rooms.TypingMode.{TypingMode}
 use Rattle.session_rooms.specs.declared.rooms.TypingMode.TheVariants.{Label, Value, Edit}
 use Rattle.typing_room.specs.Room.{told_mode}
 use Rattle.work_sheet.specs.Seen.{Sheet}
-use Rattle.session_core.specs.Glances.{glance_of, marks_of, plain_mode, IsKept}
-use Rattle.session_core.specs.Machine.{sheet_of, State}
+use Rattle.session_core.specs.Glances.{glance_of, is_plain, marks_of, plain_mode, told_plainly, IsKept}
+use Rattle.session_core.specs.Machine.{is_running, sheet_of, State}
 use Rattle.session_core.specs.Pressing.{room_panel}
-use Rattle.session_core.specs.Screen.{panel_of, screen}
+use Rattle.session_core.specs.Screen.{painted_screen, panel_of}
 use Rattle.session_core.specs.Touches.{touches_row, Touches}
+use Rattle.session_core.specs.Waiting.{is_shown, panel_by, shows_waiting, waiting_panel}
 use Rattle.session_core.specs.declared.glance.Foot.{Foot}
 use Rattle.session_core.specs.declared.glance.Glance.{Glance}
 use Rattle.session_core.specs.declared.glance.Marks.{Marks}
@@ -34,18 +39,69 @@ use Rattle.session_core.specs.declared.touched.Touched.TheVariants as touched
 use Rattle.session_core.proofs.Touching.{touched_alike}
 
 -- whether a room is READY, or a line is typed there
-abbrev IsPlain : Room → Type 0
-IsPlain r = is_some (plain_mode r) ≡ true
+abbrev IsPlainRoom : Room → Type 0
+IsPlainRoom r = is_some (plain_mode r) ≡ true
+
+-- the same of a state, where neither a macro's own line or menu is shown nor a text in the mode's place
+abbrev IsPlain : State → Type 0
+IsPlain s = is_some (told_plainly s) ≡ true
 
 no_room : {P : Type 0} → false ≡ true → P
 no_room h = absurd (false≢true h)
+
+-- a mode that is told is told plainly
+plain_is : (b : Bool) (m : Option Mode) → is_some (if b then m else None) ≡ true → b ≡ true
+plain_is true m h = refl
+plain_is false m h = no_room h
+
+nothing_waiting : (sheet : Sheet) (x : Waiting) (p : Panel) → is_shown x ≡ false → panel_by sheet x p ≡ p
+nothing_waiting sheet waiting.Nothing p h = refl
+nothing_waiting sheet (waiting.Time n) p h = refl
+nothing_waiting sheet (waiting.OneKey c) p h = refl
+nothing_waiting sheet (waiting.Line q) p h = absurd (true≢false h)
+nothing_waiting sheet (waiting.Item m) p h = absurd (true≢false h)
+nothing_waiting sheet waiting.Enter p h = refl
+
+-- where a macro shows nothing, what the session shows stays
+pub nothing_shown : (sheet : Sheet) (r : Option Running) (p : Panel) → shows_waiting r ≡ false → waiting_panel sheet r p ≡ p
+nothing_shown sheet None p h = refl
+nothing_shown sheet (Some r) p h = nothing_waiting sheet r.waiting p h
+
+no_bytes : (text : List ℕ) → nat_eq (length text) 0 ≡ true → text ≡ []
+no_bytes text h = nil_from_length text (eqb-true (length text) 0 h)
+
+not_true : (b : Bool) → not b ≡ true → b ≡ false
+not_true true h = no_room h
+not_true false h = refl
+
+-- what is shown of a room, with END's mark and whether a macro runs
+abbrev plainly_shown : Room → Bool → Bool → Panel
+plainly_shown r end running = record (room_panel r) { end = end; running = running; indicate = [] }
+
+module _ (s : State) (plain : IsPlain s) where
+  is_plain_is : is_plain s ≡ true
+  is_plain_is = plain_is (is_plain s) (plain_mode s.room) plain
+
+  -- the mode is the room's
+  told_is : told_plainly s ≡ plain_mode s.room
+  told_is = ap (λ (b : Bool). if b then plain_mode s.room else None) is_plain_is
+
+  room_plain : IsPlainRoom s.room
+  room_plain = ap (λ (m : Option Mode). is_some m) (sym told_is) ∙ plain
+
+  -- the panel is the room's
+  panel_is : panel_of s ≡ plainly_shown s.room s.end (is_running s)
+  panel_is =
+      let parts = and_parts (not (shows_waiting s.running)) (nat_eq (length s.indicate) 0) is_plain_is in
+      ap (λ (p : Panel). record p { end = s.end; running = is_running s; indicate = s.indicate }) (nothing_shown (sheet_of s) s.running (room_panel s.room) (not_true (shows_waiting s.running) parts.0))
+      ∙ ap (λ (text : List ℕ). record (room_panel s.room) { end = s.end; running = is_running s; indicate = text }) (no_bytes s.indicate parts.1)
 
 -- the mode of a room, where it is told
 abbrev told_in : Option Mode → List ℕ
 told_in None = []
 told_in (Some m) = mode_name m
 
-mode_told : (r : Room) → IsPlain r → mode_text (room_panel r).indicate (room_panel r).mode ≡ told_in (plain_mode r)
+mode_told : (r : Room) → IsPlainRoom r → mode_text [] (room_panel r).mode ≡ told_in (plain_mode r)
 mode_told room.Ready plain = refl
 mode_told (room.Typing r) plain = refl
 mode_told (room.Pointing r) plain = no_room plain
@@ -57,8 +113,11 @@ mode_told (room.Failed message) plain = no_room plain
 abbrev pointer_by : Sheet → Option Mode → List ℕ
 pointer_by s m = filled 73 (take 72 (pointer_text s)) ++ told_in m
 
-pointer_is : (s : State) → IsPlain s.room → pointer_line (sheet_of s) (panel_of s) ≡ pointer_by (sheet_of s) (plain_mode s.room)
-pointer_is s plain = ap (λ (told : List ℕ). filled 73 (take 72 (pointer_text (sheet_of s))) ++ told) (mode_told s.room plain)
+pointer_is : (s : State) → IsPlain s → pointer_line (sheet_of s) (panel_of s) ≡ pointer_by (sheet_of s) (told_plainly s)
+pointer_is s plain =
+    ap (pointer_line (sheet_of s)) (panel_is s plain)
+    ∙ ap (λ (told : List ℕ). filled 73 (take 72 (pointer_text (sheet_of s))) ++ told) (mode_told s.room (room_plain s plain))
+    ∙ ap (pointer_by (sheet_of s)) (sym (told_is s plain))
 
 typed_ready : (m : TypingMode) → Some (told_mode m) ≡ Some mode.Ready → ⊥
 typed_ready Label h = let no : mode.Label ≡ mode.Ready = cc in absurd cc
@@ -66,7 +125,7 @@ typed_ready Value h = let no : mode.Value ≡ mode.Ready = cc in absurd cc
 typed_ready Edit h = let no : mode.Edit ≡ mode.Ready = cc in absurd cc
 
 -- in READY no line is typed
-typed_none : (r : Room) (end running : Bool) → plain_mode r ≡ Some mode.Ready → entry_line (record (room_panel r) { end = end; running = running }) ≡ []
+typed_none : (r : Room) (end running : Bool) → plain_mode r ≡ Some mode.Ready → entry_line (plainly_shown r end running) ≡ []
 typed_none room.Ready end running ready = refl
 typed_none (room.Typing r) end running ready = absurd (typed_ready r.mode ready)
 typed_none (room.Pointing r) end running ready = absurd (let no : None ≡ Some mode.Ready = ready in cc)
@@ -80,9 +139,9 @@ below_typed Value p = refl
 below_typed Edit p = refl
 
 -- no menu stands there
-below_none : (r : Room) (end running : Bool) → IsPlain r → below_line (record (room_panel r) { end = end; running = running }) ≡ []
+below_none : (r : Room) (end running : Bool) → IsPlainRoom r → below_line (plainly_shown r end running) ≡ []
 below_none room.Ready end running plain = refl
-below_none (room.Typing r) end running plain = below_typed r.mode (record (room_panel (room.Typing r)) { end = end; running = running })
+below_none (room.Typing r) end running plain = below_typed r.mode (plainly_shown (room.Typing r) end running)
 below_none (room.Pointing r) end running plain = no_room plain
 below_none (room.Menu r) end running plain = no_room plain
 below_none (room.Asking r) end running plain = no_room plain
@@ -94,7 +153,7 @@ first_typed Value message day second = refl
 first_typed Edit message day second = refl
 
 -- no message is told
-first_moment : (r : Room) (day : Option ℕ) (second : ℕ) → IsPlain r → first_part (room_panel r).mode (room_panel r).message day second ≡ moment_text day second
+first_moment : (r : Room) (day : Option ℕ) (second : ℕ) → IsPlainRoom r → first_part (room_panel r).mode (room_panel r).message day second ≡ moment_text day second
 first_moment room.Ready day second plain = refl
 first_moment (room.Typing r) day second plain = first_typed r.mode [] day second
 first_moment (room.Pointing r) day second plain = no_room plain
@@ -111,16 +170,28 @@ moment_same (Some day) x y hours minutes = rw (hours, minutes) refl
 abbrev foot_by : Marks → List ℕ → List ℕ
 foot_by k first = marked k.running 67 (codes "CMD") (marked k.end 62 (codes "END") (marked k.circ 56 (codes "CIRC") (marked k.calc 50 (codes "CALC") (take 50 first))))
 
-foot_is : (s : State) → IsPlain s.room → foot_line (sheet_of s) (panel_of s) s.day s.second ≡ foot_by (marks_of s) (moment_text s.day s.second)
-foot_is s plain = ap (foot_by (marks_of s)) (first_moment s.room s.day s.second plain)
+foot_is : (s : State) → IsPlain s → foot_line (sheet_of s) (panel_of s) s.day s.second ≡ foot_by (marks_of s) (moment_text s.day s.second)
+foot_is s plain =
+    ap (λ (p : Panel). foot_line (sheet_of s) p s.day s.second) (panel_is s plain)
+    ∙ ap (foot_by (marks_of s)) (first_moment s.room s.day s.second (room_plain s plain))
+
+-- in READY no line is shown
+typed_is : (s : State) → told_plainly s ≡ Some mode.Ready → entry_line (panel_of s) ≡ []
+typed_is s ready =
+    let plain : IsPlain s = ap (λ (m : Option Mode). is_some m) ready in
+    ap entry_line (panel_is s plain) ∙ typed_none s.room s.end (is_running s) (sym (told_is s plain) ∙ ready)
+
+-- and no menu below it, nor where a line is typed
+below_is : (s : State) → IsPlain s → below_line (panel_of s) ≡ []
+below_is s plain = ap below_line (panel_is s plain) ∙ below_none s.room s.end (is_running s) (room_plain s plain)
 
 -- a line of the screen
 abbrev line_of : State → ℕ → List ℕ
 line_of s n = screen_line (sheet_of s) (panel_of s) s.corner s.day s.second n
 
-line_in : (s : State) (n : ℕ) → n < 25 → slice_get (screen s) n ≡ Some (line_of s n)
+line_in : (s : State) (n : ℕ) → n < 25 → slice_get (painted_screen s) n ≡ Some (line_of s n)
 line_in s n inside =
-    slice_get-get_or (screen s) n [] (omega (arith, (shaped (sheet_of s) (panel_of s) s.corner s.day s.second).lines, inside))
+    slice_get-get_or (painted_screen s) n [] (omega (arith, (shaped (sheet_of s) (panel_of s) s.corner s.day s.second).lines, inside))
     ∙ ap Some (line_at (sheet_of s) (panel_of s) s.corner s.day s.second n inside)
 
 sure_of : (x : Touched) (first row : ℕ) → touches_row x first row ≡ false → x ≡ touched.Anything → ⊥
@@ -131,19 +202,19 @@ module _ (s t : State) (x : Touched) (touch : Touches x s.corner.row (sheet_of s
   pointer_kept kept =
       let is = kept.pointer refl in
       let sheets : sheet_of t ≡ sheet_of s = subst (λ (y : Touched). Touches y s.corner.row (sheet_of s) (sheet_of t)) is.0 touch in
-      let plain : IsPlain t.room = ap (λ (m : Option Mode). is_some m) is.1.1 ∙ is.1.0 in
-      ap shown_line (pointer_is s is.1.0 ∙ ap (λ (u : Sheet). pointer_by u (plain_mode s.room)) (sym sheets)
+      let plain : IsPlain t = ap (λ (m : Option Mode). is_some m) is.1.1 ∙ is.1.0 in
+      ap shown_line (pointer_is s is.1.0 ∙ ap (λ (u : Sheet). pointer_by u (told_plainly s)) (sym sheets)
       ∙ ap (pointer_by (sheet_of t)) (sym is.1.1) ∙ sym (pointer_is t plain))
 
   typed_kept : IsKept x (glance_of s) (glance_of t) 1 → line_of s 1 ≡ line_of t 1
   typed_kept kept =
       let is = kept.typed refl in
-      ap shown_line (typed_none s.room (panel_of s).end (panel_of s).running is.0 ∙ sym (typed_none t.room (panel_of t).end (panel_of t).running is.1))
+      ap shown_line (typed_is s is.0 ∙ sym (typed_is t is.1))
 
   below_kept : IsKept x (glance_of s) (glance_of t) 2 → line_of s 2 ≡ line_of t 2
   below_kept kept =
       let is = kept.below refl in
-      ap shown_line (below_none s.room (panel_of s).end (panel_of s).running is.0 ∙ sym (below_none t.room (panel_of t).end (panel_of t).running is.1))
+      ap shown_line (below_is s is.0 ∙ sym (below_is t is.1))
 
   letters_kept : IsKept x (glance_of s) (glance_of t) 3 → line_of s 3 ≡ line_of t 3
   letters_kept kept =
@@ -179,16 +250,16 @@ module _ (s t : State) (x : Touched) (touch : Touches x s.corner.row (sheet_of s
   ]
 
   -- the lines that aren't told are the same
-  pub lines_kept : (lines : List Bool) → ((n : ℕ) → slice_get lines n ≡ Some false → IsKept x (glance_of s) (glance_of t) n) → Unchanged lines (screen s) (screen t)
+  pub lines_kept : (lines : List Bool) → ((n : ℕ) → slice_get lines n ≡ Some false → IsKept x (glance_of s) (glance_of t) n) → Unchanged lines (painted_screen s) (painted_screen t)
   lines_kept lines told n out = elim (cases_lt n 25) [
     | inl inside ↦ line_in s n inside ∙ ap Some (line_kept n inside (told n out)) ∙ sym (line_in t n inside)
-    | inr past ↦ slice_get_past (screen s) n (omega (arith, (shaped (sheet_of s) (panel_of s) s.corner s.day s.second).lines, past))
-        ∙ sym (slice_get_past (screen t) n (omega (arith, (shaped (sheet_of t) (panel_of t) t.corner t.day t.second).lines, past)))
+    | inr past ↦ slice_get_past (painted_screen s) n (omega (arith, (shaped (sheet_of s) (panel_of s) s.corner s.day s.second).lines, past))
+        ∙ sym (slice_get_past (painted_screen t) n (omega (arith, (shaped (sheet_of t) (panel_of t) t.corner t.day t.second).lines, past)))
   ]
 
 -- the same, by what a step touched before the screen followed it
 pub lines_told : (s mid t : State) (x : Touched) (a b : Glance) (lines : List Bool) → Touches x s.corner.row (sheet_of s) (sheet_of mid) → sheet_of t ≡ sheet_of mid → a ≡ glance_of s → b ≡ glance_of t →
-    ((n : ℕ) → slice_get lines n ≡ Some false → IsKept x a b n) → Unchanged lines (screen s) (screen t)
+    ((n : ℕ) → slice_get lines n ≡ Some false → IsKept x a b n) → Unchanged lines (painted_screen s) (painted_screen t)
 lines_told s mid t x a b lines touch followed before after told =
     lines_kept s t x (subst (λ (u : Sheet). Touches x s.corner.row (sheet_of s) u) (sym followed) touch) lines
     (λ n out. subst (λ (g : Glance). IsKept x (glance_of s) g n) after (subst (λ (g : Glance). IsKept x g b n) before (told n out)))

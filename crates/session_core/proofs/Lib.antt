@@ -10,4 +10,5 @@ pub mod Reports
 pub mod Settled
 pub mod ShownRows
 pub mod Stepping
+pub mod Still
 pub mod Touching

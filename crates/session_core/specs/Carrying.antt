@@ -41,7 +41,7 @@ use Rattle.work_sheet.specs.Doing as doing
 use Rattle.session_core.specs.Entering.{meaning_of}
 use Rattle.session_core.specs.Faults.{fault_message}
 use Rattle.session_core.specs.Machine.{and_further, followed_by, in_room, pointer_of, pointing_at, quiet, sheet_of}
-use Rattle.session_core.specs.Machine.{wants_key, with_done, with_macro, Outcome, Replies, State}
+use Rattle.session_core.specs.Machine.{is_running, with_done, with_macro, Outcome, Replies, State}
 use Rattle.session_core.specs.declared.entering.Meant.{Meant}
 use Rattle.session_core.specs.declared.entering.Meant.TheVariants.{Means, Faulty}
 
@@ -162,7 +162,7 @@ started_at (Some c) s = with_macro (Some (begun_at c)) s
 
 -- the macro of a letter starts; inside a macro the key is passed over
 abbrev pub started : ℕ → State → State
-started letter s = if wants_key s then started_at (macro_named (sheet_of s).names letter) s else s
+started letter s = if is_running s then s else started_at (macro_named (sheet_of s).names letter) s
 
 -- what a key came to is carried out; no command is taken back yet
 abbrev pub carried : Turn → Replies → Scene → State → Outcome

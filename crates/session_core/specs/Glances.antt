@@ -1,13 +1,14 @@
 -- How the session keeps in mind what the lines of its screen hang on beside the cells: it paints only the lines for
 -- which that is otherwise than before.
-use Rattle.std.specs.Prelude.{◌≡◌, ℕ, ◌+◌, ◌-◌, ◌/◌, ◌%◌, ◌≤◌, ◌<◌, true, false, not, is_some, Option, None, Some}
+use Rattle.std.specs.Prelude.{◌≡◌, ℕ, ◌+◌, ◌-◌, ◌/◌, ◌%◌, ◌≤◌, ◌<◌, ◌&&◌, nat_eq, length, Bool, true, false, not, is_some, if◌then◌else◌, Option, None, Some}
 use Rattle.control_panel.specs.declared.panel.Mode.{Mode}
 use Rattle.control_panel.specs.declared.panel.Mode.TheVariants.{Ready}
 use Rattle.screen_layout.specs.Foot.{wants_recalculation}
 use Rattle.session_rooms.specs.declared.rooms.Room.{Room}
 use Rattle.session_rooms.specs.declared.rooms.Room.TheVariants as room
 use Rattle.typing_room.specs.Room.{told_mode}
-use Rattle.session_core.specs.Machine.{sheet_of, wants_key, State}
+use Rattle.session_core.specs.Machine.{is_running, sheet_of, State}
+use Rattle.session_core.specs.Waiting.{shows_waiting}
 use Rattle.session_core.specs.Touches.{touches_row}
 use Rattle.session_core.specs.declared.glance.Glance.{Glance}
 use Rattle.session_core.specs.declared.glance.Marks.{Marks}
@@ -25,6 +26,14 @@ plain_mode (room.Menu r) = None
 plain_mode (room.Asking r) = None
 plain_mode (room.Failed message) = None
 
+-- no macro shows its own line or menu, nor a text in the mode's place
+abbrev pub is_plain : State → Bool
+is_plain s = not (shows_waiting s.running) && nat_eq (length s.indicate) 0
+
+-- the mode that is then told; none where one does
+abbrev pub told_plainly : State → Option Mode
+told_plainly s = if is_plain s then plain_mode s.room else None
+
 -- the minute of the last step
 abbrev pub minute_of : State → Minute
 minute_of s = record { day = s.day; hour = s.second / 3600; minute = s.second / 60 % 60 }
@@ -35,14 +44,14 @@ marks_of s = record {
   calc = wants_recalculation (sheet_of s);
   circ = (sheet_of s).circular;
   end = s.end;
-  running = not (wants_key s);
+  running = is_running s;
 }
 
 -- what the lines hang on beside the cells and the line that is typed
 abbrev pub glance_of : State → Glance
 glance_of s = record {
   corner = s.corner;
-  mode = plain_mode s.room;
+  mode = told_plainly s;
   foot = record { minute = minute_of s; marks = marks_of s };
 }
 

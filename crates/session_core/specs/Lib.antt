@@ -2,6 +2,7 @@ pub mod Act
 pub mod Carrying
 pub mod Entering
 pub mod Faults
+pub mod Frozen
 pub mod Glances
 pub mod Machine
 pub mod Moving
@@ -9,3 +10,4 @@ pub mod Pressing
 pub mod Screen
 pub mod Step
 pub mod Touches
+pub mod Waiting

@@ -1,9 +1,10 @@
 -- The session as a machine over one map of cells, in which every formula is evaluated at each recalculation.
-use Rattle.std.specs.Prelude.{◌≡◌, ℕ, Bool, true, false, Option, None, Some, List, [], ◌++◌}
+use Rattle.std.specs.Prelude.{◌≡◌, ℕ, Bool, true, false, is_some, not, ◌||◌, Option, None, Some, List, [], ◌++◌}
 use Rattle.command_desk.specs.Desks.{fresh_desk, on_sheet, Desk}
 use Rattle.commands_file.specs.Calls.{Asked, HaveAnswered, Reply, ShelfView}
 use Rattle.formula_eval.specs.declared.look.Scene.{Scene}
 use Rattle.grid_address.specs.Place.{Place}
+use Rattle.macro_engine.specs.Keys.{awaits_key}
 use Rattle.macro_words.specs.declared.running.Running.{Running}
 use Rattle.serial_date.specs.declared.moment.Moment.{Moment}
 use Rattle.session_rooms.specs.declared.rooms.Room.{Room}
@@ -12,14 +13,23 @@ use Rattle.work_sheet.specs.Doing.{with_pointer, Done, Happened}
 use Rattle.work_sheet.specs.Seen.{Sheet}
 use Rattle.work_sheet.specs.Work.{HasWorked, Work}
 
+-- the screens whose lines stand still, where a macro has switched the panel or the windows off: lines 0 to 2 of the
+-- one, and lines 3 to 23 of the other
+pub record FrozenAreas : Type 0 where
+  pub panel : Option (List (List ℕ))
+  pub windows : Option (List (List ℕ))
+
 -- The desk with the worksheet and its pointer, the cell at the top left of the screen, what the session is doing,
--- whether END waits for a moving key, the macro that runs, and the day and the second of the last step.
+-- whether END waits for a moving key, the macro that runs, the text that a macro put in the mode's place, what of the
+-- screen stands still, and the day and the second of the last step.
 pub record State : Type 0 where
   pub desk : Desk
   pub corner : Place
   pub room : Room
   pub end : Bool
   pub running : Option Running
+  pub indicate : List ℕ
+  pub frozen : FrozenAreas
   pub day : Option ℕ
   pub second : ℕ
 
@@ -38,10 +48,23 @@ pub record SessionView : Type 0 where
 abbrev pub home : Place
 home = record { row = 0; col = 0 }
 
+-- nothing stands still
+abbrev pub unfrozen : FrozenAreas
+unfrozen = record { panel = None; windows = None }
+
 -- the state of a session that begins with a desk
 abbrev pub begun_with : Desk → State
-begun_with d =
-    record { desk = d; corner = home; room = Ready; end = false; running = None; day = None; second = 0 }
+begun_with d = record {
+  desk = d;
+  corner = home;
+  room = Ready;
+  end = false;
+  running = None;
+  indicate = [];
+  frozen = unfrozen;
+  day = None;
+  second = 0;
+}
 
 -- the state of a fresh session
 abbrev pub start : State
@@ -51,14 +74,13 @@ start = begun_with fresh_desk
 abbrev pub begun : Desk → Work → SessionView
 begun d w = record { state = begun_with d; work = w; spent = false }
 
--- no macro
-abbrev pub is_none : Option Running → Bool
-is_none None = true
-is_none (Some r) = false
+-- a macro runs
+abbrev pub is_running : State → Bool
+is_running s = is_some s.running
 
--- it wants a key where no macro runs
+-- it wants a key where no macro runs, or the one that runs waits for a key
 abbrev pub wants_key : State → Bool
-wants_key s = is_none s.running
+wants_key s = not (is_running s) || awaits_key s.running
 
 -- the worksheet
 abbrev pub sheet_of : State → Sheet

@@ -1,8 +1,9 @@
 -- Which steps only move the pointer, or type.
-use Rattle.std.specs.Prelude.{◌≡◌, Option, None}
+use Rattle.std.specs.Prelude.{◌≡◌, ⊤, false, Option, None}
 use Rattle.grid_address.specs.Place.{Place}
 use Rattle.key_words.specs.declared.key.Key.{Key}
 use Rattle.key_words.specs.declared.key.Key.TheVariants as key
+use Rattle.macro_engine.specs.Keys.{takes_key}
 use Rattle.macro_words.specs.declared.running.Running.{Running}
 use Rattle.session_rooms.specs.declared.rooms.Room.{Room}
 use Rattle.session_rooms.specs.declared.rooms.Room.TheVariants as room
@@ -37,11 +38,20 @@ OnlyMoves turn.Mark running = Unit {0}
 OnlyMoves (turn.Fail e) running = running ≡ None
 OnlyMoves t running = ⊥
 
--- a key that only moves the pointer, types or is passed over
+-- a key that only moves the pointer, types or is passed over, where the session takes it
 abbrev pub OnlyMovesByKey : Key → State → Type 0
 OnlyMovesByKey k s = TakesNoMemory k s.room × OnlyMoves (turn_of k s.room s.end s.desk) s.running
 
+-- the same, where no macro takes it
+abbrev pub OnlyMovesGiven : Key → State → Type 0
+OnlyMovesGiven k s = (takes_key k s.running ≡ false) × OnlyMovesByKey k s
+
+-- a key that is pressed does no more; BREAK never does
+abbrev pub OnlyMovesByPress : Key → State → Type 0
+OnlyMovesByPress key.Break s = ⊤
+OnlyMovesByPress k s = OnlyMovesGiven k s
+
 -- an event that does no more
 abbrev pub OnlyMovesBy : Event → State → Type 0
-OnlyMovesBy (KeyEvent k) s = OnlyMovesByKey k s
+OnlyMovesBy (KeyEvent k) s = OnlyMovesByPress k s
 OnlyMovesBy UnitEvent s = ⊥

@@ -1,14 +1,37 @@
 -- The screen of a state.
-use Rattle.std.specs.Prelude.{ℕ, List, not}
+use Rattle.std.specs.Prelude.{◌≡◌, ℕ, List, Option}
+use Rattle.std.specs.Option.{unwrap_or}
 use Rattle.control_panel.specs.declared.panel.Panel.{Panel}
 use Rattle.screen_layout.specs.Screen.{screen as painted}
-use Rattle.session_core.specs.Machine.{sheet_of, wants_key, State}
+use Rattle.screen_show.specs.Screen.{IsPrinted}
+use Rattle.session_core.specs.Frozen.{with_frozen}
+use Rattle.session_core.specs.Machine.{is_running, sheet_of, State}
 use Rattle.session_core.specs.Pressing.{room_panel}
+use Rattle.session_core.specs.Waiting.{waiting_panel}
 
--- what is shown of the room, with END's mark, and whether a macro runs
+-- what is shown of the macro's line or menu, or else of the room
+abbrev pub shown_panel : State → Panel
+shown_panel s = waiting_panel (sheet_of s) s.running (room_panel s.room)
+
+-- the same with END's mark, whether a macro runs, and the text in the mode's place
 abbrev pub panel_of : State → Panel
-panel_of s = record (room_panel s.room) { end = s.end; running = not (wants_key s) }
+panel_of s = record (shown_panel s) {
+  end = s.end;
+  running = is_running s;
+  indicate = s.indicate;
+}
+
+-- the screen as it is painted from nothing
+abbrev pub painted_screen : State → List (List ℕ)
+painted_screen s = painted (sheet_of s) (panel_of s) s.corner s.day s.second
 
 -- the screen that a state shows
 abbrev pub screen : State → List (List ℕ)
-screen s = painted (sheet_of s) (panel_of s) s.corner s.day s.second
+screen s = with_frozen s.frozen (painted_screen s)
+
+-- A state's screen as if nothing stood still was painted, and over it the one that is shown, where something does; no
+-- byte of that is below a space.
+pub record HasPainted (s : State) (lines : List (List ℕ)) (over : Option (List (List ℕ))) : Type 0 where
+  pub painted : lines ≡ painted_screen s
+  pub shown : unwrap_or over lines ≡ screen s
+  pub printed : IsPrinted (screen s)

@@ -1,9 +1,11 @@
 -- One step of the session.
-use Rattle.std.specs.Prelude.{◌≡◌, Bool, true, false}
+use Rattle.std.specs.Prelude.{◌≡◌, ℕ, Bool, true, false, List, if◌then◌else◌}
 use Rattle.commands_file.specs.Calls.{HaveAnswered, ShelfView}
 use Rattle.desk_errors.specs.declared.error.CommandError.TheVariants as error
 use Rattle.formula_eval.specs.declared.look.Scene.{Scene}
 use Rattle.key_words.specs.declared.key.Key.{Key}
+use Rattle.key_words.specs.declared.key.Key.TheVariants as key
+use Rattle.macro_engine.specs.Keys.{broken_off, key_step, takes_key}
 use Rattle.macro_engine.specs.Steps.{macro_step, MacroStep}
 use Rattle.macro_engine.specs.declared.steps.StepEnd.{StepEnd}
 use Rattle.macro_engine.specs.declared.steps.StepEnd.TheVariants.{Faulty, Indicates, Refused, Types, Works}
@@ -14,11 +16,12 @@ use Rattle.session_core.specs.Faults.{fault_message}
 use Rattle.session_core.specs.Machine.{and_further, followed_by, idle, pointer_of, quiet, scene_at, sheet_of}
 use Rattle.session_core.specs.Machine.{with_done, with_macro, Follows, Outcome, Replies, SessionView, State}
 use Rattle.session_core.specs.Pressing.{turn_of}
+use Rattle.session_core.specs.Frozen.{frozen_after, switches_of}
+use Rattle.session_core.specs.Screen.{screen}
 use Rattle.session_core.specs.declared.event.Event.{Event}
 use Rattle.session_core.specs.declared.event.Event.TheVariants.{Key as KeyEvent, Unit as UnitEvent}
 
--- What the key comes to is carried out in READY, without END's mark, whether it is pressed or a macro types it. None is
--- pressed while a macro runs, since none of its words waits for one yet.
+-- What the key comes to is carried out in READY, without END's mark, whether it is pressed or a macro types it.
 abbrev pub taken : Key → Replies → Scene → State → Outcome
 taken k replies scene s = carried (turn_of k s.room s.end s.desk) replies scene (idle s)
 
@@ -31,7 +34,7 @@ seen_from scene s = record scene { cursor = pointer_of s }
 abbrev pub come_to : StepEnd → Replies → Scene → State → Outcome
 come_to (Types k) replies scene s = taken k replies scene s
 come_to Works replies scene s = quiet s
-come_to (Indicates t) replies scene s = quiet s
+come_to (Indicates t) replies scene s = quiet (record s { indicate = t })
 come_to (Faulty f c) replies scene s = quiet (told (fault_message f c) s)
 come_to (Refused c) replies scene s = failed (error.Protected c) scene s
 
@@ -39,6 +42,21 @@ come_to (Refused c) replies scene s = failed (error.Protected c) scene s
 abbrev pub stepped : MacroStep → Replies → Scene → State → Outcome
 stepped x replies scene s =
     followed_by (with_done x.done (with_macro x.running s)) (λ t. come_to x.end replies (seen_from scene t) t)
+
+-- the macro that waits takes the key, which takes END's mark away; what the session is doing stays
+abbrev pub answered : Key → Replies → Scene → State → Outcome
+answered k replies scene s =
+    stepped (key_step scene k s.running (sheet_of s)) replies scene (record s { end = false })
+
+-- a key is the macro's, where that waits for it, or else the session's
+abbrev pub given : Key → Replies → Scene → State → Outcome
+given k replies scene s =
+    if takes_key k s.running then answered k replies scene s else taken k replies scene s
+
+-- a key is pressed: BREAK is the session's, and stops a macro that hasn't switched it off
+abbrev pub pressed_key : Key → Replies → Scene → State → Outcome
+pressed_key key.Break replies scene s = taken key.Break replies scene (with_macro (broken_off s.running) s)
+pressed_key k replies scene s = given k replies scene s
 
 -- the macro that runs makes its next step
 abbrev pub run_on : Replies → Scene → State → Outcome
@@ -48,18 +66,22 @@ run_on replies scene s = stepped (macro_step scene s.running (sheet_of s)) repli
 abbrev pub timed : Moment → State → State
 timed now s = record s { day = now.day; second = now.second }
 
--- the pointer's cell is shown, at this moment
-abbrev pub framed : Moment → State → State
-framed now s = timed now (record s { corner = corner_for (sheet_of s) s.corner })
+-- the pointer's cell is shown, at this moment; what is switched off stands still as this screen before the step shows
+-- it
+abbrev pub framed : List (List ℕ) → Moment → State → State
+framed before now s = timed now (record s {
+  corner = corner_for (sheet_of s) s.corner;
+  frozen = frozen_after before (switches_of s.running) s.frozen;
+})
 
--- a key is taken in the room that the session is in, or the macro that runs makes its next step
+-- a key is pressed, or the macro that runs makes its next step
 abbrev pub event_taken : Event → Replies → Scene → State → Outcome
-event_taken (KeyEvent k) replies scene s = taken k replies scene s
+event_taken (KeyEvent k) replies scene s = pressed_key k replies scene s
 event_taken UnitEvent replies scene s = run_on replies scene s
 
 -- One step, over what the shelf answers in it, and then the screen follows it.
 abbrev pub step : Event → Moment → Replies → State → Outcome
-step event now replies s = and_further (event_taken event replies (scene_at s now) s) (framed now)
+step event now replies s = and_further (event_taken event replies (scene_at s now) s) (framed (screen s) now)
 
 -- before the first step the sheet is recalculated, at this moment
 abbrev pub loaded : Moment → State → Outcome

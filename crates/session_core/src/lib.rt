@@ -5,6 +5,7 @@ mod acting;
 mod entering;
 mod event;
 mod faults;
+mod frozen;
 mod glance;
 mod laws;
 mod machine;
@@ -12,6 +13,7 @@ mod pressing;
 mod rows;
 mod session;
 mod touched;
+mod waiting;
 
 pub use event::{Event, Stepped};
 pub use key_words::Key;

@@ -1,28 +1,32 @@
 // The session's machine: where what a key comes to is carried out.
-ghost use Rattle.std.specs.Prelude.{◌≡◌, true, false, not, IfOk, IsOk, None, Ok, OnErr, OnOk};
+ghost use Rattle.std.specs.Prelude.{◌≡◌, true, false, IfOk, IsOk, None, OnErr, OnOk};
 ghost use Rattle.command_desk.specs.Desks.{of_desk};
 ghost use Rattle.commands_file.specs.Calls.{shelf_view, HasBrokenOff};
 ghost use Rattle.entry_line.specs.Line.{placed};
-ghost use Rattle.screen_layout.specs.Views.{viewed};
-ghost use Rattle.screen_show.specs.Changes.{Unchanged};
+ghost use Rattle.macro_engine.specs.Keys.{broken_off};
+ghost use Rattle.screen_show.specs.Screen.{IsPrinted};
 ghost use Rattle.session_core.specs.Carrying.{acted, asked, carried, editing, entered, failed, finished, going, left_by};
 ghost use Rattle.session_core.specs.Carrying.{is_pointer_protected, looking, recalculated, settling, started, told, writing};
-ghost use Rattle.session_core.specs.Machine.{begun_with, in_room, pointer_of, pointing_at, scene_at, sheet_of, wants_key};
+ghost use Rattle.session_core.specs.Frozen.{switches_of};
+ghost use Rattle.session_core.specs.Machine.{begun_with, in_room, pointer_of, pointing_at, scene_at, sheet_of};
+ghost use Rattle.session_core.specs.Machine.{unfrozen, wants_key, with_macro};
 ghost use Rattle.session_core.specs.Machine.{Leads, LeadsBy, LeadsOver};
 ghost use Rattle.session_core.specs.Moving.{IsMoved, OnlyMoves, OnlyMovesBy, OnlyMovesByKey};
-ghost use Rattle.session_core.specs.Pressing.{room_panel};
-ghost use Rattle.session_core.specs.Glances.{glance_of, marks_of, minute_of};
-ghost use Rattle.session_core.specs.Screen.{screen};
-ghost use Rattle.session_core.specs.Step.{come_to, event_taken, framed, is_key, loaded, taken, timed};
+ghost use Rattle.session_core.specs.Moving.{OnlyMovesByPress, OnlyMovesGiven};
+ghost use Rattle.session_core.specs.Screen.{painted_screen, screen};
+ghost use Rattle.session_core.specs.Step.{answered, come_to, event_taken, framed, given, is_key};
+ghost use Rattle.session_core.specs.Step.{loaded, pressed_key, taken};
 ghost use Rattle.session_core.specs.Touches.{touches_row, HasTouched, Settles};
 ghost use Rattle.work_sheet.specs.Did.{work_of};
+
+mod painting;
 
 use crate::acting::act;
 use crate::entering::{Meant, meaning_of};
 use crate::event::Event;
 use crate::faults::fault_message;
-use crate::glance::{Foot, Glance, Marks, Minute};
-use crate::pressing::{plain_mode, plain_view, room_panel, turn_of};
+use crate::frozen::Frozen;
+use crate::pressing::turn_of;
 use crate::rows::{ROWS, insert_cells, insert_row};
 use crate::touched::{Taken, Touched};
 use cell_pointer::{Way, moved};
@@ -34,15 +38,16 @@ use formula_eval::{Look, Scene, Tally};
 use formula_tree::Content;
 use grid_address::Cell;
 use key_words::{Key, Letter};
-use lics_text::{Line, Memory};
+use lics_text::{Line, Memory, Text};
 use macro_engine::{Engine, StepEnd, macro_named};
 use macro_text::MacroFault;
+use macro_words::{ALL_ON, Switches};
 use menu_room::menu_or_ready;
 use menu_tree::{Action, back};
 use natural_recalc::recalculation_is_cut;
 use outside_world::Shelf;
 use prompt_room::{WhatFollows, opening};
-use screen_layout::{PanelView, columns_shown, corner_for, paint_lines, wants_recalculation};
+use screen_layout::{columns_shown, corner_for};
 use screen_show::{LineSet, Screen};
 use serial_date::Moment;
 use session_rooms::{AnsweredCommand, Answering, PromptRoom, Room, Turn, TypingMode, TypingRoom};
@@ -62,6 +67,8 @@ pub struct Machine {
     room: Room,
     end: bool,
     engine: Engine,
+    indicate: Line,
+    frozen: Frozen,
     moment: Moment,
 }
 
@@ -83,6 +90,8 @@ impl Model for Machine {
         room = a.room;
         end = a.end;
         running = a.engine;
+        indicate = a.indicate;
+        frozen = a.frozen;
         day = a.moment.day;
         second = a.moment.second;
       };
@@ -122,15 +131,33 @@ impl Machine {
             room: Room::Ready,
             end: false,
             engine,
+            indicate: Line::new(),
+            frozen: Frozen::none(),
             moment: Moment::unknown(),
         }
     }
 
-    /// Whether a macro runs, so that the next step takes no key.
-    pub fn is_running(&self) -> bool
-        ensures { result ≡ not (wants_key self.now.state) }
+    /// Whether the next step takes a key: no macro runs, or the one that runs waits for a key.
+    pub fn wants_key(&self) -> bool
+        ensures { result ≡ wants_key self.now.state }
     {
-        self.engine.is_running()
+        !self.engine.is_running() || self.engine.awaits_key()
+    }
+
+    /// Whether a part of the screen stands still; where none does, nothing is held.
+    pub fn is_frozen(&self) -> bool
+        ensures { result ≡ false → self.now.state.frozen ≡ unfrozen }
+    {
+        !self.frozen.is_none()
+    }
+
+    /// The screen, by how it is painted: but for the lines that stand still.
+    pub fn over(&self, painted: &Screen) -> Screen
+        requires painted { painted.now ≡ painted_screen self.now.state }
+        ensures screen { result ≡ screen self.now.state }
+        ensures printed { IsPrinted (screen self.now.state) }
+    {
+        self.frozen.over(painted)
     }
 
     /// How many formulas were evaluated; the count stays at the last u64.
@@ -523,6 +550,16 @@ impl Machine {
         self.carry(turn, now, shelf)
     }
 
+    // A text stands in the mode's place.
+    fn show_in_place(&mut self, text: &Text)
+        ensures state { self.new.state ≡ record self.old.state { indicate = text.now } }
+        ensures work { self.new.work ≡ self.old.work }
+    {
+        let mut line = Line::new();
+        line.put_all(text.bytes());
+        self.indicate = line;
+    }
+
     // What follows behind a macro's step, by what it came to: a key that the macro types is taken, a fault stops the
     // macro and is told, and a protected cell is an error.
     fn come_to<S: Shelf>(
@@ -549,7 +586,7 @@ impl Machine {
             }
             StepEnd::Works => Ok(WORKED),
             StepEnd::Indicates(text) => {
-                drop(text);
+                self.show_in_place(&text);
                 Ok(WORKED)
             }
             StepEnd::Faulty(fault, cell) => {
@@ -581,6 +618,90 @@ impl Machine {
         self.come_to(end, now, shelf)
     }
 
+    // The macro that waits takes a key; what the session is doing stays.
+    fn answer<S: Shelf>(&mut self, key: Key, now: &Moment, shelf: &mut S) -> Result<Taken, Memory>
+        ensures ok { IfOk result (λ t. LeadsOver (answered key) now.now t.ends self.old self.new
+            (shelf_view (S.holds shelf.old) (S.faults shelf.old))
+            (shelf_view (S.holds shelf.new) (S.faults shelf.new))) }
+        ensures memory { OnErr result (HasBrokenOff
+            (shelf_view (S.holds shelf.old) (S.faults shelf.old))
+            (shelf_view (S.holds shelf.new) (S.faults shelf.new))) }
+        ensures touched { IfOk result (λ t. HasTouched t.touched self.old.state self.new.state) }
+    {
+        let scene = self.scene(now);
+        self.end = false;
+        let end = self
+            .engine
+            .answer(key, &mut self.desk.sheet, &scene, &mut self.tally)?;
+        self.come_to(end, now, shelf)
+    }
+
+    // BREAK stops the macro that runs, unless it has switched BREAK off.
+    fn break_off(&mut self)
+        ensures state { self.new.state ≡ with_macro (broken_off self.old.state.running) self.old.state }
+        ensures work { self.new.work ≡ self.old.work }
+    {
+        self.engine.break_off();
+    }
+
+    // BREAK, which drops what is being typed.
+    fn press_break<S: Shelf>(&mut self, now: &Moment, shelf: &mut S) -> Result<Taken, Memory>
+        ensures ok { IfOk result (λ t. LeadsOver (pressed_key Key.Break) now.now t.ends self.old self.new
+            (shelf_view (S.holds shelf.old) (S.faults shelf.old))
+            (shelf_view (S.holds shelf.new) (S.faults shelf.new))) }
+        ensures memory { OnErr result (HasBrokenOff
+            (shelf_view (S.holds shelf.old) (S.faults shelf.old))
+            (shelf_view (S.holds shelf.new) (S.faults shelf.new))) }
+        ensures moves { IsOk result }
+        ensures stays { IfOk result (λ t. t.ends ≡ false) }
+        ensures sheet { IsMoved (sheet_of self.old.state) (sheet_of self.new.state) }
+        ensures touched { IfOk result (λ t. HasTouched t.touched self.old.state self.new.state) }
+    {
+        self.break_off();
+        self.take(Key::Break, now, shelf)
+    }
+
+    // A key is the macro's, where that waits for it, or else the session's.
+    fn give<S: Shelf>(&mut self, key: Key, now: &Moment, shelf: &mut S) -> Result<Taken, Memory>
+        ensures ok { IfOk result (λ t. LeadsOver (given key) now.now t.ends self.old self.new
+            (shelf_view (S.holds shelf.old) (S.faults shelf.old))
+            (shelf_view (S.holds shelf.new) (S.faults shelf.new))) }
+        ensures memory { OnErr result (HasBrokenOff
+            (shelf_view (S.holds shelf.old) (S.faults shelf.old))
+            (shelf_view (S.holds shelf.new) (S.faults shelf.new))) }
+        ensures moves { OnlyMovesGiven key self.old.state → IsOk result }
+        ensures stays { OnlyMovesGiven key self.old.state → IfOk result (λ t. t.ends ≡ false) }
+        ensures sheet { OnlyMovesGiven key self.old.state →
+            IsMoved (sheet_of self.old.state) (sheet_of self.new.state) }
+        ensures touched { IfOk result (λ t. HasTouched t.touched self.old.state self.new.state) }
+    {
+        if self.engine.takes_key(&key) {
+            self.answer(key, now, shelf)
+        } else {
+            self.take(key, now, shelf)
+        }
+    }
+
+    // A key is pressed; BREAK stops a macro that hasn't switched it off.
+    fn press<S: Shelf>(&mut self, key: Key, now: &Moment, shelf: &mut S) -> Result<Taken, Memory>
+        ensures ok { IfOk result (λ t. LeadsOver (pressed_key key) now.now t.ends self.old self.new
+            (shelf_view (S.holds shelf.old) (S.faults shelf.old))
+            (shelf_view (S.holds shelf.new) (S.faults shelf.new))) }
+        ensures memory { OnErr result (HasBrokenOff
+            (shelf_view (S.holds shelf.old) (S.faults shelf.old))
+            (shelf_view (S.holds shelf.new) (S.faults shelf.new))) }
+        ensures moves { OnlyMovesByPress key self.old.state → IsOk result }
+        ensures stays { OnlyMovesByPress key self.old.state → IfOk result (λ t. t.ends ≡ false) }
+        ensures sheet { OnlyMovesByPress key self.old.state →
+            IsMoved (sheet_of self.old.state) (sheet_of self.new.state) }
+        ensures touched { IfOk result (λ t. HasTouched t.touched self.old.state self.new.state) }
+    {
+        match key {
+            Key::Break => self.press_break(now, shelf),
+            _ => self.give(key, now, shelf),
+        }
+    }
+
     /// Takes an event, before the screen follows it: a key, or the next unit of the macro that runs.
     pub fn take_event<S: Shelf>(
         &mut self,
@@ -602,7 +723,7 @@ impl Machine {
         ensures touched { IfOk result (λ t. HasTouched t.touched self.old.state self.new.state) }
     {
         match event {
-            Event::Key(key) => self.take(key, now, shelf),
+            Event::Key(key) => self.press(key, now, shelf),
             Event::Unit => self.run_on(now, shelf),
         }
     }
@@ -616,89 +737,26 @@ impl Machine {
         Ok(())
     }
 
-    /// The screen follows the pointer, at this moment.
-    pub fn follow(&mut self, now: &Moment)
-        ensures state { self.new.state ≡ framed now.now self.old.state }
+    // What the macro that runs has switched on.
+    fn switches(&self) -> Switches
+        ensures { result ≡ switches_of self.now.state.running }
+    {
+        match self.engine.running() {
+            Some(running) => running.switches,
+            None => ALL_ON,
+        }
+    }
+
+    /// The screen follows the pointer, at this moment; what is switched off stands still as this screen shows it, which
+    /// was shown before the step.
+    pub fn follow(&mut self, now: &Moment, before: &Screen)
+        requires { IsPrinted before.now }
+        ensures state { self.new.state ≡ framed before.now now.now self.old.state }
         ensures work { self.new.work ≡ self.old.work }
     {
+        let switches = self.switches();
+        self.frozen.follow(switches, before);
         self.corner = corner_for(&self.desk.sheet, self.corner);
         self.moment = *now;
-    }
-
-    // The minute of the last step.
-    fn minute(&self) -> Minute
-        ensures { result ≡ minute_of self.now.state }
-    {
-        let Moment { day, second } = self.moment;
-        Minute {
-            day,
-            hour: second / 3600,
-            minute: second / 60 % 60,
-        }
-    }
-
-    // What the last line marks.
-    fn marks(&self) -> Marks
-        ensures { result ≡ marks_of self.now.state }
-    {
-        Marks {
-            calc: wants_recalculation(&self.desk.sheet),
-            circ: self.desk.sheet.is_circular(),
-            end: self.end,
-            running: self.is_running(),
-        }
-    }
-
-    /// What the lines of the screen hang on beside the cells and the line that is typed.
-    pub fn glance(&self) -> Glance
-        ensures { result ≡ glance_of self.now.state }
-    {
-        Glance {
-            corner: self.corner,
-            mode: plain_mode(&self.room),
-            foot: Foot {
-                minute: self.minute(),
-                marks: self.marks(),
-            },
-        }
-    }
-
-    // Paints lines of the screen with what is shown of the room.
-    fn paint_with(&self, room: PanelView, lines: &LineSet, shown: &mut Screen)
-        requires view { viewed room ≡ room_panel self.now.state.room }
-        requires unchanged { Unchanged lines.now shown.old (screen self.now.state) }
-        ensures { shown.new ≡ screen self.now.state }
-    {
-        let mut panel = room;
-        panel.end = self.end;
-        panel.running = self.engine.is_running();
-        paint_lines(
-            &self.desk.sheet,
-            &panel,
-            self.corner,
-            &self.moment,
-            lines,
-            shown,
-        );
-    }
-
-    /// Paints the lines of a set over a screen that has the others in common with the session's.
-    pub fn paint_lines(&self, lines: &LineSet, shown: &mut Screen)
-        requires { Unchanged lines.now shown.old (screen self.now.state) }
-        ensures { shown.new ≡ screen self.now.state }
-    {
-        match plain_view(&self.room) {
-            Some(view) => self.paint_with(view, lines, shown),
-            None => self.paint_with(PanelView::of(&room_panel(&self.room)), lines, shown),
-        }
-    }
-
-    /// The screen, painted from nothing.
-    pub fn paint(&self) -> Screen
-        ensures { result ≡ screen self.now.state }
-    {
-        let mut shown = Screen::empty();
-        self.paint_lines(&LineSet::all(), &mut shown);
-        shown
     }
 }

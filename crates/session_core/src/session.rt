@@ -1,12 +1,13 @@
 // A session, step by step.
-ghost use Rattle.std.specs.Prelude.{◌≡◌, OnErr, OnOk, false, true};
+ghost use Rattle.std.specs.Prelude.{◌≡◌, ℕ, List, OnErr, OnOk, false, true};
+ghost use Rattle.std.specs.Option.{unwrap_or};
 ghost use Rattle.command_desk.specs.Desks.{of_desk};
 ghost use Rattle.commands_file.specs.Calls.{shelf_view, HasBrokenOff};
 ghost use Rattle.screen_show.specs.Changes.{Unchanged};
 ghost use Rattle.screen_show.specs.Screen.{IsScreen, IsPrinted};
 ghost use Rattle.session_core.specs.Machine.{begun, sheet_of, wants_key, Follows};
 ghost use Rattle.session_core.specs.Moving.{IsMoved, OnlyMovesBy};
-ghost use Rattle.session_core.specs.Screen.{screen};
+ghost use Rattle.session_core.specs.Screen.{painted_screen, screen, HasPainted};
 ghost use Rattle.session_core.specs.Step.{is_key, loaded, HasTakenStep};
 ghost use Rattle.work_sheet.specs.Did.{work_of};
 
@@ -18,13 +19,17 @@ use outside_world::{Memory, Shelf};
 use screen_show::{LineSet, Screen};
 use serial_date::Moment;
 use std::marker::Model;
+use std::mem;
 
 /// A session: the worksheet, the pointer, and what is being typed, pointed at or asked for. It keeps its screen, and
 /// paints anew what a step may change.
 #[derive(Drop)]
 pub struct Session {
     machine: Machine,
-    shown: Screen,
+    // the screen as if nothing stood still
+    painted: Screen,
+    // the screen that is shown, where something stands still
+    over: Option<Screen>,
     spent: bool,
 }
 
@@ -34,7 +39,7 @@ impl Model for Session {
     ghost use Rattle.std.specs.FinMap as map;
     ghost use Rattle.std.specs.Prelude.{◌≡◌, false};
     ghost use Rattle.session_core.specs.Machine.{SessionView};
-    ghost use Rattle.session_core.specs.Screen.{screen};
+    ghost use Rattle.session_core.specs.Screen.{HasPainted};
 
     ghost Value = { SessionView };
 
@@ -42,7 +47,40 @@ impl Model for Session {
 
     ghost view = { λ a. record { state = a.machine.state; work = a.machine.work; spent = a.spent } };
 
-    ghost invariant = { λ a. a.spent ≡ false → a.shown ≡ screen a.machine.state };
+    ghost invariant = { λ a. a.spent ≡ false → HasPainted a.machine.state a.painted a.over };
+}
+
+// The screen that is shown, where something stands still.
+fn shown_over(machine: &Machine, painted: &Screen) -> Option<Screen>
+    requires { painted.now ≡ painted_screen machine.now.state }
+    ensures { HasPainted machine.now.state painted.now result }
+{
+    if machine.is_frozen() {
+        Some(machine.over(painted))
+    } else {
+        None
+    }
+}
+
+// The screen that is shown.
+fn shown_of<'a>(over: &'a Option<Screen>, painted: &'a Screen) -> &'a Screen
+    ensures { result.now ≡ unwrap_or over.now painted.now }
+{
+    match over {
+        Some(shown) => shown,
+        None => painted,
+    }
+}
+
+// All lines are in the set where another screen is shown in the place of one that is painted.
+fn widen(over: &Option<Screen>, lines: &mut LineSet)
+    ensures before { (a b : List (List ℕ)) → Unchanged lines.old a b → Unchanged lines.new (unwrap_or over.now a) b }
+    ensures after { (a b : List (List ℕ)) → Unchanged lines.old a b → Unchanged lines.new a (unwrap_or over.now b) }
+{
+    match over {
+        Some(_) => *lines = LineSet::all(),
+        None => {}
+    }
 }
 
 impl Session {
@@ -51,10 +89,12 @@ impl Session {
         ensures { result ≡ begun (of_desk desk) (work_of desk.sheet 0) }
     {
         let machine = Machine::new(desk);
-        let shown = machine.paint();
+        let painted = machine.paint();
+        let over = shown_over(&machine, &painted);
         Session {
             machine,
-            shown,
+            painted,
+            over,
             spent: false,
         }
     }
@@ -67,7 +107,8 @@ impl Session {
     {
         match self.machine.load(now) {
             Ok(()) => {
-                self.shown = self.machine.paint();
+                self.painted = self.machine.paint();
+                self.over = shown_over(&self.machine, &self.painted);
                 Ok(())
             }
             Err(Memory) => {
@@ -84,11 +125,11 @@ impl Session {
         self.spent
     }
 
-    /// Whether the next step takes a key: no macro runs.
+    /// Whether the next step takes a key: no macro runs, or the one that runs waits for a key.
     pub fn wants_key(&self) -> bool
         ensures { result ≡ wants_key self.now.state }
     {
-        !self.machine.is_running()
+        self.machine.wants_key()
     }
 
     /// How many formulas were evaluated; the count stays at the last u64. Only dirty formulas are: those that were
@@ -133,10 +174,15 @@ impl Session {
         match self.machine.take_event(event, now, shelf) {
             Ok(taken) => {
                 let stepped = Stepped::of(taken.ends);
-                self.machine.follow(now);
+                self.machine
+                    .follow(now, shown_of(&self.over, &self.painted));
                 let after = self.machine.glance();
                 *changed = changed_lines(taken.touched, &before, &after);
-                self.machine.paint_lines(changed, &mut self.shown);
+                self.machine.paint_lines(changed, &mut self.painted);
+                let over = shown_over(&self.machine, &self.painted);
+                let was = mem::replace(&mut self.over, over);
+                widen(&was, changed);
+                widen(&self.over, changed);
                 stepped
             }
             Err(Memory) => {
@@ -153,6 +199,9 @@ impl Session {
         ensures shape { IsScreen (screen self.now.state) }
         ensures printed { IsPrinted (screen self.now.state) }
     {
-        &self.shown
+        let shown = shown_of(&self.over, &self.painted);
+        // It is called for its clause.
+        shown.is_whole();
+        shown
     }
 }

@@ -1,10 +1,11 @@
-use Rattle.screen_layout.proofs.Painted.{printed, shaped}
-use Rattle.session_core.specs.Screen.{panel_of}
+use Rattle.std.proofs.Common.{◌≡◌, rules, false, ap, subst, ◌∙◌}
+use Rattle.screen_show.specs.Screen.{IsScreen}
+use Rattle.session_core.specs.Machine.{SessionView}
+use Rattle.session_core.specs.Screen.{screen}
 use Rattle.session_core.proofs.session.Session.shown.Goals as goal
 
--- every screen has its lines, and no byte below 32
+-- every screen has its lines
 pub returns-clause-shape : goal.returns-clause-shape
-returns-clause-shape c = let s = c.args.self.now.state in shaped s.desk.sheet (panel_of s) s.corner s.day s.second
-
-pub returns-clause-printed : goal.returns-clause-printed
-returns-clause-printed c = let s = c.args.self.now.state in printed s.desk.sheet (panel_of s) s.corner s.day s.second
+returns-clause-shape c =
+    let fresh : c.self.inside.spent ≡ false = search rules in
+    subst IsScreen (c.shown_of-shown.ensures ∙ (c.self.invariant fresh).shown ∙ ap (λ (r : SessionView). screen r.state) c.self.view_is) c.is_whole.ensures

@@ -1,0 +1,12 @@
+use Rattle.std.proofs.Common.{ap, subst, sym}
+use Rattle.session_core.specs.Machine.{sheet_of, State}
+use Rattle.session_core.proofs.Alone.{ok_map}
+use Rattle.session_core.proofs.Stepping.{broken_over}
+use Rattle.session_core.proofs.machine.Machine.press_break.Goals as goal
+
+-- BREAK is taken behind the macro that it stopped
+pub returns-clause-ok : goal.returns-clause-ok
+returns-clause-ok g c =
+    ok_map c.take.result
+    (λ t l. broken_over c.args.now.now t.ends c.args.self.now c.break_off.new.self c.take.new.self _ _ c.break_off.ensures.state c.break_off.ensures.work l)
+    c.take.ensures.ok

@@ -1,0 +1,82 @@
+-- What is shown of a macro that waits.
+use Rattle.std.specs.Prelude.{ℕ, ◌+◌, nat_lt, Bool, true, false, List, [], map, take, Option, None, Some, if◌then◌else◌}
+use Rattle.std.specs.List.{range_with_len}
+use Rattle.control_panel.specs.Panels.{line_panel, plain_panel}
+use Rattle.control_panel.specs.declared.panel.Mode.TheVariants as mode
+use Rattle.control_panel.specs.declared.panel.Panel.{Panel}
+use Rattle.formula_eval.specs.Outlook.{Sight}
+use Rattle.grid_address.specs.Place.{Place}
+use Rattle.grid_address.specs.declared.TheConstants.{ROWS}
+use Rattle.lics_text.specs.declared.TheConstants.{MAX_LEN}
+use Rattle.macro_text.specs.Texts.{macro_text}
+use Rattle.macro_words.specs.Items.{beside, item_text}
+use Rattle.macro_words.specs.declared.running.Running.{Running}
+use Rattle.macro_words.specs.declared.waiting.MacroMenu.{MacroMenu}
+use Rattle.macro_words.specs.declared.waiting.Question.{Question}
+use Rattle.macro_words.specs.declared.waiting.Waiting.{Waiting}
+use Rattle.macro_words.specs.declared.waiting.Waiting.TheVariants as waiting
+use Rattle.menu_room.specs.Ring.{items_line}
+use Rattle.natural_recalc.specs.Context.{sight_of}
+use Rattle.work_sheet.specs.Seen.{Sheet}
+
+-- what is seen of a sheet
+abbrev pub seen : Sheet → Sight
+seen s = sight_of s.names s.settings s.grid
+
+-- a text, or nothing
+abbrev pub text_or_nothing : Option (List ℕ) → List ℕ
+text_or_nothing None = []
+text_or_nothing (Some text) = text
+
+-- the text of an item of a menu; nothing where none stands there
+abbrev pub item_of : Sheet → MacroMenu → ℕ → List ℕ
+item_of s m n = text_or_nothing (item_text (seen s) m.first n)
+
+-- the texts of a menu's items
+abbrev pub items_of : Sheet → MacroMenu → List (List ℕ)
+items_of s m = map (item_of s m) (range_with_len 0 m.count)
+
+-- the text of the cell below one; below the last row there is none
+abbrev pub text_below : Sheet → Place → List ℕ
+text_below s c =
+    if nat_lt (c.row + 1) ROWS then text_or_nothing (macro_text (seen s) (record { row = c.row + 1; col = c.col }))
+    else []
+
+-- a menu: its items, of which the highlighted one is marked, and the text below that
+abbrev pub menu_panel : Sheet → MacroMenu → Panel
+menu_panel s m = record (plain_panel mode.Menu) {
+  menu = take MAX_LEN (items_line m.highlight (items_of s m));
+  below = text_below s (beside m.highlight m.first);
+}
+
+-- a line, behind its prompt
+abbrev pub question_panel : Question → Panel
+question_panel q = line_panel mode.Edit q.prompt q.line.text q.line.cursor
+
+-- what is shown of what a macro waits for, or else what the session shows
+abbrev pub panel_by : Sheet → Waiting → Panel → Panel
+panel_by s waiting.Nothing p = p
+panel_by s (waiting.Time n) p = p
+panel_by s (waiting.OneKey c) p = p
+panel_by s (waiting.Line q) p = question_panel q
+panel_by s (waiting.Item m) p = menu_panel s m
+panel_by s waiting.Enter p = p
+
+-- what is shown of a macro that waits, or else what the session shows
+abbrev pub waiting_panel : Sheet → Option Running → Panel → Panel
+waiting_panel s None p = p
+waiting_panel s (Some r) p = panel_by s r.waiting p
+
+-- a line or a menu
+abbrev pub is_shown : Waiting → Bool
+is_shown waiting.Nothing = false
+is_shown (waiting.Time n) = false
+is_shown (waiting.OneKey c) = false
+is_shown (waiting.Line q) = true
+is_shown (waiting.Item m) = true
+is_shown waiting.Enter = false
+
+-- a macro shows its own line or menu
+abbrev pub shows_waiting : Option Running → Bool
+shows_waiting None = false
+shows_waiting (Some r) = is_shown r.waiting

@@ -1,0 +1,145 @@
+// What is painted of a session.
+ghost use Rattle.std.specs.Prelude.{◌≡◌, IfSome};
+ghost use Rattle.screen_layout.specs.Views.{viewed};
+ghost use Rattle.screen_show.specs.Changes.{Unchanged};
+ghost use Rattle.session_core.specs.Glances.{glance_of, is_plain, marks_of, minute_of, told_plainly};
+ghost use Rattle.session_core.specs.Screen.{painted_screen, shown_panel};
+
+use super::Machine;
+use crate::glance::{Foot, Glance, Marks, Minute};
+use crate::pressing::{plain_mode, plain_view, room_panel};
+use crate::waiting::{shows_waiting, waiting_panel};
+use control_panel::{Mode, Panel};
+use screen_layout::{PanelView, paint_lines, wants_recalculation};
+use screen_show::{LineSet, Screen};
+use serial_date::Moment;
+
+impl Machine {
+    // The minute of the last step.
+    fn minute(&self) -> Minute
+        ensures { result ≡ minute_of self.now.state }
+    {
+        let Moment { day, second } = self.moment;
+        Minute {
+            day,
+            hour: second / 3600,
+            minute: second / 60 % 60,
+        }
+    }
+
+    // What the last line marks.
+    fn marks(&self) -> Marks
+        ensures { result ≡ marks_of self.now.state }
+    {
+        Marks {
+            calc: wants_recalculation(&self.desk.sheet),
+            circ: self.desk.sheet.is_circular(),
+            end: self.end,
+            running: self.engine.is_running(),
+        }
+    }
+
+    // Whether no macro shows its own line or menu, nor a text in the mode's place.
+    fn is_plain(&self) -> bool
+        ensures { result ≡ is_plain self.now.state }
+    {
+        !shows_waiting(self.engine.running()) && self.indicate.bytes().is_empty()
+    }
+
+    // The mode, where the panel shows nothing else but a line that is typed.
+    fn plain_mode(&self) -> Option<Mode>
+        ensures { result ≡ told_plainly self.now.state }
+    {
+        if self.is_plain() {
+            plain_mode(&self.room)
+        } else {
+            None
+        }
+    }
+
+    /// What the lines of the screen hang on beside the cells and the line that is typed.
+    pub fn glance(&self) -> Glance
+        ensures { result ≡ glance_of self.now.state }
+    {
+        Glance {
+            corner: self.corner,
+            mode: self.plain_mode(),
+            foot: Foot {
+                minute: self.minute(),
+                marks: self.marks(),
+            },
+        }
+    }
+
+    // Paints lines of the screen with what is shown of the room.
+    fn paint_with(&self, room: PanelView, lines: &LineSet, shown: &mut Screen)
+        requires view { viewed room ≡ shown_panel self.now.state }
+        requires unchanged { Unchanged lines.now shown.old (painted_screen self.now.state) }
+        ensures { shown.new ≡ painted_screen self.now.state }
+    {
+        let mut panel = PanelView {
+            mode: room.mode,
+            prompt: room.prompt,
+            typed: room.typed,
+            cursor: room.cursor,
+            menu: room.menu,
+            below: room.below,
+            message: room.message,
+            end: false,
+            running: false,
+            indicate: self.indicate.bytes(),
+        };
+        panel.end = self.end;
+        panel.running = self.engine.is_running();
+        paint_lines(
+            &self.desk.sheet,
+            &panel,
+            self.corner,
+            &self.moment,
+            lines,
+            shown,
+        );
+    }
+
+    // The panel of the macro's line or menu, or else of the room.
+    fn shown_panel(&self) -> Panel
+        ensures { result ≡ shown_panel self.now.state }
+    {
+        let room = room_panel(&self.room);
+        waiting_panel(&self.desk.sheet, self.engine.running(), room)
+    }
+
+    // What is shown in READY and while a line is typed into a cell; none elsewhere, and where a macro shows its own.
+    fn plain_view(&self) -> Option<PanelView<'_>>
+        ensures { IfSome result (λ v. viewed v ≡ shown_panel self.now.state) }
+    {
+        if shows_waiting(self.engine.running()) {
+            return None;
+        }
+        match plain_view(&self.room) {
+            Some(view) => Some(view),
+            None => None,
+        }
+    }
+
+    /// Paints the lines of a set over a screen that has the others in common with the session's, as if nothing stood
+    /// still.
+    pub fn paint_lines(&self, lines: &LineSet, shown: &mut Screen)
+        requires { Unchanged lines.now shown.old (painted_screen self.now.state) }
+        ensures { shown.new ≡ painted_screen self.now.state }
+    {
+        match self.plain_view() {
+            Some(view) => self.paint_with(view, lines, shown),
+            None => self.paint_with(PanelView::of(&self.shown_panel()), lines, shown),
+        }
+    }
+
+    /// The screen as if nothing stood still, painted from nothing.
+    pub fn paint(&self) -> Screen
+        ensures { result ≡ painted_screen self.now.state }
+    {
+        let mut shown = Screen::empty();
+        self.paint_lines(&LineSet::all(), &mut shown);
+        shown
+    }
+}
