@@ -2,6 +2,14 @@
 use Rattle.std.specs.Prelude.{ℕ, zero, suc, ◌+◌, ◌-◌, ◌*◌, ◌^◌, ℤ, nat_abs, ◌==◌, nat_lt, if◌then◌else◌}
 use Rattle.fixed_value.specs.Doubles.{nearest_even, sign_bit}
 
+-- the bits that stand for ERR
+abbrev pub ERR_BITS : ℕ
+ERR_BITS = 0x7FF0000000000000
+
+-- the bits that stand for NA
+abbrev pub NA_BITS : ℕ
+NA_BITS = 0xFFF0000000000000
+
 -- the first scale, from one on and within so many, at which a size has 53 bits
 abbrev pub scale_from : ℕ → ℕ → ℕ → ℕ
 scale_from zero size scale = scale

@@ -5,7 +5,7 @@ use Rattle.formula_tree.specs.declared.function.Function.{Function}
 use Rattle.wk1_formula.specs.FunctionCodes.{function_of}
 use Rattle.formula_tree.specs.declared.ast.Op.{Op}
 use Rattle.formula_tree.specs.declared.ast.Op.TheVariants.{Pow, Mul, Div, Add, Sub, Eq, Ne, Lt, Gt, Le, Ge, And, Or, Join}
-use Rattle.wk1_formula.specs.declared.opcodes.TheConstants as opcode
+use Rattle.wk1_formula.specs.Opcodes as opcode
 use Rattle.wk1_formula.specs.declared.kind.Kind.{Kind}
 use Rattle.wk1_formula.specs.declared.kind.Kind.TheVariants as kind
 

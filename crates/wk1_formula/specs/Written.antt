@@ -12,10 +12,9 @@ use Rattle.formula_tree.specs.declared.function.Function.{Function}
 use Rattle.formula_tree.specs.Tree.{Tree}
 use Rattle.wk1_formula.specs.FunctionCodes as table
 use Rattle.wk1_formula.specs.Codes.{Code, number, error, missing, reference, range, text, brackets, minus, plus, negation, operator, function, postfix}
-use Rattle.wk1_formula.specs.Doubles.{bits_of}
+use Rattle.wk1_formula.specs.Doubles.{bits_of, ERR_BITS, NA_BITS}
 use Rattle.wk1_formula.specs.Kinds.{op_code}
-use Rattle.wk1_formula.specs.declared.opcodes.TheConstants as opcode
-use Rattle.wk1_formula.specs.declared.write.TheConstants.{ERR_BITS, NA_BITS}
+use Rattle.wk1_formula.specs.Opcodes as opcode
 
 -- a coordinate: an absolute number, or bit 15 with 14 bits of how far the target lies from its own place, among so many
 abbrev pub coordinate : Axis → ℕ → ℕ → ℕ
