@@ -5,30 +5,28 @@ use Rattle.wk1_records.specs.declared.kind.Kind.{Kind}
 use Rattle.wk1_records.specs.declared.kind.Kind.TheVariants.{Bof, Eof, CalcMode, CalcOrder, Range, Window, ColumnWidth, Name, Blank, Integer, Number, Label, Formula, Protection, LabelFormat, CalcCount, Str, HiddenColumns, Other}
 use Rattle.sheet_store.specs.declared.order.Order.{Order}
 use Rattle.sheet_store.specs.declared.order.Order.TheVariants.{Natural, Columnwise, Rowwise}
-use Rattle.wk1_records.specs.declared.order.TheConstants.{NATURAL, COLUMNWISE, ROWWISE}
-use Rattle.wk1_records.specs.declared.numbers.TheConstants as number
 
 -- the number of a type
 abbrev pub number_of : Kind → ℕ
-number_of Bof = number.BOF
-number_of Eof = number.EOF
-number_of CalcMode = number.CALC_MODE
-number_of CalcOrder = number.CALC_ORDER
-number_of Range = number.RANGE
-number_of Window = number.WINDOW
-number_of ColumnWidth = number.COLUMN_WIDTH
-number_of Name = number.NAME
-number_of Blank = number.BLANK
-number_of Integer = number.INTEGER
-number_of Number = number.NUMBER
-number_of Label = number.LABEL
-number_of Formula = number.FORMULA
-number_of Protection = number.PROTECTION
-number_of LabelFormat = number.LABEL_FORMAT
-number_of CalcCount = number.CALC_COUNT
-number_of Str = number.STR
-number_of HiddenColumns = number.HIDDEN_COLUMNS
-number_of Other = number.OTHER
+number_of Bof = 0x00
+number_of Eof = 0x01
+number_of CalcMode = 0x02
+number_of CalcOrder = 0x03
+number_of Range = 0x06
+number_of Window = 0x07
+number_of ColumnWidth = 0x08
+number_of Name = 0x0B
+number_of Blank = 0x0C
+number_of Integer = 0x0D
+number_of Number = 0x0E
+number_of Label = 0x0F
+number_of Formula = 0x10
+number_of Protection = 0x24
+number_of LabelFormat = 0x29
+number_of CalcCount = 0x2F
+number_of Str = 0x33
+number_of HiddenColumns = 0x64
+number_of Other = 0xFFFF
 
 -- the type of a record by its number
 unfoldable pub kind_of : ℕ → Kind
@@ -99,6 +97,6 @@ has_head Other = false
 
 -- the byte of an order of recalculation
 abbrev pub order_byte : Order → ℕ
-order_byte Natural = NATURAL
-order_byte Columnwise = COLUMNWISE
-order_byte Rowwise = ROWWISE
+order_byte Natural = 0x00
+order_byte Columnwise = 0x01
+order_byte Rowwise = 0xFF

@@ -1,7 +1,8 @@
 -- Records and their bytes (worksheet file format).
 use Rattle.std.specs.Int.{to_le_bytes, w16}
 use Rattle.std.specs.Prelude.{ℕ, ◌≡◌, ◌<◌, ◌+◌, List, ◌++◌, length, drop, get_or, flat_map}
-use Rattle.wk1_records.specs.declared.numbers.TheConstants.{EOF}
+use Rattle.wk1_records.specs.Kinds.{number_of}
+use Rattle.wk1_records.specs.declared.kind.Kind.TheVariants.{Eof}
 
 -- each is below 256
 abbrev pub IsBytes : List ℕ → Type 0
@@ -32,10 +33,10 @@ pub data Records : Type 0 where
 
 -- The bytes from an offset on are these records. Bytes behind EOF belong to none.
 pub data Splits : ℕ → List ℕ → Records → Type 0 where
-  at_end : {at : ℕ} (p : Piece) (rest : List ℕ) → p.kind ≡ EOF → IsPiece p → Splits at (piece_bytes p ++ rest) ended
+  at_end : {at : ℕ} (p : Piece) (rest : List ℕ) → p.kind ≡ number_of Eof → IsPiece p → Splits at (piece_bytes p ++ rest) ended
   at_cut : {at : ℕ} {bytes : List ℕ} → ((p : Piece) (rest : List ℕ) → IsPiece p → bytes ≡ piece_bytes p ++ rest → ⊥)
       → Splits at bytes (cut at)
-  at_piece : {at : ℕ} {rs : Records} (p : Piece) (rest : List ℕ) → (p.kind ≡ EOF → ⊥) → IsPiece p
+  at_piece : {at : ℕ} {rs : Records} (p : Piece) (rest : List ℕ) → (p.kind ≡ number_of Eof → ⊥) → IsPiece p
       → Splits (at + (4 + length p.body)) rest rs → Splits at (piece_bytes p ++ rest) (piece p rs)
 
 -- a record of this type and body is at the front of bytes
