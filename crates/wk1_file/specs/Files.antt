@@ -5,10 +5,21 @@ use Rattle.wk1_formula.specs.Reading.{short_at}
 use Rattle.wk1_records.specs.Kinds.{number_of}
 use Rattle.wk1_records.specs.Records.{Records, Splits}
 use Rattle.wk1_records.specs.declared.kind.Kind.TheVariants as kind
-use Rattle.wk1_file.specs.declared.load.TheConstants.{FIRST_RELEASE, LAST_RELEASE, MOST_BYTES}
 use Rattle.wk1_file.specs.Sheets.{sheet_of}
 use Rattle.wk1_records.specs.declared.fault.Wk1Fault.{Wk1Fault}
 use Rattle.wk1_records.specs.declared.fault.Wk1Fault.TheVariants as fault
+
+-- the number of the first release whose files are read: its bytes are 04 04
+abbrev pub FIRST_RELEASE : ℕ
+FIRST_RELEASE = 0x0404
+
+-- the number of the last such release, which is Release 2: its bytes are 06 04
+abbrev pub LAST_RELEASE : ℕ
+LAST_RELEASE = 0x0406
+
+-- the most bytes of a file (this project's choice)
+abbrev pub MOST_BYTES : ℕ
+MOST_BYTES = 67108864
 
 -- the first record is BOF, and its body begins 04 04, 05 04 or 06 04
 abbrev pub has_bof : List ℕ → Bool

@@ -17,12 +17,10 @@ use Rattle.sheet_store.specs.declared.order.Order.{Order}
 use Rattle.sheet_store.specs.declared.order.Order.TheVariants.{Natural, Columnwise, Rowwise}
 use Rattle.sheet_store.specs.State.{CellState}
 use Rattle.sheet_store.specs.declared.writes.SavedSheet.{SavedSheet}
-use Rattle.wk1_formula.specs.Doubles.{bits_of}
+use Rattle.wk1_formula.specs.Doubles.{bits_of, ERR_BITS, NA_BITS}
 use Rattle.wk1_formula.specs.Written.{code_of}
-use Rattle.wk1_formula.specs.declared.write.TheConstants.{ERR_BITS, NA_BITS}
 use Rattle.wk1_records.specs.Bodies.{head, made, place_bytes}
 use Rattle.wk1_records.specs.Kinds.{order_byte}
-use Rattle.wk1_file.specs.declared.put_settings.TheConstants.{AUTOMATIC, PROTECTED}
 use Rattle.wk1_records.specs.Records.{pieces_bytes, Piece}
 use Rattle.wk1_records.specs.declared.kind.Kind.{Kind}
 use Rattle.wk1_records.specs.declared.kind.Kind.TheVariants as kind
@@ -86,6 +84,14 @@ range_piece (Some p) = made kind.Range (place_bytes (record { row = 0; col = 0 }
 -- the pointer, the global format and width, and 23 bytes that mean nothing here
 abbrev pub window_piece : Choices → Piece
 window_piece c = made kind.Window (place_bytes c.pointer ++ c.format ∷ 0 ∷ (to_le_bytes w16 c.width ++ replicate 23 0))
+
+-- the byte of a sheet that recalculates by itself
+abbrev pub AUTOMATIC : ℕ
+AUTOMATIC = 0xFF
+
+-- the byte of a protected sheet
+abbrev pub PROTECTED : ℕ
+PROTECTED = 0x01
 
 -- the settings, one record each
 abbrev pub settings_pieces : Choices → List Piece
