@@ -8,7 +8,7 @@ use Rattle.screen_layout.specs.Cells.{cell_text}
 use Rattle.shown_cells.specs.Cells.{padded}
 use Rattle.work_sheet.specs.Seen.{Sheet}
 use Rattle.screen_layout.specs.Sheets.{width_in}
-use Rattle.screen_layout.specs.declared.shown_columns.TheConstants.{ROOM}
+use Rattle.screen_layout.specs.Places.{ROOM}
 use Rattle.screen_layout.specs.declared.shown_columns.Column.{Column}
 
 -- Of so many columns from one on, those that are shown in the room: hidden ones are passed over, and the others stand

@@ -8,7 +8,7 @@ use Rattle.grid_address.specs.Address.{address_of, decimal}
 use Rattle.natural_recalc.specs.Context.{format_of}
 use Rattle.sheet_store.specs.Grid.{width_of}
 use Rattle.screen_layout.specs.Lines.{filled}
-use Rattle.screen_layout.specs.declared.control.TheConstants.{CONTENT_END, LAST_COLUMN, MODE_COLUMN}
+use Rattle.screen_layout.specs.Places.{CONTENT_END, LAST_COLUMN, MODE_COLUMN}
 use Rattle.work_sheet.specs.Seen.{Sheet}
 use Rattle.control_panel.specs.declared.panel.Mode.{Mode}
 use Rattle.control_panel.specs.declared.panel.Mode.TheVariants.{Ready, Label, Value, Edit, Point, Menu, Error}

@@ -3,7 +3,7 @@ use Rattle.std.specs.Prelude.{ℕ, ◌*◌, ◌/◌, ◌%◌, pos, Bool, true, f
 use Rattle.cell_format.specs.Numbers.{shown_number, two_digits}
 use Rattle.grid_address.specs.Formats.{date_format}
 use Rattle.screen_layout.specs.Lines.{filled}
-use Rattle.screen_layout.specs.declared.foot.TheConstants.{CALC_COLUMN, CIRC_COLUMN, CMD_COLUMN, END_COLUMN}
+use Rattle.screen_layout.specs.Places.{CALC_COLUMN, CIRC_COLUMN, CMD_COLUMN, END_COLUMN}
 use Rattle.work_sheet.specs.Seen.{Sheet}
 use Rattle.control_panel.specs.declared.panel.Mode.{Mode}
 use Rattle.control_panel.specs.declared.panel.Mode.TheVariants.{Ready, Label, Value, Edit, Point, Menu, Error}

@@ -6,6 +6,7 @@ pub mod Control
 pub mod Corner
 pub mod Foot
 pub mod Lines
+pub mod Places
 pub mod Screen
 pub mod Sheets
 pub mod Views
