@@ -33,7 +33,8 @@ pub data Records : Type 0 where
 
 -- The bytes from an offset on are these records. Bytes behind EOF belong to none.
 pub data Splits : ℕ → List ℕ → Records → Type 0 where
-  at_end : {at : ℕ} (p : Piece) (rest : List ℕ) → p.kind ≡ number_of Eof → IsPiece p → Splits at (piece_bytes p ++ rest) ended
+  at_end : {at : ℕ} (p : Piece) (rest : List ℕ) → p.kind ≡ number_of Eof → IsPiece p
+      → Splits at (piece_bytes p ++ rest) ended
   at_cut : {at : ℕ} {bytes : List ℕ} → ((p : Piece) (rest : List ℕ) → IsPiece p → bytes ≡ piece_bytes p ++ rest → ⊥)
       → Splits at bytes (cut at)
   at_piece : {at : ℕ} {rs : Records} (p : Piece) (rest : List ℕ) → (p.kind ≡ number_of Eof → ⊥) → IsPiece p
