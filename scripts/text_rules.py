@@ -36,6 +36,8 @@ class Rules:
                 self.lengths(name, lines)
                 self.function_meanings(name, lines)
                 self.numbers(name, lines)
+            if "/specs/" in name or name.endswith(".rt"):
+                self.own_numbers(name, lines)
             if "/specs/" in name and name.endswith(".antt"):
                 self.definition_meanings(name, lines)
                 self.numbers(name, lines)
@@ -44,6 +46,12 @@ class Rules:
         self.edits()
         self.map_of_crates()
         self.theorems()
+
+    def own_numbers(self, name, lines):
+        """A definition takes no number from the code: two constants of the code that change places change no meaning."""
+        for number, line in enumerate(lines, 1):
+            if re.match(r"\s*(ghost )?use .*\bTheConstants\b", line):
+                self.fault(f"{name}:{number}: a definition takes a constant of the code")
 
     def places(self):
         """Only known names stand at the top and in a crate, and no build product is kept."""
@@ -114,7 +122,7 @@ class Rules:
         """The last row and the longest text have names, in code and in definitions."""
         for at, line in enumerate(lines):
             code = re.split("//|--", line)[0]
-            if re.search(r"(?<![\w.])(8191|8192|240)(u8|u16|u32|usize|i64)?(?![\w.])", code) and not re.match(r" *(pub(\(\w+\))? )?const ", code):
+            if re.search(r"(?<![\w.])(8191|8192|240)(u8|u16|u32|usize|i64)?(?![\w.])", code) and not re.match(r" *(pub(\(\w+\))? )?const |[A-Z_]+ = ", code):
                 self.fault(f"{name}:{at + 1}: a number that has a name: {line.strip()[:90]}")
 
     def columns(self, name, lines):

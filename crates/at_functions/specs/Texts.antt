@@ -1,8 +1,7 @@
 -- The functions of texts.
 use Rattle.std.specs.Prelude.{ℕ, zero, suc, ◌+◌, ◌-◌, ◌*◌, ◌==◌, ◌&&◌, nat_le, ℤ, pos, negsuc, Bool, true, false, Option, Some, None, List, [], ◌∷◌, ◌++◌, length, take, drop, if◌then◌else◌}
-use Rattle.lics_text.specs.declared.TheConstants.{MAX_LEN}
+use Rattle.lics_text.specs.Limits.{MAX_LEN}
 use Rattle.fixed_value.specs.Written.{written}
-use Rattle.at_functions.specs.declared.texts.TheConstants.{FIRST_CODE, LAST_CODE}
 use Rattle.at_functions.specs.Numbers.{count_of, in_units, units, whole, within}
 
 -- a number in a text with so many decimals; none where the decimals are no count
@@ -82,7 +81,7 @@ char_by (Some code) = Some (code ∷ [])
 
 -- the byte of a code from 32 to 255
 abbrev pub char_of : ℤ → Option (List ℕ)
-char_of code = char_by (within FIRST_CODE LAST_CODE (whole code))
+char_of code = char_by (within 32 255 (whole code))
 
 -- whether a text begins with the bytes
 abbrev pub starts : List ℕ → List ℕ → Bool

@@ -2,7 +2,7 @@
 use Rattle.std.specs.Prelude.{ℕ, zero, suc, ◌+◌, ◌-◌, min, max, Bool, not, false, ◌&&◌, List, [], ◌∷◌, map, Option, Some, None, if◌then◌else◌}
 use Rattle.std.specs.FinMap as finite
 use Rattle.std.specs.List.{range_with_len}
-use Rattle.grid_address.specs.declared.TheConstants.{LAST_COLUMN, LAST_ROW}
+use Rattle.grid_address.specs.Limits.{LAST_COLUMN, LAST_ROW}
 use Rattle.grid_address.specs.Place.{Place}
 use Rattle.sheet_store.specs.Grid.{is_blank, last_used, Grid}
 use Rattle.sheet_store.specs.State.{CellState}

@@ -21,7 +21,7 @@ use Rattle.sheet_shifts.specs.declared.shift.Shift.TheVariants.{Lines}
 use Rattle.sheet_store.specs.Choices.{Choices}
 use Rattle.sheet_store.specs.Grid.{set_hidden_of, Grid}
 use Rattle.sheet_store.specs.declared.order.Order.TheVariants as order
-use Rattle.sheet_store.specs.declared.own_width.TheConstants.{MOST_WIDTH}
+use Rattle.sheet_store.specs.Limits.{MOST_WIDTH}
 use Rattle.work_sheet.specs.Doing.{quiet, Done}
 use Rattle.work_sheet.specs.Editing.{reordered, restored, with_settings, with_width}
 use Rattle.work_sheet.specs.Seen.{fresh_sheet, Sheet}

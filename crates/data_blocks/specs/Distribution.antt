@@ -2,7 +2,7 @@
 use Rattle.std.specs.Prelude.{ℕ, ◌+◌, ◌||◌, ◌&&◌, ◌==◌, not, ℤ, pos, Bool, true, Option, None, Some, List, [], ◌∷◌, map, Result, Ok, Err, if◌then◌else◌}
 use Rattle.std.specs.Int.RustNames.{int_lt}
 use Rattle.std.specs.List.{count_by, flat_map, zip}
-use Rattle.grid_address.specs.declared.TheConstants.{LAST_COLUMN, LAST_ROW}
+use Rattle.grid_address.specs.Limits.{LAST_COLUMN, LAST_ROW}
 use Rattle.grid_address.specs.Place.{height_of, Extent, Place}
 use Rattle.formula_tree.specs.declared.value.Value.{Value}
 use Rattle.formula_tree.specs.declared.value.Value.TheVariants as value

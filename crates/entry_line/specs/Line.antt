@@ -1,6 +1,6 @@
 -- A line that is edited, and what each key does with it.
 use Rattle.std.specs.Prelude.{ℕ, ◌+◌, ◌-◌, nat_lt, min, if◌then◌else◌, length, take, drop, List, [], ◌∷◌, ◌++◌}
-use Rattle.lics_text.specs.declared.TheConstants.{MAX_LEN}
+use Rattle.lics_text.specs.Limits.{MAX_LEN}
 use Rattle.key_words.specs.declared.key.Key.{Key}
 use Rattle.key_words.specs.declared.key.Key.TheVariants.{Byte, Enter, Up, Down, Left, Right, Home, End, PgUp, PgDn, BigLeft, BigRight, Esc, Bs, Del, Edit, Name, Abs, Goto, Window, Query, Table, Calc, Graph, Break, Undo, Alt}
 use Rattle.entry_line.specs.declared.event.LineEvent.{LineEvent}

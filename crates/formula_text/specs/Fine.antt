@@ -1,7 +1,7 @@
 -- What the parts of a text keep.
 use Rattle.std.specs.Prelude.{Bool, true, ◌&&◌, nat_le, List, length}
 use Rattle.std.specs.List.{list_all}
-use Rattle.lics_text.specs.declared.TheConstants.{MAX_LEN}
+use Rattle.lics_text.specs.Limits.{MAX_LEN}
 use Rattle.formula_tree.specs.Shape.{has_no_quote, not_negative}
 use Rattle.formula_tree.specs.Table.{counts_of, takes}
 use Rattle.formula_text.specs.declared.lexeme.Kind.{Kind}

@@ -1,6 +1,6 @@
 -- The formula that a text spells, or its first fault.
 use Rattle.std.specs.Prelude.{ℕ, pos, nat_le, nat_lt, List, [], ◌∷◌, ◌++◌, length, Result, Ok, Err, if◌then◌else◌}
-use Rattle.lics_text.specs.declared.TheConstants.{MAX_LEN}
+use Rattle.lics_text.specs.Limits.{MAX_LEN}
 use Rattle.formula_tree.specs.declared.ast.Op.{Op}
 use Rattle.formula_tree.specs.declared.function.Function.{Function as AtFunction}
 use Rattle.formula_tree.specs.Shape.{level, lowest}

@@ -1,6 +1,6 @@
 -- Where a reference leads.
 use Rattle.std.specs.Prelude.{Bool}
-use Rattle.grid_address.specs.declared.TheConstants.{COLUMNS, ROWS}
+use Rattle.grid_address.specs.Limits.{COLUMNS, ROWS}
 use Rattle.grid_address.specs.Place.{Place}
 use Rattle.grid_address.specs.Axes.{axis_to, resolved, Reference}
 

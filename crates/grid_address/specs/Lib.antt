@@ -2,6 +2,7 @@ pub mod Address
 pub mod Axes
 pub mod Formats
 pub mod Leads
+pub mod Limits
 pub mod Place
 pub mod Progress
 pub mod Reading

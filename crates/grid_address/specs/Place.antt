@@ -2,7 +2,7 @@
 use Rattle.std.specs.Prelude.{ℕ, ◌+◌, ◌-◌, ◌<◌, Bool, ◌&&◌, nat_eq, nat_le, min, max}
 use Rattle.std.specs.declared.cmp.Ordering.{Ordering}
 use Rattle.std.specs.Ordering.{nat_cmp, ordering_then}
-use Rattle.grid_address.specs.declared.TheConstants.{COLUMNS, LAST_COLUMN, LAST_ROW, ROWS}
+use Rattle.grid_address.specs.Limits.{COLUMNS, LAST_COLUMN, LAST_ROW, ROWS}
 
 -- a cell of the sheet, by its row and its column from 0 on
 pub record Place : Type 0 where

@@ -14,7 +14,7 @@ pub struct Cell {
 impl Model for Cell {
     ghost use Rattle.std.specs.Prelude.{◌<◌};
     ghost use Rattle.grid_address.specs.Place.{Place};
-    ghost use Rattle.grid_address.specs.declared.TheConstants.{COLUMNS, ROWS};
+    ghost use Rattle.grid_address.specs.Limits.{COLUMNS, ROWS};
 
     ghost Value = { Place };
 

@@ -23,7 +23,7 @@ pub struct Ref {
 impl Model for Ref {
     ghost use Rattle.std.specs.Prelude.{◌<◌};
     ghost use Rattle.grid_address.specs.Axes.{number_of, Reference};
-    ghost use Rattle.grid_address.specs.declared.TheConstants.{COLUMNS, ROWS};
+    ghost use Rattle.grid_address.specs.Limits.{COLUMNS, ROWS};
 
     ghost Value = { Reference };
 

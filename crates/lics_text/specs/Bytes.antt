@@ -2,7 +2,7 @@
 use Rattle.std.specs.Prelude.{ℕ, ◌≤◌, List, length}
 use Rattle.std.specs.List.{All}
 use Rattle.ascii_bytes.specs.Ascii as ascii
-use Rattle.lics_text.specs.declared.TheConstants.{MAX_LEN}
+use Rattle.lics_text.specs.Limits.{MAX_LEN}
 
 -- at most 240 bytes, none below a space
 abbrev pub IsText : List ℕ → Type 0

@@ -4,7 +4,7 @@ use Rattle.at_functions.specs.Numbers.{count_of}
 use Rattle.formula_eval.specs.Outlook.{Outlook}
 use Rattle.formula_text.specs.Words.{named_span}
 use Rattle.grid_address.specs.Place.{Extent, Place}
-use Rattle.grid_address.specs.declared.TheConstants.{LAST_ROW}
+use Rattle.grid_address.specs.Limits.{LAST_ROW}
 use Rattle.key_words.specs.declared.command.Command.{Command}
 use Rattle.key_words.specs.declared.command.Command.TheVariants as command
 use Rattle.key_words.specs.declared.key.Key.{Key}

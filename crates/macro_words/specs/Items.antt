@@ -5,7 +5,7 @@ use Rattle.formula_eval.specs.Outlook.{Sight}
 use Rattle.formula_tree.specs.declared.value.Content.{Content}
 use Rattle.formula_tree.specs.declared.value.Content.TheVariants as content
 use Rattle.grid_address.specs.Place.{Place}
-use Rattle.grid_address.specs.declared.TheConstants.{COLUMNS, LAST_COLUMN}
+use Rattle.grid_address.specs.Limits.{COLUMNS, LAST_COLUMN}
 use Rattle.macro_words.specs.declared.waiting.MacroMenu.{MacroMenu}
 
 -- the cell so many columns to the right, or the last one of its row

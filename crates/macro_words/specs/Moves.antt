@@ -1,8 +1,8 @@
 -- How a word moves the macro.
 use Rattle.std.specs.Prelude.{ℕ, ◌+◌, ◌-◌, nat_lt, true, List, [], ◌∷◌, ◌++◌, length, take, slice_get, Option, None, Some, if◌then◌else◌}
-use Rattle.grid_address.specs.declared.TheConstants.{LAST_ROW, ROWS}
+use Rattle.grid_address.specs.Limits.{LAST_ROW, ROWS}
 use Rattle.grid_address.specs.Place.{Place}
-use Rattle.lics_text.specs.declared.TheConstants.{MAX_LEN}
+use Rattle.lics_text.specs.Limits.{MAX_LEN}
 use Rattle.macro_words.specs.declared.frames.Frame.{Frame}
 use Rattle.macro_words.specs.declared.frames.Frame.TheVariants as frame
 use Rattle.macro_words.specs.declared.running.Move.{Move}

@@ -16,9 +16,9 @@ use Rattle.key_words.specs.declared.command.Command.TheVariants as command
 use Rattle.key_words.specs.declared.macro_word.MacroWord.{MacroWord}
 use Rattle.key_words.specs.declared.macro_word.MacroWord.TheVariants as word
 use Rattle.key_words.specs.MacroText.{unit_at}
-use Rattle.lics_text.specs.declared.TheConstants.{MAX_LEN}
+use Rattle.lics_text.specs.Limits.{MAX_LEN}
 use Rattle.range_names.specs.Names.{NameMap}
-use Rattle.sheet_store.specs.declared.own_width.TheConstants.{MOST_WIDTH}
+use Rattle.sheet_store.specs.Limits.{MOST_WIDTH}
 use Rattle.sheet_store.specs.declared.writes.Write.{Write}
 use Rattle.value_functions.specs.Operators.{binary_value}
 use Rattle.value_functions.specs.Scalars.{now_value}

@@ -5,7 +5,7 @@ use Rattle.control_panel.specs.declared.panel.Mode.TheVariants as mode
 use Rattle.control_panel.specs.declared.panel.Panel.{Panel}
 use Rattle.key_words.specs.declared.key.Key.{Key}
 use Rattle.key_words.specs.declared.key.Key.TheVariants as key
-use Rattle.lics_text.specs.declared.TheConstants.{MAX_LEN}
+use Rattle.lics_text.specs.Limits.{MAX_LEN}
 use Rattle.menu_tree.specs.Levels.{parent}
 use Rattle.menu_tree.specs.Tree.{chosen, item_name, items}
 use Rattle.menu_tree.specs.declared.menu.Item.{Item}

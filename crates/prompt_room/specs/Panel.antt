@@ -3,7 +3,7 @@ use Rattle.std.specs.Prelude.{ℕ, List, length, take, Option}
 use Rattle.control_panel.specs.Panels.{line_panel, plain_panel}
 use Rattle.control_panel.specs.declared.panel.Panel.{Panel}
 use Rattle.control_panel.specs.declared.panel.Mode.TheVariants as mode
-use Rattle.lics_text.specs.declared.TheConstants.{MAX_LEN}
+use Rattle.lics_text.specs.Limits.{MAX_LEN}
 use Rattle.menu_tree.specs.Tree.{prompt_name}
 use Rattle.menu_tree.specs.declared.menu.Ask.{Ask}
 use Rattle.menu_room.specs.Ring.{items_line}

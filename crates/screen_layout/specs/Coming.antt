@@ -1,6 +1,6 @@
 -- How the code keeps the shown columns that are still to come.
 use Rattle.std.specs.Prelude.{◌≡◌, ℕ, ◌-◌, nat_eq, List, [], ◌∷◌, Option, Some, None}
-use Rattle.grid_address.specs.declared.TheConstants.{COLUMNS}
+use Rattle.grid_address.specs.Limits.{COLUMNS}
 use Rattle.work_sheet.specs.Seen.{Sheet}
 use Rattle.screen_layout.specs.Columns.{columns_from}
 use Rattle.screen_layout.specs.Places.{ROOM}

@@ -1,7 +1,7 @@
 -- The screen: 25 lines of 80 bytes, painted from nothing, at the second of a day where the clock has a day.
 use Rattle.std.specs.Prelude.{ℕ, ◌+◌, ◌-◌, List, [], map, Option, Some, None, nat_lt, if◌then◌else◌}
 use Rattle.std.specs.List.{range_with_len}
-use Rattle.grid_address.specs.declared.TheConstants.{ROWS}
+use Rattle.grid_address.specs.Limits.{ROWS}
 use Rattle.grid_address.specs.Place.{Place}
 use Rattle.screen_layout.specs.Columns.{columns_line}
 use Rattle.screen_layout.specs.Control.{below_line, entry_line, pointer_line}

@@ -6,8 +6,8 @@ use Rattle.control_panel.specs.declared.panel.Mode.TheVariants as mode
 use Rattle.control_panel.specs.declared.panel.Panel.{Panel}
 use Rattle.formula_eval.specs.Outlook.{Sight}
 use Rattle.grid_address.specs.Place.{Place}
-use Rattle.grid_address.specs.declared.TheConstants.{ROWS}
-use Rattle.lics_text.specs.declared.TheConstants.{MAX_LEN}
+use Rattle.grid_address.specs.Limits.{ROWS}
+use Rattle.lics_text.specs.Limits.{MAX_LEN}
 use Rattle.macro_text.specs.Texts.{macro_text}
 use Rattle.macro_words.specs.Items.{beside, item_text}
 use Rattle.macro_words.specs.declared.running.Running.{Running}

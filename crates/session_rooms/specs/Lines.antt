@@ -3,7 +3,7 @@ use Rattle.std.specs.Prelude.{ℕ, ◌-◌, Bool, ◌&&◌, nat_le, List, ◌++�
 use Rattle.std.specs.List.{list_all}
 use Rattle.ascii_bytes.specs.Ascii as ascii
 use Rattle.entry_line.specs.Line.{Entry}
-use Rattle.lics_text.specs.declared.TheConstants.{MAX_LEN}
+use Rattle.lics_text.specs.Limits.{MAX_LEN}
 
 -- a text with the cursor behind it
 abbrev pub line_of : List ℕ → Entry

@@ -4,7 +4,7 @@ use Rattle.std.specs.FinMap as cells
 use Rattle.std.specs.declared.cmp.Ordering.{Ordering}
 use Rattle.std.specs.declared.cmp.Ordering.TheVariants.{Equal, Greater, Less}
 use Rattle.grid_address.specs.Formats.{default_format, has_protection, protected, unprotected}
-use Rattle.grid_address.specs.declared.TheConstants.{COLUMNS, ROWS}
+use Rattle.grid_address.specs.Limits.{COLUMNS, ROWS}
 use Rattle.grid_address.specs.Place.{height_of, place_cmp, same_place, width_of, Extent, Place}
 use Rattle.grid_address.specs.declared.format.Format.{Format}
 use Rattle.depend_graph.specs.Network.{Network}

@@ -6,7 +6,7 @@ use Rattle.formula_tree.specs.declared.value.Content.TheVariants as content
 use Rattle.formula_tree.specs.declared.value.Value.TheVariants as value
 use Rattle.grid_address.specs.Axes.{Reference}
 use Rattle.grid_address.specs.Formats.{default_format}
-use Rattle.grid_address.specs.declared.TheConstants.{LAST_COLUMN, LAST_ROW}
+use Rattle.grid_address.specs.Limits.{LAST_COLUMN, LAST_ROW}
 use Rattle.grid_address.specs.declared.format.Format.{Format}
 use Rattle.grid_address.specs.declared.reference.Axis.TheVariants.{Offset}
 use Rattle.grid_address.specs.Place.{Place}

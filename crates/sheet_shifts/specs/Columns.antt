@@ -1,6 +1,6 @@
 -- What each column has of its own, after columns were inserted or deleted.
 use Rattle.std.specs.Prelude.{ℕ, ◌+◌, List, ◌++◌, take, drop, replicate}
-use Rattle.grid_address.specs.declared.TheConstants.{COLUMNS}
+use Rattle.grid_address.specs.Limits.{COLUMNS}
 use Rattle.ref_adjust.specs.declared.change.Change.{Change}
 use Rattle.ref_adjust.specs.declared.change.Change.TheVariants.{InsertRows, InsertColumns, DeleteRows, DeleteColumns}
 use Rattle.sheet_shifts.specs.declared.shift.Shift.{Shift}

@@ -3,7 +3,7 @@ use Rattle.std.specs.Prelude.{ℕ, ◌≡◌, ◌+◌, ◌-◌, nat_lt, get_or, 
 use Rattle.std.specs.FinMap.{get, insert, FinMap}
 use Rattle.std.specs.List.{filter_map, AllByRecursion}
 use Rattle.std.specs.declared.cmp.Ordering.{Ordering}
-use Rattle.grid_address.specs.declared.TheConstants.{COLUMNS}
+use Rattle.grid_address.specs.Limits.{COLUMNS}
 use Rattle.grid_address.specs.Place.{Extent, Place}
 use Rattle.range_names.specs.Names.{IsKey, NameMap}
 use Rattle.ref_adjust.specs.declared.change.Change.{Change}

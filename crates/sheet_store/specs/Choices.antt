@@ -6,7 +6,7 @@ use Rattle.grid_address.specs.Formats.{general_format}
 use Rattle.grid_address.specs.Place.{Place}
 use Rattle.sheet_store.specs.declared.order.Order.{Order}
 use Rattle.sheet_store.specs.declared.order.Order.TheVariants.{Natural}
-use Rattle.sheet_store.specs.declared.own_width.TheConstants.{MOST_WIDTH}
+use Rattle.sheet_store.specs.Limits.{MOST_WIDTH}
 
 -- a sheet's settings: whether it recalculates by itself, and by how many passes; the prefix of new labels; the format
 -- and the width where a cell or a column has none of its own; whether it is protected; the cell that the pointer is on;

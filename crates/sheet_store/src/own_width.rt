@@ -17,7 +17,7 @@ pub struct OwnWidth {
 
 impl Model for OwnWidth {
     ghost use Rattle.std.specs.Prelude.{ℕ, ◌≤◌};
-    ghost use Rattle.sheet_store.specs.declared.own_width.TheConstants.{MOST_WIDTH};
+    ghost use Rattle.sheet_store.specs.Limits.{MOST_WIDTH};
 
     ghost Value = { ℕ };
 

@@ -6,10 +6,13 @@ use Rattle.outside_world.specs.declared.faults.ShelfFault.TheVariants as shelf
 use Rattle.text_channel.specs.declared.attached.Access.{Access}
 use Rattle.text_channel.specs.declared.attached.Access.TheVariants.{Read, Write, Modify}
 use Rattle.text_channel.specs.declared.attached.Attached.{Attached}
-use Rattle.text_channel.specs.declared.channel.TheConstants.{LIMIT}
 use Rattle.text_channel.specs.declared.channel.ChannelFault.{ChannelFault}
 use Rattle.text_channel.specs.declared.channel.ChannelFault.TheVariants as fault
 use Rattle.text_channel.specs.Lines.{Piece}
+
+-- the most bytes that a file may hold (this project's choice)
+abbrev pub LIMIT : ℕ
+LIMIT = 67108864
 
 -- whether a file that is opened so can be read
 abbrev pub reads : Access → Bool

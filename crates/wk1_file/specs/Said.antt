@@ -3,7 +3,7 @@ use Rattle.std.specs.FinMap.{entries}
 use Rattle.std.specs.List.{list_any, AllByRecursion}
 use Rattle.sheet_store.specs.declared.writes.SavedSheet.{SavedSheet}
 use Rattle.std.specs.Prelude.{Bool, if◌then◌else◌, ℕ, ◌≡◌, ◌≤◌, pos, nat_abs, true, Option, Some, None, flat_map, length, get_or, Ok, List, [], ◌∷◌, ⊤}
-use Rattle.grid_address.specs.declared.TheConstants.{COLUMNS}
+use Rattle.grid_address.specs.Limits.{COLUMNS}
 use Rattle.grid_address.specs.Place.{Extent, InSheet, Place}
 use Rattle.formula_tree.specs.Ranges.{is_ranged, is_text}
 use Rattle.formula_tree.specs.Shape.{every, IsFormula}
@@ -14,7 +14,7 @@ use Rattle.formula_tree.specs.declared.value.Value.TheVariants as value
 use Rattle.sheet_store.specs.Choices.{AreWithin, Choices}
 use Rattle.sheet_store.specs.Grid.{is_kept, width_of, Fits, Grid}
 use Rattle.sheet_store.specs.State.{CellState}
-use Rattle.sheet_store.specs.declared.own_width.TheConstants.{MOST_WIDTH}
+use Rattle.sheet_store.specs.Limits.{MOST_WIDTH}
 use Rattle.range_names.specs.Names.{fault_of, key_of, name_in}
 use Rattle.wk1_file.specs.Saved.{columns}
 use Rattle.wk1_records.specs.Kinds.{number_of}

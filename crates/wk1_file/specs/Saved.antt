@@ -4,7 +4,7 @@ use Rattle.std.specs.Int.RustNames.{int_lt}
 use Rattle.std.specs.List.{list_any, range_with_len}
 use Rattle.std.specs.Prelude.{ℕ, ◌+◌, ◌-◌, ◌*◌, ◌/◌, ◌%◌, ◌^◌, ℤ, pos, nat_abs, Bool, true, false, ◌&&◌, ◌||◌, ◌==◌, nat_le, map, flat_map, sum, replicate, get_or, Option, Some, None, List, [], ◌∷◌, ◌++◌, length, if◌then◌else◌}
 use Rattle.std.specs.FinMap as finite
-use Rattle.grid_address.specs.declared.TheConstants.{COLUMNS}
+use Rattle.grid_address.specs.Limits.{COLUMNS}
 use Rattle.grid_address.specs.Place.{Extent, Place}
 use Rattle.formula_tree.specs.declared.value.Content.{Content}
 use Rattle.formula_tree.specs.declared.value.Content.TheVariants as content

@@ -1,7 +1,7 @@
 -- What records make of a sheet.
 use Rattle.std.specs.Prelude.{ℕ, Bool, false, cond, ◌+◌, replicate, fold, Option, Some, None, Result, Ok, Err, List, [], ◌∷◌}
 use Rattle.std.specs.FinMap as map
-use Rattle.grid_address.specs.declared.TheConstants.{COLUMNS}
+use Rattle.grid_address.specs.Limits.{COLUMNS}
 use Rattle.grid_address.specs.Place.{same_place, Place}
 use Rattle.formula_tree.specs.declared.value.Value.TheVariants as value
 use Rattle.range_names.specs.Names.{key_of, NameMap}

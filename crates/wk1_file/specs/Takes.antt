@@ -3,7 +3,7 @@ use Rattle.std.specs.Prelude.{ℕ, ◌≡◌, ◌≤◌, ◌⊎◌, true, fold, 
 use Rattle.grid_address.specs.Place.{Place}
 use Rattle.sheet_store.specs.Choices.{is_global_prefix}
 use Rattle.sheet_store.specs.Grid.{is_formula, HasFormula, IsSound}
-use Rattle.sheet_store.specs.declared.own_width.TheConstants.{MOST_WIDTH}
+use Rattle.sheet_store.specs.Limits.{MOST_WIDTH}
 use Rattle.sheet_store.specs.declared.writes.SavedSheet.{SavedSheet}
 use Rattle.wk1_records.specs.Records.{Records, Splits}
 use Rattle.wk1_file.specs.Sheets.{entries_in, first_fault, sheet_of, taken, unless_fault, Progress}

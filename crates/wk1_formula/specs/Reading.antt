@@ -6,7 +6,7 @@ use Rattle.fixed_value.specs.Numbers.{signed}
 use Rattle.fixed_value.specs.declared.doubles.DoubleRead.{DoubleRead}
 use Rattle.fixed_value.specs.declared.doubles.DoubleRead.TheVariants as double
 use Rattle.grid_address.specs.Axes.{Reference}
-use Rattle.grid_address.specs.declared.TheConstants.{COLUMNS, ROWS}
+use Rattle.grid_address.specs.Limits.{COLUMNS, ROWS}
 use Rattle.grid_address.specs.declared.reference.Axis.{Axis}
 use Rattle.grid_address.specs.declared.reference.Axis.TheVariants.{Fixed, Offset}
 use Rattle.formula_tree.specs.Ranges.{is_text}

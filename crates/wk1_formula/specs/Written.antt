@@ -2,7 +2,7 @@
 use Rattle.std.specs.Int.{to_le_bytes, w16, w64}
 use Rattle.std.specs.Prelude.{ℕ, ◌+◌, ◌-◌, ◌/◌, ◌%◌, ℤ, nat_abs, ◌==◌, List, [], ◌∷◌, ◌++◌, flat_map, if◌then◌else◌}
 use Rattle.grid_address.specs.Axes.{Reference}
-use Rattle.grid_address.specs.declared.TheConstants.{COLUMNS, ROWS}
+use Rattle.grid_address.specs.Limits.{COLUMNS, ROWS}
 use Rattle.grid_address.specs.Place.{Place}
 use Rattle.grid_address.specs.declared.reference.Axis.{Axis}
 use Rattle.grid_address.specs.declared.reference.Axis.TheVariants.{Fixed, Offset}

@@ -5,7 +5,7 @@ use Rattle.std.specs.Prelude.{ℕ, ℤ, ◌+◌, ◌/◌, ◌%◌, ◌^◌, Bool
 use Rattle.fixed_value.specs.Doubles.{double_of}
 use Rattle.fixed_value.specs.declared.doubles.DoubleRead.{DoubleRead}
 use Rattle.fixed_value.specs.declared.doubles.DoubleRead.TheVariants as double
-use Rattle.grid_address.specs.declared.TheConstants.{COLUMNS, ROWS}
+use Rattle.grid_address.specs.Limits.{COLUMNS, ROWS}
 use Rattle.grid_address.specs.Place.{Place}
 use Rattle.formula_tree.specs.Ranges.{is_text}
 use Rattle.formula_tree.specs.Tree.{call, no_trees, Tree}
@@ -19,7 +19,7 @@ use Rattle.sheet_store.specs.Choices.{is_global_prefix}
 use Rattle.sheet_store.specs.declared.order.Order.{Order}
 use Rattle.sheet_store.specs.declared.order.Order.TheVariants.{Natural, Columnwise, Rowwise}
 use Rattle.sheet_store.specs.State.{CellState}
-use Rattle.sheet_store.specs.declared.own_width.TheConstants.{MOST_WIDTH}
+use Rattle.sheet_store.specs.Limits.{MOST_WIDTH}
 use Rattle.wk1_formula.specs.Reading.{before_zero, short_at, short_value}
 use Rattle.wk1_formula.specs.Stack.{tree_in}
 use Rattle.wk1_formula.specs.declared.fault.CodeFault.{CodeFault}

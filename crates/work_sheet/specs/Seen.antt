@@ -1,7 +1,7 @@
 -- What is seen of a sheet.
 use Rattle.std.specs.Prelude.{Bool, false, replicate}
 use Rattle.std.specs.FinMap as map
-use Rattle.grid_address.specs.declared.TheConstants.{COLUMNS}
+use Rattle.grid_address.specs.Limits.{COLUMNS}
 use Rattle.range_names.specs.Names.{NameMap}
 use Rattle.sheet_store.specs.Choices.{fresh, Choices}
 use Rattle.sheet_store.specs.Grid.{Grid}

@@ -1,5 +1,5 @@
 use Rattle.std.specs.Prelude.{◌≡◌, ◌++◌, map, take}
-use Rattle.lics_text.specs.declared.TheConstants.{MAX_LEN}
+use Rattle.lics_text.specs.Limits.{MAX_LEN}
 use Rattle.menu_room.specs.Ring.{set_off}
 use Rattle.menu_tree.specs.Tree.{item_name}
 use Rattle.menu_room.proofs.lines.listed_behind.Given as goal

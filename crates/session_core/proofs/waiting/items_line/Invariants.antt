@@ -1,6 +1,6 @@
 use Rattle.std.specs.Prelude.{◌≡◌, ◌≤◌, map, take}
 use Rattle.std.specs.List.{range_with_len}
-use Rattle.lics_text.specs.declared.TheConstants.{MAX_LEN}
+use Rattle.lics_text.specs.Limits.{MAX_LEN}
 use Rattle.menu_room.specs.Ring.{marked_from}
 use Rattle.session_core.specs.Waiting.{item_of}
 use Rattle.work_sheet.specs.Seen.{of_worksheet}
