@@ -4,8 +4,8 @@ import re
 import subprocess
 import sys
 
-TOP_FILES = {".gitignore", "1-2-3", "HANDLES", "README.md", "crates.txt"}
-TOP_FOLDERS = {".ci", "bench", "crates", "docs", "examples", "oracle", "release", "scripts"}
+TOP_FILES = {".gitignore", "1-2-3", "1-2-3-list", "CHANGELOG.md", "HANDLES", "Makefile", "README.md", "VERSION", "crates.txt"}
+TOP_FOLDERS = {".ci", "bench", "crates", "docs", "examples", "man", "oracle", "release", "scripts"}
 CRATE_PARTS = {"src", "specs", "proofs", "must-fail", "wrong-bodies", "data", "stdin", "stdout", "args", "status"}
 PRODUCTS = re.compile(r"(^|/)(out|__pycache__)/|\.(o|a|so|rlib|oantt|stamp|pyc)$")
 SECTIONS = ["base", "formulas", "sheet", "session", "program", "checks"]
