@@ -159,3 +159,10 @@ module _ (m : Owners) (p : Place) (rs : List Registration) where
 
   pub all_owners : (sizes : List Powers) (found : List Place) → AreRegistered m sizes rs → AreFoundAt m p rs sizes found → (o : Place) → hold (spans_in (get m o)) p ≡ true → has_place found o ≡ true
   all_owners sizes found registered all o k = among sizes found all o k (spans_in (get m o)) (registered o) k
+
+  -- where none is found in any size, none is there
+  pub none_owned : (sizes : List Powers) → AreRegistered m sizes rs → AreFoundAt m p rs sizes [] → (o : Place) → hold (spans_in (get m o)) p ≡ false
+  none_owned sizes registered all o = elim (cases_Bool (hold (spans_in (get m o)) p)) [
+    | inl t ↦ absurd (true≢false (sym (all_owners sizes [] registered all o t)))
+    | inr f ↦ f
+  ]

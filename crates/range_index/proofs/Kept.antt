@@ -12,13 +12,16 @@ use Rattle.std.proofs.lemmas.List.Folds.{list_all-append}
 use Rattle.grid_address.proofs.Maps.{equal_of, get_entries}
 use Rattle.grid_address.proofs.Places.{cells_exact, cells_total, same_place_is}
 use Rattle.grid_address.specs.Place.{place_cmp, same_place, Extent, Place}
-use Rattle.range_index.specs.Owners.{spans_in, with_span, Owners}
+use Rattle.range_index.specs.Owners.{hold, spans_in, with_span, Owners}
 use Rattle.range_index.specs.Powers.{Powers}
 use Rattle.range_index.specs.Registered.{has_registration, is_registered, registered, AreRegistered, StaysRegistered}
 use Rattle.range_index.specs.declared.register.Registration.{Registration}
 
 pub none_registered : (es : List (Place × List Extent)) (sizes : List Powers) (rs : List Registration) → es ≡ [] → AreRegistered (from_entries es) sizes rs
 none_registered es sizes rs e o = ap (λ (s : Option (List Extent)). list_all (is_registered sizes rs o) (spans_in s)) (get_entries cells_total es o ∙ ap (lookup (is_at (place_cmp o))) e)
+
+pub none_held : (es : List (Place × List Extent)) → es ≡ [] → (o p : Place) → hold (spans_in (get (from_entries {R = place_cmp} es) o)) p ≡ false
+none_held es e o p = ap (λ (s : Option (List Extent)). hold (spans_in s) p) (get_entries cells_total es o ∙ ap (lookup (is_at (place_cmp o))) e)
 
 all_weaker : {A : Type 0} (p q : A → Bool) → ((x : A) → p x ≡ true → q x ≡ true) → (xs : List A) → list_all p xs ≡ true → list_all q xs ≡ true
 all_weaker p q f [] h = refl

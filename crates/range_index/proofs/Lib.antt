@@ -1,3 +1,4 @@
+pub mod Around
 pub mod Found
 pub mod Kept
 pub mod Listed

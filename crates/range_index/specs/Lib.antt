@@ -1,4 +1,5 @@
 pub mod Blocks
+pub mod Hulls
 pub mod Owners
 pub mod Powers
 pub mod Registered

@@ -1,8 +1,8 @@
 // The owners of a cell, by what is registered.
-ghost use Rattle.std.specs.Prelude.{◌≡◌, ◌⊎◌, true, OnOk, IfOk};
+ghost use Rattle.std.specs.Prelude.{◌≡◌, ◌⊎◌, [], false, true, OnOk, IfOk};
 ghost use Rattle.std.specs.FinMap as map;
 ghost use Rattle.grid_address.specs.Place.{place_cmp, whole, Place};
-ghost use Rattle.range_index.specs.Owners.{owners_of};
+ghost use Rattle.range_index.specs.Owners.{hold, owners_of, spans_in};
 ghost use Rattle.range_index.specs.Registered.{has_place, owned, registration_cmp, AreAmong, AreFoundAt, AreFoundIn, AreOwners, AreRegistered};
 
 use crate::block::{Block, Size, block_at};
@@ -93,6 +93,44 @@ fn gather_all(
         )?;
     }
     Ok(found)
+}
+
+// Whether one of those that are registered in a block owns a span that holds the cell.
+fn has_owner_in(
+    owners: &BTreeMap<Cell, SpanList>,
+    registrations: &BTreeSet<Registration>,
+    block: &Block,
+    cell: Cell,
+) -> bool
+    ensures { result ≡ false →
+        AreFoundIn (map.from_entries owners.now.entries) cell registrations.now.keys block.now [] }
+{
+    for registration in registrations.range(first_in(block)..=last_in(block)) {
+        let owner = registration.owner;
+        if owns(owners, owner, cell) {
+            return true;
+        }
+    }
+    false
+}
+
+/// Whether one owns a span that holds the cell. It takes no memory.
+pub fn has_owner(
+    owners: &BTreeMap<Cell, SpanList>,
+    sizes: &BTreeSet<Size>,
+    registrations: &BTreeSet<Registration>,
+    cell: Cell,
+) -> bool
+    requires { AreRegistered (map.from_entries owners.now.entries) sizes.now.keys registrations.now.keys }
+    ensures { result ≡ false → (o : Place) →
+        hold (spans_in (map.get (map.from_entries {R = place_cmp} owners.now.entries) o)) cell ≡ false }
+{
+    for size in sizes.iter() {
+        if has_owner_in(owners, registrations, &block_at(*size, cell), cell) {
+            return true;
+        }
+    }
+    false
 }
 
 // The owners that were found, in a list.
