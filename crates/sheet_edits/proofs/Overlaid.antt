@@ -1,5 +1,5 @@
 -- Many cells are put, and the graph takes what they hold.
-use Rattle.std.specs.Prelude.{ℕ, not, nat_eq, ◌≡◌, ◌⊎◌, ◌↔◌, ◌+◌, ◌<◌, ◌&&◌, ◌||◌, Bool, true, false, cond, is_some, refl, take, length, List, Option, None, Some}
+use Rattle.std.specs.Prelude.{ℕ, not, nat_eq, ◌≡◌, ◌⊎◌, ◌↔◌, ◌+◌, ◌<◌, ◌&&◌, ◌||◌, Bool, true, false, cond, is_some, refl, take, length, List, [], ◌∷◌, Option, None, Some}
 use Rattle.std.specs.FinMap.{get, insert, remove}
 use Rattle.std.proofs.Common.{sym, ◌∙◌, ap, get_or, inl, inr, subst}
 use Rattle.std.proofs.lemmas.Bool.{and_from, and_parts, cases_Bool, false≢true, or_cases, or_left, or_right, true≢false}
@@ -22,15 +22,15 @@ use Rattle.sheet_edits.proofs.Dirtied.{dirtied}
 use Rattle.sheet_edits.proofs.Listed.{is_among, more_seen, seen_beside}
 use Rattle.sheet_edits.proofs.Reaching.{formula_in_is}
 use Rattle.sheet_edits.specs.Edits.{settled, AreDirtied, WithReached}
-use Rattle.sheet_edits.specs.Spans.{changed, gives_formula, kept_of, node_given, put_given, Becomes, HaveRoom, IsGrown, IsKeptBeside, IsOffered}
+use Rattle.sheet_edits.specs.Spans.{changed, gives_formula, kept_of, node_given, put_given, ArePut, Becomes, HaveRoom, IsGrown, IsOffered}
 
 -- a grid by its three parts
 pub same_grid : (g h : Grid) → ((c : Place) → get g.cells c ≡ get h.cells c) → g.widths ≡ h.widths → g.hidden ≡ h.hidden → g ≡ h
 same_grid g h cells widths hidden = λ i. record { cells = same_places g.cells h.cells cells i; widths = widths i; hidden = hidden i }
 
 -- what was added is cleared
-pub undone : (changes : Cells) (grown listed : List Place) (old mid new : Grid) → IsGrown changes grown old mid → listed ≡ grown → ((c : Place) → get new.cells c ≡ cond (has same_place listed c) None (get mid.cells c)) → new.widths ≡ mid.widths → new.hidden ≡ mid.hidden → new ≡ old
-undone changes grown listed old mid new k e h w d = same_grid new old
+pub undone : (grown listed : List Place) (old mid new : Grid) → IsGrown grown old mid → listed ≡ grown → ((c : Place) → get new.cells c ≡ cond (has same_place listed c) None (get mid.cells c)) → new.widths ≡ mid.widths → new.hidden ≡ mid.hidden → new ≡ old
+undone grown listed old mid new k e h w d = same_grid new old
     (λ c. h c ∙ ap (λ l. cond (has same_place l c) None (get mid.cells c)) e ∙ elim (has same_place grown c) as (λ b. has same_place grown c ≡ b → cond b None (get mid.cells c) ≡ get old.cells c) [
       | true ↦ λ t. sym (k.absent c t)
       | false ↦ λ f. k.others c f
@@ -282,18 +282,133 @@ module _ (changes : Cells) (g h : Grid) (held : (c : Place) → get h.cells c �
           | inr f ↦ ap (λ b. cond b (has same_place mid c && is_formula_at h c) (has same_place mid c)) f ∙ p.0
         ]
 
--- what room was made for is put
-pub put_whole : (cells : List Place) (changes : Cells) (old mid new : Grid) → ((c : Place) → has same_place cells c ≡ false → get changes c ≡ None) → IsKeptBeside changes old mid
-    → Becomes mid (λ c. cond (has same_place cells c) (changed (get changes c) (get mid.cells c)) (get mid.cells c)) new → Becomes old (λ c. changed (get changes c) (get old.cells c)) new
-put_whole cells changes old mid new outside k b = record {
-  cells = λ c. b.cells c ∙ elim (cases_Bool (has same_place cells c)) [
-    | inl t ↦ ap (λ z. cond z (changed (get changes c) (get mid.cells c)) (get mid.cells c)) t ∙ at c (get changes c) refl
-    | inr f ↦ ap (λ z. cond z (changed (get changes c) (get mid.cells c)) (get mid.cells c)) f ∙ k.others c (outside c f) ∙ sym (ap (λ z. changed z (get old.cells c)) (outside c f))
+-- a cell whose state was put is no longer among those that are left
+module _ (left m : Cells) (x : Place) (e : m ≡ remove left x) where
+  taken_there : (c : Place) → same_place c x ≡ true → get m c ≡ None
+  taken_there c t = ap (λ k. get k c) e ∙ get_removed left x c ∙ ap (λ b. cond b None (get left c)) t
+
+  left_beside : (c : Place) → same_place c x ≡ false → get m c ≡ get left c
+  left_beside c f = ap (λ k. get k c) e ∙ get_removed left x c ∙ ap (λ b. cond b None (get left c)) f
+
+  module _ (g h : Grid) (put : h ≡ put_given g x (get left x)) where
+    put_there : (c : Place) → same_place c x ≡ true → get h.cells c ≡ changed (get left c) (get g.cells c)
+    put_there c t =
+        ap (λ (k : Grid). get k.cells c) put ∙ get_given g x (get left x) c ∙ ap (λ b. cond b (changed (get left x) (get g.cells c)) (get g.cells c)) t
+        ∙ ap (λ y. changed (get left y) (get g.cells c)) (sym (same_place_is c x t))
+
+    put_beside : (c : Place) → same_place c x ≡ false → get h.cells c ≡ get g.cells c
+    put_beside c f = ap (λ (k : Grid). get k.cells c) put ∙ get_given g x (get left x) c ∙ ap (λ b. cond b (changed (get left x) (get g.cells c)) (get g.cells c)) f
+
+    -- one more cell whose state is put
+    pub put_next : (given : Cells) (old : Grid) → ArePut given old left g → ArePut given old m h
+    put_next given old k = record {
+      among = λ c s some. elim (cases_Bool (same_place c x)) [
+        | inl t ↦ absurd (none_not_some s (sym (taken_there c t) ∙ some))
+        | inr f ↦ k.among c s (sym (left_beside c f) ∙ some)
+      ];
+      held = λ c. elim (cases_Bool (same_place c x)) [
+        | inl t ↦ ap (λ z. changed z (get h.cells c)) (taken_there c t) ∙ put_there c t ∙ k.held c
+        | inr f ↦ ap (λ z. changed z (get h.cells c)) (left_beside c f) ∙ ap (changed (get left c)) (put_beside c f) ∙ k.held c
+      ];
+      widths = ap (λ (k : Grid). k.widths) put ∙ given_widths g x (get left x) ∙ k.widths;
+      hidden = ap (λ (k : Grid). k.hidden) put ∙ given_hidden g x (get left x) ∙ k.hidden;
+    }
+
+    -- there is room for those that are left
+    pub room_put : (cells : List Place) (i : ℕ) → x ≡ get_or cells i x → i < length cells → HaveRoom left (has same_place (take i cells)) g → HaveRoom m (has same_place (take (i + 1) cells)) h
+    room_put cells i is lt room c s seen some kept gone = elim (cases_Bool (same_place c x)) [
+      | inl t ↦ none_not_some s (sym (taken_there c t) ∙ some)
+      | inr f ↦ room c s (sym (seen_beside cells i x is lt c f) ∙ seen) (sym (left_beside c f) ∙ some) kept (sym (put_beside c f) ∙ gone)
+    ]
+
+-- a cell for which there is room
+pub room_there : (left : Cells) (g : Grid) (x : Place) → ((s : CellState) → get left x ≡ Some s → is_kept s ≡ true → get g.cells x ≡ None → ⊥) → (cells : List Place) (i : ℕ) → x ≡ get_or cells i x → i < length cells
+    → HaveRoom left (has same_place (take i cells)) g → HaveRoom left (has same_place (take (i + 1) cells)) g
+room_there left g x here cells i is lt room c s seen some kept gone = elim (cases_Bool (same_place c x)) [
+  | inl t ↦ let e = same_place_is c x t in here s (ap (get left) (sym e) ∙ some) kept (ap (get g.cells) (sym e) ∙ gone)
+  | inr f ↦ room c s (sym (seen_beside cells i x is lt c f) ∙ seen) some kept gone
+]
+
+-- one more cell that wasn't there
+pub grown_more : (grown more : List Place) (old g h : Grid) (x : Place) → IsGrown grown old g → get g.cells x ≡ None → ((c : Place) → has same_place more c ≡ true → (has same_place grown c ≡ true) ⊎ (same_place c x ≡ true))
+    → ((c : Place) → has same_place grown c ≡ true → has same_place more c ≡ true) → ((c : Place) → has same_place more c ≡ false → get h.cells c ≡ get g.cells c) → h.widths ≡ g.widths → h.hidden ≡ g.hidden → IsGrown more old h
+grown_more grown more old g h x k none either held others widths hidden = record {
+  absent = λ c t. elim (either c t) [
+    | inl a ↦ k.absent c a
+    | inr b ↦ elim (cases_Bool (has same_place grown c)) [
+      | inl a ↦ k.absent c a
+      | inr f ↦ sym (k.others c f) ∙ ap (get g.cells) (same_place_is c x b) ∙ none
+    ]
   ];
+  others = λ c f. others c f ∙ elim (cases_Bool (has same_place grown c)) [
+    | inl t ↦ absurd (true≢false (sym (held c t) ∙ f))
+    | inr e ↦ k.others c e
+  ];
+  widths = widths ∙ k.widths;
+  hidden = hidden ∙ k.hidden;
+}
+
+-- the states of new cells are put, as far as some cells
+pub record Putting (given : Cells) (old : Grid) (seen grown : List Place) (left : Cells) (g : Grid) : Type 0 where
+  pub are_grown : IsGrown grown old g
+  pub are_put : ArePut given old left g
+  pub have_room : HaveRoom left (has same_place seen) g
+
+-- by other names
+pub putting_is : (given : Cells) (old : Grid) (seen grown more : List Place) (left m : Cells) (g h : Grid) → more ≡ grown → m ≡ left → h ≡ g → Putting given old seen grown left g → Putting given old seen more m h
+putting_is given old seen grown more left m g h a b c k = subst (λ y. Putting given old seen y m h) (sym a) (subst (λ y. Putting given old seen grown y h) (sym b) (subst (λ y. Putting given old seen grown left y) (sym c) k))
+
+none_taken : (cells : List Place) → take 0 cells ≡ []
+none_taken [] = refl
+none_taken (x ∷ cells) = refl
+
+-- before the first cell
+pub putting_none : (given : Cells) (old : Grid) (cells grown : List Place) → grown ≡ [] → Putting given old (take 0 cells) grown given old
+putting_none given old cells grown e = record {
+  are_grown = record {
+    absent = λ c t. absurd (false≢true (sym (ap (λ l. has same_place l c) e) ∙ t));
+    others = λ c f. refl;
+    widths = refl;
+    hidden = refl;
+  };
+  are_put = record { among = λ c s t. t; held = λ c. refl; widths = refl; hidden = refl };
+  have_room = λ c s t. absurd (false≢true (sym (ap (λ l. has same_place l c) (none_taken cells)) ∙ t));
+}
+
+module _ (given : Cells) (old : Grid) (cells : List Place) (i : ℕ) (x : Place) (is : x ≡ get_or cells i x) (lt : i < length cells) (grown : List Place) (left : Cells) (g : Grid) (k : Putting given old (take i cells) grown left g) where
+  -- one more cell that is new
+  pub putting_new : (more : List Place) (m : Cells) (h : Grid) → get g.cells x ≡ None → ((c : Place) → has same_place more c ≡ true → (has same_place grown c ≡ true) ⊎ (same_place c x ≡ true)) → ((c : Place) → has same_place grown c ≡ true → has same_place more c ≡ true)
+      → ((c : Place) → has same_place more c ≡ false → get h.cells c ≡ get g.cells c) → m ≡ remove left x → h ≡ put_given g x (get left x) → Putting given old (take (i + 1) cells) more m h
+  putting_new more m h none either held others e put = record {
+    are_grown = grown_more grown more old g h x k.are_grown none either held others (ap (λ (y : Grid). y.widths) put ∙ given_widths g x (get left x)) (ap (λ (y : Grid). y.hidden) put ∙ given_hidden g x (get left x));
+    are_put = put_next left m x e g h put given old k.are_put;
+    have_room = room_put left m x e g h put cells i is lt k.have_room;
+  }
+
+  -- one more cell that isn't
+  pub putting_same : ((s : CellState) → get left x ≡ Some s → is_kept s ≡ true → get g.cells x ≡ None → ⊥) → Putting given old (take (i + 1) cells) grown left g
+  putting_same here = record {
+    are_grown = k.are_grown;
+    are_put = k.are_put;
+    have_room = room_there left g x here cells i is lt k.have_room;
+  }
+
+-- what was left is put
+pub put_whole : (cells : List Place) (given left : Cells) (old mid new : Grid) → ((c : Place) → has same_place cells c ≡ false → get given c ≡ None) → ArePut given old left mid
+    → Becomes mid (λ c. cond (has same_place cells c) (changed (get left c) (get mid.cells c)) (get mid.cells c)) new → Becomes old (λ c. changed (get given c) (get old.cells c)) new
+put_whole cells given left old mid new outside k b = record {
+  cells = λ c. b.cells c ∙ whole c (cases_Bool (has same_place cells c)) ∙ k.held c;
   widths = b.widths ∙ k.widths;
   hidden = b.hidden ∙ k.hidden;
 }
   where
-    at : (c : Place) (o : Option CellState) → get changes c ≡ o → changed o (get mid.cells c) ≡ changed o (get old.cells c)
-    at c None e = k.others c e
-    at c (Some s) e = refl
+    none_left : (c : Place) → has same_place cells c ≡ false → get left c ≡ None
+    none_left c f = at (get left c) refl
+      where
+        at : (o : Option CellState) → get left c ≡ o → o ≡ None
+        at None e = refl
+        at (Some s) e = absurd (none_not_some s (sym (outside c f) ∙ k.among c s e))
+
+    whole : (c : Place) → (has same_place cells c ≡ true) ⊎ (has same_place cells c ≡ false) → cond (has same_place cells c) (changed (get left c) (get mid.cells c)) (get mid.cells c) ≡ changed (get left c) (get mid.cells c)
+    whole c (inl t) = ap (λ z. cond z (changed (get left c) (get mid.cells c)) (get mid.cells c)) t
+    whole c (inr f) = ap (λ z. cond z (changed (get left c) (get mid.cells c)) (get mid.cells c)) f ∙ sym (ap (λ z. changed z (get mid.cells c)) (none_left c f))

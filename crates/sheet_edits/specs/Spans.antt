@@ -158,17 +158,18 @@ abbrev pub HaveRoom : Cells → (Place → Bool) → Grid → Type 0
 HaveRoom changes written g = (c : Place) (s : CellState) → written c ≡ true → cells.get changes c ≡ Some s →
     is_kept s ≡ true → cells.get g.cells c ≡ None → ⊥
 
--- some cells were added that weren't there and are to be given a state
-pub record IsGrown (changes : Cells) (grown : List Place) (old new : Grid) : Type 0 where
+-- some cells were added that weren't there
+pub record IsGrown (grown : List Place) (old new : Grid) : Type 0 where
   pub absent : (c : Place) → has same_place grown c ≡ true → cells.get old.cells c ≡ None
-  pub given : (c : Place) → has same_place grown c ≡ true → cells.get changes c ≡ None → ⊥
   pub others : (c : Place) → has same_place grown c ≡ false → cells.get new.cells c ≡ cells.get old.cells c
   pub widths : new.widths ≡ old.widths
   pub hidden : new.hidden ≡ old.hidden
 
--- the cells that are given nothing are as before
-pub record IsKeptBeside (changes : Cells) (old new : Grid) : Type 0 where
-  pub others : (c : Place) → cells.get changes c ≡ None → cells.get new.cells c ≡ cells.get old.cells c
+-- some of the given states were put, and with those that are left each cell becomes what it was to become
+pub record ArePut (given : Cells) (old : Grid) (left : Cells) (new : Grid) : Type 0 where
+  pub among : (c : Place) (s : CellState) → cells.get left c ≡ Some s → cells.get given c ≡ Some s
+  pub held : (c : Place) →
+      changed (cells.get left c) (cells.get new.cells c) ≡ changed (cells.get given c) (cells.get old.cells c)
   pub widths : new.widths ≡ old.widths
   pub hidden : new.hidden ≡ old.hidden
 

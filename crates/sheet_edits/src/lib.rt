@@ -17,4 +17,4 @@ pub use spans::{
     FormatChange, cells_of, copied, erased, first_of, reformatted, refusing, target_of,
 };
 pub use states::{is_marked, state_of};
-pub use writes::gathered;
+pub use writes::{gathered, state_written};

@@ -9,15 +9,15 @@ ghost use Rattle.natural_recalc.specs.Reading.{is_formula_at, node_of, Matches};
 ghost use Rattle.sheet_store.specs.Grid.{is_formula, is_kept, put_state, IsSound};
 ghost use Rattle.sheet_store.specs.State.{CellState};
 ghost use Rattle.sheet_edits.specs.Edits.{just, AreDirtied, WithReached};
-ghost use Rattle.sheet_edits.specs.Spans.{changed, gives_formula, node_given, put_given, AreSound, Becomes, HaveRoom, IsGrown, IsKeptBeside, IsOffered};
+ghost use Rattle.sheet_edits.specs.Spans.{changed, gives_formula, node_given, put_given, ArePut, AreSound, Becomes, HaveRoom, IsGrown, IsOffered};
 
 use crate::changes::Changes;
 use crate::edit::{node_of, offer, settle};
 use cell_numbers::CellSet;
 use depend_graph::{Graph, cut_back, insert, insert_all};
-use grid_address::{Cell, CellList, Format};
+use grid_address::{Cell, CellList};
 use lics_text::Memory;
-use sheet_store::{CellState, Store};
+use sheet_store::Store;
 
 // Offers the formula that a cell is given, or none.
 fn offer_at(graph: &mut Graph, cell: Cell, changes: &Changes) -> Result<(), Memory>
@@ -74,7 +74,6 @@ fn insert_given(dirty: &mut CellSet, cells: &[Cell], changes: &Changes) -> Resul
 // Whether a cell is to hold something, and isn't in the store.
 fn is_new(store: &Store, cell: Cell, changes: &Changes) -> bool
     ensures absent { result ≡ true → map.get store.now.cells cell ≡ None }
-    ensures given { result ≡ true → map.get changes.now cell ≡ None → ⊥ }
     ensures rest { result ≡ false → (s : CellState) → map.get changes.now cell ≡ Some s → is_kept s ≡ true →
         map.get store.now.cells cell ≡ None → ⊥ }
 {
@@ -84,37 +83,47 @@ fn is_new(store: &Store, cell: Cell, changes: &Changes) -> bool
     }
 }
 
-// Puts a blank cell that holds a place in the store until its state comes.
-fn hold_place(store: &mut Store, grown: &mut CellList, cell: Cell) -> Result<(), Memory>
+// Puts the state of a cell that isn't in the store.
+fn put_new(
+    store: &mut Store,
+    grown: &mut CellList,
+    cell: Cell,
+    changes: &mut Changes,
+) -> Result<(), Memory>
+    requires { (s : CellState) → map.get changes.old cell ≡ Some s → IsSound s }
     ensures grown { (c : Place) → has same_place grown.new c ≡ true →
         (has same_place grown.old c ≡ true) ⊎ (same_place c cell ≡ true) }
     ensures held { (c : Place) → has same_place grown.old c ≡ true → has same_place grown.new c ≡ true }
     ensures others { (c : Place) → has same_place grown.new c ≡ false →
         map.get store.new.cells c ≡ map.get store.old.cells c }
-    ensures beside { (c : Place) → same_place c cell ≡ false → map.get store.new.cells c ≡ map.get store.old.cells c }
-    ensures there { OnOk result (map.get store.new.cells cell ≡ None → ⊥) }
     ensures widths { store.new.widths ≡ store.old.widths }
     ensures hidden { store.new.hidden ≡ store.old.hidden }
+    ensures store { OnOk result (store.new ≡ put_given store.old cell (map.get changes.old cell)) }
+    ensures changes { OnOk result (changes.new ≡ map.remove changes.old cell) }
 {
     grown.push(cell)?;
-    store.put(cell, CellState::blank(Format(0)))?;
+    if let Some(state) = changes.take(cell) {
+        store.put(cell, state)?;
+    }
     Ok(())
 }
 
-// Holds places for the states that come, and tells in which cells.
-fn grow_all(
+// Puts the states of the cells that aren't in the store, and tells which cells these are.
+fn put_all_new(
     store: &mut Store,
     grown: &mut CellList,
     cells: &[Cell],
-    changes: &Changes,
+    changes: &mut Changes,
 ) -> Result<(), Memory>
-    requires { grown.old ≡ [] }
-    ensures grown { IsGrown changes.now grown.new store.old store.new }
-    ensures room { OnOk result (HaveRoom changes.now (has same_place cells.now) store.new) }
+    requires grown { grown.old ≡ [] }
+    requires sound { AreSound changes.old }
+    ensures grown { IsGrown grown.new store.old store.new }
+    ensures put { OnOk result (ArePut changes.old store.old changes.new store.new) }
+    ensures room { OnOk result (HaveRoom changes.new (has same_place cells.now) store.new) }
 {
     for cell in cells {
         if is_new(store, *cell, changes) {
-            hold_place(store, grown, *cell)?;
+            put_new(store, grown, *cell, changes)?;
         }
     }
     Ok(())
@@ -132,14 +141,15 @@ fn clear_all(store: &mut Store, cells: &[Cell])
     }
 }
 
-// Makes room for the states that come into cells which aren't there.
-fn grow(store: &mut Store, cells: &[Cell], changes: &Changes) -> Result<(), Memory>
-    ensures beside { OnOk result (IsKeptBeside changes.now store.old store.new) }
-    ensures room { OnOk result (HaveRoom changes.now (has same_place cells.now) store.new) }
+// Puts the states that come into cells which aren't in the store. What is left of the changes takes no memory.
+fn grow(store: &mut Store, cells: &[Cell], changes: &mut Changes) -> Result<(), Memory>
+    requires { AreSound changes.old }
+    ensures put { OnOk result (ArePut changes.old store.old changes.new store.new) }
+    ensures room { OnOk result (HaveRoom changes.new (has same_place cells.now) store.new) }
     ensures err { OnErr result (store.new ≡ store.old) }
 {
     let mut grown = CellList::new(store.alloc());
-    match grow_all(store, &mut grown, cells, changes) {
+    match put_all_new(store, &mut grown, cells, changes) {
         Ok(()) => Ok(()),
         Err(Memory) => {
             clear_all(store, grown.as_slice());
@@ -186,7 +196,7 @@ pub fn change_cells(store: &mut Store, cells: &[Cell], mut changes: Changes) -> 
         (Becomes store.old (λ c. changed (map.get changes c) (map.get store.old.cells c)) store.new) }
     ensures err { OnErr result (store.new ≡ store.old) }
 {
-    grow(store, cells, &changes)?;
+    grow(store, cells, &mut changes)?;
     put_all(store, cells, &mut changes);
     Ok(())
 }
@@ -235,24 +245,26 @@ fn settle_all(store: &Store, graph: &mut Graph, dirty: &mut CellSet, cells: &[Ce
     }
 }
 
-// All that takes memory: formulas are offered, what they will make dirty is added, and room is made for their states.
+// All that takes memory: formulas are offered, what they will make dirty is added, and the states that come into cells
+// which aren't in the store are put.
 fn prepare_all(
     store: &mut Store,
     graph: &mut Graph,
     dirty: &mut CellSet,
     cells: &CellList,
-    changes: &Changes,
+    changes: &mut Changes,
 ) -> Result<(), Memory>
+    requires { AreSound changes.old }
     ensures formulas { graph.new.formulas ≡ graph.old.formulas }
     ensures offers { OnOk result
         ((c : Place) → has same_place cells.now c ≡ true →
-        map.get graph.new.offers c ≡ node_given (map.get changes.now c) c) }
+        map.get graph.new.offers c ≡ node_given (map.get changes.old c) c) }
     ensures extends { Extends dirty.old.keys dirty.new.keys }
     ensures dirty { OnOk result
-        (WithReached graph.old cells.now (λ c. has same_place cells.now c && gives_formula (map.get changes.now c))
+        (WithReached graph.old cells.now (λ c. has same_place cells.now c && gives_formula (map.get changes.old c))
         dirty.old.keys dirty.new.keys) }
-    ensures beside { OnOk result (IsKeptBeside changes.now store.old store.new) }
-    ensures room { OnOk result (HaveRoom changes.now (has same_place cells.now) store.new) }
+    ensures put { OnOk result (ArePut changes.old store.old changes.new store.new) }
+    ensures room { OnOk result (HaveRoom changes.new (has same_place cells.now) store.new) }
     ensures err { OnErr result (store.new ≡ store.old) }
 {
     offer_all(graph, cells.as_slice(), changes)?;
@@ -286,7 +298,7 @@ pub fn write_cells(
     ensures dirty_err { OnErr result (dirty.new.keys ≡ dirty.old.keys) }
 {
     let count = dirty.len();
-    match prepare_all(store, graph, dirty, cells, &changes) {
+    match prepare_all(store, graph, dirty, cells, &mut changes) {
         Ok(()) => {
             put_all(store, cells.as_slice(), &mut changes);
             settle_all(store, graph, dirty, cells.as_slice());

@@ -1,8 +1,9 @@
 // What a list of writes gives its cells.
-ghost use Rattle.std.specs.Prelude.{◌≡◌, ◌++◌, ◌∷◌, [], IfOk, OnOk, None, false};
+ghost use Rattle.std.specs.Prelude.{◌≡◌, ◌++◌, ◌∷◌, [], IfOk, OnOk, None, false, true};
 ghost use Rattle.std.specs.FinMap as map;
 ghost use Rattle.grid_address.specs.Place.{same_place, Place};
 ghost use Rattle.natural_recalc.specs.Context.{format_of};
+ghost use Rattle.sheet_store.specs.Grid.{is_formula, is_kept, IsSound};
 ghost use Rattle.sheet_edits.specs.Spans.{changed, write_state, written_all, written_cells, AreGathered};
 
 use crate::changes::Changes;
@@ -32,6 +33,20 @@ fn write_state(store: &Store, changes: &Changes, write: &Write) -> Result<CellSt
     let format = match write.format {
         Some(format) => format,
         None => format_after(store, changes, write.cell),
+    };
+    first_state(store.alloc(), content, format)
+}
+
+/// The state that a write gives its cell, which keeps its format where the write has none.
+pub fn state_written(store: &Store, write: &Write) -> Result<CellState, Memory>
+    ensures state { IfOk result (λ s. s ≡ write_state write.now (map.get store.now.cells write.now.cell)) }
+    ensures sound { IfOk result (λ s. IsSound s) }
+    ensures kept { IfOk result (λ s. is_formula s.content ≡ true → is_kept s ≡ true) }
+{
+    let content = write.content.copy()?;
+    let format = match write.format {
+        Some(format) => format,
+        None => format_of(store, write.cell),
     };
     first_state(store.alloc(), content, format)
 }
