@@ -115,6 +115,7 @@ pub fn format_in(global: Format, own: Format) -> Format
 
 /// What a cell shows in a column's width, by what is kept of it, the sheet's names and the format that stands in for
 /// the default one. None comes exactly where it is blank: a text from the left may run on over it.
+#[inline(always)]
 pub fn shown_in<'a>(
     state: Option<&'a CellState>,
     names: &'a Names,
