@@ -1,3 +1,4 @@
+pub mod Alone
 pub mod Done
 pub mod EveryLog
 pub mod Filled

@@ -1,5 +1,5 @@
 // A sheet, whose values are kept right by recalculation over its dirty formulas.
-ghost use Rattle.std.specs.Prelude.{◌≡◌, ◌≤◌, ◌<◌, ◌⊎◌, [], length, IfErr, IfOk, OnErr, OnOk, Some, None, Err, option_map, nat_le, take, true, false};
+ghost use Rattle.std.specs.Prelude.{◌≡◌, ◌≤◌, ◌<◌, ◌⊎◌, ◌∷◌, [], length, IfErr, IfOk, OnErr, OnOk, Some, None, Err, option_map, nat_le, take, true, false};
 ghost use Rattle.std.specs.FinMap as map;
 ghost use Rattle.std.specs.List.{IsDistinct};
 ghost use Rattle.std.specs.Option.{ForSome};
@@ -41,10 +41,13 @@ use natural_recalc::{
 use range_names::{NameFault, Names};
 use sheet_edits::{
     Changes, FormatChange, cells_of, change_cells, copied, erased, first_of, gathered, is_marked,
-    reformatted, refusing, state_of, target_of, write_cell, write_cells, write_evaluated,
+    reformatted, refusing, state_of, state_written, target_of, write_cell, write_cells,
+    write_evaluated,
 };
 use sheet_shifts::{Shift, names_after, refusal, store_after};
-use sheet_store::{CellState, MOST_WIDTH, Order, SavedSheet, Settings, SheetFault, Store, Writes};
+use sheet_store::{
+    CellState, MOST_WIDTH, Order, SavedSheet, Settings, SheetFault, Store, Write, Writes,
+};
 use std::alloc::Global;
 use std::marker::{Model, PhantomData};
 use std::mem::replace;
@@ -511,11 +514,54 @@ impl<E: Means> SheetOf<E> {
         ensures did { OnOk result (DidEdit (all_written writes.now) self.old self.new) }
         ensures err { OnErr result (self.new ≡ self.old) }
     {
+        if writes.len() == 1 {
+            if let Some(write) = writes.get(0) {
+                return self.write_one(write);
+            }
+        }
+        self.write_many(writes)
+    }
+
+    // Makes the writes in their order.
+    fn write_many(&mut self, writes: &Writes) -> Result<(), SheetFault>
+        ensures answer { IsAnswered self.old.settings self.old.grid (has same_place (written_cells writes.now)) result }
+        ensures did { OnOk result (DidEdit (all_written writes.now) self.old self.new) }
+        ensures err { OnErr result (self.new ≡ self.old) }
+    {
         let alloc = self.store.alloc();
         let mut cells = CellList::new(alloc);
         let mut changes = Changes::new(alloc);
         match gathered(&self.store, writes, &mut cells, &mut changes) {
             Ok(()) => self.put_changes(&cells, changes),
+            Err(Memory) => Err(SheetFault::Memory),
+        }
+    }
+
+    // Makes a write that comes alone, without lists and tables of cells.
+    fn write_one(&mut self, write: &Write) -> Result<(), SheetFault>
+        ensures answer { IsAnswered self.old.settings self.old.grid (has same_place (write.now.cell ∷ [])) result }
+        ensures did { OnOk result (DidEdit (all_written (write.now ∷ [])) self.old self.new) }
+        ensures err { OnErr result (self.new ≡ self.old) }
+    {
+        let settings = self.settings;
+        if let Some(cell) = refusing(&self.store, &settings, &[write.cell]) {
+            return Err(SheetFault::Protected(cell));
+        }
+        let Ok(state) = state_written(&self.store, write) else {
+            return Err(SheetFault::Memory);
+        };
+        match write_cell(
+            &mut self.store,
+            &mut self.graph,
+            &mut self.dirty,
+            write.cell,
+            state,
+        ) {
+            Ok(()) => {
+                let _ = self.dirty.len();
+                mark(&mut self.stale);
+                Ok(())
+            }
             Err(Memory) => Err(SheetFault::Memory),
         }
     }
