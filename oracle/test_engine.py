@@ -1035,6 +1035,20 @@ def test_write_read_round_trip():
         assert f.number == (1 if n < 6 else 2)
 
 
+def test_what_other_programs_read():
+    """A formula whose value is a text has the bits that 1-2-3 saves, with a STRING behind it; RANGE ends at the last column with a
+    width or a mark of its own, where that lies behind the last used one."""
+    name = b'\x06north\0\x03'
+    head = b'\xff\x01\0\x02\0'
+    formula_body = head + bytes(8) + bytes([len(name), 0]) + name
+    cell = b'\x10\0' + bytes([len(formula_body), 0]) + formula_body + b'\x33\0\x0b\0' + head + b'north\0'
+    for kind, body, end in ((8, b'\x11\0\x14', 17), (8, b'\0\0\x14', 1), (0x64, bytes(31) + b'\x80', 255)):
+        data = bytes.fromhex('000002000604') + bytes([kind, 0, len(body), 0]) + body + cell + bytes.fromhex('01000000')
+        saved = wk1.write(wk1.read(data))
+        assert saved[6:18] == bytes([6, 0, 8, 0, 0, 0, 0, 0, end, 0, 2, 0])
+        assert bytes.fromhex('ffffffffffff f07f') + bytes([len(name), 0]) + name + bytes.fromhex('33000b00ff01000200') + b'north\0' in saved
+
+
 def test_random_bytes_in_files():
     """Any damaged file is a sheet or a named fault, and what was read is written and read again."""
     r = random.Random(4)

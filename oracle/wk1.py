@@ -394,7 +394,19 @@ def _u16s(*numbers):
     return b''.join(n.to_bytes(2, 'little') for n in numbers)
 
 
+# the bits of a formula's value where it is a text, which a STRING tells: what 1-2-3 saves, and readers take for a text to come
+TEXT_BITS = 0x7FF0FFFFFFFFFFFF
+
+
+def _range_end(saved):
+    """The last used column and row; no column before the last one that has a width of its own or is hidden."""
+    col, row = saved.last_used() or (0, 0)
+    return max([col, *saved.widths, *saved.hidden]), row
+
+
 def _value_bits(value):
+    if value[0] == 'str':
+        return TEXT_BITS
     if value == ERR:
         return fixed.ERR_BITS
     if value == NA:
@@ -406,7 +418,7 @@ def write(saved):
     """The one list of records, in the order in which this project writes them."""
     s = saved.settings
     out = [_record(BOF, b'\x06\x04')]
-    out.append(_record(RANGE, _u16s(0, 0, *(saved.last_used() or (0, 0)))))
+    out.append(_record(RANGE, _u16s(0, 0, *_range_end(saved))))
     out.append(_record(CALCCOUNT, bytes([s.passes])))
     out.append(_record(CALCMODE, b'\xFF' if s.automatic else b'\x00'))
     out.append(_record(CALCORDER, {'natural': b'\x00', 'columnwise': b'\x01', 'rowwise': b'\xFF'}[s.order]))

@@ -142,7 +142,7 @@ text_said n p s t inside ok =
 abbrev bits_read : Value → Value
 bits_read value.Blank = value.Num (pos 0)
 bits_read (value.Num v) = value.Num v
-bits_read (value.Str t) = value.Num (pos 0)
+bits_read (value.Str t) = value.Err
 bits_read value.Err = value.Err
 bits_read value.Na = value.Na
 

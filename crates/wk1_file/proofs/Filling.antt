@@ -59,7 +59,7 @@ cell_taken s m f p (content.Label prefix t) v k h kept = (None, state_taken s m 
 cell_taken s m f p (content.Formula t) value.Blank k h kept = absurd (h.fits refl)
 cell_taken s m f p (content.Formula t) (value.Num v) k h kept = (Some p, formula_taken s m f p (cell (content.Formula t) (value.Num v) k) kept)
 cell_taken s m f p (content.Formula t) (value.Str u) k h kept =
-    let c : CellState = cell (content.Formula t) (value.Num (pos 0)) k in
+    let c : CellState = cell (content.Formula t) value.Err k in
     (None, ap (λ r. taken r (entry.Text p u)) (formula_taken s m f p c refl) ∙ text_taken s m p c u)
 cell_taken s m f p (content.Formula t) value.Err k h kept = (Some p, formula_taken s m f p (cell (content.Formula t) value.Err k) kept)
 cell_taken s m f p (content.Formula t) value.Na k h kept = (Some p, formula_taken s m f p (cell (content.Formula t) value.Na k) kept)

@@ -69,9 +69,8 @@ pub each_records : {X : Type 0} (f : X → List Piece) (xs : List X) → AllByRe
 each_records f [] h = tt
 each_records f (x ∷ xs) h = both_records (f x) (flat_map f xs) h.0 (each_records f xs h.1)
 
-pub head_records : (o : Option Place) → AllByRecursion IsRecord (bof ∷ range_piece o ∷ [])
-head_records None = (record_of kind.Bof _ (λ e. absurd (omega (arith, e))) (omega arith), (record_of kind.Range _ (λ e. absurd (omega (arith, e))) (omega arith), tt))
-head_records (Some p) = (record_of kind.Bof _ (λ e. absurd (omega (arith, e))) (omega arith), (record_of kind.Range _ (λ e. absurd (omega (arith, e))) (omega arith), tt))
+pub head_records : (p : Place) → AllByRecursion IsRecord (bof ∷ range_piece p ∷ [])
+head_records p = (record_of kind.Bof _ (λ e. absurd (omega (arith, e))) (omega arith), (record_of kind.Range _ (λ e. absurd (omega (arith, e))) (omega arith), tt))
 
 pub settings_records : (c : Choices) → AllByRecursion IsRecord (settings_pieces c)
 settings_records c = (

@@ -2,19 +2,18 @@
 use Rattle.std.proofs.Common.{◌≡◌, ℕ, ◌≤◌, true, false, nat_le, List, [], ◌∷◌, ◌++◌, length, map, replicate, refl, ap, ◌∙◌, subst, arith}
 use Rattle.std.specs.FinMap.{empty, entries}
 use Rattle.std.specs.List.{AllByRecursion}
-use Rattle.std.specs.Prelude.{Option, Some, None, Ok, flat_map, fold}
+use Rattle.std.specs.Prelude.{None, Ok, flat_map, fold}
 use Rattle.std.proofs.lemmas.Bool.Decides.{nat_tests}
 use Rattle.std.proofs.lemmas.List.Sums.{fold-append}
 use Rattle.grid_address.specs.Place.{Place}
 use Rattle.range_names.specs.Names.{name_in}
-use Rattle.sheet_store.specs.Grid.{last_used}
 use Rattle.sheet_store.specs.declared.writes.SavedSheet.{SavedSheet}
 use Rattle.wk1_file.specs.Files.{has_bof, read, IsFile}
 use Rattle.wk1_records.specs.Meanings.{meaning}
 use Rattle.wk1_records.specs.Records.{pieces_bytes, piece_bytes, Piece}
 use Rattle.wk1_file.specs.Said.{cell_entries, hidden_entries, name_entry_of, records_of, settings_entries, widths_entries, IsRecord, IsSavedSheet, Says}
 use Rattle.wk1_records.specs.Bodies.{made, place_bytes}
-use Rattle.wk1_file.specs.Saved.{bof, cell_pieces, eof, file_bytes, hidden_pieces, name_piece, range_piece, records_before, settings_pieces, width_pieces}
+use Rattle.wk1_file.specs.Saved.{bof, cell_pieces, eof, file_bytes, hidden_pieces, name_piece, range_end, range_piece, records_before, settings_pieces, width_pieces}
 use Rattle.wk1_file.specs.Sheets.{first_fault, sheet_of, start, taken, unless_fault, with_hidden, with_names, with_widths, Progress}
 use Rattle.wk1_records.specs.declared.entry.Entry.{Entry}
 use Rattle.wk1_records.specs.declared.entry.Entry.TheVariants as entry
@@ -31,15 +30,11 @@ use Rattle.wk1_file.proofs.Widths.{widths_said, widths_taken}
 use Rattle.wk1_file.specs.Said.{IsSavedCell}
 use Rattle.sheet_store.specs.State.{CellState}
 
-abbrev used_body : Place → List ℕ
-used_body p = place_bytes (record { row = 0; col = 0 }) ++ place_bytes p
+abbrev range_body : Place → List ℕ
+range_body p = place_bytes (record { row = 0; col = 0 }) ++ place_bytes p
 
-used_said : (p : Place) (n : ℕ) → meaning n (made kind.Range (used_body p)) ≡ Ok entry.Nothing
-used_said p n = by_type n kind.Range (used_body p) (λ x. absurd cc) ∙ tested n (used_body p) kind.Range entry.Nothing (omega arith) refl refl
-
-range_said : (o : Option Place) (n : ℕ) → meaning n (range_piece o) ≡ Ok entry.Nothing
-range_said None n = used_said (record { row = 0; col = 0 }) n
-range_said (Some p) n = used_said p n
+range_said : (p : Place) (n : ℕ) → meaning n (range_piece p) ≡ Ok entry.Nothing
+range_said p n = by_type n kind.Range (range_body p) (λ x. absurd cc) ∙ tested n (range_body p) kind.Range entry.Nothing (omega arith) refl refl
 
 bof_said : (n : ℕ) → meaning n bof ≡ Ok entry.Nothing
 bof_said n = by_type n kind.Bof (6 ∷ 4 ∷ []) (λ x. absurd cc) ∙ tested n (6 ∷ 4 ∷ []) kind.Bof entry.Nothing (omega arith) refl refl
@@ -78,15 +73,15 @@ module _ (s : SavedSheet) (h : IsSavedSheet s) where
 
   said : Says pieces says
   said =
-      said_both (bof ∷ range_piece (last_used s.store) ∷ settings_pieces s.settings) (width_pieces s.store ++ (hidden ++ (names_pieces ++ cells_pieces))) (entry.Nothing ∷ entry.Nothing ∷ settings_entries s.settings) (widths_entries s.store ++ (told ++ (names_entries ++ cells_entries)))
-      (bof_said, (range_said (last_used s.store), settings_said s.settings h.settings))
+      said_both (bof ∷ range_piece (range_end s.store) ∷ settings_pieces s.settings) (width_pieces s.store ++ (hidden ++ (names_pieces ++ cells_pieces))) (entry.Nothing ∷ entry.Nothing ∷ settings_entries s.settings) (widths_entries s.store ++ (told ++ (names_entries ++ cells_entries)))
+      (bof_said, (range_said (range_end s.store), settings_said s.settings h.settings))
       (said_both (width_pieces s.store) (hidden ++ (names_pieces ++ cells_pieces)) (widths_entries s.store) (told ++ (names_entries ++ cells_entries)) (widths_said s.store h.widths)
       (said_both hidden (names_pieces ++ cells_pieces) told (names_entries ++ cells_entries) (hidden_said s.store.hidden h.hidden)
       (said_both names_pieces cells_pieces names_entries cells_entries (names_said (entries s.names) h.names) (cells_said (entries s.store.cells) h.cells))))
 
   records : AllByRecursion IsRecord pieces
   records =
-      both_records (bof ∷ range_piece (last_used s.store) ∷ settings_pieces s.settings) (width_pieces s.store ++ (hidden ++ (names_pieces ++ cells_pieces))) (both_records (bof ∷ range_piece (last_used s.store) ∷ []) (settings_pieces s.settings) (head_records (last_used s.store)) (settings_records s.settings))
+      both_records (bof ∷ range_piece (range_end s.store) ∷ settings_pieces s.settings) (width_pieces s.store ++ (hidden ++ (names_pieces ++ cells_pieces))) (both_records (bof ∷ range_piece (range_end s.store) ∷ []) (settings_pieces s.settings) (head_records (range_end s.store)) (settings_records s.settings))
       (both_records (width_pieces s.store) (hidden ++ (names_pieces ++ cells_pieces)) (widths_records s.store)
       (both_records hidden (names_pieces ++ cells_pieces) (hidden_records s.store.hidden)
       (both_records names_pieces cells_pieces (names_records (entries s.names) h.names) (cells_records (entries s.store.cells) h.cells))))
@@ -124,5 +119,5 @@ module _ (s : SavedSheet) (h : IsSavedSheet s) where
 
 pub file_read : (s : SavedSheet) → IsSavedSheet s → length (file_bytes s) ≤ 67108864 → IsFile (file_bytes s) (Ok s)
 file_read s h most =
-    let begun : has_bof (file_bytes s) ≡ true = begins (pieces_bytes (((range_piece (last_used s.store) ∷ settings_pieces s.settings) ++ (width_pieces s.store ++ (hidden s h ++ (names_pieces s h ++ cells_pieces s h)))) ++ eof ∷ [])) in
+    let begun : has_bof (file_bytes s) ≡ true = begins (pieces_bytes (((range_piece (range_end s.store) ∷ settings_pieces s.settings) ++ (width_pieces s.store ++ (hidden s h ++ (names_pieces s h ++ cells_pieces s h)))) ++ eof ∷ [])) in
     subst (IsFile (file_bytes s)) (read_of s h) (read {bytes = file_bytes s} most begun (splits_back 0 (pieces s h) (records s h)))

@@ -53,11 +53,11 @@ pub record IsCell (p : Place) (s : CellState) : Type 0 where
   pub content : IsContent s.content
   pub value : IsValue s.value
 
--- a formula whose value is a text is saved with the number 0, and its text stands in a second record
+-- a formula whose value is a text is saved with bits that are read as ERR, and its text stands in a second record
 abbrev pub formula_entries : Place → CellState → Value → List Entry
 formula_entries p s value.Blank = entry.Formula p s ∷ []
 formula_entries p s (value.Num v) = entry.Formula p s ∷ []
-formula_entries p s (value.Str t) = entry.Formula p (record s { value = value.Num (pos 0) }) ∷ entry.Text p t ∷ []
+formula_entries p s (value.Str t) = entry.Formula p (record s { value = value.Err }) ∷ entry.Text p t ∷ []
 formula_entries p s value.Err = entry.Formula p s ∷ []
 formula_entries p s value.Na = entry.Formula p s ∷ []
 

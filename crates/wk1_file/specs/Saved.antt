@@ -2,7 +2,7 @@
 use Rattle.std.specs.Int.{to_le_bytes, w16, w64}
 use Rattle.std.specs.Int.RustNames.{int_lt}
 use Rattle.std.specs.List.{list_any, range_with_len}
-use Rattle.std.specs.Prelude.{ℕ, ◌+◌, ◌-◌, ◌*◌, ◌/◌, ◌%◌, ◌^◌, ℤ, pos, nat_abs, Bool, true, false, ◌&&◌, ◌||◌, ◌==◌, nat_le, map, flat_map, sum, replicate, get_or, Option, Some, None, List, [], ◌∷◌, ◌++◌, length, if◌then◌else◌}
+use Rattle.std.specs.Prelude.{ℕ, zero, suc, ◌+◌, ◌-◌, ◌*◌, ◌/◌, ◌%◌, ◌^◌, ℤ, pos, nat_abs, Bool, true, false, ◌&&◌, ◌||◌, ◌==◌, nat_le, nat_lt, max, map, flat_map, sum, replicate, get_or, Option, Some, None, List, [], ◌∷◌, ◌++◌, length, if◌then◌else◌}
 use Rattle.std.specs.FinMap as finite
 use Rattle.grid_address.specs.Limits.{COLUMNS}
 use Rattle.grid_address.specs.Place.{Extent, Place}
@@ -12,7 +12,7 @@ use Rattle.formula_tree.specs.declared.value.Value.{Value}
 use Rattle.formula_tree.specs.declared.value.Value.TheVariants as value
 use Rattle.range_names.specs.Names.{name_in, NameMap}
 use Rattle.sheet_store.specs.Choices.{Choices}
-use Rattle.sheet_store.specs.Grid.{last_used, width_of, Grid}
+use Rattle.sheet_store.specs.Grid.{is_hidden, last_used, width_of, Grid}
 use Rattle.sheet_store.specs.declared.order.Order.{Order}
 use Rattle.sheet_store.specs.declared.order.Order.TheVariants.{Natural, Columnwise, Rowwise}
 use Rattle.sheet_store.specs.State.{CellState}
@@ -41,11 +41,15 @@ number_piece p s v =
     if is_integer v then made kind.Integer (head p s ++ integer_bytes v)
     else made kind.Number (head p s ++ to_le_bytes w64 (bits_of v))
 
+-- the bits of a value that is a text: those that 1-2-3 saves, of no number; other programs take eight zeros for 0
+abbrev pub TEXT_BITS : ℕ
+TEXT_BITS = 0x7FF0FFFFFFFFFFFF
+
 -- the eight bytes of a formula's value; a text stands in a record of its own
 abbrev pub value_bits : Value → ℕ
 value_bits value.Blank = 0
 value_bits (value.Num v) = bits_of v
-value_bits (value.Str t) = 0
+value_bits (value.Str t) = TEXT_BITS
 value_bits value.Err = ERR_BITS
 value_bits value.Na = NA_BITS
 
@@ -75,11 +79,30 @@ bof = made kind.Bof (6 ∷ 4 ∷ [])
 abbrev pub eof : Piece
 eof = made kind.Eof []
 
--- A1, and the last used column and row; A1 where there is none
-abbrev pub range_piece : Option Place → Piece
-range_piece None =
-    made kind.Range (place_bytes (record { row = 0; col = 0 }) ++ place_bytes (record { row = 0; col = 0 }))
-range_piece (Some p) = made kind.Range (place_bytes (record { row = 0; col = 0 }) ++ place_bytes p)
+-- whether a column has a width of its own or is hidden
+abbrev pub is_marked : Grid → ℕ → Bool
+is_marked g col = nat_lt 0 (get_or g.widths col 0) || is_hidden g col
+
+-- the last marked column of as many from A on; A where there is none
+unfoldable pub last_marked : Grid → ℕ → ℕ
+last_marked g zero = 0
+last_marked g (suc n) = if is_marked g n then n else last_marked g n
+
+-- a place, or A1 where there is none
+abbrev pub place_or_first : Option Place → Place
+place_or_first None = record { row = 0; col = 0 }
+place_or_first (Some p) = p
+
+-- the last used row, and the last column that is used or marked: some programs refuse a width past the range's end
+abbrev pub range_end : Grid → Place
+range_end g = record {
+  row = (place_or_first (last_used g)).row;
+  col = max (place_or_first (last_used g)).col (last_marked g COLUMNS);
+}
+
+-- the range of a sheet, from A1 on
+abbrev pub range_piece : Place → Piece
+range_piece end = made kind.Range (place_bytes (record { row = 0; col = 0 }) ++ place_bytes end)
 
 -- the pointer, the global format and width, and 23 bytes that mean nothing here
 abbrev pub window_piece : Choices → Piece
@@ -152,7 +175,7 @@ cell_pieces e = content_pieces e.0 e.1 e.1.content
 -- the records of a sheet before the EOF, in the one order
 abbrev pub records_before : SavedSheet → List Piece
 records_before s =
-    (bof ∷ range_piece (last_used s.store) ∷ settings_pieces s.settings)
+    (bof ∷ range_piece (range_end s.store) ∷ settings_pieces s.settings)
     ++ (width_pieces s.store
     ++ (hidden_pieces s.store.hidden ++ (names_pieces s.names ++ flat_map cell_pieces (finite.entries s.store.cells))))
 

@@ -81,6 +81,9 @@ pub fn put_text(
     put_piece(Kind::Str, body.as_slice(), into)
 }
 
+// The bits of a value that is a text, which stands in a record of its own (as 1-2-3 saves it).
+const TEXT_BITS: u64 = 0x7FF0_FFFF_FFFF_FFFF;
+
 // The bits of a formula's value.
 fn value_bits(state: &CellState) -> u64
     ensures { result ≡ value_bits state.now.value }
@@ -88,7 +91,7 @@ fn value_bits(state: &CellState) -> u64
     match state.value() {
         ValueRef::Blank => 0,
         ValueRef::Num(number) => double_bits(number),
-        ValueRef::Str(_) => 0,
+        ValueRef::Str(_) => TEXT_BITS,
         ValueRef::Err => ERR_BITS,
         ValueRef::Na => NA_BITS,
     }

@@ -1,4 +1,4 @@
-// The records of the settings, of the used span, of own widths and of hidden columns.
+// The records of the settings, of the range, of own widths and of hidden columns.
 ghost use Rattle.std.specs.Int.{to_le_bytes, w16};
 ghost use Rattle.std.specs.Prelude.{ℕ, ◌≡◌, ◌≤◌, ◌<◌, ◌+◌, ◌*◌, ◌++◌, ◌∷◌, [], OnOk, OnErr, None, false, get_or, length};
 ghost use Rattle.std.specs.Option.{ForSome};
@@ -10,7 +10,7 @@ ghost use Rattle.wk1_records.specs.Records.{piece_bytes, pieces_bytes};
 ghost use Rattle.wk1_records.specs.declared.kind.Kind.TheVariants as kind;
 ghost use Rattle.wk1_records.specs.Bodies.{made};
 ghost use Rattle.wk1_records.specs.Kinds.{order_byte};
-ghost use Rattle.wk1_file.specs.Saved.{bits_byte, bits_bytes, hidden_pieces, on_byte, range_piece, settings_pieces, width_piece, width_pieces, window_piece};
+ghost use Rattle.wk1_file.specs.Saved.{bits_byte, bits_bytes, hidden_pieces, is_marked, last_marked, on_byte, place_or_first, range_end, range_piece, settings_pieces, width_piece, width_pieces, window_piece};
 
 use grid_address::Cell;
 use lics_text::{LabelPrefix, Memory};
@@ -89,16 +89,55 @@ pub fn put_settings(
     put_window(settings, body, into)
 }
 
-/// Adds the record of the used span, from A1 on.
-pub fn put_range(last: Option<Cell>, body: &mut Vec<u8>, into: &mut Vec<u8>) -> Result<(), Memory>
-    ensures { OnOk result (into.new.items ≡ into.old.items ++ piece_bytes (range_piece last)) }
+// Whether a column has a width of its own or is hidden.
+fn is_marked(store: &Store, col: u8) -> bool
+    ensures { result ≡ is_marked store.now col }
+{
+    store.width(col).is_some() || store.is_hidden(col)
+}
+
+// The last column that has a width of its own or is hidden; A where there is none.
+fn last_marked(store: &Store) -> u8
+    ensures { result ≡ last_marked store.now 256 }
+{
+    let mut last = 0;
+    for col in 0..256usize {
+        if is_marked(store, col as u8) {
+            last = col as u8;
+        }
+    }
+    last
+}
+
+// The last used cell, or A1 where there is none.
+fn last_used(store: &Store) -> Cell
+    ensures { result ≡ place_or_first (last_used store.now) }
+{
+    match store.last_used() {
+        Some(cell) => cell,
+        None => Cell { row: 0, col: 0 },
+    }
+}
+
+// The last used row, and the last column that is used or marked.
+fn range_end(store: &Store) -> Cell
+    ensures { result ≡ range_end store.now }
+{
+    let last = last_used(store);
+    Cell {
+        row: last.row,
+        col: last.col.max(last_marked(store)),
+    }
+}
+
+/// Adds the record of the range of a sheet, from A1 to the last row that is used and the last column that is used, has
+/// a width of its own or is hidden.
+pub fn put_range(store: &Store, body: &mut Vec<u8>, into: &mut Vec<u8>) -> Result<(), Memory>
+    ensures { OnOk result (into.new.items ≡ into.old.items ++ piece_bytes (range_piece (range_end store.now))) }
 {
     body.clear();
     put_place(Cell { row: 0, col: 0 }, body)?;
-    match last {
-        Some(cell) => put_place(cell, body)?,
-        None => put_place(Cell { row: 0, col: 0 }, body)?,
-    }
+    put_place(range_end(store), body)?;
     put_piece(Kind::Range, body.as_slice(), into)
 }
 

@@ -1,10 +1,9 @@
 // Worksheet files written.
 ghost use Rattle.std.specs.Prelude.{◌≡◌, ◌≤◌, ◌<◌, ◌++◌, ◌∷◌, [], OnOk, IfOk, Ok, length};
-ghost use Rattle.sheet_store.specs.Grid.{last_used};
 ghost use Rattle.wk1_records.specs.Records.{pieces_bytes};
 ghost use Rattle.wk1_file.specs.Files.{IsFile};
 ghost use Rattle.wk1_file.specs.Said.{AreSettings, IsSavedSheet};
-ghost use Rattle.wk1_file.specs.Saved.{bof, file_bytes, records_before, range_piece, settings_pieces};
+ghost use Rattle.wk1_file.specs.Saved.{bof, file_bytes, records_before, range_end, range_piece, settings_pieces};
 
 use crate::put_cells::put_cells;
 use crate::put_names::put_names;
@@ -14,13 +13,13 @@ use sheet_store::{SavedSheet, Settings};
 use std::alloc::Global;
 use wk1_records::{Kind, put_piece};
 
-// Adds BOF, the used span and the settings.
+// Adds BOF, the range and the settings.
 fn put_front(sheet: &SavedSheet, body: &mut Vec<u8>, into: &mut Vec<u8>) -> Result<(), Memory>
     ensures { OnOk result (into.new.items ≡ into.old.items
-        ++ pieces_bytes (bof ∷ range_piece (last_used sheet.now.store) ∷ settings_pieces sheet.now.settings)) }
+        ++ pieces_bytes (bof ∷ range_piece (range_end sheet.now.store) ∷ settings_pieces sheet.now.settings)) }
 {
     put_piece(Kind::Bof, &[6, 4], into)?;
-    put_range(sheet.store.last_used(), body, into)?;
+    put_range(&sheet.store, body, into)?;
     put_settings(sheet.settings, body, into)
 }
 

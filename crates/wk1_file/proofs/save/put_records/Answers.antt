@@ -1,9 +1,8 @@
 use Rattle.std.proofs.Common.{◌≡◌, ◌++◌, ◌∷◌, ◌∙◌, List, ℕ, ap}
 use Rattle.std.specs.FinMap as finite
 use Rattle.std.specs.Prelude.{flat_map}
-use Rattle.sheet_store.specs.Grid.{last_used}
 use Rattle.wk1_records.specs.Records.{pieces_bytes, Piece}
-use Rattle.wk1_file.specs.Saved.{bof, cell_pieces, hidden_pieces, names_pieces, range_piece, settings_pieces, width_pieces}
+use Rattle.wk1_file.specs.Saved.{bof, cell_pieces, hidden_pieces, names_pieces, range_end, range_piece, settings_pieces, width_pieces}
 use Rattle.wk1_file.proofs.Kept.{all_cells, all_names}
 use Rattle.wk1_file.proofs.Writing.{five, joined}
 use Rattle.wk1_file.proofs.save.put_records.Goals as goal
@@ -11,7 +10,7 @@ use Rattle.wk1_file.proofs.save.put_records.Goals as goal
 pub returns-clause-bytes : goal.returns-clause-bytes
 returns-clause-bytes c =
     let s = c.args.sheet.now in
-    let f : List Piece = bof ∷ range_piece (last_used s.store) ∷ settings_pieces s.settings in
+    let f : List Piece = bof ∷ range_piece (range_end s.store) ∷ settings_pieces s.settings in
     let w = width_pieces s.store in
     let h = hidden_pieces s.store.hidden in
     let n = names_pieces s.names in
