@@ -116,7 +116,7 @@ def read_host(line):
 
 class HostShelf:
     """A folder as a shelf. A call fails where its name leads to no plain file, and a change where nobody may write the file; a file is
-    written beside, where what an earlier save left is written over."""
+    written beside, under a name that nothing in the folder has."""
 
     def __init__(self, folder):
         self.folder = dict(folder)
@@ -142,8 +142,6 @@ class HostShelf:
 
     def put(self, name, data):
         entry = self._look_to_change(name)
-        self._look(name + '.saving')
-        self.folder.pop(name + '.saving', None)
         self.folder[name] = plain(data, entry.rights if entry else NEW_RIGHTS)
 
     def remove(self, name):
@@ -251,6 +249,8 @@ def seconds_at(reading):
 def start(program, clock, host, folder, source, shown, noted):
     """Starts the program."""
     around = {'LD_PRELOAD': clock, 'CLOCK': ','.join(seconds_at(reading) for reading in host.clock)}
+    if host.keys_fail:
+        around['KEYS_FAIL'] = 'yes'
     return subprocess.Popen([program, *host.options], stdin=source, stdout=shown, stderr=noted, cwd=folder, env=around,
                             umask=0o022, restore_signals=False, preexec_fn=set_bounds)
 
@@ -269,16 +269,13 @@ def got(program, clock, host, screens):
     with tempfile.TemporaryDirectory() as folder, shown, noted, open(source, 'rb') as source, open(keys, 'wb', 0) as keys:
         for name, entry in host.folder.items():
             make_entry(os.path.join(folder, name), entry)
-        # where nothing is left of such a pipe whose other end is open, a read fails
-        os.set_blocking(source.fileno(), not host.keys_fail)
         keys.write(host.keys[:count])
         running = start(program, clock, host, folder, source, shown, noted)
         if changed:
             wait_for(screens, shown, running)
             change(folder, *changed)
             keys.write(host.keys[count:])
-        if not host.keys_fail:
-            keys.close()
+        keys.close()
         status = running.wait(PATIENCE)
         left = {entry.name: entry_at(entry.path) for entry in os.scandir(folder)}
         return Outcome(status, written(shown, shown_from), written(noted, noted_from), left)

@@ -15,9 +15,10 @@ ENDINGS = {
     "clock": set(),
     "short-read": set(),
     "short-write": set(),
+    "interrupted": set(),
 }
 # a run that the failure did not touch ends as if there were none
-MAY_END_AS_BEFORE = {"memory", "clock", "short-read", "short-write"}
+MAY_END_AS_BEFORE = {"memory", "clock", "short-read", "short-write", "interrupted"}
 AS_IF_NONE = "it ended as if no call had failed"
 
 

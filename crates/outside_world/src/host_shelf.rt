@@ -1,28 +1,36 @@
 ghost use Rattle.std.specs.Prelude.{◌≡◌, ◌≤◌, List, None, length};
 ghost use Rattle.outside_world.specs.Shelf.{HasCause};
 
+use crate::limits::file_size_limit;
+use crate::new_file::{put_in_place, text_of};
+use crate::plain_file::{open_plain, state_of, state_to_change, uninterrupted};
 use crate::{ByteBuffer, FileName, Shelf, ShelfFault};
-use byte_list::ByteList;
 use std::alloc::Global;
-use std::fs::{Files, Metadata, OpenFile, OpenOptions};
-use std::io::{ErrorKind, Read, Write};
-use std::{fs, io};
+use std::fs::{Files, OpenFile, OpenOptions};
+use std::io;
+use std::io::{ErrorKind, Read};
+use std::os::fd::AsFd;
 
 // How many bytes of a file are read at most: one more than a worksheet's file may have.
 const MOST_BYTES: u64 = 67_108_865;
 
-// What a file is called while it is written, behind its name. No name of a shelf's file ends in it.
-const BESIDE: &[u8] = b".saving";
-
 /// The files of the current folder. They tell nothing of their content, and each failed call raises their count of
-/// faults. At most 67,108,865 bytes of a file are read, one more than a worksheet's file may have. A put writes the
-/// bytes into a file `NAME.WK1.saving` beside, waits until they are on the disk, and gives that file the name: one that
-/// breaks off at any point leaves what the name held before. The file keeps its access rights.
+/// faults. At most 67,108,865 bytes of a file are read, one more than a worksheet's file may have.
+///
+/// A put writes the bytes into a file of its own beside, `NAME.WK1.saving.NNN` with the first number that no file has,
+/// waits until they are on the disk, and gives that file the name: one that breaks off at any point leaves what the
+/// name held before, and two programs that save at once leave the whole file of one of them. What a killed program left
+/// beside is never opened or taken away. A file that takes another's place is for its owner alone until it has that
+/// one's owner, group and rights, before the first byte is written; where the system doesn't let the group be given,
+/// the new group gets no right that all others hadn't. A file of a new name has the rights that the umask leaves. The
+/// folder is made safe on the disk too, where it can be read. A file that would pass the system's limit of a file's
+/// size isn't begun.
 ///
 /// A name leads to the file that is called exactly so, in capitals; another spelling, as `pay.wk1`, is another file,
 /// which no name leads to. What is no plain file (a folder, a link, a pipe) is neither read, written nor taken away:
 /// each call with its name fails, since a link may lead out of the folder. So does the reading of a file that can't be
-/// read, and a put or a removal of one that nobody may write. All this is this project's choice.
+/// read, and a put or a removal of one that this program may not read and write, or that nobody may write. All this is
+/// this project's choice.
 #[derive(Drop)]
 pub struct HostShelf<F: Files + Drop> {
     files: F,
@@ -57,96 +65,77 @@ impl<F: Files + Drop> HostShelf<F> {
     }
 }
 
-// A name as text.
-fn text_of(bytes: &[u8]) -> io::Result<&str> {
-    match str::from_utf8(bytes) {
-        Ok(text) => Ok(text),
-        Err(_) => Err(ErrorKind::InvalidInput.into()),
-    }
-}
-
-// The state of the plain file of this name, and none where there is nothing of the name.
-fn state_of(files: &impl Files, name: &str) -> io::Result<Option<Metadata>> {
-    match files.symlink_metadata(name) {
-        Ok(state) if state.is_file() => Ok(Some(state)),
-        Ok(_) => Err(ErrorKind::InvalidInput.into()),
-        Err(fault) if fault.kind() == ErrorKind::NotFound => Ok(None),
-        Err(fault) => Err(fault),
-    }
-}
-
-// As `state_of`, for a file that is to be changed.
-fn state_to_change(files: &impl Files, name: &str) -> io::Result<Option<Metadata>> {
-    match state_of(files, name)? {
-        Some(state) if state.permissions().readonly() => Err(ErrorKind::PermissionDenied.into()),
-        state => Ok(state),
-    }
-}
-
 // The first bytes of a file, up to the most.
 fn read_file(files: &impl Files, alloc: Global, name: &str) -> io::Result<Option<ByteBuffer>> {
-    if state_of(files, name)?.is_none() {
+    let mut how = OpenOptions::new();
+    how.read(true);
+    let Some((file, _)) = open_plain(files, &how, name)? else {
         return Ok(None);
-    }
+    };
     let mut bytes = Vec::new(alloc);
-    let file = fs::open(files, name)?;
     file.take(MOST_BYTES).read_to_end(&mut bytes)?;
     Ok(Some(ByteBuffer::of_vec(bytes)))
 }
 
-// Makes a file of these bytes, which are on the disk when it answers. There must be none of the name.
-fn write_new<R: Files>(
-    files: &R,
-    name: &str,
-    bytes: &[u8],
-    before: Option<Metadata>,
-) -> io::Result<()> {
-    let mut file = OpenOptions::new()
-        .write(true)
-        .create_new(true)
-        .open(files, name)?;
-    file.write_all(bytes)?;
-    if let Some(state) = before {
-        file.set_permissions(state.permissions())?;
+// Whether so many bytes pass the system's limit of a file's size. To write past it would end the program.
+fn is_past_limit(files: &impl Files, alloc: Global, count: usize) -> bool {
+    match file_size_limit(files, alloc) {
+        Some(limit) => count as u64 > limit,
+        None => false,
     }
-    file.sync_all()
 }
 
-// Writes a file beside, and gives it the name when it is on the disk; so the bytes of before stay until then. What it
-// wrote beside goes where it fails.
-fn replace_file(files: &impl Files, name: &str, beside: &str, bytes: &[u8]) -> io::Result<()> {
-    let before = state_to_change(files, name)?;
-    if state_of(files, beside)?.is_some() {
-        files.remove_file(beside)?;
-    }
-    let outcome = match write_new(files, beside, bytes, before) {
-        Ok(()) => files.rename(beside, name),
+// Makes what was renamed in the current folder safe on the disk. A folder that this program may not read, or whose file
+// system has no such call, is passed over.
+fn make_folder_safe(files: &impl Files) -> io::Result<()> {
+    let mut how = OpenOptions::new();
+    how.read(true);
+    match how.open(files, ".") {
+        Ok(folder) => match folder.sync_all() {
+            Err(fault) if is_lack(&fault) => Ok(()),
+            outcome => outcome,
+        },
+        Err(fault) if fault.kind() == ErrorKind::PermissionDenied => Ok(()),
         Err(fault) => Err(fault),
-    };
-    if outcome.is_err() {
-        let _ = files.remove_file(beside);
     }
-    outcome
+}
+
+// Whether a file system tells by this that it has no such call.
+fn is_lack(fault: &io::Error) -> bool {
+    matches!(
+        fault.kind(),
+        ErrorKind::InvalidInput | ErrorKind::Unsupported
+    )
+}
+
+// Puts bytes in the place of the file of this name, or makes it.
+fn put_file<F: Files<File: AsFd>>(
+    files: &F,
+    alloc: Global,
+    name: &FileName,
+    bytes: &[u8],
+) -> io::Result<()> {
+    if is_past_limit(files, alloc, bytes.len()) {
+        return Err(ErrorKind::FileTooLarge.into());
+    }
+    let old = state_to_change(files, text_of(name.bytes())?)?;
+    put_in_place(files, name, old, bytes)?;
+    make_folder_safe(files)
 }
 
 // Takes a file away, where it is there.
 fn remove_file(files: &impl Files, name: &str) -> io::Result<bool> {
-    let there = state_to_change(files, name)?.is_some();
-    if there {
-        files.remove_file(name)?;
+    if state_to_change(files, name)?.is_none() {
+        return Ok(false);
     }
-    Ok(there)
+    match uninterrupted(|| files.remove_file(name)) {
+        Ok(()) => Ok(true),
+        Err(fault) if fault.kind() == ErrorKind::NotFound => Ok(false),
+        Err(fault) => Err(fault),
+    }
 }
 
-// What is written where the file of this name is to be replaced.
-fn beside(name: &FileName) -> ByteList<19> {
-    let mut bytes = ByteList::new();
-    bytes.put_all(name.bytes());
-    bytes.put_all(BESIDE);
-    bytes
-}
-
-impl<F: Files + Drop> Shelf for HostShelf<F> {
+impl<F: Files<File: AsFd> + Drop> Shelf for HostShelf<F> {
     ghost holds = { λ s. None };
 
     ghost faults = { λ s. s.faults };
@@ -168,11 +157,7 @@ impl<F: Files + Drop> Shelf for HostShelf<F> {
     }
 
     fn put(&mut self, name: &FileName, bytes: &ByteBuffer) -> Result<(), ShelfFault> {
-        let beside = beside(name);
-        let outcome = match (text_of(name.bytes()), text_of(beside.bytes())) {
-            (Ok(text), Ok(other)) => replace_file(&self.files, text, other, bytes.bytes()),
-            (Err(fault), _) | (_, Err(fault)) => Err(fault),
-        };
+        let outcome = put_file(&self.files, self.alloc, name, bytes.bytes());
         self.answer(outcome)
     }
 
