@@ -7,13 +7,16 @@ from .sheet import Sheet, SheetFault, State
 from .values import value_content, first_value
 from .evaluate import Scene
 
+# the most bytes of a worksheet's file that is read
+MOST_BYTES = 67_108_864
+
 MESSAGES = {
     1: 'Invalid address', 2: 'Invalid number', 3: 'Invalid name', 4: 'Name not found', 5: 'Protected cell',
     6: 'File does not exist', 8: 'Disk error', 9: 'Cells would leave the sheet', 10: 'Range leaves the sheet',
     11: 'Step is zero', 12: 'Invalid table', 13: 'Input cell in table', 14: 'Query range missing',
     15: 'Field not found', 16: 'Output range full', 17: 'Invalid file name', 18: 'Sort setting missing',
     19: 'Line too long', 20: 'Key outside the range', 21: 'Nothing to undo', 22: 'Print range missing',
-    23: 'Page too small', 24: 'Report too long',
+    23: 'Page too small', 24: 'Report too long', 25: 'Worksheet too large',
 }
 
 
@@ -411,6 +414,14 @@ def table(what, desk, scene, tally):
     return 'changed'
 
 
+def written(saved):
+    """The bytes of a worksheet's file, or message 25, before the shelf is asked, where it would not be read again."""
+    data = wk1.write(saved)
+    if len(data) > MOST_BYTES:
+        raise CommandError(25)
+    return data
+
+
 def file_command(action, a, desk, shelf, scene, tally):
     sheet = desk.sheet
     name = the_file(action, a)
@@ -431,7 +442,7 @@ def file_command(action, a, desk, shelf, scene, tally):
         desk.sheet.calc(Scene(desk.sheet.settings.pointer, scene.now), tally)
         return 'changed'
     if action == 'f.save':
-        shelf.put(name, wk1.write(sheet.snapshot()))
+        shelf.put(name, written(sheet.snapshot()))
         desk.file_name = name                # kept for the next Save
         return 'looked'
     if action == 'f.erase':
@@ -439,7 +450,7 @@ def file_command(action, a, desk, shelf, scene, tally):
             raise CommandError(6)
         return 'looked'
     if action.startswith('fx.'):
-        shelf.put(name, wk1.write(xtract(sheet, span_of(a[1], desk), action == 'fx.values')))
+        shelf.put(name, written(xtract(sheet, span_of(a[1], desk), action == 'fx.values')))
         return 'looked'
     saved = get()                            # Combine
     px, py = sheet.settings.pointer

@@ -1,5 +1,5 @@
 -- How commands end, by what their call was answered.
-use Rattle.std.specs.Prelude.{◌≡◌, ℕ, Bool, true, false, refl, List, None, Some, Ok, Err}
+use Rattle.std.specs.Prelude.{◌≡◌, ℕ, Bool, true, false, refl, List, None, Some, Ok, Err, if◌then◌else◌}
 use Rattle.std.proofs.Common.{ap, subst, sym, ◌∙◌}
 use Rattle.std.proofs.lemmas.Bool.{false≢true, true≢false}
 use Rattle.command_desk.specs.Acting.{on_desk, Acted, DeskActed, HasActedBy, HasActedOn}
@@ -8,8 +8,10 @@ use Rattle.command_desk.specs.declared.desk.Desk as declared
 use Rattle.command_desk.specs.declared.ending.CommandEnd.{CommandEnd}
 use Rattle.command_desk.specs.declared.ending.CommandEnd.TheVariants.{Finished, Refused}
 use Rattle.commands_file.specs.Calls.{failed, gets, loaded, puts, removes, there, written, HasAnswered, Reply, ShelfCall, ShelfView}
-use Rattle.commands_file.specs.Commands.{by_call, finished, recalculated_there, refused, retrieved_sheet, saved_as, scene_in, taken_away, with_file, written_out, HasActedOver}
-use Rattle.commands_file.specs.Steps.{end_of_put, end_of_remove, is_written, loaded_as, HasCalled}
+use Rattle.commands_file.specs.Commands.{by_call, finished, is_readable, put_readable, recalculated_there, refused, retrieved_sheet, saved_as, scene_in, taken_away, with_file, without_call, written_out, HasActedOver}
+use Rattle.commands_file.specs.Steps.{end_of_placing, end_of_put, end_of_remove, is_written, loaded_as, HasCalled, IsPlaced}
+use Rattle.commands_file.specs.declared.calling.Placed.{Placed}
+use Rattle.commands_file.specs.declared.calling.Placed.TheVariants as place
 use Rattle.commands_file.specs.declared.loading.Loaded.{Loaded}
 use Rattle.commands_file.specs.declared.loading.Loaded.TheVariants as load
 use Rattle.desk_errors.specs.declared.error.CommandError.{CommandError}
@@ -101,6 +103,51 @@ module _ (v : declared.Desk) (n : ℕ) (before now : ShelfView) where
       by failed e a = over (puts name bytes) act failed (Refused error.DiskError) v v n n before now (refused_on error.DiskError (Refused error.DiskError) v n refl) a
       by (there b) e a = over (puts name bytes) act (there b) (Refused error.DiskError) v v n n before now (refused_on error.DiskError (Refused error.DiskError) v n refl) a
       by (loaded f) e a = over (puts name bytes) act (loaded f) (Refused error.DiskError) v v n n before now (refused_on error.DiskError (Refused error.DiskError) v n refl) a
+
+module _ (name bytes : List ℕ) (v : declared.Desk) (n : ℕ) (before now : ShelfView) where
+  -- what the placing of a worksheet's file does, by whether it would be read again
+  abbrev IsSo : (Reply → DeskActed) → CommandEnd → declared.Desk → Bool → Type 0
+  IsSo act came w b =
+      HasActedOver (λ r. if b then by_call (puts name bytes) r act else without_call (refused error.WorksheetTooLarge (of_desk v))) came v w n n before now
+
+  -- a file that would be read again
+  short_over : (act : Reply → DeskActed) (came : CommandEnd) (w : declared.Desk) → is_readable bytes ≡ true →
+      HasActedOver (λ r. by_call (puts name bytes) r act) came v w n n before now →
+      HasActedOver (λ r. put_readable name bytes r act (of_desk v)) came v w n n before now
+  short_over act came w short acted = subst (IsSo act came w) (sym short) acted
+
+  -- one that would not
+  pub large_over : (act : Reply → DeskActed) → IsPlaced name bytes place.TooLarge before now →
+      HasActedOver (λ r. put_readable name bytes r act (of_desk v)) (Refused error.WorksheetTooLarge) v v n n before now
+  large_over act placed = subst (IsSo act (Refused error.WorksheetTooLarge) v) (sym placed.0) (record {
+    reply = failed;
+    acted = refused_on error.WorksheetTooLarge (Refused error.WorksheetTooLarge) v n refl;
+    answered = placed.1;
+  })
+
+  -- a span was written, or not
+  pub extracted_over : (placed : Placed) (came : CommandEnd) → came ≡ end_of_placing placed → IsPlaced name bytes placed before now →
+      HasActedOver (λ r. put_readable name bytes r (written_out (of_desk v)) (of_desk v)) came v v n n before now
+  extracted_over place.Written came is placed = short_over (written_out (of_desk v)) came v placed.0
+      (written_over v n before now name bytes true came is placed.1)
+  extracted_over place.Failed came is placed = short_over (written_out (of_desk v)) came v placed.0
+      (written_over v n before now name bytes false came is placed.1)
+  extracted_over place.TooLarge came is placed =
+      subst (λ (e : CommandEnd). HasActedOver (λ r. put_readable name bytes r (written_out (of_desk v)) (of_desk v)) e v v n n before now)
+      (sym is) (large_over (written_out (of_desk v)) placed)
+
+  -- the sheet was saved
+  pub saved_so : (w : declared.Desk) → HasActedOn (saved_as name (of_desk v) written) Finished v w n n →
+      IsPlaced name bytes place.Written before now →
+      HasActedOver (λ r. put_readable name bytes r (saved_as name (of_desk v)) (of_desk v)) Finished v w n n before now
+  saved_so w acted placed = short_over (saved_as name (of_desk v)) Finished w placed.0
+      (saved_over v n before now name bytes w acted placed.1)
+
+  -- it wasn't
+  pub unsaved_so : IsPlaced name bytes place.Failed before now →
+      HasActedOver (λ r. put_readable name bytes r (saved_as name (of_desk v)) (of_desk v)) (Refused error.DiskError) v v n n before now
+  unsaved_so placed = short_over (saved_as name (of_desk v)) (Refused error.DiskError) v placed.0
+      (unsaved_over v n before now name bytes placed.1)
 
 -- a sheet was loaded, or none
 abbrev IsSheet : Loaded → Type 0

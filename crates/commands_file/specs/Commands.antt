@@ -1,5 +1,5 @@
 -- The commands below File, each over what the shelf answers its call.
-use Rattle.std.specs.Prelude.{◌≡◌, ℕ, true, false, List, [], ◌∷◌, Option, None, Some, Result, Ok, Err}
+use Rattle.std.specs.Prelude.{◌≡◌, ℕ, nat_le, Bool, true, false, List, [], ◌∷◌, length, Option, None, Some, Result, Ok, Err, if◌then◌else◌}
 use Rattle.command_desk.specs.Acting.{on_desk, DeskActed, HasActedOn}
 use Rattle.command_desk.specs.Answered.{line_at, span_at}
 use Rattle.command_desk.specs.Desks.{Desk}
@@ -28,6 +28,7 @@ use Rattle.outside_world.specs.FileNames.{file_name}
 use Rattle.outside_world.specs.declared.file_name.Ext.{Ext}
 use Rattle.outside_world.specs.declared.file_name.Ext.TheVariants as ext
 use Rattle.sheet_store.specs.declared.writes.SavedSheet.{SavedSheet}
+use Rattle.wk1_file.specs.Files.{MOST_BYTES}
 use Rattle.wk1_file.specs.Saved.{file_bytes}
 use Rattle.wk1_records.specs.declared.fault.Wk1Fault.{Wk1Fault}
 use Rattle.wk1_records.specs.declared.fault.Wk1Fault.TheVariants as fault
@@ -64,9 +65,26 @@ by_call call reply act = record { acted = act reply; calls = record { call = cal
 abbrev pub without_call : DeskActed → FileActed
 without_call acted = record { acted = acted; calls = [] }
 
+-- whether a worksheet's file isn't longer than one that is read
+abbrev pub is_readable : List ℕ → Bool
+is_readable bytes = nat_le (length bytes) MOST_BYTES
+
+-- a worksheet's file is put, and the answer taken; one that would not be read again is refused without a call
+abbrev pub put_readable : List ℕ → List ℕ → Reply → (Reply → DeskActed) → Desk → FileActed
+put_readable name bytes reply act d =
+    if is_readable bytes then by_call (puts name bytes) reply act else without_call (refused error.WorksheetTooLarge d)
+
 -- what a file holds of a sheet
 abbrev pub saved_of : Sheet → SavedSheet
 saved_of s = record { store = s.grid; names = s.names; settings = s.settings }
+
+-- the bytes of a sheet's file
+abbrev pub sheet_bytes : Sheet → List ℕ
+sheet_bytes s = file_bytes (saved_of s)
+
+-- the bytes of the file that is saved of a span
+abbrev pub span_bytes : Extracting → Extent → Sheet → List ℕ
+span_bytes k span s = file_bytes (extracted k span s)
 
 -- the pointer of a sheet, at this moment
 abbrev pub scene_in : Scene → Sheet → Scene
@@ -114,14 +132,14 @@ combined_with k scene d = with_file (λ saved. on_desk (combined k saved.store s
 -- what is saved of a span is written, or the answer that is none refuses the command without a call
 abbrev pub extracted_to : Extracting → List ℕ → Result Extent CommandError → Desk → Reply → FileActed
 extracted_to k name (Ok span) d reply =
-    by_call (puts name (file_bytes (extracted k span d.sheet))) reply (written_out d)
+    put_readable name (span_bytes k span d.sheet) reply (written_out d) d
 extracted_to k name (Err e) d reply = without_call (refused e d)
 
 -- what a command below File does, whose first answer is this file's name
 abbrev pub act_named : FileAction → List (List ℕ) → List ℕ → Scene → Desk → Reply → FileActed
 act_named file.Retrieve answers name scene d reply = by_call (gets name) reply (retrieved scene d)
 act_named file.Save answers name scene d reply =
-    by_call (puts name (file_bytes (saved_of d.sheet))) reply (saved_as name d)
+    put_readable name (sheet_bytes d.sheet) reply (saved_as name d) d
 act_named file.Erase answers name scene d reply = by_call (removes name) reply (taken_away d)
 act_named file.CombineCopy answers name scene d reply = by_call (gets name) reply (combined_with Copy scene d)
 act_named file.CombineAdd answers name scene d reply = by_call (gets name) reply (combined_with Add scene d)

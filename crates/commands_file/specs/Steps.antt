@@ -1,9 +1,11 @@
 -- The steps of commands: what one call came to, and what is known where memory ran out.
-use Rattle.std.specs.Prelude.{◌≡◌, Bool, true, false, None, Some, Ok, Err}
+use Rattle.std.specs.Prelude.{◌≡◌, ℕ, Bool, true, false, List, None, Some, Ok, Err}
 use Rattle.command_desk.specs.declared.ending.CommandEnd.{CommandEnd}
 use Rattle.command_desk.specs.declared.ending.CommandEnd.TheVariants.{Finished, Refused}
-use Rattle.commands_file.specs.Calls.{loaded, there, written, HasAnswered, Reply, ShelfCall, ShelfView}
-use Rattle.commands_file.specs.Commands.{fault_number}
+use Rattle.commands_file.specs.Calls.{loaded, puts, there, written, HasAnswered, Reply, ShelfCall, ShelfView}
+use Rattle.commands_file.specs.Commands.{fault_number, is_readable}
+use Rattle.commands_file.specs.declared.calling.Placed.{Placed}
+use Rattle.commands_file.specs.declared.calling.Placed.TheVariants as place
 use Rattle.commands_file.specs.declared.loading.Loaded.{Loaded}
 use Rattle.commands_file.specs.declared.loading.Loaded.TheVariants as load
 use Rattle.desk_errors.specs.declared.error.CommandError.TheVariants as error
@@ -31,6 +33,21 @@ is_written r = false
 abbrev pub end_of_put : Bool → CommandEnd
 end_of_put true = Finished
 end_of_put false = Refused error.DiskError
+
+-- What came of a worksheet's file: it was put, or the call failed, or it would be longer than one that is read, and no
+-- call was made.
+abbrev pub IsPlaced : List ℕ → List ℕ → Placed → ShelfView → ShelfView → Type 0
+IsPlaced name bytes place.Written before now =
+    (is_readable bytes ≡ true) × HasCalled (puts name bytes) is_written true before now
+IsPlaced name bytes place.Failed before now =
+    (is_readable bytes ≡ true) × HasCalled (puts name bytes) is_written false before now
+IsPlaced name bytes place.TooLarge before now = (is_readable bytes ≡ false) × (now ≡ before)
+
+-- what the placing of a worksheet's file comes to
+abbrev pub end_of_placing : Placed → CommandEnd
+end_of_placing place.Written = Finished
+end_of_placing place.Failed = Refused error.DiskError
+end_of_placing place.TooLarge = Refused error.WorksheetTooLarge
 
 -- what taking a file away comes to
 abbrev pub end_of_remove : Reply → CommandEnd

@@ -2,16 +2,16 @@
 ghost use Rattle.std.specs.Prelude.{◌≡◌, ℕ, IfOk, OnErr, OnOk};
 ghost use Rattle.command_desk.specs.Answered.{span_at};
 ghost use Rattle.command_desk.specs.Desks.{of_desk};
-ghost use Rattle.commands_file.specs.Calls.{gets, puts, shelf_view, HasBrokenOff};
-ghost use Rattle.commands_file.specs.Commands.{act, act_named, by_call, combined_with, extracted_to, retrieved};
+ghost use Rattle.commands_file.specs.Calls.{gets, shelf_view, HasBrokenOff};
+ghost use Rattle.commands_file.specs.Commands.{act, act_named, by_call, combined_with, extracted_to, put_readable, retrieved};
 ghost use Rattle.commands_file.specs.Commands.{retrieved_sheet, saved_as, saved_of, HasActedOver};
 ghost use Rattle.commands_file.specs.Extracted.{extracted};
-ghost use Rattle.commands_file.specs.Steps.{is_written, HasCalled};
+ghost use Rattle.commands_file.specs.Steps.{IsPlaced};
 ghost use Rattle.wk1_file.specs.Saved.{file_bytes};
 ghost use Rattle.work_sheet.specs.Did.{Did};
 ghost use Rattle.work_sheet.specs.Seen.{of_worksheet};
 
-use crate::calling::{end_of_put, put_sheet, remove};
+use crate::calling::{Placed, end_of_placing, put_sheet, remove};
 use crate::combining::{Combining, combine, pointer_of};
 use crate::extracting::{Extracting, extracted};
 use crate::loading::{Loaded, load};
@@ -94,33 +94,35 @@ fn combine_file<S: Shelf>(
 // The sheet is saved under a name, which the next save offers.
 fn save<S: Shelf>(name: FileName, desk: &mut Desk, shelf: &mut S) -> Result<CommandEnd, Memory>
     ensures acted { IfOk result (λ end. (n : ℕ) → HasActedOver (λ reply.
-        by_call (puts name (file_bytes (saved_of (of_worksheet desk.old.sheet)))) reply
-        (saved_as name (of_desk desk.old)))
+        put_readable name (file_bytes (saved_of (of_worksheet desk.old.sheet))) reply
+        (saved_as name (of_desk desk.old)) (of_desk desk.old))
         end desk.old desk.new n n
         (shelf_view (S.holds shelf.old) (S.faults shelf.old)) (shelf_view (S.holds shelf.new) (S.faults shelf.new))) }
     ensures memory { OnErr result (HasBrokenOff
         (shelf_view (S.holds shelf.old) (S.faults shelf.old)) (shelf_view (S.holds shelf.new) (S.faults shelf.new))) }
 {
     let saved = desk.sheet.snapshot()?;
-    let written = put_sheet(&name, &saved, shelf)?;
-    if written {
-        desk.file_name = Some(name);
-        Ok(CommandEnd::Finished)
-    } else {
-        Ok(CommandEnd::Refused(CommandError::DiskError))
+    let placed = put_sheet(&name, &saved, shelf)?;
+    match placed {
+        Placed::Written => {
+            desk.file_name = Some(name);
+            Ok(CommandEnd::Finished)
+        }
+        Placed::Failed => Ok(CommandEnd::Refused(CommandError::DiskError)),
+        Placed::TooLarge => Ok(CommandEnd::Refused(CommandError::WorksheetTooLarge)),
     }
 }
 
-// What is saved of a span is written; false tells that the call failed.
+// What is saved of a span is written, where it would be read again.
 fn extract_span<S: Shelf>(
     kind: Extracting,
     name: &FileName,
     span: Span,
     sheet: &Sheet,
     shelf: &mut S,
-) -> Result<bool, Memory>
-    ensures put { IfOk result (λ done. HasCalled
-        (puts name.now (file_bytes (extracted kind span (of_worksheet sheet.now)))) is_written done
+) -> Result<Placed, Memory>
+    ensures placed { IfOk result (λ placed. IsPlaced name.now
+        (file_bytes (extracted kind span (of_worksheet sheet.now))) placed
         (shelf_view (S.holds shelf.old) (S.faults shelf.old)) (shelf_view (S.holds shelf.new) (S.faults shelf.new))) }
     ensures memory { OnErr result (HasBrokenOff
         (shelf_view (S.holds shelf.old) (S.faults shelf.old)) (shelf_view (S.holds shelf.new) (S.faults shelf.new))) }
@@ -146,8 +148,8 @@ fn extract<S: Shelf>(
 {
     match span_at(desk.sheet.names(), answers, 1) {
         Ok(span) => {
-            let written = extract_span(kind, name, span, &desk.sheet, shelf)?;
-            Ok(end_of_put(written))
+            let placed = extract_span(kind, name, span, &desk.sheet, shelf)?;
+            Ok(end_of_placing(placed))
         }
         Err(error) => Ok(CommandEnd::Refused(error)),
     }
@@ -198,7 +200,9 @@ fn act_named<S: Shelf>(
 /// At most one call of the shelf is made: `get` for Retrieve and Combine, `put` for Save and Xtract, and `remove` for
 /// Erase.
 /// `InvalidFileName` comes exactly where the first answer is no file's name, and for Xtract then `InvalidAddress` and
-/// `NameNotFound` by its second one, all without a call. `DiskError` comes exactly where the call failed, and the
+/// `NameNotFound` by its second one, all without a call. So does `WorksheetTooLarge`, for Save and Xtract, exactly
+/// where the file would have more than 67,108,864 bytes: what is saved is read back (this project's choice).
+/// `DiskError` comes exactly where the call failed, and the
 /// shelf's count of faults rose in it; `FileNotFound` where there is no such file, and `FileRefused` where it is no
 /// worksheet file. Combine is then refused by `OutOfSheet`, with the span from A1 to the file's last used column and
 /// row, exactly where a cell that it takes would stand past the sheet, and by `Protected` with the first written cell

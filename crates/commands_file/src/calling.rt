@@ -2,7 +2,8 @@
 ghost use Rattle.std.specs.Prelude.{◌≡◌, IfOk, OnErr};
 ghost use Rattle.commands_file.specs.Calls.{puts, removes, shelf_view, HasBrokenOff};
 ghost use Rattle.commands_file.specs.Calls as reply;
-ghost use Rattle.commands_file.specs.Steps.{end_of_put, end_of_remove, is_written, HasCalled};
+ghost use Rattle.commands_file.specs.Commands.{is_readable};
+ghost use Rattle.commands_file.specs.Steps.{end_of_placing, end_of_put, end_of_remove, is_written, HasCalled, IsPlaced};
 ghost use Rattle.wk1_file.specs.Saved.{file_bytes};
 
 use command_desk::CommandEnd;
@@ -11,6 +12,9 @@ use outside_world::{ByteBuffer, FileName, Memory, Shelf, ShelfFault};
 use sheet_store::SavedSheet;
 use std::alloc::Global;
 use wk1_file::write;
+
+// The most bytes of a worksheet's file that is read.
+const MOST_BYTES: usize = 67_108_864;
 
 // The bytes of a sheet's file.
 fn bytes_of(alloc: Global, saved: &SavedSheet) -> Result<ByteBuffer, Memory>
@@ -39,19 +43,66 @@ pub fn put_bytes<S: Shelf>(
     }
 }
 
-/// A sheet is written as a file; false tells that the call failed.
+/// What came of a worksheet's file.
+#[derive(Clone, Copy)]
+pub enum Placed {
+    /// It was put.
+    Written,
+    /// The call failed.
+    Failed,
+    /// It would be longer than one that is read, and no call was made.
+    TooLarge,
+}
+
+// Whether a worksheet's file isn't longer than one that is read.
+fn is_readable(bytes: &ByteBuffer) -> bool
+    ensures { result ≡ is_readable bytes.now }
+{
+    bytes.len() <= MOST_BYTES
+}
+
+// The bytes of a worksheet's file are put, where they would be read again.
+fn place<S: Shelf>(name: &FileName, bytes: &ByteBuffer, shelf: &mut S) -> Result<Placed, Memory>
+    ensures placed { IfOk result (λ placed. IsPlaced name.now bytes.now placed
+        (shelf_view (S.holds shelf.old) (S.faults shelf.old)) (shelf_view (S.holds shelf.new) (S.faults shelf.new))) }
+    ensures memory { OnErr result (HasBrokenOff
+        (shelf_view (S.holds shelf.old) (S.faults shelf.old)) (shelf_view (S.holds shelf.new) (S.faults shelf.new))) }
+{
+    if !is_readable(bytes) {
+        return Ok(Placed::TooLarge);
+    }
+    let written = put_bytes(name, bytes, shelf)?;
+    if written {
+        Ok(Placed::Written)
+    } else {
+        Ok(Placed::Failed)
+    }
+}
+
+/// A sheet is written as a file, where that file would be read again.
 pub(crate) fn put_sheet<S: Shelf>(
     name: &FileName,
     saved: &SavedSheet,
     shelf: &mut S,
-) -> Result<bool, Memory>
-    ensures put { IfOk result (λ done. HasCalled (puts name.now (file_bytes saved.now)) is_written done
+) -> Result<Placed, Memory>
+    ensures placed { IfOk result (λ placed. IsPlaced name.now (file_bytes saved.now) placed
         (shelf_view (S.holds shelf.old) (S.faults shelf.old)) (shelf_view (S.holds shelf.new) (S.faults shelf.new))) }
     ensures memory { OnErr result (HasBrokenOff
         (shelf_view (S.holds shelf.old) (S.faults shelf.old)) (shelf_view (S.holds shelf.new) (S.faults shelf.new))) }
 {
     let bytes = bytes_of(saved.store.alloc(), saved)?;
-    put_bytes(name, &bytes, shelf)
+    place(name, &bytes, shelf)
+}
+
+/// What the placing of a worksheet's file comes to.
+pub(crate) fn end_of_placing(placed: Placed) -> CommandEnd
+    ensures { result ≡ end_of_placing placed }
+{
+    match placed {
+        Placed::Written => CommandEnd::Finished,
+        Placed::Failed => CommandEnd::Refused(CommandError::DiskError),
+        Placed::TooLarge => CommandEnd::Refused(CommandError::WorksheetTooLarge),
+    }
 }
 
 /// What the writing of a file comes to, by whether it was written.

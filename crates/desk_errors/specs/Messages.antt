@@ -31,6 +31,7 @@ words_of error.NothingToUndo = codes "Nothing to undo"
 words_of error.PrintRangeMissing = codes "Print range missing"
 words_of error.PageTooSmall = codes "Page too small"
 words_of error.ReportTooLong = codes "Report too long"
+words_of error.WorksheetTooLarge = codes "Worksheet too large"
 words_of error.Memory = []
 
 -- the number of a file's fault

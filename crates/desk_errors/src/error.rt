@@ -59,6 +59,8 @@ pub enum CommandError {
     PageTooSmall,
     /// The report is longer than a file may be.
     ReportTooLong,
+    /// The worksheet's file would be longer than one that is read.
+    WorksheetTooLarge,
     /// No memory.
     Memory,
 }
@@ -95,6 +97,7 @@ impl CommandError {
             CommandError::PrintRangeMissing => b"Print range missing",
             CommandError::PageTooSmall => b"Page too small",
             CommandError::ReportTooLong => b"Report too long",
+            CommandError::WorksheetTooLarge => b"Worksheet too large",
             CommandError::Memory => b"",
         }
     }

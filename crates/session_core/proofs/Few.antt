@@ -1,14 +1,17 @@
 -- A command makes at most one call of the shelf, so that no file but one may have changed behind it.
-use Rattle.std.proofs.Common.{ℕ, List, [], ◌∷◌, Option, None, Some, Result, Ok, Err, sym, subst}
+use Rattle.std.proofs.Common.{ℕ, Bool, true, false, List, [], ◌∷◌, Option, None, Some, Result, Ok, Err, sym, subst}
+use Rattle.std.specs.Prelude.{if◌then◌else◌}
+use Rattle.command_desk.specs.Acting.{DeskActed}
 use Rattle.command_desk.specs.Answered.{span_at}
 use Rattle.command_desk.specs.Desks.{Desk}
-use Rattle.commands_file.specs.Calls.{Asked, HasBrokenOff, HaveAnswered, Reply, ShelfView}
-use Rattle.commands_file.specs.Commands.{act_by, act_named, extracted_to, named}
+use Rattle.commands_file.specs.Calls.{puts, Asked, HasBrokenOff, HaveAnswered, Reply, ShelfView}
+use Rattle.commands_file.specs.Commands.{act_by, act_named, by_call, extracted_to, is_readable, named, put_readable, refused, saved_as, sheet_bytes, span_bytes, without_call, written_out}
 use Rattle.commands_file.specs.declared.extracting.Extracting.{Extracting}
 use Rattle.commands_file.specs.declared.extracting.Extracting.TheVariants.{Formulas, Values}
 use Rattle.commands_print.specs.Commands.{printed, report_of, reported, written_to}
 use Rattle.commands_print.specs.Commands as on_print
 use Rattle.desk_errors.specs.declared.error.CommandError.{CommandError}
+use Rattle.desk_errors.specs.declared.error.CommandError.TheVariants as error
 use Rattle.formula_eval.specs.declared.look.Scene.{Scene}
 use Rattle.grid_address.specs.Place.{Extent}
 use Rattle.menu_tree.specs.declared.menu.Action.{Action}
@@ -28,15 +31,22 @@ AreFew [] = Unit {0}
 AreFew (a ∷ []) = Unit {0}
 AreFew (a ∷ b ∷ more) = ⊥
 
+placed_few : (name bytes : List ℕ) (reply : Reply) (make : Reply → DeskActed) (d : Desk) → AreFew (put_readable name bytes reply make d).calls
+placed_few name bytes reply make d = by (is_readable bytes)
+  where
+    by : (b : Bool) → AreFew (if b then by_call (puts name bytes) reply make else without_call (refused error.WorksheetTooLarge d)).calls
+    by true = tt
+    by false = tt
+
 extracted_few : (k : Extracting) (name : List ℕ) (span : Result Extent CommandError) (d : Desk) (reply : Reply) →
     AreFew (extracted_to k name span d reply).calls
-extracted_few k name (Ok span) d reply = tt
+extracted_few k name (Ok span) d reply = placed_few name (span_bytes k span d.sheet) reply (written_out d) d
 extracted_few k name (Err e) d reply = tt
 
 named_few : (a : FileAction) (answers : List (List ℕ)) (name : List ℕ) (scene : Scene) (d : Desk) (reply : Reply) →
     AreFew (act_named a answers name scene d reply).calls
 named_few file.Retrieve answers name scene d reply = tt
-named_few file.Save answers name scene d reply = tt
+named_few file.Save answers name scene d reply = placed_few name (sheet_bytes d.sheet) reply (saved_as name d) d
 named_few file.Erase answers name scene d reply = tt
 named_few file.CombineCopy answers name scene d reply = tt
 named_few file.CombineAdd answers name scene d reply = tt

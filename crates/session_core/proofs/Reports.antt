@@ -1,5 +1,5 @@
 -- No command but those below Print changes what is kept for reports.
-use Rattle.std.specs.Prelude.{◌≡◌, ℕ, true, false, refl, List, Option, None, Some, Result, Ok, Err}
+use Rattle.std.specs.Prelude.{◌≡◌, ℕ, Bool, true, false, refl, List, Option, None, Some, Result, Ok, Err, if◌then◌else◌}
 use Rattle.std.proofs.lemmas.Bool.{true≢false}
 use Rattle.command_desk.specs.Acting.{DeskActed}
 use Rattle.command_desk.specs.Answered.{cell_at, span_at}
@@ -8,12 +8,13 @@ use Rattle.commands_data.specs.Answers.{key_at}
 use Rattle.commands_data.specs.Commands as on_data
 use Rattle.commands_data.specs.Kept.{kept_by}
 use Rattle.commands_data.specs.TableCommands.{given_on}
-use Rattle.commands_file.specs.Calls.{failed, loaded, there, written, Reply}
-use Rattle.commands_file.specs.Commands.{act_by, act_named, extracted_to, named, saved_as, taken_away, with_file, written_out}
+use Rattle.commands_file.specs.Calls.{failed, loaded, puts, there, written, Reply}
+use Rattle.commands_file.specs.Commands.{act_by, act_named, by_call, extracted_to, is_readable, named, put_readable, refused, saved_as, sheet_bytes, span_bytes, taken_away, with_file, without_call, written_out}
 use Rattle.commands_file.specs.declared.extracting.Extracting.{Extracting}
 use Rattle.commands_file.specs.declared.extracting.Extracting.TheVariants.{Formulas, Values}
 use Rattle.data_blocks.specs.declared.ranges.DeskRanges.{DeskRanges}
 use Rattle.desk_errors.specs.declared.error.CommandError.{CommandError}
+use Rattle.desk_errors.specs.declared.error.CommandError.TheVariants as error
 use Rattle.formula_eval.specs.declared.look.Scene.{Scene}
 use Rattle.grid_address.specs.Place.{Extent}
 use Rattle.menu_tree.specs.declared.menu.Action.{Action}
@@ -59,6 +60,14 @@ module _ (d : Desk) where
   by_put (loaded f) = refl
   by_put written = refl
 
+  by_placing : (name bytes : List ℕ) (reply : Reply) (make : Reply → DeskActed) → KeepsOf d (make reply) →
+      KeepsOf d (put_readable name bytes reply make d).acted
+  by_placing name bytes reply make kept = by (is_readable bytes)
+    where
+      by : (b : Bool) → KeepsOf d (if b then by_call (puts name bytes) reply make else without_call (refused error.WorksheetTooLarge d)).acted
+      by true = kept
+      by false = refl
+
   by_removal : (reply : Reply) → KeepsOf d (taken_away d reply)
   by_removal failed = refl
   by_removal (there true) = refl
@@ -67,13 +76,13 @@ module _ (d : Desk) where
   by_removal written = refl
 
   by_extract : (k : Extracting) (name : List ℕ) (span : Result Extent CommandError) (reply : Reply) → KeepsOf d (extracted_to k name span d reply).acted
-  by_extract k name (Ok span) reply = by_put reply
+  by_extract k name (Ok span) reply = by_placing name (span_bytes k span d.sheet) reply (written_out d) (by_put reply)
   by_extract k name (Err e) reply = refl
 
   by_named : (a : FileAction) (answers : List (List ℕ)) (name : List ℕ) (scene : Scene) (reply : Reply) →
       KeepsOf d (act_named a answers name scene d reply).acted
   by_named file.Retrieve answers name scene reply = by_file _ reply (λ saved. refl)
-  by_named file.Save answers name scene reply = by_save name reply
+  by_named file.Save answers name scene reply = by_placing name (sheet_bytes d.sheet) reply (saved_as name d) (by_save name reply)
   by_named file.Erase answers name scene reply = by_removal reply
   by_named file.CombineCopy answers name scene reply = by_file _ reply (λ saved. refl)
   by_named file.CombineAdd answers name scene reply = by_file _ reply (λ saved. refl)

@@ -1,7 +1,8 @@
-use Rattle.std.specs.Prelude.{Bool, IfOk}
+use Rattle.std.specs.Prelude.{IfOk}
 use Rattle.std.proofs.Common.{subst}
-use Rattle.commands_file.specs.Calls.{puts, shelf_view}
-use Rattle.commands_file.specs.Steps.{is_written, HasCalled}
+use Rattle.commands_file.specs.Calls.{shelf_view}
+use Rattle.commands_file.specs.Steps.{IsPlaced}
+use Rattle.commands_file.specs.declared.calling.Placed.{Placed}
 use Rattle.commands_file.proofs.Broken.{none_broken, on_err}
 use Rattle.sheet_store.specs.declared.writes.SavedSheet.{SavedSheet}
 use Rattle.wk1_file.specs.Saved.{file_bytes}
@@ -10,9 +11,9 @@ use Rattle.commands_file.proofs.acting.extract_span.Goals as goal
 pub returns-in_err-saved-clause-memory : goal.returns-in_err-saved-clause-memory
 returns-in_err-saved-clause-memory g c = on_err c.from_residual.result (none_broken _ _)
 
-pub returns-clause-put : goal.returns-clause-put
-returns-clause-put g c =
-    subst (λ (x : SavedSheet). IfOk c.put_sheet.result (λ (done : Bool). HasCalled (puts c.args.name.now (file_bytes x)) is_written done
+pub returns-clause-placed : goal.returns-clause-placed
+returns-clause-placed g c =
+    subst (λ (x : SavedSheet). IfOk c.put_sheet.result (λ (placed : Placed). IsPlaced c.args.name.now (file_bytes x) placed
     (shelf_view (g.S.Shelf.holds c.args.shelf.now) (g.S.Shelf.faults c.args.shelf.now))
     (shelf_view (g.S.Shelf.holds c.put_sheet.new.shelf) (g.S.Shelf.faults c.put_sheet.new.shelf))))
-    c.in_ok-saved.ensures c.put_sheet.ensures.put
+    c.in_ok-saved.ensures c.put_sheet.ensures.placed

@@ -1,16 +1,17 @@
-use Rattle.std.specs.Prelude.{Bool, IfOk, List, ℕ}
+use Rattle.std.specs.Prelude.{IfOk, List, ℕ}
 use Rattle.std.proofs.Common.{subst}
-use Rattle.commands_file.specs.Calls.{puts, shelf_view}
-use Rattle.commands_file.specs.Steps.{is_written, HasCalled}
+use Rattle.commands_file.specs.Calls.{shelf_view}
+use Rattle.commands_file.specs.Steps.{IsPlaced}
+use Rattle.commands_file.specs.declared.calling.Placed.{Placed}
 use Rattle.commands_file.proofs.Broken.{none_broken, on_err}
 use Rattle.commands_file.proofs.calling.put_sheet.Goals as goal
 
 pub returns-in_err-bytes-clause-memory : goal.returns-in_err-bytes-clause-memory
 returns-in_err-bytes-clause-memory g c = on_err c.from_residual.result (none_broken _ _)
 
-pub returns-clause-put : goal.returns-clause-put
-returns-clause-put g c =
-    subst (λ (b : List ℕ). IfOk c.put_bytes.result (λ (done : Bool). HasCalled (puts c.args.name.now b) is_written done
+pub returns-clause-placed : goal.returns-clause-placed
+returns-clause-placed g c =
+    subst (λ (b : List ℕ). IfOk c.place.result (λ (placed : Placed). IsPlaced c.args.name.now b placed
     (shelf_view (g.S.Shelf.holds c.args.shelf.now) (g.S.Shelf.faults c.args.shelf.now))
-    (shelf_view (g.S.Shelf.holds c.put_bytes.new.shelf) (g.S.Shelf.faults c.put_bytes.new.shelf))))
-    c.in_ok-bytes.ensures c.put_bytes.ensures.put
+    (shelf_view (g.S.Shelf.holds c.place.new.shelf) (g.S.Shelf.faults c.place.new.shelf))))
+    c.in_ok-bytes.ensures c.place.ensures.placed
