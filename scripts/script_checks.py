@@ -16,6 +16,7 @@ import live_checks
 
 sys.path.append(TOP)
 from oracle.cli import run
+from oracle.listing import told
 
 TOP = pathlib.Path(TOP)
 EXAMPLES = TOP / "examples"
@@ -121,6 +122,31 @@ def check_install(room):
     assert {path.name for path in (prefix / "share/doc/1-2-3").iterdir()} >= {"README.md", "CHANGELOG.md", "USER.md"}
     same(call("make", "-s", "-C", TOP, "uninstall", f"PREFIX={prefix}")[1:], ("", 0))
     same([str(path) for path in prefix.rglob("*") if not path.is_dir() or path.is_symlink()], [])
+
+
+def check_listing(room):
+    """1-2-3-list lists a worksheet as the oracle tells it, also an old version that git keeps, and git shows by it what
+    differs in the two."""
+    if "1-2-3-list" not in names_of_programs():
+        return
+    path = f"{TOP}:{os.environ['PATH']}"
+    git = lambda *words: call("git", "-c", "user.name=office", "-c", "user.email=office@localhost", *words, folder=room,
+                              PATH=path, HOME=room, GIT_CONFIG_NOSYSTEM=1)
+    same(call(TOP / "1-2-3", keys=b"Branch~{DOWN}1310.5~{DOWN}+A2*2~/FSMAY~", folder=room)[1:], ("", 0))
+    old = (room / "MAY.WK1").read_bytes()
+    git("init", "-q")
+    (room / ".gitattributes").write_text("*.WK1 diff=worksheet\n")
+    git("config", "diff.worksheet.textconv", "sh -c '1-2-3-list < \"$1\"' -")
+    git("add", ".")
+    same(git("commit", "-q", "-m", "May")[1:], ("", 0))
+    same(call(TOP / "1-2-3", "--file=MAY", keys=b"{GOTO}A2~1275~/FSMAY~R", folder=room)[1:], ("", 0))
+    out, notes, status = git("diff", "--no-color", "MAY.WK1")
+    same((notes, status), ("", 0))
+    wanted = [told(data)[0].decode("latin-1").splitlines() for data in (old, (room / "MAY.WK1").read_bytes())]
+    for sign, lines, others in (("-", *wanted), ("+", *reversed(wanted))):
+        found = [line[1:] for line in out.splitlines() if line.startswith(sign) and not line.startswith(sign * 3)]
+        same(found, [line for line in lines if line not in others])
+    same(call(TOP / "1-2-3-list", keys=old), (told(old)[0].decode("latin-1"), "", 0))
 
 
 def check_manual(_):

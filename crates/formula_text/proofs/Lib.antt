@@ -8,6 +8,7 @@ pub mod Leaves
 pub mod Outputs
 pub mod Calls
 pub mod Cuts
+pub mod Pieces
 pub mod PlacesRead
 pub mod Quotes
 pub mod Treed

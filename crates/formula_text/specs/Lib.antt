@@ -4,6 +4,7 @@ pub mod Functions
 pub mod Lexed
 pub mod Operands
 pub mod Printed
+pub mod Puts
 pub mod Reading
 pub mod Reads
 pub mod Signs

@@ -12,8 +12,11 @@ mod printing;
 mod reading;
 mod rows;
 mod signs;
+mod sink;
+mod whole;
 mod words;
 
 pub use fault::ParseFault;
 pub use printing::print;
 pub use reading::{a_text_is_read_as_it_spells, read};
+pub use whole::print_whole;

@@ -2,6 +2,7 @@
 ghost use Rattle.std.specs.Prelude.{◌≡◌};
 ghost use Rattle.formula_text.specs.Printed.{written};
 
+use crate::sink::Sink;
 use lics_text::{Line, MAX_LEN};
 
 // What is written of a text, and whether that is all of it.
@@ -13,7 +14,7 @@ pub struct Output {
 
 // Writes on as far as there is room.
 #[tactic(auto, unfolding(crate::specs::Printed::written))]
-pub fn put(out: &mut Output, bytes: &[u8])
+pub fn write(out: &mut Output, bytes: &[u8])
     ensures { out.new ≡ written out.old bytes.now }
 {
     if !out.whole {
@@ -25,5 +26,13 @@ pub fn put(out: &mut Output, bytes: &[u8])
     } else {
         out.line.put_all(&bytes[..room]);
         out.whole = false;
+    }
+}
+
+impl Sink for Output {
+    ghost has_put = { λ old bytes new. new ≡ written old bytes };
+
+    fn put(&mut self, bytes: &[u8]) {
+        write(self, bytes);
     }
 }

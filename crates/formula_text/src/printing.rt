@@ -3,10 +3,12 @@ ghost use Rattle.std.specs.Prelude.{Ok, ◌≡◌, IfSome, IfNone, Some, None, n
 ghost use Rattle.formula_tree.specs.View.{tree_of};
 ghost use Rattle.grid_address.specs.Axes.{is_fixed};
 ghost use Rattle.formula_text.specs.Reading.{reading};
-ghost use Rattle.formula_text.specs.Printed.{alike, call_text, cell_text, in_order, end_of, mark, name_of_cell, name_of_corners, op_text, printed, reference_text, same, sign_for, span_text, text_of, written};
+ghost use Rattle.formula_text.specs.Printed.{alike, call_text, cell_text, in_order, end_of, mark, name_of_cell, name_of_corners, op_text, printed, reference_text, same, sign_for, span_text, text_of};
+ghost use Rattle.formula_text.specs.Puts.{Puts};
 
 use crate::functions::name_of;
-use crate::output::{Output, put};
+use crate::output::{Output, write};
+use crate::sink::{Sink, put};
 use fixed_value::write_short;
 use formula_tree::{Expr, ExprList, Formula, Function, Op};
 use grid_address::{Axis, Cell, Ref, Span, column_text, row_text};
@@ -24,8 +26,8 @@ fn is_fixed(axis: Axis) -> bool
 }
 
 // Writes $ in front of a fixed coordinate.
-fn put_mark(fixed: bool, out: &mut Output)
-    ensures { out.new ≡ written out.old (mark fixed) }
+fn put_mark<S: Sink>(fixed: bool, out: &mut S)
+    ensures { Puts S.has_put out.old (mark fixed) out.new }
 {
     if fixed {
         put(out, b"$");
@@ -35,8 +37,8 @@ fn put_mark(fixed: bool, out: &mut Output)
 }
 
 // Writes the address of a reference.
-fn put_reference(reference: Ref, at: Cell, out: &mut Output)
-    ensures { out.new ≡ written out.old (reference_text at reference) }
+fn put_reference<S: Sink>(reference: Ref, at: Cell, out: &mut S)
+    ensures { Puts S.has_put out.old (reference_text at reference) out.new }
 {
     let cell = reference.resolve(at);
     put_mark(is_fixed(reference.col), out);
@@ -76,8 +78,8 @@ fn name_of_cell(reference: Ref, at: Cell, names: &Names) -> Option<&[u8]>
 }
 
 // Writes a reference: its cell's name, or else its address.
-fn put_cell(reference: Ref, at: Cell, names: &Names, out: &mut Output)
-    ensures { out.new ≡ written out.old (cell_text names.now at reference) }
+fn put_cell<S: Sink>(reference: Ref, at: Cell, names: &Names, out: &mut S)
+    ensures { Puts S.has_put out.old (cell_text names.now at reference) out.new }
 {
     match name_of_cell(reference, at, names) {
         Some(name) => {
@@ -110,8 +112,8 @@ fn name_of_corners(one: Ref, other: Ref, at: Cell, names: &Names) -> Option<&[u8
 }
 
 // Writes the addresses of two corners.
-fn put_corners(one: Ref, other: Ref, at: Cell, out: &mut Output)
-    ensures { out.new ≡ written out.old (reference_text at one ++ (codes ".." ++ reference_text at other)) }
+fn put_corners<S: Sink>(one: Ref, other: Ref, at: Cell, out: &mut S)
+    ensures { Puts S.has_put out.old (reference_text at one ++ (codes ".." ++ reference_text at other)) out.new }
 {
     put_reference(one, at, out);
     put(out, b"..");
@@ -119,8 +121,8 @@ fn put_corners(one: Ref, other: Ref, at: Cell, out: &mut Output)
 }
 
 // Writes a span: its name, or else its corners.
-fn put_span(one: Ref, other: Ref, at: Cell, names: &Names, out: &mut Output)
-    ensures { out.new ≡ written out.old (span_text names.now at one other) }
+fn put_span<S: Sink>(one: Ref, other: Ref, at: Cell, names: &Names, out: &mut S)
+    ensures { Puts S.has_put out.old (span_text names.now at one other) out.new }
 {
     match name_of_corners(one, other, at, names) {
         Some(name) => {
@@ -162,8 +164,8 @@ fn end_of(arguments: &[Expr]) -> &'static [u8]
 
 // A function, and its arguments where it has any.
 #[cycle(print)]
-fn put_call(function: Function, arguments: &[Expr], at: Cell, names: &Names, out: &mut Output)
-    ensures { out.new ≡ written out.old (call_text names.now at function (map tree_of arguments.now)) }
+fn put_call<S: Sink>(function: Function, arguments: &[Expr], at: Cell, names: &Names, out: &mut S)
+    ensures { Puts S.has_put out.old (call_text names.now at function (map tree_of arguments.now)) out.new }
 {
     put(out, b"@");
     put(out, name_of(function));
@@ -178,8 +180,8 @@ fn put_call(function: Function, arguments: &[Expr], at: Cell, names: &Names, out
 
 // Writes a tree.
 #[cycle(print)]
-fn put_tree(expr: &Expr, at: Cell, names: &Names, out: &mut Output)
-    ensures { out.new ≡ written out.old (text_of names.now at (tree_of expr.now)) }
+pub fn put_tree<S: Sink>(expr: &Expr, at: Cell, names: &Names, out: &mut S)
+    ensures { Puts S.has_put out.old (text_of names.now at (tree_of expr.now)) out.new }
 {
     match expr {
         Expr::Num(value) => put(out, write_short(*value, 6).bytes()),
@@ -215,7 +217,7 @@ fn put_tree(expr: &Expr, at: Cell, names: &Names, out: &mut Output)
 }
 
 // The sign before a text that would begin a label.
-fn sign_for(text: &[u8]) -> &'static [u8]
+pub fn sign_for(text: &[u8]) -> &'static [u8]
     ensures { result.now ≡ sign_for text.now }
 {
     if 0 < text.len() && (text[0].is_ascii_alphabetic() || text[0] == b'"') {
@@ -252,8 +254,8 @@ fn signed(text: &[u8]) -> Output
     ensures whole { result.whole ≡ nat_le (length (sign_for text.now ++ text.now)) MAX_LEN }
 {
     let mut out = nothing();
-    put(&mut out, sign_for(text));
-    put(&mut out, text);
+    write(&mut out, sign_for(text));
+    write(&mut out, text);
     out
 }
 

@@ -1,6 +1,6 @@
 use Rattle.std.proofs.Common.{◌≡◌, ◌-◌, ◌++◌, true, length, take, ap, ◌∙◌, arith}
 use Rattle.formula_text.proofs.Outputs.{all_written, cut_written}
-use Rattle.formula_text.proofs.output.put.Goals as goal
+use Rattle.formula_text.proofs.output.write.Goals as goal
 
 pub returns-then-bytes-room : goal.returns-then-bytes-room
 returns-then-bytes-room c =

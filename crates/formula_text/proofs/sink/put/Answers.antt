@@ -1,0 +1,5 @@
+use Rattle.formula_text.specs.Puts.{at_once}
+use Rattle.formula_text.proofs.sink.put.Goals as goal
+
+pub returns : goal.returns
+returns g c = at_once c.put.ensures

@@ -1,0 +1,6 @@
+pub mod Appended
+pub mod Bytes
+pub mod Endings
+pub mod Fields
+pub mod Fronts
+pub mod Notes
