@@ -6,8 +6,7 @@ from .keys import FILE_WORDS
 # them, these keys are passed over, these words are none in a macro, and these are refused before the keys.
 NOT_IN_MENUS = set()
 NOT_IN_KEYS = {'undo'}
-NOT_IN_MACROS = {b'GET', b'GETLABEL', b'GETNUMBER', b'LOOK', b'MENUBRANCH', b'MENUCALL', b'WAIT', b'?', b'BEEP', b'INDICATE',
-                 b'PANELON', b'PANELOFF', b'WINDOWSON', b'WINDOWSOFF', b'BREAKON', b'BREAKOFF', *FILE_WORDS}
+NOT_IN_MACROS = {*FILE_WORDS}
 NOT_IN_WORDS = {b'--gen'}
 
 

@@ -6,6 +6,7 @@ from .cases import Macros, any_case, is_read
 from .fixed import read_decimal
 from .names import names_of
 from .session import VALUE_BEGINS
+from .wait_keys import Waits
 
 # what fails in a fresh sheet, or nearly so, and mostly by which message
 FAILING = [b'/RE1+~', b'/WCS0~', b'/WCS2.5~', b'/RNC~', b'/RNDNONE~', b'/FRNONE~', b'/FS*~', b'/CA1.A9~A8190~', b'/MA1.B2~IV1~', b'/DFA1.A3~1~0~9~',
@@ -43,9 +44,10 @@ FAULTS = [b'{RECALC A1,0,0}', b'{RECALC TABLE,0,0.9}', b'{RECALC B1,0,50.9}', b'
           b'{CONTENTS A1}', b'{CONTENTS A1,B1,0}',
           b'{CONTENTS A1,B1,9,256}', b'{ONERROR}', b'{ONERROR NONE}', b'{ONERROR A1,NONE}', b'{RECALC}', b'{RECALC A1,1+}', b'{RECALC A1,1,0}',
           b'{RECALCCOL A1,1,51}', b'{DOWN 1/0}',
-          b'{DOWN 1,2}', b'{DOWN "x"}', b'{RETURN 1}', b'{QUIT 1}', b'{RESTART A1}', b'{GET A1}', b'{GETLABEL "x",A1}', b'{GETNUMBER "x",A1}',
-          b'{LOOK A1}', b'{MENUBRANCH A1}',
-          b'{MENUCALL A1}', b'{?}', b'{WAIT 1}', b'{BEEP}', b'{INDICATE}', b'{PANELOFF}', b'{WINDOWSON}', b'{BREAKOFF}', b'{OPEN A,R}', b'{CLOSE}',
+          b'{DOWN 1,2}', b'{DOWN "x"}', b'{RETURN 1}', b'{QUIT 1}', b'{RESTART A1}', b'{GET}', b'{GET NONE}', b'{GETLABEL A1}', b'{GETLABEL 1,A1}',
+          b'{GETNUMBER @NA,A1}', b'{GETNUMBER "x",NONE}', b'{LOOK}', b'{LOOK A1..B2}', b'{MENUBRANCH NONE}', b'{MENUBRANCH IV1}', b'{MENUCALL A1}', b'{? 1}',
+          b'{WAIT}', b'{WAIT "x"}', b'{WAIT @NA}', b'{WAIT 1,2}', b'{WAIT 1}', b'{BEEP }', b'{BEEP 1}', b'{BEEP}', b'{INDICATE 1}', b'{INDICATE "a","b"}', b'{INDICATE @ERR}',
+          b'{PANELOFF 1}', b'{PANELON }', b'{WINDOWSOFF A1}', b'{WINDOWSON 1}', b'{BREAKOFF 1}', b'{BREAKON ,}', b'{OPEN A,R}', b'{CLOSE}',
           b'{READLN A1}', b'{WRITE "x"}',
           b'{FILESIZE A1}', b'{SETPOS 0}', b'/XMA1~', b'/XLx~A1~', b'/XNx~A1~', b'{SUB', b'{NET PAY}', b'{AGAIN}', b'{FOR A1,1,2,1,D1}',
           b'{IF 1}{AGAIN}', b'/XCD1~']
@@ -326,8 +328,11 @@ class Programs:
 
     def sheet(self, last):
         """The lines of a sheet with a program."""
+        return self.lines_of(self.program(last))
+
+    def lines_of(self, cells):
+        """The lines of a sheet with these cells."""
         r = self.r
-        cells = self.program(last)
         code = lambda: r.choice([b'-', b'-', b'-', b'-', b'127', b'130', b'2'])
         writes = [cell + b' ' + code() + b' ' + content(held)[:240] for cell, held in cells.items() if held]
         return [b':'] + [b'+' + span + b' ' + name for name, span in NAMES] + [b'x' + b'\t'.join(writes),
@@ -339,7 +344,7 @@ class MacroKeys:
 
     def __init__(self, menus):
         self.menus, self.typist, self.r = menus, menus.typist, menus.r
-        self.soup, self.programs = Soup(self.r), Programs(self.r)
+        self.soup, self.programs, self.waits = Soup(self.r), Programs(self.r), Waits(self.r)
 
     def start(self):
         """A key that starts a macro, seldom one that isn't there."""
@@ -359,12 +364,18 @@ class MacroKeys:
         """A sheet with macros, and keys that start them; the last one may end the run."""
         r = self.r
         self.programs.starts = None
-        sheet = self.soup.sheet() if r.randrange(4) == 0 else self.programs.sheet(last)
+        waits = r.randrange(3) == 0
+        if waits:
+            sheet = self.programs.lines_of(self.waits.program())
+        else:
+            sheet = self.soup.sheet() if r.randrange(4) == 0 else self.programs.sheet(last)
         names = [(b'D1..D3', b'\\A'), (b'E1', b'\\B'), (b'D8192', b'\\C'), (b'D3', b'\\D'), (b'D5', b'\\E')]
         sheet[1:1] = [b'+' + span + b' ' + name for span, name in names]
         keys = r.choice([b'', b'', b'', self.menus.at(r.choice([b'B1', b'C5', b'A20', b'D2', b'IV8192'])), self.menus.done('wgp.enable')])
         if self.programs.starts:
             return sheet, keys + b''.join(b'{ALT ' + letter + b'}' + r.choice([b'{ESC}', b'{ESC}', b'{BREAK}']) for letter in self.programs.starts)
+        if waits:
+            return sheet, keys + b'{ALT A}' + self.waits.keys + r.choice([b'', b'{BREAK}', b'{ESC}~', self.start() + self.waits.keys]) + self.between()
         for _ in range(r.choice([1, 2, 3, 4])):
             keys += self.start() + self.between()
         return sheet, keys

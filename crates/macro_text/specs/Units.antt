@@ -47,25 +47,18 @@ down p =
     if nat_lt p.spot.cell.row LAST_ROW then (unit.Down, at_spot (start_of (cell_below p.spot.cell)))
     else (unit.Return, p)
 
--- the commands that are words; the others are none
+-- the commands that are words; those of text files are none
 abbrev pub is_known : Command → Bool
-is_known command.Branch = true
-is_known command.Dispatch = true
-is_known command.Define = true
-is_known command.Return = true
-is_known command.Restart = true
-is_known command.Quit = true
-is_known command.If = true
-is_known command.For = true
-is_known command.ForBreak = true
-is_known command.Let = true
-is_known command.Put = true
-is_known command.Blank = true
-is_known command.Contents = true
-is_known command.OnError = true
-is_known command.Recalc = true
-is_known command.RecalcCol = true
-is_known _ = false
+is_known command.Open = false
+is_known command.Close = false
+is_known command.Read = false
+is_known command.ReadLn = false
+is_known command.Write = false
+is_known command.WriteLn = false
+is_known command.FileSize = false
+is_known command.GetPos = false
+is_known command.SetPos = false
+is_known _ = true
 
 -- a word that is none
 abbrev pub unknown : Position → Next

@@ -86,7 +86,7 @@ fn down(position: &Position) -> Turn
     }
 }
 
-/// Whether a command is a word of macros; the others of its names are none as yet.
+/// Whether a command is a word of macros; those of text files are none as yet.
 pub fn is_known(command: Command) -> bool
     ensures { result ≡ spec.is_known command }
 {
@@ -96,11 +96,11 @@ pub fn is_known(command: Command) -> bool
         Command::ForBreak | Command::Let | Command::Put | Command::Blank => true,
         Command::Contents | Command::OnError => true,
         Command::Recalc | Command::RecalcCol => true,
-        Command::Get | Command::GetLabel | Command::GetNumber | Command::Look => false,
-        Command::MenuBranch | Command::MenuCall | Command::Wait | Command::Interact => false,
-        Command::Beep | Command::Indicate | Command::PanelOn | Command::PanelOff => false,
-        Command::WindowsOn | Command::WindowsOff => false,
-        Command::BreakOn | Command::BreakOff => false,
+        Command::Get | Command::GetLabel | Command::GetNumber | Command::Look => true,
+        Command::MenuBranch | Command::MenuCall | Command::Wait | Command::Interact => true,
+        Command::Beep | Command::Indicate | Command::PanelOn | Command::PanelOff => true,
+        Command::WindowsOn | Command::WindowsOff => true,
+        Command::BreakOn | Command::BreakOff => true,
         Command::Open | Command::Close | Command::Read | Command::ReadLn => false,
         Command::Write | Command::WriteLn | Command::FileSize => false,
         Command::GetPos | Command::SetPos => false,

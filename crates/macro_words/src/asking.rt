@@ -57,7 +57,7 @@ fn text_given<K: Look>(
     Ok(text_of(value))
 }
 
-/// GET.
+/// GET: the macro waits for a key, which is put into a cell as a macro spells it.
 pub fn get_row<K: Look>(look: &K, scene: &Scene, args: &TextList) -> Row
     ensures { result ≡ spec.get_row (outlook_of (K.sight look.now) scene.entry.now) args.now }
 {
@@ -67,7 +67,7 @@ pub fn get_row<K: Look>(look: &K, scene: &Scene, args: &TextList) -> Row
     }
 }
 
-/// GETLABEL and GETNUMBER.
+/// GETLABEL and GETNUMBER: the macro shows a prompt and waits for a line, which is put into a cell.
 pub fn question_row<K: Look>(
     alloc: Global,
     look: &K,
@@ -96,7 +96,7 @@ pub fn question_row<K: Look>(
     }
 }
 
-/// LOOK.
+/// LOOK: an empty label is put into a cell, since no key waits before it is asked for (this project's choice).
 pub fn look_row<K: Look>(
     alloc: Global,
     look: &K,
@@ -127,7 +127,8 @@ fn offers(first: Cell, count: usize, caller: Option<Spot>) -> Row
     }))
 }
 
-/// MENUBRANCH, and by the place of its word MENUCALL.
+/// MENUBRANCH: the macro waits for the choice of an item, and goes on there; with the place of its word it is MENUCALL,
+/// which calls what is chosen. A fault comes where no label stands in the first cell.
 pub fn menu_row<K: Look>(look: &K, scene: &Scene, caller: Option<Spot>, args: &TextList) -> Row
     ensures { result ≡ spec.menu_row (outlook_of (K.sight look.now) scene.entry.now) caller args.now }
 {
@@ -178,7 +179,8 @@ fn kept_or_read<K: Look>(
     }
 }
 
-/// WAIT.
+/// WAIT: the macro stays at its word while the moment is before a number, which is read at the first step and kept.
+/// Where the clock has no day, it goes on.
 pub fn wait_row<K: Look>(
     alloc: Global,
     look: &K,
@@ -201,7 +203,7 @@ pub fn wait_row<K: Look>(
     }
 }
 
-/// INDICATE.
+/// INDICATE: a text is shown in the mode's place, or without an argument the mode again.
 pub fn indicate_row<K: Look>(
     alloc: Global,
     look: &K,
@@ -246,7 +248,8 @@ fn switches_by(command: Command, switches: Switches) -> Switches
     }
 }
 
-/// PANELON, PANELOFF, WINDOWSON, WINDOWSOFF, BREAKON and BREAKOFF.
+/// PANELON, PANELOFF, WINDOWSON, WINDOWSOFF, BREAKON and BREAKOFF: what is switched is on or off from then on, as
+/// long as the macro runs.
 pub fn switch_row(running: &Running, command: Command) -> Row
     ensures { result ≡ spec.switch_row running.now command }
 {
