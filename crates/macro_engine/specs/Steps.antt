@@ -1,5 +1,5 @@
 -- One step of a macro: its next unit, carried out over the sheet.
-use Rattle.std.specs.Prelude.{◌≡◌, ℕ, [], ◌∷◌, Option, None, Some, Ok, Err}
+use Rattle.std.specs.Prelude.{◌≡◌, ℕ, Bool, true, false, [], ◌∷◌, Option, None, Some, Ok, Err}
 use Rattle.ascii_bytes.specs.Ascii as ascii
 use Rattle.formula_eval.specs.declared.look.Scene.{Scene}
 use Rattle.formula_text.specs.Words.{named_span}
@@ -11,6 +11,8 @@ use Rattle.macro_text.specs.declared.unit.Unit.{Unit}
 use Rattle.macro_text.specs.declared.unit.Unit.TheVariants as unit
 use Rattle.macro_words.specs.Moves.{moved}
 use Rattle.macro_words.specs.Rows.{return_row, row, Row}
+use Rattle.macro_words.specs.declared.running.Change.{Change}
+use Rattle.macro_words.specs.declared.running.Change.TheVariants as change
 use Rattle.macro_words.specs.declared.running.Deed.{Deed}
 use Rattle.macro_words.specs.declared.running.Move.{Move}
 use Rattle.macro_words.specs.declared.running.Move.TheVariants as move
@@ -22,7 +24,7 @@ use Rattle.work_sheet.specs.Seen.{Sheet}
 use Rattle.work_sheet.specs.Sheets.{Worksheet}
 use Rattle.macro_engine.specs.Changes.{changed, changed_cells, first_protected, outlook_in}
 use Rattle.macro_engine.specs.declared.steps.StepEnd.{StepEnd}
-use Rattle.macro_engine.specs.declared.steps.StepEnd.TheVariants.{Faulty, Indicates, Refused, Types, Works}
+use Rattle.macro_engine.specs.declared.steps.StepEnd.TheVariants.{Faulty, Indicates, Moves, Refused, Types, Works}
 
 -- what a step came to, the macro behind it, which stopped where there is none, and what was done to the sheet
 pub record MacroStep : Type 0 where
@@ -43,15 +45,20 @@ abbrev pub unless_protected : Option Place → MacroStep → Running → Sheet �
 unless_protected None step r s = step
 unless_protected (Some c) step r s = idle (Refused c) r s
 
+-- what a word comes to that changes this of the sheet
+abbrev pub worked : Change → StepEnd
+worked change.Nothing = Moves
+worked _ = Works
+
 -- what a word comes to: it may have a text for the mode's place
-abbrev pub ended : Move → StepEnd
-ended (move.Indicate t) = Indicates t
-ended _ = Works
+abbrev pub ended : Change → Move → StepEnd
+ended x (move.Indicate t) = Indicates t
+ended x _ = worked x
 
 -- a word changes the sheet, and moves the macro
 abbrev pub deed_step : Scene → Running → Deed → Sheet → MacroStep
 deed_step scene r d s = unless_protected (first_protected s (changed_cells d.change))
-    (record { end = ended d.after; running = moved d.after r; done = changed scene d.change s }) r s
+    (record { end = ended d.change d.after; running = moved d.after r; done = changed scene d.change s }) r s
 
 -- what the word in a cell does, or its fault
 abbrev pub row_step : Scene → Running → Place → Row → Sheet → MacroStep
@@ -70,7 +77,7 @@ format_in s = s.settings.format
 abbrev pub unit_step : Scene → Running → Unit → Sheet → MacroStep
 unit_step scene r (unit.Key k) s = idle (Types k) r s
 unit_step scene r (unit.Command at) s = row_step scene r at.cell (row (outlook_in scene s) (format_in s) r at) s
-unit_step scene r unit.Down s = idle Works r s
+unit_step scene r unit.Down s = idle Moves r s
 unit_step scene r unit.Return s = row_step scene r (cell_of r) (return_row (outlook_in scene s) r) s
 unit_step scene r (unit.Fault f) s = faulty f (cell_of r) s
 
@@ -86,6 +93,15 @@ next_step scene r n s = unit_step scene (placed r n.1) n.0 s
 unfoldable pub macro_step : Scene → Option Running → Sheet → MacroStep
 macro_step scene None s = record { end = Works; running = None; done = quiet s }
 macro_step scene (Some r) s = next_step scene r (next_unit (outlook_in scene s) r.position) s
+
+-- whether a step that came to this surely left the sheet as it was
+abbrev pub leaves_sheet : StepEnd → Bool
+leaves_sheet (Types k) = true
+leaves_sheet Moves = true
+leaves_sheet Works = false
+leaves_sheet (Indicates t) = false
+leaves_sheet (Faulty f c) = true
+leaves_sheet (Refused c) = true
 
 -- A step that came to this end left this macro, made of a worksheet another, and of a count of evaluations another.
 pub record HasStepped (x : MacroStep) (came : StepEnd) (now : Option Running) (v w : Worksheet) (m n : ℕ) : Type 0 where

@@ -12,7 +12,7 @@ use grid_address::Cell;
 use key_words::Key;
 use lics_text::{Memory, Text};
 use macro_text::{KeptWords, MacroFault, Position, Unit, next_unit};
-use macro_words::{Deed, Move, Row, Running, Waiting, key_row, return_row, row};
+use macro_words::{Change, Deed, Move, Row, Running, Waiting, key_row, return_row, row};
 use std::mem;
 use work_sheet::Sheet;
 
@@ -21,14 +21,30 @@ use work_sheet::Sheet;
 pub enum StepEnd {
     /// A key is typed, as by hand.
     Types(Key),
-    /// A word was carried out, the macro went to the cell below or returned, or it ended.
+    /// A word was carried out that changes no cell, the macro went to the cell below, or it ended: the sheet is as it
+    /// was.
+    Moves,
+    /// A word was carried out that changes cells or recalculates them.
     Works,
-    /// The same, and this text is shown in the mode's place, or with an empty one the mode again.
+    /// A word was carried out, and this text is shown in the mode's place, or with an empty one the mode again.
     Indicates(Text),
     /// The macro stopped with a fault of the word in this cell.
     Faulty(MacroFault, Cell),
     /// This cell was to be written and is protected.
     Refused(Cell),
+}
+
+impl StepEnd {
+    /// Whether the step surely left the sheet as it was.
+    pub fn leaves_sheet(&self) -> bool
+        ensures { result ≡ spec.leaves_sheet self.now }
+    {
+        match self {
+            StepEnd::Types(_) | StepEnd::Moves | StepEnd::Faulty(_, _) | StepEnd::Refused(_) =>
+                true,
+            StepEnd::Works | StepEnd::Indicates(_) => false,
+        }
+    }
 }
 
 // What a step comes to, and the macro behind it.
@@ -46,13 +62,23 @@ fn moved(mut running: Running, after: Move) -> Result<Option<Running>, Memory>
     }
 }
 
+// What a word comes to that changes this of the sheet.
+fn worked(change: &Change) -> StepEnd
+    ensures { result ≡ spec.worked change.now }
+{
+    match change {
+        Change::Nothing => StepEnd::Moves,
+        Change::Write(_) | Change::Erase(_) | Change::Recalculate(_) => StepEnd::Works,
+    }
+}
+
 // What a word comes to that was carried out, and the macro behind it.
-fn done(running: Running, after: Move) -> Result<Stepped, Memory>
-    ensures { IfOk result (λ x. (x.0 ≡ spec.ended after) × (x.1 ≡ moving.moved after running)) }
+fn done(running: Running, change: &Change, after: Move) -> Result<Stepped, Memory>
+    ensures { IfOk result (λ x. (x.0 ≡ spec.ended change.now after) × (x.1 ≡ moving.moved after running)) }
 {
     match after {
         Move::Indicate(text) => Ok((StepEnd::Indicates(text), Some(running))),
-        _ => Ok((StepEnd::Works, moved(running, after)?)),
+        _ => Ok((worked(change), moved(running, after)?)),
     }
 }
 
@@ -69,13 +95,17 @@ fn deed_stepped(
 {
     let Deed { change, after } = deed;
     let refused = carry_out(&change, sheet, scene, tally)?;
-    drop(change);
     match refused {
         Some(cell) => {
+            drop(change);
             drop(after);
             Ok((StepEnd::Refused(cell), Some(running)))
         }
-        None => done(running, after),
+        None => {
+            let stepped = done(running, &change, after);
+            drop(change);
+            stepped
+        }
     }
 }
 
@@ -125,7 +155,7 @@ fn unit_stepped(
             let row = row(sheet.alloc(), sheet, scene, global, &running, at)?;
             row_stepped(running, at.cell, row, sheet, scene, tally)
         }
-        Unit::Down => Ok((StepEnd::Works, Some(running))),
+        Unit::Down => Ok((StepEnd::Moves, Some(running))),
         Unit::Return => {
             let cell = cell_of(&running);
             let row = return_row(sheet.alloc(), sheet, scene, &running)?;

@@ -15,5 +15,5 @@ mod widths;
 pub use corner::corner_for;
 pub use foot::wants_recalculation;
 pub use panel_view::PanelView;
-pub use screen::{paint, paint_lines};
+pub use screen::{line_at, paint};
 pub use shown_columns::columns_shown;

@@ -28,8 +28,8 @@ fn row_line(sheet: &Sheet, row: u16, first: u8) -> [u8; 80]
     }
 }
 
-// A line of the screen.
-fn line_at(sheet: &Sheet, panel: &PanelView, corner: Cell, now: &Moment, line: u8) -> [u8; 80]
+/// A line of the screen, as `paint` shows it, of the lines 0 to 24.
+pub fn line_at(sheet: &Sheet, panel: &PanelView, corner: Cell, now: &Moment, line: u8) -> [u8; 80]
     requires { line ≤ 24 }
     ensures { result ≡ screen_line (of_worksheet sheet.now) (viewed panel.now) corner now.now.day now.now.second line }
 {
@@ -63,8 +63,8 @@ pub fn paint(sheet: &Sheet, panel: &Panel, corner: Cell, now: &Moment) -> Screen
     shown
 }
 
-/// Paints the lines of a set over a screen that has the others in common with this one, as `paint` does.
-pub fn paint_lines(
+// Paints the lines of a set over a screen that has the others in common with this one, as `paint` does.
+fn paint_lines(
     sheet: &Sheet,
     panel: &PanelView,
     corner: Cell,

@@ -1,17 +1,18 @@
 -- The lines that are the same from step to step.
 use Rattle.std.proofs.Common.{◌≡◌, ℕ, zero, suc, ◌+◌, ◌-◌, ◌/◌, ◌%◌, ◌≤◌, ◌<◌, Bool, true, false, List, [], ◌∷◌, ◌++◌, Option, Some, None, refl, ap, sym, subst, ◌∙◌, arith, inl, inr}
-use Rattle.std.specs.Prelude.{codes, if◌then◌else◌, is_some, length, nat_eq, not, slice_get, take}
-use Rattle.std.proofs.lemmas.Bool.{and_parts, cases_lt, eqb-true, false≢true, true≢false}
+use Rattle.std.specs.Prelude.{codes, get_or, if◌then◌else◌, is_some, length, nat_eq, nat_lt, not, slice_get, take}
+use Rattle.std.proofs.lemmas.Bool.{and_parts, cases_lt, eqb-true, false_from_ne_true, false≢true, lt-ltb, ltb-true, true≢false}
 use Rattle.std.proofs.lemmas.List.{nil_from_length}
-use Rattle.std.proofs.lemmas.Option.{slice_get-get_or, slice_get_past}
+use Rattle.std.proofs.lemmas.Option.{slice_get_past}
 use Rattle.control_panel.specs.declared.panel.Mode.{Mode}
 use Rattle.control_panel.specs.declared.panel.Mode.TheVariants as mode
 use Rattle.control_panel.specs.declared.panel.Panel.{Panel}
 use Rattle.grid_address.specs.Place.{Place}
 use Rattle.macro_words.specs.declared.running.Running.{Running}
+use Rattle.macro_words.specs.declared.waiting.Switches.{Switches}
 use Rattle.macro_words.specs.declared.waiting.Waiting.{Waiting}
 use Rattle.macro_words.specs.declared.waiting.Waiting.TheVariants as waiting
-use Rattle.screen_layout.proofs.Painted.{line_at, shaped}
+use Rattle.screen_layout.proofs.Painted.{line_at}
 use Rattle.screen_layout.proofs.Window.{letters_same, row_same}
 use Rattle.screen_layout.specs.Alike.{AreAlike}
 use Rattle.screen_layout.specs.Control.{below_line, entry_line, mode_name, mode_text, pointer_line, pointer_text}
@@ -25,10 +26,11 @@ use Rattle.session_rooms.specs.declared.rooms.TypingMode.{TypingMode}
 use Rattle.session_rooms.specs.declared.rooms.TypingMode.TheVariants.{Label, Value, Edit}
 use Rattle.typing_room.specs.Room.{told_mode}
 use Rattle.work_sheet.specs.Seen.{Sheet}
-use Rattle.session_core.specs.Glances.{glance_of, is_plain, marks_of, plain_mode, told_plainly, IsKept}
-use Rattle.session_core.specs.Machine.{is_running, sheet_of, State}
+use Rattle.session_core.specs.Frozen.{frozen_after, frozen_by, held_at, line_over}
+use Rattle.session_core.specs.Glances.{glance_of, is_plain, marks_of, plain_mode, told_plainly, ArePlain, IsKept, KeepsLetters, KeepsPointer, KeepsRow, KeepsTyped, Stays}
+use Rattle.session_core.specs.Machine.{is_running, sheet_of, FrozenAreas, State}
 use Rattle.session_core.specs.Pressing.{room_panel}
-use Rattle.session_core.specs.Screen.{painted_screen, panel_of}
+use Rattle.session_core.specs.Screen.{painted_screen, panel_of, screen}
 use Rattle.session_core.specs.Touches.{touches_row, Touches}
 use Rattle.session_core.specs.Waiting.{is_shown, panel_by, shows_waiting, waiting_panel}
 use Rattle.session_core.specs.declared.glance.Foot.{Foot}
@@ -36,6 +38,7 @@ use Rattle.session_core.specs.declared.glance.Glance.{Glance}
 use Rattle.session_core.specs.declared.glance.Marks.{Marks}
 use Rattle.session_core.specs.declared.touched.Touched.{Touched}
 use Rattle.session_core.specs.declared.touched.Touched.TheVariants as touched
+use Rattle.session_core.proofs.Still.{area_kept, long, shown_at, shown_in}
 use Rattle.session_core.proofs.Touching.{touched_alike}
 
 -- whether a room is READY, or a line is typed there
@@ -185,46 +188,37 @@ typed_is s ready =
 below_is : (s : State) → IsPlain s → below_line (panel_of s) ≡ []
 below_is s plain = ap below_line (panel_is s plain) ∙ below_none s.room s.end (is_running s) (room_plain s plain)
 
--- a line of the screen
+-- a line of the screen, as it is painted
 abbrev line_of : State → ℕ → List ℕ
 line_of s n = screen_line (sheet_of s) (panel_of s) s.corner s.day s.second n
 
-line_in : (s : State) (n : ℕ) → n < 25 → slice_get (painted_screen s) n ≡ Some (line_of s n)
-line_in s n inside =
-    slice_get-get_or (painted_screen s) n [] (omega (arith, (shaped (sheet_of s) (panel_of s) s.corner s.day s.second).lines, inside))
-    ∙ ap Some (line_at (sheet_of s) (panel_of s) s.corner s.day s.second n inside)
+painted_at : (s : State) (n : ℕ) → n < 25 → get_or (painted_screen s) n [] ≡ line_of s n
+painted_at s n inside = line_at (sheet_of s) (panel_of s) s.corner s.day s.second n inside
 
 sure_of : (x : Touched) (first row : ℕ) → touches_row x first row ≡ false → x ≡ touched.Anything → ⊥
 sure_of x first row apart is = true≢false (sym (ap (λ (y : Touched). touches_row y first row) is) ∙ apart)
 
 module _ (s t : State) (x : Touched) (touch : Touches x s.corner.row (sheet_of s) (sheet_of t)) where
-  pointer_kept : IsKept x (glance_of s) (glance_of t) 0 → line_of s 0 ≡ line_of t 0
-  pointer_kept kept =
-      let is = kept.pointer refl in
+  pointer_kept : KeepsPointer x (glance_of s) (glance_of t) → line_of s 0 ≡ line_of t 0
+  pointer_kept is =
       let sheets : sheet_of t ≡ sheet_of s = subst (λ (y : Touched). Touches y s.corner.row (sheet_of s) (sheet_of t)) is.0 touch in
       let plain : IsPlain t = ap (λ (m : Option Mode). is_some m) is.1.1 ∙ is.1.0 in
       ap shown_line (pointer_is s is.1.0 ∙ ap (λ (u : Sheet). pointer_by u (told_plainly s)) (sym sheets)
       ∙ ap (pointer_by (sheet_of t)) (sym is.1.1) ∙ sym (pointer_is t plain))
 
-  typed_kept : IsKept x (glance_of s) (glance_of t) 1 → line_of s 1 ≡ line_of t 1
-  typed_kept kept =
-      let is = kept.typed refl in
-      ap shown_line (typed_is s is.0 ∙ sym (typed_is t is.1))
+  typed_kept : KeepsTyped (glance_of s) (glance_of t) → line_of s 1 ≡ line_of t 1
+  typed_kept is = ap shown_line (typed_is s is.0 ∙ sym (typed_is t is.1))
 
-  below_kept : IsKept x (glance_of s) (glance_of t) 2 → line_of s 2 ≡ line_of t 2
-  below_kept kept =
-      let is = kept.below refl in
-      ap shown_line (below_is s is.0 ∙ sym (below_is t is.1))
+  below_kept : ArePlain (glance_of s) (glance_of t) → line_of s 2 ≡ line_of t 2
+  below_kept is = ap shown_line (below_is s is.0 ∙ sym (below_is t is.1))
 
-  letters_kept : IsKept x (glance_of s) (glance_of t) 3 → line_of s 3 ≡ line_of t 3
-  letters_kept kept =
-      let is = kept.letters refl in
+  letters_kept : KeepsLetters x (glance_of s) (glance_of t) → line_of s 3 ≡ line_of t 3
+  letters_kept is =
       letters_same (touches_row x s.corner.row) (sheet_of s) (sheet_of t) (touched_alike x s.corner.row (sheet_of s) (sheet_of t) is.0 touch) (panel_of s) (panel_of t) s.corner t.corner s.day t.day s.second t.second
       (sym is.1)
 
-  row_kept : (n : ℕ) → 4 ≤ n → n < 24 → IsKept x (glance_of s) (glance_of t) n → line_of s n ≡ line_of t n
-  row_kept n least most kept =
-      let is = kept.rows least most in
+  row_kept : (n : ℕ) → 4 ≤ n → n < 24 → KeepsRow x (glance_of s) (glance_of t) n → line_of s n ≡ line_of t n
+  row_kept n least most is =
       let alike : AreAlike (touches_row x s.corner.row) (sheet_of s) (sheet_of t) = touched_alike x s.corner.row (sheet_of s) (sheet_of t) (sure_of x s.corner.row (s.corner.row + (n - 4)) is.0) touch in
       row_same (touches_row x s.corner.row) (sheet_of s) (sheet_of t) alike (panel_of s) (panel_of t) s.corner s.day t.day s.second t.second n least most is.0
       ∙ ap (λ (c : Place). screen_line (sheet_of t) (panel_of t) c t.day t.second n) (sym is.1)
@@ -237,29 +231,77 @@ module _ (s t : State) (x : Touched) (touch : Touches x s.corner.row (sheet_of s
       ∙ moment_same t.day s.second t.second (ap (λ (f : Foot). f.minute.hour) (sym is.1.1)) (ap (λ (f : Foot). f.minute.minute) (sym is.1.1)))
       ∙ sym (foot_is t is.1.0))
 
-  line_kept : (n : ℕ) → n < 25 → IsKept x (glance_of s) (glance_of t) n → line_of s n ≡ line_of t n
-  line_kept zero inside kept = pointer_kept kept
-  line_kept (suc zero) inside kept = typed_kept kept
-  line_kept (suc (suc zero)) inside kept = below_kept kept
-  line_kept (suc (suc (suc zero))) inside kept = letters_kept kept
-  line_kept (suc (suc (suc (suc k)))) inside kept = elim (cases_lt (suc (suc (suc (suc k)))) 24) [
-    | inl below ↦ row_kept (suc (suc (suc (suc k)))) (omega arith) below kept
-    | inr past ↦
-        let last : suc (suc (suc (suc k))) ≡ 24 = omega (arith, past, inside) in
-        subst (λ (n : ℕ). line_of s n ≡ line_of t n) (sym last) (foot_kept (subst (λ (n : ℕ). IsKept x (glance_of s) (glance_of t) n) last kept))
-  ]
+  -- a line that is painted the same is shown the same, where none is held
+  module _ (x_on : Switches) (after : t.frozen ≡ frozen_after (screen s) x_on s.frozen) where
+    -- a line of an area, by what is held of it
+    area_line : (on : Bool) (held : Option (List (List ℕ))) (n : ℕ) (P : Type 0) → n < 25 → held_at s.frozen n ≡ held → held_at t.frozen n ≡ frozen_by on (screen s) held →
+        (P → line_of s n ≡ line_of t n) → Stays (is_some held) (is_some (frozen_by on (screen s) held)) P → get_or (screen s) n [] ≡ get_or (screen t) n []
+    area_line on held n P inside is next same stays =
+        let was : get_or (screen s) n [] ≡ line_over held (painted_screen s) n =
+        shown_at s.frozen (painted_screen s) n inside ∙ ap (λ (h : Option (List (List ℕ))). line_over h (painted_screen s) n) is in
+        was
+        ∙ area_kept on held (screen s) (painted_screen s) (painted_screen t) n P (sym was) (λ p. painted_at s n inside ∙ same p ∙ sym (painted_at t n inside)) stays
+        ∙ ap (λ (h : Option (List (List ℕ))). line_over h (painted_screen t) n) (sym next)
+        ∙ sym (shown_at t.frozen (painted_screen t) n inside)
 
-  -- the lines that aren't told are the same
-  pub lines_kept : (lines : List Bool) → ((n : ℕ) → slice_get lines n ≡ Some false → IsKept x (glance_of s) (glance_of t) n) → Unchanged lines (painted_screen s) (painted_screen t)
-  lines_kept lines told n out = elim (cases_lt n 25) [
-    | inl inside ↦ line_in s n inside ∙ ap Some (line_kept n inside (told n out)) ∙ sym (line_in t n inside)
-    | inr past ↦ slice_get_past (painted_screen s) n (omega (arith, (shaped (sheet_of s) (panel_of s) s.corner s.day s.second).lines, past))
-        ∙ sym (slice_get_past (painted_screen t) n (omega (arith, (shaped (sheet_of t) (panel_of t) t.corner t.day t.second).lines, past)))
-  ]
+    panel_line : (n : ℕ) (P : Type 0) → n < 25 → held_at s.frozen n ≡ s.frozen.panel → held_at t.frozen n ≡ t.frozen.panel →
+        (P → line_of s n ≡ line_of t n) → Stays (is_some s.frozen.panel) (is_some t.frozen.panel) P → get_or (screen s) n [] ≡ get_or (screen t) n []
+    panel_line n P inside is next same stays =
+        area_line x_on.panel s.frozen.panel n P inside is (next ∙ ap (λ (f : FrozenAreas). f.panel) after) same
+        (subst (λ (f : FrozenAreas). Stays (is_some s.frozen.panel) (is_some f.panel) P) after stays)
 
--- the same, by what a step touched before the screen followed it
-pub lines_told : (s mid t : State) (x : Touched) (a b : Glance) (lines : List Bool) → Touches x s.corner.row (sheet_of s) (sheet_of mid) → sheet_of t ≡ sheet_of mid → a ≡ glance_of s → b ≡ glance_of t →
-    ((n : ℕ) → slice_get lines n ≡ Some false → IsKept x a b n) → Unchanged lines (painted_screen s) (painted_screen t)
-lines_told s mid t x a b lines touch followed before after told =
-    lines_kept s t x (subst (λ (u : Sheet). Touches x s.corner.row (sheet_of s) u) (sym followed) touch) lines
+    windows_line : (n : ℕ) (P : Type 0) → n < 25 → held_at s.frozen n ≡ s.frozen.windows → held_at t.frozen n ≡ t.frozen.windows →
+        (P → line_of s n ≡ line_of t n) → Stays (is_some s.frozen.windows) (is_some t.frozen.windows) P → get_or (screen s) n [] ≡ get_or (screen t) n []
+    windows_line n P inside is next same stays =
+        area_line x_on.windows s.frozen.windows n P inside is (next ∙ ap (λ (f : FrozenAreas). f.windows) after) same
+        (subst (λ (f : FrozenAreas). Stays (is_some s.frozen.windows) (is_some f.windows) P) after stays)
+
+    -- the last line never stands still
+    last_line : IsKept x (glance_of s) (glance_of t) 24 → get_or (screen s) 24 [] ≡ get_or (screen t) 24 []
+    last_line kept =
+        shown_at s.frozen (painted_screen s) 24 (omega arith) ∙ painted_at s 24 (omega arith) ∙ foot_kept kept ∙ sym (painted_at t 24 (omega arith))
+        ∙ sym (shown_at t.frozen (painted_screen t) 24 (omega arith))
+
+    row_held : (f : FrozenAreas) (k : ℕ) → suc (suc (suc (suc k))) < 24 → held_at f (suc (suc (suc (suc k)))) ≡ f.windows
+    row_held f k below =
+        let n : ℕ = suc (suc (suc (suc k))) in
+        let past : nat_lt n 3 ≡ false = false_from_ne_true (nat_lt n 3) (λ h. let low : n < 3 = ltb-true n 3 h in omega (arith, low)) in
+        ap (λ (b : Bool). if b then f.panel else if nat_lt n 24 then f.windows else None) past ∙ ap (λ (b : Bool). if b then f.windows else None) (lt-ltb n 24 below)
+
+    line_kept : (n : ℕ) → n < 25 → IsKept x (glance_of s) (glance_of t) n → get_or (screen s) n [] ≡ get_or (screen t) n []
+    line_kept zero inside kept = panel_line 0 (KeepsPointer x (glance_of s) (glance_of t)) inside refl refl pointer_kept (kept.pointer refl)
+    line_kept (suc zero) inside kept = panel_line 1 (KeepsTyped (glance_of s) (glance_of t)) inside refl refl typed_kept (kept.typed refl)
+    line_kept (suc (suc zero)) inside kept = panel_line 2 (ArePlain (glance_of s) (glance_of t)) inside refl refl below_kept (kept.below refl)
+    line_kept (suc (suc (suc zero))) inside kept = windows_line 3 (KeepsLetters x (glance_of s) (glance_of t)) inside refl refl letters_kept (kept.letters refl)
+    line_kept (suc (suc (suc (suc k)))) inside kept = elim (cases_lt (suc (suc (suc (suc k)))) 24) [
+      | inl below ↦
+          windows_line (suc (suc (suc (suc k)))) (KeepsRow x (glance_of s) (glance_of t) (suc (suc (suc (suc k))))) inside (row_held s.frozen k below) (row_held t.frozen k below)
+          (row_kept (suc (suc (suc (suc k)))) (omega arith) below) (kept.rows (omega arith) below)
+      | inr past ↦
+          let last : suc (suc (suc (suc k))) ≡ 24 = omega (arith, past, inside) in
+          subst (λ (n : ℕ). get_or (screen s) n [] ≡ get_or (screen t) n []) (sym last) (last_line (subst (λ (n : ℕ). IsKept x (glance_of s) (glance_of t) n) last kept))
+    ]
+
+    -- the lines that aren't told are the same
+    pub lines_kept : (lines : List Bool) → ((n : ℕ) → slice_get lines n ≡ Some false → IsKept x (glance_of s) (glance_of t) n) → Unchanged lines (screen s) (screen t)
+    lines_kept lines told n out = elim (cases_lt n 25) [
+      | inl inside ↦ shown_in s.frozen (painted_screen s) n inside ∙ ap Some (line_kept n inside (told n out)) ∙ sym (shown_in t.frozen (painted_screen t) n inside)
+      | inr past ↦ slice_get_past (screen s) n (omega (arith, long s.frozen (painted_screen s), past))
+          ∙ sym (slice_get_past (screen t) n (omega (arith, long t.frozen (painted_screen t), past)))
+    ]
+
+-- The same, by what a step touched before the screen followed it.
+pub lines_told : (s mid t : State) (x : Touched) (a b : Glance) (lines : List Bool) (x_on : Switches) → Touches x s.corner.row (sheet_of s) (sheet_of mid) → sheet_of t ≡ sheet_of mid →
+    t.frozen ≡ frozen_after (screen s) x_on s.frozen → a ≡ glance_of s → b ≡ glance_of t →
+    ((n : ℕ) → slice_get lines n ≡ Some false → IsKept x a b n) → Unchanged lines (screen s) (screen t)
+lines_told s mid t x a b lines x_on touch followed frozen before after told =
+    lines_kept s t x (subst (λ (u : Sheet). Touches x s.corner.row (sheet_of s) u) (sym followed) touch) x_on frozen lines
     (λ n out. subst (λ (g : Glance). IsKept x (glance_of s) g n) after (subst (λ (g : Glance). IsKept x g b n) before (told n out)))
+
+-- The same, where a session keeps the screen, and the step left what stood still before the screen followed it.
+pub lines_followed : (s mid t : State) (shown : List (List ℕ)) (x : Touched) (a b : Glance) (lines : List Bool) (x_on : Switches) → shown ≡ screen s → Touches x s.corner.row (sheet_of s) (sheet_of mid) →
+    sheet_of t ≡ sheet_of mid → t.frozen ≡ frozen_after shown x_on mid.frozen → mid.frozen ≡ s.frozen → a ≡ glance_of s → b ≡ glance_of t →
+    ((n : ℕ) → slice_get lines n ≡ Some false → IsKept x a b n) → Unchanged lines (screen s) (screen t)
+lines_followed s mid t shown x a b lines x_on kept touch followed frozen held before after told =
+    lines_told s mid t x a b lines x_on touch followed
+    (frozen ∙ ap (λ (l : List (List ℕ)). frozen_after l x_on mid.frozen) kept ∙ ap (λ (f : FrozenAreas). frozen_after (screen s) x_on f) held) before after told

@@ -3,6 +3,7 @@ pub mod Alone
 pub mod Answered
 pub mod Failing
 pub mod Few
+pub mod Held
 pub mod Kept
 pub mod Looking
 pub mod Prefixed

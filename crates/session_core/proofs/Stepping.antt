@@ -175,3 +175,7 @@ only_given key.Calc s other h = h
 only_given key.Graph s other h = h
 only_given key.Undo s other h = h
 only_given (key.Alt letter) s other h = h
+
+-- what is told of the run's end may be told otherwise that is the same
+pub ends_as : (act : Replies → Scene → State → Outcome) (now : Moment) (told other : Bool) (a b : Worked) (x y : ShelfView) → other ≡ told → LeadsOver act now told a b x y → LeadsOver act now other a b x y
+ends_as act now told other a b x y is l = subst (λ (e : Bool). LeadsOver act now e a b x y) (sym is) l

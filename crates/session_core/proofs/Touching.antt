@@ -91,3 +91,9 @@ module _ (s m n t : Sheet) (scene there : Scene) (c : Place) (x : Content) (entr
   entry_touches touched.Pointer first row settles = absurd (false≢true row)
   entry_touches (touched.Rows lines) first row settles = entry_alike (touches_row (touched.Rows lines) first) row settles
   entry_touches touched.Anything first row settles = tt
+
+-- what was touched behind a step that left the sheet, or may have touched anything
+pub touches_behind : (left : Bool) (x y : Touched) (first last : ℕ) (s m t : Sheet) → (left ≡ true → m ≡ s) → last ≡ first → (left ≡ true → y ≡ x) → (left ≡ false → y ≡ touched.Anything) → Touches x last m t → Touches y first s t
+touches_behind true x y first last s m t leaves corner same any h =
+    subst (λ (z : Touched). Touches z first s t) (sym (same refl)) (subst (λ (n : ℕ). Touches x n s t) corner (subst (λ (u : Sheet). Touches x last u t) (leaves refl) h))
+touches_behind false x y first last s m t leaves corner same any h = anything_touches y first s t (any refl)

@@ -1,32 +1,29 @@
 -- What of the screen stands still, where a macro has switched the panel or the windows off.
-use Rattle.std.specs.Prelude.{ℕ, ⊤, ◌&&◌, nat_le, nat_lt, Bool, true, false, List, [], get_or, map, Option, None, Some, if◌then◌else◌}
+use Rattle.std.specs.Prelude.{ℕ, ⊤, nat_lt, Bool, true, false, List, [], get_or, is_some, map, Option, None, Some, if◌then◌else◌}
 use Rattle.std.specs.List.{range_with_len}
 use Rattle.macro_words.specs.Moves.{all_on}
 use Rattle.macro_words.specs.declared.running.Running.{Running}
 use Rattle.macro_words.specs.declared.waiting.Switches.{Switches}
 use Rattle.screen_show.specs.Screen.{IsPrinted}
 use Rattle.session_core.specs.Machine.{FrozenAreas}
+use Rattle.session_core.specs.declared.glance.Still.{Still}
 
--- whether a line is one of those from one on up to another
-abbrev pub is_between : ℕ → ℕ → ℕ → Bool
-is_between first end n = nat_le first n && nat_lt n end
+-- the screen as which a line stands still, if it does: lines 0 to 2 are the panel's, and 3 to 23 the windows'
+abbrev pub held_at : FrozenAreas → ℕ → Option (List (List ℕ))
+held_at f n = if nat_lt n 3 then f.panel else if nat_lt n 24 then f.windows else None
 
--- a line of one screen where it is one of these, and else of another
-abbrev pub line_by : ℕ → ℕ → List (List ℕ) → List (List ℕ) → ℕ → List ℕ
-line_by first end held lines n = get_or (if is_between first end n then held else lines) n []
+-- a line of the screen that is held, or else of another
+abbrev pub line_over : Option (List (List ℕ)) → List (List ℕ) → ℕ → List ℕ
+line_over None lines n = get_or lines n []
+line_over (Some held) lines n = get_or held n []
 
--- the lines of a screen with some of another, from one on up to another
-unfoldable pub with_lines : ℕ → ℕ → List (List ℕ) → List (List ℕ) → List (List ℕ)
-with_lines first end held lines = map (line_by first end held lines) (range_with_len 0 25)
+-- a screen, but for the lines that stand still
+unfoldable pub with_frozen : FrozenAreas → List (List ℕ) → List (List ℕ)
+with_frozen f lines = map (λ n. line_over (held_at f n) lines n) (range_with_len 0 25)
 
--- the same of the screen whose lines stand still, if any do
-abbrev pub with_area : ℕ → ℕ → Option (List (List ℕ)) → List (List ℕ) → List (List ℕ)
-with_area first end None lines = lines
-with_area first end (Some held) lines = with_lines first end held lines
-
--- a screen, but for the lines that stand still: 0 to 2 are the panel's, and 3 to 23 the windows'
-abbrev pub with_frozen : FrozenAreas → List (List ℕ) → List (List ℕ)
-with_frozen f lines = with_area 3 24 f.windows (with_area 0 3 f.panel lines)
+-- which areas stand still
+abbrev pub still_of : FrozenAreas → Still
+still_of f = record { panel = is_some f.panel; windows = is_some f.windows }
 
 -- what a macro that runs has switched on; all is where none runs
 abbrev pub switches_of : Option Running → Switches

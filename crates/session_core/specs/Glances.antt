@@ -1,12 +1,13 @@
 -- How the session keeps in mind what the lines of its screen hang on beside the cells: it paints only the lines for
 -- which that is otherwise than before.
-use Rattle.std.specs.Prelude.{◌≡◌, ℕ, ◌+◌, ◌-◌, ◌/◌, ◌%◌, ◌≤◌, ◌<◌, ◌&&◌, nat_eq, length, Bool, true, false, not, is_some, if◌then◌else◌, Option, None, Some}
+use Rattle.std.specs.Prelude.{◌≡◌, ⊤, ℕ, ◌+◌, ◌-◌, ◌/◌, ◌%◌, ◌≤◌, ◌<◌, ◌&&◌, nat_eq, length, Bool, true, false, not, is_some, if◌then◌else◌, Option, None, Some}
 use Rattle.control_panel.specs.declared.panel.Mode.{Mode}
 use Rattle.control_panel.specs.declared.panel.Mode.TheVariants.{Ready}
 use Rattle.screen_layout.specs.Foot.{wants_recalculation}
 use Rattle.session_rooms.specs.declared.rooms.Room.{Room}
 use Rattle.session_rooms.specs.declared.rooms.Room.TheVariants as room
 use Rattle.typing_room.specs.Room.{told_mode}
+use Rattle.session_core.specs.Frozen.{still_of}
 use Rattle.session_core.specs.Machine.{is_running, sheet_of, State}
 use Rattle.session_core.specs.Waiting.{shows_waiting}
 use Rattle.session_core.specs.Touches.{touches_row}
@@ -51,16 +52,43 @@ marks_of s = record {
 abbrev pub glance_of : State → Glance
 glance_of s = record {
   corner = s.corner;
+  still = still_of s.frozen;
   mode = told_plainly s;
   foot = record { minute = minute_of s; marks = marks_of s };
 }
 
+-- An area's lines are the same: it stands still after a step, or it did neither before nor after, and what they hang on
+-- is the same.
+abbrev pub Stays : Bool → Bool → Type 0 → Type 0
+Stays before true P = ⊤
+Stays true false P = ⊥
+Stays false false P = P
+
+-- what the pointer's line hangs on is the same
+abbrev pub KeepsPointer : Touched → Glance → Glance → Type 0
+KeepsPointer x a b = (x ≡ Nothing) × ((is_some a.mode ≡ true) × (b.mode ≡ a.mode))
+
+-- no line is typed
+abbrev pub KeepsTyped : Glance → Glance → Type 0
+KeepsTyped a b = (a.mode ≡ Some Ready) × (b.mode ≡ Some Ready)
+
+-- it is READY or a line is typed
+abbrev pub ArePlain : Glance → Glance → Type 0
+ArePlain a b = (is_some a.mode ≡ true) × (is_some b.mode ≡ true)
+
+-- what the columns' letters hang on is the same
+abbrev pub KeepsLetters : Touched → Glance → Glance → Type 0
+KeepsLetters x a b = (x ≡ Anything → ⊥) × (b.corner.col ≡ a.corner.col)
+
+-- what a row's line hangs on is the same
+abbrev pub KeepsRow : Touched → Glance → Glance → ℕ → Type 0
+KeepsRow x a b n = (touches_row x a.corner.row (a.corner.row + (n - 4)) ≡ false) × (b.corner ≡ a.corner)
+
 -- what a line of the screen hangs on is before and after a step the same
 pub record IsKept (touched : Touched) (a b : Glance) (n : ℕ) : Type 0 where
-  pub pointer : n ≡ 0 → (touched ≡ Nothing) × ((is_some a.mode ≡ true) × (b.mode ≡ a.mode))
-  pub typed : n ≡ 1 → (a.mode ≡ Some Ready) × (b.mode ≡ Some Ready)
-  pub below : n ≡ 2 → (is_some a.mode ≡ true) × (is_some b.mode ≡ true)
-  pub letters : n ≡ 3 → (touched ≡ Anything → ⊥) × (b.corner.col ≡ a.corner.col)
-  pub rows : 4 ≤ n → n < 24 →
-      (touches_row touched a.corner.row (a.corner.row + (n - 4)) ≡ false) × (b.corner ≡ a.corner)
+  pub pointer : n ≡ 0 → Stays a.still.panel b.still.panel (KeepsPointer touched a b)
+  pub typed : n ≡ 1 → Stays a.still.panel b.still.panel (KeepsTyped a b)
+  pub below : n ≡ 2 → Stays a.still.panel b.still.panel (ArePlain a b)
+  pub letters : n ≡ 3 → Stays a.still.windows b.still.windows (KeepsLetters touched a b)
+  pub rows : 4 ≤ n → n < 24 → Stays a.still.windows b.still.windows (KeepsRow touched a b n)
   pub foot : n ≡ 24 → (is_some a.mode ≡ true) × ((is_some b.mode ≡ true) × (b.foot ≡ a.foot))

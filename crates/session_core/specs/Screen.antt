@@ -1,6 +1,5 @@
 -- The screen of a state.
-use Rattle.std.specs.Prelude.{◌≡◌, ℕ, List, Option}
-use Rattle.std.specs.Option.{unwrap_or}
+use Rattle.std.specs.Prelude.{◌≡◌, ℕ, List}
 use Rattle.control_panel.specs.declared.panel.Panel.{Panel}
 use Rattle.screen_layout.specs.Screen.{screen as painted}
 use Rattle.screen_show.specs.Screen.{IsPrinted}
@@ -29,9 +28,7 @@ painted_screen s = painted (sheet_of s) (panel_of s) s.corner s.day s.second
 abbrev pub screen : State → List (List ℕ)
 screen s = with_frozen s.frozen (painted_screen s)
 
--- A state's screen as if nothing stood still was painted, and over it the one that is shown, where something does; no
--- byte of that is below a space.
-pub record HasPainted (s : State) (lines : List (List ℕ)) (over : Option (List (List ℕ))) : Type 0 where
-  pub painted : lines ≡ painted_screen s
-  pub shown : unwrap_or over lines ≡ screen s
+-- what a session keeps is the screen that its state shows; no byte of it is below a space
+pub record HasShown (s : State) (lines : List (List ℕ)) : Type 0 where
+  pub shown : lines ≡ screen s
   pub printed : IsPrinted (screen s)

@@ -8,7 +8,7 @@ use Rattle.key_words.specs.declared.key.Key.TheVariants as key
 use Rattle.macro_engine.specs.Keys.{broken_off, key_step, takes_key}
 use Rattle.macro_engine.specs.Steps.{macro_step, MacroStep}
 use Rattle.macro_engine.specs.declared.steps.StepEnd.{StepEnd}
-use Rattle.macro_engine.specs.declared.steps.StepEnd.TheVariants.{Faulty, Indicates, Refused, Types, Works}
+use Rattle.macro_engine.specs.declared.steps.StepEnd.TheVariants.{Faulty, Indicates, Moves, Refused, Types, Works}
 use Rattle.screen_layout.specs.Corner.{corner_for}
 use Rattle.serial_date.specs.declared.moment.Moment.{Moment}
 use Rattle.session_core.specs.Carrying.{carried, failed, recalculated, told}
@@ -33,6 +33,7 @@ seen_from scene s = record scene { cursor = pointer_of s }
 -- and is told, and a protected cell is an error.
 abbrev pub come_to : StepEnd → Replies → Scene → State → Outcome
 come_to (Types k) replies scene s = taken k replies scene s
+come_to Moves replies scene s = quiet s
 come_to Works replies scene s = quiet s
 come_to (Indicates t) replies scene s = quiet (record s { indicate = t })
 come_to (Faulty f c) replies scene s = quiet (told (fault_message f c) s)

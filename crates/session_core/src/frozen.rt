@@ -1,9 +1,10 @@
 // What of the screen stands still.
-ghost use Rattle.std.specs.Prelude.{◌≡◌, ◌≤◌, true};
+ghost use Rattle.std.specs.Prelude.{◌≡◌, option_copied};
 ghost use Rattle.screen_show.specs.Screen.{IsPrinted};
 ghost use Rattle.session_core.specs.Machine.{unfrozen};
 ghost use Rattle.session_core.specs.Frozen as spec;
 
+use crate::glance::Still;
 use macro_words::Switches;
 use screen_show::Screen;
 use std::marker::Model;
@@ -27,44 +28,18 @@ impl Model for Frozen {
     ghost invariant = { λ f. ArePrinted f.panel × ArePrinted f.windows };
 }
 
-// An area's screen behind a step, before which this one was shown.
-fn held_behind(on: bool, before: &Screen, held: Option<Screen>) -> Option<Screen>
-    ensures { result ≡ spec.frozen_by on before.now held }
+// An area that is switched off is held as this screen shows it, unless it is held already; one that is on isn't held.
+#[tactic(auto, using(crate::proofs::Still::hold_gone, crate::proofs::Still::hold_none, crate::proofs::Still::hold_taken, crate::proofs::Still::hold_kept))]
+fn hold(on: bool, before: &Screen, held: &mut Option<Screen>)
+    ensures { held.new ≡ spec.frozen_by on before.now held.old }
 {
+    let is_held = held.is_some();
     if on {
-        return None;
-    }
-    match held {
-        Some(screen) => Some(screen),
-        None => Some(*before),
-    }
-}
-
-// Shows some lines of another screen.
-fn show_lines(from: &Screen, first: u8, end: u8, shown: &mut Screen)
-    requires order { first ≤ end }
-    requires inside { end ≤ 25 }
-    ensures shown { shown.new ≡ spec.with_lines first end from.now shown.old }
-    ensures printed { IsPrinted from.now → IsPrinted shown.old → IsPrinted shown.new }
-{
-    // Both are called for their clauses.
-    shown.is_whole();
-    from.is_whole();
-    for line in first..end {
-        shown.put(line, 0, from.line(line));
-    }
-}
-
-// Shows the lines of an area that stands still.
-fn show_area(held: &Option<Screen>, first: u8, end: u8, shown: &mut Screen)
-    requires order { first ≤ end }
-    requires inside { end ≤ 25 }
-    ensures shown { shown.new ≡ spec.with_area first end held.now shown.old }
-    ensures printed { spec.ArePrinted held.now → IsPrinted shown.old → IsPrinted shown.new }
-{
-    match held {
-        Some(screen) => show_lines(screen, first, end, shown),
-        None => {}
+        if is_held {
+            *held = None;
+        }
+    } else if !is_held {
+        *held = Some(*before);
     }
 }
 
@@ -79,11 +54,34 @@ impl Frozen {
         }
     }
 
-    /// Whether nothing stands still.
-    pub fn is_none(&self) -> bool
-        ensures { result ≡ true → self.now ≡ unfrozen }
+    /// Which areas stand still.
+    pub fn still(&self) -> Still
+        ensures { result ≡ spec.still_of self.now }
     {
-        self.panel.is_none() && self.windows.is_none()
+        Still {
+            panel: self.panel.is_some(),
+            windows: self.windows.is_some(),
+        }
+    }
+
+    /// The screen as which a line stands still, if it does.
+    pub fn held_at(&self, line: u8) -> Option<&Screen>
+        ensures { option_copied result ≡ spec.held_at self.now line }
+    {
+        if line < 3 {
+            self.panel.as_ref()
+        } else if line < 24 {
+            self.windows.as_ref()
+        } else {
+            None
+        }
+    }
+
+    /// No byte of what is held is below a space. It does nothing, and is called for its clause.
+    pub fn is_printed(&self)
+        ensures { spec.ArePrinted self.now.panel × spec.ArePrinted self.now.windows }
+    {
+        let _panel = &self.panel;
     }
 
     /// What is switched off stands still as this screen shows it, unless it does already; what is on doesn't.
@@ -91,19 +89,7 @@ impl Frozen {
         requires { IsPrinted before.now }
         ensures { self.new ≡ spec.frozen_after before.now switches self.old }
     {
-        self.panel = held_behind(switches.panel, before, self.panel);
-        self.windows = held_behind(switches.windows, before, self.windows);
-    }
-
-    /// A screen, but for the lines that stand still.
-    pub fn over(&self, painted: &Screen) -> Screen
-        requires { IsPrinted painted.now }
-        ensures screen { result ≡ spec.with_frozen self.now painted.now }
-        ensures printed { IsPrinted result }
-    {
-        let mut shown = *painted;
-        show_area(&self.panel, 0, 3, &mut shown);
-        show_area(&self.windows, 3, 24, &mut shown);
-        shown
+        hold(switches.panel, before, &mut self.panel);
+        hold(switches.windows, before, &mut self.windows);
     }
 }

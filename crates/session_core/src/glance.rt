@@ -1,8 +1,7 @@
 // Which lines of the screen may be others after a step.
-ghost use Rattle.std.specs.Prelude.{◌≡◌, ◌≤◌, ◌<◌, ◌+◌, ◌-◌, ℕ, false, true, is_some, slice_get, Some};
+ghost use Rattle.std.specs.Prelude.{◌≡◌, ◌≤◌, ◌<◌, ℕ, false, true, is_some, slice_get, Some};
 ghost use Rattle.control_panel.specs.declared.panel.Mode.TheVariants.{Ready};
-ghost use Rattle.session_core.specs.Glances.{IsKept};
-ghost use Rattle.session_core.specs.Touches.{touches_row};
+ghost use Rattle.session_core.specs.Glances.{IsKept, KeepsRow, Stays};
 
 use crate::rows::{FOOT, insert_rows};
 use crate::touched::Touched;
@@ -34,11 +33,19 @@ pub struct Foot {
     pub marks: Marks,
 }
 
-/// What the lines of the screen hang on beside the cells and the line that is typed: the cell at the top left, the mode
-/// in READY and while a line is typed, and what the last line then shows.
+/// Which areas of the screen stand still: lines 0 to 2 are the panel's, and 3 to 23 the windows'.
+#[derive(Clone, Copy)]
+pub struct Still {
+    pub panel: bool,
+    pub windows: bool,
+}
+
+/// What the lines of the screen hang on beside the cells and the line that is typed: the cell at the top left, which
+/// areas stand still, the mode in READY and while a line is typed, and what the last line then shows.
 #[derive(Clone, Copy)]
 pub struct Glance {
     pub corner: Cell,
+    pub still: Still,
     pub mode: Option<Mode>,
     pub foot: Foot,
 }
@@ -99,13 +106,24 @@ fn insert_unless(kept: bool, line: u8, lines: &mut LineSet)
     }
 }
 
+// Whether the lines of an area are the same that stood still before and after a step or didn't, where else this tells
+// whether they are.
+fn stays(before: bool, after: bool, kept: bool) -> bool
+    ensures { result ≡ true → Stays before after (kept ≡ true) }
+{
+    after || (!before && kept)
+}
+
 // The lines of the rows that may be others.
-fn row_lines(touched: Touched, before: Cell, after: Cell) -> LineSet
+fn row_lines(touched: Touched, before: &Glance, after: &Glance) -> LineSet
     ensures { (n : ℕ) → 4 ≤ n → n < 24 → slice_get result n ≡ Some false →
-        (touches_row touched before.row (before.row + (n - 4)) ≡ false) × (after ≡ before) }
+        Stays before.now.still.windows after.now.still.windows (KeepsRow touched before.now after.now n) }
 {
     let mut lines = LineSet::none();
-    if after != before {
+    if after.still.windows {
+        return lines;
+    }
+    if before.still.windows || after.corner != before.corner {
         insert_rows(&mut lines);
         return lines;
     }
@@ -124,12 +142,20 @@ fn row_lines(touched: Touched, before: Cell, after: Cell) -> LineSet
 pub fn changed_lines(touched: Touched, before: &Glance, after: &Glance) -> LineSet
     ensures { (n : ℕ) → slice_get result n ≡ Some false → IsKept touched before.now after.now n }
 {
-    let pointer = keeps_pointer(&touched, before, after);
-    let letters = keeps_letters(&touched, before, after);
-    let mut lines = row_lines(touched, before.corner, after.corner);
+    let was = before.still;
+    let now = after.still;
+    let pointer = stays(was.panel, now.panel, keeps_pointer(&touched, before, after));
+    let typed = stays(was.panel, now.panel, keeps_typed(before, after));
+    let below = stays(was.panel, now.panel, are_plain(before, after));
+    let letters = stays(
+        was.windows,
+        now.windows,
+        keeps_letters(&touched, before, after),
+    );
+    let mut lines = row_lines(touched, before, after);
     insert_unless(pointer, 0, &mut lines);
-    insert_unless(keeps_typed(before, after), 1, &mut lines);
-    insert_unless(are_plain(before, after), 2, &mut lines);
+    insert_unless(typed, 1, &mut lines);
+    insert_unless(below, 2, &mut lines);
     insert_unless(letters, 3, &mut lines);
     insert_unless(keeps_foot(before, after), FOOT, &mut lines);
     lines

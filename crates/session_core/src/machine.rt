@@ -9,11 +9,10 @@ ghost use Rattle.session_core.specs.Carrying.{acted, asked, carried, editing, en
 ghost use Rattle.session_core.specs.Carrying.{is_pointer_protected, looking, recalculated, settling, started, told, writing};
 ghost use Rattle.session_core.specs.Frozen.{switches_of};
 ghost use Rattle.session_core.specs.Machine.{begun_with, in_room, pointer_of, pointing_at, scene_at, sheet_of};
-ghost use Rattle.session_core.specs.Machine.{unfrozen, wants_key, with_macro};
+ghost use Rattle.session_core.specs.Machine.{wants_key, with_macro};
 ghost use Rattle.session_core.specs.Machine.{Leads, LeadsBy, LeadsOver};
 ghost use Rattle.session_core.specs.Moving.{IsMoved, OnlyMoves, OnlyMovesBy, OnlyMovesByKey};
 ghost use Rattle.session_core.specs.Moving.{OnlyMovesByPress, OnlyMovesGiven};
-ghost use Rattle.session_core.specs.Screen.{painted_screen, screen};
 ghost use Rattle.session_core.specs.Step.{answered, come_to, event_taken, framed, given, is_key};
 ghost use Rattle.session_core.specs.Step.{loaded, pressed_key, taken};
 ghost use Rattle.session_core.specs.Touches.{touches_row, HasTouched, Settles};
@@ -142,22 +141,6 @@ impl Machine {
         ensures { result ≡ wants_key self.now.state }
     {
         !self.engine.is_running() || self.engine.awaits_key()
-    }
-
-    /// Whether a part of the screen stands still; where none does, nothing is held.
-    pub fn is_frozen(&self) -> bool
-        ensures { result ≡ false → self.now.state.frozen ≡ unfrozen }
-    {
-        !self.frozen.is_none()
-    }
-
-    /// The screen, by how it is painted: but for the lines that stand still.
-    pub fn over(&self, painted: &Screen) -> Screen
-        requires painted { painted.now ≡ painted_screen self.now.state }
-        ensures screen { result ≡ screen self.now.state }
-        ensures printed { IsPrinted (screen self.now.state) }
-    {
-        self.frozen.over(painted)
     }
 
     /// How many formulas were evaluated; the count stays at the last u64.
@@ -574,29 +557,27 @@ impl Machine {
         ensures memory { OnErr result (HasBrokenOff
             (shelf_view (S.holds shelf.old) (S.faults shelf.old))
             (shelf_view (S.holds shelf.new) (S.faults shelf.new))) }
-        ensures touched { IfOk result (λ t. t.touched ≡ Touched.Anything) }
+        ensures touched { IfOk result (λ t. HasTouched t.touched self.old.state self.new.state) }
     {
         match end {
-            StepEnd::Types(key) => {
-                let taken = self.take(key, now, shelf)?;
-                Ok(Taken {
-                    touched: Touched::Anything,
-                    ends: taken.ends,
-                })
-            }
-            StepEnd::Works => Ok(WORKED),
+            StepEnd::Types(key) => self.take(key, now, shelf),
+            StepEnd::Moves => Ok(UNTOUCHED),
+            StepEnd::Works => Ok(UNTOUCHED),
             StepEnd::Indicates(text) => {
                 self.show_in_place(&text);
-                Ok(WORKED)
+                Ok(UNTOUCHED)
             }
             StepEnd::Faulty(fault, cell) => {
                 self.tell(fault_message(fault, cell));
-                Ok(WORKED)
+                Ok(UNTOUCHED)
             }
             StepEnd::Refused(cell) => {
                 let scene = self.scene(now);
-                self.fail(CommandError::Protected(cell), &scene)?;
-                Ok(WORKED)
+                let touched = self.fail(CommandError::Protected(cell), &scene)?;
+                Ok(Taken {
+                    touched,
+                    ..UNTOUCHED
+                })
             }
         }
     }
@@ -615,7 +596,9 @@ impl Machine {
         let end = self
             .engine
             .step(&mut self.desk.sheet, &scene, &mut self.tally)?;
-        self.come_to(end, now, shelf)
+        let is_left = end.leaves_sheet();
+        let taken = self.come_to(end, now, shelf)?;
+        Ok(taken.behind(is_left))
     }
 
     // The macro that waits takes a key; what the session is doing stays.
@@ -633,7 +616,9 @@ impl Machine {
         let end = self
             .engine
             .answer(key, &mut self.desk.sheet, &scene, &mut self.tally)?;
-        self.come_to(end, now, shelf)
+        let is_left = end.leaves_sheet();
+        let taken = self.come_to(end, now, shelf)?;
+        Ok(taken.behind(is_left))
     }
 
     // BREAK stops the macro that runs, unless it has switched BREAK off.

@@ -1,13 +1,12 @@
 // A session, step by step.
-ghost use Rattle.std.specs.Prelude.{◌≡◌, ℕ, List, OnErr, OnOk, false, true};
-ghost use Rattle.std.specs.Option.{unwrap_or};
+ghost use Rattle.std.specs.Prelude.{◌≡◌, OnErr, OnOk, false, true};
 ghost use Rattle.command_desk.specs.Desks.{of_desk};
 ghost use Rattle.commands_file.specs.Calls.{shelf_view, HasBrokenOff};
 ghost use Rattle.screen_show.specs.Changes.{Unchanged};
 ghost use Rattle.screen_show.specs.Screen.{IsScreen, IsPrinted};
 ghost use Rattle.session_core.specs.Machine.{begun, sheet_of, wants_key, Follows};
 ghost use Rattle.session_core.specs.Moving.{IsMoved, OnlyMovesBy};
-ghost use Rattle.session_core.specs.Screen.{painted_screen, screen, HasPainted};
+ghost use Rattle.session_core.specs.Screen.{screen};
 ghost use Rattle.session_core.specs.Step.{is_key, loaded, HasTakenStep};
 ghost use Rattle.work_sheet.specs.Did.{work_of};
 
@@ -19,17 +18,13 @@ use outside_world::{Memory, Shelf};
 use screen_show::{LineSet, Screen};
 use serial_date::Moment;
 use std::marker::Model;
-use std::mem;
 
 /// A session: the worksheet, the pointer, and what is being typed, pointed at or asked for. It keeps its screen, and
 /// paints anew what a step may change.
 #[derive(Drop)]
 pub struct Session {
     machine: Machine,
-    // the screen as if nothing stood still
-    painted: Screen,
-    // the screen that is shown, where something stands still
-    over: Option<Screen>,
+    shown: Screen,
     spent: bool,
 }
 
@@ -39,7 +34,7 @@ impl Model for Session {
     ghost use Rattle.std.specs.FinMap as map;
     ghost use Rattle.std.specs.Prelude.{◌≡◌, false};
     ghost use Rattle.session_core.specs.Machine.{SessionView};
-    ghost use Rattle.session_core.specs.Screen.{HasPainted};
+    ghost use Rattle.session_core.specs.Screen.{HasShown};
 
     ghost Value = { SessionView };
 
@@ -47,40 +42,7 @@ impl Model for Session {
 
     ghost view = { λ a. record { state = a.machine.state; work = a.machine.work; spent = a.spent } };
 
-    ghost invariant = { λ a. a.spent ≡ false → HasPainted a.machine.state a.painted a.over };
-}
-
-// The screen that is shown, where something stands still.
-fn shown_over(machine: &Machine, painted: &Screen) -> Option<Screen>
-    requires { painted.now ≡ painted_screen machine.now.state }
-    ensures { HasPainted machine.now.state painted.now result }
-{
-    if machine.is_frozen() {
-        Some(machine.over(painted))
-    } else {
-        None
-    }
-}
-
-// The screen that is shown.
-fn shown_of<'a>(over: &'a Option<Screen>, painted: &'a Screen) -> &'a Screen
-    ensures { result.now ≡ unwrap_or over.now painted.now }
-{
-    match over {
-        Some(shown) => shown,
-        None => painted,
-    }
-}
-
-// All lines are in the set where another screen is shown in the place of one that is painted.
-fn widen(over: &Option<Screen>, lines: &mut LineSet)
-    ensures before { (a b : List (List ℕ)) → Unchanged lines.old a b → Unchanged lines.new (unwrap_or over.now a) b }
-    ensures after { (a b : List (List ℕ)) → Unchanged lines.old a b → Unchanged lines.new a (unwrap_or over.now b) }
-{
-    match over {
-        Some(_) => *lines = LineSet::all(),
-        None => {}
-    }
+    ghost invariant = { λ a. a.spent ≡ false → HasShown a.machine.state a.shown };
 }
 
 impl Session {
@@ -89,12 +51,10 @@ impl Session {
         ensures { result ≡ begun (of_desk desk) (work_of desk.sheet 0) }
     {
         let machine = Machine::new(desk);
-        let painted = machine.paint();
-        let over = shown_over(&machine, &painted);
+        let shown = machine.paint();
         Session {
             machine,
-            painted,
-            over,
+            shown,
             spent: false,
         }
     }
@@ -107,8 +67,7 @@ impl Session {
     {
         match self.machine.load(now) {
             Ok(()) => {
-                self.painted = self.machine.paint();
-                self.over = shown_over(&self.machine, &self.painted);
+                self.shown = self.machine.paint();
                 Ok(())
             }
             Err(Memory) => {
@@ -174,15 +133,10 @@ impl Session {
         match self.machine.take_event(event, now, shelf) {
             Ok(taken) => {
                 let stepped = Stepped::of(taken.ends);
-                self.machine
-                    .follow(now, shown_of(&self.over, &self.painted));
+                self.machine.follow(now, &self.shown);
                 let after = self.machine.glance();
                 *changed = changed_lines(taken.touched, &before, &after);
-                self.machine.paint_lines(changed, &mut self.painted);
-                let over = shown_over(&self.machine, &self.painted);
-                let was = mem::replace(&mut self.over, over);
-                widen(&was, changed);
-                widen(&self.over, changed);
+                self.machine.paint_lines(changed, &mut self.shown);
                 stepped
             }
             Err(Memory) => {
@@ -199,9 +153,8 @@ impl Session {
         ensures shape { IsScreen (screen self.now.state) }
         ensures printed { IsPrinted (screen self.now.state) }
     {
-        let shown = shown_of(&self.over, &self.painted);
         // It is called for its clause.
-        shown.is_whole();
-        shown
+        self.shown.is_whole();
+        &self.shown
     }
 }

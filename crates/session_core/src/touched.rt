@@ -41,3 +41,17 @@ pub struct Taken {
     pub touched: Touched,
     pub ends: bool,
 }
+
+impl Taken {
+    // The same behind a step that left the sheet, or may have touched anything.
+    pub(crate) fn behind(mut self, is_left: bool) -> Taken
+        ensures ends { result.ends ≡ self.ends }
+        ensures left { is_left ≡ true → result.touched ≡ self.touched }
+        ensures worked { is_left ≡ false → result.touched ≡ Touched.Anything }
+    {
+        if !is_left {
+            self.touched = Touched::Anything;
+        }
+        self
+    }
+}

@@ -1,16 +1,16 @@
 // What is painted of a session.
-ghost use Rattle.std.specs.Prelude.{◌≡◌, IfSome};
+ghost use Rattle.std.specs.Prelude.{◌≡◌, ◌≤◌, IfSome, [], get_or, slice_set};
 ghost use Rattle.screen_layout.specs.Views.{viewed};
 ghost use Rattle.screen_show.specs.Changes.{Unchanged};
 ghost use Rattle.session_core.specs.Glances.{glance_of, is_plain, marks_of, minute_of, told_plainly};
-ghost use Rattle.session_core.specs.Screen.{painted_screen, shown_panel};
+ghost use Rattle.session_core.specs.Screen.{panel_of, screen, shown_panel, HasShown};
 
 use super::Machine;
 use crate::glance::{Foot, Glance, Marks, Minute};
 use crate::pressing::{plain_mode, plain_view, room_panel};
 use crate::waiting::{shows_waiting, waiting_panel};
 use control_panel::{Mode, Panel};
-use screen_layout::{PanelView, paint_lines, wants_recalculation};
+use screen_layout::{PanelView, line_at, wants_recalculation};
 use screen_show::{LineSet, Screen};
 use serial_date::Moment;
 
@@ -63,6 +63,7 @@ impl Machine {
     {
         Glance {
             corner: self.corner,
+            still: self.frozen.still(),
             mode: self.plain_mode(),
             foot: Foot {
                 minute: self.minute(),
@@ -71,11 +72,41 @@ impl Machine {
         }
     }
 
+    // Paints a line of the screen, or shows it as it is held where it stands still.
+    fn paint_line(&self, panel: &PanelView, line: u8, shown: &mut Screen)
+        requires panel { viewed panel.now ≡ panel_of self.now.state }
+        requires inside { line ≤ 24 }
+        ensures { shown.new ≡ slice_set shown.old line (get_or (screen self.now.state) line []) }
+    {
+        match self.frozen.held_at(line) {
+            Some(held) => shown.put(line, 0, held.line(line)),
+            None => {
+                let painted = line_at(&self.desk.sheet, panel, self.corner, &self.moment, line);
+                shown.set_line(line, painted);
+            }
+        }
+    }
+
+    // Paints lines of the screen with a panel.
+    fn paint_panel(&self, panel: &PanelView, lines: &LineSet, shown: &mut Screen)
+        requires panel { viewed panel.now ≡ panel_of self.now.state }
+        requires unchanged { Unchanged lines.now shown.old (screen self.now.state) }
+        ensures { shown.new ≡ screen self.now.state }
+    {
+        // It is called for its clause.
+        shown.is_whole();
+        let mut line = lines.next_from(0);
+        while line < 25 {
+            self.paint_line(panel, line, shown);
+            line = lines.next_from(line + 1);
+        }
+    }
+
     // Paints lines of the screen with what is shown of the room.
     fn paint_with(&self, room: PanelView, lines: &LineSet, shown: &mut Screen)
         requires view { viewed room ≡ shown_panel self.now.state }
-        requires unchanged { Unchanged lines.now shown.old (painted_screen self.now.state) }
-        ensures { shown.new ≡ painted_screen self.now.state }
+        requires unchanged { Unchanged lines.now shown.old (screen self.now.state) }
+        ensures { shown.new ≡ screen self.now.state }
     {
         let mut panel = PanelView {
             mode: room.mode,
@@ -91,14 +122,7 @@ impl Machine {
         };
         panel.end = self.end;
         panel.running = self.engine.is_running();
-        paint_lines(
-            &self.desk.sheet,
-            &panel,
-            self.corner,
-            &self.moment,
-            lines,
-            shown,
-        );
+        self.paint_panel(&panel, lines, shown);
     }
 
     // The panel of the macro's line or menu, or else of the room.
@@ -122,21 +146,22 @@ impl Machine {
         }
     }
 
-    /// Paints the lines of a set over a screen that has the others in common with the session's, as if nothing stood
-    /// still.
+    /// Paints the lines of a set over a screen that has the others in common with the session's.
     pub fn paint_lines(&self, lines: &LineSet, shown: &mut Screen)
-        requires { Unchanged lines.now shown.old (painted_screen self.now.state) }
-        ensures { shown.new ≡ painted_screen self.now.state }
+        requires { Unchanged lines.now shown.old (screen self.now.state) }
+        ensures { HasShown self.now.state shown.new }
     {
+        // It is called for its clause.
+        self.frozen.is_printed();
         match self.plain_view() {
             Some(view) => self.paint_with(view, lines, shown),
             None => self.paint_with(PanelView::of(&self.shown_panel()), lines, shown),
         }
     }
 
-    /// The screen as if nothing stood still, painted from nothing.
+    /// The screen, painted from nothing.
     pub fn paint(&self) -> Screen
-        ensures { result ≡ painted_screen self.now.state }
+        ensures { HasShown self.now.state result }
     {
         let mut shown = Screen::empty();
         self.paint_lines(&LineSet::all(), &mut shown);

@@ -1,24 +1,30 @@
-use Rattle.std.proofs.Common.{rules}
+use Rattle.std.proofs.Common.{◌≡◌, rules, sym, ◌∙◌}
 use Rattle.commands_file.proofs.Broken.{none_broken, on_err}
 use Rattle.macro_engine.specs.Keys.{key_step}
-use Rattle.session_core.proofs.Alone.{ok_map}
-use Rattle.session_core.proofs.Stepping.{answered_over, stepped_over, unmarked}
-use Rattle.session_core.proofs.Touching.{anything_touches}
+use Rattle.session_core.proofs.Stepping.{answered_over, ends_as, stepped_over, unmarked}
+use Rattle.session_core.proofs.Touching.{touches_behind}
+use Rattle.work_sheet.specs.Seen.{of_worksheet}
+use Rattle.session_core.specs.Machine.{sheet_of}
+use Rattle.session_core.specs.Step.{answered}
+use Rattle.macro_engine.proofs.Stepping.{key_leaves, stepped_leaves}
 use Rattle.session_core.proofs.machine.Machine.answer.Goals as goal
 
 -- what follows by the step's end leads on from the sheet and the macro that it leaves
 pub returns-clause-ok : goal.returns-clause-ok
 returns-clause-ok g c =
-    ok_map c.come_to.result
-    (λ t l. answered_over c.args.key c.args.now.now t.ends c.args.self.now c.come_to.new.self _ _
-    (stepped_over (λ scene. key_step scene c.args.key) c.args.now.now t.ends (unmarked c.args.self.now) _ c.come_to.new.self c.scene-scene.result c.self.inside.engine c.answer.new.self _
+    ends_as (answered c.args.key) c.args.now.now _ _ c.args.self.now c.come_to.new.self _ _ c.behind.ensures.ends
+    (answered_over c.args.key c.args.now.now _ c.args.self.now c.come_to.new.self _ _
+    (stepped_over (λ scene. key_step scene c.args.key) c.args.now.now _ (unmarked c.args.self.now) _ c.come_to.new.self c.scene-scene.result c.self.inside.engine c.answer.new.self _
     c.self.inside.desk.sheet c.answer.new.sheet c.self.inside.tally.count c.answer.new.tally.count _ _
-    c.scene-scene.ensures (search rules) (search rules) (search rules) (search rules) (search rules) c.in_ok-end.ensures.step l))
-    c.come_to.ensures.ok
+    c.scene-scene.ensures (search rules) (search rules) (search rules) (search rules) (search rules) c.in_ok-end.ensures.step c.in_ok-taken.ensures.ok))
 
--- a macro's step may have touched anything
+-- where the step left the sheet, what follows touched alone counts
 pub returns-clause-touched : goal.returns-clause-touched
-returns-clause-touched g c = ok_map c.come_to.result (λ t any. anything_touches t.touched _ _ _ any) c.come_to.ensures.touched
+returns-clause-touched g c =
+    let was : of_worksheet c.self.inside.desk.sheet ≡ sheet_of c.args.self.now.state = search rules in
+    touches_behind _ _ _ _ _ _ _ _
+    (λ h. stepped_leaves _ _ _ c.self.inside.desk.sheet c.answer.new.sheet _ _ (key_leaves _ c.args.key _ _) c.in_ok-end.ensures.step (sym c.leaves_sheet-is_left.ensures ∙ h) ∙ was)
+    (search rules) c.behind.ensures.left c.behind.ensures.worked c.in_ok-taken.ensures.touched
 
 -- no call was made of the shelf
 pub returns-in_err-end-clause-memory : goal.returns-in_err-end-clause-memory

@@ -5,6 +5,9 @@ use Rattle.session_core.proofs.Alone.{alone}
 use Rattle.session_core.proofs.Failing.{failed_calls}
 use Rattle.session_core.proofs.machine.Machine.come_to.Goals as goal
 
+pub returns-in-Moves-clause-ok : goal.returns-in-Moves-clause-ok
+returns-in-Moves-clause-ok g c = rw c.in-Moves.is (alone _ _ _ _ _ _ (search rules) refl)
+
 pub returns-in-Works-clause-ok : goal.returns-in-Works-clause-ok
 returns-in-Works-clause-ok g c = rw c.in-Works.is (alone _ _ _ _ _ _ (search rules) refl)
 
@@ -14,10 +17,10 @@ returns-in-Indicates-clause-ok g c = rw c.in-Indicates.is (alone _ _ _ _ _ _ (se
 pub returns-in-Faulty-clause-ok : goal.returns-in-Faulty-clause-ok
 returns-in-Faulty-clause-ok g c = rw c.in-Faulty.is (alone _ _ _ _ _ _ (search rules) refl)
 
-pub returns-in_ok-fail-in-Refused-clause-ok : goal.returns-in_ok-fail-in-Refused-clause-ok
-returns-in_ok-fail-in-Refused-clause-ok g c =
+pub returns-in_ok-touched-in-Refused-clause-ok : goal.returns-in_ok-touched-in-Refused-clause-ok
+returns-in_ok-touched-in-Refused-clause-ok g c =
     rw c.in-Refused.is (alone _ _ _ _ _ _ (search rules) (failed_calls _ (scene_at c.args.self.now.state c.args.now.now) c.args.self.now.state))
 
 -- no call was made of the shelf
-pub returns-in_err-fail-in-Refused-clause-memory : goal.returns-in_err-fail-in-Refused-clause-memory
-returns-in_err-fail-in-Refused-clause-memory g c = on_err _ (none_broken _ _)
+pub returns-in_err-touched-in-Refused-clause-memory : goal.returns-in_err-touched-in-Refused-clause-memory
+returns-in_err-touched-in-Refused-clause-memory g c = on_err _ (none_broken _ _)

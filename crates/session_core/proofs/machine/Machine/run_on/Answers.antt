@@ -1,23 +1,29 @@
-use Rattle.std.proofs.Common.{rules}
+use Rattle.std.proofs.Common.{◌≡◌, rules, sym, ◌∙◌}
 use Rattle.commands_file.proofs.Broken.{none_broken, on_err}
 use Rattle.macro_engine.specs.Steps.{macro_step}
-use Rattle.session_core.proofs.Alone.{ok_map}
-use Rattle.session_core.proofs.Stepping.{stepped_over}
-use Rattle.session_core.proofs.Touching.{anything_touches}
+use Rattle.session_core.proofs.Stepping.{ends_as, stepped_over}
+use Rattle.session_core.proofs.Touching.{touches_behind}
+use Rattle.work_sheet.specs.Seen.{of_worksheet}
+use Rattle.session_core.specs.Machine.{sheet_of}
+use Rattle.session_core.specs.Step.{run_on}
+use Rattle.macro_engine.proofs.Stepping.{macro_leaves, stepped_leaves}
 use Rattle.session_core.proofs.machine.Machine.run_on.Goals as goal
 
 -- what follows by the step's end leads on from the sheet and the macro that it leaves
 pub returns-clause-ok : goal.returns-clause-ok
 returns-clause-ok g c =
-    ok_map c.come_to.result
-    (λ t l. stepped_over macro_step c.args.now.now t.ends c.args.self.now _ c.come_to.new.self c.scene-scene.result c.self.inside.engine c.step.new.self _
+    ends_as run_on c.args.now.now _ _ c.args.self.now c.come_to.new.self _ _ c.behind.ensures.ends
+    (stepped_over macro_step c.args.now.now _ c.args.self.now _ c.come_to.new.self c.scene-scene.result c.self.inside.engine c.step.new.self _
     c.self.inside.desk.sheet c.step.new.sheet c.self.inside.tally.count c.step.new.tally.count _ _
-    c.scene-scene.ensures (search rules) (search rules) (search rules) (search rules) (search rules) c.in_ok-end.ensures.step l)
-    c.come_to.ensures.ok
+    c.scene-scene.ensures (search rules) (search rules) (search rules) (search rules) (search rules) c.in_ok-end.ensures.step c.in_ok-taken.ensures.ok)
 
--- a macro's step may have touched anything
+-- where the step left the sheet, what follows touched alone counts
 pub returns-clause-touched : goal.returns-clause-touched
-returns-clause-touched g c = ok_map c.come_to.result (λ t any. anything_touches t.touched _ _ _ any) c.come_to.ensures.touched
+returns-clause-touched g c =
+    let was : of_worksheet c.self.inside.desk.sheet ≡ sheet_of c.args.self.now.state = search rules in
+    touches_behind _ _ _ _ _ _ _ _
+    (λ h. stepped_leaves _ _ _ c.self.inside.desk.sheet c.step.new.sheet _ _ (macro_leaves _ _ _) c.in_ok-end.ensures.step (sym c.leaves_sheet-is_left.ensures ∙ h) ∙ was)
+    (search rules) c.behind.ensures.left c.behind.ensures.worked c.in_ok-taken.ensures.touched
 
 -- no call was made of the shelf
 pub returns-in_err-end-clause-memory : goal.returns-in_err-end-clause-memory
