@@ -1,1 +1,2 @@
+mod OneSheet
 mod Putting

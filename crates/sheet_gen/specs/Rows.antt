@@ -1,16 +1,19 @@
 -- The generated worksheet: in each of its rows a number, its triple, and the sum of the triples so far.
-use Rattle.std.specs.Prelude.{ℕ, ◌+◌, ◌*◌, ◌%◌, ◌==◌, nat_lt, ℤ, pos, Option, Some, None, if◌then◌else◌}
+use Rattle.std.specs.Prelude.{◌≡◌, ℕ, ◌+◌, ◌*◌, ◌%◌, ◌==◌, nat_lt, ℤ, pos, Option, Some, None, if◌then◌else◌, false, replicate}
+use Rattle.std.specs.FinMap as map
 use Rattle.formula_tree.specs.Tree.{Tree, num, cell, binary}
 use Rattle.formula_tree.specs.declared.ast.Op.TheVariants.{Add, Mul}
 use Rattle.formula_tree.specs.declared.value.Content.TheVariants as content
 use Rattle.formula_tree.specs.declared.value.Value.TheVariants as value
 use Rattle.grid_address.specs.Axes.{Reference}
 use Rattle.grid_address.specs.Formats.{default_format}
-use Rattle.grid_address.specs.Limits.{LAST_COLUMN, LAST_ROW}
+use Rattle.grid_address.specs.Limits.{COLUMNS, LAST_COLUMN, LAST_ROW}
 use Rattle.grid_address.specs.declared.format.Format.{Format}
 use Rattle.grid_address.specs.declared.reference.Axis.TheVariants.{Offset}
 use Rattle.grid_address.specs.Place.{Place}
+use Rattle.sheet_store.specs.Choices.{fresh}
 use Rattle.sheet_store.specs.State.{CellState}
+use Rattle.sheet_store.specs.declared.writes.SavedSheet.{SavedSheet}
 
 -- a whole number, in millionths
 abbrev pub whole : ℕ → ℤ
@@ -59,6 +62,14 @@ in_row row col other =
 -- the cells of a worksheet of so many rows
 abbrev pub generated : ℕ → Place → Option CellState
 generated rows p = if nat_lt p.row rows then in_row p.row p.col None else None
+
+-- the worksheet of so many rows: its cells, and all else as in a fresh one
+pub record IsGenerated (rows : ℕ) (s : SavedSheet) : Type 0 where
+  pub cells : (p : Place) → map.get s.store.cells p ≡ generated rows p
+  pub widths : s.store.widths ≡ replicate COLUMNS 0
+  pub hidden : s.store.hidden ≡ replicate COLUMNS false
+  pub names : s.names ≡ map.empty
+  pub settings : s.settings ≡ fresh
 
 -- a cell after a row was put in
 abbrev pub with_row : ℕ → Place → Option CellState → Option CellState

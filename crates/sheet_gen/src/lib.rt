@@ -1,11 +1,9 @@
 //! A worksheet that is made by a rule, for trials with many rows.
 #![tactic(auto)]
 
-ghost use Rattle.std.specs.Prelude.{◌≡◌, ◌≤◌, IfOk, replicate, false};
-ghost use Rattle.std.specs.FinMap as map;
-ghost use Rattle.grid_address.specs.Place.{Place};
-ghost use Rattle.sheet_store.specs.Choices.{fresh};
-ghost use Rattle.sheet_gen.specs.Rows.{generated};
+ghost use Rattle.std.specs.Prelude.{◌≡◌, ◌≤◌, ℕ, IfOk};
+ghost use Rattle.sheet_store.specs.declared.writes.SavedSheet.{SavedSheet};
+ghost use Rattle.sheet_gen.specs.Rows.{IsGenerated};
 
 mod rows;
 
@@ -22,11 +20,7 @@ use std::alloc::Global;
 pub fn generate(alloc: Global, rows: u16) -> Result<SavedSheet, Memory>
     requires some { 1 ≤ rows }
     requires most { rows ≤ 8000 }
-    ensures cells { IfOk result (λ s. (p : Place) → map.get s.store.cells p ≡ generated rows p) }
-    ensures widths { IfOk result (λ s. s.store.widths ≡ replicate 256 0) }
-    ensures hidden { IfOk result (λ s. s.store.hidden ≡ replicate 256 false) }
-    ensures names { IfOk result (λ s. s.names ≡ map.empty) }
-    ensures settings { IfOk result (λ s. s.settings ≡ fresh) }
+    ensures { IfOk result (IsGenerated rows) }
 {
     let mut store = Store::new(alloc);
     for row in 0..rows {
@@ -38,3 +32,8 @@ pub fn generate(alloc: Global, rows: u16) -> Result<SavedSheet, Memory>
         settings: Settings::fresh(),
     })
 }
+
+/// There is one worksheet of so many rows.
+pub fn one_sheet_is_generated()
+    ensures { (rows : ℕ) (s t : SavedSheet) → IsGenerated rows s → IsGenerated rows t → s ≡ t }
+{}
