@@ -8,8 +8,8 @@ CLOCK is the library that scripts/clock.c makes. A line of worked/host has the p
 and then, each behind a tab, what is stated of the host:
     keys=fail           behind the keys a read fails
     screens=N, notes=N  there is room for so many bytes, and a write of more fails
-    clock=MOMENT,..     the moments that the clock tells, as 1987-06-01T14:05:00, of which the last is repeated; `none` is a failed reading,
-                        and so are all where no clock is stated
+    clock=MOMENT,..     the moments that the clock tells, as 1987-06-01T14:05:00, or with *N behind it N times, of which the last is
+                        repeated; `none` is a failed reading, and so are all where no clock is stated
     NAME=WHAT           what stands in the folder under a name, as `read_entry` reads it
     N NAME=WHAT         the same, from when the screens of the first N bytes of the keys are there"""
 import datetime
@@ -92,6 +92,12 @@ def read_reading(text):
     return None if text == 'none' else datetime.datetime.fromisoformat(text)
 
 
+def read_readings(text):
+    """A reading, as often as it comes."""
+    moment, _, times = text.partition('*')
+    return [read_reading(moment)] * int(times or 1)
+
+
 def read_host(line):
     """The run of a line."""
     options, keys, *fields = line.decode().split('\t')
@@ -103,7 +109,7 @@ def read_host(line):
         elif name in ('screens', 'notes'):
             room[name] = int(what)
         elif name == 'clock':
-            clock = [read_reading(reading) for reading in what.split(',')]
+            clock = [reading for readings in what.split(',') for reading in read_readings(readings)]
         elif ' ' in name:
             count, name = name.split(' ')
             later = (int(count), name, read_entry(what))
