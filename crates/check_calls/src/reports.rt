@@ -4,7 +4,7 @@ use crate::stop::Stop;
 use crate::words::{Words, sum_of, worksheet_of, write_bytes};
 use grid_address::{Format, Span};
 use outside_world::ByteBuffer;
-use print_report::{PrintFault, PrintSettings, report};
+use print_report::{PrintFault, PrintSettings, PrintedSheet, report};
 use range_names::Names;
 use serial_date::Moment;
 use sheet_gen::generate;
@@ -138,7 +138,12 @@ impl ReportDesk {
         let range = words.span()?;
         let now = moment_in(&mut words)?;
         let set = settings_in(alloc, &mut words)?;
-        write_report(report(alloc, range, &set, &self.saved, &now), is_whole, out)
+        let sheet = PrintedSheet {
+            store: &self.saved.store,
+            names: &self.saved.names,
+            settings: &self.saved.settings,
+        };
+        write_report(report(alloc, range, &set, sheet, &now), is_whole, out)
     }
 
     /// Answers a line.

@@ -12,18 +12,22 @@ use desk_errors::CommandError;
 use formula_eval::Scene;
 use grid_address::Span;
 use outside_world::{ByteBuffer, Memory, Shelf};
-use print_report::{PrintFault, report};
+use print_report::{PrintFault, PrintedSheet, report};
 
 // The report of a range of the sheet.
 fn report_of(range: Span, desk: &Desk, scene: &Scene) -> Result<ByteBuffer, PrintFault>
     ensures { Gives result (report_of scene.entry.now (of_desk desk.now) range) }
 {
-    let saved = desk.sheet.snapshot()?;
+    let sheet = PrintedSheet {
+        store: desk.sheet.cells(),
+        names: desk.sheet.names(),
+        settings: desk.sheet.settings(),
+    };
     report(
         desk.sheet.alloc(),
         range,
         &desk.print.set,
-        &saved,
+        sheet,
         &scene.now,
     )
 }

@@ -1,5 +1,6 @@
 pub mod Banding
 pub mod Cutting
 pub mod Lining
+pub mod Masking
 pub mod Paging
 pub mod Parting

@@ -1,13 +1,15 @@
 // What a cell shows.
 ghost use Rattle.std.specs.Prelude.{◌≡◌, ◌≤◌, ◌++◌, ◌+◌, [], length, drop, unwrap_or};
 ghost use Rattle.print_report.specs.Cells.{cell_text};
+ghost use Rattle.print_report.specs.Jobs.{sheet_of};
 ghost use Rattle.shown_cells.specs.Cells.{padded};
 ghost use Rattle.shown_cells.specs.Parts.{fitting_text, shown_text};
 
+use crate::PrintedSheet;
 use byte_list::ByteList;
 use grid_address::Cell;
 use lics_text::{Line, MAX_LEN};
-use sheet_store::{MOST_WIDTH, SavedSheet};
+use sheet_store::MOST_WIDTH;
 use shown_cells::{Fitting, Shown, put_fitting, shown_in};
 
 /// A row of the report while it is put together.
@@ -63,18 +65,19 @@ fn add_shown<'a>(row: &mut Row, shown: &Shown<'a>, width: u8) -> &'a [u8]
 /// runs on into the next column.
 pub fn add_cell<'a>(
     row: &mut Row,
-    saved: &'a SavedSheet,
+    sheet: &PrintedSheet<'a>,
     cell: Cell,
     width: u8,
     over: &'a [u8],
 ) -> &'a [u8]
     requires width { width ≤ MOST_WIDTH }
     requires room { length row.old + width ≤ 255 }
-    ensures line { row.new ≡ row.old ++ padded width (unwrap_or (cell_text saved.now cell width) over.now) }
-    ensures rest { result.now ≡ drop width (unwrap_or (cell_text saved.now cell width) over.now) }
+    ensures line { row.new ≡ row.old ++ padded width (unwrap_or (cell_text (sheet_of sheet.now) cell width) over.now) }
+    ensures rest { result.now ≡ drop width (unwrap_or (cell_text (sheet_of sheet.now) cell width) over.now) }
 {
-    let state = saved.store.get(cell);
-    match shown_in(state, &saved.names, saved.settings.format, cell, width) {
+    let settings = sheet.settings;
+    let state = sheet.store.get(cell);
+    match shown_in(state, sheet.names, settings.format, cell, width) {
         Some(shown) => add_shown(row, &shown, width),
         None => add_text(row, over, width),
     }

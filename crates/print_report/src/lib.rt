@@ -10,6 +10,8 @@ mod printing;
 mod rows;
 mod running;
 mod settings;
+mod sheet;
 
 pub use printing::report;
 pub use settings::{PrintFault, PrintSettings};
+pub use sheet::PrintedSheet;

@@ -2,7 +2,8 @@
 ghost use Rattle.std.specs.Prelude.{◌≡◌, ◌≤◌, ◌<◌, ◌+◌, ◌*◌, ◌++◌, length, OnOk};
 ghost use Rattle.print_report.specs.Adding.{Adds};
 ghost use Rattle.print_report.specs.Bands.{bands, wide};
-ghost use Rattle.print_report.specs.Pages.{banded, page, page_count, page_rows, page_width, pages, printing, running_line};
+ghost use Rattle.print_report.specs.Jobs.{printed_by, sheet_of};
+ghost use Rattle.print_report.specs.Pages.{banded, page, page_count, page_rows, page_width, pages, running_line};
 
 use crate::PrintFault;
 use crate::bands::band_len;
@@ -18,8 +19,7 @@ const LIMIT: usize = 67_108_864;
 
 // Adds the line of a page's head or foot.
 fn put_edge(out: &mut ByteBuffer, job: &Job, number: u64, text: &[u8]) -> Result<(), Memory>
-    ensures { let p = printing job.now.set.now job.now.saved.now job.now.range job.now.moment.day in
-        OnOk result (out.new ≡ out.old ++ running_line p number text.now) }
+    ensures { OnOk result (out.new ≡ out.old ++ running_line (printed_by job.now) number text.now) }
 {
     let set = job.set;
     let width = set.right.saturating_sub(set.left);
@@ -36,10 +36,9 @@ fn put_page(
     rows: u8,
 ) -> Result<(), Memory>
     requires rows { rows ≡ page_rows job.now.set.now }
-    requires room { wide job.now.saved.now band.now ≤ 255 }
+    requires room { wide (sheet_of job.now.sheet) band.now ≤ 255 }
     requires row { row ≤ 4000000 }
-    ensures { let p = printing job.now.set.now job.now.saved.now job.now.range job.now.moment.day in
-        OnOk result (out.new ≡ out.old ++ page p band.now number row) }
+    ensures { OnOk result (out.new ≡ out.old ++ page (printed_by job.now) band.now number row) }
 {
     let set = job.set;
     put_empty_lines(out, set.top)?;
@@ -62,12 +61,11 @@ fn put_pages(
     count: u16,
 ) -> Result<(), PrintFault>
     requires rows { rows ≡ page_rows job.now.set.now }
-    requires room { wide job.now.saved.now band.now ≤ 255 }
+    requires room { wide (sheet_of job.now.sheet) band.now ≤ 255 }
     requires number { number ≤ 4000000 }
     requires count { count ≤ 8446 }
     requires size { length out.old ≤ 67108864 }
-    ensures { let p = printing job.now.set.now job.now.saved.now job.now.range job.now.moment.day in
-        Adds out.old (pages p band.now number job.now.range.first.row count) out.new result }
+    ensures { Adds out.old (pages (printed_by job.now) band.now number job.now.range.first.row count) out.new result }
 {
     let mut row = u32::from(job.range.first.row);
     for at in 0..count {
@@ -88,7 +86,7 @@ fn put_pages(
 fn page_count(job: &Job, rows: u8) -> u16
     requires some { 1 ≤ rows }
     requires rows { rows ≡ page_rows job.now.set.now }
-    ensures count { result ≡ page_count (printing job.now.set.now job.now.saved.now job.now.range job.now.moment.day) }
+    ensures count { result ≡ page_count (printed_by job.now) }
     ensures few { result ≤ 8446 }
 {
     (job.range.height() + u16::from(rows) - 1) / u16::from(rows)
@@ -105,8 +103,8 @@ pub fn put_bands(
     requires rows { rows ≡ page_rows job.now.set.now }
     requires columns { length columns.now ≤ 256 }
     requires size { length out.old ≤ 67108864 }
-    ensures { let p = printing job.now.set.now job.now.saved.now job.now.range job.now.moment.day in
-        Adds out.old (banded p 1 (bands job.now.saved.now (page_width job.now.set.now) columns.now)) out.new result }
+    ensures { let all = bands (sheet_of job.now.sheet) (page_width job.now.set.now) columns.now in
+        Adds out.old (banded (printed_by job.now) 1 all) out.new result }
 {
     let set = job.set;
     let width = set.right.saturating_sub(set.left);
@@ -114,7 +112,7 @@ pub fn put_bands(
     let mut number = 1;
     let mut rest = columns;
     while !rest.is_empty() {
-        let (band, behind) = rest.split_at(band_len(job.saved, width, rest));
+        let (band, behind) = rest.split_at(band_len(&job.sheet, width, rest));
         put_pages(out, job, band, number, rows, count)?;
         number += u64::from(count);
         rest = behind;

@@ -1,15 +1,15 @@
 // The report of a range.
 ghost use Rattle.std.specs.Prelude.{◌≡◌, ◌≤◌, false};
+ghost use Rattle.print_report.specs.Jobs.{sheet_of};
 ghost use Rattle.print_report.specs.Pages.{is_too_small, page_rows, printing, report, Gives};
 
 use crate::bands::columns_of;
 use crate::job::Job;
 use crate::pages::put_bands;
-use crate::{PrintFault, PrintSettings};
+use crate::{PrintFault, PrintSettings, PrintedSheet};
 use grid_address::Span;
 use outside_world::ByteBuffer;
 use serial_date::Moment;
-use sheet_store::SavedSheet;
 use std::alloc::Global;
 
 // Whether a page has no room for a row, or for a byte.
@@ -37,26 +37,26 @@ fn page_rows(set: &PrintSettings) -> u8
 /// `PageTooSmall` comes exactly where `top`, `bottom` and 6 are at least `length`, or `right` is at most `left`;
 /// otherwise `TooLong` comes exactly where the report would have more than 67,108,864 bytes. (This project's choice,
 /// after the manual.)
-pub fn report(
+pub fn report<'a>(
     alloc: Global,
     range: Span,
-    set: &PrintSettings,
-    saved: &SavedSheet,
+    set: &'a PrintSettings,
+    sheet: PrintedSheet<'a>,
     now: &Moment,
 ) -> Result<ByteBuffer, PrintFault>
-    ensures { Gives result (report (printing set.now saved.now range now.now.day)) }
+    ensures { Gives result (report (printing set.now (sheet_of sheet.entry) range now.now.day)) }
 {
     if is_too_small(set) {
         return Err(PrintFault::PageTooSmall);
     }
     let job = Job {
         set,
-        saved,
+        sheet,
         range,
         moment: *now,
     };
     let mut out = ByteBuffer::new(alloc);
-    let columns = columns_of(saved, range);
+    let columns = columns_of(&sheet, range);
     put_bands(&mut out, &job, columns.bytes(), page_rows(set))?;
     Ok(out)
 }

@@ -1,6 +1,7 @@
 use Rattle.std.proofs.Common.{ℕ, ◌++◌, List, ap, ◌∙◌}
+use Rattle.print_report.specs.Jobs.{printed_by}
 use Rattle.print_report.specs.Lines.{empty_lines}
-use Rattle.print_report.specs.Pages.{page_rows, printing, rows, running_line, Printing}
+use Rattle.print_report.specs.Pages.{page_rows, rows, running_line, Printing}
 use Rattle.print_report.specs.declared.settings.PrintSettings.{PrintSettings}
 use Rattle.print_report.proofs.Paging.{before}
 use Rattle.print_report.proofs.pages.put_page.Goals as goal
@@ -8,7 +9,7 @@ use Rattle.print_report.proofs.pages.put_page.Goals as goal
 pub returns : goal.returns
 returns c =
     let set : PrintSettings = c.args.job.now.set.now in
-    let p : Printing = printing set c.args.job.now.saved.now c.args.job.now.range c.args.job.now.moment.day in
+    let p : Printing = printed_by c.args.job.now in
     let number : ℕ = c.args.number in
     let printed : List ℕ = rows p c.args.band.now c.args.row (page_rows set) in
     let foot : List ℕ = running_line p number set.footer ++ empty_lines set.bottom in
