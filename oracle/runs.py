@@ -14,6 +14,7 @@ import concurrent.futures
 import functools
 import os
 import random
+import re
 import shlex
 import subprocess
 import sys
@@ -33,6 +34,7 @@ from .outside import file_name, page
 from .session import VALUE_BEGINS
 
 BLANK_MOMENT = b' ' * 15
+MOMENT = re.compile(rb'\d\d-[A-Z][a-z][a-z]-\d\d \d\d:\d\d')
 WITHOUT = {b'NOW'}
 NO_NAMES = Names()
 
@@ -287,10 +289,10 @@ def kind_of(words):
 
 
 def without_moments(pages):
-    """Pages with blanks in the place of the moments; in ERROR the message stands there."""
+    """Pages with blanks in the place of the moments; in ERROR, which a macro's text may hide, the message stands there."""
     lines = pages.split(b'\n')
     for at in range(24, len(lines), 26):
-        if lines[at - 24][73:78] != b'ERROR':
+        if MOMENT.match(lines[at]):
             lines[at] = BLANK_MOMENT + lines[at][15:]
     return lines
 

@@ -155,7 +155,7 @@ def too_large(program):
     """A file of the most bytes is saved; with one more cell Save and Xtract are refused, and no file changes."""
     file = worksheet(MOST_BYTES, b"x")
     with Room(program, BIG=file) as room:
-        ran = room.run(b"/FSOUT~{GOTO}IV8192~y~/FS~R~/FXFTWO~A1.IV8192~~/FXVTWO~A1.IV8192~~", "--file", "BIG", "--show", "ansi")
+        ran = room.run(b"/FSOUT~{GOTO}IV8192~y~/FS~R~/FXFTWO~A1.IV8192~~/FXVTWO~A1.IV8192~~", "--file", "BIG", "--show", "pages")
         faults = unless(ran.returncode == 0 and not ran.stderr, f"status {ran.returncode}, {ran.stderr!r}")
         count = ran.stdout.count(b"Worksheet too large")
         faults += unless(count == 3, f"it tells {count} times that the worksheet is too large")
