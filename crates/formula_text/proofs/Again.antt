@@ -21,7 +21,7 @@ use Rattle.formula_text.specs.Accepts.{Brackets, Verdict, after, bracket_first, 
 use Rattle.formula_text.specs.Functions.{name_of}
 use Rattle.formula_text.specs.Lexed.{lexed}
 use Rattle.formula_text.specs.Printed.{cell_text, more_text, op_text, printed, sign_for, span_text, text_of}
-use Rattle.formula_text.specs.Texts.{SpelledBy}
+use Rattle.formula_text.specs.Texts.{Spells}
 use Rattle.formula_text.specs.Tokens.{Token, called, closing, comma, front_minus, front_not, infix_op, more_tokens, opening, tokens}
 use Rattle.formula_text.proofs.Cuts.{part_cut, IsPart, Starts, Stops}
 use Rattle.formula_text.proofs.FunctionsRead.{function_part, kind_of, some_taken}
@@ -208,7 +208,7 @@ module _ (names : NameMap) (at_cell : Place) (keyed : AreKeys names) (inside : I
         ∙ ap (λ k. behind (comma ∷ (tokens a ++ more_tokens ts)) k rest bs) end
 
   -- the text of a formula spells it
-  pub spelled : (t : Tree) → every is_fine t ≡ true → every is_ranged t ≡ true → length (printed names at_cell t) ≤ 240 → SpelledBy names at_cell (printed names at_cell t) t
+  pub spelled : (t : Tree) → every is_fine t ≡ true → every is_ranged t ≡ true → length (printed names at_cell t) ≤ 240 → Spells names at_cell (printed names at_cell t) t
   spelled t f r short =
       let bytes : List ℕ = text_of names at_cell t in
       let again : (at : ℕ) → operand_first (parts at bytes) [] ≡ Ok (tokens t) =

@@ -14,8 +14,9 @@ use Rattle.formula_text.specs.declared.lexeme.Kind.TheVariants.{Constant}
 use Rattle.formula_text.specs.declared.lexeme.Lexeme.{Lexeme}
 use Rattle.formula_text.specs.declared.parse.Bracket.TheVariants.{Call}
 use Rattle.formula_text.specs.Tokens.{Token, tokens, more_tokens, called, closing, comma}
-use Rattle.formula_text.specs.Accepts.{Brackets, after, operand_first, operator_first, operator_of, level_of}
-use Rattle.formula_text.specs.Reads.{commaed, joined, Completes, Continues, Listed, Opens, Reads, ReadsCall, ReadsOperand}
+use Rattle.formula_text.specs.Accepts.{Brackets, after, operand_first, operator_first}
+use Rattle.formula_text.specs.inner.Levels.{operator_of, level_of}
+use Rattle.formula_text.specs.inner.Reads.{commaed, joined, Completes, Continues, Listed, Opens, Reads, ReadsCall, ReadsOperand}
 use Rattle.formula_text.proofs.Grows.{after-after}
 
 small_level : (op : Op) → level op ≤ 8

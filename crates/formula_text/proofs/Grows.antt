@@ -8,8 +8,9 @@ use Rattle.formula_text.specs.declared.lexeme.Kind.{Kind}
 use Rattle.formula_text.specs.declared.lexeme.Kind.TheVariants.{Num, Str, Cell, Span, Constant, Function, Infix, Not, Open, Close, Comma, Unclosed, Bad}
 use Rattle.formula_text.specs.declared.lexeme.Lexeme.{Lexeme}
 use Rattle.formula_text.specs.Tokens.{Token, tokens, infix_op}
-use Rattle.formula_text.specs.Accepts.{Brackets, Verdict, after, operand_first, operator_first, operator_row, operator_in, operator_of, level_of, next_level}
-use Rattle.formula_text.specs.Reads.{Reads, Grown}
+use Rattle.formula_text.specs.Accepts.{Brackets, Verdict, after, operand_first, operator_first, operator_row}
+use Rattle.formula_text.specs.inner.Levels.{operator_in, operator_of, level_of, next_level}
+use Rattle.formula_text.specs.inner.Reads.{Reads, Grown}
 
 pub after-after : (xs ys : List Token) (v : Verdict) → after xs (after ys v) ≡ after (xs ++ ys) v
 after-after xs ys (Ok ts) = ap Ok (sym (append_assoc xs ys ts))

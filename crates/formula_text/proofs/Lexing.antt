@@ -7,7 +7,7 @@ use Rattle.std.specs.Prelude.{slice_index}
 use Rattle.grid_address.specs.Place.{Place}
 use Rattle.range_names.specs.Names.{NameMap}
 use Rattle.formula_text.specs.declared.lexeme.Lexeme.{Lexeme}
-use Rattle.formula_text.specs.Fine.{are_fine, is_fine_kind}
+use Rattle.formula_text.specs.inner.Fine.{are_fine, is_fine_kind}
 use Rattle.formula_text.specs.Lexed.{lexed, part_found}
 
 abbrev part : NameMap → Place → ℕ → List ℕ → Lexeme

@@ -3,7 +3,7 @@ use Rattle.std.proofs.Common.{◌≡◌, ℕ, true, List, ◌++◌, ap, subst, �
 use Rattle.formula_text.specs.declared.output.Output.{Output}
 use Rattle.formula_text.specs.declared.whole.Whole.{Whole}
 use Rattle.formula_text.specs.Printed.{written}
-use Rattle.formula_text.specs.Puts.{at_once, in_pieces, Lengthens, Puts}
+use Rattle.formula_text.specs.inner.Puts.{at_once, in_pieces, Lengthens, Puts}
 use Rattle.formula_text.proofs.Outputs.{two}
 
 pub two_put : {S : Type 0} {h : S → List ℕ → S → Type 0} (out one more : S) (a b : List ℕ) → Puts h out a one → Puts h one b more → Puts h out (a ++ b) more

@@ -7,7 +7,7 @@ use Rattle.lics_text.specs.Texts.{text_of, unless_bad}
 use Rattle.lics_text.specs.declared.faults.TextFault.TheVariants.{TooLong}
 use Rattle.std.specs.Prelude.{Err}
 use Rattle.formula_tree.specs.Shape.{has_no_quote}
-use Rattle.formula_text.specs.Fine.{is_fine_kind}
+use Rattle.formula_text.specs.inner.Fine.{is_fine_kind}
 use Rattle.formula_text.specs.Operands.{text_kind}
 
 abbrev is_quote : ℕ → Bool

@@ -19,8 +19,8 @@ use Rattle.formula_text.specs.declared.parse.Bracket.TheVariants.{Plain, Call}
 use Rattle.formula_text.specs.Tokens.{Token, tokens, more_tokens, number, text, place, places, constant, called, opening, closing, comma, front_minus, front_not, infix_op}
 use Rattle.formula_text.specs.Accepts.{after, bracket_first, bracket_row, close_row, comma_row, front_row, operand_first, operand_row, operator_first, operator_row, Brackets, Verdict}
 use Rattle.formula_tree.specs.Shape.{has_no_quote}
-use Rattle.formula_text.specs.Fine.{are_fine, is_fine_kind, is_fine_token}
-use Rattle.formula_text.specs.Reads.{is_called}
+use Rattle.formula_text.specs.inner.Fine.{are_fine, is_fine_kind, is_fine_token}
+use Rattle.formula_text.specs.inner.Reads.{is_called}
 
 -- so few tokens, and each keeps what the parts keep
 abbrev Fine : ℕ → Verdict → Type 0

@@ -21,8 +21,7 @@ use Rattle.formula_text.specs.declared.parse.Bracket.TheVariants.{Plain, Call}
 use Rattle.formula_text.specs.Accepts.{after, bracket_first, bracket_row, close_row, comma_row, front_row, operand_first, operand_row, operator_first, operator_row, Brackets, Verdict}
 use Rattle.formula_text.specs.Lexed.{lexed}
 use Rattle.formula_text.specs.Reading.{beside, having, reading, told_tree, tree_of_tokens, wanting, Open, plain, function}
-use Rattle.formula_text.specs.Reads.{Spells}
-use Rattle.formula_text.specs.Texts.{SpelledBy}
+use Rattle.formula_text.specs.Texts.{ArePartsOf, Spells}
 use Rattle.formula_text.specs.Tokens.{Token, number, text, place, places, opening, closing, comma, front_minus, front_not, infix_op, constant, called, tokens, more_tokens}
 use Rattle.formula_text.proofs.Treed.{found_again}
 
@@ -375,7 +374,7 @@ mutual
 -- ---- what a text spells
 
 -- the parts that have no fault spell the tree of their tokens
-parts_spell : (ls : List Lexeme) (ts : List Token) → operand_first ls [] ≡ Ok ts → Spells ls (tree_of_tokens ts)
+parts_spell : (ls : List Lexeme) (ts : List Token) → operand_first ls [] ≡ Ok ts → ArePartsOf ls (tree_of_tokens ts)
 parts_spell ls ts h =
     let told : IsTreeOf ts (tree_of_tokens ts) = subst (Told [] (wanting (λ x. x) [])) h (operands_told ls (λ x. x) [] no_front [] [] [] refl) in
     record { same = h ∙ ap Ok (sym told.same); well = told.well }
@@ -387,7 +386,7 @@ not_long : (n : ℕ) → n ≤ 240 → nat_lt 240 n ≡ false
 not_long n h = grind (arith, nat_tests)
 
 -- what a text spells is what is read of it
-pub reads : (names : NameMap) (at : Place) (bytes : List ℕ) (t : Tree) → SpelledBy names at bytes t → reading names at bytes ≡ Ok t
+pub reads : (names : NameMap) (at : Place) (bytes : List ℕ) (t : Tree) → Spells names at bytes t → reading names at bytes ≡ Ok t
 unfolding reading
 reads names at bytes t s =
     ap (λ c. cond c (Err TooLong) (told_tree (operand_first (lexed names at 0 0 bytes) []))) (not_long (length bytes) s.0)
@@ -396,19 +395,19 @@ reads names at bytes t s =
 abbrev told_ok : Tree → Result Tree ParseFault
 told_ok t = Ok t
 
-read_spells : (ls : List Lexeme) (v : Verdict) (t : Tree) → operand_first ls [] ≡ v → told_tree v ≡ Ok t → Spells ls t
-read_spells ls (Ok ts) t h e = subst (Spells ls) (ok_same e) (parts_spell ls ts h)
+read_spells : (ls : List Lexeme) (v : Verdict) (t : Tree) → operand_first ls [] ≡ v → told_tree v ≡ Ok t → ArePartsOf ls t
+read_spells ls (Ok ts) t h e = subst (ArePartsOf ls) (ok_same e) (parts_spell ls ts h)
   where
     ok_same : {a b : Tree} → told_ok a ≡ told_ok b → a ≡ b
     ok_same p = cc
 read_spells ls (Err f) t h e = absurd (let p : Err f ≡ Ok t = e in cc)
 
 -- and what is read of it is what it spells
-pub spells : (names : NameMap) (at : Place) (bytes : List ℕ) (t : Tree) → reading names at bytes ≡ Ok t → SpelledBy names at bytes t
+pub spells : (names : NameMap) (at : Place) (bytes : List ℕ) (t : Tree) → reading names at bytes ≡ Ok t → Spells names at bytes t
 unfolding reading
 spells names at bytes t h = either (nat_lt 240 (length bytes)) refl h
   where
-    either : (c : Bool) → nat_lt 240 (length bytes) ≡ c → cond c (Err TooLong) (told_tree (operand_first (lexed names at 0 0 bytes) [])) ≡ Ok t → SpelledBy names at bytes t
+    either : (c : Bool) → nat_lt 240 (length bytes) ≡ c → cond c (Err TooLong) (told_tree (operand_first (lexed names at 0 0 bytes) [])) ≡ Ok t → Spells names at bytes t
     either true p e = absurd (let q : Err TooLong ≡ Ok t = e in cc)
     either false p e = (short (length bytes) p, read_spells (lexed names at 0 0 bytes) (operand_first (lexed names at 0 0 bytes) []) t refl e)
 

@@ -4,7 +4,7 @@ use Rattle.std.proofs.lemmas.Bool.Decides.{nat_tests}
 use Rattle.fixed_value.specs.Decimals.{decimal_from, decimal_of, is_minus, places_of, whole_digits, behind_digits, without_sign}
 use Rattle.fixed_value.specs.Numbers.{signed}
 use Rattle.fixed_value.specs.declared.decimal.Decimal.TheVariants.{Num as decimal, TooLarge}
-use Rattle.formula_text.specs.Fine.{is_fine_kind}
+use Rattle.formula_text.specs.inner.Fine.{is_fine_kind}
 use Rattle.formula_text.specs.Operands.{number_found, number_kind, number_len}
 
 in_range : (b : Bool) (at n : ℕ) → is_fine_kind (number_kind at (cond b (decimal (signed false n)) TooLarge)) ≡ true

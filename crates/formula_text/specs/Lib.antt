@@ -1,13 +1,11 @@
 pub mod Accepts
-pub mod Fine
 pub mod Functions
 pub mod Lexed
 pub mod Operands
 pub mod Printed
-pub mod Puts
 pub mod Reading
-pub mod Reads
 pub mod Signs
 pub mod Texts
 pub mod Tokens
 pub mod Words
+pub mod inner

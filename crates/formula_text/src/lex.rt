@@ -1,6 +1,6 @@
 // From a text to its parts.
 ghost use Rattle.std.specs.Prelude.{◌≡◌, ◌≤◌, ◌<◌, true, IfOk, IfErr, OnOk, ◌++◌, ◌∷◌, [], drop, get_or, length};
-ghost use Rattle.formula_text.specs.Fine.{are_fine, is_fine_kind};
+ghost use Rattle.formula_text.specs.inner.Fine.{are_fine, is_fine_kind};
 ghost use Rattle.formula_text.specs.Lexed.{found_by, lexed, part_found};
 
 use crate::ParseFault;

@@ -2,7 +2,7 @@
 ghost use Rattle.std.specs.Prelude.{◌≡◌, ◌≤◌, ◌<◌, ◌==◌, true, IfOk, IfErr, length, position, take, Some};
 ghost use Rattle.ascii_bytes.specs.Ascii as ascii;
 ghost use Rattle.formula_tree.specs.Table.{counts_of, takes};
-ghost use Rattle.formula_text.specs.Fine.{is_fine_kind};
+ghost use Rattle.formula_text.specs.inner.Fine.{is_fine_kind};
 ghost use Rattle.formula_text.specs.Functions.{is_among, left_out};
 ghost use Rattle.formula_text.specs.Operands.{called_kind, function_found, function_kind, is_name_byte, name_len, number_found, number_kind, number_len, outside_kind, point_len, text_found, text_kind};
 ghost use Rattle.lics_text.specs.Texts.{text_of};

@@ -3,8 +3,10 @@ ghost use Rattle.std.specs.Prelude.{◌≡◌, ◌<◌, ◌≤◌, ◌++◌, ◌
 ghost use Rattle.formula_tree.specs.Shape.{every};
 ghost use Rattle.formula_tree.specs.Tree.{binary, str};
 ghost use Rattle.formula_tree.specs.View.{tree_of, trees_in};
-ghost use Rattle.formula_text.specs.Accepts.{next_level, operand_first};
-ghost use Rattle.formula_text.specs.Reads.{is_called, IsCallFault, IsFault, IsSignedFault, Reads, ReadsCall, ReadsOperand, ReadsSigned, Spells};
+ghost use Rattle.formula_text.specs.Accepts.{operand_first};
+ghost use Rattle.formula_text.specs.inner.Levels.{next_level};
+ghost use Rattle.formula_text.specs.inner.Reads.{is_called, IsCallFault, IsFault, IsSignedFault, Reads, ReadsCall, ReadsOperand, ReadsSigned};
+ghost use Rattle.formula_text.specs.Texts.{ArePartsOf};
 
 use crate::ParseFault;
 use crate::lexeme::{Kind, Lexeme};
@@ -180,7 +182,7 @@ fn operand(
 // The tree that the parts spell, or the first fault.
 pub fn tree(alloc: Global, lexemes: &[Lexeme]) -> Result<Expr, ParseFault>
     requires { length lexemes.now ≤ MAX_LEN }
-    ensures found { IfOk result (λ e. Spells lexemes.now (tree_of e)) }
+    ensures found { IfOk result (λ e. ArePartsOf lexemes.now (tree_of e)) }
     ensures called { IfOk result (λ e. every is_called (tree_of e) ≡ true) }
     ensures fault { IfErr result (λ f. (f ≡ ParseFault.Memory) ⊎ (operand_first lexemes.now [] ≡ Err f)) }
 {

@@ -6,7 +6,7 @@ ghost use Rattle.formula_tree.specs.View.{tree_of};
 ghost use Rattle.grid_address.specs.Place.{Place};
 ghost use Rattle.range_names.specs.Names.{NameMap};
 ghost use Rattle.formula_text.specs.Reading.{reading};
-ghost use Rattle.formula_text.specs.Texts.{SpelledBy};
+ghost use Rattle.formula_text.specs.Texts.{Spells};
 
 use crate::ParseFault;
 use crate::lex::lex;
@@ -50,5 +50,5 @@ pub fn read(alloc: Global, text: &[u8], at: Cell, names: &Names) -> Result<Formu
 /// text spells no other. So a text spells one tree where it has no fault, and else none.
 pub fn a_text_is_read_as_it_spells()
     ensures { (names : NameMap) (at : Place) (text : List ℕ) (t : Tree)
-        → (reading names at text ≡ Ok t) ↔ SpelledBy names at text t }
+        → (reading names at text ≡ Ok t) ↔ Spells names at text t }
 {}

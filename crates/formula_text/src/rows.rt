@@ -1,7 +1,8 @@
 // What follows an operand or stands before one, part by part.
 ghost use Rattle.std.specs.Prelude.{◌≡◌, ◌<◌, ◌+◌, drop, length, IfOk, IfErr, IfSome, IfNone, [], ◌∷◌, false, Ok, Err};
-ghost use Rattle.formula_text.specs.Accepts.{after, bracket_first, missing, next_level, operator_first, operator_of, refusal};
-ghost use Rattle.formula_text.specs.Reads.{comma_first, Closes, Completes, Continues, NoOperator, Opens};
+ghost use Rattle.formula_text.specs.Accepts.{after, bracket_first, missing, operator_first};
+ghost use Rattle.formula_text.specs.inner.Levels.{next_level, operator_of, refusal};
+ghost use Rattle.formula_text.specs.inner.Reads.{comma_first, Closes, Completes, Continues, NoOperator, Opens};
 ghost use Rattle.formula_text.specs.declared.parse.Bracket.TheVariants.{Call};
 
 use crate::ParseFault;

@@ -1,6 +1,6 @@
 // Signs in a formula.
 ghost use Rattle.std.specs.Prelude.{◌≡◌, ◌≤◌, ◌<◌, ◌⊎◌, true, get_or, length};
-ghost use Rattle.formula_text.specs.Fine.{is_fine_kind};
+ghost use Rattle.formula_text.specs.inner.Fine.{is_fine_kind};
 ghost use Rattle.formula_text.specs.Signs.{begins_with, hash_found, sign_found, sign_of, single_kind};
 
 use crate::ParseFault;

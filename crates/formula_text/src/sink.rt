@@ -1,6 +1,6 @@
 // Where text goes.
 ghost use Rattle.std.specs.Prelude.{ℕ, List};
-ghost use Rattle.formula_text.specs.Puts.{Puts, at_once};
+ghost use Rattle.formula_text.specs.inner.Puts.{Puts, at_once};
 
 /// Where text goes, piece by piece.
 pub trait Sink {

@@ -20,7 +20,7 @@ pub struct Whole {
 }
 
 impl Sink for Whole {
-    ghost use Rattle.formula_text.specs.Puts.{Lengthens};
+    ghost use Rattle.formula_text.specs.inner.Puts.{Lengthens};
 
     ghost has_put = { Lengthens };
 

@@ -1,7 +1,7 @@
 // Addresses and names in a formula.
 ghost use Rattle.std.specs.Prelude.{◌≡◌, ◌≤◌, ◌<◌, ◌+◌, true, length};
 ghost use Rattle.grid_address.specs.Place.{same_place};
-ghost use Rattle.formula_text.specs.Fine.{is_fine_kind};
+ghost use Rattle.formula_text.specs.inner.Fine.{is_fine_kind};
 ghost use Rattle.formula_text.specs.Words.{address_found, corner_behind, has_dollar, is_word_byte, letters_len, name_kind, named_span, plain_address, reference_from, reference_in, span_kind, with_corner, without_dollar, word_found, word_len};
 
 use crate::ParseFault;

@@ -1,7 +1,7 @@
 use Rattle.std.proofs.Common.{◌+◌, ◌≤◌, ◌++◌, ◌∷◌, [], length, drop, ap, ◌∙◌, arith, length-append, length-drop}
 use Rattle.formula_text.specs.declared.lexeme.Kind.{Kind}
 use Rattle.formula_text.specs.declared.lexeme.Lexeme.{Lexeme}
-use Rattle.formula_text.specs.Fine.{are_fine}
+use Rattle.formula_text.specs.inner.Fine.{are_fine}
 use Rattle.formula_text.specs.Lexed.{lexed, part_found}
 use Rattle.formula_text.proofs.Lexing.{all_fine, kept, one_part}
 use Rattle.formula_text.proofs.lex.lex.Goals as goal

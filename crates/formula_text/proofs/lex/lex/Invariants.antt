@@ -1,5 +1,5 @@
 use Rattle.std.proofs.Common.{◌≡◌, ◌≤◌, ◌-◌, ◌++◌, true, length, drop}
-use Rattle.formula_text.specs.Fine.{are_fine}
+use Rattle.formula_text.specs.inner.Fine.{are_fine}
 use Rattle.formula_text.specs.Lexed.{lexed}
 use Rattle.formula_text.proofs.lex.lex.Given as goal
 

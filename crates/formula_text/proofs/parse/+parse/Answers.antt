@@ -3,7 +3,7 @@ use Rattle.formula_tree.specs.Shape.{level}
 use Rattle.formula_tree.specs.Tree.{call}
 use Rattle.formula_tree.specs.View.{listed, tree_of, trees_in}
 use Rattle.formula_tree.proofs.Rows.{tree_of-Call}
-use Rattle.formula_text.specs.Reads.{Grown, Listed, Reads, ReadsCall, ReadsOperand}
+use Rattle.formula_text.specs.inner.Reads.{Grown, Listed, Reads, ReadsCall, ReadsOperand}
 use Rattle.formula_text.proofs.Arguments.{call_is_read, constant_is_read, more_are_listed}
 use Rattle.formula_text.proofs.Grows.{grown}
 use Rattle.formula_text.proofs.parse.+parse.Goals as goal

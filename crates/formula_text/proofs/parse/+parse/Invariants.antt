@@ -1,6 +1,6 @@
 use Rattle.std.proofs.Common.{◌+◌, ◌*◌, length}
 use Rattle.formula_tree.specs.View.{tree_of, trees_in}
-use Rattle.formula_text.specs.Reads.{Grown, Listed}
+use Rattle.formula_text.specs.inner.Reads.{Grown, Listed}
 use Rattle.formula_text.proofs.parse.+parse.Given as goal
 
 abbrev pub decreases-expression : goal.decreases-expression

@@ -3,7 +3,7 @@ use Rattle.formula_tree.specs.Nodes.{all_nodes, nodes}
 use Rattle.formula_tree.specs.View.{listed, tree_of}
 use Rattle.formula_text.specs.Functions.{name_of}
 use Rattle.formula_text.specs.Printed.{mark_before, opened}
-use Rattle.formula_text.specs.Puts.{Puts}
+use Rattle.formula_text.specs.inner.Puts.{Puts}
 use Rattle.formula_text.proofs.printing.+print.Given as goal
 
 abbrev pub decreases-put_tree : goal.decreases-put_tree

@@ -4,7 +4,7 @@ use Rattle.std.proofs.lemmas.List.{take_all}
 use Rattle.std.proofs.lemmas.Bool.{and_parts}
 use Rattle.formula_tree.specs.Shape.{code_size, every, is_fine}
 use Rattle.formula_text.specs.Printed.{printed, text_of}
-use Rattle.formula_text.specs.Texts.{SpelledBy}
+use Rattle.formula_text.specs.Texts.{Spells}
 use Rattle.formula_text.proofs.Again.{spelled}
 use Rattle.formula_text.proofs.Spelling.{reads}
 use Rattle.formula_text.proofs.Ends.{printed_line, printed_whole}
@@ -50,7 +50,7 @@ returns-then-out-clause-again c = λ told.
     let short : length text ≤ 240 = grind (arith, nat_tests, fits) in
     let line : c.put_all.new.self ≡ text = returns-then-out-clause-line c ∙ take_all 240 text short in
     let fine = (and_parts (every is_fine tree) (nat_le (code_size tree) 65520) c.expr.ensures.shape.shaped).0 in
-    reads names cell c.put_all.new.self tree (subst (λ (l : List ℕ). SpelledBy names cell l tree) (sym line) (spelled names cell c.are_keyed.ensures c.is_on_sheet.ensures tree fine c.expr.ensures.ranges short)))
+    reads names cell c.put_all.new.self tree (subst (λ (l : List ℕ). Spells names cell l tree) (sym line) (spelled names cell c.are_keyed.ensures c.is_on_sheet.ensures tree fine c.expr.ensures.ranges short)))
 
 pub returns-else-out-clause-again : goal.returns-else-out-clause-again
 returns-else-out-clause-again c = λ told. absurd (no_true (sym c.if-out.false ∙ told))

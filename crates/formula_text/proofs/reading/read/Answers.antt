@@ -3,7 +3,7 @@ use Rattle.std.proofs.lemmas.Result.{err_from_is_err_and}
 use Rattle.formula_tree.specs.View.{tree_of}
 use Rattle.formula_text.specs.Accepts.{operand_first}
 use Rattle.formula_text.specs.Lexed.{lexed}
-use Rattle.formula_text.specs.Reads.{Spells}
+use Rattle.formula_text.specs.Texts.{ArePartsOf}
 use Rattle.formula_text.specs.Reading.{reading}
 use Rattle.formula_text.proofs.Shaped.{is_formula}
 use Rattle.formula_text.proofs.Spelling.{first_fault, reads, too_long, tree_read}
@@ -13,7 +13,7 @@ pub formula-requires : goal.formula-requires
 formula-requires c =
     let items = c.in_ok-lexemes.lexemes.items in
     let t = tree_of c.in_ok-expr.expr in
-    let s = subst (λ ls. Spells ls t) c.as_slice.ensures.value c.in_ok-expr.ensures.found in
+    let s = subst (λ ls. ArePartsOf ls t) c.as_slice.ensures.value c.in_ok-expr.ensures.found in
     is_formula items t (omega (arith, c.in_ok-lexemes.ensures.few)) c.in_ok-lexemes.ensures.fine s.same s.well c.in_ok-expr.ensures.called
 
 pub returns-then-text-gt-MAX_LEN-clause-fault : goal.returns-then-text-gt-MAX_LEN-clause-fault
@@ -29,5 +29,5 @@ returns-in_err-expr-clause-fault c =
 pub returns-clause-found : goal.returns-clause-found
 returns-clause-found c =
     let t = tree_of c.in_ok-expr.expr in
-    let s = subst (λ ls. Spells ls t) (c.as_slice.ensures.value ∙ c.in_ok-lexemes.ensures.ok) c.in_ok-expr.ensures.found in
+    let s = subst (λ ls. ArePartsOf ls t) (c.as_slice.ensures.value ∙ c.in_ok-lexemes.ensures.ok) c.in_ok-expr.ensures.found in
     tree_read c.formula.result (reading c.args.names.now c.args.at c.args.text.now) t c.formula.ensures.ok (reads c.args.names.now c.args.at c.args.text.now t (omega arith, s))

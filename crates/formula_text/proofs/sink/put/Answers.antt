@@ -1,4 +1,4 @@
-use Rattle.formula_text.specs.Puts.{at_once}
+use Rattle.formula_text.specs.inner.Puts.{at_once}
 use Rattle.formula_text.proofs.sink.put.Goals as goal
 
 pub returns : goal.returns

@@ -14,7 +14,8 @@ use Rattle.formula_text.specs.declared.lexeme.Lexeme.{Lexeme}
 use Rattle.formula_text.specs.declared.parse.Bracket.{Bracket}
 use Rattle.formula_text.specs.declared.parse.Bracket.TheVariants.{Plain, Call}
 use Rattle.formula_text.specs.Tokens.{Token, tokens, called, closing, comma}
-use Rattle.formula_text.specs.Accepts.{after, bracket_first, front_row, innermost, next_level, operand_first, operator_first, Brackets}
+use Rattle.formula_text.specs.Accepts.{after, bracket_first, front_row, innermost, operand_first, operator_first, Brackets}
+use Rattle.formula_text.specs.inner.Levels.{next_level}
 
 -- whether a call with arguments has as many as its function takes
 abbrev pub takes_these : AtFunction → Trees → Bool
@@ -159,8 +160,3 @@ is_comma (Bad f) = false
 abbrev pub comma_first : List Lexeme → Bool
 comma_first [] = false
 comma_first (l ∷ ls) = is_comma l.kind
-
--- the parts spell the tree: they are its tokens, and no operator takes what an operator beside it should have
-pub record Spells (ls : List Lexeme) (t : Tree) : Type 0 where
-  pub same : operand_first ls [] ≡ Ok (tokens t)
-  pub well : every is_bracketed t ≡ true

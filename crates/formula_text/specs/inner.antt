@@ -1,0 +1,4 @@
+pub mod Fine
+pub mod Levels
+pub mod Puts
+pub mod Reads
