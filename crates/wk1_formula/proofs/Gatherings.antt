@@ -9,8 +9,8 @@ use Rattle.formula_tree.specs.Tree.{Tree, call}
 use Rattle.formula_tree.specs.View.{listed, tree_of, trees_in}
 use Rattle.wk1_formula.specs.declared.gather.Gathered.{Gathered}
 use Rattle.wk1_formula.specs.declared.item.Item.{Item}
-use Rattle.wk1_formula.specs.Gathered.{IsGathered}
-use Rattle.wk1_formula.specs.Items.{AreItems, IsItem}
+use Rattle.wk1_formula.specs.inner.Gathered.{IsGathered}
+use Rattle.wk1_formula.specs.inner.Items.{AreItems, IsItem}
 use Rattle.formula_tree.specs.declared.function.Function.{Function}
 
 depth_more : (ts : List Tree) (t : Tree) → greatest_depth (listed (ts ++ t ∷ [])) ≡ max (greatest_depth (listed ts)) (depth t)

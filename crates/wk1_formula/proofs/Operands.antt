@@ -6,7 +6,7 @@ use Rattle.formula_tree.specs.Shape.{depth, level, lowest, nodes_size, top}
 use Rattle.formula_tree.specs.Tree.{Tree, binary, group}
 use Rattle.formula_tree.specs.View.{tree_of}
 use Rattle.formula_tree.specs.declared.ast.Op.{Op}
-use Rattle.wk1_formula.specs.Items.{built, edge_of, fits, IsItem}
+use Rattle.wk1_formula.specs.inner.Items.{built, edge_of, fits, IsItem}
 use Rattle.wk1_formula.specs.Stack.{front_operand, left_operand, right_operand}
 use Rattle.wk1_formula.specs.declared.item.Item.{Item}
 use Rattle.wk1_formula.specs.declared.item.One.{One}

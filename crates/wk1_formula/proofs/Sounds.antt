@@ -9,7 +9,7 @@ use Rattle.grid_address.specs.Axes.{Reference}
 use Rattle.formula_tree.specs.Table.{call_size, counts_of, counts_size, takes}
 use Rattle.wk1_formula.specs.Kinds.{kind_of}
 use Rattle.wk1_formula.specs.Reading.{before_zero, counted_front, double_code, front_by, front_of, function_front, is_formula_text, least_of, one_reference, text_code, two_references, with_byte}
-use Rattle.wk1_formula.specs.Steps.{IsSound}
+use Rattle.wk1_formula.specs.inner.Steps.{IsSound}
 use Rattle.wk1_formula.specs.declared.kind.Kind.{Kind}
 use Rattle.wk1_formula.specs.declared.kind.Kind.TheVariants as kind
 use Rattle.formula_tree.specs.declared.function.Function.{Function}

@@ -9,10 +9,10 @@ use Rattle.formula_tree.specs.View.{listed}
 use Rattle.formula_tree.specs.Table.{counts_of, takes}
 use Rattle.formula_tree.specs.declared.ast.Op.{Op}
 use Rattle.wk1_formula.specs.Codes.{Code, operator, function, plus}
-use Rattle.wk1_formula.specs.Items.{built, AreItems, IsItem}
-use Rattle.wk1_formula.specs.Gathered.{IsGathered}
+use Rattle.wk1_formula.specs.inner.Items.{built, AreItems, IsItem}
+use Rattle.wk1_formula.specs.inner.Gathered.{IsGathered}
 use Rattle.wk1_formula.specs.Stack.{after, called, left_operand, right_operand}
-use Rattle.wk1_formula.specs.Steps.{code_over, held, HasStepped}
+use Rattle.wk1_formula.specs.inner.Steps.{code_over, held, HasStepped}
 use Rattle.wk1_formula.specs.declared.gather.Gathered.{Gathered}
 use Rattle.wk1_formula.specs.declared.item.Item.{Item}
 use Rattle.wk1_formula.specs.declared.item.One.{One}

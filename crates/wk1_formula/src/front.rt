@@ -8,8 +8,8 @@ ghost use Rattle.formula_tree.specs.Ranges.{is_text};
 ghost use Rattle.formula_tree.specs.Shape.{has_no_quote};
 ghost use Rattle.formula_tree.specs.Table.{counts_of};
 ghost use Rattle.wk1_formula.specs.Reading.{axis_of, before_zero, counted_front, double_front, front_by, front_of, function_front, is_formula_text, least_of, range_front, reference_at, reference_front, short_at, short_front, short_value, text_code};
-ghost use Rattle.wk1_formula.specs.Steps.{IsSound};
-ghost use Rattle.wk1_formula.specs.Views.{seen, seen_code};
+ghost use Rattle.wk1_formula.specs.inner.Steps.{IsSound};
+ghost use Rattle.wk1_formula.specs.inner.Views.{seen, seen_code};
 
 use crate::bytes::{bytes_from, first_long, short_at};
 use crate::kind::{Kind, kind_of};

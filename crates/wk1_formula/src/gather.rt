@@ -3,8 +3,8 @@ ghost use Rattle.std.specs.Prelude.{List, ◌≡◌, ◌≤◌, ◌<◌, ◌+◌
 ghost use Rattle.formula_tree.specs.Table.{counts_of, takes};
 ghost use Rattle.formula_tree.specs.Tree.{call, Tree};
 ghost use Rattle.formula_tree.specs.View.{listed};
-ghost use Rattle.wk1_formula.specs.Gathered.{IsGathered};
-ghost use Rattle.wk1_formula.specs.Items.{AreItems, IsItem};
+ghost use Rattle.wk1_formula.specs.inner.Gathered.{IsGathered};
+ghost use Rattle.wk1_formula.specs.inner.Items.{AreItems, IsItem};
 
 use crate::item::{Item, deeper, larger};
 use formula_tree::{Expr, ExprList, Function, call_size};

@@ -4,7 +4,7 @@ ghost use Rattle.std.specs.Option.{ForSome};
 ghost use Rattle.formula_tree.specs.Shape.{depth, every, is_fine, level, lowest, nodes_size, top};
 ghost use Rattle.formula_tree.specs.Tree.{binary, group, Tree};
 ghost use Rattle.formula_tree.specs.View.{tree_of};
-ghost use Rattle.wk1_formula.specs.Items.{built, edge_of, fits, IsItem};
+ghost use Rattle.wk1_formula.specs.inner.Items.{built, edge_of, fits, IsItem};
 ghost use Rattle.wk1_formula.specs.Stack.{front_operand, left_operand, right_operand};
 
 use formula_tree::{Expr, Op, level};

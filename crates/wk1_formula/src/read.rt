@@ -2,9 +2,9 @@
 ghost use Rattle.std.specs.Prelude.{◌≡◌, ◌≤◌, ◌<◌, ◌+◌, IfOk, IfErr, length, drop, reverse, List};
 ghost use Rattle.formula_tree.specs.Formulas.{formula_of};
 ghost use Rattle.formula_tree.specs.Tree.{Tree};
-ghost use Rattle.wk1_formula.specs.Items.{AreItems, IsItem};
+ghost use Rattle.wk1_formula.specs.inner.Items.{AreItems, IsItem};
 ghost use Rattle.wk1_formula.specs.Stack.{at_end, ended, tree_in, Gives};
-ghost use Rattle.wk1_formula.specs.Turns.{Goes};
+ghost use Rattle.wk1_formula.specs.inner.Turns.{Goes};
 
 use crate::CodeFault;
 use crate::bytes::bytes_from;

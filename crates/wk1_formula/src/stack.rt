@@ -5,11 +5,11 @@ ghost use Rattle.formula_tree.specs.Shape.{is_short, node_size};
 ghost use Rattle.formula_tree.specs.Table.{counts_of, takes};
 ghost use Rattle.formula_tree.specs.Tree.{binary, call, no_trees, num, str, Tree};
 ghost use Rattle.wk1_formula.specs.Codes as codes;
-ghost use Rattle.wk1_formula.specs.Items.{built, AreItems, IsItem};
+ghost use Rattle.wk1_formula.specs.inner.Items.{built, AreItems, IsItem};
 ghost use Rattle.wk1_formula.specs.Reading.{is_formula_text};
 ghost use Rattle.wk1_formula.specs.Stack.{left_operand, number_tree, right_operand};
-ghost use Rattle.wk1_formula.specs.Steps.{code_over, held, is_sound, HasStepped};
-ghost use Rattle.wk1_formula.specs.Views.{seen_code};
+ghost use Rattle.wk1_formula.specs.inner.Steps.{code_over, held, is_sound, HasStepped};
+ghost use Rattle.wk1_formula.specs.inner.Views.{seen_code};
 
 use crate::front::Code;
 use crate::gather::{called, gather, nothing, take_last};

@@ -8,7 +8,7 @@ ghost use Rattle.formula_tree.specs.Shape.{every, is_counted, is_short};
 ghost use Rattle.formula_tree.specs.View.{tree_of};
 ghost use Rattle.wk1_formula.specs.Codes.{operator, postfix, range, reference};
 ghost use Rattle.wk1_formula.specs.Doubles.{bits_of};
-ghost use Rattle.wk1_formula.specs.Steps.{code_over};
+ghost use Rattle.wk1_formula.specs.inner.Steps.{code_over};
 ghost use Rattle.wk1_formula.specs.Opcodes as opcodes;
 ghost use Rattle.wk1_formula.specs.Written.{bytes_of, code_of, coordinate, function_bytes, number_bytes, reference_bytes, spelled};
 

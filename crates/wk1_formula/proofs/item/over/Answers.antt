@@ -1,5 +1,5 @@
 use Rattle.std.proofs.Common.{ap, ◌∙◌, refl}
-use Rattle.wk1_formula.specs.Items.{built}
+use Rattle.wk1_formula.specs.inner.Items.{built}
 use Rattle.wk1_formula.proofs.Gatherings.{for_none, for_some, some_gone}
 use Rattle.wk1_formula.proofs.Operands.{over_made, IsOver}
 use Rattle.wk1_formula.proofs.item.over.Goals as goal

@@ -2,8 +2,8 @@ use Rattle.std.proofs.Common.{◌≡◌, ◌≤◌, Bool, length, drop, reverse,
 use Rattle.wk1_formula.specs.declared.front.Front.{Front}
 use Rattle.wk1_formula.specs.Reading.{faulty, finish, front_of, left_out, too_large, whole}
 use Rattle.wk1_formula.specs.Stack.{Gives}
-use Rattle.wk1_formula.specs.Steps.{HasStepped, IsSound}
-use Rattle.wk1_formula.specs.Views.{seen, seen_code}
+use Rattle.wk1_formula.specs.inner.Steps.{HasStepped, IsSound}
+use Rattle.wk1_formula.specs.inner.Views.{seen, seen_code}
 use Rattle.wk1_formula.proofs.Ends.{goes_on, is_faulty, is_finish, is_lacking, is_large, is_outside}
 use Rattle.wk1_formula.proofs.read.read_code.Goals as goal
 

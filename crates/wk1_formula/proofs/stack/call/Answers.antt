@@ -2,7 +2,7 @@ use Rattle.std.proofs.Common.{List, length, reverse, subst, ◌<◌, arith}
 use Rattle.std.proofs.lemmas.List.{length-reverse}
 use Rattle.wk1_formula.specs.declared.item.Item.{Item}
 use Rattle.wk1_formula.specs.Codes.{function}
-use Rattle.wk1_formula.specs.Items.{AreItems}
+use Rattle.wk1_formula.specs.inner.Items.{AreItems}
 use Rattle.wk1_formula.proofs.Steppings.{lacks_call, turned, went_call, went_on}
 use Rattle.wk1_formula.proofs.stack.call.Goals as goal
 

@@ -3,7 +3,7 @@ use Rattle.formula_tree.specs.Tree.{call, cell, no_trees, span, str}
 use Rattle.formula_tree.specs.declared.function.Function.TheVariants as function
 use Rattle.wk1_formula.specs.Codes as codes
 use Rattle.wk1_formula.specs.Stack.{number_tree}
-use Rattle.wk1_formula.specs.Views.{seen_code}
+use Rattle.wk1_formula.specs.inner.Views.{seen_code}
 use Rattle.wk1_formula.proofs.Steppings.{bare_error, bare_missing, put_on}
 use Rattle.wk1_formula.proofs.stack.step.Goals as goal
 

@@ -3,7 +3,7 @@ use Rattle.std.specs.Prelude.{ℕ, ◌≡◌, ◌≤◌, Bool, true, false, Some
 use Rattle.formula_tree.specs.Table.{counts_of, takes}
 use Rattle.formula_tree.specs.Tree.{Tree}
 use Rattle.wk1_formula.specs.Codes.{Code, number, error, missing, reference, range, text, brackets, minus, plus, negation, operator, function}
-use Rattle.wk1_formula.specs.Items.{AreItems}
+use Rattle.wk1_formula.specs.inner.Items.{AreItems}
 use Rattle.wk1_formula.specs.Reading.{is_formula_text, Front, whole, finish, faulty, left_out, too_large}
 use Rattle.wk1_formula.specs.Stack.{after, front_operand}
 use Rattle.wk1_formula.specs.declared.item.Item.{Item}
