@@ -17,7 +17,7 @@ use Rattle.wk1_formula.specs.declared.fault.CodeFault.{CodeFault}
 use Rattle.wk1_formula.specs.declared.fault.CodeFault.TheVariants as code
 use Rattle.wk1_records.specs.Kinds.{has_head, least_length}
 use Rattle.wk1_records.specs.Meanings.{bits_in, byte_at, cell_of, code_in, constant, double_at, formula_state, global_prefix, if_name, is_inside, is_span, is_width, label_of, label_state, meaning_by, name_entry, number_state, order_of, place_at, said, span_entry, state_of, stored_value, text_entry, width_entry, window_entry}
-use Rattle.wk1_file.specs.Takes.{IsEntry}
+use Rattle.wk1_file.specs.inner.Takes.{IsEntry}
 use Rattle.wk1_records.specs.declared.entry.Entry.{Entry}
 use Rattle.wk1_records.specs.declared.entry.Entry.TheVariants as entry
 use Rattle.wk1_records.specs.declared.fault.Wk1Fault.{Wk1Fault}

@@ -16,7 +16,7 @@ use Rattle.wk1_records.specs.Kinds.{kind_of}
 use Rattle.wk1_records.specs.Meanings.{meaning_by}
 use Rattle.wk1_records.specs.Records.{at_cut, at_end, at_piece, cut, ended, piece, piece_bytes, IsBytes, IsFront, IsPiece, Piece, Records, Splits}
 use Rattle.wk1_file.specs.Sheets.{entries_in, entry_then, fault_or, first_fault, sheet_of, taken, unless_fault, Progress}
-use Rattle.wk1_file.specs.Takes.{sheet_from, Ahead, IsEntry, IsMinded, Makes}
+use Rattle.wk1_file.specs.inner.Takes.{sheet_from, Ahead, IsEntry, IsMinded, Makes}
 use Rattle.wk1_records.specs.declared.entry.Entry.{Entry}
 use Rattle.wk1_records.specs.declared.entry.Entry.TheVariants as entry
 use Rattle.wk1_records.specs.declared.fault.Wk1Fault.{Wk1Fault}

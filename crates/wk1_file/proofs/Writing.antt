@@ -4,7 +4,7 @@ use Rattle.std.specs.Prelude.{flat_map}
 use Rattle.std.specs.List.{AllByRecursion}
 use Rattle.std.proofs.lemmas.List.{append-nil}
 use Rattle.wk1_records.specs.Records.{piece_bytes, pieces_bytes, Piece}
-use Rattle.wk1_file.specs.Written.{Writes}
+use Rattle.wk1_file.specs.inner.Written.{Writes}
 
 pub bytes_both : (ps qs : List Piece) → pieces_bytes (ps ++ qs) ≡ pieces_bytes ps ++ pieces_bytes qs
 bytes_both [] qs = refl

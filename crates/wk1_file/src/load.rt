@@ -3,7 +3,7 @@ ghost use Rattle.std.specs.Prelude.{◌≡◌, ◌≤◌, ◌<◌, ◌+◌, ◌+
 ghost use Rattle.wk1_file.specs.Files.{has_bof, IsFile};
 ghost use Rattle.wk1_records.specs.Meanings.{meaning_by};
 ghost use Rattle.wk1_file.specs.Sheets.{start, taken};
-ghost use Rattle.wk1_file.specs.Takes.{as_progress, IsMinded, Makes};
+ghost use Rattle.wk1_file.specs.inner.Takes.{as_progress, IsMinded, Makes};
 ghost use Rattle.wk1_records.specs.declared.entry.Entry.{Entry};
 ghost use Rattle.wk1_records.specs.declared.fault.Wk1Fault.TheVariants as fault;
 

@@ -6,7 +6,7 @@ ghost use Rattle.grid_address.specs.Place.{same_place, Place};
 ghost use Rattle.range_names.specs.Names.{key_of};
 ghost use Rattle.sheet_store.specs.Grid.{put_state, set_width_of, HasFormula, IsSound};
 ghost use Rattle.wk1_file.specs.Sheets.{taken, texted, Progress};
-ghost use Rattle.wk1_file.specs.Takes.{as_progress, IsEntry, IsMinded};
+ghost use Rattle.wk1_file.specs.inner.Takes.{as_progress, IsEntry, IsMinded};
 ghost use Rattle.wk1_records.specs.declared.entry.Entry.TheVariants as entry;
 
 use formula_tree::Value;

@@ -2,7 +2,7 @@ use Rattle.std.proofs.Common.{◌≡◌, ◌+◌, ℕ, ap, sym, subst, ◌∙◌
 use Rattle.std.specs.Prelude.{Err}
 use Rattle.wk1_records.specs.Meanings.{meaning_by}
 use Rattle.wk1_records.specs.Records.{IsFront}
-use Rattle.wk1_file.specs.Takes.{as_progress, Ahead, IsMinded}
+use Rattle.wk1_file.specs.inner.Takes.{as_progress, Ahead, IsMinded}
 use Rattle.wk1_file.proofs.Loads.{fits, goes_on, is_cut, is_end, is_fault}
 use Rattle.wk1_file.proofs.load.read_records.Goals as goal
 

@@ -5,7 +5,7 @@ use Rattle.sheet_store.specs.State.{CellState}
 use Rattle.wk1_records.specs.Records.{pieces_bytes}
 use Rattle.wk1_file.specs.Saved.{cell_pieces}
 use Rattle.wk1_file.specs.Said.{IsContent, IsValue}
-use Rattle.wk1_file.specs.Written.{Writes}
+use Rattle.wk1_file.specs.inner.Written.{Writes}
 use Rattle.wk1_file.proofs.put_cells.put_cells.Given as goal
 
 abbrev pub invariant-loop-entry : goal.invariant-loop-entry

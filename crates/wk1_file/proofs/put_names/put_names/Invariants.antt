@@ -5,7 +5,7 @@ use Rattle.range_names.specs.Names.{name_in}
 use Rattle.wk1_records.specs.Records.{piece_bytes}
 use Rattle.wk1_file.specs.Saved.{name_piece}
 use Rattle.wk1_file.specs.Said.{IsExtent}
-use Rattle.wk1_file.specs.Written.{Writes}
+use Rattle.wk1_file.specs.inner.Written.{Writes}
 use Rattle.wk1_file.proofs.put_names.put_names.Given as goal
 
 abbrev pub invariant-loop-key : goal.invariant-loop-key

@@ -2,7 +2,7 @@ use Rattle.std.proofs.Common.{◌≤◌, get_or, drop}
 use Rattle.sheet_store.specs.Grid.{width_of}
 use Rattle.wk1_records.specs.Records.{pieces_bytes}
 use Rattle.wk1_file.specs.Saved.{columns, width_piece}
-use Rattle.wk1_file.specs.Written.{Writes}
+use Rattle.wk1_file.specs.inner.Written.{Writes}
 use Rattle.wk1_file.proofs.put_settings.put_widths.Given as goal
 
 abbrev pub invariant-loop-col : goal.invariant-loop-col
