@@ -1,4 +1,3 @@
-pub mod Code
 pub mod Formulas
 pub mod Nodes
 pub mod Ranges
@@ -10,3 +9,4 @@ pub mod Table
 pub mod Tree
 pub mod Values
 pub mod View
+pub mod inner

@@ -37,7 +37,7 @@ pub struct Formula {
 
 impl Model for Formula {
     ghost use Rattle.formula_tree.specs.Tree.{Tree};
-    ghost use Rattle.formula_tree.specs.Code.{coded_tree};
+    ghost use Rattle.formula_tree.specs.inner.Code.{coded_tree};
 
     ghost Value = { Tree };
 
