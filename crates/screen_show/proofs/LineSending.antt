@@ -7,7 +7,7 @@ use Rattle.outside_world.specs.declared.faults.Failed.{Failed}
 use Rattle.screen_show.specs.Changes.{patched_line, line_differences, line_runs, differing_front}
 use Rattle.screen_show.specs.Display.{Shown, Puts, TellsSoundly, raised, with_bytes}
 use Rattle.screen_show.specs.Screen.{put_in_line}
-use Rattle.screen_show.specs.Lines.{SendsLine, HasSentLine}
+use Rattle.screen_show.specs.inner.Lines.{SendsLine, HasSentLine}
 use Rattle.screen_show.proofs.Fronts.{front_stops, run_line, run_count, run_differences, same_first}
 
 -- the changes before a column were put, and the rest of the line gives those that are left

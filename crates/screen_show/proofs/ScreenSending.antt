@@ -10,7 +10,7 @@ use Rattle.outside_world.specs.declared.faults.Failed.{Failed}
 use Rattle.screen_show.specs.Changes.{Agrees, AgreesInLine, Unchanged, patched, patched_line, changed_runs, differences, line_runs, line_differences}
 use Rattle.screen_show.specs.Display.{Shown, Finishes, HasSent, IsSound, Sends, TellsSoundly, raised, with_frame}
 use Rattle.screen_show.specs.Screen.{IsScreen}
-use Rattle.screen_show.specs.Lines.{SendsLine, HasSentLine}
+use Rattle.screen_show.specs.inner.Lines.{SendsLine, HasSentLine}
 use Rattle.screen_show.proofs.Fronts.{length-patched_line}
 use Rattle.screen_show.proofs.LineSending.{line_unchanged}
 

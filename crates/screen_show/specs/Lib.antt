@@ -2,5 +2,5 @@ pub mod Changes
 pub mod Display
 pub mod Screen
 pub mod LineSets
-pub mod Lines
 pub mod Recorder
+pub mod inner

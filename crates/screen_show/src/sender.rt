@@ -3,7 +3,7 @@ ghost use Rattle.std.specs.Prelude.{◌≡◌, ◌≤◌, ◌<◌, ◌+◌, leng
 ghost use Rattle.outside_world.specs.Causes.{HasCause};
 ghost use Rattle.screen_show.specs.Changes.{differing_front, Unchanged};
 ghost use Rattle.screen_show.specs.Display.{Puts, Finishes, Sends, TellsSoundly};
-ghost use Rattle.screen_show.specs.Lines.{SendsLine};
+ghost use Rattle.screen_show.specs.inner.Lines.{SendsLine};
 
 use crate::{Display, LineSet, Screen};
 use outside_world::Failed;
