@@ -12,7 +12,7 @@ use Rattle.jiff_core.proofs.DateLemmas.{civil}
 use Rattle.jiff_core.proofs.MarchLemmas.{day_count-late, days_of_years-march_days}
 use Rattle.jiff_core.proofs.SignedLemmas.{signed_arith}
 use Rattle.serial_date.specs.Calendar.{date_of, day_number, days_in_month, days_in_year, is_between, is_date, is_leap, number_of, total}
-use Rattle.serial_date.specs.Civil.{days_since_1899, numbered}
+use Rattle.serial_date.specs.inner.Civil.{days_since_1899, numbered}
 use Rattle.serial_date.proofs.DayNumbers.{found, in_calendar, is_small, passes, tested, years_closed, IsCalendarDate, IsSmall, IsTested}
 use Rattle.serial_date.proofs.Walks.{total_grows, total_more}
 

@@ -1,3 +1,3 @@
 pub mod Calendar
-pub mod Civil
 pub mod Fractions
+pub mod inner

@@ -2,7 +2,7 @@
 ghost use Rattle.std.specs.Prelude.{◌≡◌, ◌≤◌, ◌≤ℤ◌, ℕ, ℤ, pos, true, false, Some, IfErr, IfOk};
 ghost use Rattle.std.specs.Option.{ForSome};
 ghost use Rattle.serial_date.specs.Calendar.{date_of, day_number, is_between};
-ghost use Rattle.serial_date.specs.Civil.{days_since_1899, numbered};
+ghost use Rattle.serial_date.specs.inner.Civil.{days_since_1899, numbered};
 ghost use Rattle.jiff_core.specs.Date.{IsYmd};
 
 use jiff::civil::{Date, date};
