@@ -19,7 +19,7 @@ use Rattle.ref_adjust.proofs.Following.{changes_apart, moves_apart}
 use Rattle.ref_adjust.specs.Laws.{IsOneToOne}
 use Rattle.sheet_store.specs.Grid.{any_state, picked, AreHeld, Cells, Grid}
 use Rattle.sheet_store.specs.State.{CellState}
-use Rattle.sheet_shifts.specs.Puts.{entry_at, put_all, put_all_at, AreAllKeys, IsNaming}
+use Rattle.sheet_shifts.specs.inner.Puts.{entry_at, put_all, put_all_at, AreAllKeys, IsNaming}
 use Rattle.sheet_shifts.specs.Shifts.{cells_after, entry_after, name_after, name_at, names_after, place_after, span_after, state_after, state_at, IsShift}
 use Rattle.sheet_shifts.specs.declared.shift.Shift.{Shift}
 use Rattle.sheet_shifts.specs.declared.shift.Shift.TheVariants.{Lines, Block}

@@ -11,7 +11,7 @@ use Rattle.ref_adjust.specs.Lines.{place_shifted}
 use Rattle.ref_adjust.specs.declared.change.Change.{Change}
 use Rattle.sheet_store.specs.Grid.{any_state, is_blank, picked, AreHeld, Cells, IsHeld}
 use Rattle.sheet_store.specs.State.{CellState}
-use Rattle.sheet_shifts.specs.Puts.{entry_at, entry_from, first_pushed_at, is_pushed_from}
+use Rattle.sheet_shifts.specs.inner.Puts.{entry_at, entry_from, first_pushed_at, is_pushed_from}
 use Rattle.sheet_shifts.specs.Refusals.{first_pushed, is_pushed}
 use Rattle.sheet_shifts.specs.Shifts.{entry_after}
 use Rattle.sheet_shifts.specs.declared.shift.Shift.{Shift}

@@ -11,7 +11,7 @@ use Rattle.std.specs.declared.cmp.Ordering.TheVariants.{Less}
 use Rattle.std.proofs.Common.{sym, ◌∙◌, ap, inl, inr}
 use Rattle.std.proofs.lemmas.Bool.{cases_Bool}
 use Rattle.grid_address.proofs.Maps.{equal_of, in_order}
-use Rattle.sheet_shifts.specs.Puts.{put_all}
+use Rattle.sheet_shifts.specs.inner.Puts.{put_all}
 use Rattle.sheet_shifts.specs.Refusals.{or_else}
 
 -- no key comes twice

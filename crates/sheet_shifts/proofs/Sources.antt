@@ -9,7 +9,7 @@ use Rattle.ref_adjust.specs.declared.change.Change.{Change}
 use Rattle.ref_adjust.specs.declared.change.Change.TheVariants.{InsertRows, InsertColumns, DeleteRows, DeleteColumns}
 use Rattle.ref_adjust.specs.Lines.{IsChange}
 use Rattle.sheet_shifts.specs.Columns.{columns_after, columns_changed, columns_deleted, columns_inserted}
-use Rattle.sheet_shifts.specs.Puts.{own_of, source_changed, source_deleted, source_inserted, source_of}
+use Rattle.sheet_shifts.specs.inner.Puts.{own_of, source_changed, source_deleted, source_inserted, source_of}
 use Rattle.sheet_shifts.specs.Shifts.{IsShift}
 use Rattle.sheet_shifts.specs.declared.shift.Shift.{Shift}
 use Rattle.sheet_shifts.specs.declared.shift.Shift.TheVariants.{Lines, Block}

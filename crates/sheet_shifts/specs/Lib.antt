@@ -1,5 +1,5 @@
 pub mod Columns
 pub mod Laws
-pub mod Puts
 pub mod Refusals
 pub mod Shifts
+pub mod inner

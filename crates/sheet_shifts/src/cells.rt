@@ -3,7 +3,7 @@ ghost use Rattle.std.specs.Prelude.{◌≡◌, [], IfOk, OnOk};
 ghost use Rattle.std.specs.List.{cons_option};
 ghost use Rattle.std.specs.FinMap as map;
 ghost use Rattle.sheet_store.specs.Grid.{IsHeld};
-ghost use Rattle.sheet_shifts.specs.Puts.{entry_at, put_all, put_all_at};
+ghost use Rattle.sheet_shifts.specs.inner.Puts.{entry_at, put_all, put_all_at};
 ghost use Rattle.sheet_shifts.specs.Shifts.{cells_after, entry_after, grid_after, state_after, IsShift};
 
 use crate::Shift;

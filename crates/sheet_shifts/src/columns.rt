@@ -2,7 +2,7 @@
 ghost use Rattle.std.specs.Prelude.{◌≡◌, ◌<◌, false, set};
 ghost use Rattle.ref_adjust.specs.Lines.{AreLines, IsChange};
 ghost use Rattle.sheet_shifts.specs.Columns.{columns_after};
-ghost use Rattle.sheet_shifts.specs.Puts.{own_of, source_changed, source_deleted, source_inserted, source_of};
+ghost use Rattle.sheet_shifts.specs.inner.Puts.{own_of, source_changed, source_deleted, source_inserted, source_of};
 ghost use Rattle.sheet_shifts.specs.Shifts.{IsShift};
 
 use crate::Shift;

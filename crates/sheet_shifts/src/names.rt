@@ -2,7 +2,7 @@
 ghost use Rattle.std.specs.Prelude.{◌≡◌, ◌∷◌, [], IfOk, OnOk};
 ghost use Rattle.std.specs.List.{cons_option};
 ghost use Rattle.range_names.specs.Names.{IsKey};
-ghost use Rattle.sheet_shifts.specs.Puts.{put_all};
+ghost use Rattle.sheet_shifts.specs.inner.Puts.{put_all};
 ghost use Rattle.sheet_shifts.specs.Shifts.{name_after, names_after, IsShift};
 
 use crate::Shift;

@@ -3,7 +3,7 @@ ghost use Rattle.std.specs.Prelude.{◌≡◌, true, None};
 ghost use Rattle.std.specs.FinMap.{entries};
 ghost use Rattle.grid_address.specs.Place.{is_within, InSheet, Place};
 ghost use Rattle.ref_adjust.specs.Lines.{place_shifted, IsChange};
-ghost use Rattle.sheet_shifts.specs.Puts.{first_pushed_at, is_pushed_at};
+ghost use Rattle.sheet_shifts.specs.inner.Puts.{first_pushed_at, is_pushed_at};
 ghost use Rattle.sheet_shifts.specs.Refusals.{first_pushed, is_pushed, pushed_by};
 
 use grid_address::{COLUMNS, Cell, ROWS, Span};

@@ -1,5 +1,5 @@
 use Rattle.std.specs.Prelude.{◌≡◌, drop}
-use Rattle.sheet_shifts.specs.Puts.{put_all_at}
+use Rattle.sheet_shifts.specs.inner.Puts.{put_all_at}
 use Rattle.sheet_shifts.proofs.cells.put_all_at.Given as goal
 
 abbrev pub invariant-loop-cell : goal.invariant-loop-cell

@@ -1,7 +1,7 @@
 use Rattle.std.proofs.Common.{◌≡◌, ◌+◌, ◌++◌, ◌≤◌, ◌<◌, ◌∙◌, ℕ, Bool, false, List, length, take, drop, set, ap, sym, arith}
 use Rattle.sheet_store.specs.Grid.{Grid}
 use Rattle.sheet_shifts.specs.Columns.{columns_after}
-use Rattle.sheet_shifts.specs.Puts.{own_of}
+use Rattle.sheet_shifts.specs.inner.Puts.{own_of}
 use Rattle.sheet_shifts.proofs.Sources.{after_at, after_len, all_columns, one_column}
 use Rattle.sheet_shifts.proofs.columns.put_columns.Goals as goal
 

@@ -1,5 +1,5 @@
 use Rattle.std.proofs.Common.{subst, ◌∙◌}
-use Rattle.sheet_shifts.specs.Puts.{AreAllKeys}
+use Rattle.sheet_shifts.specs.inner.Puts.{AreAllKeys}
 use Rattle.sheet_shifts.proofs.Apart.{all_named, none_named, one_named}
 use Rattle.sheet_shifts.proofs.names.names_after.Goals as goal
 

@@ -1,4 +1,4 @@
-use Rattle.sheet_shifts.specs.Puts.{IsNaming}
+use Rattle.sheet_shifts.specs.inner.Puts.{IsNaming}
 use Rattle.sheet_shifts.proofs.names.names_after.Given as goal
 
 abbrev pub invariant-loop-key : goal.invariant-loop-key

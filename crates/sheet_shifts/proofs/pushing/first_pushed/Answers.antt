@@ -1,6 +1,6 @@
 use Rattle.std.proofs.Common.{ap, ◌∙◌}
 use Rattle.std.specs.FinMap.{entries}
-use Rattle.sheet_shifts.specs.Puts.{first_pushed_at}
+use Rattle.sheet_shifts.specs.inner.Puts.{first_pushed_at}
 use Rattle.sheet_shifts.proofs.Listed.{all_held, all_states, first_listed}
 use Rattle.sheet_shifts.proofs.pushing.first_pushed.Goals as goal
 

@@ -1,5 +1,5 @@
 use Rattle.std.specs.Prelude.{◌≡◌, drop}
-use Rattle.sheet_shifts.specs.Puts.{first_pushed_at}
+use Rattle.sheet_shifts.specs.inner.Puts.{first_pushed_at}
 use Rattle.sheet_shifts.proofs.pushing.first_pushed_at.Given as goal
 
 abbrev pub invariant-loop-cell : goal.invariant-loop-cell
