@@ -4,7 +4,7 @@ use Rattle.std.specs.FinMap.{get}
 use Rattle.std.proofs.Common.{ap, sym, ◌∙◌, inl, inr}
 use Rattle.std.proofs.lemmas.Bool.{and_parts, cases_Bool, false≢true, or_cases, or_left, or_right, true≢false}
 use Rattle.block_writes.specs.Writing.{content_or_blank, written}
-use Rattle.commands_data.specs.Benched.{contents_behind, keep_formats, on_bench, IsSameBut}
+use Rattle.commands_data.specs.inner.Benched.{contents_behind, keep_formats, on_bench, IsSameBut}
 use Rattle.commands_data.specs.Trying.{content_at}
 use Rattle.data_blocks.specs.Benches.{with_content, IsSameBench}
 use Rattle.formula_tree.specs.declared.value.Content.{Content}

@@ -4,7 +4,7 @@ use Rattle.std.specs.FinMap.{get}
 use Rattle.std.proofs.Common.{ap, ◌∙◌}
 use Rattle.block_writes.specs.Writing.{content_or_blank}
 use Rattle.commands_data.proofs.Behind.{content_put, contents_written, format_put, formats_written, other_behind, there}
-use Rattle.commands_data.specs.Benched.{contents_behind, keep_formats, IsSameBut}
+use Rattle.commands_data.specs.inner.Benched.{contents_behind, keep_formats, IsSameBut}
 use Rattle.commands_data.specs.Trying.{content_at}
 use Rattle.data_blocks.specs.Benches as bench
 use Rattle.formula_eval.specs.Mean.{mean}

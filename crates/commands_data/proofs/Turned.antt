@@ -2,7 +2,7 @@
 use Rattle.std.specs.Prelude.{ℕ, ◌≡◌, refl, List, [], ◌∷◌, ◌++◌, map}
 use Rattle.std.proofs.Common.{ap, append_assoc, subst, sym, ◌∙◌}
 use Rattle.std.proofs.lemmas.List.{append-nil}
-use Rattle.commands_data.specs.Held.{shown, HasDone, HasGivenBack, HasTried}
+use Rattle.commands_data.specs.inner.Held.{shown, HasDone, HasGivenBack, HasTried}
 use Rattle.commands_data.specs.Trying.{answers_of, contents_of, entered, tabled, taken, tried, value_in, values_after, written_out}
 use Rattle.commands_data.specs.declared.bench.TableBench.{TableBench}
 use Rattle.data_blocks.specs.Benches as bench

@@ -1,6 +1,6 @@
 // A worksheet as a bench.
 ghost use Rattle.std.specs.Prelude.{◌≡◌, true};
-ghost use Rattle.commands_data.specs.Benched.{keep_formats};
+ghost use Rattle.commands_data.specs.inner.Benched.{keep_formats};
 
 use crate::protection::is_protected;
 use crate::trying::{enter_out, write_out};
@@ -27,7 +27,7 @@ pub struct TableBench<'a> {
 impl Bench for TableBench<'_> {
     ghost use Rattle.data_blocks.specs.Benches.{OnBench};
     ghost use Rattle.data_blocks.specs.Tables.{Trial};
-    ghost use Rattle.commands_data.specs.Held.{shown, HasGivenBack, HasTried};
+    ghost use Rattle.commands_data.specs.inner.Held.{shown, HasGivenBack, HasTried};
 
     ghost shows = { shown };
 

@@ -1,6 +1,6 @@
 // Contents are entered and given back, each with a recalculation in either mode.
 ghost use Rattle.std.specs.Prelude.{◌≡◌, true, IfOk, OnOk};
-ghost use Rattle.commands_data.specs.Benched.{contents_behind, keep_formats, IsSameBut};
+ghost use Rattle.commands_data.specs.inner.Benched.{contents_behind, keep_formats, IsSameBut};
 ghost use Rattle.commands_data.specs.Trying.{content_at, contents_of, put_out, written_out};
 ghost use Rattle.data_blocks.specs.Benches.{with_content};
 ghost use Rattle.grid_address.specs.Place.{same_place};

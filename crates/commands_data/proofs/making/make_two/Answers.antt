@@ -2,7 +2,7 @@ use Rattle.std.specs.Prelude.{[], ◌∷◌, List}
 use Rattle.std.proofs.Common.{ap, sym, ◌∙◌}
 use Rattle.commands_data.proofs.Behind.{held_behind}
 use Rattle.commands_data.proofs.Turned.{table_taken, table_written}
-use Rattle.commands_data.specs.Benched.{contents_behind}
+use Rattle.commands_data.specs.inner.Benched.{contents_behind}
 use Rattle.commands_data.specs.Trying.{content_at, value_in}
 use Rattle.data_blocks.specs.Tables.{turns_two, Turn}
 use Rattle.grid_address.specs.Place.{Place}

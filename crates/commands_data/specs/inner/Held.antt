@@ -1,6 +1,6 @@
 -- What is done on a bench that holds a worksheet and a count of evaluations by reference.
 use Rattle.std.specs.Prelude.{◌≡◌}
-use Rattle.commands_data.specs.Benched.{on_bench}
+use Rattle.commands_data.specs.inner.Benched.{on_bench}
 use Rattle.commands_data.specs.Trying.{entered, written_out}
 use Rattle.commands_data.specs.declared.bench.TableBench.{TableBench}
 use Rattle.data_blocks.specs.Benches.{OnBench}
