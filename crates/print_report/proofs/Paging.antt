@@ -6,7 +6,7 @@ use Rattle.std.proofs.Math.Seq.{drop-cons}
 use Rattle.sheet_store.specs.declared.writes.SavedSheet.{SavedSheet}
 use Rattle.print_report.specs.declared.settings.PrintFault.{PrintFault}
 use Rattle.print_report.specs.declared.settings.PrintFault.TheVariants.{PageTooSmall, TooLong, Memory}
-use Rattle.print_report.specs.Adding.{Adds}
+use Rattle.print_report.specs.inner.Adding.{Adds}
 use Rattle.print_report.specs.Bands.{width_in}
 use Rattle.shown_cells.specs.Cells.{padded}
 use Rattle.print_report.specs.Cells.{cell_text}

@@ -1,7 +1,7 @@
-pub mod Adding
 pub mod Bands
 pub mod Cells
 pub mod Jobs
 pub mod Lines
 pub mod Pages
 pub mod Running
+pub mod inner

@@ -1,6 +1,6 @@
 // Pages, and the bands of a report.
 ghost use Rattle.std.specs.Prelude.{◌≡◌, ◌≤◌, ◌<◌, ◌+◌, ◌*◌, ◌++◌, length, OnOk};
-ghost use Rattle.print_report.specs.Adding.{Adds};
+ghost use Rattle.print_report.specs.inner.Adding.{Adds};
 ghost use Rattle.print_report.specs.Bands.{bands, wide};
 ghost use Rattle.print_report.specs.Jobs.{printed_by, sheet_of};
 ghost use Rattle.print_report.specs.Pages.{banded, page, page_count, page_rows, page_width, pages, running_line};
