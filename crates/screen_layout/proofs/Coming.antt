@@ -6,7 +6,7 @@ use Rattle.sheet_store.specs.Grid.{is_hidden}
 use Rattle.screen_layout.specs.Sheets.{width_in}
 use Rattle.work_sheet.specs.Seen.{Sheet}
 use Rattle.screen_layout.specs.Columns.{columns_from}
-use Rattle.screen_layout.specs.Coming.{behind}
+use Rattle.screen_layout.specs.inner.Coming.{behind}
 
 module _ (s : Sheet) (used col : ℕ) (within : col ≤ 255) where
   more : 256 - col ≡ suc (256 - (col + 1))

@@ -1,7 +1,6 @@
 pub mod Alike
 pub mod Cells
 pub mod Columns
-pub mod Coming
 pub mod Control
 pub mod Corner
 pub mod Foot
@@ -10,3 +9,4 @@ pub mod Places
 pub mod Screen
 pub mod Sheets
 pub mod Views
+pub mod inner

@@ -1,7 +1,7 @@
 // Which columns are shown.
 ghost use Rattle.std.specs.Prelude.{◌≡◌, ◌<◌, ◌≤◌, IfSome};
 ghost use Rattle.screen_layout.specs.Columns.{columns_shown};
-ghost use Rattle.screen_layout.specs.Coming.{ComesNext};
+ghost use Rattle.screen_layout.specs.inner.Coming.{ComesNext};
 ghost use Rattle.work_sheet.specs.Seen.{of_worksheet};
 
 use crate::widths::width_in;

@@ -1,6 +1,6 @@
 use Rattle.std.proofs.Common.{ℕ, List, [], ◌∷◌, ap, subst, ◌∙◌}
 use Rattle.screen_layout.specs.Columns.{columns_line}
-use Rattle.screen_layout.specs.Coming.{coming}
+use Rattle.screen_layout.specs.inner.Coming.{coming}
 use Rattle.screen_layout.specs.Lines.{shown_line}
 use Rattle.screen_layout.specs.declared.shown_columns.Column.{Column}
 use Rattle.work_sheet.specs.Seen.{of_worksheet, Sheet}

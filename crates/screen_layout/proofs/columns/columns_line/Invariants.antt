@@ -1,6 +1,6 @@
 use Rattle.std.proofs.Common.{◌≤◌, length}
 use Rattle.screen_layout.specs.Columns.{columns_line}
-use Rattle.screen_layout.specs.Coming.{coming}
+use Rattle.screen_layout.specs.inner.Coming.{coming}
 use Rattle.work_sheet.specs.Seen.{of_worksheet}
 use Rattle.screen_layout.proofs.Passing.{Painting}
 use Rattle.screen_layout.proofs.columns.columns_line.Given as goal

@@ -1,6 +1,6 @@
 use Rattle.std.proofs.Common.{◌≡◌, ◌≤◌, ◌+◌, length}
 use Rattle.screen_layout.specs.Columns.{columns_shown}
-use Rattle.screen_layout.specs.Coming.{coming}
+use Rattle.screen_layout.specs.inner.Coming.{coming}
 use Rattle.work_sheet.specs.Seen.{of_worksheet}
 use Rattle.screen_layout.proofs.shown_columns.columns_shown.Given as goal
 

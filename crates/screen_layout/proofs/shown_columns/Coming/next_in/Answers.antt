@@ -1,7 +1,7 @@
 use Rattle.std.proofs.Common.{◌≡◌, ℕ, ◌+◌, ◌∷◌, ◌-◌, ◌||◌, true, false, refl, ap, sym, ◌∙◌, arith}
 use Rattle.std.specs.Prelude.{nat_eq, nat_le}
 use Rattle.std.proofs.lemmas.Bool.Decides.{nat_tests}
-use Rattle.screen_layout.specs.Coming.{behind, coming}
+use Rattle.screen_layout.specs.inner.Coming.{behind, coming}
 use Rattle.screen_layout.specs.Sheets.{width_in}
 use Rattle.work_sheet.specs.Seen.{of_worksheet, Sheet}
 use Rattle.screen_layout.proofs.Coming.{behind_all, behind_hidden, behind_last, behind_shown}

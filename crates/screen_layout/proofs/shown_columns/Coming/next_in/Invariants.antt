@@ -1,5 +1,5 @@
 use Rattle.std.proofs.Common.{◌≡◌}
-use Rattle.screen_layout.specs.Coming.{behind, coming}
+use Rattle.screen_layout.specs.inner.Coming.{behind, coming}
 use Rattle.work_sheet.specs.Seen.{of_worksheet}
 use Rattle.screen_layout.proofs.shown_columns.Coming.next_in.Given as goal
 
