@@ -12,7 +12,7 @@ use Rattle.formula_tree.specs.declared.value.Value.{Value}
 use Rattle.formula_eval.specs.Outlook.{Sight}
 use Rattle.block_writes.specs.Writing.{at}
 use Rattle.data_query.specs.Extraction.{same_record}
-use Rattle.data_query.specs.Keys.{all_keyed, keyed, record_values, same_values}
+use Rattle.data_query.specs.inner.Keys.{all_keyed, keyed, record_values, same_values}
 use Rattle.data_query.specs.declared.output.OutputField.{OutputField}
 use Rattle.data_query.specs.declared.repeats.ValueKey.{ValueKey}
 use Rattle.data_query.specs.declared.repeats.ValueKey.TheVariants as key

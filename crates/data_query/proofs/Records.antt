@@ -7,7 +7,7 @@ use Rattle.grid_address.specs.Place.{Extent, Place}
 use Rattle.formula_eval.specs.Outlook.{Outlook, Sight}
 use Rattle.block_writes.specs.Writing.{at, columns_of, numbers_from, rows_below, rows_copied, rows_of}
 use Rattle.sheet_store.specs.declared.writes.Write.{Write}
-use Rattle.data_query.specs.Plans.{behind_first, records}
+use Rattle.data_query.specs.inner.Plans.{behind_first, records}
 use Rattle.data_query.specs.Selection.{moved_up, rows_erased}
 
 -- the row of a cell

@@ -1,4 +1,3 @@
 pub mod Extraction
-pub mod Keys
-pub mod Plans
 pub mod Selection
+pub mod inner

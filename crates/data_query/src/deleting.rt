@@ -3,7 +3,7 @@ ghost use Rattle.std.specs.Prelude.{◌≡◌, ◌⊎◌, ◌<◌, ◌≤◌, �
 ghost use Rattle.grid_address.specs.Place.{Place};
 ghost use Rattle.formula_eval.specs.Outlook.{Sight};
 ghost use Rattle.formula_eval.specs.Scenes.{outlook_of};
-ghost use Rattle.data_query.specs.Plans.{behind_first};
+ghost use Rattle.data_query.specs.inner.Plans.{behind_first};
 ghost use Rattle.data_query.specs.Selection.{deletion, kept, moved_up};
 
 use crate::QueryFault;

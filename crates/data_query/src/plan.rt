@@ -4,7 +4,7 @@ ghost use Rattle.range_lines.specs.Rows.{at};
 ghost use Rattle.formula_eval.specs.Criteria.{fields_of};
 ghost use Rattle.formula_eval.specs.Outlook.{Sight};
 ghost use Rattle.formula_eval.specs.Scenes.{outlook_of};
-ghost use Rattle.data_query.specs.Plans.{is_wanted, records};
+ghost use Rattle.data_query.specs.inner.Plans.{is_wanted, records};
 
 use formula_eval::{Look, Scene, fields_of, record_matches};
 use grid_address::{CellList, Span};

@@ -6,7 +6,7 @@ ghost use Rattle.formula_eval.specs.Outlook.{Sight};
 ghost use Rattle.formula_tree.specs.Seen.{seen_value};
 ghost use Rattle.block_writes.specs.Writing.{at};
 ghost use Rattle.data_query.specs.Extraction.{same_record, without_repeats};
-ghost use Rattle.data_query.specs.Keys.{all_keyed, keyed, record_values, same_values};
+ghost use Rattle.data_query.specs.inner.Keys.{all_keyed, keyed, record_values, same_values};
 
 use crate::output::OutputField;
 use formula_eval::Look;

@@ -1,7 +1,7 @@
 use Rattle.std.proofs.Common.{cond, ap, ◌++◌, ◌∷◌, [], ◌∙◌}
 use Rattle.std.specs.Prelude.{not, Bool}
 use Rattle.std.specs.List.{list_any}
-use Rattle.data_query.specs.Keys.{all_keyed, same_values}
+use Rattle.data_query.specs.inner.Keys.{all_keyed, same_values}
 use Rattle.data_query.proofs.Keyed.{among_equal, twice_not}
 use Rattle.data_query.proofs.repeats.insert.Goals as goal
 

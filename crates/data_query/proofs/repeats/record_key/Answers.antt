@@ -1,7 +1,7 @@
 use Rattle.std.proofs.Common.{◌∷◌, [], ap, ◌∙◌, arith}
 use Rattle.std.proofs.lemmas.List.{map-append}
 use Rattle.block_writes.specs.Writing.{at}
-use Rattle.data_query.specs.Keys.{all_keyed, keyed, record_values}
+use Rattle.data_query.specs.inner.Keys.{all_keyed, keyed, record_values}
 use Rattle.data_query.specs.declared.output.OutputField.{OutputField}
 use Rattle.data_query.proofs.Extracted.{made_all, made_next}
 use Rattle.data_query.proofs.repeats.record_key.Goals as goal

@@ -1,5 +1,5 @@
 use Rattle.std.proofs.Common.{◌≡◌, ◌++◌, drop}
-use Rattle.data_query.specs.Keys.{all_keyed, record_values}
+use Rattle.data_query.specs.inner.Keys.{all_keyed, record_values}
 use Rattle.data_query.proofs.repeats.record_key.Given as goal
 
 abbrev pub invariant-loop-field : goal.invariant-loop-field

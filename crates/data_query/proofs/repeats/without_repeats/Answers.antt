@@ -3,7 +3,7 @@ use Rattle.std.specs.Global.{Vec}
 use Rattle.std.proofs.lemmas.List.{drop_all, drop_more}
 use Rattle.grid_address.specs.Place.{Place}
 use Rattle.data_query.specs.Extraction.{same_record, without_repeats}
-use Rattle.data_query.specs.Keys.{all_keyed, record_values}
+use Rattle.data_query.specs.inner.Keys.{all_keyed, record_values}
 use Rattle.data_query.specs.declared.repeats.ValueKey.{ValueKey}
 use Rattle.data_query.proofs.Records.{row_of}
 use Rattle.data_query.proofs.Distinct.{alike, at_end, at_start, looked_at, to_come}

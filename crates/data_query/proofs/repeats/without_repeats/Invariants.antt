@@ -2,7 +2,7 @@ use Rattle.std.proofs.Common.{◌≡◌, ◌++◌, drop, map}
 use Rattle.std.specs.Global.{Vec}
 use Rattle.grid_address.specs.Place.{Place}
 use Rattle.data_query.specs.Extraction.{same_record, without_repeats}
-use Rattle.data_query.specs.Keys.{all_keyed, record_values}
+use Rattle.data_query.specs.inner.Keys.{all_keyed, record_values}
 use Rattle.data_query.specs.declared.repeats.ValueKey.{ValueKey}
 use Rattle.data_query.proofs.Records.{row_of}
 use Rattle.data_query.proofs.Distinct.{to_come}
