@@ -8,7 +8,7 @@ use Rattle.grid_address.specs.Place.{Place}
 use Rattle.formula_tree.specs.declared.value.Content.TheVariants as content
 use Rattle.block_writes.specs.Writing.{written}
 use Rattle.sheet_store.specs.declared.writes.Write.{Write}
-use Rattle.data_blocks.specs.Steps.{reached}
+use Rattle.data_blocks.specs.inner.Steps.{reached}
 use Rattle.data_blocks.specs.Filling.{is_past, is_reached, numbered, numbers_of, steps_from}
 
 -- the numbers from one on, if there is one

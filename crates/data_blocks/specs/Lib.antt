@@ -4,4 +4,4 @@ pub mod Filling
 pub mod Ranges
 pub mod Sorting
 pub mod Tables
-pub mod Steps
+pub mod inner

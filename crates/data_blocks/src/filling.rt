@@ -3,7 +3,7 @@ ghost use Rattle.std.specs.Prelude.{◌≡◌, ◌⊎◌, IfOk, IfErr, Ok, Err, 
 ghost use Rattle.std.specs.Int.RustNames.{int_lt};
 ghost use Rattle.fixed_value.specs.Numbers.{within};
 ghost use Rattle.data_blocks.specs.Filling.{fill, filled_with, is_past, numbered, numbers_of};
-ghost use Rattle.data_blocks.specs.Steps.{reached};
+ghost use Rattle.data_blocks.specs.inner.Steps.{reached};
 
 use crate::BlockFault;
 use block_writes::{by_columns, written};

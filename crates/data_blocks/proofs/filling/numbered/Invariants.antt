@@ -1,7 +1,7 @@
 use Rattle.std.proofs.Common.{◌≡◌, ◌++◌, drop}
 use Rattle.fixed_value.specs.Numbers.{within}
 use Rattle.data_blocks.proofs.Reached.{filled_from}
-use Rattle.data_blocks.specs.Steps.{reached}
+use Rattle.data_blocks.specs.inner.Steps.{reached}
 use Rattle.data_blocks.proofs.filling.numbered.Given as goal
 
 abbrev pub invariant-loop-cell : goal.invariant-loop-cell
