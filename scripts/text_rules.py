@@ -4,12 +4,14 @@ import re
 import subprocess
 import sys
 
+import definitions
+
 TOP_FILES = {".gitignore", "1-2-3", "1-2-3-list", "CHANGELOG.md", "HANDLES", "Makefile", "README.md", "VERSION", "crates.txt"}
 TOP_FOLDERS = {".ci", "bench", "crates", "docs", "examples", "man", "oracle", "release", "scripts"}
 CRATE_PARTS = {"src", "specs", "proofs", "must-fail", "wrong-bodies", "data", "stdin", "stdout", "args", "status"}
 PRODUCTS = re.compile(r"(^|/)(out|__pycache__)/|\.(o|a|so|rlib|oantt|stamp|pyc)$")
 SECTIONS = ["base", "formulas", "sheet", "session", "program", "checks"]
-MOST_LINES, MOST_BODY, MOST_COLUMNS, MOST_EDITS, MOST_THEOREMS = 800, 41, 120, 3, 200
+MOST_LINES, MOST_BODY, MOST_COLUMNS, MOST_EDITS, MOST_THEOREMS = 800, 41, 120, 3, 220
 FUNCTION = re.compile(r"^( *)(pub(\([a-z]+\))? )?((const|unsafe|ghost) )*fn (\w+)")
 
 
@@ -52,6 +54,8 @@ class Rules:
         for number, line in enumerate(lines, 1):
             if re.match(r"\s*(ghost )?use .*\bTheConstants\b", line):
                 self.fault(f"{name}:{number}: a definition takes a constant of the code")
+            if "/specs/" in name and "/specs/inner/" not in name and re.match(r"use Rattle\.\w+\.specs\.inner\.", line):
+                self.fault(f"{name}:{number}: a definition cites the code's books, which stand in inner/")
 
     def places(self):
         """Only known names stand at the top and in a crate, and no build product is kept."""
@@ -191,6 +195,7 @@ class Rules:
             return
         if len(lines) > MOST_THEOREMS:
             self.fault(f"docs/THEOREMS.md: {len(lines)} lines")
+        self.length_of_definitions("\n".join(lines))
         code = collections.defaultdict(str)
         for name in self.files:
             if re.match(r"crates/\w+/src/.*\.rt$", name):
@@ -212,6 +217,17 @@ class Rules:
                         crate = word
                     elif f"crates/{crate}/specs/{word}.antt" not in self.files:
                         self.fault(f"docs/THEOREMS.md:{number}: there is no file {word} of {crate}'s definitions")
+
+    def length_of_definitions(self, text):
+        """docs/THEOREMS.md tells how much one reads, to a fiftieth: the lines and files that scripts/reading_list counts."""
+        told = re.search(r"some ([\d,]+) lines in (\d+) files, with ([\d,]+) more", text)
+        if not told:
+            self.fault("docs/THEOREMS.md: it doesn't tell how many lines of definitions there are to read")
+            return
+        lines, meanings, files = definitions.length()
+        for number, now in zip(told.groups(), (lines, files, meanings)):
+            if abs(int(number.replace(",", "")) - now) * 50 > now:
+                self.fault(f"docs/THEOREMS.md: tells {number} of the definitions to read where scripts/reading_list counts {now}")
 
 
 def crates_named(fault):
