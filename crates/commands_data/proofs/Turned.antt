@@ -1,13 +1,13 @@
--- What the turns of a table come to.
+-- What the scenarios of a table come to.
 use Rattle.std.specs.Prelude.{ℕ, ◌≡◌, refl, List, [], ◌∷◌, ◌++◌, map}
 use Rattle.std.proofs.Common.{ap, append_assoc, subst, sym, ◌∙◌}
 use Rattle.std.proofs.lemmas.List.{append-nil}
 use Rattle.commands_data.specs.inner.Held.{shown, HasDone, HasGivenBack, HasTried}
-use Rattle.commands_data.specs.Trying.{answers_of, contents_of, entered, tabled, taken, tried, value_in, values_after, written_out}
+use Rattle.commands_data.specs.Trying.{answers_of, contents_of, entered, tabled, all_tried, tried, value_in, values_after, written_out}
 use Rattle.commands_data.specs.declared.bench.TableBench.{TableBench}
 use Rattle.data_blocks.specs.Benches as bench
 use Rattle.data_blocks.specs.Benches.{values_on, IsTable}
-use Rattle.data_blocks.specs.Tables.{after_trials, after_turns, answered, turns_written, Trial, Turn}
+use Rattle.data_blocks.specs.Tables.{after_trials, after_scenarios, answer_written, scenarios_written, Trial, Scenario}
 use Rattle.formula_eval.specs.declared.look.Scene.{Scene}
 use Rattle.formula_eval.specs.declared.meaning.Tally.{Tally}
 use Rattle.formula_tree.specs.declared.value.Value.{Value}
@@ -47,39 +47,39 @@ trials_then (t ∷ ts) d a b c h k = trials_then ts (tried a.scene t d) a k.0 c 
 same_values : (d : Done) (a b : TableBench) → HasDone d a b → values_on (shown b) ≡ values_after d
 same_values d a b h = ap value_in h.did.sheet
 
--- turns were taken
-pub turns_then : (ts : List Turn) (d : Done) (a b c : TableBench) (ws vs : List Write) → HasDone d a b → bench.HasTaken shown HasTried ts b ws c vs →
-    HasDone (after_turns (tried a.scene) ts d) a c × (vs ≡ ws ++ turns_written (tried a.scene) values_after ts d)
-turns_then [] d a b c ws vs h k = (subst (λ (x : TableBench). HasDone d a x) (sym k.0) h, k.1 ∙ sym (append-nil ws))
-turns_then (t ∷ ts) d a b c ws vs h k =
+-- scenarios were tried
+pub scenarios_then : (ts : List Scenario) (d : Done) (a b c : TableBench) (ws vs : List Write) → HasDone d a b → bench.HasTaken shown HasTried ts b ws c vs →
+    HasDone (after_scenarios (tried a.scene) ts d) a c × (vs ≡ ws ++ scenarios_written (tried a.scene) values_after ts d)
+scenarios_then [] d a b c ws vs h k = (subst (λ (x : TableBench). HasDone d a x) (sym k.0) h, k.1 ∙ sym (append-nil ws))
+scenarios_then (t ∷ ts) d a b c ws vs h k =
     let next : Done = after_trials (tried a.scene) t.trials d in
     let now : HasDone next a k.0 = trials_then t.trials d a b k.0 h k.1 in
-    let rest = turns_then ts next a k.0 c (ws ++ map (answered (values_on (shown k.0))) t.answers) vs now k.2 in
-    let more : List Write = turns_written (tried a.scene) values_after ts next in (
+    let rest = scenarios_then ts next a k.0 c (ws ++ map (answer_written (values_on (shown k.0))) t.answers) vs now k.2 in
+    let more : List Write = scenarios_written (tried a.scene) values_after ts next in (
       rest.0,
-      rest.1 ∙ ap (λ (f : Place → Value). (ws ++ map (answered f) t.answers) ++ more) (same_values next a k.0 now)
-          ∙ append_assoc ws (map (answered (values_after next)) t.answers) more,
+      rest.1 ∙ ap (λ (f : Place → Value). (ws ++ map (answer_written f) t.answers) ++ more) (same_values next a k.0 now)
+          ∙ append_assoc ws (map (answer_written (values_after next)) t.answers) more,
     )
 
--- a table's turns were taken, and its input cells got back what they held
-pub table_taken : (inputs : List Place) (ts : List Turn) (a c : TableBench) (ws : List Write) → IsTable shown HasTried HasGivenBack ts a c ws →
+-- a table's scenarios were tried, and its input cells got back what they held
+pub table_taken : (inputs : List Place) (ts : List Scenario) (a c : TableBench) (ws : List Write) → IsTable shown HasTried HasGivenBack ts a c ws →
     a.kept.now ≡ contents_of inputs (of_worksheet a.sheet.now) →
-    HasDone (taken a.scene inputs ts (of_worksheet a.sheet.now)) a c × (ws ≡ answers_of a.scene ts (of_worksheet a.sheet.now))
+    HasDone (all_tried a.scene inputs ts (of_worksheet a.sheet.now)) a c × (ws ≡ answers_of a.scene ts (of_worksheet a.sheet.now))
 table_taken inputs ts a c ws h kept =
     let s : Sheet = of_worksheet a.sheet.now in
-    let turned = turns_then ts (quiet s) a a h.0 [] ws (none_done a) h.1 in
+    let turned = scenarios_then ts (quiet s) a a h.0 [] ws (none_done a) h.1 in
     let back : HasDone (written_out a.scene (contents_of inputs s) (of_worksheet h.0.sheet.now)) h.0 c =
     subst (λ (w : List Write). HasDone (written_out a.scene w (of_worksheet h.0.sheet.now)) h.0 c) (turned.0.kept ∙ kept)
     (subst (λ (m : Scene). HasDone (written_out m h.0.kept.now (of_worksheet h.0.sheet.now)) h.0 c) turned.0.scene h.2) in
-    (done_then (after_turns (tried a.scene) ts (quiet s)) (written_out a.scene (contents_of inputs s)) a h.0 c turned.0 back, turned.1)
+    (done_then (after_scenarios (tried a.scene) ts (quiet s)) (written_out a.scene (contents_of inputs s)) a h.0 c turned.0 back, turned.1)
 
 -- the answers were written behind that, on the sheet that came back from the bench
-pub table_written : (inputs : List Place) (ts : List Turn) (scene : Scene) (a c x d : Worksheet) (ws : List Write) (m : ℕ) (t u : Tally) (o : ℕ) →
-    Did (taken scene inputs ts (of_worksheet a)) a c m t.count → ws ≡ answers_of scene ts (of_worksheet a) → x ≡ c → u ≡ t →
+pub table_written : (inputs : List Place) (ts : List Scenario) (scene : Scene) (a c x d : Worksheet) (ws : List Write) (m : ℕ) (t u : Tally) (o : ℕ) →
+    Did (all_tried scene inputs ts (of_worksheet a)) a c m t.count → ws ≡ answers_of scene ts (of_worksheet a) → x ≡ c → u ≡ t →
     Did (written_out scene ws (of_worksheet x)) x d u.count o → Did (tabled scene inputs ts (of_worksheet a)) a d m o
 table_written inputs ts scene a c x d ws m t u o taken_so are sheet tally written_so =
     let s : Sheet = of_worksheet a in
-    did_both (taken scene inputs ts s) (written_out scene (answers_of scene ts s)) a c d m t.count o taken_so
+    did_both (all_tried scene inputs ts s) (written_out scene (answers_of scene ts s)) a c d m t.count o taken_so
     (subst (λ (v : List Write). Did (written_out scene v (of_worksheet c)) c d t.count o) are
     (subst (λ (k : Tally). Did (written_out scene ws (of_worksheet c)) c d k.count o) tally
     (subst (λ (y : Worksheet). Did (written_out scene ws (of_worksheet y)) y d u.count o) sheet written_so)))

@@ -3,7 +3,7 @@ use Rattle.std.specs.Prelude.{List, [], ◌∷◌, map}
 use Rattle.std.specs.FinMap as cells
 use Rattle.block_writes.specs.Writing.{as_content, content_or_blank, written}
 use Rattle.data_blocks.specs.Benches.{value_or_blank}
-use Rattle.data_blocks.specs.Tables.{after_turns, turns_one, turns_two, turns_written, Trial, Turn}
+use Rattle.data_blocks.specs.Tables.{after_scenarios, scenarios_one, scenarios_two, scenarios_written, Trial, Scenario}
 use Rattle.formula_eval.specs.Mean.{mean}
 use Rattle.formula_eval.specs.declared.look.Scene.{Scene}
 use Rattle.formula_tree.specs.declared.value.Content.{Content}
@@ -49,24 +49,25 @@ tried scene t d = and_then d (entered scene t)
 abbrev pub values_after : Done → Place → Value
 values_after d = value_in d.sheet
 
--- the turns are taken, and the input cells get back what they held
-abbrev pub taken : Scene → List Place → List Turn → Sheet → Done
-taken scene inputs turns s =
-    and_then (after_turns (tried scene) turns (quiet s)) (written_out scene (contents_of inputs s))
+-- the scenarios are tried, and the input cells get back what they held
+abbrev pub all_tried : Scene → List Place → List Scenario → Sheet → Done
+all_tried scene inputs scenarios s =
+    and_then (after_scenarios (tried scene) scenarios (quiet s)) (written_out scene (contents_of inputs s))
 
--- what is written then: the answers of the turns
-abbrev pub answers_of : Scene → List Turn → Sheet → List Write
-answers_of scene turns s = turns_written (tried scene) values_after turns (quiet s)
+-- what is written then: the answers of the scenarios
+abbrev pub answers_of : Scene → List Scenario → Sheet → List Write
+answers_of scene scenarios s = scenarios_written (tried scene) values_after scenarios (quiet s)
 
--- the turns are taken, and their answers are written behind that
-abbrev pub tabled : Scene → List Place → List Turn → Sheet → Done
-tabled scene inputs turns s = and_then (taken scene inputs turns s) (written_out scene (answers_of scene turns s))
+-- the scenarios are tried, and their answers are written behind that
+abbrev pub tabled : Scene → List Place → List Scenario → Sheet → Done
+tabled scene inputs scenarios s =
+    and_then (all_tried scene inputs scenarios s) (written_out scene (answers_of scene scenarios s))
 
 -- table 1 over a span
 abbrev pub table_one : Scene → Extent → Place → Sheet → Done
-table_one scene span input s = tabled scene (input ∷ []) (turns_one span input (value_in s)) s
+table_one scene span input s = tabled scene (input ∷ []) (scenarios_one span input (value_in s)) s
 
 -- table 2 over a span
 abbrev pub table_two : Scene → Extent → Place → Place → Sheet → Done
 table_two scene span down across s =
-    tabled scene (down ∷ across ∷ []) (turns_two span down across (value_in s)) s
+    tabled scene (down ∷ across ∷ []) (scenarios_two span down across (value_in s)) s

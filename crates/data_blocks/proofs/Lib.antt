@@ -4,4 +4,4 @@ pub mod Orders
 pub mod Reached
 pub mod Shares
 pub mod Sorted
-pub mod Turns
+pub mod Scenarios

@@ -8,7 +8,7 @@ use Rattle.formula_tree.specs.declared.value.Value.TheVariants as value
 use Rattle.block_writes.specs.Writing.{as_content}
 use Rattle.sheet_store.specs.declared.writes.SheetFault.TheVariants as sheet_fault
 use Rattle.sheet_store.specs.declared.writes.Write.{Write}
-use Rattle.data_blocks.specs.Tables.{answered, table_fault, Trial, Turn}
+use Rattle.data_blocks.specs.Tables.{answer_written, table_fault, Trial, Scenario}
 use Rattle.data_blocks.specs.declared.fault.BlockFault.{BlockFault}
 use Rattle.data_blocks.specs.declared.fault.BlockFault.TheVariants as fault
 
@@ -77,13 +77,13 @@ module _ {B : Type 0} (tries : Trial → B → B → Type 0) where
   HasTried (t ∷ ts) a z = (b : B) × tries t a b × HasTried ts b z
 
 module _ {B : Type 0} (shows : B → OnBench) (tries : Trial → B → B → Type 0) where
-  -- turns were taken one after another, and the answers of each added to the writes
-  abbrev pub HasTaken : List Turn → B → List Write → B → List Write → Type 0
+  -- scenarios were tried one after another, and the answers of each added to the writes
+  abbrev pub HasTaken : List Scenario → B → List Write → B → List Write → Type 0
   HasTaken [] a before z after = (z ≡ a) × (after ≡ before)
   HasTaken (t ∷ ts) a before z after = (b : B)
       × HasTried tries t.trials a b
-      × HasTaken ts b (before ++ map (answered (values_on (shows b))) t.answers) z after
+      × HasTaken ts b (before ++ map (answer_written (values_on (shows b))) t.answers) z after
 
-  -- turns were taken from no write on, and the old contents given back
-  abbrev pub IsTable : (B → B → Type 0) → List Turn → B → B → List Write → Type 0
-  IsTable gives_back turns a z writes = (b : B) × HasTaken turns a [] b writes × gives_back b z
+  -- scenarios were tried from no write on, and the old contents given back
+  abbrev pub IsTable : (B → B → Type 0) → List Scenario → B → B → List Write → Type 0
+  IsTable gives_back scenarios a z writes = (b : B) × HasTaken scenarios a [] b writes × gives_back b z

@@ -20,7 +20,7 @@ pub record Answer : Type 0 where
   pub to : Place
 
 -- inputs that are tried one after another, and the answers that are then written
-pub record Turn : Type 0 where
+pub record Scenario : Type 0 where
   pub trials : List Trial
   pub answers : List Answer
 
@@ -57,35 +57,35 @@ abbrev pub row_answers : Extent → ℕ → List Answer
 row_answers s row = map (λ col. record { from = at s.first.row col; to = at row col }) (columns_behind s)
 
 -- a row's input is tried, and its answers are taken
-abbrev pub row_turn : Extent → Place → (Place → Value) → ℕ → Turn
-row_turn s input values row = record {
+abbrev pub row_scenario : Extent → Place → (Place → Value) → ℕ → Scenario
+row_scenario s input values row = record {
   trials = record { cell = input; value = values (at row s.first.col) } ∷ [];
   answers = row_answers s row;
 }
 
 -- row by row
-abbrev pub turns_one : Extent → Place → (Place → Value) → List Turn
-turns_one s input values = map (row_turn s input values) (rows_below s)
+abbrev pub scenarios_one : Extent → Place → (Place → Value) → List Scenario
+scenarios_one s input values = map (row_scenario s input values) (rows_below s)
 
 -- table 2: a cell takes the answer of the corner, after its row's input and then its column's were tried
-abbrev pub cell_turn : Extent → Place → Place → (Place → Value) → ℕ → ℕ → Turn
-cell_turn s down across values row col = record {
+abbrev pub cell_scenario : Extent → Place → Place → (Place → Value) → ℕ → ℕ → Scenario
+cell_scenario s down across values row col = record {
   trials = record { cell = down; value = values (at row s.first.col) }
       ∷ record { cell = across; value = values (at s.first.row col) } ∷ [];
   answers = record { from = s.first; to = at row col } ∷ [];
 }
 
 -- the cells of a row, one after another
-abbrev pub row_turns : Extent → Place → Place → (Place → Value) → ℕ → List Turn
-row_turns s down across values row = map (cell_turn s down across values row) (columns_behind s)
+abbrev pub row_scenarios : Extent → Place → Place → (Place → Value) → ℕ → List Scenario
+row_scenarios s down across values row = map (cell_scenario s down across values row) (columns_behind s)
 
 -- row by row
-abbrev pub turns_two : Extent → Place → Place → (Place → Value) → List Turn
-turns_two s down across values = flat_map (row_turns s down across values) (rows_below s)
+abbrev pub scenarios_two : Extent → Place → Place → (Place → Value) → List Scenario
+scenarios_two s down across values = flat_map (row_scenarios s down across values) (rows_below s)
 
 -- an answer as it is written, by the values of the cells
-abbrev pub answered : (Place → Value) → Answer → Write
-answered values a = written a.to (as_content (values a.from))
+abbrev pub answer_written : (Place → Value) → Answer → Write
+answer_written values a = written a.to (as_content (values a.from))
 
 module _ {Sheet : Type 0} (tried : Trial → Sheet → Sheet) where
   -- a sheet after some inputs were tried, one after another
@@ -93,15 +93,15 @@ module _ {Sheet : Type 0} (tried : Trial → Sheet → Sheet) where
   after_trials [] sheet = sheet
   after_trials (t ∷ ts) sheet = after_trials ts (tried t sheet)
 
-  -- the same of the inputs of some turns
-  abbrev pub after_turns : List Turn → Sheet → Sheet
-  after_turns [] sheet = sheet
-  after_turns (t ∷ ts) sheet = after_turns ts (after_trials t.trials sheet)
+  -- the same of the inputs of some scenarios
+  abbrev pub after_scenarios : List Scenario → Sheet → Sheet
+  after_scenarios [] sheet = sheet
+  after_scenarios (t ∷ ts) sheet = after_scenarios ts (after_trials t.trials sheet)
 
 module _ {Sheet : Type 0} (tried : Trial → Sheet → Sheet) (values : Sheet → Place → Value) where
-  -- what some turns write: the answers of each, on the sheet after its inputs were tried
-  abbrev pub turns_written : List Turn → Sheet → List Write
-  turns_written [] sheet = []
-  turns_written (t ∷ ts) sheet =
-      map (answered (values (after_trials tried t.trials sheet))) t.answers
-      ++ turns_written ts (after_trials tried t.trials sheet)
+  -- what some scenarios write: the answers of each, on the sheet after its inputs were tried
+  abbrev pub scenarios_written : List Scenario → Sheet → List Write
+  scenarios_written [] sheet = []
+  scenarios_written (t ∷ ts) sheet =
+      map (answer_written (values (after_trials tried t.trials sheet))) t.answers
+      ++ scenarios_written ts (after_trials tried t.trials sheet)

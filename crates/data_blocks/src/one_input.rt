@@ -2,7 +2,7 @@
 ghost use Rattle.std.specs.Prelude.{◌≡◌, ◌≤◌, ◌++◌, ◌∷◌, [], map, IfOk, IfErr, OnOk, None, true};
 ghost use Rattle.block_writes.specs.Writing.{at, rows_below};
 ghost use Rattle.data_blocks.specs.Benches.{takes, values_on, HasFailed, HasTaken, HoldsOld, IsFaultOf, IsSameBench, IsTable};
-ghost use Rattle.data_blocks.specs.Tables.{answered, row_answers, shape_fault, turns_one, Trial, Turn};
+ghost use Rattle.data_blocks.specs.Tables.{answer_written, row_answers, shape_fault, scenarios_one, Trial, Scenario};
 
 use crate::table_cells::{
     cell_across, cell_down, columns_behind, is_no_table, push_answer, rows_below, values_down,
@@ -38,7 +38,7 @@ fn push_row<B: Bench>(
 ) -> Result<(), Memory>
     requires { row ≤ span.last.row }
     ensures { let values = values_on (B.shows bench.now) in
-        OnOk result (writes.new ≡ writes.old ++ map (answered values) (row_answers span row)) }
+        OnOk result (writes.new ≡ writes.old ++ map (answer_written values) (row_answers span row)) }
 {
     let count = columns_behind(span);
     for place in 0..count {
@@ -62,7 +62,7 @@ fn try_row<B: Bench>(
     requires row { row ≤ span.last.row }
     requires input { takes (B.shows bench.old) input ≡ true }
     ensures taken { let trial : Trial = record { cell = input; value = value.now } in
-        let turn : Turn = record { trials = trial ∷ []; answers = row_answers span row } in
+        let turn : Scenario = record { trials = trial ∷ []; answers = row_answers span row } in
         OnOk result (HasTaken B.shows B.tries (turn ∷ []) bench.old writes.old bench.new writes.new) }
     ensures same { IsSameBench (B.shows bench.old) (B.shows bench.new) }
     ensures fault { IfErr result (λ f. HasFailed (B.shows bench.old) (input ∷ []) f) }
@@ -84,8 +84,8 @@ fn try_rows<B: Bench>(
     requires input { takes (B.shows bench.old) input ≡ true }
     requires values { let before = values_on (B.shows bench.old) in
         values.now ≡ map (λ row. before (at row span.first.col)) (rows_below span) }
-    ensures taken { let turns = turns_one span input (values_on (B.shows bench.old)) in
-        OnOk result (HasTaken B.shows B.tries turns bench.old writes.old bench.new writes.new) }
+    ensures taken { let scenarios = scenarios_one span input (values_on (B.shows bench.old)) in
+        OnOk result (HasTaken B.shows B.tries scenarios bench.old writes.old bench.new writes.new) }
     ensures same { IsSameBench (B.shows bench.old) (B.shows bench.new) }
     ensures fault { IfErr result (λ f. HasFailed (B.shows bench.old) (input ∷ []) f) }
 {
@@ -122,8 +122,8 @@ pub fn table_one<B: Bench>(
 ) -> Result<Writes, BlockFault>
     requires input { takes (B.shows bench.old) input ≡ true }
     requires old { HoldsOld (B.shows bench.old) }
-    ensures table { let turns = turns_one span input (values_on (B.shows bench.old)) in
-        IfOk result (λ w. IsTable B.shows B.tries B.gives_back turns bench.old bench.new w) }
+    ensures table { let scenarios = scenarios_one span input (values_on (B.shows bench.old)) in
+        IfOk result (λ w. IsTable B.shows B.tries B.gives_back scenarios bench.old bench.new w) }
     ensures shape { OnOk result (shape_fault span (input ∷ []) ≡ None) }
     ensures contents { OnOk result ((B.shows bench.new).contents ≡ (B.shows bench.old).contents) }
     ensures fault { IfErr result (λ f. IsFaultOf span (input ∷ []) (B.shows bench.old) (B.shows bench.new) f) }

@@ -2,7 +2,7 @@
 ghost use Rattle.std.specs.Prelude.{◌≡◌, ◌<◌, ◌+◌, ◌-◌, ◌++◌, ◌∷◌, [], IfOk, OnOk, map};
 ghost use Rattle.block_writes.specs.Writing.{as_content, at, rows_below};
 ghost use Rattle.data_blocks.specs.Benches.{values_on};
-ghost use Rattle.data_blocks.specs.Tables.{answered, columns_behind, is_no_table, Answer};
+ghost use Rattle.data_blocks.specs.Tables.{answer_written, columns_behind, is_no_table, Answer};
 
 use crate::Bench;
 use block_writes::{column_at, content_of, written};
@@ -110,7 +110,7 @@ pub fn push_answer<B: Bench>(
     writes: &mut Writes,
 ) -> Result<(), Memory>
     ensures { let answer : Answer = record { from = from; to = to } in
-        OnOk result (writes.new ≡ writes.old ++ answered (values_on (B.shows bench.now)) answer ∷ []) }
+        OnOk result (writes.new ≡ writes.old ++ answer_written (values_on (B.shows bench.now)) answer ∷ []) }
 {
     let content = answer_content(alloc, bench, from)?;
     writes.push(written(to, content))?;

@@ -3,7 +3,7 @@ ghost use Rattle.std.specs.Prelude.{◌≡◌, ◌≤◌, ◌∷◌, [], map, If
 ghost use Rattle.grid_address.specs.Place.{Place};
 ghost use Rattle.block_writes.specs.Writing.{at, rows_below};
 ghost use Rattle.data_blocks.specs.Benches.{takes, values_on, HasFailed, HasTaken, HoldsOld, IsFaultOf, IsSameBench, IsTable};
-ghost use Rattle.data_blocks.specs.Tables.{columns_behind, row_turns, shape_fault, turns_two, Answer, Trial, Turn};
+ghost use Rattle.data_blocks.specs.Tables.{columns_behind, row_scenarios, shape_fault, scenarios_two, Answer, Trial, Scenario};
 
 use crate::table_cells::{
     cell_across, cell_down, columns_behind, is_no_table, push_answer, rows_below, values_across,
@@ -50,7 +50,7 @@ fn try_cell<B: Bench>(
     ensures taken { let one : Trial = record { cell = down; value = first.now } in
         let two : Trial = record { cell = across; value = second.now } in
         let answer : Answer = record { from = span.first; to = to } in
-        let turn : Turn = record { trials = one ∷ two ∷ []; answers = answer ∷ [] } in
+        let turn : Scenario = record { trials = one ∷ two ∷ []; answers = answer ∷ [] } in
         OnOk result (HasTaken B.shows B.tries (turn ∷ []) bench.old writes.old bench.new writes.new) }
     ensures same { IsSameBench (B.shows bench.old) (B.shows bench.new) }
     ensures fault { IfErr result (λ f. HasFailed (B.shows bench.old) (down ∷ across ∷ []) f) }
@@ -79,8 +79,8 @@ fn try_row<B: Bench>(
     requires across { takes (B.shows bench.old) across ≡ true }
     requires first { first.now ≡ values (at row span.first.col) }
     requires seconds { seconds.now ≡ map (λ col. values (at span.first.row col)) (columns_behind span) }
-    ensures taken { let turns = row_turns span down across values row in
-        OnOk result (HasTaken B.shows B.tries turns bench.old writes.old bench.new writes.new) }
+    ensures taken { let scenarios = row_scenarios span down across values row in
+        OnOk result (HasTaken B.shows B.tries scenarios bench.old writes.old bench.new writes.new) }
     ensures same { IsSameBench (B.shows bench.old) (B.shows bench.new) }
     ensures fault { IfErr result (λ f. HasFailed (B.shows bench.old) (down ∷ across ∷ []) f) }
 {
@@ -119,8 +119,8 @@ fn try_rows<B: Bench>(
     requires across { takes (B.shows bench.old) across ≡ true }
     requires firsts { firsts.now ≡ map (λ row. values (at row span.first.col)) (rows_below span) }
     requires seconds { seconds.now ≡ map (λ col. values (at span.first.row col)) (columns_behind span) }
-    ensures taken { let turns = turns_two span down across values in
-        OnOk result (HasTaken B.shows B.tries turns bench.old writes.old bench.new writes.new) }
+    ensures taken { let scenarios = scenarios_two span down across values in
+        OnOk result (HasTaken B.shows B.tries scenarios bench.old writes.old bench.new writes.new) }
     ensures same { IsSameBench (B.shows bench.old) (B.shows bench.new) }
     ensures fault { IfErr result (λ f. HasFailed (B.shows bench.old) (down ∷ across ∷ []) f) }
 {
@@ -157,8 +157,8 @@ pub fn table_two<B: Bench>(
     requires down { takes (B.shows bench.old) down ≡ true }
     requires across { takes (B.shows bench.old) across ≡ true }
     requires old { HoldsOld (B.shows bench.old) }
-    ensures table { let turns = turns_two span down across (values_on (B.shows bench.old)) in
-        IfOk result (λ w. IsTable B.shows B.tries B.gives_back turns bench.old bench.new w) }
+    ensures table { let scenarios = scenarios_two span down across (values_on (B.shows bench.old)) in
+        IfOk result (λ w. IsTable B.shows B.tries B.gives_back scenarios bench.old bench.new w) }
     ensures shape { OnOk result (shape_fault span (down ∷ across ∷ []) ≡ None) }
     ensures contents { OnOk result ((B.shows bench.new).contents ≡ (B.shows bench.old).contents) }
     ensures fault { IfErr result (λ f. IsFaultOf span (down ∷ across ∷ []) (B.shows bench.old) (B.shows bench.new) f) }

@@ -3,8 +3,8 @@ use Rattle.formula_tree.specs.declared.value.Value.{Value}
 use Rattle.grid_address.specs.Place.{Place}
 use Rattle.block_writes.specs.Writing.{at}
 use Rattle.data_blocks.specs.Benches.{values_on}
-use Rattle.data_blocks.specs.Tables.{row_turn}
-use Rattle.data_blocks.proofs.Turns.{made_at, made_count, row_taken, same_both, turn_more}
+use Rattle.data_blocks.specs.Tables.{row_scenario}
+use Rattle.data_blocks.proofs.Scenarios.{made_at, made_count, row_taken, same_both, scenario_more}
 use Rattle.data_blocks.proofs.one_input.try_rows.Goals as goal
 
 pub bounds-values-from : goal.bounds-values-from
@@ -31,7 +31,7 @@ loop-place-preserved g c =
     let value_is : value ≡ f (n + k) = c.index-values-from.is ∙ ap (λ (i : ℕ). get_or c.args.values.now i value) at_place
     ∙ ap (λ (l : List Value). get_or l k value) c.requires.values ∙ made_at f n (s.last.row - s.first.row) k value inside in
     record {
-      taken = turn_more shows tries (row_turn s c.args.input before) n k c.args.bench.now c.loop-place.bench c.try_row.new.bench c.args.writes.now c.loop-place.writes c.try_row.new.writes
+      taken = scenario_more shows tries (row_scenario s c.args.input before) n k c.args.bench.now c.loop-place.bench c.try_row.new.bench c.args.writes.now c.loop-place.writes c.try_row.new.writes
           c.loop-place.invariant.taken
           (row_taken shows tries s before c.loop-place.bench c.try_row.new.bench c.loop-place.writes c.try_row.new.writes c.args.input (n + k) c.row.inside.row value row_is value_is c.in_ok-try_row.ensures.taken);
       same = same_both (shows c.args.bench.now) (shows c.loop-place.bench) (shows c.try_row.new.bench) c.loop-place.invariant.same c.try_row.ensures.same;

@@ -2,8 +2,8 @@ use Rattle.std.proofs.Common.{◌≡◌, ◌<◌, ◌+◌, ◌-◌, ℕ, List, l
 use Rattle.formula_tree.specs.declared.value.Value.{Value}
 use Rattle.grid_address.specs.Place.{Place}
 use Rattle.block_writes.specs.Writing.{at}
-use Rattle.data_blocks.specs.Tables.{cell_turn}
-use Rattle.data_blocks.proofs.Turns.{cell_taken, made_at, made_count, same_both, turn_more}
+use Rattle.data_blocks.specs.Tables.{cell_scenario}
+use Rattle.data_blocks.proofs.Scenarios.{cell_taken, made_at, made_count, same_both, scenario_more}
 use Rattle.data_blocks.proofs.two_inputs.try_row.Goals as goal
 
 pub bounds-seconds-from : goal.bounds-seconds-from
@@ -29,7 +29,7 @@ loop-place-preserved g c =
     let value_is : value ≡ f (n + k) = c.index-seconds-from.is ∙ ap (λ (i : ℕ). get_or c.args.seconds.now i value) at_place
     ∙ ap (λ (l : List Value). get_or l k value) c.requires.1.1.1.1.1 ∙ made_at f n (s.last.col - s.first.col) k value inside in
     record {
-      taken = turn_more shows tries (cell_turn s c.args.down c.args.across g.values row) n k c.args.bench.now c.loop-place.bench c.try_cell.new.bench c.args.writes.now c.loop-place.writes c.try_cell.new.writes
+      taken = scenario_more shows tries (cell_scenario s c.args.down c.args.across g.values row) n k c.args.bench.now c.loop-place.bench c.try_cell.new.bench c.args.writes.now c.loop-place.writes c.try_cell.new.writes
           c.loop-place.invariant.taken
           (cell_taken shows tries s g.values c.loop-place.bench c.try_cell.new.bench c.loop-place.writes c.try_cell.new.writes c.args.down c.args.across (at row c.col.inside.col) row (n + k) c.args.first.now value
           (ap (λ (j : ℕ). at row j) col_is) c.requires.1.1.1.1.0 value_is c.in_ok-try_cell.ensures.taken);

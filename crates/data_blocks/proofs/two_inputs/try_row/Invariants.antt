@@ -1,14 +1,14 @@
 use Rattle.std.proofs.Common.{◌≡◌, ◌+◌, ◌-◌, map}
 use Rattle.block_writes.specs.Writing.{numbers_from}
 use Rattle.data_blocks.specs.Benches.{HasTaken, IsSameBench}
-use Rattle.data_blocks.specs.Tables.{cell_turn}
+use Rattle.data_blocks.specs.Tables.{cell_scenario}
 use Rattle.data_blocks.proofs.two_inputs.try_row.Given as goal
 
--- the turns of the cells so far were taken
+-- the scenarios of the cells so far were taken
 abbrev pub invariant-loop-place : goal.invariant-loop-place
 invariant-loop-place g l =
     let shows = g.B.Bench.shows in record {
-      taken : HasTaken shows g.B.Bench.tries (map (cell_turn l.span l.down l.across g.values l.row) (numbers_from (l.span.first.col + 1) l.place)) l.fn.bench l.fn.writes l.bench l.writes;
+      taken : HasTaken shows g.B.Bench.tries (map (cell_scenario l.span l.down l.across g.values l.row) (numbers_from (l.span.first.col + 1) l.place)) l.fn.bench l.fn.writes l.bench l.writes;
       same : IsSameBench (shows l.fn.bench) (shows l.bench);
       count : l.count ≡ l.span.last.col - l.span.first.col;
     }

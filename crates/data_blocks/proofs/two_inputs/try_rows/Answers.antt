@@ -4,8 +4,8 @@ use Rattle.formula_tree.specs.declared.value.Value.{Value}
 use Rattle.grid_address.specs.Place.{same_place, Place}
 use Rattle.block_writes.specs.Writing.{at}
 use Rattle.data_blocks.specs.Benches.{takes, HasTaken}
-use Rattle.data_blocks.specs.Tables.{row_turns}
-use Rattle.data_blocks.proofs.Turns.{made_at, made_count, same_both, turns_more}
+use Rattle.data_blocks.specs.Tables.{row_scenarios}
+use Rattle.data_blocks.proofs.Scenarios.{made_at, made_count, same_both, scenarios_more}
 use Rattle.data_blocks.proofs.two_inputs.try_rows.Goals as goal
 
 pub bounds-firsts-from : goal.bounds-firsts-from
@@ -44,9 +44,9 @@ loop-place-preserved g c =
     let k : ℕ = c.loop-place.place in
     let row_is : c.row.inside.row ≡ n + k = ap (λ (p : Place). p.row) (c.row.view_is ∙ c.cell_down.ensures) in
     record {
-      taken = turns_more shows tries (row_turns s c.args.down c.args.across g.values) n k c.args.bench.now c.loop-place.bench c.try_row.new.bench c.args.writes.now c.loop-place.writes c.try_row.new.writes
+      taken = scenarios_more shows tries (row_scenarios s c.args.down c.args.across g.values) n k c.args.bench.now c.loop-place.bench c.try_row.new.bench c.args.writes.now c.loop-place.writes c.try_row.new.writes
           c.loop-place.invariant.taken
-          (subst (λ (r : ℕ). HasTaken shows tries (row_turns s c.args.down c.args.across g.values r) c.loop-place.bench c.loop-place.writes c.try_row.new.bench c.try_row.new.writes) row_is c.in_ok-try_row.ensures.taken);
+          (subst (λ (r : ℕ). HasTaken shows tries (row_scenarios s c.args.down c.args.across g.values r) c.loop-place.bench c.loop-place.writes c.try_row.new.bench c.try_row.new.writes) row_is c.in_ok-try_row.ensures.taken);
       same = same_both (shows c.args.bench.now) (shows c.loop-place.bench) (shows c.try_row.new.bench) c.loop-place.invariant.same c.try_row.ensures.same;
       count = c.loop-place.invariant.count;
     }

@@ -2,14 +2,14 @@ use Rattle.std.proofs.Common.{◌≡◌, ◌+◌, ◌-◌}
 use Rattle.std.specs.List.{flat_map}
 use Rattle.block_writes.specs.Writing.{numbers_from}
 use Rattle.data_blocks.specs.Benches.{HasTaken, IsSameBench}
-use Rattle.data_blocks.specs.Tables.{row_turns}
+use Rattle.data_blocks.specs.Tables.{row_scenarios}
 use Rattle.data_blocks.proofs.two_inputs.try_rows.Given as goal
 
--- the turns of the rows so far were taken
+-- the scenarios of the rows so far were taken
 abbrev pub invariant-loop-place : goal.invariant-loop-place
 invariant-loop-place g l =
     let shows = g.B.Bench.shows in record {
-      taken : HasTaken shows g.B.Bench.tries (flat_map (row_turns l.span l.down l.across g.values) (numbers_from (l.span.first.row + 1) l.place)) l.fn.bench l.fn.writes l.bench l.writes;
+      taken : HasTaken shows g.B.Bench.tries (flat_map (row_scenarios l.span l.down l.across g.values) (numbers_from (l.span.first.row + 1) l.place)) l.fn.bench l.fn.writes l.bench l.writes;
       same : IsSameBench (shows l.fn.bench) (shows l.bench);
       count : l.count ≡ l.span.last.row - l.span.first.row;
     }
