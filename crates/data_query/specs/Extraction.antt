@@ -15,14 +15,14 @@ use Rattle.data_query.specs.declared.fault.QueryFault.TheVariants as fault
 use Rattle.data_query.specs.declared.output.OutputField.{OutputField}
 
 -- the field that a column of the output takes, where its header names one
-abbrev pub taken : ℕ → Option ℕ → Option OutputField
-taken col (Some field) = Some (record { field = field; col = col })
-taken col None = None
+abbrev pub output_field : ℕ → Option ℕ → Option OutputField
+output_field col (Some field) = Some (record { field = field; col = col })
+output_field col None = None
 
 -- the fields that the headers of an output name, from left to right
 abbrev pub taken_fields : Sight → Extent → Extent → List OutputField
 taken_fields sight input output =
-    filter_map (λ col. taken col (field_named sight input (at output.first.row col))) (columns_of output)
+    filter_map (λ col. output_field col (field_named sight input (at output.first.row col))) (columns_of output)
 
 -- a label of an output that names no field
 abbrev pub is_unknown : Sight → Extent → Extent → ℕ → Bool

@@ -5,7 +5,7 @@ ghost use Rattle.range_lines.specs.Rows.{last_row};
 ghost use Rattle.formula_eval.specs.Fields.{field_named};
 ghost use Rattle.formula_eval.specs.Outlook.{Sight};
 ghost use Rattle.block_writes.specs.Writing.{at};
-ghost use Rattle.data_query.specs.Extraction.{is_unknown, labelled, room_of, taken, taken_fields, unknown_label};
+ghost use Rattle.data_query.specs.Extraction.{is_unknown, labelled, room_of, output_field, taken_fields, unknown_label};
 
 use crate::QueryFault;
 use formula_eval::{Look, field_named, is_label_at, is_no_field};
@@ -22,10 +22,10 @@ pub struct OutputField {
 }
 
 // The field that a column of the output takes, the column counted from the first.
-fn taken<K: Look>(look: &K, input: Span, output: Span, col: u16) -> Option<OutputField>
+fn output_field<K: Look>(look: &K, input: Span, output: Span, col: u16) -> Option<OutputField>
     requires { col < width_of output }
     ensures { let there = output.first.col + col in
-        result ≡ taken there (field_named (K.sight look.now) input (at output.first.row there)) }
+        result ≡ output_field there (field_named (K.sight look.now) input (at output.first.row there)) }
 {
     match field_named(look, input, header(output, col)) {
         Some(field) => Some(OutputField {
@@ -46,10 +46,10 @@ fn push_taken<K: Look>(
 ) -> Result<(), Memory>
     requires { col < width_of output }
     ensures { let there = output.first.col + col in
-        let field = taken there (field_named (K.sight look.now) input (at output.first.row there)) in
+        let field = output_field there (field_named (K.sight look.now) input (at output.first.row there)) in
         OnOk result (fields.new.items ≡ fields.old.items ++ option_to_list field) }
 {
-    match taken(look, input, output, col) {
+    match output_field(look, input, output, col) {
         Some(field) => {
             fields.push(field)?;
             Ok(())

@@ -2,12 +2,12 @@ use Rattle.std.proofs.Common.{◌≡◌, ◌++◌}
 use Rattle.std.specs.List.{filter_map}
 use Rattle.grid_address.specs.Place.{width_of}
 use Rattle.block_writes.specs.Writing.{at}
-use Rattle.data_query.specs.Extraction.{taken, taken_fields}
+use Rattle.data_query.specs.Extraction.{output_field, taken_fields}
 use Rattle.formula_eval.specs.Fields.{field_named}
 use Rattle.range_lines.proofs.Scans.{taken_of}
 use Rattle.data_query.proofs.output.taken_fields.Given as goal
 
 abbrev pub invariant-loop-col : goal.invariant-loop-col
 invariant-loop-col g l =
-    l.fields.items ++ taken_of (λ col. taken col (field_named (g.K.Look.sight l.look) l.input (at l.output.first.row col))) l.output.first.col (width_of l.output) l.col
+    l.fields.items ++ taken_of (λ col. output_field col (field_named (g.K.Look.sight l.look) l.input (at l.output.first.row col))) l.output.first.col (width_of l.output) l.col
     ≡ taken_fields (g.K.Look.sight l.look) l.input l.output
