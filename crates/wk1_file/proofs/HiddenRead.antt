@@ -17,7 +17,7 @@ use Rattle.wk1_records.specs.Meanings.{meaning}
 use Rattle.wk1_file.specs.Said.{hidden_entries, IsRecord, Says}
 use Rattle.wk1_records.specs.Bodies.{made}
 use Rattle.wk1_file.specs.Saved.{hidden_pieces}
-use Rattle.wk1_file.specs.Sheets.{taken, with_hidden}
+use Rattle.wk1_file.specs.Sheets.{with_entry, with_hidden}
 use Rattle.wk1_records.specs.declared.entry.Entry.TheVariants as entry
 use Rattle.wk1_records.specs.declared.kind.Kind.TheVariants as kind
 use Rattle.wk1_file.proofs.Heads.{by_type, tested}
@@ -106,7 +106,7 @@ none_hidden (true ∷ bits) h = absurd cc
 none_hidden (false ∷ bits) h = ap (λ l. false ∷ l) (none_hidden bits h)
 
 -- a sheet of which no column is hidden takes the columns that are
-pub hidden_taken : (s : SavedSheet) (bits : List Bool) (f : Option Place) → length bits ≡ 256 → (h : Option Place) × (fold taken (with_hidden s (replicate 256 false) f) (hidden_entries bits) ≡ with_hidden s bits h)
+pub hidden_taken : (s : SavedSheet) (bits : List Bool) (f : Option Place) → length bits ≡ 256 → (h : Option Place) × (fold with_entry (with_hidden s (replicate 256 false) f) (hidden_entries bits) ≡ with_hidden s bits h)
 hidden_taken s bits f len =
     elim (cases_Bool (list_any (λ b. b) bits)) [
       | inl some ↦ (None, rw some refl)

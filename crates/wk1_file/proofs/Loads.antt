@@ -15,7 +15,7 @@ use Rattle.wk1_records.specs.Answers.{Gives}
 use Rattle.wk1_records.specs.Kinds.{kind_of}
 use Rattle.wk1_records.specs.Meanings.{meaning_by}
 use Rattle.wk1_records.specs.Records.{at_cut, at_end, at_piece, cut, ended, piece, piece_bytes, IsBytes, IsFront, IsPiece, Piece, Records, Splits}
-use Rattle.wk1_file.specs.Sheets.{entries_in, entry_then, fault_or, first_fault, sheet_of, taken, unless_fault, Progress}
+use Rattle.wk1_file.specs.Sheets.{entries_in, entry_then, fault_or, first_fault, sheet_of, unless_fault, with_entry, Progress}
 use Rattle.wk1_file.specs.inner.Takes.{sheet_from, Ahead, IsEntry, IsMinded, Makes}
 use Rattle.wk1_records.specs.declared.entry.Entry.{Entry}
 use Rattle.wk1_records.specs.declared.entry.Entry.TheVariants as entry
@@ -55,7 +55,7 @@ some_same : (p q : Place) → Some p ≡ Some q → p ≡ q
 some_same p q h = cc
 
 -- the cell that is kept in mind holds a formula after each record
-pub minded_on : (r : Progress) (e : Entry) → IsEntry e → IsMinded (taken r e)
+pub minded_on : (r : Progress) (e : Entry) → IsEntry e → IsMinded (with_entry r e)
 minded_on r entry.Nothing h = λ p none. absurd (no_place p none)
 minded_on r (entry.Automatic b) h = λ p none. absurd (no_place p none)
 minded_on r (entry.Order o) h = λ p none. absurd (no_place p none)
@@ -88,9 +88,9 @@ module _ (bytes : List ℕ) (at n : ℕ) (r : Progress) (kind : ℕ) (body : Lis
   with_rest rs other d = subst (λ l. Splits at l (piece this rs)) (sym front.is) (at_piece this (drop (4 + length body) (drop at bytes)) other front.fits (subst (λ l. Splits next l rs) (sym behind) d))
 
   step : (rs : Records) → Result Entry Wk1Fault → Result SavedSheet Wk1Fault
-  step rs m = unless_fault (fault_or m (first_fault (n + 1) rs)) (fold taken r (entry_then m (entries_in (n + 1) rs))).sheet
+  step rs m = unless_fault (fault_or m (first_fault (n + 1) rs)) (fold with_entry r (entry_then m (entries_in (n + 1) rs))).sheet
 
-  pub goes_on : (e : Entry) → (kind ≡ 1 → ⊥) → meaning_by n body (kind_of kind) ≡ Ok e → Ahead bytes next (n + 1) (taken r e)
+  pub goes_on : (e : Entry) → (kind ≡ 1 → ⊥) → meaning_by n body (kind_of kind) ≡ Ok e → Ahead bytes next (n + 1) (with_entry r e)
   unfolding step
   goes_on e other said rs d = subst (Makes bytes) (ap (step rs) said) (ahead (piece this rs) (with_rest rs other d))
 

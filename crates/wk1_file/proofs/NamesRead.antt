@@ -19,7 +19,7 @@ use Rattle.wk1_file.proofs.Settings.{place_back}
 use Rattle.wk1_file.specs.Said.{name_entry_of, IsSavedName, Says}
 use Rattle.wk1_records.specs.Bodies.{place_bytes}
 use Rattle.wk1_file.specs.Saved.{name_piece}
-use Rattle.wk1_file.specs.Sheets.{taken, with_names}
+use Rattle.wk1_file.specs.Sheets.{with_entry, with_names}
 use Rattle.wk1_records.specs.declared.entry.Entry.TheVariants as entry
 use Rattle.wk1_records.specs.declared.kind.Kind.TheVariants as kind
 use Rattle.wk1_file.proofs.Heads.{by_type, inside_is, tested}
@@ -82,13 +82,13 @@ pub names_said : (es : List (List ℕ × Extent)) → AllByRecursion IsSavedName
 names_said [] h = tt
 names_said (e ∷ es) h = ((λ n. one_said e n h.0), names_said es h.1)
 
-all_taken : (s : SavedSheet) (es : List (List ℕ × Extent)) (m : NameMap) (f : Option Place) → AllByRecursion IsSavedName es → (h : Option Place) × (fold taken (with_names s m f) (map name_entry_of es) ≡ with_names s (filled m es) h)
+all_taken : (s : SavedSheet) (es : List (List ℕ × Extent)) (m : NameMap) (f : Option Place) → AllByRecursion IsSavedName es → (h : Option Place) × (fold with_entry (with_names s m f) (map name_entry_of es) ≡ with_names s (filled m es) h)
 all_taken s [] m f h = (f, refl)
 all_taken s (e ∷ es) m f h =
     let rest = all_taken s es (insert m e.0 e.1) None h.1 in
-    (rest.0, ap (λ k. fold taken (with_names s (insert m k e.1) None) (map name_entry_of es)) h.0.key ∙ rest.1)
+    (rest.0, ap (λ k. fold with_entry (with_names s (insert m k e.1) None) (map name_entry_of es)) h.0.key ∙ rest.1)
 
-pub names_taken : (s : SavedSheet) (ns : NameMap) (f : Option Place) → AllByRecursion IsSavedName (entries ns) → (h : Option Place) × (fold taken (with_names s empty f) (map name_entry_of (entries ns)) ≡ with_names s ns h)
+pub names_taken : (s : SavedSheet) (ns : NameMap) (f : Option Place) → AllByRecursion IsSavedName (entries ns) → (h : Option Place) × (fold with_entry (with_names s empty f) (map name_entry_of (entries ns)) ≡ with_names s ns h)
 names_taken s ns f h =
     let x = all_taken s (entries ns) empty f h in
     (x.0, x.1 ∙ ap (λ m. with_names s m x.0) (filled_again names_total names_exact ns))

@@ -14,7 +14,7 @@ use Rattle.wk1_records.specs.Records.{pieces_bytes, piece_bytes, Piece}
 use Rattle.wk1_file.specs.Said.{cell_entries, hidden_entries, name_entry_of, records_of, settings_entries, widths_entries, IsRecord, IsSavedSheet, Says}
 use Rattle.wk1_records.specs.Bodies.{made, place_bytes}
 use Rattle.wk1_file.specs.Saved.{bof, cell_pieces, eof, file_bytes, hidden_pieces, name_piece, range_end, range_piece, records_before, settings_pieces, width_pieces}
-use Rattle.wk1_file.specs.Sheets.{first_fault, sheet_of, start, taken, unless_fault, with_hidden, with_names, with_widths, Progress}
+use Rattle.wk1_file.specs.Sheets.{first_fault, sheet_of, start, unless_fault, with_entry, with_hidden, with_names, with_widths, Progress}
 use Rattle.wk1_records.specs.declared.entry.Entry.{Entry}
 use Rattle.wk1_records.specs.declared.entry.Entry.TheVariants as entry
 use Rattle.wk1_records.specs.declared.kind.Kind.TheVariants as kind
@@ -98,23 +98,23 @@ module _ (s : SavedSheet) (h : IsSavedSheet s) where
   abbrev fourth : SavedSheet
   fourth = record third { names = s.names }
 
-  made_sheet : (fold taken start says).sheet ≡ s
+  made_sheet : (fold with_entry start says).sheet ≡ s
   made_sheet =
       let one = widths_taken first s.store None h.widths in
       let two = hidden_taken second s.store.hidden one.0 h.hidden in
       let three = names_taken third s.names two.0 h.names in
       let four = cells_taken fourth s.store.cells three.0 h.cells in
       let w = widths_entries s.store in
-      let a = fold-append taken start (entry.Nothing ∷ entry.Nothing ∷ settings_entries s.settings) (w ++ (told ++ (names_entries ++ cells_entries))) in
-      let b = fold-append taken (with_widths first (replicate 256 0) None) w (told ++ (names_entries ++ cells_entries)) in
-      let c = fold-append taken (with_hidden second (replicate 256 false) one.0) told (names_entries ++ cells_entries) in
-      let d = fold-append taken (with_names third empty two.0) names_entries cells_entries in
-      ap (λ (r : Progress). r.sheet) (a ∙ b ∙ ap (λ r. fold taken r (told ++ (names_entries ++ cells_entries))) one.1 ∙ c ∙ ap (λ r. fold taken r (names_entries ++ cells_entries)) two.1 ∙ d ∙ ap (λ r. fold taken r cells_entries) three.1 ∙ four.1)
+      let a = fold-append with_entry start (entry.Nothing ∷ entry.Nothing ∷ settings_entries s.settings) (w ++ (told ++ (names_entries ++ cells_entries))) in
+      let b = fold-append with_entry (with_widths first (replicate 256 0) None) w (told ++ (names_entries ++ cells_entries)) in
+      let c = fold-append with_entry (with_hidden second (replicate 256 false) one.0) told (names_entries ++ cells_entries) in
+      let d = fold-append with_entry (with_names third empty two.0) names_entries cells_entries in
+      ap (λ (r : Progress). r.sheet) (a ∙ b ∙ ap (λ r. fold with_entry r (told ++ (names_entries ++ cells_entries))) one.1 ∙ c ∙ ap (λ r. fold with_entry r (names_entries ++ cells_entries)) two.1 ∙ d ∙ ap (λ r. fold with_entry r cells_entries) three.1 ∙ four.1)
 
   read_of : sheet_of (records_of pieces) ≡ Ok s
   read_of =
-      ap (λ es. unless_fault (first_fault 0 (records_of pieces)) (fold taken start es).sheet) (all_said pieces says 0 said)
-      ∙ ap (λ f. unless_fault f (fold taken start says).sheet) (no_fault pieces says 0 said)
+      ap (λ es. unless_fault (first_fault 0 (records_of pieces)) (fold with_entry start es).sheet) (all_said pieces says 0 said)
+      ∙ ap (λ f. unless_fault f (fold with_entry start says).sheet) (no_fault pieces says 0 said)
       ∙ ap Ok made_sheet
 
 pub file_read : (s : SavedSheet) → IsSavedSheet s → length (file_bytes s) ≤ 67108864 → IsFile (file_bytes s) (Ok s)

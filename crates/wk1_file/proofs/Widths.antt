@@ -17,7 +17,7 @@ use Rattle.wk1_records.specs.Meanings.{is_width, meaning}
 use Rattle.wk1_file.specs.Said.{width_entries, widths_entries, AreWidths, Says}
 use Rattle.wk1_records.specs.Bodies.{made}
 use Rattle.wk1_file.specs.Saved.{columns, width_piece, width_pieces}
-use Rattle.wk1_file.specs.Sheets.{taken, with_widths}
+use Rattle.wk1_file.specs.Sheets.{with_entry, with_widths}
 use Rattle.wk1_records.specs.declared.entry.Entry.TheVariants as entry
 use Rattle.wk1_records.specs.declared.kind.Kind.TheVariants as kind
 use Rattle.wk1_file.proofs.Heads.{by_type, tested}
@@ -62,7 +62,7 @@ set_there W a n w inside =
 next_width : (W : List ℕ) (a n : ℕ) → a < length W → take a W ++ get_or W a 0 ∷ replicate n 0 ≡ take (a + 1) W ++ replicate n 0
 next_width W a n inside = sym (ap (λ l. l ++ replicate n 0) (take_more W a 0 inside) ∙ append_assoc (take a W) (get_or W a 0 ∷ []) (replicate n 0))
 
-one_taken : (s : SavedSheet) (W : List ℕ) (a n : ℕ) (f : Option Place) → a < length W → (h : Option Place) × (fold taken (with_widths s (take a W ++ 0 ∷ replicate n 0) f) (width_entries a (own_width (get_or W a 0))) ≡ with_widths s (take (a + 1) W ++ replicate n 0) h)
+one_taken : (s : SavedSheet) (W : List ℕ) (a n : ℕ) (f : Option Place) → a < length W → (h : Option Place) × (fold with_entry (with_widths s (take a W ++ 0 ∷ replicate n 0) f) (width_entries a (own_width (get_or W a 0))) ≡ with_widths s (take (a + 1) W ++ replicate n 0) h)
 one_taken s W a n f inside =
     elim (cases_Bool (nat_eq (get_or W a 0) 0)) [
       | inl none ↦ (
@@ -72,16 +72,16 @@ one_taken s W a n f inside =
       | inr some ↦ (None, rw some (ap (λ l. with_widths s l None) (set_there W a n (get_or W a 0) inside ∙ next_width W a n inside)))
     ]
 
-all_taken : (s : SavedSheet) (W : List ℕ) (n a : ℕ) (f : Option Place) → a + n ≡ length W → (h : Option Place) × (fold taken (with_widths s (take a W ++ replicate n 0) f) (flat_map (λ col. width_entries col (own_width (get_or W col 0))) (range_with_len a n)) ≡ with_widths s W h)
+all_taken : (s : SavedSheet) (W : List ℕ) (n a : ℕ) (f : Option Place) → a + n ≡ length W → (h : Option Place) × (fold with_entry (with_widths s (take a W ++ replicate n 0) f) (flat_map (λ col. width_entries col (own_width (get_or W col 0))) (range_with_len a n)) ≡ with_widths s W h)
 all_taken s W zero a f len = (f, ap (λ l. with_widths s l f) (append-nil (take a W) ∙ take_all a W (omega (arith, len))))
 all_taken s W (suc n) a f len =
     let one = one_taken s W a n f (omega (arith, len)) in
     let rest = all_taken s W n (a + 1) one.0 (omega (arith, len)) in (
       rest.0,
-      fold-append taken (with_widths s (take a W ++ 0 ∷ replicate n 0) f) (width_entries a (own_width (get_or W a 0))) (flat_map (λ col. width_entries col (own_width (get_or W col 0))) (range_with_len (a + 1) n))
-          ∙ ap (λ r. fold taken r (flat_map (λ col. width_entries col (own_width (get_or W col 0))) (range_with_len (a + 1) n))) one.1 ∙ rest.1,
+      fold-append with_entry (with_widths s (take a W ++ 0 ∷ replicate n 0) f) (width_entries a (own_width (get_or W a 0))) (flat_map (λ col. width_entries col (own_width (get_or W col 0))) (range_with_len (a + 1) n))
+          ∙ ap (λ r. fold with_entry r (flat_map (λ col. width_entries col (own_width (get_or W col 0))) (range_with_len (a + 1) n))) one.1 ∙ rest.1,
     )
 
-pub widths_taken : (s : SavedSheet) (g : Grid) (f : Option Place) → AreWidths g.widths → (h : Option Place) × (fold taken (with_widths s (replicate 256 0) f) (widths_entries g) ≡ with_widths s g.widths h)
+pub widths_taken : (s : SavedSheet) (g : Grid) (f : Option Place) → AreWidths g.widths → (h : Option Place) × (fold with_entry (with_widths s (replicate 256 0) f) (widths_entries g) ≡ with_widths s g.widths h)
 unfolding columns
 widths_taken s g f ws = all_taken s g.widths 256 0 f (omega (arith, ws.all))

@@ -34,21 +34,22 @@ abbrev pub with_store : SavedSheet → Grid → Option Place → Progress
 with_store s g f = record { sheet = record s { store = g }; formula = f }
 
 -- the sheet after what one more record says
-abbrev pub taken : Progress → Entry → Progress
-taken r entry.Nothing = record { sheet = r.sheet; formula = None }
-taken r (entry.Automatic b) = with_settings r.sheet (record r.sheet.settings { automatic = b })
-taken r (entry.Order o) = with_settings r.sheet (record r.sheet.settings { order = o })
-taken r (entry.Window p f w) = with_settings r.sheet (record r.sheet.settings { pointer = p; format = f.0; width = w })
-taken r (entry.Width col w) = with_store r.sheet (set_width_of r.sheet.store col (Some w)) None
-taken r (entry.Hidden bits) = with_store r.sheet (record r.sheet.store { hidden = bits }) None
-taken r (entry.Name name span) =
+abbrev pub with_entry : Progress → Entry → Progress
+with_entry r entry.Nothing = record { sheet = r.sheet; formula = None }
+with_entry r (entry.Automatic b) = with_settings r.sheet (record r.sheet.settings { automatic = b })
+with_entry r (entry.Order o) = with_settings r.sheet (record r.sheet.settings { order = o })
+with_entry r (entry.Window p f w) =
+    with_settings r.sheet (record r.sheet.settings { pointer = p; format = f.0; width = w })
+with_entry r (entry.Width col w) = with_store r.sheet (set_width_of r.sheet.store col (Some w)) None
+with_entry r (entry.Hidden bits) = with_store r.sheet (record r.sheet.store { hidden = bits }) None
+with_entry r (entry.Name name span) =
     record { sheet = record r.sheet { names = map.insert r.sheet.names (key_of name) span }; formula = None }
-taken r (entry.State p s) = with_store r.sheet (put_state r.sheet.store p s) None
-taken r (entry.Formula p s) = with_store r.sheet (put_state r.sheet.store p s) (Some p)
-taken r (entry.Text p t) = with_store r.sheet (texted r.formula p t r.sheet.store) None
-taken r (entry.Protection b) = with_settings r.sheet (record r.sheet.settings { protection = b })
-taken r (entry.Prefix b) = with_settings r.sheet (record r.sheet.settings { prefix = b })
-taken r (entry.Passes n) = with_settings r.sheet (record r.sheet.settings { passes = n })
+with_entry r (entry.State p s) = with_store r.sheet (put_state r.sheet.store p s) None
+with_entry r (entry.Formula p s) = with_store r.sheet (put_state r.sheet.store p s) (Some p)
+with_entry r (entry.Text p t) = with_store r.sheet (texted r.formula p t r.sheet.store) None
+with_entry r (entry.Protection b) = with_settings r.sheet (record r.sheet.settings { protection = b })
+with_entry r (entry.Prefix b) = with_settings r.sheet (record r.sheet.settings { prefix = b })
+with_entry r (entry.Passes n) = with_settings r.sheet (record r.sheet.settings { passes = n })
 
 -- a fresh sheet
 abbrev pub fresh_sheet : SavedSheet
@@ -91,7 +92,7 @@ unless_fault (Some f) s = Err f
 
 -- the sheet of records, or their first fault
 abbrev pub sheet_of : Records → Result SavedSheet Wk1Fault
-sheet_of rs = unless_fault (first_fault 0 rs) (fold taken start (entries_in 0 rs)).sheet
+sheet_of rs = unless_fault (first_fault 0 rs) (fold with_entry start (entries_in 0 rs)).sheet
 
 -- a sheet so far with these cells, behind the formula of a cell
 abbrev pub with_cells : SavedSheet → Cells → Option Place → Progress

@@ -6,7 +6,7 @@ ghost use Rattle.wk1_file.specs.Files.{IsFile};
 ghost use Rattle.wk1_records.specs.declared.fault.Wk1Fault.{Wk1Fault};
 ghost use Rattle.wk1_records.specs.declared.fault.Wk1Fault.TheVariants as fault;
 ghost use Rattle.wk1_records.specs.Records.{IsBytes, pieces_bytes, Piece, Splits};
-ghost use Rattle.wk1_file.specs.Sheets.{entries_in, first_fault, taken, with_cells, with_names, with_widths};
+ghost use Rattle.wk1_file.specs.Sheets.{entries_in, first_fault, with_cells, with_entry, with_names, with_widths};
 ghost use Rattle.wk1_records.specs.declared.entry.Entry.{Entry};
 ghost use Rattle.grid_address.specs.Place.{Extent, Place};
 ghost use Rattle.range_names.specs.Names.{name_in, NameMap};
@@ -36,7 +36,7 @@ pub fn records_are_split()
 pub fn settings_are_read()
     ensures said { (c : Choices) → AreSettings c → Says (settings_pieces c) (settings_entries c) }
     ensures taken { (c : Choices) (s : SavedSheet) (f : Option Place)
-        → fold taken (record { sheet = s; formula = f }) (settings_entries c)
+        → fold with_entry (record { sheet = s; formula = f }) (settings_entries c)
         ≡ record { sheet = record s { settings = c }; formula = None } }
 {}
 
@@ -44,7 +44,8 @@ pub fn settings_are_read()
 pub fn cells_are_filled()
     ensures { (s : SavedSheet) (m : Cells) (f : Option Place) → AllByRecursion IsSavedCell (finite.entries m)
         → (g : Option Place)
-        × (fold taken (with_cells s finite.empty f) (flat_map cell_entries (finite.entries m)) ≡ with_cells s m g) }
+        × (fold with_entry (with_cells s finite.empty f) (flat_map cell_entries (finite.entries m))
+        ≡ with_cells s m g) }
 {}
 
 /// The records of own widths say the widths, and put into a sheet they give them. Nothing is done here: the contract
@@ -53,7 +54,7 @@ pub fn widths_are_read()
     ensures said { (g : Grid) → AreWidths g.widths → Says (width_pieces g) (widths_entries g) }
     ensures taken { (s : SavedSheet) (g : Grid) (f : Option Place) → AreWidths g.widths
         → (h : Option Place)
-        × (fold taken (with_widths s (replicate 256 0) f) (widths_entries g) ≡ with_widths s g.widths h) }
+        × (fold with_entry (with_widths s (replicate 256 0) f) (widths_entries g) ≡ with_widths s g.widths h) }
 {}
 
 /// The records of names say the names, and put into a sheet they give them. Nothing is done here: the contract says it.
@@ -62,7 +63,7 @@ pub fn names_are_read()
         → Says (map (λ e. name_piece (name_in e.0) e.1) es) (map name_entry_of es) }
     ensures taken { (s : SavedSheet) (ns : NameMap) (f : Option Place) → AllByRecursion IsSavedName (finite.entries ns)
         → (h : Option Place)
-        × (fold taken (with_names s finite.empty f) (map name_entry_of (finite.entries ns)) ≡ with_names s ns h) }
+        × (fold with_entry (with_names s finite.empty f) (map name_entry_of (finite.entries ns)) ≡ with_names s ns h) }
 {}
 
 /// What is saved of a sheet is read as the sheet, where it has at most 67,108,864 bytes. Nothing is

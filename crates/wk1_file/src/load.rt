@@ -2,7 +2,7 @@
 ghost use Rattle.std.specs.Prelude.{◌≡◌, ◌≤◌, ◌<◌, ◌+◌, ◌++◌, ◌⊎◌, Ok, Err, OnOk, IfErr, length, drop};
 ghost use Rattle.wk1_file.specs.Files.{has_bof, IsFile};
 ghost use Rattle.wk1_records.specs.Meanings.{meaning_by};
-ghost use Rattle.wk1_file.specs.Sheets.{start, taken};
+ghost use Rattle.wk1_file.specs.Sheets.{start, with_entry};
 ghost use Rattle.wk1_file.specs.inner.Takes.{as_progress, IsMinded, Makes};
 ghost use Rattle.wk1_records.specs.declared.entry.Entry.{Entry};
 ghost use Rattle.wk1_records.specs.declared.fault.Wk1Fault.TheVariants as fault;
@@ -60,7 +60,7 @@ fn take_record(
 ) -> Result<(), Wk1Fault>
     requires { IsMinded (as_progress loading.old) }
     ensures taken { OnOk result ((e : Entry) × (meaning_by number body.now kind ≡ Ok e)
-        × (as_progress loading.new ≡ taken (as_progress loading.old) e)) }
+        × (as_progress loading.new ≡ with_entry (as_progress loading.old) e)) }
     ensures minded { OnOk result (IsMinded (as_progress loading.new)) }
     ensures fault { IfErr result (λ f. (f ≡ fault.Memory) ⊎ (meaning_by number body.now kind ≡ Err f)) }
 {

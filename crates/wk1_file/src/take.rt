@@ -5,7 +5,7 @@ ghost use Rattle.std.specs.FinMap as finite;
 ghost use Rattle.grid_address.specs.Place.{same_place, Place};
 ghost use Rattle.range_names.specs.Names.{key_of};
 ghost use Rattle.sheet_store.specs.Grid.{put_state, set_width_of, HasFormula, IsSound};
-ghost use Rattle.wk1_file.specs.Sheets.{taken, texted, Progress};
+ghost use Rattle.wk1_file.specs.Sheets.{texted, with_entry, Progress};
 ghost use Rattle.wk1_file.specs.inner.Takes.{as_progress, IsEntry, IsMinded};
 ghost use Rattle.wk1_records.specs.declared.entry.Entry.TheVariants as entry;
 
@@ -153,7 +153,7 @@ pub struct Loading {
 pub fn take(loading: &mut Loading, entry: Entry) -> Result<(), Memory>
     requires entry { IsEntry entry }
     requires minded { IsMinded (as_progress loading.old) }
-    ensures { OnOk result (as_progress loading.new ≡ taken (as_progress loading.old) entry) }
+    ensures { OnOk result (as_progress loading.new ≡ with_entry (as_progress loading.old) entry) }
 {
     let formula = loading.formula;
     loading.formula = None;

@@ -6,7 +6,7 @@ use Rattle.sheet_store.specs.Grid.{is_formula, HasFormula, IsSound}
 use Rattle.sheet_store.specs.Limits.{MOST_WIDTH}
 use Rattle.sheet_store.specs.declared.writes.SavedSheet.{SavedSheet}
 use Rattle.wk1_records.specs.Records.{Records, Splits}
-use Rattle.wk1_file.specs.Sheets.{entries_in, first_fault, sheet_of, taken, unless_fault, Progress}
+use Rattle.wk1_file.specs.Sheets.{entries_in, first_fault, sheet_of, unless_fault, with_entry, Progress}
 use Rattle.wk1_records.specs.declared.fault.Wk1Fault.{Wk1Fault}
 use Rattle.wk1_records.specs.declared.fault.Wk1Fault.TheVariants as fault
 use Rattle.wk1_file.specs.declared.take.Loading.{Loading}
@@ -39,7 +39,7 @@ as_progress l = record { sheet = l.sheet; formula = l.formula }
 
 -- what records make of a sheet so far
 abbrev pub sheet_from : ℕ → Progress → Records → Result SavedSheet Wk1Fault
-sheet_from n r rs = unless_fault (first_fault n rs) (fold taken r (entries_in n rs)).sheet
+sheet_from n r rs = unless_fault (first_fault n rs) (fold with_entry r (entries_in n rs)).sheet
 
 -- the bytes are records, and this is what they make
 pub record Makes (bytes : List ℕ) (x : Result SavedSheet Wk1Fault) : Type 0 where
