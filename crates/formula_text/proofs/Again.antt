@@ -14,8 +14,8 @@ use Rattle.formula_tree.specs.Table.{counts_of, takes}
 use Rattle.formula_tree.specs.Tree.{Tree, num, str, cell, span, group, neg, not as negation, binary, call, Trees, no_trees, trees}
 use Rattle.formula_text.specs.declared.fault.ParseFault.TheVariants.{ArgCount}
 use Rattle.formula_text.specs.declared.parse.Bracket.TheVariants.{Plain, Call}
-use Rattle.formula_text.specs.declared.lexeme.Kind.TheVariants.{Num, Str, Cell, Span, Constant, Function}
-use Rattle.formula_text.specs.declared.lexeme.Kind.{Kind}
+use Rattle.formula_text.specs.declared.lexeme.LexemeKind.TheVariants.{Cell, Constant, Function, Num, Span, Str}
+use Rattle.formula_text.specs.declared.lexeme.LexemeKind.{LexemeKind}
 use Rattle.formula_text.specs.declared.lexeme.Lexeme.{Lexeme}
 use Rattle.formula_text.specs.Accepts.{Brackets, Verdict, after, bracket_first, operand_first, operator_first}
 use Rattle.formula_text.specs.Functions.{name_of}
@@ -92,7 +92,7 @@ module _ (names : NameMap) (at_cell : Place) (keyed : AreKeys names) (inside : I
   behind ts at rest bs = after ts (operator_first (parts at rest) bs)
 
   -- a leaf
-  leaf : (bytes rest : List ℕ) (kind : Kind) (at : ℕ) (bs : Brackets) → IsPart names at_cell bytes kind → Stops rest → operand_first (parts at (bytes ++ rest)) bs ≡ operand_first (record { at = at; kind = kind } ∷ parts (at + length bytes) rest) bs
+  leaf : (bytes rest : List ℕ) (kind : LexemeKind) (at : ℕ) (bs : Brackets) → IsPart names at_cell bytes kind → Stops rest → operand_first (parts at (bytes ++ rest)) bs ≡ operand_first (record { at = at; kind = kind } ∷ parts (at + length bytes) rest) bs
   leaf bytes rest kind at bs part stops = ap (λ ls. operand_first ls bs) (part_cut names at_cell bytes rest kind at part stops)
 
   -- a function without arguments is a constant, and no function takes none or more

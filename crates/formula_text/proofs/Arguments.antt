@@ -9,8 +9,8 @@ use Rattle.formula_tree.specs.Tree.{Tree, call, no_trees}
 use Rattle.formula_tree.specs.Table.{counts_of, takes}
 use Rattle.formula_tree.specs.Shape.{count, every, every_one, level}
 use Rattle.formula_tree.specs.View.{listed}
-use Rattle.formula_text.specs.declared.lexeme.Kind.{Kind}
-use Rattle.formula_text.specs.declared.lexeme.Kind.TheVariants.{Constant}
+use Rattle.formula_text.specs.declared.lexeme.LexemeKind.{LexemeKind}
+use Rattle.formula_text.specs.declared.lexeme.LexemeKind.TheVariants.{Constant}
 use Rattle.formula_text.specs.declared.lexeme.Lexeme.{Lexeme}
 use Rattle.formula_text.specs.declared.parse.Bracket.TheVariants.{Call}
 use Rattle.formula_text.specs.Tokens.{Token, tokens, more_tokens, called, closing, comma}
@@ -108,7 +108,7 @@ call_is_read ls f n (t ∷ ts) rest behind l c =
       shorter = omega (arith, l.shorter, c.shorter);
     }
 
-constant_operand : (k : Kind) (f : AtFunction) (at : ℕ) (rest : List Lexeme) → k ≡ Constant f → (bs : Brackets) → operand_first (record { at = at; kind = k } ∷ rest) bs ≡ after (tokens (call f no_trees)) (operator_first rest bs)
+constant_operand : (k : LexemeKind) (f : AtFunction) (at : ℕ) (rest : List Lexeme) → k ≡ Constant f → (bs : Brackets) → operand_first (record { at = at; kind = k } ∷ rest) bs ≡ after (tokens (call f no_trees)) (operator_first rest bs)
 constant_operand k f at rest h bs = ap (λ x. operand_first (record { at = at; kind = x } ∷ rest) bs) h
 
 -- a function without arguments

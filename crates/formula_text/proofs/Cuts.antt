@@ -5,7 +5,7 @@ use Rattle.std.proofs.lemmas.Bool.{and_parts}
 use Rattle.std.specs.List.{list_all, prefix_len}
 use Rattle.grid_address.specs.Place.{Place}
 use Rattle.range_names.specs.Names.{NameMap}
-use Rattle.formula_text.specs.declared.lexeme.Kind.{Kind}
+use Rattle.formula_text.specs.declared.lexeme.LexemeKind.{LexemeKind}
 use Rattle.formula_text.specs.declared.lexeme.Lexeme.{Lexeme}
 use Rattle.formula_text.specs.Lexed.{found_by, lexed, part_found}
 use Rattle.formula_text.specs.Operands.{number_len}
@@ -52,21 +52,21 @@ front_len p (x ∷ xs) rest all h =
     ∙ ap (λ k. 1 + k) (front_len p xs rest (and_parts (p x) (list_all p xs) all).1 h) ∙ (let e : 1 + length xs ≡ length (x ∷ xs) = omega arith in e)
 
 -- the text is one part, whatever stops it
-pub record IsPart (names : NameMap) (cell : Place) (text : List ℕ) (kind : Kind) : Type 0 where
+pub record IsPart (names : NameMap) (cell : Place) (text : List ℕ) (kind : LexemeKind) : Type 0 where
   pub some : 0 < length text
   pub first : (rest : List ℕ) → Starts (get_or (text ++ rest) 0 0)
   pub found : (rest : List ℕ) (at : ℕ) → Stops rest → part_found names cell at (text ++ rest) ≡ record { kind = kind; len = length text }
 
 -- a part is cut off
-pub cut : (names : NameMap) (cell : Place) (text rest : List ℕ) (kind : Kind) (at : ℕ) → 0 < length text → (get_or (text ++ rest) 0 0 == 32) ≡ false → part_found names cell at (text ++ rest) ≡ record { kind = kind; len = length text } →
+pub cut : (names : NameMap) (cell : Place) (text rest : List ℕ) (kind : LexemeKind) (at : ℕ) → 0 < length text → (get_or (text ++ rest) 0 0 == 32) ≡ false → part_found names cell at (text ++ rest) ≡ record { kind = kind; len = length text } →
     lexed names cell 0 at (text ++ rest) ≡ record { at = at; kind = kind } ∷ lexed names cell 0 (at + length text) rest
 cut names cell text rest kind at some first found =
-    let k : List Lexeme → Kind → List Lexeme = λ ls k. record { at = at; kind = k } ∷ ls in
+    let k : List Lexeme → LexemeKind → List Lexeme = λ ls k. record { at = at; kind = k } ∷ ls in
     here names cell at (text ++ rest) (length text) first (sym (ap (λ f. f.len) found)) some (omega (arith, length-append text rest))
     ∙ ap (k (lexed names cell 0 (at + length text) (drop (length text) (text ++ rest)))) (ap (λ f. f.kind) found)
     ∙ ap (λ bs. k (lexed names cell 0 (at + length text) bs) kind) (drop_front text rest)
 
-pub part_cut : (names : NameMap) (cell : Place) (text rest : List ℕ) (kind : Kind) (at : ℕ) → IsPart names cell text kind → Stops rest →
+pub part_cut : (names : NameMap) (cell : Place) (text rest : List ℕ) (kind : LexemeKind) (at : ℕ) → IsPart names cell text kind → Stops rest →
     lexed names cell 0 at (text ++ rest) ≡ record { at = at; kind = kind } ∷ lexed names cell 0 (at + length text) rest
 part_cut names cell text rest kind at part stops = cut names cell text rest kind at part.some (part.first rest).space (part.found rest at stops)
 

@@ -11,8 +11,8 @@ use Rattle.formula_tree.specs.declared.function.Function.TheVariants as function
 use Rattle.formula_tree.specs.declared.table.Counts.{Counts}
 use Rattle.formula_tree.specs.declared.table.Counts.TheVariants.{Exactly, AtLeast}
 use Rattle.formula_tree.specs.Table.{counts_of, takes}
-use Rattle.formula_text.specs.declared.lexeme.Kind.{Kind}
-use Rattle.formula_text.specs.declared.lexeme.Kind.TheVariants.{Constant, Function}
+use Rattle.formula_text.specs.declared.lexeme.LexemeKind.{LexemeKind}
+use Rattle.formula_text.specs.declared.lexeme.LexemeKind.TheVariants.{Constant, Function}
 use Rattle.formula_text.specs.Functions.{function_named, name_of}
 use Rattle.formula_text.specs.Lexed.{found_by, part_found}
 use Rattle.formula_text.specs.Operands.{called_kind, function_found, function_kind, is_name_byte}
@@ -50,7 +50,7 @@ unfolding part_found found_by
 at_found names cell rest at = refl
 
 -- a constant or a function with arguments, by what it takes
-abbrev pub kind_of : AtFunction → Kind
+abbrev pub kind_of : AtFunction → LexemeKind
 kind_of f = if takes (counts_of f) 0 then Constant f else Function f
 
 named_found : (at : ℕ) (f : AtFunction) (name rest : List ℕ) → 0 < length name → list_all is_name_byte name ≡ true → function_named name ≡ Some f → is_word_byte (get_or rest 0 0) ≡ false →

@@ -4,8 +4,8 @@ use Rattle.std.proofs.lemmas.Bool.Decides.{nat_tests}
 use Rattle.formula_tree.specs.declared.ast.Op.{Op}
 use Rattle.formula_tree.specs.Tree.{Tree, binary}
 use Rattle.formula_tree.specs.Shape.{level, top, lowest}
-use Rattle.formula_text.specs.declared.lexeme.Kind.{Kind}
-use Rattle.formula_text.specs.declared.lexeme.Kind.TheVariants.{Num, Str, Cell, Span, Constant, Function, Infix, Not, Open, Close, Comma, Unclosed, Bad}
+use Rattle.formula_text.specs.declared.lexeme.LexemeKind.{LexemeKind}
+use Rattle.formula_text.specs.declared.lexeme.LexemeKind.TheVariants.{Bad, Cell, Close, Comma, Constant, Function, Infix, Not, Num, Open, Span, Str, Unclosed}
 use Rattle.formula_text.specs.declared.lexeme.Lexeme.{Lexeme}
 use Rattle.formula_text.specs.Tokens.{Token, tokens, infix_op}
 use Rattle.formula_text.specs.Accepts.{Brackets, Verdict, after, operand_first, operator_first, operator_row}
@@ -16,7 +16,7 @@ pub after-after : (xs ys : List Token) (v : Verdict) → after xs (after ys v) �
 after-after xs ys (Ok ts) = ap Ok (sym (append_assoc xs ys ts))
 after-after xs ys (Err f) = refl
 
-operator_step : (k : Kind) (op : Op) → operator_in k ≡ Some op → (at : ℕ) (bs : Brackets) (operand operator : Brackets → Verdict) →
+operator_step : (k : LexemeKind) (op : Op) → operator_in k ≡ Some op → (at : ℕ) (bs : Brackets) (operand operator : Brackets → Verdict) →
     operator_row k at bs operand operator ≡ after (infix_op op ∷ []) (operand bs)
 operator_step (Infix o) op h at bs operand operator = cc
 operator_step (Num v) op h at bs operand operator = cc

@@ -15,7 +15,7 @@ use Rattle.fixed_value.proofs.Short.{all_shown, all_whole, front_digits, point_s
 use Rattle.grid_address.specs.Place.{Place}
 use Rattle.range_names.specs.Names.{NameMap}
 use Rattle.formula_tree.specs.Ranges.{is_text}
-use Rattle.formula_text.specs.declared.lexeme.Kind.TheVariants.{Num, Str}
+use Rattle.formula_text.specs.declared.lexeme.LexemeKind.TheVariants.{Num, Str}
 use Rattle.formula_text.specs.Lexed.{found_by, part_found}
 use Rattle.formula_text.specs.Operands.{closed, digits_len, number_kind, number_len, point_len, text_kind}
 use Rattle.formula_tree.specs.Shape.{has_no_quote}

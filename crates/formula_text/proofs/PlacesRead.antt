@@ -14,8 +14,8 @@ use Rattle.grid_address.specs.Progress.{address_in, count_dots}
 use Rattle.range_names.specs.Names.{is_word_byte as names_byte, is_plain, is_word, name_of_span, AreKeys, NameMap}
 use Rattle.range_names.proofs.Named.{finds, Finds}
 use Rattle.formula_tree.specs.Ranges.{is_reference}
-use Rattle.formula_text.specs.declared.lexeme.Kind.{Kind}
-use Rattle.formula_text.specs.declared.lexeme.Kind.TheVariants.{Cell, Span}
+use Rattle.formula_text.specs.declared.lexeme.LexemeKind.{LexemeKind}
+use Rattle.formula_text.specs.declared.lexeme.LexemeKind.TheVariants.{Cell, Span}
 use Rattle.formula_text.specs.declared.lexeme.Found.{Found}
 use Rattle.formula_text.specs.Lexed.{found_by, part_found}
 use Rattle.formula_text.specs.Printed.{alike, cell_text, in_order, mark, name_of_cell, name_of_corners, named_or, reference_text, same, span_text}
@@ -167,7 +167,7 @@ name_unread cell fixed name n =
 named_is : (names : NameMap) (name : List ℕ) (s : Extent) → Finds names s name → named_span names name ≡ Some s
 named_is names name s f = (let test : nat_le (length name) 15 ≡ true = (let short = f.short in grind (arith, nat_tests, short)) in rw test f.found)
 
-name_part : (names : NameMap) (cell : Place) (fixed : Bool) (name : List ℕ) (s : Extent) (kind : Kind) → Finds names s name → ((at : ℕ) → span_kind cell at fixed (Some s) ≡ kind) → IsPart names cell (mark fixed ++ name) kind
+name_part : (names : NameMap) (cell : Place) (fixed : Bool) (name : List ℕ) (s : Extent) (kind : LexemeKind) → Finds names s name → ((at : ℕ) → span_kind cell at fixed (Some s) ≡ kind) → IsPart names cell (mark fixed ++ name) kind
 name_part names cell fixed name s kind f is =
     let n = is_named name f.plain in
     let word : List ℕ = mark fixed ++ name in

@@ -12,8 +12,8 @@ use Rattle.formula_tree.specs.declared.table.Counts.{Counts}
 use Rattle.formula_tree.specs.declared.table.Counts.TheVariants.{Exactly, AtLeast}
 use Rattle.formula_tree.specs.Shape.{all_sizes, depth, every, every_one, greatest_depth, is_bracketed, is_fine, is_short, nodes_size, not_negative, IsFormula}
 use Rattle.formula_text.specs.declared.fault.ParseFault.{ParseFault}
-use Rattle.formula_text.specs.declared.lexeme.Kind.{Kind}
-use Rattle.formula_text.specs.declared.lexeme.Kind.TheVariants.{Num, Str, Cell, Span, Constant, Function, Infix, Not, Open, Close, Comma, Unclosed, Bad}
+use Rattle.formula_text.specs.declared.lexeme.LexemeKind.{LexemeKind}
+use Rattle.formula_text.specs.declared.lexeme.LexemeKind.TheVariants.{Bad, Cell, Close, Comma, Constant, Function, Infix, Not, Num, Open, Span, Str, Unclosed}
 use Rattle.formula_text.specs.declared.lexeme.Lexeme.{Lexeme}
 use Rattle.formula_text.specs.declared.parse.Bracket.TheVariants.{Plain, Call}
 use Rattle.formula_text.specs.Tokens.{Token, tokens, more_tokens, number, text, place, places, constant, called, opening, closing, comma, front_minus, front_not, infix_op}
@@ -51,7 +51,7 @@ front_fine And at bs n operand h = tt
 front_fine Or at bs n operand h = tt
 front_fine Join at bs n operand h = tt
 
-operand_fine : (k : Kind) (at : ℕ) (bs : Brackets) (n : ℕ) (operand operator : Brackets → Verdict) (bracket : AtFunction → Brackets → Verdict) →
+operand_fine : (k : LexemeKind) (at : ℕ) (bs : Brackets) (n : ℕ) (operand operator : Brackets → Verdict) (bracket : AtFunction → Brackets → Verdict) →
     is_fine_kind k ≡ true → ((b : Brackets) → Fine n (operand b)) → ((b : Brackets) → Fine n (operator b)) → ((f : AtFunction) (b : Brackets) → Fine n (bracket f b)) →
     Fine (suc n) (operand_row k at bs operand operator bracket)
 operand_fine (Num v) at bs n operand operator bracket p h g q = one_more (number v) n (operator bs) p (g bs)
@@ -82,7 +82,7 @@ close_fine at [] n operator h = tt
 close_fine at (Plain ∷ bs) n operator h = one_more closing n (operator bs) refl (h bs)
 close_fine at (Call f m ∷ bs) n operator h = closed_if (takes (counts_of f) (m + 1)) (suc n) (after (closing ∷ []) (operator bs)) _ (one_more closing n (operator bs) refl (h bs))
 
-operator_fine : (k : Kind) (at : ℕ) (bs : Brackets) (n : ℕ) (operand operator : Brackets → Verdict) →
+operator_fine : (k : LexemeKind) (at : ℕ) (bs : Brackets) (n : ℕ) (operand operator : Brackets → Verdict) →
     ((b : Brackets) → Fine n (operand b)) → ((b : Brackets) → Fine n (operator b)) → Fine (suc n) (operator_row k at bs operand operator)
 operator_fine (Infix op) at bs n operand operator h g = one_more (infix_op op) n (operand bs) refl (h bs)
 operator_fine Comma at bs n operand operator h g = comma_fine at bs n operand h
@@ -98,7 +98,7 @@ operator_fine Open at bs n operand operator h g = tt
 operator_fine Unclosed at bs n operand operator h g = tt
 operator_fine (Bad f) at bs n operand operator h g = tt
 
-bracket_fine : (k : Kind) (at n : ℕ) (v : Verdict) → Fine n v → Fine (suc n) (bracket_row k at v)
+bracket_fine : (k : LexemeKind) (at n : ℕ) (v : Verdict) → Fine n v → Fine (suc n) (bracket_row k at v)
 bracket_fine Open at n v h = no_more n v h
 bracket_fine (Num w) at n v h = tt
 bracket_fine (Str t) at n v h = tt

@@ -7,7 +7,7 @@ use Rattle.grid_address.specs.Place.{Place}
 use Rattle.range_names.specs.Names.{NameMap}
 use Rattle.formula_tree.specs.declared.ast.Op.{Op}
 use Rattle.formula_tree.specs.declared.ast.Op.TheVariants.{Pow, Mul, Div, Add, Sub, Eq, Ne, Lt, Gt, Le, Ge, And, Or, Join}
-use Rattle.formula_text.specs.declared.lexeme.Kind.TheVariants.{Infix, Not, Open, Close, Comma}
+use Rattle.formula_text.specs.declared.lexeme.LexemeKind.TheVariants.{Close, Comma, Infix, Not, Open}
 use Rattle.formula_text.specs.Lexed.{found_by, lexed, part_found}
 use Rattle.formula_text.specs.Printed.{op_text}
 use Rattle.formula_text.specs.Signs.{begins_with, hash_found, sign_of, single_kind}

@@ -14,8 +14,8 @@ use Rattle.grid_address.specs.Place.{Place}
 use Rattle.range_names.specs.Names.{NameMap}
 use Rattle.formula_text.specs.declared.fault.ParseFault.{ParseFault}
 use Rattle.formula_text.specs.declared.fault.ParseFault.TheVariants.{TooLong}
-use Rattle.formula_text.specs.declared.lexeme.Kind.{Kind}
-use Rattle.formula_text.specs.declared.lexeme.Kind.TheVariants.{Num, Str, Cell, Span, Constant, Function, Infix, Not, Open as OpenKind, Close, Comma, Unclosed, Bad}
+use Rattle.formula_text.specs.declared.lexeme.LexemeKind.{LexemeKind}
+use Rattle.formula_text.specs.declared.lexeme.LexemeKind.TheVariants.{Bad, Cell, Close, Comma, Constant, Function, Infix, Not, Num, Open as OpenKind, Span, Str, Unclosed}
 use Rattle.formula_text.specs.declared.lexeme.Lexeme.{Lexeme}
 use Rattle.formula_text.specs.declared.parse.Bracket.TheVariants.{Plain, Call}
 use Rattle.formula_text.specs.Accepts.{after, bracket_first, bracket_row, close_row, comma_row, front_row, operand_first, operand_row, operator_first, operator_row, Brackets, Verdict}
@@ -251,7 +251,7 @@ front_told And at operand h f front i os bs before o = tt
 front_told Or at operand h f front i os bs before o = tt
 front_told Join at operand h f front i os bs before o = tt
 
-operand_told : (k : Kind) (at : ℕ) (operand operator : Brackets → Verdict) (bracket : AtFunction → Brackets → Verdict) → Operands operand → Operators operator → Calls bracket →
+operand_told : (k : LexemeKind) (at : ℕ) (operand operator : Brackets → Verdict) (bracket : AtFunction → Brackets → Verdict) → Operands operand → Operators operator → Calls bracket →
     Operands (λ bs. operand_row k at bs operand operator bracket)
 operand_told (Num v) at operand operator bracket h g q f front i os bs before o = told_more (number v) (before ++ front) (wanting f os) (operator bs) (leaf (number v) (num v) operator g refl refl refl f front i os bs before o)
 operand_told (Str t) at operand operator bracket h g q f front i os bs before o = told_more (text t) (before ++ front) (wanting f os) (operator bs) (leaf (text t) (str t) operator g refl refl refl f front i os bs before o)
@@ -318,7 +318,7 @@ close_told at operator h t w (function f g us ∷ os) (Call c n ∷ bs) before o
     (told_more closing (before ++ tokens t) (having t (function f g us ∷ os)) (operator bs)
     (subst (λ ts. Told ts (having (f made) os) (operator bs)) same (h (f made) (i.is.well made (all_well us t i.well w) refl) os bs o.0 o.2)))
 
-operator_told : (k : Kind) (at : ℕ) (operand operator : Brackets → Verdict) → Operands operand → Operators operator → Operators (λ bs. operator_row k at bs operand operator)
+operator_told : (k : LexemeKind) (at : ℕ) (operand operator : Brackets → Verdict) → Operands operand → Operators operator → Operators (λ bs. operator_row k at bs operand operator)
 operator_told (Infix op) at operand operator h g t w os bs before o =
     told_more (infix_op op) (before ++ tokens t) (having t os) (operand bs) (behind (infix_op op) (beside op t) (beside op t) (tokens t) operand h (behind_tree op t w) os bs before o)
 operator_told Comma at operand operator h g t w os bs before o = comma_told at operand h t w os bs before o
@@ -334,7 +334,7 @@ operator_told OpenKind at operand operator h g t w os bs before o = tt
 operator_told Unclosed at operand operator h g t w os bs before o = tt
 operator_told (Bad e) at operand operator h g t w os bs before o = tt
 
-bracket_told : (k : Kind) (at : ℕ) (operand : Brackets → Verdict) → Operands operand → Calls (λ c bs. bracket_row k at (operand (Call c 0 ∷ bs)))
+bracket_told : (k : LexemeKind) (at : ℕ) (operand : Brackets → Verdict) → Operands operand → Calls (λ c bs. bracket_row k at (operand (Call c 0 ∷ bs)))
 bracket_told OpenKind at operand h c f front i os bs before o =
     let now : List Token = (before ++ front) ++ called c ∷ [] in
     subst (λ ts. Told ts (wanting (λ x. x) (function f c [] ∷ os)) (operand (Call c 0 ∷ bs))) (append-nil now)

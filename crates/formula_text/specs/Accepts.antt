@@ -6,8 +6,8 @@ use Rattle.formula_tree.specs.declared.ast.Op.TheVariants.{Pow, Mul, Div, Add, S
 use Rattle.formula_tree.specs.Table.{counts_of, takes}
 use Rattle.formula_text.specs.declared.fault.ParseFault.{ParseFault}
 use Rattle.formula_text.specs.declared.fault.ParseFault.TheVariants.{ArgCount, Ended, Unexpected}
-use Rattle.formula_text.specs.declared.lexeme.Kind.{Kind}
-use Rattle.formula_text.specs.declared.lexeme.Kind.TheVariants.{Num, Str, Cell, Span, Constant, Function, Infix, Not, Open, Close, Comma, Unclosed, Bad}
+use Rattle.formula_text.specs.declared.lexeme.LexemeKind.{LexemeKind}
+use Rattle.formula_text.specs.declared.lexeme.LexemeKind.TheVariants.{Bad, Cell, Close, Comma, Constant, Function, Infix, Not, Num, Open, Span, Str, Unclosed}
 use Rattle.formula_text.specs.declared.lexeme.Lexeme.{Lexeme}
 use Rattle.formula_text.specs.declared.parse.Bracket.{Bracket}
 use Rattle.formula_text.specs.declared.parse.Bracket.TheVariants.{Plain, Call}
@@ -59,7 +59,7 @@ front_row Or at bs operand = Err (Unexpected at)
 front_row Join at bs operand = Err (Unexpected at)
 
 -- one row of the table where an operand is wanted
-abbrev pub operand_row : Kind → ℕ → Brackets → (Brackets → Verdict) → (Brackets → Verdict)
+abbrev pub operand_row : LexemeKind → ℕ → Brackets → (Brackets → Verdict) → (Brackets → Verdict)
     → (AtFunction → Brackets → Verdict) → Verdict
 operand_row (Num v) at bs operand operator bracket = after (number v ∷ []) (operator bs)
 operand_row (Str t) at bs operand operator bracket = after (text t ∷ []) (operator bs)
@@ -89,7 +89,7 @@ close_row at (Call f n ∷ bs) operator =
     if takes (counts_of f) (n + 1) then after (closing ∷ []) (operator bs) else Err (ArgCount at)
 
 -- where an operator is wanted
-abbrev pub operator_row : Kind → ℕ → Brackets → (Brackets → Verdict) → (Brackets → Verdict) → Verdict
+abbrev pub operator_row : LexemeKind → ℕ → Brackets → (Brackets → Verdict) → (Brackets → Verdict) → Verdict
 operator_row (Infix op) at bs operand operator = after (infix_op op ∷ []) (operand bs)
 operator_row Comma at bs operand operator = comma_row at bs operand
 operator_row Close at bs operand operator = close_row at bs operator
@@ -105,7 +105,7 @@ operator_row Unclosed at bs operand operator = Err (Unexpected at)
 operator_row (Bad f) at bs operand operator = Err f
 
 -- where a function's opening bracket is wanted
-abbrev pub bracket_row : Kind → ℕ → Verdict → Verdict
+abbrev pub bracket_row : LexemeKind → ℕ → Verdict → Verdict
 bracket_row Open at operand = operand
 bracket_row (Num v) at operand = Err (Unexpected at)
 bracket_row (Str t) at operand = Err (Unexpected at)

@@ -14,8 +14,8 @@ use Rattle.formula_tree.specs.declared.function.Function.TheVariants as function
 use Rattle.formula_text.specs.Functions.{function_named, is_among, left_out}
 use Rattle.formula_text.specs.declared.fault.ParseFault.TheVariants.{BadNumber, FunctionOutside, Unexpected, UnknownFunction}
 use Rattle.formula_text.specs.declared.lexeme.Found.{Found}
-use Rattle.formula_text.specs.declared.lexeme.Kind.{Kind}
-use Rattle.formula_text.specs.declared.lexeme.Kind.TheVariants.{Num, Str, Constant, Function, Unclosed, Bad}
+use Rattle.formula_text.specs.declared.lexeme.LexemeKind.{LexemeKind}
+use Rattle.formula_text.specs.declared.lexeme.LexemeKind.TheVariants.{Bad, Constant, Function, Num, Str, Unclosed}
 
 -- a point and the digits behind it
 abbrev pub point_len : List ℕ → ℕ
@@ -31,7 +31,7 @@ abbrev pub number_len : List ℕ → ℕ
 number_len bytes = digits_len (length (whole_digits bytes)) (point_len (behind_digits bytes))
 
 -- a decimal that is read is a number, or a fault of this place
-abbrev pub number_kind : ℕ → Decimal → Kind
+abbrev pub number_kind : ℕ → Decimal → LexemeKind
 number_kind at (decimal v) = Num v
 number_kind at TooLarge = Bad (BadNumber at)
 number_kind at NotNumber = Bad (Unexpected at)
@@ -42,7 +42,7 @@ number_found at bytes =
     record { kind = number_kind at (decimal_of (take (number_len bytes) bytes)); len = number_len bytes }
 
 -- no text holds a byte below 32
-abbrev pub text_kind : ℕ → Result (List ℕ) TextFault → Kind
+abbrev pub text_kind : ℕ → Result (List ℕ) TextFault → LexemeKind
 text_kind at (Ok t) = Str t
 text_kind at (Err f) = Bad (Unexpected at)
 
@@ -60,16 +60,16 @@ abbrev pub is_name_byte : ℕ → Bool
 is_name_byte b = is_ascii_alphabetic b || is_ascii_digit b
 
 -- a function that 1-2-3 has and this program leaves out, or one that neither has
-abbrev pub outside_kind : ℕ → Bool → Kind
+abbrev pub outside_kind : ℕ → Bool → LexemeKind
 outside_kind at left = if left then Bad (FunctionOutside at) else Bad (UnknownFunction at)
 
 -- a function by its name: a constant where it takes no arguments
-abbrev pub function_kind : ℕ → List ℕ → Option AtFunction → Kind
+abbrev pub function_kind : ℕ → List ℕ → Option AtFunction → LexemeKind
 function_kind at name None = outside_kind at (is_among left_out name)
 function_kind at name (Some f) = if takes (counts_of f) 0 then Constant f else Function f
 
 -- a function has a name of at least one byte
-abbrev pub called_kind : ℕ → List ℕ → Kind
+abbrev pub called_kind : ℕ → List ℕ → LexemeKind
 called_kind at [] = Bad (Unexpected at)
 called_kind at (b ∷ bs) = function_kind at (b ∷ bs) (function_named (b ∷ bs))
 

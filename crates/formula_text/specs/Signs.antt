@@ -5,8 +5,8 @@ use Rattle.ascii_bytes.specs.Ascii as ascii
 use Rattle.formula_tree.specs.declared.ast.Op.TheVariants.{Pow, Mul, Div, Add, Sub, Eq, Ne, Lt, Gt, Le, Ge, And, Or, Join}
 use Rattle.formula_text.specs.declared.fault.ParseFault.TheVariants.{Unexpected}
 use Rattle.formula_text.specs.declared.lexeme.Found.{Found}
-use Rattle.formula_text.specs.declared.lexeme.Kind.{Kind}
-use Rattle.formula_text.specs.declared.lexeme.Kind.TheVariants.{Infix, Not, Open, Close, Comma, Bad}
+use Rattle.formula_text.specs.declared.lexeme.LexemeKind.{LexemeKind}
+use Rattle.formula_text.specs.declared.lexeme.LexemeKind.TheVariants.{Bad, Close, Comma, Infix, Not, Open}
 
 -- whether bytes begin with this word, in letters of either case
 abbrev pub begins_with : List ℕ → List ℕ → Bool
@@ -21,7 +21,7 @@ hash_found at bytes =
     else record { kind = Bad (Unexpected at); len = 1 }
 
 -- a sign of one byte; ; is read as ,
-unfoldable pub single_kind : ℕ → ℕ → Kind
+unfoldable pub single_kind : ℕ → ℕ → LexemeKind
 single_kind at b =
     if b == ascii.opening_parenthesis then Open
     else if b == ascii.closing_parenthesis then Close

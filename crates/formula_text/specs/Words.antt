@@ -11,8 +11,8 @@ use Rattle.grid_address.specs.Progress.{address_in, count_dots}
 use Rattle.range_names.specs.Names.{key_of, NameMap}
 use Rattle.formula_text.specs.declared.fault.ParseFault.TheVariants.{UnknownName}
 use Rattle.formula_text.specs.declared.lexeme.Found.{Found}
-use Rattle.formula_text.specs.declared.lexeme.Kind.{Kind}
-use Rattle.formula_text.specs.declared.lexeme.Kind.TheVariants.{Cell, Span, Bad}
+use Rattle.formula_text.specs.declared.lexeme.LexemeKind.{LexemeKind}
+use Rattle.formula_text.specs.declared.lexeme.LexemeKind.TheVariants.{Bad, Cell, Span}
 
 -- letters, digits, _ and $
 abbrev pub is_word_byte : ℕ → Bool
@@ -81,14 +81,14 @@ abbrev pub named_span : NameMap → List ℕ → Option Extent
 named_span names name = if nat_le (length name) 15 then get names (key_of name) else None
 
 -- a name of one cell stands for the cell; both coordinates are absolute, or neither
-abbrev pub span_kind : Place → ℕ → Bool → Option Extent → Kind
+abbrev pub span_kind : Place → ℕ → Bool → Option Extent → LexemeKind
 span_kind cell at fixed None = Bad (UnknownName at)
 span_kind cell at fixed (Some s) =
     if same_place s.first s.last then Cell (reference_to s.first cell fixed fixed)
     else Span (reference_to s.first cell fixed fixed) (reference_to s.last cell fixed fixed)
 
 -- what a word is as a name, which a $ in front makes absolute
-abbrev pub name_kind : NameMap → Place → ℕ → List ℕ → Kind
+abbrev pub name_kind : NameMap → Place → ℕ → List ℕ → LexemeKind
 name_kind names cell at word = span_kind cell at (has_dollar word) (named_span names (without_dollar word))
 
 -- a word that is no address is a name, without its leading $

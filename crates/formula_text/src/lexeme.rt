@@ -9,7 +9,7 @@ use lics_text::Text;
 // What a part is. `Constant` is a function without arguments, `Unclosed` a text without its last quote, and `Bad`
 // what may stand nowhere.
 #[derive(Drop)]
-pub enum Kind {
+pub enum LexemeKind {
     Num(Fixed),
     Str(Text),
     Cell(Ref),
@@ -29,12 +29,12 @@ pub enum Kind {
 #[derive(Drop)]
 pub struct Lexeme {
     pub at: usize,
-    pub kind: Kind,
+    pub kind: LexemeKind,
 }
 
 // A part, and how many bytes it takes.
 #[derive(Drop)]
 pub struct Found {
-    pub kind: Kind,
+    pub kind: LexemeKind,
     pub len: usize,
 }

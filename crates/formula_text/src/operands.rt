@@ -10,7 +10,7 @@ ghost use Rattle.fixed_value.specs.Decimals.{decimal_of};
 
 use crate::ParseFault;
 use crate::functions::{function_named, is_left_out};
-use crate::lexeme::{Found, Kind};
+use crate::lexeme::{Found, LexemeKind};
 use fixed_value::{Decimal, digits_len, read_decimal};
 use formula_tree::{Function, takes};
 use lics_text::{Text, TextFault};
@@ -43,13 +43,13 @@ pub fn number_len(bytes: &[u8]) -> usize
 }
 
 // A decimal that is read is a number, or a fault of this place.
-fn number_kind(bytes: &[u8], at: usize) -> Kind
+fn number_kind(bytes: &[u8], at: usize) -> LexemeKind
     ensures { result ≡ number_kind at (decimal_of bytes.now) }
 {
     match read_decimal(bytes) {
-        Decimal::Num(value) => Kind::Num(value),
-        Decimal::TooLarge => Kind::Bad(ParseFault::BadNumber(at)),
-        Decimal::NotNumber => Kind::Bad(ParseFault::Unexpected(at)),
+        Decimal::Num(value) => LexemeKind::Num(value),
+        Decimal::TooLarge => LexemeKind::Bad(ParseFault::BadNumber(at)),
+        Decimal::NotNumber => LexemeKind::Bad(ParseFault::Unexpected(at)),
     }
 }
 
@@ -77,21 +77,26 @@ fn next_quote(bytes: &[u8]) -> Option<usize>
 }
 
 // The text between quotes.
-fn text_kind(alloc: Global, bytes: &[u8], at: usize) -> Result<Kind, ParseFault>
+fn text_kind(alloc: Global, bytes: &[u8], at: usize) -> Result<LexemeKind, ParseFault>
     ensures kind { IfOk result (λ k. k ≡ text_kind at (text_of bytes.now)) }
     ensures err { IfErr result (λ f. f ≡ ParseFault.Memory) }
 {
     match Text::from_bytes(alloc, bytes) {
-        Ok(text) => Ok(Kind::Str(text)),
+        Ok(text) => Ok(LexemeKind::Str(text)),
         Err(TextFault::Memory) => Err(ParseFault::Memory),
-        Err(TextFault::TooLong) => Ok(Kind::Bad(ParseFault::Unexpected(at))),
-        Err(TextFault::BadByte(_)) => Ok(Kind::Bad(ParseFault::Unexpected(at))),
+        Err(TextFault::TooLong) => Ok(LexemeKind::Bad(ParseFault::Unexpected(at))),
+        Err(TextFault::BadByte(_)) => Ok(LexemeKind::Bad(ParseFault::Unexpected(at))),
     }
 }
 
 // The text before the first quote.
 #[tactic(auto, using(crate::proofs::Quotes::text_is_fine))]
-fn before_quote(alloc: Global, bytes: &[u8], end: usize, at: usize) -> Result<Kind, ParseFault>
+fn before_quote(
+    alloc: Global,
+    bytes: &[u8],
+    end: usize,
+    at: usize,
+) -> Result<LexemeKind, ParseFault>
     requires { position (λ b. b == ascii.quote) bytes.now ≡ Some end }
     ensures kind { IfOk result (λ k. k ≡ text_kind at (text_of (take end bytes.now))) }
     ensures fine { IfOk result (λ k. is_fine_kind k ≡ true) }
@@ -112,7 +117,7 @@ pub fn text_found(alloc: Global, bytes: &[u8], at: usize) -> Result<Found, Parse
     let rest = &bytes[1..];
     let Some(end) = next_quote(rest) else {
         return Ok(Found {
-            kind: Kind::Unclosed,
+            kind: LexemeKind::Unclosed,
             len: 1 + rest.len(),
         });
     };
@@ -136,32 +141,32 @@ fn name_len(bytes: &[u8]) -> usize
 }
 
 // A function that 1-2-3 has and this program leaves out, or one that neither has.
-fn outside_kind(name: &[u8], at: usize) -> Kind
+fn outside_kind(name: &[u8], at: usize) -> LexemeKind
     ensures kind { result ≡ outside_kind at (is_among left_out name.now) }
     ensures fine { is_fine_kind result ≡ true }
 {
     if is_left_out(name) {
-        Kind::Bad(ParseFault::FunctionOutside(at))
+        LexemeKind::Bad(ParseFault::FunctionOutside(at))
     } else {
-        Kind::Bad(ParseFault::UnknownFunction(at))
+        LexemeKind::Bad(ParseFault::UnknownFunction(at))
     }
 }
 
 // What a function's name is.
-fn called_kind(name: &[u8], at: usize) -> Kind
+fn called_kind(name: &[u8], at: usize) -> LexemeKind
     ensures kind { result ≡ called_kind at name.now }
     ensures fine { is_fine_kind result ≡ true }
 {
     if name.len() == 0 {
-        return Kind::Bad(ParseFault::Unexpected(at));
+        return LexemeKind::Bad(ParseFault::Unexpected(at));
     }
     match function_named(name) {
         None => outside_kind(name, at),
         Some(function) => {
             if takes(function, 0) {
-                Kind::Constant(function)
+                LexemeKind::Constant(function)
             } else {
-                Kind::Function(function)
+                LexemeKind::Function(function)
             }
         }
     }
@@ -177,7 +182,7 @@ pub fn function_found(bytes: &[u8], at: usize) -> Found
 {
     if 1 < bytes.len() && bytes[1] == b'@' {
         return Found {
-            kind: Kind::Function(Function::Pointed),
+            kind: LexemeKind::Function(Function::Pointed),
             len: 2,
         };
     }

@@ -9,7 +9,7 @@ ghost use Rattle.formula_text.specs.inner.Reads.{is_called, IsCallFault, IsFault
 ghost use Rattle.formula_text.specs.Texts.{ArePartsOf};
 
 use crate::ParseFault;
-use crate::lexeme::{Kind, Lexeme};
+use crate::lexeme::{Lexeme, LexemeKind};
 use crate::rows::{behind_comma, behind_last, closing, ended, missing, opening, operator, others};
 use formula_tree::{Expr, ExprList, Function, Op, level};
 use lics_text::{MAX_LEN, Text};
@@ -156,26 +156,26 @@ fn operand(
         return Err(ParseFault::Ended);
     };
     match &first.kind {
-        Kind::Num(value) => Ok((Expr::Num(*value), rest)),
-        Kind::Str(text) => Ok((copy_of(text)?, rest)),
-        Kind::Cell(one) => Ok((Expr::Cell(*one), rest)),
-        Kind::Span(one, other) => Ok((Expr::Span(*one, *other), rest)),
-        Kind::Constant(function) => Ok((Expr::Call(*function, ExprList::new(alloc)), rest)),
-        Kind::Function(function) => call(alloc, *function, rest),
-        Kind::Infix(op) => signed(alloc, *op, first.at, rest, inside),
-        Kind::Not => {
+        LexemeKind::Num(value) => Ok((Expr::Num(*value), rest)),
+        LexemeKind::Str(text) => Ok((copy_of(text)?, rest)),
+        LexemeKind::Cell(one) => Ok((Expr::Cell(*one), rest)),
+        LexemeKind::Span(one, other) => Ok((Expr::Span(*one, *other), rest)),
+        LexemeKind::Constant(function) => Ok((Expr::Call(*function, ExprList::new(alloc)), rest)),
+        LexemeKind::Function(function) => call(alloc, *function, rest),
+        LexemeKind::Infix(op) => signed(alloc, *op, first.at, rest, inside),
+        LexemeKind::Not => {
             let (inner, after) = expression(alloc, rest, 3, inside)?;
             Ok((Expr::Not(boxed(alloc, inner)?), after))
         }
-        Kind::Open => {
+        LexemeKind::Open => {
             let (inner, after) = expression(alloc, rest, 1, Bracket::Plain)?;
             let after = closing(after)?;
             Ok((Expr::Group(boxed(alloc, inner)?), after))
         }
-        Kind::Close => Err(missing(first.at, inside)),
-        Kind::Comma => Err(ParseFault::Unexpected(first.at)),
-        Kind::Unclosed => Err(ParseFault::Ended),
-        Kind::Bad(fault) => Err(*fault),
+        LexemeKind::Close => Err(missing(first.at, inside)),
+        LexemeKind::Comma => Err(ParseFault::Unexpected(first.at)),
+        LexemeKind::Unclosed => Err(ParseFault::Ended),
+        LexemeKind::Bad(fault) => Err(*fault),
     }
 }
 

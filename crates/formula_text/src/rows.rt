@@ -6,7 +6,7 @@ ghost use Rattle.formula_text.specs.inner.Reads.{comma_first, Closes, Completes,
 ghost use Rattle.formula_text.specs.declared.parse.Bracket.TheVariants.{Call};
 
 use crate::ParseFault;
-use crate::lexeme::{Kind, Lexeme};
+use crate::lexeme::{Lexeme, LexemeKind};
 use crate::parse::Bracket;
 use formula_tree::{Function, Op, takes};
 use lics_text::MAX_LEN;
@@ -17,10 +17,12 @@ pub fn operator(lexemes: &[Lexeme]) -> Option<Op>
 {
     let (first, _) = lexemes.split_first()?;
     match &first.kind {
-        Kind::Infix(op) => Some(*op),
-        Kind::Num(_) | Kind::Str(_) | Kind::Cell(_) | Kind::Span(_, _) => None,
-        Kind::Constant(_) | Kind::Function(_) | Kind::Not | Kind::Open => None,
-        Kind::Close | Kind::Comma | Kind::Unclosed | Kind::Bad(_) => None,
+        LexemeKind::Infix(op) => Some(*op),
+        LexemeKind::Num(_) | LexemeKind::Str(_) | LexemeKind::Cell(_) | LexemeKind::Span(_, _) =>
+            None,
+        LexemeKind::Constant(_) | LexemeKind::Function(_) | LexemeKind::Not | LexemeKind::Open =>
+            None,
+        LexemeKind::Close | LexemeKind::Comma | LexemeKind::Unclosed | LexemeKind::Bad(_) => None,
     }
 }
 
@@ -55,14 +57,18 @@ fn refusal(part: &Lexeme) -> ParseFault
     ensures { result ≡ refusal part.now.kind part.now.at }
 {
     match &part.kind {
-        Kind::Bad(fault) => *fault,
-        Kind::Num(_) | Kind::Str(_) | Kind::Cell(_) | Kind::Span(_, _) | Kind::Constant(_) => {
-            ParseFault::Unexpected(part.at)
-        }
-        Kind::Function(_) | Kind::Infix(_) | Kind::Not | Kind::Open | Kind::Close => {
-            ParseFault::Unexpected(part.at)
-        }
-        Kind::Comma | Kind::Unclosed => ParseFault::Unexpected(part.at),
+        LexemeKind::Bad(fault) => *fault,
+        LexemeKind::Num(_)
+        | LexemeKind::Str(_)
+        | LexemeKind::Cell(_)
+        | LexemeKind::Span(_, _)
+        | LexemeKind::Constant(_) => { ParseFault::Unexpected(part.at) }
+        LexemeKind::Function(_)
+        | LexemeKind::Infix(_)
+        | LexemeKind::Not
+        | LexemeKind::Open
+        | LexemeKind::Close => { ParseFault::Unexpected(part.at) }
+        LexemeKind::Comma | LexemeKind::Unclosed => ParseFault::Unexpected(part.at),
     }
 }
 
@@ -75,10 +81,16 @@ pub fn opening(lexemes: &[Lexeme], function: Function) -> Result<&[Lexeme], Pars
         return Err(ParseFault::Ended);
     };
     match &first.kind {
-        Kind::Open => Ok(rest),
-        Kind::Num(_) | Kind::Str(_) | Kind::Cell(_) | Kind::Span(_, _) => Err(refusal(first)),
-        Kind::Constant(_) | Kind::Function(_) | Kind::Infix(_) | Kind::Not => Err(refusal(first)),
-        Kind::Close | Kind::Comma | Kind::Unclosed | Kind::Bad(_) => Err(refusal(first)),
+        LexemeKind::Open => Ok(rest),
+        LexemeKind::Num(_) | LexemeKind::Str(_) | LexemeKind::Cell(_) | LexemeKind::Span(_, _) =>
+            Err(refusal(first)),
+        LexemeKind::Constant(_)
+        | LexemeKind::Function(_)
+        | LexemeKind::Infix(_)
+        | LexemeKind::Not => Err(refusal(first)),
+        LexemeKind::Close | LexemeKind::Comma | LexemeKind::Unclosed | LexemeKind::Bad(_) => Err(
+            refusal(first),
+        ),
     }
 }
 
@@ -92,10 +104,16 @@ pub fn closing(lexemes: &[Lexeme]) -> Result<&[Lexeme], ParseFault>
         return Err(ParseFault::Ended);
     };
     match &first.kind {
-        Kind::Close => Ok(rest),
-        Kind::Num(_) | Kind::Str(_) | Kind::Cell(_) | Kind::Span(_, _) => Err(refusal(first)),
-        Kind::Constant(_) | Kind::Function(_) | Kind::Infix(_) | Kind::Not => Err(refusal(first)),
-        Kind::Open | Kind::Comma | Kind::Unclosed | Kind::Bad(_) => Err(refusal(first)),
+        LexemeKind::Close => Ok(rest),
+        LexemeKind::Num(_) | LexemeKind::Str(_) | LexemeKind::Cell(_) | LexemeKind::Span(_, _) =>
+            Err(refusal(first)),
+        LexemeKind::Constant(_)
+        | LexemeKind::Function(_)
+        | LexemeKind::Infix(_)
+        | LexemeKind::Not => Err(refusal(first)),
+        LexemeKind::Open | LexemeKind::Comma | LexemeKind::Unclosed | LexemeKind::Bad(_) => Err(
+            refusal(first),
+        ),
     }
 }
 
@@ -106,10 +124,14 @@ pub fn behind_comma(lexemes: &[Lexeme]) -> Option<&[Lexeme]>
 {
     let (first, rest) = lexemes.split_first()?;
     match &first.kind {
-        Kind::Comma => Some(rest),
-        Kind::Num(_) | Kind::Str(_) | Kind::Cell(_) | Kind::Span(_, _) => None,
-        Kind::Constant(_) | Kind::Function(_) | Kind::Infix(_) | Kind::Not => None,
-        Kind::Open | Kind::Close | Kind::Unclosed | Kind::Bad(_) => None,
+        LexemeKind::Comma => Some(rest),
+        LexemeKind::Num(_) | LexemeKind::Str(_) | LexemeKind::Cell(_) | LexemeKind::Span(_, _) =>
+            None,
+        LexemeKind::Constant(_)
+        | LexemeKind::Function(_)
+        | LexemeKind::Infix(_)
+        | LexemeKind::Not => None,
+        LexemeKind::Open | LexemeKind::Close | LexemeKind::Unclosed | LexemeKind::Bad(_) => None,
     }
 }
 
@@ -129,16 +151,22 @@ pub fn behind_last(
         return Err(ParseFault::Ended);
     };
     match &first.kind {
-        Kind::Close => {
+        LexemeKind::Close => {
             if takes(function, count + 1) {
                 Ok(rest)
             } else {
                 Err(ParseFault::ArgCount(first.at))
             }
         }
-        Kind::Num(_) | Kind::Str(_) | Kind::Cell(_) | Kind::Span(_, _) => Err(refusal(first)),
-        Kind::Constant(_) | Kind::Function(_) | Kind::Infix(_) | Kind::Not => Err(refusal(first)),
-        Kind::Open | Kind::Comma | Kind::Unclosed | Kind::Bad(_) => Err(refusal(first)),
+        LexemeKind::Num(_) | LexemeKind::Str(_) | LexemeKind::Cell(_) | LexemeKind::Span(_, _) =>
+            Err(refusal(first)),
+        LexemeKind::Constant(_)
+        | LexemeKind::Function(_)
+        | LexemeKind::Infix(_)
+        | LexemeKind::Not => Err(refusal(first)),
+        LexemeKind::Open | LexemeKind::Comma | LexemeKind::Unclosed | LexemeKind::Bad(_) => Err(
+            refusal(first),
+        ),
     }
 }
 

@@ -4,7 +4,7 @@ ghost use Rattle.formula_text.specs.inner.Fine.{is_fine_kind};
 ghost use Rattle.formula_text.specs.Signs.{begins_with, hash_found, sign_found, sign_of, single_kind};
 
 use crate::ParseFault;
-use crate::lexeme::{Found, Kind};
+use crate::lexeme::{Found, LexemeKind};
 use formula_tree::Op;
 
 // Whether bytes begin with this word, in letters of either case.
@@ -26,22 +26,22 @@ pub fn hash_found(bytes: &[u8], at: usize) -> Found
 {
     if begins_with(bytes, b"#AND#") {
         Found {
-            kind: Kind::Infix(Op::And),
+            kind: LexemeKind::Infix(Op::And),
             len: 5,
         }
     } else if begins_with(bytes, b"#OR#") {
         Found {
-            kind: Kind::Infix(Op::Or),
+            kind: LexemeKind::Infix(Op::Or),
             len: 4,
         }
     } else if begins_with(bytes, b"#NOT#") {
         Found {
-            kind: Kind::Not,
+            kind: LexemeKind::Not,
             len: 5,
         }
     } else {
         Found {
-            kind: Kind::Bad(ParseFault::Unexpected(at)),
+            kind: LexemeKind::Bad(ParseFault::Unexpected(at)),
             len: 1,
         }
     }
@@ -49,34 +49,34 @@ pub fn hash_found(bytes: &[u8], at: usize) -> Found
 
 // A sign of one byte; ; is read as ,.
 #[tactic(auto, unfolding(crate::specs::Signs::single_kind))]
-fn single_kind(byte: u8, at: usize) -> Kind
+fn single_kind(byte: u8, at: usize) -> LexemeKind
     ensures kind { result ≡ single_kind at byte }
     ensures fine { is_fine_kind result ≡ true }
 {
     match byte {
-        b'(' => Kind::Open,
-        b')' => Kind::Close,
-        b',' | b';' => Kind::Comma,
-        b'^' => Kind::Infix(Op::Pow),
-        b'*' => Kind::Infix(Op::Mul),
-        b'/' => Kind::Infix(Op::Div),
-        b'+' => Kind::Infix(Op::Add),
-        b'-' => Kind::Infix(Op::Sub),
-        b'=' => Kind::Infix(Op::Eq),
-        b'<' => Kind::Infix(Op::Lt),
-        b'>' => Kind::Infix(Op::Gt),
-        b'&' => Kind::Infix(Op::Join),
-        _ => Kind::Bad(ParseFault::Unexpected(at)),
+        b'(' => LexemeKind::Open,
+        b')' => LexemeKind::Close,
+        b',' | b';' => LexemeKind::Comma,
+        b'^' => LexemeKind::Infix(Op::Pow),
+        b'*' => LexemeKind::Infix(Op::Mul),
+        b'/' => LexemeKind::Infix(Op::Div),
+        b'+' => LexemeKind::Infix(Op::Add),
+        b'-' => LexemeKind::Infix(Op::Sub),
+        b'=' => LexemeKind::Infix(Op::Eq),
+        b'<' => LexemeKind::Infix(Op::Lt),
+        b'>' => LexemeKind::Infix(Op::Gt),
+        b'&' => LexemeKind::Infix(Op::Join),
+        _ => LexemeKind::Bad(ParseFault::Unexpected(at)),
     }
 }
 
 // An operator of so many bytes.
 fn infix(op: Op, len: usize) -> Found
-    ensures kind { result.kind ≡ Kind.Infix op }
+    ensures kind { result.kind ≡ LexemeKind.Infix op }
     ensures len { result.len ≡ len }
 {
     Found {
-        kind: Kind::Infix(op),
+        kind: LexemeKind::Infix(op),
         len,
     }
 }

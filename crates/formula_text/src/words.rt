@@ -5,7 +5,7 @@ ghost use Rattle.formula_text.specs.inner.Fine.{is_fine_kind};
 ghost use Rattle.formula_text.specs.Words.{address_found, corner_behind, has_dollar, is_word_byte, letters_len, name_kind, named_span, plain_address, reference_from, reference_in, span_kind, with_corner, without_dollar, word_found, word_len};
 
 use crate::ParseFault;
-use crate::lexeme::{Found, Kind};
+use crate::lexeme::{Found, LexemeKind};
 use fixed_value::all_digits;
 use grid_address::{Cell, Ref, Span, count_dots, read_cell};
 use lics_text::{Line, MAX_LEN};
@@ -116,11 +116,11 @@ fn address_found(first: Ref, len: usize, behind: &[u8], cell: Cell) -> Found
     let word = word_len(bytes);
     match corner_behind(dots, bytes, cell) {
         Some(other) => Found {
-            kind: Kind::Span(first, other),
+            kind: LexemeKind::Span(first, other),
             len: len + dots + word,
         },
         None => Found {
-            kind: Kind::Cell(first),
+            kind: LexemeKind::Cell(first),
             len,
         },
     }
@@ -141,18 +141,18 @@ fn is_one_cell(span: Span) -> bool
 }
 
 // What a name is that stands for a span.
-fn span_kind(span: Option<Span>, at: usize, cell: Cell, fixed: bool) -> Kind
+fn span_kind(span: Option<Span>, at: usize, cell: Cell, fixed: bool) -> LexemeKind
     ensures kind { result ≡ span_kind cell at fixed span }
     ensures fine { is_fine_kind result ≡ true }
 {
     match span {
-        None => Kind::Bad(ParseFault::UnknownName(at)),
+        None => LexemeKind::Bad(ParseFault::UnknownName(at)),
         Some(span) => {
             let first = Ref::of(span.first, cell, fixed, fixed);
             if is_one_cell(span) {
-                Kind::Cell(first)
+                LexemeKind::Cell(first)
             } else {
-                Kind::Span(first, Ref::of(span.last, cell, fixed, fixed))
+                LexemeKind::Span(first, Ref::of(span.last, cell, fixed, fixed))
             }
         }
     }

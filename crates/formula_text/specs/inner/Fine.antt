@@ -4,13 +4,13 @@ use Rattle.std.specs.List.{list_all}
 use Rattle.lics_text.specs.Limits.{MAX_LEN}
 use Rattle.formula_tree.specs.Shape.{has_no_quote, not_negative}
 use Rattle.formula_tree.specs.Table.{counts_of, takes}
-use Rattle.formula_text.specs.declared.lexeme.Kind.{Kind}
-use Rattle.formula_text.specs.declared.lexeme.Kind.TheVariants.{Num, Str, Cell, Span, Constant, Function, Infix, Not, Open, Close, Comma, Unclosed, Bad}
+use Rattle.formula_text.specs.declared.lexeme.LexemeKind.{LexemeKind}
+use Rattle.formula_text.specs.declared.lexeme.LexemeKind.TheVariants.{Bad, Cell, Close, Comma, Constant, Function, Infix, Not, Num, Open, Span, Str, Unclosed}
 use Rattle.formula_text.specs.declared.lexeme.Lexeme.{Lexeme}
 use Rattle.formula_text.specs.Tokens.{Token, number, text, place, places, constant, called, opening, closing, comma, front_minus, front_not, infix_op}
 
 -- a number isn't negative, a text has no quote and at most 240 bytes, and a constant takes no arguments
-abbrev pub is_fine_kind : Kind → Bool
+abbrev pub is_fine_kind : LexemeKind → Bool
 is_fine_kind (Num v) = not_negative v
 is_fine_kind (Str t) = has_no_quote t && nat_le (length t) MAX_LEN
 is_fine_kind (Constant f) = takes (counts_of f) 0

@@ -4,12 +4,12 @@ use Rattle.formula_tree.specs.declared.ast.Op.{Op}
 use Rattle.formula_tree.specs.Shape.{level}
 use Rattle.formula_text.specs.declared.fault.ParseFault.{ParseFault}
 use Rattle.formula_text.specs.declared.fault.ParseFault.TheVariants.{Unexpected}
-use Rattle.formula_text.specs.declared.lexeme.Kind.{Kind}
-use Rattle.formula_text.specs.declared.lexeme.Kind.TheVariants.{Num, Str, Cell, Span, Constant, Function, Infix, Not, Open, Close, Comma, Unclosed, Bad}
+use Rattle.formula_text.specs.declared.lexeme.LexemeKind.{LexemeKind}
+use Rattle.formula_text.specs.declared.lexeme.LexemeKind.TheVariants.{Bad, Cell, Close, Comma, Constant, Function, Infix, Not, Num, Open, Span, Str, Unclosed}
 use Rattle.formula_text.specs.declared.lexeme.Lexeme.{Lexeme}
 
 -- why a part is refused that isn't wanted where it stands
-abbrev pub refusal : Kind → ℕ → ParseFault
+abbrev pub refusal : LexemeKind → ℕ → ParseFault
 refusal (Bad f) at = f
 refusal (Num v) at = Unexpected at
 refusal (Str t) at = Unexpected at
@@ -25,7 +25,7 @@ refusal Comma at = Unexpected at
 refusal Unclosed at = Unexpected at
 
 -- the binary operator that a part may be
-abbrev pub operator_in : Kind → Option Op
+abbrev pub operator_in : LexemeKind → Option Op
 operator_in (Infix op) = Some op
 operator_in (Num v) = None
 operator_in (Str t) = None

@@ -8,8 +8,8 @@ use Rattle.formula_tree.specs.Tree.{Tree, num, str, cell, span, group, neg, not,
 use Rattle.formula_tree.specs.Shape.{count, every, every_one, is_bracketed, lowest, top}
 use Rattle.formula_text.specs.declared.fault.ParseFault.{ParseFault}
 use Rattle.formula_text.specs.declared.fault.ParseFault.TheVariants.{Memory}
-use Rattle.formula_text.specs.declared.lexeme.Kind.{Kind}
-use Rattle.formula_text.specs.declared.lexeme.Kind.TheVariants.{Num, Str, Cell, Span, Constant, Function, Infix, Not, Open, Close, Comma, Unclosed, Bad}
+use Rattle.formula_text.specs.declared.lexeme.LexemeKind.{LexemeKind}
+use Rattle.formula_text.specs.declared.lexeme.LexemeKind.TheVariants.{Bad, Cell, Close, Comma, Constant, Function, Infix, Not, Num, Open, Span, Str, Unclosed}
 use Rattle.formula_text.specs.declared.lexeme.Lexeme.{Lexeme}
 use Rattle.formula_text.specs.declared.parse.Bracket.{Bracket}
 use Rattle.formula_text.specs.declared.parse.Bracket.TheVariants.{Plain, Call}
@@ -141,7 +141,7 @@ pub record Completes (ls : List Lexeme) (f : AtFunction) (n : ℕ) (rest : List 
   pub shorter : length rest < length ls
 
 -- whether a part is a comma
-abbrev pub is_comma : Kind → Bool
+abbrev pub is_comma : LexemeKind → Bool
 is_comma Comma = true
 is_comma (Num v) = false
 is_comma (Str t) = false

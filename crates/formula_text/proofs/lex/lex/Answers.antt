@@ -1,5 +1,5 @@
 use Rattle.std.proofs.Common.{◌+◌, ◌≤◌, ◌++◌, ◌∷◌, [], length, drop, ap, ◌∙◌, arith, length-append, length-drop}
-use Rattle.formula_text.specs.declared.lexeme.Kind.{Kind}
+use Rattle.formula_text.specs.declared.lexeme.LexemeKind.{LexemeKind}
 use Rattle.formula_text.specs.declared.lexeme.Lexeme.{Lexeme}
 use Rattle.formula_text.specs.inner.Fine.{are_fine}
 use Rattle.formula_text.specs.Lexed.{lexed, part_found}
@@ -15,7 +15,7 @@ loop-at-preserved c =
     let len = c.in_ok-found.found.len in
     let before = c.loop-at.lexemes.items in
     let rest = lexed names cell 0 (at + len) (drop (at + len) text) in
-    let part = λ (k : Kind). (let l : Lexeme = record { at = at; kind = k } in l) in
+    let part = λ (k : LexemeKind). (let l : Lexeme = record { at = at; kind = k } in l) in
     let f = c.from.ensures in
     let found = c.in_ok-found.ensures.found ∙ ap (part_found names cell at) f in
     let high : len ≤ length (drop at text) = omega (arith, c.in_ok-found.ensures.high, ap length f) in
