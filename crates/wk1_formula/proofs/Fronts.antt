@@ -20,7 +20,7 @@ use Rattle.formula_tree.specs.declared.ast.Op.TheVariants.{Pow, Mul, Div, Add, S
 use Rattle.wk1_formula.specs.Codes.{number, reference, range, text, operator, function}
 use Rattle.wk1_formula.specs.Doubles.{bits_of}
 use Rattle.wk1_formula.specs.Kinds.{front_kind, function_kind, kind_of, op_code, operator_kind, operator_of}
-use Rattle.wk1_formula.specs.declared.kind.Kind.TheVariants as kind
+use Rattle.wk1_formula.specs.declared.kind.CodeKind.TheVariants as kind
 use Rattle.wk1_formula.specs.Reading.{axis_of, before_zero, both_axes, text_code, front_of, is_formula_text, least_of, reference_at, short_at, short_value, with_byte, whole}
 use Rattle.wk1_formula.specs.Written.{coordinate, function_bytes, number_bytes, reference_bytes}
 use Rattle.wk1_formula.proofs.Bits.{bits_back, written}

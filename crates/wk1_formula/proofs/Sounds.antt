@@ -10,8 +10,8 @@ use Rattle.formula_tree.specs.Table.{call_size, counts_of, counts_size, takes}
 use Rattle.wk1_formula.specs.Kinds.{kind_of}
 use Rattle.wk1_formula.specs.Reading.{before_zero, counted_front, double_code, front_by, front_of, function_front, is_formula_text, least_of, one_reference, text_code, two_references, with_byte}
 use Rattle.wk1_formula.specs.inner.Steps.{IsSound}
-use Rattle.wk1_formula.specs.declared.kind.Kind.{Kind}
-use Rattle.wk1_formula.specs.declared.kind.Kind.TheVariants as kind
+use Rattle.wk1_formula.specs.declared.kind.CodeKind.{CodeKind}
+use Rattle.wk1_formula.specs.declared.kind.CodeKind.TheVariants as kind
 use Rattle.formula_tree.specs.declared.function.Function.{Function}
 use Rattle.formula_tree.specs.declared.table.Counts.{Counts}
 use Rattle.formula_tree.specs.declared.table.Counts.TheVariants.{Exactly, AtLeast}
@@ -74,7 +74,7 @@ function_sound f bytes =
       | inr fixed ↦ rw fixed (fixed_taken (counts_of f) fixed, omega arith, omega arith)
     ]
 
-by_kind : (k : Kind) (code : ℕ) (bytes : List ℕ) → IsSound (front_by k code bytes) (suc (length bytes))
+by_kind : (k : CodeKind) (code : ℕ) (bytes : List ℕ) → IsSound (front_by k code bytes) (suc (length bytes))
 by_kind kind.Double code bytes =
     elim (cases_Bool (nat_lt (length bytes) 8)) [
       | inl e ↦ rw e tt

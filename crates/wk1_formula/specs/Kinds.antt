@@ -6,8 +6,8 @@ use Rattle.wk1_formula.specs.FunctionCodes.{function_of}
 use Rattle.formula_tree.specs.declared.ast.Op.{Op}
 use Rattle.formula_tree.specs.declared.ast.Op.TheVariants.{Pow, Mul, Div, Add, Sub, Eq, Ne, Lt, Gt, Le, Ge, And, Or, Join}
 use Rattle.wk1_formula.specs.Opcodes as opcode
-use Rattle.wk1_formula.specs.declared.kind.Kind.{Kind}
-use Rattle.wk1_formula.specs.declared.kind.Kind.TheVariants as kind
+use Rattle.wk1_formula.specs.declared.kind.CodeKind.{CodeKind}
+use Rattle.wk1_formula.specs.declared.kind.CodeKind.TheVariants as kind
 
 -- the code of an operator
 abbrev pub op_code : Op → ℕ
@@ -46,7 +46,7 @@ operator_of code =
     else None
 
 -- a double, a cell, a range, the end, brackets, a short number, a text, minus, NOT and plus
-unfoldable pub front_kind : ℕ → Kind
+unfoldable pub front_kind : ℕ → CodeKind
 front_kind code =
     if code == opcode.DOUBLE then kind.Double
     else if code == opcode.REFERENCE then kind.Reference
@@ -73,15 +73,15 @@ abbrev pub is_left_out : ℕ → Bool
 is_left_out code = list_any (λ c. c == code) left_out
 
 -- a function that a formula may call, one that is left out, or another code
-abbrev pub function_kind : Option Function → ℕ → Kind
+abbrev pub function_kind : Option Function → ℕ → CodeKind
 function_kind (Some f) code = kind.Function f
 function_kind None code = if is_left_out code then kind.LeftOut else front_kind code
 
 -- an operator, or a function, or another code
-abbrev pub operator_kind : Option Op → ℕ → Kind
+abbrev pub operator_kind : Option Op → ℕ → CodeKind
 operator_kind (Some op) code = kind.Operator op
 operator_kind None code = function_kind (function_of code) code
 
 -- an operator, a function, a function left out, or one of the others
-unfoldable pub kind_of : ℕ → Kind
+unfoldable pub kind_of : ℕ → CodeKind
 kind_of code = operator_kind (operator_of code) code

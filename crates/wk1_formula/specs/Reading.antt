@@ -17,8 +17,8 @@ use Rattle.formula_tree.specs.declared.table.Counts.TheVariants.{Exactly, AtLeas
 use Rattle.formula_tree.specs.declared.function.Function.{Function}
 use Rattle.wk1_formula.specs.Codes.{Code, number, error, missing, reference, range, text, brackets, minus, plus, negation, operator, function}
 use Rattle.wk1_formula.specs.Kinds.{kind_of}
-use Rattle.wk1_formula.specs.declared.kind.Kind.{Kind}
-use Rattle.wk1_formula.specs.declared.kind.Kind.TheVariants as kind
+use Rattle.wk1_formula.specs.declared.kind.CodeKind.{CodeKind}
+use Rattle.wk1_formula.specs.declared.kind.CodeKind.TheVariants as kind
 
 -- what stands at the front of bytes: a code and how many bytes it has, the end, or why it is no code
 pub data Front : Type 0 where
@@ -122,7 +122,7 @@ function_front f bytes =
     if call_size f == 2 then counted_front f bytes else whole (function f (least_of (counts_of f))) 1
 
 -- what a code of this kind and the bytes behind it are
-abbrev pub front_by : Kind → ℕ → List ℕ → Front
+abbrev pub front_by : CodeKind → ℕ → List ℕ → Front
 front_by kind.Double code bytes = double_front bytes
 front_by kind.Reference code bytes = reference_front bytes
 front_by kind.Range code bytes = range_front bytes

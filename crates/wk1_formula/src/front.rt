@@ -12,7 +12,7 @@ ghost use Rattle.wk1_formula.specs.inner.Steps.{IsSound};
 ghost use Rattle.wk1_formula.specs.inner.Views.{seen, seen_code};
 
 use crate::bytes::{bytes_from, first_long, short_at};
-use crate::kind::{Kind, kind_of};
+use crate::kind::{CodeKind, kind_of};
 use fixed_value::{DoubleRead, Fixed, from_double_bits};
 use formula_tree::{Counts, Function, Op, call_size, counts_of, takes};
 use grid_address::{Axis, COLUMNS, ROWS, Ref};
@@ -251,24 +251,24 @@ fn function_front(function: Function, bytes: &[u8]) -> Front
 }
 
 // What a code of a kind and the bytes behind it are.
-fn front_by(alloc: Global, kind: Kind, code: u8, bytes: &[u8]) -> Result<Front, Memory>
+fn front_by(alloc: Global, kind: CodeKind, code: u8, bytes: &[u8]) -> Result<Front, Memory>
     ensures { IfOk result (λ f. seen f ≡ front_by kind code bytes.now) }
 {
     match kind {
-        Kind::Double => Ok(double_front(bytes)),
-        Kind::Reference => Ok(reference_front(bytes)),
-        Kind::Range => Ok(range_front(bytes)),
-        Kind::Finish => Ok(Front::Finish),
-        Kind::Brackets => Ok(Front::Whole(Code::Brackets, 1)),
-        Kind::Short => Ok(short_front(bytes)),
-        Kind::Text => text_front(alloc, bytes),
-        Kind::Minus => Ok(Front::Whole(Code::Minus, 1)),
-        Kind::Not => Ok(Front::Whole(Code::Negation, 1)),
-        Kind::Plus => Ok(Front::Whole(Code::Plus, 1)),
-        Kind::Operator(op) => Ok(Front::Whole(Code::Operator(op), 1)),
-        Kind::Function(function) => Ok(function_front(function, bytes)),
-        Kind::LeftOut => Ok(Front::LeftOut(code)),
-        Kind::Unknown => Ok(Front::Faulty),
+        CodeKind::Double => Ok(double_front(bytes)),
+        CodeKind::Reference => Ok(reference_front(bytes)),
+        CodeKind::Range => Ok(range_front(bytes)),
+        CodeKind::Finish => Ok(Front::Finish),
+        CodeKind::Brackets => Ok(Front::Whole(Code::Brackets, 1)),
+        CodeKind::Short => Ok(short_front(bytes)),
+        CodeKind::Text => text_front(alloc, bytes),
+        CodeKind::Minus => Ok(Front::Whole(Code::Minus, 1)),
+        CodeKind::Not => Ok(Front::Whole(Code::Negation, 1)),
+        CodeKind::Plus => Ok(Front::Whole(Code::Plus, 1)),
+        CodeKind::Operator(op) => Ok(Front::Whole(Code::Operator(op), 1)),
+        CodeKind::Function(function) => Ok(function_front(function, bytes)),
+        CodeKind::LeftOut => Ok(Front::LeftOut(code)),
+        CodeKind::Unknown => Ok(Front::Faulty),
     }
 }
 

@@ -8,7 +8,7 @@ use formula_tree::{Function, Op};
 
 /// What a byte of code stands for.
 #[derive(Clone, Copy)]
-pub enum Kind {
+pub enum CodeKind {
     Double,
     Reference,
     Range,
@@ -129,46 +129,46 @@ fn is_left_out(code: u8) -> bool
 
 // The kind of a code that is no operator and no function.
 #[tactic(auto, unfolding(crate::specs::Kinds::front_kind))]
-fn front_kind(code: u8) -> Kind
+fn front_kind(code: u8) -> CodeKind
     ensures { result ≡ front_kind code }
 {
     if code == opcodes::DOUBLE {
-        Kind::Double
+        CodeKind::Double
     } else if code == opcodes::REFERENCE {
-        Kind::Reference
+        CodeKind::Reference
     } else if code == opcodes::RANGE {
-        Kind::Range
+        CodeKind::Range
     } else if code == opcodes::FINISH {
-        Kind::Finish
+        CodeKind::Finish
     } else if code == opcodes::BRACKETS {
-        Kind::Brackets
+        CodeKind::Brackets
     } else if code == opcodes::SHORT {
-        Kind::Short
+        CodeKind::Short
     } else if code == opcodes::TEXT {
-        Kind::Text
+        CodeKind::Text
     } else if code == opcodes::MINUS {
-        Kind::Minus
+        CodeKind::Minus
     } else if code == opcodes::NOT {
-        Kind::Not
+        CodeKind::Not
     } else if code == opcodes::PLUS {
-        Kind::Plus
+        CodeKind::Plus
     } else {
-        Kind::Unknown
+        CodeKind::Unknown
     }
 }
 
 /// What a byte of code stands for.
 #[tactic(auto, unfolding(crate::specs::Kinds::kind_of))]
-pub fn kind_of(code: u8) -> Kind
+pub fn kind_of(code: u8) -> CodeKind
     ensures { result ≡ kind_of code }
 {
     match operator_of(code) {
-        Some(op) => Kind::Operator(op),
+        Some(op) => CodeKind::Operator(op),
         None => match function_of(code) {
-            Some(function) => Kind::Function(function),
+            Some(function) => CodeKind::Function(function),
             None => {
                 if is_left_out(code) {
-                    Kind::LeftOut
+                    CodeKind::LeftOut
                 } else {
                     front_kind(code)
                 }
