@@ -35,7 +35,7 @@ use Rattle.wk1_file.specs.Said.{content_entries, IsCell, IsValue, Says}
 use Rattle.wk1_records.specs.Bodies.{head, made}
 use Rattle.wk1_file.specs.Saved.{content_pieces, formula_piece, integer_bytes, is_integer, number_piece, value_bits}
 use Rattle.wk1_records.specs.declared.entry.Entry.TheVariants as entry
-use Rattle.wk1_records.specs.declared.kind.Kind.TheVariants as kind
+use Rattle.wk1_records.specs.declared.kind.RecordKind.TheVariants as kind
 use Rattle.wk1_file.proofs.Heads.{head_cell, headed}
 use Rattle.lics_text.specs.Prefixes.{prefix_byte}
 use Rattle.lics_text.specs.declared.prefix.LabelPrefix.{LabelPrefix}

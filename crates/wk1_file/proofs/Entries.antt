@@ -21,13 +21,13 @@ use Rattle.wk1_file.specs.inner.Takes.{IsEntry}
 use Rattle.wk1_records.specs.declared.entry.Entry.{Entry}
 use Rattle.wk1_records.specs.declared.entry.Entry.TheVariants as entry
 use Rattle.wk1_records.specs.declared.fault.Wk1Fault.{Wk1Fault}
-use Rattle.wk1_records.specs.declared.kind.Kind.{Kind}
-use Rattle.wk1_records.specs.declared.kind.Kind.TheVariants as kind
+use Rattle.wk1_records.specs.declared.kind.RecordKind.{RecordKind}
+use Rattle.wk1_records.specs.declared.kind.RecordKind.TheVariants as kind
 use Rattle.lics_text.specs.Prefixes.{prefix_of}
 use Rattle.lics_text.specs.declared.prefix.LabelPrefix.{LabelPrefix}
 
 -- a body with a head has the five bytes of it
-pub head_long : (k : Kind) (body : List ℕ) → has_head k ≡ true → nat_lt (length body) (least_length k body) ≡ false → 5 ≤ length body
+pub head_long : (k : RecordKind) (body : List ℕ) → has_head k ≡ true → nat_lt (length body) (least_length k body) ≡ false → 5 ≤ length body
 head_long kind.Bof body h long = absurd cc
 head_long kind.Eof body h long = absurd cc
 head_long kind.CalcMode body h long = absurd cc
@@ -123,7 +123,7 @@ text_is n body (Some t) = elim (cases_Bool (is_text t)) [
   | inr other ↦ rw other tt
 ]
 
-said_is : (n : ℕ) (body : List ℕ) (k : Kind) → AreEntry (said n body k)
+said_is : (n : ℕ) (body : List ℕ) (k : RecordKind) → AreEntry (said n body k)
 said_is n body kind.Bof = tt
 said_is n body kind.Eof = tt
 said_is n body kind.CalcMode = tt
@@ -144,7 +144,7 @@ said_is n body kind.Str = text_is n body (before_zero (drop 5 body))
 said_is n body kind.HiddenColumns = tt
 said_is n body kind.Other = tt
 
-meant_is : (n : ℕ) (body : List ℕ) (k : Kind) → AreEntry (meaning_by n body k)
+meant_is : (n : ℕ) (body : List ℕ) (k : RecordKind) → AreEntry (meaning_by n body k)
 meant_is n body k = elim (cases_Bool (nat_lt (length body) (least_length k body))) [
   | inl short ↦ rw short tt
   | inr long ↦ elim (cases_Bool (has_head k && not (is_inside (cell_of body)))) [
@@ -154,5 +154,5 @@ meant_is n body k = elim (cases_Bool (nat_lt (length body) (least_length k body)
 ]
 
 -- what a record says is within the limits
-pub meant : (n : ℕ) (body : List ℕ) (k : Kind) (e : Entry) → meaning_by n body k ≡ Ok e → IsEntry e
+pub meant : (n : ℕ) (body : List ℕ) (k : RecordKind) (e : Entry) → meaning_by n body k ≡ Ok e → IsEntry e
 meant n body k e h = subst AreEntry h (meant_is n body k)

@@ -11,8 +11,8 @@ use Rattle.wk1_records.specs.Kinds.{has_head, kind_of, least_length}
 use Rattle.wk1_records.specs.Meanings.{cell_of, is_inside, meaning, meaning_by, said}
 use Rattle.wk1_records.specs.Bodies.{head, made}
 use Rattle.wk1_records.specs.declared.entry.Entry.{Entry}
-use Rattle.wk1_records.specs.declared.kind.Kind.{Kind}
-use Rattle.wk1_records.specs.declared.kind.Kind.TheVariants as kind
+use Rattle.wk1_records.specs.declared.kind.RecordKind.{RecordKind}
+use Rattle.wk1_records.specs.declared.kind.RecordKind.TheVariants as kind
 
 pub inside_is : (p : Place) → InSheet p → is_inside p ≡ true
 inside_is p h = (let row : nat_lt p.row 8192 ≡ true = (let l = h.0 in grind (arith, nat_tests, l)) in let col : nat_lt p.col 256 ≡ true = (let l = h.1 in grind (arith, nat_tests, l)) in rw (row, col) refl)
@@ -25,11 +25,11 @@ head_cell p s rest h =
     λ i. record { row = row i; col = col i }
 
 -- a body that is long enough, and whose cell is in the sheet, says what its type makes of it
-pub tested : (n : ℕ) (body : List ℕ) (k : Kind) (e : Entry) → least_length k body ≤ length body → (has_head k && not (is_inside (cell_of body))) ≡ false → said n body k ≡ Ok e → meaning_by n body k ≡ Ok e
+pub tested : (n : ℕ) (body : List ℕ) (k : RecordKind) (e : Entry) → least_length k body ≤ length body → (has_head k && not (is_inside (cell_of body))) ≡ false → said n body k ≡ Ok e → meaning_by n body k ≡ Ok e
 tested n body k e long inside says = rw (no_less (length body) (least_length k body) long, inside) says
 
 -- a record that is made of a type has it
-pub by_type : (n : ℕ) (k : Kind) (body : List ℕ) → (k ≡ kind.Other → ⊥) → meaning n (made k body) ≡ meaning_by n body k
+pub by_type : (n : ℕ) (k : RecordKind) (body : List ℕ) → (k ≡ kind.Other → ⊥) → meaning n (made k body) ≡ meaning_by n body k
 unfolding kind_of
 by_type n kind.Bof body some = refl
 by_type n kind.Eof body some = refl
@@ -56,7 +56,7 @@ and_false true = refl
 and_false false = refl
 
 -- the same of a body with a head
-pub headed : (n : ℕ) (p : Place) (s : CellState) (rest : List ℕ) (k : Kind) (e : Entry) → InSheet p → (k ≡ kind.Other → ⊥) → least_length k (head p s ++ rest) ≤ length (head p s ++ rest) → said n (head p s ++ rest) k ≡ Ok e → meaning n (made k (head p s ++ rest)) ≡ Ok e
+pub headed : (n : ℕ) (p : Place) (s : CellState) (rest : List ℕ) (k : RecordKind) (e : Entry) → InSheet p → (k ≡ kind.Other → ⊥) → least_length k (head p s ++ rest) ≤ length (head p s ++ rest) → said n (head p s ++ rest) k ≡ Ok e → meaning n (made k (head p s ++ rest)) ≡ Ok e
 headed n p s rest k e h some long says =
     let inside : is_inside (cell_of (head p s ++ rest)) ≡ true = ap is_inside (head_cell p s rest h) ∙ inside_is p h in
     by_type n k (head p s ++ rest) some ∙ tested n (head p s ++ rest) k e long (ap (λ b. has_head k && not b) inside ∙ and_false (has_head k)) says

@@ -19,7 +19,7 @@ use Rattle.wk1_records.specs.Bodies.{made}
 use Rattle.wk1_file.specs.Saved.{hidden_pieces}
 use Rattle.wk1_file.specs.Sheets.{with_entry, with_hidden}
 use Rattle.wk1_records.specs.declared.entry.Entry.TheVariants as entry
-use Rattle.wk1_records.specs.declared.kind.Kind.TheVariants as kind
+use Rattle.wk1_records.specs.declared.kind.RecordKind.TheVariants as kind
 use Rattle.wk1_file.proofs.Heads.{by_type, tested}
 
 one_or_none : (b : Bool) → on_byte b 1 ≤ 1

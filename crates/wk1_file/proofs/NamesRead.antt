@@ -21,7 +21,7 @@ use Rattle.wk1_records.specs.Bodies.{place_bytes}
 use Rattle.wk1_file.specs.Saved.{name_piece}
 use Rattle.wk1_file.specs.Sheets.{with_entry, with_names}
 use Rattle.wk1_records.specs.declared.entry.Entry.TheVariants as entry
-use Rattle.wk1_records.specs.declared.kind.Kind.TheVariants as kind
+use Rattle.wk1_records.specs.declared.kind.RecordKind.TheVariants as kind
 use Rattle.wk1_file.proofs.Heads.{by_type, inside_is, tested}
 use Rattle.wk1_file.proofs.Maps.{filled, filled_again}
 

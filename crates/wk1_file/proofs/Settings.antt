@@ -15,7 +15,7 @@ use Rattle.wk1_records.specs.Bodies.{made, place_bytes}
 use Rattle.wk1_file.specs.Saved.{on_byte, settings_pieces}
 use Rattle.wk1_records.specs.Kinds.{order_byte}
 use Rattle.wk1_records.specs.declared.entry.Entry.TheVariants as entry
-use Rattle.wk1_records.specs.declared.kind.Kind.TheVariants as kind
+use Rattle.wk1_records.specs.declared.kind.RecordKind.TheVariants as kind
 use Rattle.wk1_file.proofs.Heads.{by_type, inside_is, tested}
 use Rattle.lics_text.specs.Prefixes.{prefix_byte}
 use Rattle.wk1_file.proofs.Prefixes.{prefix_back}

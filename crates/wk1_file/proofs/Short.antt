@@ -28,8 +28,8 @@ use Rattle.wk1_records.specs.Records.{Piece}
 use Rattle.wk1_file.specs.Said.{IsContent, IsRecord, IsSavedCell, IsSavedName, IsValue}
 use Rattle.wk1_records.specs.Bodies.{head, made, place_bytes}
 use Rattle.wk1_file.specs.Saved.{cell_pieces, columns, content_pieces, formula_piece, integer_bytes, is_integer, name_piece, number_piece, range_piece, settings_pieces, text_pieces, width_piece, width_pieces, bof}
-use Rattle.wk1_records.specs.declared.kind.Kind.{Kind}
-use Rattle.wk1_records.specs.declared.kind.Kind.TheVariants as kind
+use Rattle.wk1_records.specs.declared.kind.RecordKind.{RecordKind}
+use Rattle.wk1_records.specs.declared.kind.RecordKind.TheVariants as kind
 use Rattle.wk1_file.proofs.NamesRead.{short_name}
 use Rattle.wk1_file.proofs.Widths.{each_column}
 use Rattle.lics_text.specs.Prefixes.{prefix_byte}
@@ -37,7 +37,7 @@ use Rattle.lics_text.specs.Prefixes.{prefix_byte}
 abbrev cell : Content → Value → Format → CellState
 cell c v f = record { content = c; value = v; format = f }
 
-numbered : (k : Kind) → number_of k < 65536
+numbered : (k : RecordKind) → number_of k < 65536
 numbered kind.Bof = omega arith
 numbered kind.Eof = omega arith
 numbered kind.CalcMode = omega arith
@@ -58,7 +58,7 @@ numbered kind.Str = omega arith
 numbered kind.HiddenColumns = omega arith
 numbered kind.Other = omega arith
 
-record_of : (k : Kind) (body : List ℕ) → (number_of k ≡ 1 → ⊥) → length body < 65536 → IsRecord (made k body)
+record_of : (k : RecordKind) (body : List ℕ) → (number_of k ≡ 1 → ⊥) → length body < 65536 → IsRecord (made k body)
 record_of k body inner short = record { fits = (numbered k, short); inner = inner }
 
 pub both_records : (ps qs : List Piece) → AllByRecursion IsRecord ps → AllByRecursion IsRecord qs → AllByRecursion IsRecord (ps ++ qs)

@@ -17,7 +17,7 @@ use Rattle.wk1_file.specs.Saved.{bof, cell_pieces, eof, file_bytes, hidden_piece
 use Rattle.wk1_file.specs.Sheets.{first_fault, sheet_of, start, unless_fault, with_entry, with_hidden, with_names, with_widths, Progress}
 use Rattle.wk1_records.specs.declared.entry.Entry.{Entry}
 use Rattle.wk1_records.specs.declared.entry.Entry.TheVariants as entry
-use Rattle.wk1_records.specs.declared.kind.Kind.TheVariants as kind
+use Rattle.wk1_records.specs.declared.kind.RecordKind.TheVariants as kind
 use Rattle.wk1_file.proofs.Cells.{cell_said}
 use Rattle.wk1_file.proofs.Filling.{cells_taken}
 use Rattle.wk1_file.proofs.Heads.{by_type, tested}

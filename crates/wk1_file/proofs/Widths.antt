@@ -19,7 +19,7 @@ use Rattle.wk1_records.specs.Bodies.{made}
 use Rattle.wk1_file.specs.Saved.{columns, width_piece, width_pieces}
 use Rattle.wk1_file.specs.Sheets.{with_entry, with_widths}
 use Rattle.wk1_records.specs.declared.entry.Entry.TheVariants as entry
-use Rattle.wk1_records.specs.declared.kind.Kind.TheVariants as kind
+use Rattle.wk1_records.specs.declared.kind.RecordKind.TheVariants as kind
 use Rattle.wk1_file.proofs.Heads.{by_type, tested}
 use Rattle.wk1_file.proofs.Splitting.{said_each}
 

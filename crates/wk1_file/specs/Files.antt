@@ -4,7 +4,7 @@ use Rattle.sheet_store.specs.declared.writes.SavedSheet.{SavedSheet}
 use Rattle.wk1_formula.specs.Reading.{short_at}
 use Rattle.wk1_records.specs.Kinds.{number_of}
 use Rattle.wk1_records.specs.Records.{Records, Splits}
-use Rattle.wk1_records.specs.declared.kind.Kind.TheVariants as kind
+use Rattle.wk1_records.specs.declared.kind.RecordKind.TheVariants as kind
 use Rattle.wk1_file.specs.Sheets.{sheet_of}
 use Rattle.wk1_records.specs.declared.fault.Wk1Fault.{Wk1Fault}
 use Rattle.wk1_records.specs.declared.fault.Wk1Fault.TheVariants as fault

@@ -19,7 +19,7 @@ use Rattle.range_names.specs.Names.{fault_of, key_of, name_in}
 use Rattle.wk1_file.specs.Saved.{columns}
 use Rattle.wk1_records.specs.Kinds.{number_of}
 use Rattle.wk1_records.specs.Meanings.{meaning}
-use Rattle.wk1_records.specs.declared.kind.Kind.TheVariants as kind
+use Rattle.wk1_records.specs.declared.kind.RecordKind.TheVariants as kind
 use Rattle.wk1_records.specs.Records.{ended, piece, IsPiece, Piece, Records}
 use Rattle.wk1_records.specs.declared.entry.Entry.{Entry}
 use Rattle.wk1_records.specs.declared.entry.Entry.TheVariants as entry

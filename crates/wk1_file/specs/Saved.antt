@@ -22,8 +22,8 @@ use Rattle.wk1_formula.specs.Written.{code_of}
 use Rattle.wk1_records.specs.Bodies.{head, made, place_bytes}
 use Rattle.wk1_records.specs.Kinds.{order_byte}
 use Rattle.wk1_records.specs.Records.{pieces_bytes, Piece}
-use Rattle.wk1_records.specs.declared.kind.Kind.{Kind}
-use Rattle.wk1_records.specs.declared.kind.Kind.TheVariants as kind
+use Rattle.wk1_records.specs.declared.kind.RecordKind.{RecordKind}
+use Rattle.wk1_records.specs.declared.kind.RecordKind.TheVariants as kind
 use Rattle.lics_text.specs.Prefixes.{prefix_byte}
 
 -- a whole number of -32768 to 32767, in millionths

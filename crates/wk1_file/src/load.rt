@@ -13,7 +13,7 @@ use range_names::Names;
 use sheet_store::{SavedSheet, Settings, Store};
 use std::alloc::Global;
 use wk1_formula::{bytes_from, short_at};
-use wk1_records::{BOF, EOF, Kind, ReadCodes, Wk1Fault, entry_of, front_piece, kind_of};
+use wk1_records::{BOF, EOF, ReadCodes, RecordKind, Wk1Fault, entry_of, front_piece, kind_of};
 
 /// The most bytes of a file (this project's choice).
 const MOST_BYTES: usize = 67_108_864;
@@ -55,7 +55,7 @@ fn take_record(
     codes: &mut ReadCodes,
     loading: &mut Loading,
     number: u32,
-    kind: Kind,
+    kind: RecordKind,
     body: &[u8],
 ) -> Result<(), Wk1Fault>
     requires { IsMinded (as_progress loading.old) }

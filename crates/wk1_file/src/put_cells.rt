@@ -11,7 +11,7 @@ ghost use Rattle.formula_tree.specs.Shape.{IsFormula};
 ghost use Rattle.wk1_formula.specs.Doubles.{bits_of};
 ghost use Rattle.wk1_formula.specs.Written.{code_of};
 ghost use Rattle.wk1_records.specs.Records.{piece_bytes, pieces_bytes};
-ghost use Rattle.wk1_records.specs.declared.kind.Kind.TheVariants as kind;
+ghost use Rattle.wk1_records.specs.declared.kind.RecordKind.TheVariants as kind;
 ghost use Rattle.wk1_records.specs.Bodies.{head, made};
 ghost use Rattle.wk1_file.specs.Saved.{cell_pieces, content_pieces, formula_piece, text_pieces, integer_bytes, is_integer, number_piece, value_bits};
 
@@ -22,7 +22,7 @@ use lics_text::{LabelPrefix, Memory, Text};
 use sheet_store::{CellState, Store};
 use std::alloc::Global;
 use wk1_formula::{ERR_BITS, NA_BITS, double_bits, put, put_short, write_code};
-use wk1_records::{Kind, put_head, put_piece};
+use wk1_records::{RecordKind, put_head, put_piece};
 
 // The body of a record begins with the head of its cell.
 fn begin(cell: Cell, state: &CellState, body: &mut Vec<u8>) -> Result<(), Memory>
@@ -42,7 +42,7 @@ pub fn put_blank(
     ensures { OnOk result (into.new.items ≡ into.old.items ++ piece_bytes (made kind.Blank (head cell state.now))) }
 {
     begin(cell, state, body)?;
-    put_piece(Kind::Blank, body.as_slice(), into)
+    put_piece(RecordKind::Blank, body.as_slice(), into)
 }
 
 /// Adds the record of a label.
@@ -61,7 +61,7 @@ pub fn put_label(
     put(&[prefix.byte()], body)?;
     put(text.bytes(), body)?;
     put(&[0], body)?;
-    put_piece(Kind::Label, body.as_slice(), into)
+    put_piece(RecordKind::Label, body.as_slice(), into)
 }
 
 /// Adds the record of a text that is a formula's value.
@@ -78,7 +78,7 @@ pub fn put_text(
     begin(cell, state, body)?;
     put(text.bytes(), body)?;
     put(&[0], body)?;
-    put_piece(Kind::Str, body.as_slice(), into)
+    put_piece(RecordKind::Str, body.as_slice(), into)
 }
 
 // The bits of a value that is a text, which stands in a record of its own (as 1-2-3 saves it).
@@ -124,7 +124,7 @@ pub fn put_formula(
     put(&value_bits(state).to_le_bytes(), body)?;
     put_short(code.len() as u16, body)?;
     put(code.as_slice(), body)?;
-    put_piece(Kind::Formula, body.as_slice(), into)
+    put_piece(RecordKind::Formula, body.as_slice(), into)
 }
 
 // A whole number of -32768 to 32767.
@@ -164,7 +164,7 @@ fn put_integer(
 {
     begin(cell, state, body)?;
     put_short(whole_of(number), body)?;
-    put_piece(Kind::Integer, body.as_slice(), into)
+    put_piece(RecordKind::Integer, body.as_slice(), into)
 }
 
 // Adds the record of a number as a double.
@@ -180,7 +180,7 @@ fn put_double(
 {
     begin(cell, state, body)?;
     put(&double_bits(number).to_le_bytes(), body)?;
-    put_piece(Kind::Number, body.as_slice(), into)
+    put_piece(RecordKind::Number, body.as_slice(), into)
 }
 
 /// Adds the record of a number: INTEGER where two bytes hold it.

@@ -12,7 +12,7 @@ use grid_address::Span;
 use lics_text::Memory;
 use range_names::{Names, name_in};
 use wk1_formula::put;
-use wk1_records::{Kind, put_piece, put_place};
+use wk1_records::{RecordKind, put_piece, put_place};
 
 // Adds so many zeros.
 fn put_zeros(count: usize, into: &mut Vec<u8>) -> Result<(), Memory>
@@ -34,7 +34,7 @@ fn put_name(name: &[u8], span: Span, body: &mut Vec<u8>, into: &mut Vec<u8>) -> 
     put_zeros(16 - name.len(), body)?;
     put_place(span.first, body)?;
     put_place(span.last, body)?;
-    put_piece(Kind::Name, body.as_slice(), into)
+    put_piece(RecordKind::Name, body.as_slice(), into)
 }
 
 // A span's corners are in the sheet and in order. Nothing is done: the contract says what a span keeps.

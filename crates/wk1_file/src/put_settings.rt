@@ -7,7 +7,7 @@ ghost use Rattle.lics_text.specs.Prefixes.{prefix_byte};
 ghost use Rattle.grid_address.specs.Place.{Place};
 ghost use Rattle.sheet_store.specs.Grid.{last_used, width_of};
 ghost use Rattle.wk1_records.specs.Records.{piece_bytes, pieces_bytes};
-ghost use Rattle.wk1_records.specs.declared.kind.Kind.TheVariants as kind;
+ghost use Rattle.wk1_records.specs.declared.kind.RecordKind.TheVariants as kind;
 ghost use Rattle.wk1_records.specs.Bodies.{made};
 ghost use Rattle.wk1_records.specs.Kinds.{order_byte};
 ghost use Rattle.wk1_file.specs.Saved.{bits_byte, bits_bytes, hidden_pieces, is_marked, last_marked, on_byte, place_or_first, range_end, range_piece, settings_pieces, width_piece, width_pieces, window_piece};
@@ -16,7 +16,7 @@ use grid_address::Cell;
 use lics_text::{LabelPrefix, Memory};
 use sheet_store::{MOST_WIDTH, Settings, Store};
 use wk1_formula::{put, put_short};
-use wk1_records::{Kind, order_byte, put_piece, put_place};
+use wk1_records::{RecordKind, order_byte, put_piece, put_place};
 
 // The byte of a sheet that recalculates by itself.
 const AUTOMATIC: u8 = 255;
@@ -41,7 +41,7 @@ fn put_window(settings: Settings, body: &mut Vec<u8>, into: &mut Vec<u8>) -> Res
     put(&[settings.format.0, 0], body)?;
     put_short(u16::from(settings.width), body)?;
     put(&[0; 23], body)?;
-    put_piece(Kind::Window, body.as_slice(), into)
+    put_piece(RecordKind::Window, body.as_slice(), into)
 }
 
 // Adds the record of the label prefix.
@@ -50,7 +50,7 @@ fn put_prefix(prefix: LabelPrefix, into: &mut Vec<u8>) -> Result<(), Memory>
         ≡ into.old.items ++ piece_bytes (made kind.LabelFormat (prefix_byte prefix ∷ []))) }
 {
     let byte = prefix.byte();
-    put_piece(Kind::LabelFormat, &[byte], into)
+    put_piece(RecordKind::LabelFormat, &[byte], into)
 }
 
 // Adds the records of the other settings, one byte each.
@@ -62,15 +62,15 @@ fn put_choices(settings: Settings, into: &mut Vec<u8>) -> Result<(), Memory>
         ∷ made kind.Protection (on_byte settings.protection PROTECTED ∷ [])
         ∷ made kind.LabelFormat (prefix_byte settings.prefix ∷ []) ∷ [])) }
 {
-    put_piece(Kind::CalcCount, &[settings.passes], into)?;
+    put_piece(RecordKind::CalcCount, &[settings.passes], into)?;
     put_piece(
-        Kind::CalcMode,
+        RecordKind::CalcMode,
         &[on_byte(settings.automatic, AUTOMATIC)],
         into,
     )?;
-    put_piece(Kind::CalcOrder, &[order_byte(settings.order)], into)?;
+    put_piece(RecordKind::CalcOrder, &[order_byte(settings.order)], into)?;
     put_piece(
-        Kind::Protection,
+        RecordKind::Protection,
         &[on_byte(settings.protection, PROTECTED)],
         into,
     )?;
@@ -138,7 +138,7 @@ pub fn put_range(store: &Store, body: &mut Vec<u8>, into: &mut Vec<u8>) -> Resul
     body.clear();
     put_place(Cell { row: 0, col: 0 }, body)?;
     put_place(range_end(store), body)?;
-    put_piece(Kind::Range, body.as_slice(), into)
+    put_piece(RecordKind::Range, body.as_slice(), into)
 }
 
 // Adds the record of a column's own width, where it has one.
@@ -148,7 +148,7 @@ fn put_width(col: u16, width: Option<u8>, into: &mut Vec<u8>) -> Result<(), Memo
     match width {
         Some(width) => {
             let [low, high] = col.to_le_bytes();
-            put_piece(Kind::ColumnWidth, &[low, high, width], into)
+            put_piece(RecordKind::ColumnWidth, &[low, high, width], into)
         }
         None => Ok(()),
     }
@@ -224,5 +224,5 @@ pub fn put_hidden(store: &Store, body: &mut Vec<u8>, into: &mut Vec<u8>) -> Resu
         return Ok(());
     }
     put_bits(store, body)?;
-    put_piece(Kind::HiddenColumns, body.as_slice(), into)
+    put_piece(RecordKind::HiddenColumns, body.as_slice(), into)
 }

@@ -11,14 +11,14 @@ use crate::put_settings::{put_hidden, put_range, put_settings, put_widths};
 use lics_text::Memory;
 use sheet_store::{SavedSheet, Settings};
 use std::alloc::Global;
-use wk1_records::{Kind, put_piece};
+use wk1_records::{RecordKind, put_piece};
 
 // Adds BOF, the range and the settings.
 fn put_front(sheet: &SavedSheet, body: &mut Vec<u8>, into: &mut Vec<u8>) -> Result<(), Memory>
     ensures { OnOk result (into.new.items ≡ into.old.items
         ++ pieces_bytes (bof ∷ range_piece (range_end sheet.now.store) ∷ settings_pieces sheet.now.settings)) }
 {
-    put_piece(Kind::Bof, &[6, 4], into)?;
+    put_piece(RecordKind::Bof, &[6, 4], into)?;
     put_range(&sheet.store, body, into)?;
     put_settings(sheet.settings, body, into)
 }
@@ -61,7 +61,7 @@ fn written(alloc: Global, sheet: &SavedSheet) -> Result<Vec<u8>, Memory>
     let mut body = Vec::new(alloc);
     let mut into = Vec::new(alloc);
     put_records(alloc, sheet, &mut body, &mut into)?;
-    put_piece(Kind::Eof, &[], &mut into)?;
+    put_piece(RecordKind::Eof, &[], &mut into)?;
     Ok(into)
 }
 

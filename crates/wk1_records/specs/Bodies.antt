@@ -5,7 +5,7 @@ use Rattle.grid_address.specs.Place.{Place}
 use Rattle.sheet_store.specs.State.{CellState}
 use Rattle.wk1_records.specs.Kinds.{number_of}
 use Rattle.wk1_records.specs.Records.{Piece}
-use Rattle.wk1_records.specs.declared.kind.Kind.{Kind}
+use Rattle.wk1_records.specs.declared.kind.RecordKind.{RecordKind}
 
 -- a cell as two numbers of two bytes, the column first
 abbrev pub place_bytes : Place → List ℕ
@@ -16,5 +16,5 @@ abbrev pub head : Place → CellState → List ℕ
 head p s = s.format.0 ∷ place_bytes p
 
 -- the record of a type and a body
-abbrev pub made : Kind → List ℕ → Piece
+abbrev pub made : RecordKind → List ℕ → Piece
 made k body = record { kind = number_of k; body = body }

@@ -1,13 +1,13 @@
 -- The types of records (worksheet file format).
 use Rattle.std.specs.Prelude.{ℕ, ◌+◌, Bool, true, false, ◌==◌, List, if◌then◌else◌}
 use Rattle.wk1_formula.specs.Reading.{short_at}
-use Rattle.wk1_records.specs.declared.kind.Kind.{Kind}
-use Rattle.wk1_records.specs.declared.kind.Kind.TheVariants.{Bof, Eof, CalcMode, CalcOrder, Range, Window, ColumnWidth, Name, Blank, Integer, Number, Label, Formula, Protection, LabelFormat, CalcCount, Str, HiddenColumns, Other}
+use Rattle.wk1_records.specs.declared.kind.RecordKind.{RecordKind}
+use Rattle.wk1_records.specs.declared.kind.RecordKind.TheVariants.{Blank, Bof, CalcCount, CalcMode, CalcOrder, ColumnWidth, Eof, Formula, HiddenColumns, Integer, Label, LabelFormat, Name, Number, Other, Protection, Range, Str, Window}
 use Rattle.sheet_store.specs.declared.order.Order.{Order}
 use Rattle.sheet_store.specs.declared.order.Order.TheVariants.{Natural, Columnwise, Rowwise}
 
 -- the number of a type
-abbrev pub number_of : Kind → ℕ
+abbrev pub number_of : RecordKind → ℕ
 number_of Bof = 0x00
 number_of Eof = 0x01
 number_of CalcMode = 0x02
@@ -29,7 +29,7 @@ number_of HiddenColumns = 0x64
 number_of Other = 0xFFFF
 
 -- the type of a record by its number
-unfoldable pub kind_of : ℕ → Kind
+unfoldable pub kind_of : ℕ → RecordKind
 kind_of n =
     if n == number_of Bof then Bof
     else if n == number_of Eof then Eof
@@ -52,7 +52,7 @@ kind_of n =
     else Other
 
 -- the least length of a body; that of a formula says how long its code is
-abbrev pub least_length : Kind → List ℕ → ℕ
+abbrev pub least_length : RecordKind → List ℕ → ℕ
 least_length Bof body = 2
 least_length Eof body = 0
 least_length CalcMode body = 1
@@ -74,7 +74,7 @@ least_length HiddenColumns body = 32
 least_length Other body = 0
 
 -- whether a body begins with a format byte and a cell
-abbrev pub has_head : Kind → Bool
+abbrev pub has_head : RecordKind → Bool
 has_head Bof = false
 has_head Eof = false
 has_head CalcMode = false

@@ -30,8 +30,8 @@ use Rattle.wk1_records.specs.declared.entry.Entry.{Entry}
 use Rattle.wk1_records.specs.declared.entry.Entry.TheVariants as entry
 use Rattle.wk1_records.specs.declared.fault.Wk1Fault.{Wk1Fault}
 use Rattle.wk1_records.specs.declared.fault.Wk1Fault.TheVariants as fault
-use Rattle.wk1_records.specs.declared.kind.Kind.{Kind}
-use Rattle.wk1_records.specs.declared.kind.Kind.TheVariants as kind
+use Rattle.wk1_records.specs.declared.kind.RecordKind.{RecordKind}
+use Rattle.wk1_records.specs.declared.kind.RecordKind.TheVariants as kind
 use Rattle.lics_text.specs.Prefixes.{prefix_of}
 use Rattle.lics_text.specs.declared.prefix.LabelPrefix.{LabelPrefix}
 use Rattle.lics_text.specs.declared.prefix.LabelPrefix.TheVariants as label
@@ -186,7 +186,7 @@ global_prefix None = label.Left
 global_prefix (Some p) = if is_global_prefix p then p else label.Left
 
 -- what a body says by its type
-abbrev pub said : ℕ → List ℕ → Kind → Result Entry Wk1Fault
+abbrev pub said : ℕ → List ℕ → RecordKind → Result Entry Wk1Fault
 said n body kind.Bof = Ok entry.Nothing
 said n body kind.Eof = Ok entry.Nothing
 said n body kind.CalcMode = Ok (entry.Automatic (not (byte_at 0 body == 0)))
@@ -208,7 +208,7 @@ said n body kind.HiddenColumns = Ok (entry.Hidden (bits_in body))
 said n body kind.Other = Ok entry.Nothing
 
 -- a short body comes first, then a cell outside the sheet, then the rest
-abbrev pub meaning_by : ℕ → List ℕ → Kind → Result Entry Wk1Fault
+abbrev pub meaning_by : ℕ → List ℕ → RecordKind → Result Entry Wk1Fault
 meaning_by n body k =
     if nat_lt (length body) (least_length k body) then Err (fault.BadLength n)
     else if has_head k && not (is_inside (cell_of body)) then Err (fault.CellOutside n)

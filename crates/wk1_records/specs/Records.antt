@@ -2,7 +2,7 @@
 use Rattle.std.specs.Int.{to_le_bytes, w16}
 use Rattle.std.specs.Prelude.{ℕ, ◌≡◌, ◌<◌, ◌+◌, List, ◌++◌, length, drop, get_or, flat_map}
 use Rattle.wk1_records.specs.Kinds.{number_of}
-use Rattle.wk1_records.specs.declared.kind.Kind.TheVariants.{Eof}
+use Rattle.wk1_records.specs.declared.kind.RecordKind.TheVariants.{Eof}
 
 -- each is below 256
 abbrev pub IsBytes : List ℕ → Type 0

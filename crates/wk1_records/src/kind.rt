@@ -6,7 +6,7 @@ use crate::numbers;
 
 /// The type of a record (worksheet file format).
 #[derive(Clone, Copy)]
-pub enum Kind {
+pub enum RecordKind {
     Bof,
     Eof,
     CalcMode,
@@ -30,46 +30,46 @@ pub enum Kind {
 
 /// The type of a record by its number.
 #[tactic(auto, unfolding(crate::specs::Kinds::kind_of))]
-pub fn kind_of(number: u16) -> Kind
+pub fn kind_of(number: u16) -> RecordKind
     ensures { result ≡ kind_of number }
 {
     if number == numbers::BOF {
-        Kind::Bof
+        RecordKind::Bof
     } else if number == numbers::EOF {
-        Kind::Eof
+        RecordKind::Eof
     } else if number == numbers::CALC_MODE {
-        Kind::CalcMode
+        RecordKind::CalcMode
     } else if number == numbers::CALC_ORDER {
-        Kind::CalcOrder
+        RecordKind::CalcOrder
     } else if number == numbers::RANGE {
-        Kind::Range
+        RecordKind::Range
     } else if number == numbers::WINDOW {
-        Kind::Window
+        RecordKind::Window
     } else if number == numbers::COLUMN_WIDTH {
-        Kind::ColumnWidth
+        RecordKind::ColumnWidth
     } else if number == numbers::NAME {
-        Kind::Name
+        RecordKind::Name
     } else if number == numbers::BLANK {
-        Kind::Blank
+        RecordKind::Blank
     } else if number == numbers::INTEGER {
-        Kind::Integer
+        RecordKind::Integer
     } else if number == numbers::NUMBER {
-        Kind::Number
+        RecordKind::Number
     } else if number == numbers::LABEL {
-        Kind::Label
+        RecordKind::Label
     } else if number == numbers::FORMULA {
-        Kind::Formula
+        RecordKind::Formula
     } else if number == numbers::PROTECTION {
-        Kind::Protection
+        RecordKind::Protection
     } else if number == numbers::LABEL_FORMAT {
-        Kind::LabelFormat
+        RecordKind::LabelFormat
     } else if number == numbers::CALC_COUNT {
-        Kind::CalcCount
+        RecordKind::CalcCount
     } else if number == numbers::STR {
-        Kind::Str
+        RecordKind::Str
     } else if number == numbers::HIDDEN_COLUMNS {
-        Kind::HiddenColumns
+        RecordKind::HiddenColumns
     } else {
-        Kind::Other
+        RecordKind::Other
     }
 }

@@ -15,7 +15,7 @@ mod split;
 
 pub use entry::Entry;
 pub use fault::Wk1Fault;
-pub use kind::{Kind, kind_of};
+pub use kind::{RecordKind, kind_of};
 pub use meaning::entry_of;
 pub use numbers::{BOF, EOF};
 pub use order::order_byte;

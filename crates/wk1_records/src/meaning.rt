@@ -11,19 +11,22 @@ use crate::said::{
     blank_in, cell_at, column_width, formula_in, integer_in, label_in, number_in, prefix_of,
     text_in, window,
 };
-use crate::{Entry, Kind, ReadCodes, Wk1Fault};
+use crate::{Entry, ReadCodes, RecordKind, Wk1Fault};
 use grid_address::Cell;
 use std::alloc::Global;
 use wk1_formula::short_at;
 
 // Whether a body begins with a format byte and a cell.
-fn has_head(kind: Kind) -> bool
+fn has_head(kind: RecordKind) -> bool
     ensures { result ≡ has_head kind }
 {
     match kind {
-        Kind::Blank | Kind::Integer | Kind::Number | Kind::Label | Kind::Formula | Kind::Str => {
-            true
-        }
+        RecordKind::Blank
+        | RecordKind::Integer
+        | RecordKind::Number
+        | RecordKind::Label
+        | RecordKind::Formula
+        | RecordKind::Str => { true }
         _ => false,
     }
 }
@@ -36,41 +39,44 @@ fn has_code(body: &[u8]) -> bool
 }
 
 // Whether a body has the least length of its type.
-fn is_long(kind: Kind, body: &[u8]) -> bool
+fn is_long(kind: RecordKind, body: &[u8]) -> bool
     ensures { result ≡ not (nat_lt (length body.now) (least_length kind body.now)) }
 {
     match kind {
-        Kind::Eof | Kind::Other => true,
-        Kind::CalcMode | Kind::CalcOrder | Kind::CalcCount | Kind::Protection | Kind::LabelFormat =>
-            body.len() >= 1,
-        Kind::Bof => body.len() >= 2,
-        Kind::ColumnWidth => body.len() >= 3,
-        Kind::Blank | Kind::Label | Kind::Str => body.len() >= 5,
-        Kind::Integer => body.len() >= 7,
-        Kind::Range | Kind::Window => body.len() >= 8,
-        Kind::Number => body.len() >= 13,
-        Kind::Formula => has_code(body),
-        Kind::Name => body.len() >= 24,
-        Kind::HiddenColumns => body.len() >= 32,
+        RecordKind::Eof | RecordKind::Other => true,
+        RecordKind::CalcMode
+        | RecordKind::CalcOrder
+        | RecordKind::CalcCount
+        | RecordKind::Protection
+        | RecordKind::LabelFormat => body.len() >= 1,
+        RecordKind::Bof => body.len() >= 2,
+        RecordKind::ColumnWidth => body.len() >= 3,
+        RecordKind::Blank | RecordKind::Label | RecordKind::Str => body.len() >= 5,
+        RecordKind::Integer => body.len() >= 7,
+        RecordKind::Range | RecordKind::Window => body.len() >= 8,
+        RecordKind::Number => body.len() >= 13,
+        RecordKind::Formula => has_code(body),
+        RecordKind::Name => body.len() >= 24,
+        RecordKind::HiddenColumns => body.len() >= 32,
     }
 }
 
 // What a record without a head says.
-fn plain(number: u32, kind: Kind, body: &[u8]) -> Result<Entry, Wk1Fault>
+fn plain(number: u32, kind: RecordKind, body: &[u8]) -> Result<Entry, Wk1Fault>
     requires long { nat_lt (length body.now) (least_length kind body.now) ≡ false }
     requires plain { has_head kind ≡ false }
     ensures { Gives result (said number body.now kind) }
 {
     match kind {
-        Kind::CalcMode => Ok(Entry::Automatic(body[0] != 0)),
-        Kind::CalcOrder => Ok(Entry::Order(order_of(body[0]))),
-        Kind::Window => Ok(window(body)),
-        Kind::ColumnWidth => Ok(column_width(body)),
-        Kind::Name => name_in(body, number),
-        Kind::Protection => Ok(Entry::Protection(body[0] != 0)),
-        Kind::LabelFormat => Ok(Entry::Prefix(prefix_of(body[0]))),
-        Kind::CalcCount => Ok(Entry::Passes(body[0].max(1).min(50))),
-        Kind::HiddenColumns => Ok(Entry::Hidden(bits_in(body))),
+        RecordKind::CalcMode => Ok(Entry::Automatic(body[0] != 0)),
+        RecordKind::CalcOrder => Ok(Entry::Order(order_of(body[0]))),
+        RecordKind::Window => Ok(window(body)),
+        RecordKind::ColumnWidth => Ok(column_width(body)),
+        RecordKind::Name => name_in(body, number),
+        RecordKind::Protection => Ok(Entry::Protection(body[0] != 0)),
+        RecordKind::LabelFormat => Ok(Entry::Prefix(prefix_of(body[0]))),
+        RecordKind::CalcCount => Ok(Entry::Passes(body[0].max(1).min(50))),
+        RecordKind::HiddenColumns => Ok(Entry::Hidden(bits_in(body))),
         _ => Ok(Entry::Nothing),
     }
 }
@@ -80,7 +86,7 @@ fn headed(
     alloc: Global,
     codes: &mut ReadCodes,
     number: u32,
-    kind: Kind,
+    kind: RecordKind,
     body: &[u8],
     cell: Cell,
 ) -> Result<Entry, Wk1Fault>
@@ -90,12 +96,12 @@ fn headed(
     ensures { Gives result (said number body.now kind) }
 {
     match kind {
-        Kind::Blank => Ok(blank_in(body, cell)),
-        Kind::Integer => Ok(integer_in(body, cell)),
-        Kind::Number => number_in(alloc, body, number, cell),
-        Kind::Label => label_in(alloc, body, number, cell),
-        Kind::Formula => formula_in(codes, body, number, cell),
-        Kind::Str => text_in(alloc, body, number, cell),
+        RecordKind::Blank => Ok(blank_in(body, cell)),
+        RecordKind::Integer => Ok(integer_in(body, cell)),
+        RecordKind::Number => number_in(alloc, body, number, cell),
+        RecordKind::Label => label_in(alloc, body, number, cell),
+        RecordKind::Formula => formula_in(codes, body, number, cell),
+        RecordKind::Str => text_in(alloc, body, number, cell),
         _ => Ok(Entry::Nothing),
     }
 }
@@ -106,7 +112,7 @@ pub fn entry_of(
     alloc: Global,
     codes: &mut ReadCodes,
     number: u32,
-    kind: Kind,
+    kind: RecordKind,
     body: &[u8],
 ) -> Result<Entry, Wk1Fault>
     ensures { Gives result (meaning_by number body.now kind) }

@@ -8,41 +8,41 @@ ghost use Rattle.wk1_records.specs.Kinds.{number_of};
 ghost use Rattle.wk1_records.specs.Records.{piece_bytes};
 ghost use Rattle.wk1_records.specs.Bodies.{head, made, place_bytes};
 
-use crate::{Kind, numbers};
+use crate::{RecordKind, numbers};
 use grid_address::Cell;
 use lics_text::Memory;
 use sheet_store::CellState;
 use wk1_formula::{put, put_short};
 
 /// The number of a type.
-pub fn number_of(kind: Kind) -> u16
+pub fn number_of(kind: RecordKind) -> u16
     ensures { result ≡ number_of kind }
 {
     match kind {
-        Kind::Bof => numbers::BOF,
-        Kind::Eof => numbers::EOF,
-        Kind::CalcMode => numbers::CALC_MODE,
-        Kind::CalcOrder => numbers::CALC_ORDER,
-        Kind::Range => numbers::RANGE,
-        Kind::Window => numbers::WINDOW,
-        Kind::ColumnWidth => numbers::COLUMN_WIDTH,
-        Kind::Name => numbers::NAME,
-        Kind::Blank => numbers::BLANK,
-        Kind::Integer => numbers::INTEGER,
-        Kind::Number => numbers::NUMBER,
-        Kind::Label => numbers::LABEL,
-        Kind::Formula => numbers::FORMULA,
-        Kind::Protection => numbers::PROTECTION,
-        Kind::LabelFormat => numbers::LABEL_FORMAT,
-        Kind::CalcCount => numbers::CALC_COUNT,
-        Kind::Str => numbers::STR,
-        Kind::HiddenColumns => numbers::HIDDEN_COLUMNS,
-        Kind::Other => numbers::OTHER,
+        RecordKind::Bof => numbers::BOF,
+        RecordKind::Eof => numbers::EOF,
+        RecordKind::CalcMode => numbers::CALC_MODE,
+        RecordKind::CalcOrder => numbers::CALC_ORDER,
+        RecordKind::Range => numbers::RANGE,
+        RecordKind::Window => numbers::WINDOW,
+        RecordKind::ColumnWidth => numbers::COLUMN_WIDTH,
+        RecordKind::Name => numbers::NAME,
+        RecordKind::Blank => numbers::BLANK,
+        RecordKind::Integer => numbers::INTEGER,
+        RecordKind::Number => numbers::NUMBER,
+        RecordKind::Label => numbers::LABEL,
+        RecordKind::Formula => numbers::FORMULA,
+        RecordKind::Protection => numbers::PROTECTION,
+        RecordKind::LabelFormat => numbers::LABEL_FORMAT,
+        RecordKind::CalcCount => numbers::CALC_COUNT,
+        RecordKind::Str => numbers::STR,
+        RecordKind::HiddenColumns => numbers::HIDDEN_COLUMNS,
+        RecordKind::Other => numbers::OTHER,
     }
 }
 
 /// Adds a record.
-pub fn put_piece(kind: Kind, body: &[u8], into: &mut Vec<u8>) -> Result<(), Memory>
+pub fn put_piece(kind: RecordKind, body: &[u8], into: &mut Vec<u8>) -> Result<(), Memory>
     requires { length body.now < 65536 }
     ensures { OnOk result (into.new.items ≡ into.old.items ++ piece_bytes (made kind body.now)) }
 {
