@@ -8,7 +8,7 @@ ghost use Rattle.work_sheet.specs.Did.{Did};
 ghost use Rattle.work_sheet.specs.Seen.{of_worksheet};
 
 use crate::bench::TableBench;
-use crate::protection::first_protected;
+use crate::protection::protected_of_table;
 use crate::trying::{contents_of, write_out};
 use command_desk::{CommandEnd, LastTable};
 use data_blocks::{BlockFault, shape_one, shape_two, table_one, table_two};
@@ -55,7 +55,7 @@ fn refusal(
 {
     match shape {
         Some(fault) => Some(block_error(fault)),
-        None => match first_protected(sheet, span, inputs) {
+        None => match protected_of_table(sheet, span, inputs) {
             Some(cell) => Some(CommandError::Protected(cell)),
             None => None,
         },

@@ -64,7 +64,7 @@ fn protected_answer(sheet: &Sheet, span: Span) -> Option<Cell>
 
 /// The first protected cell of those that a table writes: its input cells as they are given, and then the cells that
 /// take answers, in row order.
-pub fn first_protected(sheet: &Sheet, span: Span, inputs: &[Cell]) -> Option<Cell>
+pub fn protected_of_table(sheet: &Sheet, span: Span, inputs: &[Cell]) -> Option<Cell>
     ensures { result ≡ first_protected (changed_cells span inputs.now) (of_worksheet sheet.now) }
 {
     match protected_among(sheet, inputs) {

@@ -4,7 +4,7 @@ use Rattle.commands_data.proofs.First.{found_then, or_then}
 use Rattle.commands_data.specs.TableCommands.{answer_cells}
 use Rattle.sheet_edits.specs.Edits.{is_protected}
 use Rattle.work_sheet.specs.Seen.{of_worksheet}
-use Rattle.commands_data.proofs.protection.first_protected.Goals as goal
+use Rattle.commands_data.proofs.protection.protected_of_table.Goals as goal
 
 pub returns-in-Some : goal.returns-in-Some
 returns-in-Some c =
