@@ -2,7 +2,7 @@
 use Rattle.std.specs.Prelude.{ℕ, ◌+◌, ◌-◌, nat_lt, min, if◌then◌else◌, length, take, drop, List, [], ◌∷◌, ◌++◌}
 use Rattle.lics_text.specs.Limits.{MAX_LEN}
 use Rattle.key_words.specs.declared.key.Key.{Key}
-use Rattle.key_words.specs.declared.key.Key.TheVariants.{Byte, Enter, Up, Down, Left, Right, Home, End, PgUp, PgDn, BigLeft, BigRight, Esc, Bs, Del, Edit, Name, Abs, Goto, Window, Query, Table, Calc, Graph, Break, Undo, Alt}
+use Rattle.key_words.specs.declared.key.Key.TheVariants.{Byte, Enter, Up, Down, Left, Right, Home, End, PgUp, PgDn, BigLeft, BigRight, Esc, Bs, Del}
 use Rattle.entry_line.specs.declared.event.LineEvent.{LineEvent}
 use Rattle.entry_line.specs.declared.event.LineEvent.TheVariants.{Going, Finished, GivenUp, LineFull}
 
@@ -45,7 +45,7 @@ nothing = record { text = []; cursor = 0 }
 abbrev pub escaped : Entry → LineEvent
 escaped e = if nat_lt 0 (length e.text) then Going else GivenUp
 
--- the line after a key
+-- the line after a key; under any other it stays as it was
 abbrev pub after : Key → Entry → Entry
 after (Byte b) e = typed e b
 after Left e = placed e (e.cursor - 1)
@@ -57,25 +57,9 @@ after End e = placed e (length e.text)
 after Del e = deleted e
 after Bs e = taken_back e
 after Esc e = nothing
-after Enter e = e
-after Up e = e
-after Down e = e
-after PgUp e = e
-after PgDn e = e
-after Edit e = e
-after Name e = e
-after Abs e = e
-after Goto e = e
-after Window e = e
-after Query e = e
-after Table e = e
-after Calc e = e
-after Graph e = e
-after Break e = e
-after Undo e = e
-after (Alt letter) e = e
+after other e = e
 
--- what the key comes to
+-- what the key comes to: any other goes on with the line
 abbrev pub event : Key → Entry → LineEvent
 event (Byte b) e = room e
 event Esc e = escaped e
@@ -84,23 +68,4 @@ event Up e = Finished
 event Down e = Finished
 event PgUp e = Finished
 event PgDn e = Finished
-event Left e = Going
-event Right e = Going
-event BigLeft e = Going
-event BigRight e = Going
-event Home e = Going
-event End e = Going
-event Del e = Going
-event Bs e = Going
-event Edit e = Going
-event Name e = Going
-event Abs e = Going
-event Goto e = Going
-event Window e = Going
-event Query e = Going
-event Table e = Going
-event Calc e = Going
-event Graph e = Going
-event Break e = Going
-event Undo e = Going
-event (Alt letter) e = Going
+event other e = Going
