@@ -73,27 +73,15 @@ least_length Str body = 5
 least_length HiddenColumns body = 32
 least_length Other body = 0
 
--- whether a body begins with a format byte and a cell
+-- whether a body begins with a format byte and a cell; no other does
 abbrev pub has_head : RecordKind → Bool
-has_head Bof = false
-has_head Eof = false
-has_head CalcMode = false
-has_head CalcOrder = false
-has_head Range = false
-has_head Window = false
-has_head ColumnWidth = false
-has_head Name = false
 has_head Blank = true
 has_head Integer = true
 has_head Number = true
 has_head Label = true
 has_head Formula = true
-has_head Protection = false
-has_head LabelFormat = false
-has_head CalcCount = false
 has_head Str = true
-has_head HiddenColumns = false
-has_head Other = false
+has_head other = false
 
 -- the byte of an order of recalculation
 abbrev pub order_byte : Order → ℕ
