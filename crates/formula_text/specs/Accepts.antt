@@ -2,7 +2,7 @@
 use Rattle.std.specs.Prelude.{ℕ, ◌+◌, List, [], ◌∷◌, ◌++◌, Result, Ok, Err, if◌then◌else◌}
 use Rattle.formula_tree.specs.declared.function.Function.{Function as AtFunction}
 use Rattle.formula_tree.specs.declared.ast.Op.{Op}
-use Rattle.formula_tree.specs.declared.ast.Op.TheVariants.{Pow, Mul, Div, Add, Sub, Eq, Ne, Lt, Gt, Le, Ge, And, Or, Join}
+use Rattle.formula_tree.specs.declared.ast.Op.TheVariants.{Add, Sub}
 use Rattle.formula_tree.specs.Table.{counts_of, takes}
 use Rattle.formula_text.specs.declared.fault.ParseFault.{ParseFault}
 use Rattle.formula_text.specs.declared.fault.ParseFault.TheVariants.{ArgCount, Ended, Unexpected}
@@ -41,22 +41,11 @@ abbrev pub missing : ℕ → Bracket → ParseFault
 missing at Plain = Unexpected at
 missing at (Call f n) = if takes (counts_of f) n then Unexpected at else ArgCount at
 
--- an operator where an operand is wanted
+-- an operator where an operand is wanted: a plus or a minus stands in front, and no other does
 abbrev pub front_row : Op → ℕ → Brackets → (Brackets → Verdict) → Verdict
 front_row Add at bs operand = operand bs
 front_row Sub at bs operand = after (front_minus ∷ []) (operand bs)
-front_row Pow at bs operand = Err (Unexpected at)
-front_row Mul at bs operand = Err (Unexpected at)
-front_row Div at bs operand = Err (Unexpected at)
-front_row Eq at bs operand = Err (Unexpected at)
-front_row Ne at bs operand = Err (Unexpected at)
-front_row Lt at bs operand = Err (Unexpected at)
-front_row Gt at bs operand = Err (Unexpected at)
-front_row Le at bs operand = Err (Unexpected at)
-front_row Ge at bs operand = Err (Unexpected at)
-front_row And at bs operand = Err (Unexpected at)
-front_row Or at bs operand = Err (Unexpected at)
-front_row Join at bs operand = Err (Unexpected at)
+front_row other at bs operand = Err (Unexpected at)
 
 -- one row of the table where an operand is wanted
 abbrev pub operand_row : LexemeKind → ℕ → Brackets → (Brackets → Verdict) → (Brackets → Verdict)
@@ -88,37 +77,19 @@ close_row at (Plain ∷ bs) operator = after (closing ∷ []) (operator bs)
 close_row at (Call f n ∷ bs) operator =
     if takes (counts_of f) (n + 1) then after (closing ∷ []) (operator bs) else Err (ArgCount at)
 
--- where an operator is wanted
+-- where an operator is wanted; any other part is refused
 abbrev pub operator_row : LexemeKind → ℕ → Brackets → (Brackets → Verdict) → (Brackets → Verdict) → Verdict
 operator_row (Infix op) at bs operand operator = after (infix_op op ∷ []) (operand bs)
 operator_row Comma at bs operand operator = comma_row at bs operand
 operator_row Close at bs operand operator = close_row at bs operator
-operator_row (Num v) at bs operand operator = Err (Unexpected at)
-operator_row (Str t) at bs operand operator = Err (Unexpected at)
-operator_row (Cell r) at bs operand operator = Err (Unexpected at)
-operator_row (Span a b) at bs operand operator = Err (Unexpected at)
-operator_row (Constant f) at bs operand operator = Err (Unexpected at)
-operator_row (Function f) at bs operand operator = Err (Unexpected at)
-operator_row Not at bs operand operator = Err (Unexpected at)
-operator_row Open at bs operand operator = Err (Unexpected at)
-operator_row Unclosed at bs operand operator = Err (Unexpected at)
 operator_row (Bad f) at bs operand operator = Err f
+operator_row other at bs operand operator = Err (Unexpected at)
 
--- where a function's opening bracket is wanted
+-- where a function's opening bracket is wanted; any other part is refused
 abbrev pub bracket_row : LexemeKind → ℕ → Verdict → Verdict
 bracket_row Open at operand = operand
-bracket_row (Num v) at operand = Err (Unexpected at)
-bracket_row (Str t) at operand = Err (Unexpected at)
-bracket_row (Cell r) at operand = Err (Unexpected at)
-bracket_row (Span a b) at operand = Err (Unexpected at)
-bracket_row (Constant f) at operand = Err (Unexpected at)
-bracket_row (Function f) at operand = Err (Unexpected at)
-bracket_row (Infix op) at operand = Err (Unexpected at)
-bracket_row Not at operand = Err (Unexpected at)
-bracket_row Close at operand = Err (Unexpected at)
-bracket_row Comma at operand = Err (Unexpected at)
-bracket_row Unclosed at operand = Err (Unexpected at)
 bracket_row (Bad f) at operand = Err f
+bracket_row other at operand = Err (Unexpected at)
 
 -- the tokens, where these brackets are open and an operand, an operator or a function's bracket is wanted, or the first
 -- fault

@@ -9,7 +9,7 @@ use Rattle.formula_tree.specs.Shape.{count, every, every_one, is_bracketed, lowe
 use Rattle.formula_text.specs.declared.fault.ParseFault.{ParseFault}
 use Rattle.formula_text.specs.declared.fault.ParseFault.TheVariants.{Memory}
 use Rattle.formula_text.specs.declared.lexeme.LexemeKind.{LexemeKind}
-use Rattle.formula_text.specs.declared.lexeme.LexemeKind.TheVariants.{Bad, Cell, Close, Comma, Constant, Function, Infix, Not, Num, Open, Span, Str, Unclosed}
+use Rattle.formula_text.specs.declared.lexeme.LexemeKind.TheVariants.{Comma}
 use Rattle.formula_text.specs.declared.lexeme.Lexeme.{Lexeme}
 use Rattle.formula_text.specs.declared.parse.Bracket.{Bracket}
 use Rattle.formula_text.specs.declared.parse.Bracket.TheVariants.{Plain, Call}
@@ -143,18 +143,7 @@ pub record Completes (ls : List Lexeme) (f : AtFunction) (n : ℕ) (rest : List 
 -- whether a part is a comma
 abbrev pub is_comma : LexemeKind → Bool
 is_comma Comma = true
-is_comma (Num v) = false
-is_comma (Str t) = false
-is_comma (Cell r) = false
-is_comma (Span a b) = false
-is_comma (Constant f) = false
-is_comma (Function f) = false
-is_comma (Infix op) = false
-is_comma Not = false
-is_comma Open = false
-is_comma Close = false
-is_comma Unclosed = false
-is_comma (Bad f) = false
+is_comma other = false
 
 -- whether a comma stands first
 abbrev pub comma_first : List Lexeme → Bool
