@@ -9,22 +9,22 @@ use Rattle.wk1_formula.specs.Opcodes as opcode
 use Rattle.wk1_formula.specs.declared.kind.CodeKind.{CodeKind}
 use Rattle.wk1_formula.specs.declared.kind.CodeKind.TheVariants as kind
 
--- the code of an operator
+-- the code of an operator between two operands
 abbrev pub op_code : Op → ℕ
-op_code Add = opcode.ADD
-op_code Sub = opcode.SUBTRACT
-op_code Mul = opcode.MULTIPLY
-op_code Div = opcode.DIVIDE
-op_code Pow = opcode.POWER
-op_code Eq = opcode.EQUAL
-op_code Ne = opcode.UNEQUAL
-op_code Le = opcode.AT_MOST
-op_code Ge = opcode.AT_LEAST
-op_code Lt = opcode.LESS
-op_code Gt = opcode.GREATER
-op_code And = opcode.AND
-op_code Or = opcode.OR
-op_code Join = opcode.JOIN
+op_code Add = 0x09
+op_code Sub = 0x0A
+op_code Mul = 0x0B
+op_code Div = 0x0C
+op_code Pow = 0x0D
+op_code Eq = 0x0E
+op_code Ne = 0x0F
+op_code Le = 0x10
+op_code Ge = 0x11
+op_code Lt = 0x12
+op_code Gt = 0x13
+op_code And = 0x14
+op_code Or = 0x15
+op_code Join = 0x18
 
 -- the operator of a code
 unfoldable pub operator_of : ℕ → Option Op
@@ -60,13 +60,14 @@ front_kind code =
     else if code == opcode.PLUS then kind.Plus
     else kind.Unknown
 
--- the functions of 1-2-3 that this program leaves out
+-- The functions of 1-2-3 that this program leaves out: @SQRT, @LOG, @LN, @PI, @SIN, @COS, @TAN, @ATAN2, @ATAN, @ASIN,
+-- @ACOS and @EXP; @RAND, @PMT, @PV, @FV, @NPV, @VAR, @STD and @IRR; @DVAR, @DSTD, @S, @N, those of an add-in, @RATE,
+-- @TERM, @CTERM, @SLN, @SYD and @DDB.
 abbrev pub left_out : List ℕ
 left_out =
-    opcode.SQRT ∷ opcode.LOG ∷ opcode.LN ∷ opcode.PI ∷ opcode.SIN ∷ opcode.COS ∷ opcode.TAN ∷ opcode.ATAN2
-    ∷ opcode.ATAN ∷ opcode.ASIN ∷ opcode.ACOS ∷ opcode.EXP ∷ opcode.RAND ∷ opcode.PMT ∷ opcode.PV ∷ opcode.FV
-    ∷ opcode.NPV ∷ opcode.VAR ∷ opcode.STD ∷ opcode.IRR ∷ opcode.DVAR ∷ opcode.DSTD ∷ opcode.S ∷ opcode.N
-    ∷ opcode.ADD_IN ∷ opcode.RATE ∷ opcode.TERM ∷ opcode.CTERM ∷ opcode.SLN ∷ opcode.SYD ∷ opcode.DDB ∷ []
+    0x23 ∷ 0x24 ∷ 0x25 ∷ 0x26 ∷ 0x27 ∷ 0x28 ∷ 0x29 ∷ 0x2A ∷ 0x2B ∷ 0x2C ∷ 0x2D ∷ 0x2E
+    ∷ 0x35 ∷ 0x38 ∷ 0x39 ∷ 0x3A ∷ 0x56 ∷ 0x57 ∷ 0x58 ∷ 0x59
+    ∷ 0x60 ∷ 0x61 ∷ 0x6F ∷ 0x70 ∷ 0x72 ∷ 0x74 ∷ 0x75 ∷ 0x76 ∷ 0x77 ∷ 0x78 ∷ 0x79 ∷ []
 
 -- whether a code is one of them
 abbrev pub is_left_out : ℕ → Bool
