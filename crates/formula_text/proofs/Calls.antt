@@ -7,7 +7,8 @@ use Rattle.formula_tree.specs.Tree.{Tree, call}
 use Rattle.formula_tree.specs.declared.ast.Expr.{Expr}
 use Rattle.formula_tree.specs.View.{listed}
 use Rattle.formula_text.specs.Functions.{name_of}
-use Rattle.formula_text.specs.Printed.{call_text, commaed, end_of, mark_before, more_text, opened, text_of}
+use Rattle.formula_text.specs.Printed.{more_text, text_of}
+use Rattle.formula_text.specs.inner.Calls.{call_text, commaed, end_of, mark_before, opened}
 
 commaed_more : (names : NameMap) (at : Place) (ts : List Tree) (u : Tree) → commaed names at (ts ++ u ∷ []) ≡ commaed names at ts ++ (codes "," ++ text_of names at u)
 commaed_more names at [] u = ap (λ x. codes "," ++ x) (append-nil (text_of names at u))

@@ -11,7 +11,6 @@ use Rattle.grid_address.specs.Place.{same_place, spanned, Place}
 use Rattle.range_names.specs.Names.{name_of_span, NameMap}
 use Rattle.formula_tree.specs.declared.ast.Op.{Op}
 use Rattle.formula_tree.specs.declared.ast.Op.TheVariants.{Pow, Mul, Div, Add, Sub, Eq, Ne, Lt, Gt, Le, Ge, And, Or, Join}
-use Rattle.formula_tree.specs.declared.function.Function.{Function as AtFunction}
 use Rattle.formula_tree.specs.Tree.{Tree, num, str, cell, span, group, neg, not as negation, binary, call, Trees, no_trees, trees}
 use Rattle.formula_text.specs.Functions.{name_of}
 use Rattle.formula_text.specs.declared.output.Output.{Output}
@@ -103,30 +102,6 @@ abbrev mutual
   pub more_text : NameMap → Place → Trees → List ℕ
   more_text names at no_trees = codes ")"
   more_text names at (trees a rest) = codes "," ++ (text_of names at a ++ more_text names at rest)
-
--- the texts of further arguments
-abbrev pub commaed : NameMap → Place → List Tree → List ℕ
-commaed names at [] = []
-commaed names at (t ∷ ts) = codes "," ++ (text_of names at t ++ commaed names at ts)
-
--- arguments behind their opening bracket, where there are any
-abbrev pub opened : NameMap → Place → List Tree → List ℕ
-opened names at [] = []
-opened names at (t ∷ ts) = codes "(" ++ (text_of names at t ++ commaed names at ts)
-
--- what stands before one more argument
-abbrev pub mark_before : List Tree → List ℕ
-mark_before [] = codes "("
-mark_before (t ∷ ts) = codes ","
-
--- the closing bracket of arguments, where there are any
-abbrev pub end_of : List Tree → List ℕ
-end_of [] = []
-end_of (t ∷ ts) = codes ")"
-
--- a function's call: @, its name, and its arguments in brackets
-abbrev pub call_text : NameMap → Place → AtFunction → List Tree → List ℕ
-call_text names at f ts = codes "@" ++ (name_of f ++ (opened names at ts ++ end_of ts))
 
 -- a text that would begin a label takes a + in front
 abbrev pub sign_for : List ℕ → List ℕ

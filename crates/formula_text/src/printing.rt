@@ -3,7 +3,8 @@ ghost use Rattle.std.specs.Prelude.{Ok, ◌≡◌, IfSome, IfNone, Some, None, n
 ghost use Rattle.formula_tree.specs.View.{tree_of};
 ghost use Rattle.grid_address.specs.Axes.{is_fixed};
 ghost use Rattle.formula_text.specs.Reading.{reading};
-ghost use Rattle.formula_text.specs.Printed.{alike, call_text, cell_text, in_order, end_of, mark, name_of_cell, name_of_corners, op_text, printed, reference_text, same, sign_for, span_text, text_of};
+ghost use Rattle.formula_text.specs.Printed.{alike, cell_text, in_order, mark, name_of_cell, name_of_corners, op_text, printed, reference_text, same, sign_for, span_text, text_of};
+ghost use Rattle.formula_text.specs.inner.Calls.{call_text, end_of};
 ghost use Rattle.formula_text.specs.inner.Puts.{Puts};
 
 use crate::functions::name_of;

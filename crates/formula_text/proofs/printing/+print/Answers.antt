@@ -4,7 +4,8 @@ use Rattle.formula_tree.specs.Nodes.{all_nodes, nodes}
 use Rattle.formula_tree.specs.View.{listed, tree_of, trees_in}
 use Rattle.formula_tree.proofs.Rows.{fewer_nodes, one_taken, tree_of-Call}
 use Rattle.formula_text.specs.Functions.{name_of}
-use Rattle.formula_text.specs.Printed.{call_text, end_of, mark_before, op_text, opened, text_of}
+use Rattle.formula_text.specs.Printed.{op_text, text_of}
+use Rattle.formula_text.specs.inner.Calls.{call_text, end_of, mark_before, opened}
 use Rattle.formula_text.proofs.Pieces.{put_as, three_put, two_put}
 use Rattle.formula_text.proofs.Calls.{all_taken, begun, begun_more, call_is, comma_next, ended}
 use Rattle.formula_text.proofs.printing.+print.Goals as goal

@@ -2,7 +2,7 @@ use Rattle.std.proofs.Common.{◌≡◌, ◌+◌, ◌*◌, ◌++◌, codes, map,
 use Rattle.formula_tree.specs.Nodes.{all_nodes, nodes}
 use Rattle.formula_tree.specs.View.{listed, tree_of}
 use Rattle.formula_text.specs.Functions.{name_of}
-use Rattle.formula_text.specs.Printed.{mark_before, opened}
+use Rattle.formula_text.specs.inner.Calls.{mark_before, opened}
 use Rattle.formula_text.specs.inner.Puts.{Puts}
 use Rattle.formula_text.proofs.printing.+print.Given as goal
 
