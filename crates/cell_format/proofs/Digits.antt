@@ -12,5 +12,7 @@ one_digit n h = ap length (decimal_one n h)
 pub two_digits_in : (n : ℕ) → n < 16 → length (decimal n) ≤ 2
 two_digits_in n h = elim (cases_Bool (nat_lt n 10)) [
   | inl one ↦ omega (arith, one_digit n (grind (arith, nat_tests, one)))
-  | inr two ↦ (let large : 10 ≤ n = grind (arith, nat_tests, two) in omega (arith, length-decimal_more n large, one_digit (n / 10) (omega (arith, h))))
+  | inr two ↦
+      (let large : 10 ≤ n = grind (arith, nat_tests, two) in
+      omega (arith, length-decimal_more n large, one_digit (n / 10) (omega (arith, h))))
 ]

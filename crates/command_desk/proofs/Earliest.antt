@@ -46,7 +46,8 @@ gives_way x c h = by (place_cmp c x) refl
     by Equal e = sym (cells_exact c x e)
     by Greater e = absurd (h (cells_total.antisymm x c ∙ ap ordering_reverse e))
 
-module _ (x d : Place) (xs : List Place) (rest : (f : Place) → first_in_order xs ≡ Some f → has same_place xs f ≡ true) where
+module _ (x d : Place) (xs : List Place)
+    (rest : (f : Place) → first_in_order xs ≡ Some f → has same_place xs f ≡ true) where
   itself : x ≡ d → (same_place d x || has same_place xs d) ≡ true
   itself s = or_left _ _ (subst (λ (z : Place). same_place z x ≡ true) s (same_place_itself x))
 

@@ -19,12 +19,15 @@ and_false false = refl
 pub zero_dropped : (xs : List ℕ) → without_last_zeros (xs ++ 48 ∷ []) ≡ without_last_zeros xs
 zero_dropped [] = refl
 zero_dropped (x ∷ xs) =
-    let all : list_all is_zero ((x ∷ xs) ++ 48 ∷ []) ≡ list_all is_zero (x ∷ xs) = list_all-append is_zero (x ∷ xs) (48 ∷ []) ∙ and_true (list_all is_zero (x ∷ xs)) in
+    let all : list_all is_zero ((x ∷ xs) ++ 48 ∷ []) ≡ list_all is_zero (x ∷ xs) =
+    list_all-append is_zero (x ∷ xs) (48 ∷ []) ∙ and_true (list_all is_zero (x ∷ xs)) in
     rw (all, zero_dropped xs) refl
 
 pub digit_kept : (xs : List ℕ) (d : ℕ) → (d == 48) ≡ false → without_last_zeros (xs ++ d ∷ []) ≡ xs ++ d ∷ []
 digit_kept [] d h = rw h refl
 digit_kept (x ∷ xs) d h =
     let last : list_all is_zero (d ∷ []) ≡ false = rw h refl in
-    let all : list_all is_zero ((x ∷ xs) ++ d ∷ []) ≡ false = list_all-append is_zero (x ∷ xs) (d ∷ []) ∙ ap (λ b. list_all is_zero (x ∷ xs) && b) last ∙ and_false (list_all is_zero (x ∷ xs)) in
+    let all : list_all is_zero ((x ∷ xs) ++ d ∷ []) ≡ false =
+    list_all-append is_zero (x ∷ xs) (d ∷ []) ∙ ap (λ b. list_all is_zero (x ∷ xs) && b) last
+    ∙ and_false (list_all is_zero (x ∷ xs)) in
     rw (all, digit_kept xs d h) refl

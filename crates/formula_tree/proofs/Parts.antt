@@ -1,5 +1,6 @@
 -- A tree by its top and its parts.
-use Rattle.std.proofs.Common.{◌≡◌, ◌+◌, ◌<◌, ◌≤◌, ℕ, Bool, true, false, ◌&&◌, nat_le, List, [], ◌∷◌, ◌++◌, refl, sym, ap, ◌∙◌, arith}
+use Rattle.std.proofs.Common.{◌≡◌, ◌+◌, ◌<◌, ◌≤◌, ℕ, Bool, true, false, ◌&&◌, nat_le, List, [], ◌∷◌, ◌++◌, refl, sym}
+use Rattle.std.proofs.Common.{ap, ◌∙◌, arith}
 use Rattle.std.specs.Prelude.{sum_by}
 use Rattle.std.specs.List.{list_all}
 use Rattle.std.proofs.lemmas.Bool.Decides.{nat_tests}
@@ -91,10 +92,13 @@ last_passes true true false h = refl
 last_passes false f p h = refl
 last_passes true false p h = cc
 
-pub passes_on : (test : Tree → Bool) (below : List Tree) (t : Tree) → test t ≡ true → all_pass test (below ++ parts t) ≡ all_pass test (below ++ t ∷ [])
+pub passes_on : (test : Tree → Bool) (below : List Tree) (t : Tree) → test t ≡ true
+    → all_pass test (below ++ parts t) ≡ all_pass test (below ++ t ∷ [])
 passes_on test below t h =
-    list_all-append (every test) below (parts t) ∙ last_passes (all_pass test below) (test t) (all_pass test (parts t)) h
-    ∙ ap (λ b. all_pass test below && (b && true)) (sym (split test t)) ∙ sym (list_all-append (every test) below (t ∷ []))
+    list_all-append (every test) below (parts t)
+    ∙ last_passes (all_pass test below) (test t) (all_pass test (parts t)) h
+    ∙ ap (λ b. all_pass test below && (b && true)) (sym (split test t))
+    ∙ sym (list_all-append (every test) below (t ∷ []))
 
 not_fine : (a f p : Bool) → f ≡ false → (a && ((f && p) && true)) ≡ false
 not_fine true false p h = refl
@@ -102,9 +106,12 @@ not_fine false false p h = refl
 not_fine a true p h = absurd cc
 
 -- one node that isn't fine
-pub unfit : (below : List Tree) (t whole : Tree) → is_fine t ≡ false → all_fine (below ++ t ∷ []) ≡ every is_fine whole → has_shape whole ≡ false
+pub unfit : (below : List Tree) (t whole : Tree) → is_fine t ≡ false → all_fine (below ++ t ∷ []) ≡ every is_fine whole
+    → has_shape whole ≡ false
 unfit below t whole h is =
-    let wrong : all_fine (below ++ t ∷ []) ≡ false = list_all-append (every is_fine) below (t ∷ []) ∙ ap (λ b. all_fine below && (b && true)) (split is_fine t) ∙ not_fine (all_fine below) (is_fine t) (all_fine (parts t)) h in
+    let wrong : all_fine (below ++ t ∷ []) ≡ false =
+    list_all-append (every is_fine) below (t ∷ []) ∙ ap (λ b. all_fine below && (b && true)) (split is_fine t)
+    ∙ not_fine (all_fine below) (is_fine t) (all_fine (parts t)) h in
     let none : every is_fine whole ≡ false = sym is ∙ wrong in
     rw none refl
 
@@ -112,22 +119,27 @@ unfit below t whole h is =
 abbrev pub left_size : ℕ → List Tree → ℕ
 left_size code stack = code + sum_by nodes_size stack
 
-pub as_long : (below : List Tree) (t : Tree) (code : ℕ) → left_size (code + node_size t) (below ++ parts t) ≡ left_size code (below ++ t ∷ [])
-as_long below t code = omega (arith, sum_by-append nodes_size below (parts t), sum_by-append nodes_size below (t ∷ []), own_size t)
+pub as_long : (below : List Tree) (t : Tree) (code : ℕ)
+    → left_size (code + node_size t) (below ++ parts t) ≡ left_size code (below ++ t ∷ [])
+as_long below t code =
+    omega (arith, sum_by-append nodes_size below (parts t), sum_by-append nodes_size below (t ∷ []), own_size t)
 
 and_false : (a : Bool) → (a && false) ≡ false
 and_false true = refl
 and_false false = refl
 
 -- too much code
-pub too_long : (below : List Tree) (t whole : Tree) (code : ℕ) → 65520 < code + node_size t → left_size code (below ++ t ∷ []) ≡ code_size whole → has_shape whole ≡ false
+pub too_long : (below : List Tree) (t whole : Tree) (code : ℕ) → 65520 < code + node_size t
+    → left_size code (below ++ t ∷ []) ≡ code_size whole → has_shape whole ≡ false
 too_long below t whole code over is =
     let much : 65520 < code_size whole = omega (arith, over, is, sum_by-append nodes_size below (t ∷ []), own_size t) in
     let test : nat_le (code_size whole) 65520 ≡ false = grind (arith, nat_tests, much) in
     ap (λ b. every is_fine whole && b) test ∙ and_false (every is_fine whole)
 
 -- nothing left to see
-pub all_seen : (whole : Tree) (code : ℕ) → all_fine [] ≡ every is_fine whole → left_size code [] ≡ code_size whole → code ≤ 65520 → has_shape whole ≡ true
+pub all_seen : (whole : Tree) (code : ℕ) → all_fine [] ≡ every is_fine whole → left_size code [] ≡ code_size whole
+    → code ≤ 65520 → has_shape whole ≡ true
 all_seen whole code fine is within =
-    let test : nat_le (code_size whole) 65520 ≡ true = (let most : code_size whole ≤ 65520 = omega (arith, is, within) in grind (arith, nat_tests, most)) in
+    let test : nat_le (code_size whole) 65520 ≡ true =
+    (let most : code_size whole ≤ 65520 = omega (arith, is, within) in grind (arith, nat_tests, most)) in
     rw (sym fine, test) refl

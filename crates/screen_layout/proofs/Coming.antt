@@ -16,7 +16,8 @@ module _ (s : Sheet) (used col : ℕ) (within : col ≤ 255) where
   unfolding columns_from
   behind_hidden hidden = rw (more, hidden) refl
 
-  pub behind_shown : is_hidden s.grid col ≡ false → 1 ≤ width_in s col → (nat_eq used 0 || nat_le (width_in s col) (76 - used)) ≡ true →
+  pub behind_shown : is_hidden s.grid col ≡ false → 1 ≤ width_in s col
+      → (nat_eq used 0 || nat_le (width_in s col) (76 - used)) ≡ true →
       behind s used col ≡ record { col = col; width = width_in s col } ∷ behind s (used + width_in s col) (col + 1)
   unfolding columns_from
   behind_shown seen some fits =
@@ -24,7 +25,8 @@ module _ (s : Sheet) (used col : ℕ) (within : col ≤ 255) where
       let left : 76 - used - width_in s col ≡ 76 - (used + width_in s col) = omega arith in
       rw (more, seen, fits, later, left) refl
 
-  pub behind_last : is_hidden s.grid col ≡ false → (nat_eq used 0 || nat_le (width_in s col) (76 - used)) ≡ false → behind s used col ≡ []
+  pub behind_last : is_hidden s.grid col ≡ false → (nat_eq used 0 || nat_le (width_in s col) (76 - used)) ≡ false
+      → behind s used col ≡ []
   unfolding columns_from
   behind_last seen fits = rw (more, seen, fits) refl
 

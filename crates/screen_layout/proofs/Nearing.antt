@@ -25,7 +25,8 @@ wide_more s zero col =
 wide_more s (suc count) col =
     let at : col + 1 + count ≡ col + suc count = omega arith in
     let more : suc count + 1 ≡ suc (count + 1) = omega arith in
-    let first : wide s (suc count + 1) col ≡ wide s 1 col + wide s (count + 1) (col + 1) = ap (λ (n : ℕ). wide s n col) more ∙ wide_first s (count + 1) col in
+    let first : wide s (suc count + 1) col ≡ wide s 1 col + wide s (count + 1) (col + 1) =
+    ap (λ (n : ℕ). wide s n col) more ∙ wide_first s (count + 1) col in
     let last : wide s 1 (col + 1 + count) ≡ wide s 1 (col + suc count) = ap (λ (c : ℕ). wide s 1 c) at in
     omega (arith, first, wide_more s count (col + 1), wide_first s count col, last)
 
@@ -33,7 +34,8 @@ pub nearest_last : (s : Sheet) (further col : ℕ) → further ≡ 0 → nearest
 unfolding nearest
 nearest_last s further col none = rw none refl
 
-pub nearest_here : (s : Sheet) (further col : ℕ) → 1 ≤ further → wide s (further + 1) col ≤ 76 → nearest s further col ≡ col
+pub nearest_here : (s : Sheet) (further col : ℕ) → 1 ≤ further → wide s (further + 1) col ≤ 76
+    → nearest s further col ≡ col
 unfolding nearest
 nearest_here s zero col some fits = absurd (omega (arith, some))
 nearest_here s (suc further) col some fits =
@@ -42,7 +44,8 @@ nearest_here s (suc further) col some fits =
     let test : nat_le (wide s (suc (suc further)) col) 76 ≡ true = grind (arith, nat_tests, same, fits) in
     rw test refl
 
-pub nearest_later : (s : Sheet) (further col : ℕ) → 1 ≤ further → 76 < wide s (further + 1) col → nearest s further col ≡ nearest s (further - 1) (col + 1)
+pub nearest_later : (s : Sheet) (further col : ℕ) → 1 ≤ further → 76 < wide s (further + 1) col
+    → nearest s further col ≡ nearest s (further - 1) (col + 1)
 unfolding nearest
 nearest_later s zero col some wider = absurd (omega (arith, some))
 nearest_later s (suc further) col some wider =

@@ -6,8 +6,10 @@ use Rattle.print_report.proofs.cells.add_text.Goals as goal
 
 pub returns-clause-line : goal.returns-clause-line
 returns-clause-line c =
-    c.put_all-2.ensures ∙ ap (λ (l : List ℕ). l ++ take {A = ℕ} (c.from-width.result - c.min-shown.result) (replicate 240 32)) c.put_all.ensures
-    ∙ text_added c.args.row.now c.args.text.now c.from-width.result c.min-shown.result c.min-shown.ensures (omega (arith, c.from-width.ensures, c.requires.width))
+    c.put_all-2.ensures ∙ ap
+    (λ (l : List ℕ). l ++ take {A = ℕ} (c.from-width.result - c.min-shown.result) (replicate 240 32)) c.put_all.ensures
+    ∙ text_added c.args.row.now c.args.text.now c.from-width.result c.min-shown.result c.min-shown.ensures
+    (omega (arith, c.from-width.ensures, c.requires.width))
     ∙ ap (λ (k : ℕ). c.args.row.now ++ padded k c.args.text.now) c.from-width.ensures
 
 pub returns-clause-rest : goal.returns-clause-rest

@@ -10,10 +10,13 @@ returns-then-is_marked c =
     let at : ℕ = c.loop-at.at in
     let here : Place = right_by c.args.first at in
     let row : c.first.inside.row ≡ c.args.first.row = ap (λ (p : Place). p.row) c.first.view_is in
-    let col : c.from.result + at ≡ c.args.first.col + at = ap (λ k. k + at) (c.from.ensures ∙ ap (λ (p : Place). p.col) c.first.view_is) in
-    let place : ◌≡◌ {A = Place} (record { row = c.first.inside.row; col = c.from.result + at }) here = λ i. record { row = row i; col = col i } in
+    let col : c.from.result + at ≡ c.args.first.col + at =
+    ap (λ k. k + at) (c.from.ensures ∙ ap (λ (p : Place). p.col) c.first.view_is) in
+    let place : ◌≡◌ {A = Place} (record { row = c.first.inside.row; col = c.from.result + at }) here =
+    λ i. record { row = row i; col = col i } in
     let marked : test here ≡ true = sym (ap test place) ∙ sym c.is_marked.ensures ∙ c.if-is_marked.true in
-    ap Some place ∙ sym (ap (λ b. cond b (Some here) (first_in_row test (c.args.width - (at + 1)) (right_by c.args.first (at + 1)))) marked)
+    ap Some place ∙ sym (ap
+    (λ b. cond b (Some here) (first_in_row test (c.args.width - (at + 1)) (right_by c.args.first (at + 1)))) marked)
     ∙ sym (row_step test c.args.width at c.args.first c.loop-at-test.true) ∙ c.loop-at.invariant
 
 pub loop-at-preserved : goal.loop-at-preserved
@@ -22,11 +25,16 @@ loop-at-preserved c =
     let at : ℕ = c.loop-at.at in
     let here : Place = right_by c.args.first at in
     let row : c.first.inside.row ≡ c.args.first.row = ap (λ (p : Place). p.row) c.first.view_is in
-    let col : c.from.result + at ≡ c.args.first.col + at = ap (λ k. k + at) (c.from.ensures ∙ ap (λ (p : Place). p.col) c.first.view_is) in
-    let place : ◌≡◌ {A = Place} (record { row = c.first.inside.row; col = c.from.result + at }) here = λ i. record { row = row i; col = col i } in
+    let col : c.from.result + at ≡ c.args.first.col + at =
+    ap (λ k. k + at) (c.from.ensures ∙ ap (λ (p : Place). p.col) c.first.view_is) in
+    let place : ◌≡◌ {A = Place} (record { row = c.first.inside.row; col = c.from.result + at }) here =
+    λ i. record { row = row i; col = col i } in
     let unmarked : test here ≡ false = sym (ap test place) ∙ sym c.is_marked.ensures ∙ c.if-is_marked.false in
-    sym (ap (λ b. cond b (Some here) (first_in_row test (c.args.width - (at + 1)) (right_by c.args.first (at + 1)))) unmarked)
+    sym (ap (λ b. cond b (Some here) (first_in_row test (c.args.width - (at + 1)) (right_by c.args.first (at + 1))))
+    unmarked)
     ∙ sym (row_step test c.args.width at c.args.first c.loop-at-test.true) ∙ c.loop-at.invariant
 
 pub returns : goal.returns
-returns c = sym (row_ends (is_marked_at c.args.store.now.cells) c.args.width c.loop-at.at c.args.first (omega (arith, c.loop-at-test.false))) ∙ c.loop-at.invariant
+returns c =
+    sym (row_ends (is_marked_at c.args.store.now.cells) c.args.width c.loop-at.at c.args.first
+    (omega (arith, c.loop-at-test.false))) ∙ c.loop-at.invariant
