@@ -1,9 +1,9 @@
 -- What stands before a byte and behind it.
-use Rattle.std.proofs.Common.{◌≡◌, ◌≤◌, ◌<◌, ◌+◌, ℕ, suc, true, false, List, [], ◌∷◌, ◌++◌, take, drop, length, get_or}
-use Rattle.std.proofs.Common.{Some, None, refl, sym, ap, ◌∙◌, arith, append_assoc}
+use Rattle.std.proofs.Common.{◌≡◌, ◌<◌, ◌+◌, ℕ, suc, false, List, [], ◌∷◌, ◌++◌, take, drop, length, get_or}
+use Rattle.std.proofs.Common.{refl, sym, ap, ◌∙◌, arith, append_assoc}
 use Rattle.std.specs.Prelude.{◌==◌}
 use Rattle.std.proofs.lemmas.Bool.Decides.{nat_tests}
-use Rattle.std.proofs.lemmas.List.{append-nil, drop_all, take_all, take_more}
+use Rattle.std.proofs.lemmas.List.{take_more}
 use Rattle.std.proofs.Math.Seq.{drop-cons}
 use Rattle.at_functions.specs.Readings.{before, behind}
 
@@ -30,28 +30,4 @@ passed sep bytes at inside other is =
           ∙ append_assoc (take at bytes) (b ∷ []) (before sep (drop (at + 1) bytes))
           ∙ ap (λ (l : List ℕ). take at bytes ++ l) (sym front) ∙ is.0,
       sym back ∙ is.1,
-    )
-
-pub stopped : (sep : ℕ) (bytes : List ℕ) (at : ℕ) → at < length bytes → get_or bytes at 0 ≡ sep
-    → IsBeforeFrom sep bytes at
-    → (at < length bytes) × (take at bytes ≡ before sep bytes) × (behind sep bytes ≡ Some (drop (at + 1) bytes))
-stopped sep bytes at inside same is =
-    let b : ℕ = get_or bytes at 0 in
-    let test : (b == sep) ≡ true = grind (arith, nat_tests, same) in
-    let front : before sep (drop at bytes) ≡ [] = ap (before sep) (split_at bytes at inside) ∙ rw test refl in
-    let back : behind sep (drop at bytes) ≡ Some (drop (at + 1) bytes) =
-    ap (behind sep) (split_at bytes at inside) ∙ rw test refl in (
-      inside,
-      sym (append-nil (take at bytes)) ∙ ap (λ (l : List ℕ). take at bytes ++ l) (sym front) ∙ is.0,
-      sym is.1
-          ∙ back,
-    )
-
-pub none_there : (sep : ℕ) (bytes : List ℕ) (at : ℕ) → length bytes ≤ at → IsBeforeFrom sep bytes at
-    → (before sep bytes ≡ bytes) × (behind sep bytes ≡ None)
-none_there sep bytes at past is =
-    let rest : drop at bytes ≡ [] = drop_all at bytes past in (
-      sym is.0 ∙ ap (λ (l : List ℕ). take at bytes ++ before sep l) rest ∙ append-nil (take at bytes)
-          ∙ take_all at bytes past,
-      sym is.1 ∙ ap (behind sep) rest,
     )

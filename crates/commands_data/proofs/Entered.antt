@@ -25,15 +25,6 @@ use Rattle.work_sheet.specs.Editing.{all_written}
 use Rattle.work_sheet.specs.Seen.{of_worksheet}
 use Rattle.work_sheet.specs.Sheets.{Worksheet}
 
--- nothing was done
-pub same_itself : (among : Place → Bool) (a b : Worksheet) → b ≡ a → IsSameBut among a b
-same_itself among a b e = record {
-  settings = ap (λ (w : Worksheet). w.settings) e;
-  formats = λ c. ap (λ (w : Worksheet). format_of (get w.grid.cells c)) e;
-  contents = λ c f. ap (λ (w : Worksheet). content_at w.grid c) e;
-}
-
--- a content was entered
 pub entered_same : (c : Place) (x : Content) (a b : Worksheet) → DidEdit (with_content c x) a b → IsSameBut (just c) a b
 entered_same c x a b did = record {
   settings = ap (λ s. s.settings) (did 0).sheet;

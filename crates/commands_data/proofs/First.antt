@@ -29,12 +29,6 @@ module _ (test : Place → Bool) where
         sym (ap (λ l. find test (map cell l)) (left_more n count i inside)
         ∙ ap (λ b. cond b (Some (cell (n + i))) (find test (map cell (left n count (i + 1))))) fails) ∙ so_far
 
-    pub found_stop : i < count → test (cell (n + i)) ≡ true → find test (map cell (left n count i)) ≡ o
-        → Some (cell (n + i)) ≡ o
-    found_stop inside held so_far =
-        sym (ap (λ l. find test (map cell l)) (left_more n count i inside)
-        ∙ ap (λ b. cond b (Some (cell (n + i))) (find test (map cell (left n count (i + 1))))) held) ∙ so_far
-
     pub found_end : count ≤ i → find test (map cell (left n count i)) ≡ o → None ≡ o
     found_end past so_far = sym (ap (λ l. find test (map cell l)) (left_none n count i past)) ∙ so_far
 

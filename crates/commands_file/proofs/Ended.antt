@@ -1,20 +1,19 @@
 -- How commands end, by what their call was answered.
 use Rattle.std.specs.Prelude.{◌≡◌, ℕ, Bool, true, false, refl, List, None, Some, Ok, Err, if◌then◌else◌}
-use Rattle.std.proofs.Common.{ap, subst, sym, ◌∙◌}
+use Rattle.std.proofs.Common.{ap, subst, sym}
 use Rattle.std.proofs.lemmas.Bool.{false≢true, true≢false}
 use Rattle.command_desk.specs.Acting.{on_desk, Acted, DeskActed, HasActedBy, HasActedOn}
 use Rattle.command_desk.specs.Desks.{of_desk, on_sheet}
 use Rattle.command_desk.specs.declared.desk.Desk as declared
 use Rattle.command_desk.specs.declared.ending.CommandEnd.{CommandEnd}
 use Rattle.command_desk.specs.declared.ending.CommandEnd.TheVariants.{Finished, Refused}
-use Rattle.commands_file.specs.Calls.{failed, gets, loaded, puts, removes, there, written, HasAnswered, Reply}
+use Rattle.commands_file.specs.Calls.{failed, gets, loaded, puts, there, written, HasAnswered, Reply}
 use Rattle.commands_file.specs.Calls.{ShelfCall, ShelfView}
 use Rattle.commands_file.specs.Commands.{by_call, finished, is_readable, put_readable, recalculated_there, refused}
-use Rattle.commands_file.specs.Commands.{retrieved_sheet, saved_as, scene_in, taken_away, with_file, without_call}
-use Rattle.commands_file.specs.Commands.{written_out, HasActedOver}
-use Rattle.commands_file.specs.Steps.{end_of_placing, end_of_put, end_of_remove, is_written, loaded_as, HasCalled}
+use Rattle.commands_file.specs.Commands.{retrieved_sheet, saved_as, scene_in, with_file, without_call}
+use Rattle.commands_file.specs.Commands.{HasActedOver}
+use Rattle.commands_file.specs.Steps.{is_written, loaded_as, HasCalled}
 use Rattle.commands_file.specs.Steps.{IsPlaced}
-use Rattle.commands_file.specs.declared.calling.Placed.{Placed}
 use Rattle.commands_file.specs.declared.calling.Placed.TheVariants as place
 use Rattle.commands_file.specs.declared.loading.Loaded.{Loaded}
 use Rattle.commands_file.specs.declared.loading.Loaded.TheVariants as load
@@ -48,46 +47,6 @@ refused_on : (e : CommandError) (came : CommandEnd) (v : declared.Desk) (n : ℕ
 refused_on e came v n is = record { end = is; desk = refl; work = refl }
 
 module _ (v : declared.Desk) (n : ℕ) (before now : ShelfView) where
-  -- a file was taken away
-  pub erased_over : (name : List ℕ) (came : CommandEnd) → HasCalled (removes name) end_of_remove came before now →
-      HasActedOver (λ r. by_call (removes name) r (taken_away (of_desk v))) came v v n n before now
-  erased_over name came called = by called.reply called.came_so called.answered
-    where
-      act : Reply → DeskActed
-      act = taken_away (of_desk v)
-
-      by : (r : Reply) → came ≡ end_of_remove r → IsAnswer (removes name) r before now →
-          HasActedOver (λ s. by_call (removes name) s (taken_away (of_desk v))) came v v n n before now
-      by (there true) e a =
-          over (removes name) act (there true) came v v n n before now (record { end = e; desk = refl; work = refl }) a
-      by (there false) e a =
-          over (removes name) act (there false) came v v n n before now (refused_on error.FileNotFound came v n e) a
-      by failed e a = over (removes name) act failed came v v n n before now (refused_on error.DiskError came v n e) a
-      by (loaded f) e a =
-          over (removes name) act (loaded f) came v v n n before now (refused_on error.DiskError came v n e) a
-      by written e a = over (removes name) act written came v v n n before now (refused_on error.DiskError came v n e) a
-
-  -- a file was written, and the desk stays
-  pub written_over : (name bytes : List ℕ) (done : Bool) (came : CommandEnd) → came ≡ end_of_put done →
-      HasCalled (puts name bytes) is_written done before now →
-      HasActedOver (λ r. by_call (puts name bytes) r (written_out (of_desk v))) came v v n n before now
-  written_over name bytes done came is called = by called.reply (is ∙ ap end_of_put called.came_so) called.answered
-    where
-      act : Reply → DeskActed
-      act = written_out (of_desk v)
-
-      by : (r : Reply) → came ≡ end_of_put (is_written r) → IsAnswer (puts name bytes) r before now →
-          HasActedOver (λ s. by_call (puts name bytes) s (written_out (of_desk v))) came v v n n before now
-      by written e a =
-          over (puts name bytes) act written came v v n n before now (record { end = e; desk = refl; work = refl }) a
-      by failed e a =
-          over (puts name bytes) act failed came v v n n before now (refused_on error.DiskError came v n e) a
-      by (there b) e a =
-          over (puts name bytes) act (there b) came v v n n before now (refused_on error.DiskError came v n e) a
-      by (loaded f) e a =
-          over (puts name bytes) act (loaded f) came v v n n before now (refused_on error.DiskError came v n e) a
-
-  -- the sheet was saved
   pub saved_over : (name bytes : List ℕ) (w : declared.Desk) →
       HasActedOn (saved_as name (of_desk v) written) Finished v w n n
       → HasCalled (puts name bytes) is_written true before now →
@@ -149,20 +108,6 @@ module _ (name bytes : List ℕ) (v : declared.Desk) (n : ℕ) (before now : She
     answered = placed.1;
   })
 
-  -- a span was written, or not
-  pub extracted_over : (placed : Placed) (came : CommandEnd) → came ≡ end_of_placing placed
-      → IsPlaced name bytes placed before now →
-      HasActedOver (λ r. put_readable name bytes r (written_out (of_desk v)) (of_desk v)) came v v n n before now
-  extracted_over place.Written came is placed = short_over (written_out (of_desk v)) came v placed.0
-      (written_over v n before now name bytes true came is placed.1)
-  extracted_over place.Failed came is placed = short_over (written_out (of_desk v)) came v placed.0
-      (written_over v n before now name bytes false came is placed.1)
-  extracted_over place.TooLarge came is placed =
-      subst (λ (e : CommandEnd). HasActedOver (λ r. put_readable name bytes r (written_out (of_desk v)) (of_desk v)) e
-      v v n n before now)
-      (sym is) (large_over (written_out (of_desk v)) placed)
-
-  -- the sheet was saved
   pub saved_so : (w : declared.Desk) → HasActedOn (saved_as name (of_desk v) written) Finished v w n n →
       IsPlaced name bytes place.Written before now →
       HasActedOver (λ r. put_readable name bytes r (saved_as name (of_desk v)) (of_desk v)) Finished v w n n before now

@@ -2,12 +2,11 @@
 use Rattle.std.specs.Prelude.{ℕ, ◌≡◌, refl, OnErr, OnOk, Option, None, Some, Result, Ok, Err}
 use Rattle.std.specs.Option.{ForSome}
 use Rattle.std.proofs.Common.{subst}
-use Rattle.command_desk.proofs.Edited.{edit_acted, left, was_refused}
-use Rattle.command_desk.specs.Acting.{refused, HasActed, HasSettled}
+use Rattle.command_desk.proofs.Edited.{edit_acted, was_refused}
+use Rattle.command_desk.specs.Acting.{HasActed, HasSettled}
 use Rattle.command_desk.specs.declared.ending.CommandEnd.{CommandEnd}
 use Rattle.command_desk.specs.declared.ending.CommandEnd.TheVariants.{Refused}
 use Rattle.commands_range.specs.Commands.{copied_onto}
-use Rattle.desk_errors.specs.declared.error.CommandError.{CommandError}
 use Rattle.desk_errors.specs.declared.error.CommandError.TheVariants as error
 use Rattle.formula_eval.specs.declared.look.Scene.{Scene}
 use Rattle.grid_address.specs.Place.{is_within, Extent}
@@ -22,12 +21,6 @@ use Rattle.work_sheet.specs.Editing.{copied}
 use Rattle.work_sheet.specs.Seen.{of_worksheet}
 use Rattle.work_sheet.specs.Sheets.{Worksheet}
 
--- a refused command
-pub refused_acts : (e : CommandError) (v : Worksheet) (n : ℕ)
-    → HasActed (refused e (of_worksheet v)) (Refused e) v v n n
-refused_acts e v n = record { end = refl; did = left v v n n refl refl }
-
--- a copy onto a span, where it lies in the sheet
 pub copy_acted : (target : Option Extent) (from : Extent) (scene : Scene) (v mid w : Worksheet) (m n : ℕ)
     (answer : Result (Unit {0}) SheetFault) (end : CommandEnd) → (target ≡ None → answer ≡ Err (fault.OutOfSheet from))
     →

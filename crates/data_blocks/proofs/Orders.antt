@@ -1,5 +1,5 @@
 -- The order of rows by their keys is a total order.
-use Rattle.std.proofs.Common.{◌≡◌, ℕ, ◌+◌, ◌<◌, List, [], ◌∷◌, length, drop, get_or, refl, ap, subst}
+use Rattle.std.proofs.Common.{◌≡◌, ℕ, List, [], ◌∷◌, refl, subst}
 use Rattle.std.specs.Prelude.{Bool, true, false, ℤ, pos, map}
 use Rattle.std.specs.Char.{to_ascii_uppercase}
 use Rattle.std.specs.Cmp.{IsTotalOrder}
@@ -8,7 +8,6 @@ use Rattle.std.specs.Ordering.{int_cmp, nat_cmp, on, ordering_then, then_cmp}
 use Rattle.std.specs.declared.cmp.Ordering.{Ordering}
 use Rattle.std.specs.declared.cmp.Ordering.TheVariants.{Less, Equal, Greater}
 use Rattle.std.proofs.lemmas.Cmp.{back_total, int_cmp_total, nat_cmp_total, nat_list_cmp_total, on_total, then_total}
-use Rattle.std.proofs.lemmas.List.{drop_more}
 use Rattle.grid_address.specs.Place.{Place}
 use Rattle.formula_tree.specs.declared.value.Value.{Value}
 use Rattle.formula_tree.specs.declared.value.Value.TheVariants as value
@@ -94,9 +93,3 @@ key_total values key =
 pub rows_total : (values : Place → Value) (keys : List SortKey) → IsTotalOrder (order_of_rows values keys)
 rows_total values [] = record { antisymm = λ a b. refl; trans = λ a b c p q. p; congr = λ a b c e. refl }
 rows_total values (key ∷ keys) = then_total (key_total values key) (rows_total values keys)
-
--- one key more
-pub key_more : (values : Place → Value) (keys : List SortKey) (i : ℕ) (d : SortKey) (a b : ℕ) → i < length keys
-    → order_of_rows values (drop i keys) a b
-    ≡ ordering_then (order_by_key values (get_or keys i d) a b) (order_of_rows values (drop (i + 1) keys) a b)
-key_more values keys i d a b inside = ap (λ l. order_of_rows values l a b) (drop_more keys i d inside)

@@ -23,10 +23,6 @@ none_left : (step stop : ℤ) (o : Option ℤ) → filled_from step stop o [] �
 none_left step stop None = refl
 none_left step stop (Some x) = refl
 
-none_zipped : (cells : List Place) → numbered cells [] ≡ []
-none_zipped [] = refl
-none_zipped (p ∷ ps) = refl
-
 module _ (step stop : ℤ) where
   one_more : (x : ℤ) (p : Place) (ps : List Place) (small past : Bool)
       → filled_from step stop (reached step stop (within (x +ℤ step))) ps

@@ -52,14 +52,6 @@ module _ (values : Place → Value) (numbers : List ℤ) (r c h : ℕ) where
       ∷ counts m (h + 1 - (i + 1)) (h - (i + 1)) (Some (bin_of (values (at (r + i) c)))))
       (let e : r + i + 1 ≡ r + (i + 1) = omega arith in e)
 
-  -- all bins are left at the start
-  pub left_first : (before : Option ℤ) → left 0 before ≡ counts r (h + 1) h before
-  left_first before =
-      ap (λ m. counts m (h + 1 - 0) (h - 0) before) (let e : r + 0 ≡ r = omega arith in e)
-      ∙ ap (λ k. counts r k (h - 0) before) (let e : h + 1 - 0 ≡ h + 1 = omega arith in e)
-      ∙ ap (λ k. counts r (h + 1) k before) (let e : h - 0 ≡ h = omega arith in e)
-
-  -- one more bin
   pub left_step : (now new all : List Write) (i n : ℕ) (before : Option ℤ) (bin : ℤ) (w : Write) → i < h
       → bin ≡ bin_of (values (at (r + i) c)) → n ≡ count_by (is_in_bin before bin) numbers →
       w ≡ written (at (r + i) (c + 1)) (as_content (counted n)) → new ≡ now ++ w ∷ [] → now ++ left i before ≡ all

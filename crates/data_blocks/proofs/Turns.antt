@@ -1,17 +1,16 @@
 -- Turns of a table, one after another.
 use Rattle.std.proofs.Common.{◌≡◌, ℕ, ◌+◌, ◌<◌, List, [], ◌∷◌, ◌++◌, map, length, get_or, refl, sym, ap, subst, ◌∙◌}
-use Rattle.std.proofs.Common.{append_assoc, arith, inl, inr}
+use Rattle.std.proofs.Common.{append_assoc, arith}
 use Rattle.std.specs.Prelude.{zero, suc, ◌⊎◌}
-use Rattle.std.specs.List.{find, flat_map}
+use Rattle.std.specs.List.{flat_map}
 use Rattle.std.proofs.lemmas.List.{append-nil, map-append}
 use Rattle.grid_address.specs.Place.{Extent, Place}
 use Rattle.formula_tree.specs.declared.value.Value.{Value}
 use Rattle.sheet_store.specs.declared.writes.Write.{Write}
 use Rattle.block_writes.specs.Writing.{at, numbers_from}
 use Rattle.block_writes.proofs.Numbers.{numbers_more}
-use Rattle.data_blocks.specs.Benches.{values_on, HasFailed, HasTaken, HasTried, IsSameBench, OnBench}
+use Rattle.data_blocks.specs.Benches.{values_on, HasTaken, HasTried, IsSameBench, OnBench}
 use Rattle.data_blocks.specs.Tables.{answered, cell_turn, row_answers, row_turn, Trial, Turn}
-use Rattle.data_blocks.specs.declared.fault.BlockFault.{BlockFault}
 
 module _ {B : Type 0} (shows : B → OnBench) (tries : Trial → B → B → Type 0) where
   -- some turns and then others
@@ -53,20 +52,9 @@ made_at f n (suc k) (suc i) d h =
     let below : i < k = omega (arith, h) in
     let e : n + 1 + i ≡ n + suc i = omega arith in made_at f (n + 1) k i d below ∙ ap f e
 
--- no call of a bench changes these
-pub same_itself : (a : OnBench) → IsSameBench a a
-same_itself a = record { guarded = refl; inputs = refl; kept = refl }
-
 pub same_both : (a b c : OnBench) → IsSameBench a b → IsSameBench b c → IsSameBench a c
 same_both a b c p q = record { guarded = q.guarded ∙ p.guarded; inputs = q.inputs ∙ p.inputs; kept = q.kept ∙ p.kept }
 
--- a trial that failed later failed for what was so at first
-pub failed_as : (a b : OnBench) (cells : List Place) (f : BlockFault) → IsSameBench a b → HasFailed b cells f
-    → HasFailed a cells f
-failed_as a b cells f same (inl m) = inl m
-failed_as a b cells f same (inr h) = inr (h.0, ap (λ (g : Place → _). find g cells) (sym same.guarded) ∙ h.1, h.2)
-
--- as many things as numbers
 pub made_count : {X : Type 0} (f : ℕ → X) (n k : ℕ) → length (map f (numbers_from n k)) ≡ k
 made_count f n zero = refl
 made_count f n (suc k) = omega (arith, made_count f (n + 1) k)

@@ -1,5 +1,5 @@
 -- A tree by its top and its parts.
-use Rattle.std.proofs.Common.{◌≡◌, ◌+◌, ◌<◌, ◌≤◌, ℕ, Bool, true, false, ◌&&◌, nat_le, List, [], ◌∷◌, ◌++◌, refl, sym}
+use Rattle.std.proofs.Common.{◌≡◌, ◌+◌, ◌<◌, ℕ, Bool, true, false, ◌&&◌, nat_le, List, [], ◌∷◌, ◌++◌, refl, sym}
 use Rattle.std.proofs.Common.{ap, ◌∙◌, arith}
 use Rattle.std.specs.Prelude.{sum_by}
 use Rattle.std.specs.List.{list_all}
@@ -135,11 +135,3 @@ too_long below t whole code over is =
     let much : 65520 < code_size whole = omega (arith, over, is, sum_by-append nodes_size below (t ∷ []), own_size t) in
     let test : nat_le (code_size whole) 65520 ≡ false = grind (arith, nat_tests, much) in
     ap (λ b. every is_fine whole && b) test ∙ and_false (every is_fine whole)
-
--- nothing left to see
-pub all_seen : (whole : Tree) (code : ℕ) → all_fine [] ≡ every is_fine whole → left_size code [] ≡ code_size whole
-    → code ≤ 65520 → has_shape whole ≡ true
-all_seen whole code fine is within =
-    let test : nat_le (code_size whole) 65520 ≡ true =
-    (let most : code_size whole ≤ 65520 = omega (arith, is, within) in grind (arith, nat_tests, most)) in
-    rw (sym fine, test) refl

@@ -14,7 +14,6 @@ use Rattle.grid_address.specs.declared.reading.Progress.TheVariants.{Nothing, Le
 use Rattle.grid_address.specs.Address.{address_of, column_name, decimal}
 use Rattle.grid_address.specs.Place.{InSheet, Place}
 use Rattle.grid_address.specs.Progress.{first_digit, later_digit, next_of, second_letter, whole_cell, IsFront, IsRead}
-use Rattle.grid_address.specs.Progress.{IsRowOfSheet}
 use Rattle.grid_address.specs.Reading.{Begins, IsAddress, SpellsCell, StopsAt}
 use Rattle.grid_address.proofs.Decimals.{decimal_more, decimal_one}
 
@@ -467,13 +466,6 @@ pub reads_on : (s t : Progress) (bytes : List ℕ) (at : ℕ) → at < length by
 reads_on s t bytes at inside is e =
     subst (IsRead t) (sym (take_more bytes at 0 inside)) (goes_on s t (get_or bytes at 0) (take at bytes) e is)
 
-pub row_of_sheet : (s : Progress) (xs : List ℕ) → IsRead s xs → IsRowOfSheet s
-row_of_sheet Nothing xs is = tt
-row_of_sheet (Letter c) xs is = tt
-row_of_sheet (Column c) xs is = tt
-row_of_sheet (Row c n) xs is = (is.1, is.2, is.3)
-
--- with the byte behind the front no address begins
 pub front_ends : (s : Progress) (bytes : List ℕ) (end : ℕ) → IsFront bytes s end → end < length bytes
     → BeginsAddress (take end bytes ++ get_or bytes end 0 ∷ []) → ⊥
 front_ends s bytes end front inside b = ends s (get_or bytes end 0) (take end bytes) (front.ends inside) front.read b

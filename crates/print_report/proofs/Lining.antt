@@ -58,18 +58,6 @@ pub margin_put : (out text : List ℕ) (left : ℕ) → (length text ≡ 0 → �
 margin_put out [] left some = absurd (some refl)
 margin_put out (b ∷ bs) left some = append_assoc out (replicate left 32) (b ∷ bs)
 
--- a whole line
-pub text_put : (out now next text : List ℕ) (left : ℕ) → now ≡ out ++ with_margin left text → next ≡ now ++ line_end
-    → next ≡ out ++ (with_margin left text ++ line_end)
-text_put out now next text left first second =
-    second ∙ ap (λ (l : List ℕ). l ++ line_end) first ∙ append_assoc out (with_margin left text) line_end
-
-pub no_text : (out text : List ℕ) (left : ℕ) → length text ≡ 0
-    → out ++ line_end ≡ out ++ (with_margin left text ++ line_end)
-no_text out [] left none = refl
-no_text out (b ∷ bs) left none = absurd (omega (arith, none))
-
--- one of the empty lines that are left
 pub line_put : (start all out : List ℕ) (count n : ℕ) → n < count → start ++ all ≡ out ++ empty_lines (count - n)
     → start ++ all ≡ (out ++ line_end) ++ empty_lines (count - (n + 1))
 line_put start all out count n less h =

@@ -1,9 +1,8 @@
 -- Parts of a line, byte by byte.
 use Rattle.std.proofs.Common.{◌≡◌, ℕ, suc, ◌+◌, ◌-◌, ◌≤◌, ◌<◌, List, [], ◌∷◌, ◌++◌, Option, length, take, drop, get_or}
 use Rattle.std.proofs.Common.{ap, sym, ◌∙◌, arith, inl, inr, append_assoc}
-use Rattle.std.specs.Prelude.{min}
 use Rattle.std.proofs.lemmas.Bool.{cases_lt}
-use Rattle.std.proofs.lemmas.List.{append-nil, drop_all, length-take, take-append-le, take-take, take_all, take_min}
+use Rattle.std.proofs.lemmas.List.{append-nil, drop_all, length-take, take-append-le, take-take, take_all}
 use Rattle.std.proofs.Math.Seq.{drop-cons}
 use Rattle.print_report.specs.Running.{filled, filled_in, part}
 
@@ -34,15 +33,6 @@ cut_twice n xs ys =
     ∙ ap (λ (k : ℕ). take n xs ++ take k ys) same
     ∙ sym (take-append n xs ys)
 
--- as much of a text as there is room for
-pub room_filled : (old text : List ℕ) (width k : ℕ) → length old ≤ width → k ≡ min (width - length old) (length text)
-    → old ++ take k text ≡ take width (old ++ text)
-room_filled old text width k within is =
-    ap (λ (n : ℕ). old ++ take n text) is ∙ ap (λ (l : List ℕ). old ++ l) (take_min (width - length old) text)
-    ∙ ap (λ (l : List ℕ). l ++ take (width - length old) text) (sym (take_all width old within))
-    ∙ sym (take-append width old text)
-
--- one byte of a text more
 pub byte_filled : (width number : ℕ) (day : Option ℕ) (text now next : List ℕ) (at d : ℕ) → at < length text
     → part width number day text ≡ take width (now ++ filled_in number day (drop at text))
     → next ≡ take width (now ++ filled number day (get_or text at d))

@@ -93,10 +93,6 @@ text_added width at line text short is =
 pub cut_filled : (text : List ℕ) → take 80 text ++ replicate (80 - length (take 80 text)) 32 ≡ padded 80 text
 cut_filled text = ap (λ (k : ℕ). take 80 text ++ replicate k 32) (omega (arith, length-take 80 text))
 
-pub filled_length : (width : ℕ) (text : List ℕ) → length text ≤ width → length (filled width text) ≡ width
-filled_length width text h = simp (length-append, length-replicate) (omega arith)
-
--- a text that fills a width leaves nothing
 pub none_left : (width : ℕ) (text : List ℕ) → length text ≤ width → drop width text ≡ []
 none_left zero [] h = refl
 none_left zero (x ∷ xs) h = absurd (omega (arith, h))

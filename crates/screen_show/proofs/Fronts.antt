@@ -1,34 +1,16 @@
 -- How far two lines differ, and what that makes of a patched line and of the counts.
-use Rattle.std.proofs.Common.{◌≡◌, ℕ, suc, ◌+◌, ◌<◌, ◌≤◌, true, false, List, [], ◌∷◌, ◌++◌, length, take, drop, get_or}
+use Rattle.std.proofs.Common.{◌≡◌, ℕ, suc, ◌+◌, ◌<◌, true, List, [], ◌∷◌, ◌++◌, length, take, drop, get_or}
 use Rattle.std.proofs.Common.{refl, ap, sym, ◌∙◌, arith, inl, inr, zero-add}
 use Rattle.std.specs.Prelude.{◌==◌}
-use Rattle.std.proofs.lemmas.List.{drop_more, drop_all, drop-take, take-append-drop, take-take}
-use Rattle.std.proofs.lemmas.Bool.{cases_Bool, eq-eqb, ne_eqb}
+use Rattle.std.proofs.lemmas.List.{drop_more, drop-take, take-append-drop, take-take}
+use Rattle.std.proofs.lemmas.Bool.{cases_Bool, eq-eqb}
 use Rattle.screen_show.specs.Changes.{patched_line, line_differences, line_runs, runs_after, differing_front}
-
-pub front_ends : (before after : List ℕ) (n : ℕ) → length before ≤ n
-    → differing_front (drop n before) (drop n after) ≡ 0
-front_ends before after n h = rw (drop_all n before h) refl
 
 pub front_stops : (before after : List ℕ) (n : ℕ) → n < length before → n < length after
     → get_or before n 0 ≡ get_or after n 0 → differing_front (drop n before) (drop n after) ≡ 0
 front_stops before after n h k same =
     let test : (get_or before n 0 == get_or after n 0) ≡ true = eq-eqb _ _ same in
     rw (drop_more before n 0 h, drop_more after n 0 k, test) refl
-
-pub front_goes_on : (before after : List ℕ) (n : ℕ) → n < length before → n < length after
-    → (get_or before n 0 ≡ get_or after n 0 → ⊥) →
-    n + 1 + differing_front (drop (n + 1) before) (drop (n + 1) after)
-    ≡ n + differing_front (drop n before) (drop n after)
-front_goes_on before after n h k apart =
-    let test : (get_or before n 0 == get_or after n 0) ≡ false = ne_eqb _ _ apart in
-    rw (drop_more before n 0 h, drop_more after n 0 k, test) (omega arith)
-
--- where two lists differ at a place, they differ from it on
-pub front_begins : (before after : List ℕ) (n : ℕ) → n < length before → n < length after
-    → (get_or before n 0 ≡ get_or after n 0 → ⊥) →
-    0 < differing_front (drop n before) (drop n after)
-front_begins before after n h k apart = omega (arith, front_goes_on before after n h k apart)
 
 take_apart : (n m : ℕ) (xs : List ℕ) → take (n + m) xs ≡ take n xs ++ take m (drop n xs)
 take_apart n m xs =

@@ -1,16 +1,15 @@
 -- One line that is sent, run by run.
 use Rattle.std.proofs.Common.{◌≡◌, ℕ, suc, zero, ◌+◌, ◌-◌, ◌^◌, ◌<◌, ◌≤◌, true, List, [], ◌∷◌, ◌++◌, length, take, drop}
-use Rattle.std.proofs.Common.{get_or, set, Option, Some, None, Ok, Err, refl, ap, sym, ◌∙◌, subst, arith, append_assoc}
+use Rattle.std.proofs.Common.{get_or, set, Option, Some, None, Ok, refl, ap, sym, ◌∙◌, subst, arith, append_assoc}
 use Rattle.std.proofs.Common.{length-append}
 use Rattle.std.specs.Prelude.{◌==◌}
 use Rattle.std.proofs.lemmas.Bool.{eq-eqb}
-use Rattle.std.proofs.lemmas.List.{append-nil, drop_all, drop_more, take_all, take_more, length-take-le, length-drop}
+use Rattle.std.proofs.lemmas.List.{drop_more, take_more, length-take-le, length-drop}
 use Rattle.std.proofs.lemmas.List.{set-get_or, get_or-set_same, set-set, take_at, drop_at, drop-drop}
-use Rattle.outside_world.specs.declared.faults.Failed.{Failed}
 use Rattle.screen_show.specs.Changes.{patched_line, line_differences, line_runs, differing_front}
 use Rattle.screen_show.specs.Display.{Shown, Puts, TellsSoundly, raised, with_bytes}
 use Rattle.screen_show.specs.Screen.{put_in_line}
-use Rattle.screen_show.specs.Lines.{SendsLine, HasSentLine}
+use Rattle.screen_show.specs.Lines.{SendsLine}
 use Rattle.screen_show.proofs.Fronts.{front_stops, run_line, run_count, run_differences, same_first}
 
 -- the changes before a column were put, and the rest of the line gives those that are left
@@ -48,9 +47,6 @@ line_starts row before after (Some s) h sound = record {
   puts_in = sound.puts;
   bytes_in = sound.bytes_put;
 }
-
-raised_twice : (n a b : ℕ) → raised (raised n a) b ≡ raised n (a + b)
-raised_twice n a b = omega arith
 
 module _ (row col : ℕ) (before after : List ℕ) (wide_before : length before ≡ 80) (wide_after : length after ≡ 80) where
   same_lengths : length (drop col before) ≡ length (drop col after)
@@ -163,38 +159,6 @@ module _ (row col : ℕ) (before after : List ℕ) (wide_before : length before 
       (sym (put ∙ ap (λ (b : List ℕ). Some (with_bytes row col b t)) piece))
       (run_put s t n is more below (omega (arith, sound.screen.lines)) on)
 
-  pub line_fails : (was then now : Option Shown) (bytes : List ℕ) (f : Failed) → Puts row col bytes then now (Err f)
-      → SendingLine row col before after was then → SendsLine row before after was now (Err f)
-  line_fails None None now bytes f put on = put
-  line_fails None (Some t) now bytes f put on = absurd cc
-  line_fails (Some s) None now bytes f put on = absurd on
-  line_fails (Some s) (Some t) now bytes f put on = rw (put.1) (on.frames, on.closes)
-
-  line_done : (s t : Shown) → 80 ≤ col → OnLine row col before after s t → HasSentLine row before after s t
-  line_done s t past on =
-      let before_none : drop col before ≡ [] = drop_all col before (omega arith) in
-      let whole : on.now ≡ patched_line before after (get_or s.screen row []) =
-      sym (append-nil on.now) ∙ ap (λ (l : List ℕ). l ++ []) (sym (take_all col on.now (omega (arith, on.wide))))
-      ∙ (rw before_none at on.line) in
-      record {
-        screen = on.screen ∙ ap (λ (l : List ℕ). set s.screen row l) whole;
-        frames = on.frames;
-        closes = on.closes;
-        puts =
-            (let all : raised t.puts 0 ≡ raised s.puts (line_runs before after) = rw before_none at on.puts in
-            omega (arith, on.puts_in, all));
-        bytes_put =
-            (let all : raised t.bytes_put 0 ≡ raised s.bytes_put (line_differences before after) =
-            rw before_none at on.bytes_put in omega (arith, on.bytes_in, all));
-      }
-
-  pub line_ends : (was now : Option Shown) (u : Unit {0}) → 80 ≤ col → SendingLine row col before after was now
-      → SendsLine row before after was now (Ok u)
-  line_ends None now u past on = on
-  line_ends (Some s) None u past on = on
-  line_ends (Some s) (Some t) u past on = line_done s t past on
-
--- a stretch in which the lines are equal
 pub line_stretch : (n row col : ℕ) (before after : List ℕ) (was now : Option Shown) → length before ≡ 80
     → length after ≡ 80 → col + n ≤ 80 →
     take n (drop col before) ≡ take n (drop col after) → SendingLine row col before after was now

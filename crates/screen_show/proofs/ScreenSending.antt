@@ -152,15 +152,6 @@ module _ (lines : List Bool) (before after : List (List ℕ)) (before_shape : Is
       subst (λ (m : ℕ). SendingScreen m before after was now) there
       (lines_passed (next - row) row was now (omega arith) (λ k h g. passed k h (omega arith)) on)
 
-pub screen_fails : (row : ℕ) (before after : List (List ℕ)) (b a : List ℕ) (was then now : Option Shown) (f : Failed)
-    → SendsLine row b a then now (Err f) → SendingScreen row before after was then → Sends before after was now (Err f)
-screen_fails row before after b a None None now f sent on = sent
-screen_fails row before after b a None (Some t) now f sent on = absurd cc
-screen_fails row before after b a (Some s) None now f sent on = absurd on
-screen_fails row before after b a (Some s) (Some t) None f sent on = absurd sent
-screen_fails row before after b a (Some s) (Some t) (Some u) f sent on = (sent.0 ∙ on.frames, sent.1 ∙ on.closes)
-
--- a line that agreed is patched to the new one
 line_agrees : (before after line : List ℕ) → length before ≡ length after → length line ≡ length after
     → AgreesInLine before after line → patched_line before after line ≡ after
 line_agrees [] [] line h k agrees = refl

@@ -8,11 +8,6 @@ use Rattle.outside_world.specs.Keys.{first_byte, later_bytes, TakesByte}
 use Rattle.sheet_listing.specs.Ending.{MOST_READ, Reads}
 use Rattle.sheet_listing.specs.inner.Reading.{HasNone, IsSplit, TookOne}
 
--- before the first one
-pub none_read : (all : Option (List ℕ)) → IsSplit all [] all
-none_read None = refl
-none_read (Some bytes) = (bytes, refl, refl)
-
 next_of : (byte : ℕ) (bytes rest : List ℕ) → Some byte ≡ first_byte rest →
     (bytes ++ byte ∷ []) ++ later_bytes rest ≡ bytes ++ rest
 next_of byte bytes [] same = absurd cc

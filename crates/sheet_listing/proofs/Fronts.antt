@@ -4,8 +4,7 @@ use Rattle.std.specs.Prelude.{Option, Some, None, Result, Ok, Err, OnErr}
 use Rattle.std.proofs.lemmas.List.{take-append-drop}
 use Rattle.outside_world.specs.Notes.{AddsBytes}
 use Rattle.outside_world.specs.declared.faults.Failed.{Failed}
-use Rattle.sheet_listing.specs.Waiting.{added, HasFailed, IsFront}
-use Rattle.sheet_listing.specs.declared.writing.WriteFault.{WriteFault}
+use Rattle.sheet_listing.specs.Waiting.{added, IsFront}
 
 -- more behind what is there
 pub added_on : (before : Option (List ℕ)) (a b : List ℕ) → added (added before a) b ≡ added before (a ++ b)
@@ -74,11 +73,6 @@ pub front_written : (bytes items : List ℕ) (before now : Option (List ℕ)) (f
     AddsBytes bytes before now (Err fault) → bytes ≡ items → IsFront now (added before items)
 front_written bytes items before now fault adds is = subst (λ (l : List ℕ). IsFront now (added before l)) is
     (front_added bytes before now fault adds)
-
--- the faults are those since the beginning, where none came before
-pub failed_since : (start before now : ℕ) (result : Result Unit WriteFault) → before ≡ start →
-    HasFailed before now result → HasFailed start now result
-failed_since start before now result same failed = subst (λ (n : ℕ). HasFailed n now result) same failed
 
 in_four : (first s k a b : List ℕ) → first ≡ s ++ k → (first ++ a) ++ b ≡ s ++ (k ++ (a ++ b))
 in_four first s k a b is = ap (λ (l : List ℕ). (l ++ a) ++ b) is ∙ append_assoc (s ++ k) a b ∙ append_assoc s k (a ++ b)

@@ -116,16 +116,6 @@ put_first : {K X : Type 0} {R : K → K → Ordering} (m : FinMap R X) (o : Opti
 put_first m None es = refl
 put_first m (Some e) es = refl
 
--- one cell more is put
-pub one_put : (shift : Shift) (m : Cells) (now next : Grid) (p : Place) (rest more : List Place) → more ≡ p ∷ rest
-    → next ≡ record now { cells = put_all now.cells (cons_option (entry_at shift m p) []) }
-    → put_all_at shift m next rest ≡ put_all_at shift m now more
-one_put shift m now next p rest more here is =
-    ap (λ (g : Grid). put_all_at shift m g rest) is ∙ ap (λ (l : Cells). record now { cells = l })
-    (put_first now.cells (entry_at shift m p) (filter_map (entry_at shift m) rest)
-    ∙ ap (λ l. put_all now.cells (filter_map (entry_at shift m) l)) (sym here))
-
--- what a map holds at all its places is put
 pub cells_put_at : (shift : Shift) → IsShift shift → (m : Cells) → AreHeld m → (into : Grid) (cells : List Place)
     → into.cells ≡ empty → cells ≡ picked any_state whole (entries m)
     → put_all_at shift m into cells ≡ record into { cells = cells_after shift m }
