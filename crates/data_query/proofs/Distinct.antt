@@ -8,6 +8,7 @@ use Rattle.std.proofs.lemmas.List.Folds.{list_any-append}
 use Rattle.std.proofs.lemmas.Bool.{and_parts, false≢true}
 use Rattle.std.proofs.lemmas.Bool.Decides.{Decides-int_eq}
 use Rattle.std.proofs.lemmas.Slice.Eq.{bytes_eq-Decides}
+use Rattle.std.proofs.Math.Bool.{or-true}
 use Rattle.grid_address.specs.Place.{Place}
 use Rattle.formula_tree.specs.Values.{same_value}
 use Rattle.formula_tree.specs.declared.value.Value.{Value}
@@ -86,16 +87,12 @@ module _ (same : ℕ → ℕ → Bool) where
       (without_repeats same rows))
 
   module _ (agree : (a b x : ℕ) → same a b ≡ true → same a x ≡ same b x) where
-    or_true : (b : Bool) → (b || true) ≡ true
-    or_true true = refl
-    or_true false = refl
-
     spread_one : (kept : List ℕ) (k row x : ℕ) (b : Bool) → same k row ≡ b → among (k ∷ kept) row ≡ true
         → same row x ≡ true → (among kept row ≡ true → among kept x ≡ true) → among (k ∷ kept) x ≡ true
     spread_one kept k row x true first is_among is_same others =
         ap (λ c. c || among kept x) (agree k row x first ∙ is_same)
     spread_one kept k row x false first is_among is_same others =
-        ap (λ c. same k x || c) (others (ap (λ c. c || among kept row) (sym first) ∙ is_among)) ∙ or_true (same k x)
+        ap (λ c. same k x || c) (others (ap (λ c. c || among kept row) (sym first) ∙ is_among)) ∙ or-true (same k x)
 
     -- what is the same as a record that is among these is among them
     spread : (kept : List ℕ) (row x : ℕ) → among kept row ≡ true → same row x ≡ true → among kept x ≡ true

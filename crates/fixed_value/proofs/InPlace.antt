@@ -9,7 +9,7 @@ use Rattle.fixed_value.specs.Standing.{Stands}
 use Rattle.fixed_value.specs.Written.{fixed_digits, pointed, without_zeros}
 use Rattle.fixed_value.proofs.LastDigits.{below_len, by_ten, more_digits, one_digit, one_more, smaller}
 use Rattle.fixed_value.proofs.Places.{power_positive, quotient_is}
-use Rattle.fixed_value.proofs.Written.{fixed_digits_length}
+use Rattle.fixed_value.proofs.Written.{fixed_digits_length, pointed_more}
 
 -- fronts that are the same have the same shorter fronts
 front_shorter : (n m : ℕ) (xs ys : List ℕ) → n ≤ m → take m xs ≡ take m ys → take n xs ≡ take n ys
@@ -146,17 +146,12 @@ one_placed first end count number initial from left bytes new room is below more
     (placing_goes_on first end count number initial from left bytes new more p
     (subst (λ (d : ℕ). Stands ((48 + d) ∷ []) (from - 1) from bytes new) digit s))
 
--- a point and places
-pub pointed_is : (ds : List ℕ) → 0 < length ds → pointed ds ≡ 46 ∷ ds
-pointed_is [] some = absurd (omega (arith, some))
-pointed_is (d ∷ ds) some = refl
-
 -- there is room for the places and the point
 pub places_room : (places number end : ℕ) → 0 < places → length (pointed (fixed_digits places number)) ≤ end
     → places + 1 ≤ end
 places_room places number end some room =
     let digits : length (fixed_digits places number) ≡ places = fixed_digits_length places number in
-    omega (arith, room, digits, ap length (pointed_is (fixed_digits places number) (omega (arith, some, digits))))
+    omega (arith, room, digits, ap length (pointed_more (fixed_digits places number) (omega (arith, some, digits))))
 
 pub places_stand : (places number end taken : ℕ) (old now new : List ℕ) → 0 < places → taken ≡ places
     → Stands (fixed_digits places number) (end - places) end old now →
@@ -166,7 +161,7 @@ places_stand places number end taken old now new some is digits point =
     let digits_here : Stands (fixed_digits places number) (end - taken) end old now =
     subst (λ (k : ℕ). Stands (fixed_digits places number) (end - k) end old now) (sym is) digits in
     subst (λ (text : List ℕ). Stands text (end - taken - 1) end old new)
-    (sym (pointed_is (fixed_digits places number) (omega (arith, some, fixed_digits_length places number))))
+    (sym (pointed_more (fixed_digits places number) (omega (arith, some, fixed_digits_length places number))))
     (stands_more (46 ∷ []) (fixed_digits places number) (end - taken - 1) (end - taken) end old now new point
     digits_here)
 

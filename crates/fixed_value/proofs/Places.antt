@@ -11,6 +11,7 @@ use Rattle.std.proofs.lemmas.Bool.{and_parts, cases_Bool}
 use Rattle.std.proofs.lemmas.Bool.Decides.{nat_tests}
 use Rattle.std.proofs.lemmas.List.{take_more, take-append-drop}
 use Rattle.std.proofs.lemmas.List.Folds.{list_all-append}
+use Rattle.std.proofs.lemmas.List.Sums.{fold-append}
 use Rattle.fixed_value.specs.declared.decimal.Decimal.TheVariants.{Num, TooLarge}
 use Rattle.fixed_value.specs.Decimals.{digit_more, fraction_of, number_of, whole_digits}
 use Rattle.fixed_value.specs.Numbers.{nearest, signed}
@@ -44,15 +45,11 @@ folded_on n (d ∷ ds) =
     ∙ ap (λ k. n * k + ((0 * 10 + (d - 48)) * p + f)) (sym (ten_more (length ds)))
     ∙ ap (λ k. n * 10 ^ suc (length ds) + k) (sym (folded_on (0 * 10 + (d - 48)) ds))
 
-fold-append : (n : ℕ) (xs ys : List ℕ) → fold digit_more n (xs ++ ys) ≡ fold digit_more (fold digit_more n xs) ys
-fold-append n [] ys = refl
-fold-append n (x ∷ xs) ys = fold-append (digit_more n x) xs ys
-
 pub number_of-append : (xs ys : List ℕ) → number_of (xs ++ ys) ≡ number_of xs * 10 ^ length ys + number_of ys
-number_of-append xs ys = fold-append 0 xs ys ∙ folded_on (number_of xs) ys
+number_of-append xs ys = fold-append digit_more 0 xs ys ∙ folded_on (number_of xs) ys
 
 pub number_of-more : (xs : List ℕ) (d : ℕ) → number_of (xs ++ d ∷ []) ≡ number_of xs * 10 + (d - 48)
-number_of-more xs d = fold-append 0 xs (d ∷ [])
+number_of-more xs d = fold-append digit_more 0 xs (d ∷ [])
 
 -- the exact fraction, from the number before the point and one digit more behind it
 pub fraction_rounded : (w f p : ℕ) → 0 < p

@@ -104,11 +104,11 @@ read_signed false whole places h all later =
 pub nearest_exact : (a d : ℕ) → 0 < d → nearest (a * d) d ≡ a
 nearest_exact a d h = quotient_is (2 * d) a (2 * (a * d) + d) (omega arith) (omega arith) (omega arith)
 
-pointed_more : (ds : List ℕ) → 0 < length ds → pointed ds ≡ 46 ∷ ds
+pub pointed_more : (ds : List ℕ) → 0 < length ds → pointed ds ≡ 46 ∷ ds
 pointed_more [] h = absurd (omega arith)
 pointed_more (d ∷ ds) h = refl
 
-plus_size : (k : ℕ) → int_lt (pos k) (pos 0) ≡ false
+pub plus_size : (k : ℕ) → int_lt (pos k) (pos 0) ≡ false
 plus_size k = grind (arith, ints)
 
 -- the sign that is written with a size in units of the last place

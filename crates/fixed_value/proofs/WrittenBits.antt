@@ -2,12 +2,11 @@
 use Rattle.std.proofs.Common.{◌≡◌, ℕ, suc, ◌+◌, ◌-◌, ◌*◌, ◌/◌, ◌%◌, ◌^◌, ◌≤◌, ◌<◌, max, true, false, refl, ap, ◌∙◌}
 use Rattle.std.proofs.Common.{arith, inl, inr}
 use Rattle.std.proofs.Math.Nat.{pow-le-pow_right}
-use Rattle.std.specs.Int.RustNames.{int_lt}
 use Rattle.std.specs.Prelude.{◌==◌, nat_le, nat_lt, ℤ, pos, negsuc, nat_abs}
 use Rattle.std.proofs.lemmas.Bool.{cases_Bool}
 use Rattle.std.proofs.lemmas.Bool.Decides.{nat_tests}
-use Rattle.std.proofs.lemmas.Int.{ints}
 use Rattle.std.proofs.lemmas.Nat.{pow-add}
+use Rattle.fixed_value.proofs.Written.{plus_size}
 use Rattle.fixed_value.specs.declared.doubles.DoubleRead.TheVariants.{Num}
 use Rattle.fixed_value.specs.Doubles.{double_of, exponent_of, fraction_bits, has_minus, nearest_even, sign_bit, size_by}
 use Rattle.fixed_value.specs.Doubles.{IsWritten}
@@ -72,9 +71,6 @@ size_below : (m e : ℕ) → e ≤ 1075 → size_by m e ≡ nearest (m * 1000000
 size_below m e h =
     let none : e - 1075 ≡ 0 = omega arith in
     ap (λ x. nearest x (2 ^ (1075 - e))) (ap (λ k. m * 1000000 * 2 ^ k) none ∙ omega arith)
-
-plus_size : (k : ℕ) → int_lt (pos k) (pos 0) ≡ false
-plus_size k = grind (arith, ints)
 
 -- the parts of the bits, and the size that they have
 record Split (v : ℤ) (bits : ℕ) : Type 0 where

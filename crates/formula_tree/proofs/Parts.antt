@@ -6,6 +6,7 @@ use Rattle.std.specs.List.{list_all}
 use Rattle.std.proofs.lemmas.Bool.Decides.{nat_tests}
 use Rattle.std.proofs.lemmas.List.Folds.{list_all-append}
 use Rattle.std.proofs.lemmas.List.Sums.{sum_by-append}
+use Rattle.std.proofs.Math.Bool.{and-false}
 use Rattle.formula_tree.specs.Tree.{Tree, num, str, cell, span, group, neg, not, binary, call, Trees, no_trees, trees}
 use Rattle.formula_tree.specs.Nodes.{all_nodes, listed_parts, nodes, parts}
 use Rattle.formula_tree.specs.Shape.{all_sizes, code_size, every, every_one, has_shape, is_fine, node_size, nodes_size}
@@ -124,14 +125,10 @@ pub as_long : (below : List Tree) (t : Tree) (code : ℕ)
 as_long below t code =
     omega (arith, sum_by-append nodes_size below (parts t), sum_by-append nodes_size below (t ∷ []), own_size t)
 
-and_false : (a : Bool) → (a && false) ≡ false
-and_false true = refl
-and_false false = refl
-
 -- too much code
 pub too_long : (below : List Tree) (t whole : Tree) (code : ℕ) → 65520 < code + node_size t
     → left_size code (below ++ t ∷ []) ≡ code_size whole → has_shape whole ≡ false
 too_long below t whole code over is =
     let much : 65520 < code_size whole = omega (arith, over, is, sum_by-append nodes_size below (t ∷ []), own_size t) in
     let test : nat_le (code_size whole) 65520 ≡ false = grind (arith, nat_tests, much) in
-    ap (λ b. every is_fine whole && b) test ∙ and_false (every is_fine whole)
+    ap (λ b. every is_fine whole && b) test ∙ and-false (every is_fine whole)

@@ -9,6 +9,8 @@ use Rattle.std.proofs.lemmas.Bool.{and_parts, cases_Bool}
 use Rattle.std.proofs.lemmas.Bool.Decides.{nat_tests}
 use Rattle.std.proofs.lemmas.List.{append-nil, map-append, take_all, take_more}
 use Rattle.std.proofs.lemmas.List.Folds.{list_all-append}
+use Rattle.std.proofs.lemmas.List.Sums.{fold-append}
+use Rattle.grid_address.proofs.Written.{decimal_digits}
 use Rattle.grid_address.specs.declared.reading.Progress.{Progress}
 use Rattle.grid_address.specs.declared.reading.Progress.TheVariants.{Nothing, Letter, Column, Row}
 use Rattle.grid_address.specs.Address.{address_of, column_name, decimal}
@@ -27,10 +29,6 @@ digit_more n b = n * 10 + (b - 48)
 grows : (n : ℕ) (ds : List ℕ) → n ≤ fold digit_more n ds
 grows n [] = omega arith
 grows n (d ∷ ds) = omega (arith, grows (n * 10 + (d - 48)) ds)
-
-fold-append : (n : ℕ) (xs ys : List ℕ) → fold digit_more n (xs ++ ys) ≡ fold digit_more (fold digit_more n xs) ys
-fold-append n [] ys = refl
-fold-append n (x ∷ xs) ys = fold-append (digit_more n x) xs ys
 
 -- a row's number: its digits stand for it, and begin with 1 to 9
 record IsNumber (n : ℕ) : Type 0 where
@@ -64,7 +62,8 @@ number_upto (suc k) n below more = elim (cases_Bool (nat_lt n 10)) [
         from = before.from;
         upto = before.upto;
         stands =
-            ap (fold digit_more 0) (decimal_more n large) ∙ fold-append 0 (decimal (n / 10)) ((48 + n % 10) ∷ [])
+            ap (fold digit_more 0) (decimal_more n large)
+            ∙ fold-append digit_more 0 (decimal (n / 10)) ((48 + n % 10) ∷ [])
             ∙ ap (λ m. m * 10 + ((48 + n % 10) - 48)) before.stands
             ∙ (let e : n / 10 * 10 + ((48 + n % 10) - 48) ≡ n = omega arith in e);
       })
@@ -73,27 +72,15 @@ number_upto (suc k) n below more = elim (cases_Bool (nat_lt n 10)) [
 number : (n : ℕ) → 0 < n → IsNumber n
 number n more = number_upto n n (omega arith) more
 
-pub all_upto : (k n : ℕ) → n ≤ k → list_all is_ascii_digit (decimal n) ≡ true
-all_upto zero n below = ap (λ m. list_all is_ascii_digit (decimal m)) (let e : n ≡ 0 = omega arith in e)
-all_upto (suc k) n below =
-    let last : is_ascii_digit (48 + n % 10) ≡ true = grind (arith, nat_tests) in
-    elim (cases_Bool (nat_lt n 10)) [
-      | inl one ↦ ap (list_all is_ascii_digit) (decimal_one n (grind (arith, nat_tests, one))) ∙ rw last refl
-      | inr other ↦ (let large : 10 ≤ n = grind (arith, nat_tests, other) in
-          ap (list_all is_ascii_digit) (decimal_more n large)
-          ∙ list_all-append is_ascii_digit (decimal (n / 10)) ((48 + n % 10) ∷ [])
-          ∙ rw (all_upto k (n / 10) (omega arith), last) refl)
-    ]
-
 -- a number whose digits go on with a byte: it is a digit, and the number is as large
 goes_far : (m n b : ℕ) (rest : List ℕ) → 0 < n → decimal m ≡ decimal n ++ b ∷ rest → 0 < m
     → (is_ascii_digit b ≡ true) × (n * 10 + (b - 48) ≤ m)
 goes_far m n b rest more is large =
     let all : (list_all is_ascii_digit (decimal n) && (is_ascii_digit b && list_all is_ascii_digit rest)) ≡ true =
     sym (list_all-append is_ascii_digit (decimal n) (b ∷ rest)) ∙ ap (list_all is_ascii_digit) (sym is)
-    ∙ all_upto m m (omega arith) in
+    ∙ decimal_digits m in
     let stands : m ≡ fold digit_more (n * 10 + (b - 48)) rest =
-    sym (number m large).stands ∙ ap (fold digit_more 0) is ∙ fold-append 0 (decimal n) (b ∷ rest)
+    sym (number m large).stands ∙ ap (fold digit_more 0) is ∙ fold-append digit_more 0 (decimal n) (b ∷ rest)
     ∙ ap (λ k. fold digit_more k (b ∷ rest)) (number n more).stands in (
       (and_parts (is_ascii_digit b) (list_all is_ascii_digit rest)
           (and_parts (list_all is_ascii_digit (decimal n)) (is_ascii_digit b && list_all is_ascii_digit rest) all).1).0,

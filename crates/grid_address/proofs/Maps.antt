@@ -25,7 +25,8 @@ less_of Less h = refl
 less_of Equal h = absurd h
 less_of Greater h = absurd h
 
-both_parts : (a b : Bool) → T (a && b) → T a × T b
+-- two tests that hold
+pub both_parts : (a b : Bool) → T (a && b) → T a × T b
 both_parts true b h = (tt, h)
 both_parts false b h = absurd h
 

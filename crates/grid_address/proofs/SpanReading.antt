@@ -10,13 +10,14 @@ use Rattle.std.proofs.lemmas.Bool.Decides.{nat_tests}
 use Rattle.std.proofs.lemmas.List.{drop-drop, length-drop, take-append-drop, take_all, take_more}
 use Rattle.std.proofs.lemmas.List.Folds.{list_all-append}
 use Rattle.std.proofs.Math.Seq.{take-add}
+use Rattle.grid_address.proofs.Written.{decimal_digits}
 use Rattle.grid_address.specs.declared.reading.Progress.{Progress}
 use Rattle.grid_address.specs.declared.reading.Progress.TheVariants.{Nothing, Letter, Column, Row}
 use Rattle.grid_address.specs.Address.{column_name, decimal}
 use Rattle.grid_address.specs.Place.{spanned, Place}
 use Rattle.grid_address.specs.Progress.{count_dots, whole_cell, IsFront, IsRead}
 use Rattle.grid_address.specs.Reading.{AreDots, Begins, IsAddress, IsSpan, SpellsCell, SpellsSpan, StopsAt}
-use Rattle.grid_address.proofs.AddressReading.{all_upto, begun, front_ends, one_letter, two_letters, unfinished}
+use Rattle.grid_address.proofs.AddressReading.{begun, front_ends, one_letter, two_letters, unfinished}
 use Rattle.grid_address.proofs.AddressReading.{BeginsAddress}
 
 abbrev is_past_dot : ℕ → Bool
@@ -48,7 +49,7 @@ column_no_dot c = elim (cases_Bool (nat_lt c 26)) [
 number_no_dot : (c n : ℕ) → list_all is_past_dot (column_name c ++ decimal n) ≡ true
 number_no_dot c n =
     list_all-append is_past_dot (column_name c) (decimal n)
-    ∙ rw (column_no_dot c, digits_no_dot (decimal n) (all_upto n n (omega arith))) refl
+    ∙ rw (column_no_dot c, digits_no_dot (decimal n) (decimal_digits n)) refl
 
 address_no_dot : (p : Place) (xs : List ℕ) → SpellsCell xs p → no_dot xs ≡ true
 address_no_dot p xs is = ap (list_all is_past_dot) is.0 ∙ number_no_dot p.col (p.row + 1)

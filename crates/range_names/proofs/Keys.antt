@@ -6,7 +6,7 @@ use Rattle.std.specs.Prelude.{min, replicate, set}
 use Rattle.std.proofs.lemmas.List.{length-map, length-take-le, map-append, take_min}
 use Rattle.std.proofs.lemmas.List.{take_more}
 use Rattle.std.proofs.Math.Nat.{min_comm}
-use Rattle.std.proofs.Math.Seq.{drop-cons, set-append_seam}
+use Rattle.std.proofs.Math.Seq.{set-append_seam}
 use Rattle.range_names.specs.Names.{name_in}
 
 -- the first bytes of a name, folded, and zeros
@@ -31,11 +31,6 @@ filled name key at b inside fits is folds =
     (sym (ap (map to_ascii_uppercase) (take_more name at 0 inside)
     ∙ map-append to_ascii_uppercase (take at name) (get_or name at 0 ∷ [])))
     ∙ ap (λ k. map to_ascii_uppercase (take (at + 1) name) ++ replicate k 0) left
-
-split_at : (bytes : List ℕ) (at : ℕ) → at < length bytes → drop at bytes ≡ get_or bytes at 0 ∷ drop (at + 1) bytes
-split_at bytes at inside =
-    drop-cons bytes at 0 inside
-    ∙ ap (λ k. get_or bytes at 0 ∷ drop k bytes) (let e : suc at ≡ at + 1 = omega arith in e)
 
 -- so far no zero
 abbrev pub IsNamed : List ℕ → ℕ → Type 0

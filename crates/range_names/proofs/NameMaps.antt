@@ -25,9 +25,6 @@ if_ok P e = subst (λ r. IfErr r P) (sym e) tt
 pub if_err : {T E : Type 0} (P : E → Type 0) {r : Result T E} {f : E} → r ≡ Err f → P f → IfErr r P
 if_err P e p = subst (λ r. IfErr r P) (sym e) p
 
-pub some_is_none : {X : Type 0} {x : X} → Some x ≡ None → ⊥
-some_is_none e = absurd cc
-
 pub if_none : {X : Type 0} (r : Option X) (P Q : Type 0) → (P → Q) → IfNone r P → IfNone r Q
 if_none None P Q f h = f h
 if_none (Some x) P Q f h = h

@@ -15,10 +15,13 @@ use Rattle.std.specs.Cmp.Lexicographic.{nat_list_cmp_total}
 use Rattle.std.proofs.lemmas.Bool.{and_parts, cases_Bool}
 use Rattle.std.proofs.lemmas.Bool.Decides.{nat_tests}
 use Rattle.std.proofs.lemmas.List.{length-map}
+use Rattle.std.proofs.lemmas.Option.{same_Some, none-some}
+use Rattle.std.proofs.lemmas.Str.Ascii.{uppercase-uppercase}
+use Rattle.grid_address.proofs.Maps.{equal_of, both_parts}
 use Rattle.grid_address.specs.Place.{Extent}
 use Rattle.range_names.specs.declared.fault.NameFault.{NameFault}
 use Rattle.range_names.specs.declared.fault.NameFault.TheVariants.{Empty, TooLong}
-use Rattle.range_names.proofs.NameMaps.{names_exact, some_is_none}
+use Rattle.range_names.proofs.NameMaps.{names_exact}
 use Rattle.range_names.specs.Names.{bad_byte, bad_place, fault_of, key_of, is_plain, name_cmp, name_in, name_of_span}
 use Rattle.range_names.specs.Names.{named, same_extent, AreKeys, IsKey, NameMap}
 
@@ -28,9 +31,6 @@ Filled name = position (λ b. nat_lt b 32) name ≡ None
 
 no_zero : (b : ℕ) → nat_lt b 32 ≡ false → (to_ascii_uppercase b == 0) ≡ false
 no_zero b h = grind (arith, nat_tests)
-
-folded_twice : (b : ℕ) → to_ascii_uppercase (to_ascii_uppercase b) ≡ to_ascii_uppercase b
-folded_twice b = grind (arith, nat_tests)
 
 not_some : {X : Type 0} (c : Bool) (x : X) → cond c (Some x) None ≡ None → c ≡ false
 not_some true x h = cc
@@ -69,7 +69,7 @@ name_back (b ∷ bs) n h =
 
 all_twice : (name : List ℕ) → map to_ascii_uppercase (map to_ascii_uppercase name) ≡ map to_ascii_uppercase name
 all_twice [] = refl
-all_twice (b ∷ bs) = λ i. folded_twice b i ∷ all_twice bs i
+all_twice (b ∷ bs) = λ i. uppercase-uppercase b i ∷ all_twice bs i
 
 no_fault : (a b : Bool) (place : Option ℕ) → cond a (Some Empty) (cond b (Some TooLong) (bad_byte place)) ≡ None
     → (b ≡ false) × (place ≡ None)
@@ -163,18 +163,6 @@ same_is s t h =
     let four : s.last.col ≡ t.last.col = grind (arith, nat_tests, h) in
     λ i. record { first = record { row = one i; col = two i }; last = record { row = three i; col = four i } }
 
-equal : (o : Ordering) → is_eq o ≡ true → o ≡ Equal
-equal Less h = cc
-equal Equal h = refl
-equal Greater h = cc
-
-some_is : {X : Type 0} (x y : X) → Some x ≡ Some y → x ≡ y
-some_is x y h = cc
-
-parted : (a b : Bool) → T (a && b) → T a × T b
-parted true b h = (tt, h)
-parted false b h = absurd h
-
 record IsEntry (es : List (List ℕ × Extent)) (span : Extent) (name : List ℕ) : Type 0 where
   key : List ℕ
   found : find name_cmp key es ≡ Some span
@@ -187,7 +175,7 @@ entry_of [] span name s h = absurd cc
 entry_of (e ∷ es) span name s h = elim (cases_Bool (same_extent e.1 span && is_plain (name_in e.0))) [
   | inl same ↦
       (let is : name_in e.0 ≡ name =
-      some_is _ _ (sym (ap (λ c. cond c (Some (name_in e.0)) (named span es)) same) ∙ h) in record {
+      same_Some _ _ (sym (ap (λ c. cond c (Some (name_in e.0)) (named span es)) same) ∙ h) in record {
         key = e.0;
         found =
             ap (λ c. cond c (Some e.1) (find name_cmp e.0 es)) (ap is_eq (tied_itself nat_list_cmp_total e.0))
@@ -196,7 +184,7 @@ entry_of (e ∷ es) span name s h = elim (cases_Bool (same_extent e.1 span && is
         plain = ap is_plain (sym is) ∙ (and_parts _ _ same).1;
       })
   | inr other ↦ (
-      let order = parted (below_all name_cmp e.0 es) (is_sorted name_cmp es) s in
+      let order = both_parts (below_all name_cmp e.0 es) (is_sorted name_cmp es) s in
       let more =
       entry_of es span name order.1 (sym (ap (λ c. cond c (Some (name_in e.0)) (named span es)) other) ∙ h) in record {
         key = more.key;
@@ -210,9 +198,9 @@ entry_of (e ∷ es) span name s h = elim (cases_Bool (same_extent e.1 span && is
         → T (below_all name_cmp e.0 es) → find name_cmp key es ≡ Some span → find name_cmp key (e ∷ es) ≡ Some span
     other_key e es span key below found = elim (cases_Bool (eq_by_cmp name_cmp key e.0)) [
       | inl same ↦
-          absurd (some_is_none (sym found
-          ∙ sym (find_tied name_cmp nat_list_cmp_total key e.0 (equal (name_cmp key e.0) same) es)
-          ∙ first_none e.0 es below))
+          absurd (none-some _ (sym (first_none e.0 es below)
+          ∙ find_tied name_cmp nat_list_cmp_total key e.0 (equal_of (name_cmp key e.0) same) es
+          ∙ found))
       | inr apart ↦ ap (λ c. cond c (Some e.1) (find name_cmp key es)) apart ∙ found
     ]
 
@@ -235,7 +223,7 @@ finds names span name keyed h =
 
 -- what stays keyed
 pub none_keyed : AreKeys empty
-none_keyed key span h = absurd (some_is_none (sym h ∙ get-empty name_cmp key))
+none_keyed key span h = absurd (none-some _ (sym (get-empty name_cmp key) ∙ h))
 
 put_key : (c : Bool) (key other : List ℕ) (span : Extent) (old : Option Extent) (found : Extent)
     → (c ≡ true → key ≡ other) → IsKey other → (old ≡ Some found → IsKey key) → cond c (Some span) old ≡ Some found
@@ -247,11 +235,11 @@ pub put_keyed : (names : NameMap) (key : List ℕ) (span : Extent) → AreKeys n
     → AreKeys (insert names key span)
 put_keyed names key span keyed is q found h =
     put_key (eq_by_cmp name_cmp q key) q key span (get names q) found
-    (λ e. names_exact q key (equal (name_cmp q key) e)) is (keyed q found)
+    (λ e. names_exact q key (equal_of (name_cmp q key) e)) is (keyed q found)
     (sym (get-insert nat_list_cmp_total names key span q) ∙ h)
 
 took_key : (c : Bool) (old : Option Extent) (found : Extent) → cond c None old ≡ Some found → old ≡ Some found
-took_key true old found h = absurd (some_is_none (sym h))
+took_key true old found h = absurd (none-some _ h)
 took_key false old found h = h
 
 pub removed_keyed : (names : NameMap) (key : List ℕ) → AreKeys names → AreKeys (remove names key)

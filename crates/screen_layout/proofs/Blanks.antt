@@ -1,12 +1,7 @@
 -- A line whose rest is blank.
 use Rattle.std.proofs.Common.{◌≡◌, ℕ, ◌+◌, ◌-◌, ◌≤◌, List, ◌++◌, take, drop, replicate, ap, sym, ◌∙◌, arith}
-use Rattle.std.proofs.lemmas.List.{drop-replicate, take-replicate, drop-drop, take-append-drop, drop-take, take-take}
-
-take_on : (n m : ℕ) (xs : List ℕ) → take (n + m) xs ≡ take n xs ++ take m (drop n xs)
-take_on n m xs =
-    sym (take-append-drop n (take (n + m) xs))
-    ∙ ap (λ (l : List ℕ). l ++ drop n (take (n + m) xs)) (take-take n (n + m) xs (omega arith))
-    ∙ ap (λ (l : List ℕ). take n xs ++ l) (drop-take n m xs)
+use Rattle.std.proofs.lemmas.List.{drop-replicate, take-replicate, drop-drop}
+use Rattle.list_lemmas.proofs.Takes.{take-add}
 
 -- from a later column on the rest is blank too
 pub later_blank : (from column : ℕ) (xs : List ℕ) → from ≤ column → column ≤ 80
@@ -24,7 +19,7 @@ longer_by_blanks from column xs up within blank =
     let on : from + (column - from) ≡ column = omega arith in
     let blanks : take (column - from) (drop from xs) ≡ replicate (column - from) 32 =
     ap (take (column - from)) blank ∙ take-replicate (column - from) (80 - from) 32 (omega arith) in
-    ap (λ n. take n xs) (sym on) ∙ take_on from (column - from) xs ∙ ap (λ (l : List ℕ). take from xs ++ l) blanks
+    ap (λ n. take n xs) (sym on) ∙ take-add from (column - from) xs ∙ ap (λ (l : List ℕ). take from xs ++ l) blanks
 
 -- a part of what is blank
 pub blank_part : (from end : ℕ) (xs : List ℕ) → from ≤ end → end ≤ 80 → drop from xs ≡ replicate (80 - from) 32

@@ -3,43 +3,17 @@ use Rattle.std.proofs.Common.{◌≡◌, ℕ, zero, suc, ◌+◌, ◌-◌, ◌�
 use Rattle.std.proofs.Common.{refl, ap, sym, ◌∙◌, arith, inl, inr, length-append, append_assoc}
 use Rattle.std.specs.Prelude.{min}
 use Rattle.std.proofs.lemmas.Bool.{cases_lt}
-use Rattle.std.proofs.lemmas.List.{append-nil, length-take, length-replicate, take-append-le, take-replicate}
+use Rattle.std.proofs.lemmas.List.{append-nil, length-take, length-replicate, take-replicate}
 use Rattle.std.proofs.lemmas.List.{take-append-drop, take-take, take_all}
+use Rattle.list_lemmas.proofs.Takes.{take-append}
 use Rattle.shown_cells.specs.Cells.{padded, shown_byte}
 use Rattle.screen_layout.specs.Lines.{filled, shown_line}
-
-take_past : (xs ys : List ℕ) (n : ℕ) → take (length xs + n) (xs ++ ys) ≡ xs ++ take n ys
-take_past [] ys n = ap (λ (k : ℕ). take k ys) (omega arith)
-take_past (x ∷ xs) ys n =
-    let next : suc (length xs) + n ≡ suc (length xs + n) = omega arith in
-    ap (λ (k : ℕ). take k (x ∷ xs ++ ys)) next ∙ ap (λ (l : List ℕ). x ∷ l) (take_past xs ys n)
-
-pub take-append : (n : ℕ) (xs ys : List ℕ) → take n (xs ++ ys) ≡ take n xs ++ take (n - length xs) ys
-take-append n xs ys = elim (cases_lt n (length xs)) [
-  | inl less ↦
-      let all : n - length xs ≡ 0 = omega arith in
-      rw (take-append-le n xs ys (omega arith), all) (sym (append-nil (take n xs)))
-  | inr more ↦
-      let split : take (length xs + (n - length xs)) (xs ++ ys) ≡ xs ++ take (n - length xs) ys =
-      take_past xs ys (n - length xs) in
-      let same : length xs + (n - length xs) ≡ n = omega arith in
-      rw same at split ∙ ap (λ (l : List ℕ). l ++ take (n - length xs) ys) (sym (take_all n xs more))
-]
 
 -- a text is added up to a column, behind what was added up to it
 pub added : (n : ℕ) (xs ys : List ℕ) → take n xs ++ take (n - length (take n xs)) ys ≡ take n (xs ++ ys)
 added n xs ys =
     let same : n - length (take n xs) ≡ n - length xs = omega (arith, length-take n xs) in
     ap (λ (k : ℕ). take n xs ++ take k ys) same ∙ sym (take-append n xs ys)
-
--- what is cut at the end may be cut on the way
-pub cut_twice : (n : ℕ) (xs ys : List ℕ) → take n (take n xs ++ ys) ≡ take n (xs ++ ys)
-cut_twice n xs ys =
-    let same : n - length (take n xs) ≡ n - length xs = omega (arith, length-take n xs) in
-    take-append n (take n xs) ys
-    ∙ ap (λ (l : List ℕ). l ++ take (n - length (take n xs)) ys) (take-take n n xs (omega arith))
-    ∙ ap (λ (k : ℕ). take n xs ++ take k ys) same
-    ∙ sym (take-append n xs ys)
 
 pub take_run : (n m b : ℕ) → take n (replicate m b) ≡ replicate (min n m) b
 take_run n m b = elim (cases_lt m n) [
@@ -92,12 +66,6 @@ text_added width at line text short is =
 -- a line that was cut is filled
 pub cut_filled : (text : List ℕ) → take 80 text ++ replicate (80 - length (take 80 text)) 32 ≡ padded 80 text
 cut_filled text = ap (λ (k : ℕ). take 80 text ++ replicate k 32) (omega (arith, length-take 80 text))
-
-pub none_left : (width : ℕ) (text : List ℕ) → length text ≤ width → drop width text ≡ []
-none_left zero [] h = refl
-none_left zero (x ∷ xs) h = absurd (omega (arith, h))
-none_left (suc n) [] h = refl
-none_left (suc n) (x ∷ xs) h = none_left n xs (omega (arith, h))
 
 -- a text that fills its width is added to a line that has room for it
 pub whole_added : (width : ℕ) (line shown : List ℕ) → length line + width ≤ 80 → length shown ≡ width

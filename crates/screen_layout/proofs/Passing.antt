@@ -3,11 +3,11 @@ use Rattle.std.proofs.Common.{◌≡◌, ℕ, ◌≤◌, List, [], ◌∷◌, �
 use Rattle.std.proofs.Common.{append_assoc, arith}
 use Rattle.std.specs.Prelude.{unwrap_or}
 use Rattle.std.proofs.lemmas.List.{append-nil, length-take, take_all}
+use Rattle.list_lemmas.proofs.Takes.{take-take-append}
 use Rattle.screen_layout.specs.Columns.{beside, column_text}
 use Rattle.shown_cells.specs.Cells.{padded}
 use Rattle.screen_layout.specs.declared.shown_columns.Column.{Column}
 use Rattle.work_sheet.specs.Seen.{Sheet}
-use Rattle.screen_layout.proofs.Cuts.{cut_twice}
 
 beside_none : (s : Sheet) (row : Option ℕ) (over : List ℕ) → beside s row [] over ≡ []
 unfolding beside
@@ -38,7 +38,7 @@ one_painted s row whole x xs line over line' over' p is left =
     record {
       goes_on = ap (λ (l : List ℕ). take 80 (l ++ beside s row xs over')) is
           ∙ ap (λ (o : List ℕ). take 80 (take 80 (line ++ padded x.width text) ++ beside s row xs o)) left
-          ∙ cut_twice 80 (line ++ padded x.width text) later
+          ∙ take-take-append 80 (line ++ padded x.width text) later
           ∙ ap (take 80) (append_assoc line (padded x.width text) later)
           ∙ ap (λ (l : List ℕ). take 80 (line ++ l)) (sym (beside_more s row x xs over)) ∙ p.goes_on;
       short = omega (arith, ap length is, length-take 80 (line ++ padded x.width text));

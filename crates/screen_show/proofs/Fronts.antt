@@ -2,8 +2,9 @@
 use Rattle.std.proofs.Common.{◌≡◌, ℕ, suc, ◌+◌, ◌<◌, true, List, [], ◌∷◌, ◌++◌, length, take, drop, get_or}
 use Rattle.std.proofs.Common.{refl, ap, sym, ◌∙◌, arith, inl, inr, zero-add}
 use Rattle.std.specs.Prelude.{◌==◌}
-use Rattle.std.proofs.lemmas.List.{drop_more, drop-take, take-append-drop, take-take}
+use Rattle.std.proofs.lemmas.List.{drop_more}
 use Rattle.std.proofs.lemmas.Bool.{cases_Bool, eq-eqb}
+use Rattle.list_lemmas.proofs.Takes.{take-add}
 use Rattle.screen_show.specs.Changes.{patched_line, line_differences, line_runs, runs_after, differing_front}
 
 pub front_stops : (before after : List ℕ) (n : ℕ) → n < length before → n < length after
@@ -12,18 +13,12 @@ front_stops before after n h k same =
     let test : (get_or before n 0 == get_or after n 0) ≡ true = eq-eqb _ _ same in
     rw (drop_more before n 0 h, drop_more after n 0 k, test) refl
 
-take_apart : (n m : ℕ) (xs : List ℕ) → take (n + m) xs ≡ take n xs ++ take m (drop n xs)
-take_apart n m xs =
-    sym (take-append-drop n (take (n + m) xs))
-    ∙ ap (λ (l : List ℕ). l ++ drop n (take (n + m) xs)) (take-take n (n + m) xs (omega arith))
-    ∙ ap (λ (l : List ℕ). take n xs ++ l) (drop-take n m xs)
-
 -- two lists that begin alike, and go on alike
 pub take_further : (n m : ℕ) (xs ys : List ℕ) → take n xs ≡ take n ys → take m (drop n xs) ≡ take m (drop n ys)
     → take (n + m) xs ≡ take (n + m) ys
 take_further n m xs ys first more =
-    take_apart n m xs ∙ ap (λ (l : List ℕ). l ++ take m (drop n xs)) first ∙ ap (λ (l : List ℕ). take n ys ++ l) more
-    ∙ sym (take_apart n m ys)
+    take-add n m xs ∙ ap (λ (l : List ℕ). l ++ take m (drop n xs)) first ∙ ap (λ (l : List ℕ). take n ys ++ l) more
+    ∙ sym (take-add n m ys)
 
 pub run_line : (before after line : List ℕ) → length before ≡ length after → length line ≡ length after →
     patched_line before after line

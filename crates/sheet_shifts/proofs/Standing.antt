@@ -6,6 +6,7 @@ use Rattle.std.specs.List.{cons_option, filter_map}
 use Rattle.std.specs.Ordering.{eq_by_cmp, is_eq}
 use Rattle.std.proofs.Common.{sym, ◌∙◌, ap, inl, inr}
 use Rattle.std.proofs.lemmas.Bool.{cases_Bool, true≢false}
+use Rattle.std.proofs.lemmas.Option.{same_Some}
 use Rattle.grid_address.proofs.Places.{cells_exact, cells_total}
 use Rattle.grid_address.specs.Place.{place_cmp, InSheet, Place}
 use Rattle.sheet_store.specs.Grid.{AreHeld, Cells}
@@ -16,9 +17,6 @@ use Rattle.sheet_shifts.specs.declared.shift.Shift.{Shift}
 use Rattle.sheet_shifts.proofs.Apart.{shift_apart}
 use Rattle.sheet_shifts.proofs.Listed.{all_held, AreAllHeld}
 use Rattle.sheet_shifts.proofs.Maps.{entries_apart, first_found, found_later, same_key, AreApart}
-
-some_is : {X : Type 0} {x y : X} → Some x ≡ Some y → x ≡ y
-some_is e = cc
 
 tied : (c : Place) → eq_by_cmp place_cmp c c ≡ true
 tied c = ap is_eq (tied_itself cells_total c)
@@ -39,7 +37,7 @@ module _ (shift : Shift) (is : IsShift shift) where
   stands (e ∷ es) held p here s inside h goes = elim (cases_Bool (eq_by_cmp place_cmp p e.0)) [
     | inl same ↦ (
         let at : p ≡ e.0 = same_key cells_exact p e.0 same in
-        let holds : e.1 ≡ s = some_is (sym (ap (λ b. cond b (Some e.1) (find place_cmp p es)) same) ∙ h) in
+        let holds : e.1 ≡ s = same_Some _ _ (sym (ap (λ b. cond b (Some e.1) (find place_cmp p es)) same) ∙ h) in
         ap (λ o. find place_cmp here (cons_option (state_at shift e o) (filter_map (entry_after shift) es)))
         (ap (place_after shift) (sym at) ∙ goes)
         ∙ ap (λ b. cond b (Some (state_after shift e.0 here e.1))
@@ -90,7 +88,7 @@ module _ (shift : Shift) (is : IsShift shift) where
         | inl same ↦ (
             let at : here ≡ x = same_key cells_exact here x same in
             let holds : state_after shift e.0 x e.1 ≡ t =
-            some_is (sym (ap (λ b. cond b (Some (state_after shift e.0 x e.1))
+            same_Some _ _ (sym (ap (λ b. cond b (Some (state_after shift e.0 x e.1))
             (find place_cmp here (filter_map (entry_after shift) es))) same) ∙ k) in
             record {
               place = e.0;

@@ -1,7 +1,7 @@
 use Rattle.std.proofs.Common.{ℕ, ◌-◌, ◌++◌, List, take, drop, replicate, ap, ◌∙◌, arith}
-use Rattle.std.proofs.lemmas.List.{drop_min}
+use Rattle.std.proofs.lemmas.List.{drop_min, take_rest}
 use Rattle.shown_cells.specs.Cells.{padded}
-use Rattle.print_report.proofs.Cutting.{text_added, whole_rest}
+use Rattle.print_report.proofs.Cutting.{text_added}
 use Rattle.print_report.proofs.cells.add_text.Goals as goal
 
 pub returns-clause-line : goal.returns-clause-line
@@ -14,5 +14,5 @@ returns-clause-line c =
 
 pub returns-clause-rest : goal.returns-clause-rest
 returns-clause-rest c =
-    whole_rest c.args.text.now c.min-shown.result ∙ ap (λ (k : ℕ). drop k c.args.text.now) c.min-shown.ensures
+    take_rest c.args.text.now c.min-shown.result ∙ ap (λ (k : ℕ). drop k c.args.text.now) c.min-shown.ensures
     ∙ drop_min c.from-width.result c.args.text.now ∙ ap (λ (k : ℕ). drop k c.args.text.now) c.from-width.ensures

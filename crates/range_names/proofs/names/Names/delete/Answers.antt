@@ -1,9 +1,10 @@
 use Rattle.std.proofs.Common.{ap, sym, subst, ◌∙◌, inr, refl}
+use Rattle.std.proofs.lemmas.Option.{none-some}
 use Rattle.std.specs.FinMap.{get, remove}
 use Rattle.range_names.specs.Names.{AreKeys}
 use Rattle.range_names.proofs.Named.{removed_keyed}
 use Rattle.grid_address.proofs.Maps.{get_entries, removed}
-use Rattle.range_names.proofs.NameMaps.{if_err, if_ok, names_exact, names_total, on_err, on_ok, some_is_none}
+use Rattle.range_names.proofs.NameMaps.{if_err, if_ok, names_exact, names_total, on_err, on_ok}
 use Rattle.range_names.proofs.names.Names.delete.Goals as goal
 use Rattle.range_names.proofs.names.Names.delete.Goals.{in-Some, in-None}
 
@@ -25,7 +26,7 @@ returns-clause-there c =
     c.remove.ensures.value ∙ sym (get_entries names_total c.self.inside.map.entries c.in_ok-key.key)
     ∙ ap (λ m. get m c.in_ok-key.key) c.self.view_is ∙ ap (get c.args.self.now) c.in_ok-key.ensures.ok.1 in
     elim c.match-remove.branch [
-      | in-Some w ↦ on_ok _ w.result-is (λ none. some_is_none (sym w.in-Some.is ∙ found ∙ none))
+      | in-Some w ↦ on_ok _ w.result-is (λ none. none-some _ (sym none ∙ sym found ∙ w.in-Some.is))
       | in-None w ↦ on_err _ w.result-is
     ]
 
