@@ -11,6 +11,16 @@ right_by p n = record p { col = p.col + n }
 abbrev pub down_by : Place → ℕ → Place
 down_by p n = record p { row = p.row + n }
 
+-- a place that is put together so many columns on, and so many rows
+pub right_place : (row col from n : ℕ) (first : Place) → ◌≡◌ {A = Place} (record { row = row; col = col }) first
+    → from ≡ col → ◌≡◌ {A = Place} (record { row = row; col = from + n }) (right_by first n)
+right_place row col from n first is begun =
+    ap (λ k. record { row = row; col = k + n }) begun ∙ ap (λ (p : Place). right_by p n) is
+
+pub down_place : (row col n : ℕ) (first : Place) → ◌≡◌ {A = Place} (record { row = row; col = col }) first
+    → ◌≡◌ {A = Place} (record { row = row + n; col = col }) (down_by first n)
+down_place row col n first is = ap (λ (p : Place). down_by p n) is
+
 module _ (test : Place → Bool) where
   row_some : (n : ℕ) (p : Place) → 0 < n
       → first_in_row test n p ≡ cond (test p) (Some p) (first_in_row test (n - 1) (right_by p 1))
