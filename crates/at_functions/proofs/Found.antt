@@ -62,6 +62,7 @@ stands what text k within h =
 begins : (what text : List ℕ) (k : ℕ) → StandsAt what text k → starts what (drop k text) ≡ true
 begins what text k is = starts_with what (drop k text) (omega (arith, is.within, length-drop k text)) is.same
 
+-- the first place is what is found
 pub found_at : (what text : List ℕ) (from at : ℕ) → IsFirstPlace what text from at → found what text from ≡ Some at
 found_at what text from at is =
     let test : nat_le from (length text) ≡ true =
@@ -80,6 +81,7 @@ found_at what text from at is =
     rw test (first_found what (drop from text) from (at - from)
     (omega (arith, length-drop from text, is.stands.within)) here before ∙ ap Some same)
 
+-- where there is no place, nothing is found
 pub found_nowhere : (what text : List ℕ) (from : ℕ) → IsNoPlace what text from → found what text from ≡ None
 found_nowhere what text from none = elim (cases_Bool (nat_le from (length text))) [
   | inl within ↦

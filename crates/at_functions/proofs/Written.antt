@@ -11,9 +11,11 @@ use Rattle.std.proofs.Math.Nat.{mul-le-mul_right}
 use Rattle.fixed_value.specs.Written.{fixed_digits, minus_sign, pointed, scaled, without_zeros, written}
 use Rattle.at_functions.specs.Texts.{again}
 
+-- the byte is none below the blank
 abbrev pub Large : ℕ → Type 0
 Large b = 32 ≤ b
 
+-- no byte is below the blank
 abbrev pub AllLarge : List ℕ → Type 0
 AllLarge = All Large
 
@@ -39,6 +41,7 @@ sign_large : (minus : Bool) → AllLarge (minus_sign minus)
 sign_large true = All-cons Large 45 [] (omega arith) (All-nil Large)
 sign_large false = All-nil Large
 
+-- a number is written in such bytes
 pub written_large : (v : ℤ) (places : ℕ) → AllLarge (written v places)
 written_large v places =
     let ds : List ℕ = fixed_digits (10 + places) (scaled v places) in
@@ -60,14 +63,17 @@ again_more (suc n) text =
     ap (λ k. again k text) more ∙ ap (λ (l : List ℕ). text ++ l) (again_more n text)
     ∙ sym (append_assoc text (again n text) text)
 
+-- a text so many times is so many times as long
 pub again_length : (n : ℕ) (text : List ℕ) → length (again n text) ≡ n * length text
 again_length zero text = omega arith
 again_length (suc n) text = omega (arith, length-append text (again n text), again_length n text)
 
+-- an empty text so many times is empty
 pub again_nothing : (n : ℕ) (text : List ℕ) → text ≡ [] → [] ≡ again n text
 again_nothing zero text none = refl
 again_nothing (suc n) text none = again_nothing n text none ∙ sym (ap (λ (l : List ℕ). l ++ again n text) none)
 
+-- a text in such bytes stays so, however often it stands
 pub again_large : (n : ℕ) (text : List ℕ) → AllLarge text → AllLarge (again n text)
 again_large zero text h = All-nil Large
 again_large (suc n) text h = All-append Large text (again n text) h (again_large n text h)

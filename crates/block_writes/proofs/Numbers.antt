@@ -7,9 +7,11 @@ use Rattle.grid_address.specs.Place.{Extent, Place}
 use Rattle.block_writes.specs.Writing.{at, down, numbers_from, rows_of}
 pub use Rattle.range_lines.proofs.Numbers.{numbers_more}
 
+-- the cells down one more row
 pub down_more : (col n k : ℕ) → down col (numbers_from n (k + 1)) ≡ down col (numbers_from n k) ++ at (n + k) col ∷ []
 down_more col n k = ap (down col) (numbers_more n k) ∙ map-append (λ row. at row col) (numbers_from n k) ((n + k) ∷ [])
 
+-- the cells down one more column
 pub columns_more : (s : Extent) (n k : ℕ)
     → flat_map (λ col. down col (rows_of s)) (numbers_from n (k + 1))
     ≡ flat_map (λ col. down col (rows_of s)) (numbers_from n k) ++ down (n + k) (rows_of s)

@@ -24,6 +24,7 @@ one_less (suc p) room v h more =
 abbrev pub tried : ℕ → ℤ → ℕ → Option (List ℕ)
 tried places v room = if nat_le (length (written v places)) room then Some (short v places) else None
 
+-- a try that fits is the number as it fits
 pub tried_fits : (places room : ℕ) (v : ℤ) (text : Option (List ℕ)) → text ≡ tried places v room → is_some text ≡ true
     → text ≡ fitting places v room
 tried_fits places room v text is some = elim (cases_Bool (nat_le (length (written v places)) room)) [
@@ -33,6 +34,7 @@ tried_fits places room v text is some = elim (cases_Bool (nat_le (length (writte
       let both : true ≡ false = sym some ∙ ap (λ (t : Option (List ℕ)). is_some t) is ∙ no in cc)
 ]
 
+-- one that doesn't leaves it to one place fewer
 pub tried_more : (places room : ℕ) (v : ℤ) (text : Option (List ℕ)) → text ≡ tried places v room → is_some text ≡ false
     → fitting (places - 1) v room ≡ fitting places v room
 tried_more zero room v text is none = refl
@@ -48,13 +50,16 @@ abbrev pub fitting_below : ℕ → ℤ → ℕ → Option (List ℕ)
 fitting_below zero v room = None
 fitting_below (suc places) v room = fitting places v room
 
+-- the most places are those below one more
 pub up_to : (most room : ℕ) (v : ℤ) → fitting_below (most + 1) v room ≡ fitting most v room
 up_to most room v = (let more : most + 1 ≡ suc most = omega arith in ap (λ k. fitting_below k v room) more)
 
+-- the most places that fit are the ones that are asked for
 pub fits_here : (places room : ℕ) (v : ℤ) → length (written v places) ≤ room
     → Some (short v places) ≡ fitting_below (places + 1) v room
 fits_here places room v h = fits places room v h ∙ sym (up_to places room v)
 
+-- places that don't fit are passed over
 pub past_here : (places room : ℕ) (v : ℤ) → room < length (written v places)
     → fitting_below places v room ≡ fitting_below (places + 1) v room
 unfolding fitting

@@ -6,15 +6,18 @@ use Rattle.std.proofs.Math.Nat.{min_comm}
 use Rattle.cell_format.specs.Labels.{at_left, masked, repeated}
 use Rattle.cell_format.specs.Numbers.{spaces}
 
+-- one more byte of a repeated text
 pub repeated_more : (text : List ℕ) (width : ℕ)
     → repeated text (width + 1) ≡ repeated text width ++ get_or text (width % length text) 32 ∷ []
 unfolding repeated
 repeated_more text width = (let more : width + 1 ≡ suc width = omega arith in ap (repeated text) more)
 
+-- in no width nothing is repeated
 pub none_repeated : (text line : List ℕ) → line ≡ line ++ repeated text 0
 unfolding repeated
 none_repeated text line = sym (append-nil line)
 
+-- a text that is cut, with blanks behind it, stands at the left
 pub left_is : (bytes line : List ℕ) (width len : ℕ) → len ≡ min (length bytes) width
     → (line ++ map masked (take len bytes)) ++ spaces (width - len) ≡ line ++ at_left (map masked bytes) width
 left_is bytes line width len is =

@@ -80,11 +80,13 @@ label_in_width : (prefix : LabelPrefix) (bytes : List ℕ) (width : ℕ) → len
 unfolding shown_label
 label_in_width prefix bytes width = aligned_width prefix (map masked bytes) width
 
+-- a shown number fills its width
 pub number_width : (line new : List ℕ) (v : ℤ) (format width : ℕ) → new ≡ line ++ shown_number v format width
     → length new ≡ length line + width
 number_width line new v format width is =
     omega (arith, ap length is, length-append line (shown_number v format width), number_in_width v format width)
 
+-- a shown label fills its width
 pub label_width : (line new : List ℕ) (prefix : LabelPrefix) (bytes : List ℕ) (width : ℕ)
     → new ≡ line ++ shown_label prefix bytes width → length new ≡ length line + width
 label_width line new prefix bytes width is =

@@ -75,6 +75,7 @@ module _ (p : Place → Bool) where
       ap (λ b. cond b (x ∷ filter p xs) (filter p xs)) (h x (or_left _ _ (same_place_itself x)))
       ∙ none_pass xs (λ c k. h c (or_right _ _ k))
 
+  -- where no cell passes, none is the first that does
   pub none_first : (cells : List Place) → ((c : Place) → has same_place cells c ≡ true → p c ≡ false) →
       first_in_order (filter p cells) ≡ None
   none_first cells h = ap first_in_order (none_pass cells h)

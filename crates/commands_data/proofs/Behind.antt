@@ -90,6 +90,7 @@ here : (c p : Place) (x : Content) (h k : Place → Content) → same_place p c 
     → with_content c x h p ≡ with_content c x k p
 here c p x h k t = ap (λ (b : Bool). cond b x (h p)) t ∙ sym (ap (λ (b : Bool). cond b x (k p)) t)
 
+-- another cell's content doesn't change
 pub there : (c p : Place) (x : Content) (h : Place → Content) → same_place p c ≡ false → with_content c x h p ≡ h p
 there c p x h f = ap (λ (b : Bool). cond b x (h p)) f
 

@@ -25,6 +25,7 @@ use Rattle.work_sheet.specs.Editing.{all_written}
 use Rattle.work_sheet.specs.Seen.{of_worksheet}
 use Rattle.work_sheet.specs.Sheets.{Worksheet}
 
+-- an edit of one cell leaves all of the sheet but it
 pub entered_same : (c : Place) (x : Content) (a b : Worksheet) → DidEdit (with_content c x) a b → IsSameBut (just c) a b
 entered_same c x a b did = record {
   settings = ap (λ s. s.settings) (did 0).sheet;
@@ -67,6 +68,7 @@ entered_holds c x a b d did contents = λ i p.
     (same_content b.grid d.grid contents p ∙ ap (λ s. content_at s.grid p) (did 0).sheet
     ∙ content_put a.grid c (written_state a.grid c x) p) i
 
+-- what the cells hold behind a list of writes is what the list tells
 pub written_holds : (ws : List Write) (a b d : Worksheet) → DidEdit (all_written ws) a b → SameContents b.grid d.grid
     → content_at d.grid ≡ contents_behind ws (content_at a.grid)
 written_holds ws a b d did contents = λ i p.

@@ -52,6 +52,7 @@ keeps_held name held s t now is files = (
 keeps_all : (s t : OnShelf) (now : Option OnShelf) → now ≡ Some t → t.files ≡ s.files → KeepsOthers (Some s) now
 keeps_all s t now is files = (t, [], is, λ other apart. ap (λ (f : Files). file_in other f) files)
 
+-- a read leaves every file
 pub read_keeps : {A : Type 0} (told : Files → A) (name : List ℕ) (before now : Option OnShelf)
     (result : Result A ShelfFault) →
     HasRead told name before now result → KeepsOthers before now
@@ -60,6 +61,7 @@ read_keeps told name (Some s) now (Ok value) h = keeps_all s _ now h.1 refl
 read_keeps told name (Some s) now (Err Failed) h = keeps_all s _ now h refl
 read_keeps told name (Some s) now (Err Memory) h = keeps_all s _ now h refl
 
+-- a write leaves every other file
 pub put_keeps : (name bytes : List ℕ) (before now : Option OnShelf) (result : Result (Unit {0}) ShelfFault) →
     HasPut name bytes before now result → KeepsOthers before now
 put_keeps name bytes None now result h = h
@@ -67,6 +69,7 @@ put_keeps name bytes (Some s) now (Ok x) h = keeps_held name (Some bytes) s _ no
 put_keeps name bytes (Some s) now (Err Failed) h = keeps_held name h.0 s _ now h.1 refl
 put_keeps name bytes (Some s) now (Err Memory) h = keeps_held name h.0 s _ now h.1 refl
 
+-- a removal leaves every other file
 pub removed_keeps : (name : List ℕ) (before now : Option OnShelf) (result : Result Bool ShelfFault) →
     HasRemoved name before now result → KeepsOthers before now
 removed_keeps name None now result h = h
@@ -127,11 +130,13 @@ pub read_broken : {A : Type 0} (told : Files → A) (name : List ℕ) (before no
 read_broken told name before now m n result h c =
     record { told = read_keeps told name before now result h; faults = cause_later m n result c }
 
+-- a write that was broken off has its cause, and left the others
 pub put_broken : (name bytes : List ℕ) (before now : Option OnShelf) (m n : ℕ) (result : Result (Unit {0}) ShelfFault) →
     HasPut name bytes before now result → HasCause m n result → HasBrokenOff (shelf_view before m) (shelf_view now n)
 put_broken name bytes before now m n result h c =
     record { told = put_keeps name bytes before now result h; faults = cause_later m n result c }
 
+-- a removal that was broken off has its cause, and left the others
 pub removed_broken : (name : List ℕ) (before now : Option OnShelf) (m n : ℕ) (result : Result Bool ShelfFault) →
     HasRemoved name before now result → HasCause m n result → HasBrokenOff (shelf_view before m) (shelf_view now n)
 removed_broken name before now m n result h c =

@@ -47,6 +47,7 @@ refused_on : (e : CommandError) (came : CommandEnd) (v : declared.Desk) (n : ℕ
 refused_on e came v n is = record { end = is; desk = refl; work = refl }
 
 module _ (v : declared.Desk) (n : ℕ) (before now : ShelfView) where
+  -- a save whose call wrote the file is finished
   pub saved_over : (name bytes : List ℕ) (w : declared.Desk) →
       HasActedOn (saved_as name (of_desk v) written) Finished v w n n
       → HasCalled (puts name bytes) is_written true before now →
@@ -108,6 +109,7 @@ module _ (name bytes : List ℕ) (v : declared.Desk) (n : ℕ) (before now : She
     answered = placed.1;
   })
 
+  -- so is one whose sheet could be read back
   pub saved_so : (w : declared.Desk) → HasActedOn (saved_as name (of_desk v) written) Finished v w n n →
       IsPlaced name bytes place.Written before now →
       HasActedOver (λ r. put_readable name bytes r (saved_as name (of_desk v)) (of_desk v)) Finished v w n n before now
@@ -194,6 +196,7 @@ pub done_on : (done : Done) (v : declared.Desk) (new : Worksheet) (m n : ℕ) �
 done_on done v new m n did =
     record { end = refl; desk = ap (λ (s : Sheet). on_sheet (of_desk v) s) did.sheet; work = did.work }
 
+-- a command over the worksheet is one over the desk
 pub acted_on : (act : Sheet → Acted) (came : CommandEnd) (v : declared.Desk) (new : Worksheet) (m n : ℕ)
     → HasActedBy act came v.sheet new m n →
     HasActedOn (on_desk act (of_desk v)) came v (record v { sheet = new }) m n

@@ -26,11 +26,13 @@ module _ (k : Combining) (file : Grid) (scene : Scene) (v w : Worksheet) (m n : 
       HasActed (combined k file scene (of_worksheet v)) came v w m n
   by_test b is so = subst IsSo is so
 
+  -- where no cell leaves the sheet, the file's cells are written
   pub written_acts : false ≡ list_any (leaves_sheet k v.settings.pointer) (map.entries file.cells) →
       HasActed (written_in k file scene (of_worksheet v)) came v w m n
       → HasActed (combined k file scene (of_worksheet v)) came v w m n
   written_acts is acted = by_test false is acted
 
+-- where one does, the command is refused
 pub leaving_acts : (k : Combining) (file : Grid) (scene : Scene) (v : Worksheet) (n : ℕ) →
     true ≡ list_any (leaves_sheet k v.settings.pointer) (map.entries file.cells) →
     HasActed (combined k file scene (of_worksheet v)) (Refused (error.OutOfSheet (used_span file))) v v n n

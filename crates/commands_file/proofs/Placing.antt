@@ -115,5 +115,6 @@ module _ (k : Combining) (g : Grid) (pointer : Place) where
       (ascend_with (from_pointer pointer e.0) (write_of k g pointer e) (cells es) (writes_one e)
       (before_all e.0 es s.0) (all_ascend es s.1))
 
+  -- the combined cells come in their order, each once
   pub combined_ascend : (file : Grid) → Ascends (written_cells (combined_writes k file g pointer))
   combined_ascend file = all_ascend (map.entries file.cells) (entries_ordered cells_total cells_exact file.cells)

@@ -21,6 +21,7 @@ use Rattle.work_sheet.specs.Editing.{copied}
 use Rattle.work_sheet.specs.Seen.{of_worksheet}
 use Rattle.work_sheet.specs.Sheets.{Worksheet}
 
+-- what a copy comes to is what its edit was answered
 pub copy_acted : (target : Option Extent) (from : Extent) (scene : Scene) (v mid w : Worksheet) (m n : ℕ)
     (answer : Result (Unit {0}) SheetFault) (end : CommandEnd) → (target ≡ None → answer ≡ Err (fault.OutOfSheet from))
     →

@@ -38,5 +38,6 @@ module _ (l : Layout) (from target : Extent) (sight : Sight) where
   cells_are [] = refl
   cells_are (c ∷ cells) = ap (λ (t : List Place). c ∷ t) (cells_are cells)
 
+  -- the written values stand in the cells of the target
   pub written_are : written_cells (values_of l from target sight) ≡ cells_of target
   written_are = cells_are (cells_of target)

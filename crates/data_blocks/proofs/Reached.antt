@@ -77,6 +77,7 @@ module _ (step stop : ℤ) where
   without_number done next cells all is so_far =
       sym (append-nil done) ∙ ap (λ o. done ++ filled_from step stop o cells) (sym is) ∙ so_far
 
+  -- where no cell is left, all is written
   pub without_cell : (done : List Write) (next : Option ℤ) (cells : List Place) (all : List Write) → cells ≡ []
       → done ++ filled_from step stop next cells ≡ all → done ≡ all
   without_cell done next cells all is so_far =

@@ -52,6 +52,7 @@ module _ (values : Place → Value) (numbers : List ℤ) (r c h : ℕ) where
       ∷ counts m (h + 1 - (i + 1)) (h - (i + 1)) (Some (bin_of (values (at (r + i) c)))))
       (let e : r + i + 1 ≡ r + (i + 1) = omega arith in e)
 
+  -- one more share, and the bin that the next one begins behind
   pub left_step : (now new all : List Write) (i n : ℕ) (before : Option ℤ) (bin : ℤ) (w : Write) → i < h
       → bin ≡ bin_of (values (at (r + i) c)) → n ≡ count_by (is_in_bin before bin) numbers →
       w ≡ written (at (r + i) (c + 1)) (as_content (counted n)) → new ≡ now ++ w ∷ [] → now ++ left i before ≡ all

@@ -11,6 +11,7 @@ use Rattle.block_writes.specs.Writing.{at, down, numbers_from}
 abbrev pub row_of : Place → ℕ
 row_of p = p.row
 
+-- the cells down a column are in the rows that they were made of
 pub rows_back : (col : ℕ) (rows : List ℕ) → map row_of (down col rows) ≡ rows
 rows_back col [] = refl
 rows_back col (row ∷ rows) = ap (λ l. row ∷ l) (rows_back col rows)
@@ -28,6 +29,7 @@ filter_rows test (p ∷ ps) =
     kept_row (test p.row) p (filter test (map row_of ps)) (filter (λ (q : Place). test q.row) ps) (filter_rows test ps)
 
 module _ (lt : ℕ → ℕ → Bool) where
+  -- cells in order of their rows have rows in order
   pub rows_ordered : (cells : List Place) → IsSortedBy (λ (p : Place) (q : Place). lt p.row q.row) cells
       → IsSortedBy lt (map row_of cells)
   rows_ordered cells up = λ k d low high.
@@ -37,6 +39,7 @@ module _ (lt : ℕ → ℕ → Bool) where
       ∙ ap (λ r. lt (get_or cells (k + 1) (at d 0)).row r) (get_or-map row_of cells k (at d 0) d before)
       ∙ up k (at d 0) low inside
 
+  -- a stable order of cells is one of their rows
   pub rows_stable : (xs ys : List Place) → IsStableBy (λ (p : Place) (q : Place). lt p.row q.row) xs ys
       → IsStableBy lt (map row_of xs) (map row_of ys)
   rows_stable xs ys same =

@@ -52,9 +52,11 @@ made_at f n (suc k) (suc i) d h =
     let below : i < k = omega (arith, h) in
     let e : n + 1 + i ≡ n + suc i = omega arith in made_at f (n + 1) k i d below ∙ ap f e
 
+-- what is the same as a bench that is the same as another is the same as that
 pub same_both : (a b c : OnBench) → IsSameBench a b → IsSameBench b c → IsSameBench a c
 same_both a b c p q = record { guarded = q.guarded ∙ p.guarded; inputs = q.inputs ∙ p.inputs; kept = q.kept ∙ p.kept }
 
+-- a list that is made of so many numbers has so many items
 pub made_count : {X : Type 0} (f : ℕ → X) (n k : ℕ) → length (map f (numbers_from n k)) ≡ k
 made_count f n zero = refl
 made_count f n (suc k) = omega (arith, made_count f (n + 1) k)

@@ -27,6 +27,7 @@ module _ (w : Outlook) (input criterion : Extent) where
       → map row_of cells ≡ chosen w input criterion
   rows_chosen cells are = ap (map row_of) are ∙ rows_back input.first.col (chosen w input criterion)
 
+  -- without Unique all chosen rows are extracted
   pub all_rows : (unique : Bool) (fields : List OutputField) (cells : List Place)
       → cells ≡ map (λ row. at row input.first.col) (chosen w input criterion) → unique ≡ false
       → map row_of cells ≡ extracted_rows w input criterion unique fields
@@ -35,6 +36,7 @@ module _ (w : Outlook) (input criterion : Extent) where
       (λ (u : Bool). cond u (without_repeats (same_record w.sight fields) (chosen w input criterion))
       (chosen w input criterion)) (sym all)
 
+  -- with it those that differ from all before
   pub rows_that_differ : (unique : Bool) (fields : List OutputField) (kept slice cells : List Place)
       → map row_of kept ≡ without_repeats (same_record w.sight fields) (map row_of slice) → slice ≡ cells →
       cells ≡ map (λ row. at row input.first.col) (chosen w input criterion) → unique ≡ true
@@ -45,6 +47,7 @@ module _ (w : Outlook) (input criterion : Extent) where
       ∙ ap (λ (u : Bool). cond u (without_repeats (same_record w.sight fields) (chosen w input criterion))
       (chosen w input criterion)) (sym some)
 
+  -- there are at most as many as a sheet has rows below its first
   pub few_kept : (fields : List OutputField) (kept slice cells : List Place)
       → map row_of kept ≡ without_repeats (same_record w.sight fields) (map row_of slice) → slice ≡ cells →
       cells ≡ map (λ row. at row input.first.col) (chosen w input criterion) → input.last.row ≤ last_row

@@ -65,6 +65,7 @@ module _ (same : ℕ → ℕ → Bool) where
   abbrev pub to_come : List ℕ → List ℕ → List ℕ
   to_come kept rows = filter (λ row. not (among kept row)) (without_repeats same rows)
 
+  -- before the first row all that differ are to come
   pub at_start : (rows : List ℕ) → to_come [] rows ≡ without_repeats same rows
   at_start rows = all_pass (without_repeats same rows)
 

@@ -14,6 +14,7 @@ erased_across : (row : ℕ) (columns : List ℕ)
 erased_across row [] = refl
 erased_across row (col ∷ columns) = ap (λ l. erased (at row col) ∷ l) (erased_across row columns)
 
+-- one more erased cell of a row
 pub cell_more : (row n k : ℕ) (old now new : List Write) (w : Write)
     → now ≡ old ++ map erased (across row (numbers_from n k)) → w ≡ erased (at row (n + k)) → new ≡ now ++ w ∷ []
     → new ≡ old ++ map erased (across row (numbers_from n (k + 1)))
@@ -22,6 +23,7 @@ cell_more row n k old now new w so_far is more =
     (so_far ∙ ap (λ l. old ++ l) (erased_across row (numbers_from n k))) (more ∙ ap (λ x. now ++ x ∷ []) is)
     ∙ ap (λ l. old ++ l) (sym (erased_across row (numbers_from n (k + 1))))
 
+-- one more erased row
 pub row_more : (columns : List ℕ) (n k : ℕ) (old now new : List Write)
     → now ≡ old ++ rows_erased columns (numbers_from n k) → new ≡ now ++ map erased (across (n + k) columns)
     → new ≡ old ++ rows_erased columns (numbers_from n (k + 1))

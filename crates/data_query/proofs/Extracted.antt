@@ -34,6 +34,7 @@ pub found_as : (r e f : Result (List Write) QueryFault) → e ≡ f → IfOk r (
 found_as r e f same fact =
     subst (λ (x : Result (List Write) QueryFault). IfOk r (λ (l : List Write). x ≡ Ok l)) same fact
 
+-- a fault of what is told is a fault of what is told the same
 pub fault_as : (r e f : Result (List Write) QueryFault) → e ≡ f
     → IfErr r (λ (q : QueryFault). (q ≡ fault.Memory) ⊎ (e ≡ Err q))
     → IfErr r (λ (q : QueryFault). (q ≡ fault.Memory) ⊎ (f ≡ Err q))
@@ -50,6 +51,7 @@ module _ (sight : Sight) (output : Extent) (fields : List OutputField) (rows : L
       (lt-ltb (room_of output) (length rows) more)
       ∙ ap (λ (n : ℕ). Err (fault.OutputFull n)) (sym is)
 
+  -- where the rows have room, they are written
   pub enough : (writes : List Write) → length rows ≤ room_of output → writes ≡ output_written sight output fields rows
       → rows_extracted sight output fields rows ≡ Ok writes
   enough writes fewer is =
@@ -77,6 +79,7 @@ module _ (w : Outlook) (input criterion output : Extent) (unique : Bool) where
       ap (λ (r : Result (Unit {0}) QueryFault). result_and r
       (result_and {T = Unit {0}} (labelled w.sight input output tt) rest)) asks
 
+  -- an output without labels refuses the extraction
   pub not_labelled : (f : QueryFault) → asked {X = Unit {0}} w.sight input criterion tt ≡ Ok tt
       → labelled {X = Unit {0}} w.sight input output tt ≡ Err f → extraction w input criterion output unique ≡ Err f
   not_labelled f asks labels =

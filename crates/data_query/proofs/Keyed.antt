@@ -132,6 +132,7 @@ module _ (sight : Sight) (fields : List OutputField) (key : Vec ValueKey) (keys 
   pub left_out : (told : Bool) → told ≡ among → told ≡ true → kept ≡ cond repeated kept (kept ++ cell ∷ [])
   left_out told tells test = ap (λ b. cond b kept (kept ++ cell ∷ [])) (sym test ∙ tells ∙ among_is)
 
+  -- a record that is like none before joins them
   pub joins : (told : Bool) (new : List Place) → told ≡ among → told ≡ false → new ≡ kept ++ cell ∷ []
       → new ≡ cond repeated kept (kept ++ cell ∷ [])
   joins told new tells test more = more ∙ ap (λ b. cond b kept (kept ++ cell ∷ [])) (sym test ∙ tells ∙ among_is)
@@ -144,6 +145,7 @@ module _ (sight : Sight) (fields : List OutputField) (key : Vec ValueKey) (keys 
       ap (map (λ (k : Vec ValueKey). all_keyed k.items))
       (less ∙ ap (λ b. cond b keys (keys ++ key ∷ [])) (sym tells ∙ test)) ∙ are
 
+  -- its key joins theirs
   pub keys_join : (told : Bool) (new : List (Vec ValueKey)) (joined : List Place) → told ≡ among → told ≡ false
       → new ≡ cond among keys (keys ++ key ∷ []) → joined ≡ kept ++ cell ∷ [] →
       map (λ (k : Vec ValueKey). all_keyed k.items) new ≡ map (λ (p : Place). record_values sight fields p.row) joined

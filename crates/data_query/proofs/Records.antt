@@ -15,6 +15,7 @@ use Rattle.data_query.specs.Selection.{moved_up, rows_erased}
 abbrev pub row_of : Place → ℕ
 row_of p = p.row
 
+-- the cells of rows are in these rows
 pub rows_back : (col : ℕ) (rows : List ℕ) → map row_of (map (λ row. at row col) rows) ≡ rows
 rows_back col [] = refl
 rows_back col (row ∷ rows) = ap (λ l. row ∷ l) (rows_back col rows)
@@ -23,6 +24,7 @@ numbers_count : (n k : ℕ) → length (numbers_from n k) ≡ k
 numbers_count n zero = refl
 numbers_count n (suc k) = ap suc (numbers_count (n + 1) k)
 
+-- no more rows pass than there are
 pub filter_count : (test : ℕ → Bool) (rows : List ℕ) → length (filter test rows) ≤ length rows
 filter_count test [] = omega arith
 filter_count test (row ∷ rows) = one_more (test row) (filter_count test rows)

@@ -109,6 +109,7 @@ same_from v places left rest size number enough digits =
 left_is : (v : ℤ) (s : IsStripped 6 (nat_abs v)) → s.left ≡ decimals v
 left_is v s = sym (fixed_digits_length s.left s.rest) ∙ ap length s.digits
 
+-- a number has at most six decimals
 pub few_decimals : (v : ℤ) → decimals v ≤ 6
 few_decimals v = (let s = stripped 6 (nat_abs v) in omega (arith, s.size, left_is v s))
 
@@ -130,6 +131,7 @@ exact_is v n left rest minus size within sign digits whole none =
     short_is v 6 6 n left rest minus within (omega arith) (size ∙ sym (sixth v within)) sign digits whole none
     ∙ enough_places v 6 (few_decimals v)
 
+-- how long a number with all its decimals is, by its parts
 pub exact_len : (v : ℤ) (n left rest : ℕ) → n ≡ nat_abs v → nat_abs v ≤ 999999999999999
     → fixed_digits left rest ≡ without_last_zeros (fixed_digits 6 n) → rest / 10 ^ left ≡ n / 10 ^ 6
     → (rest == 0) ≡ (n == 0) →

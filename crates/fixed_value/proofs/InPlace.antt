@@ -57,6 +57,7 @@ pub record Placing (first end count number : ℕ) (initial : List ℕ) (from lef
   pub least : first ≤ from
   pub most : from ≤ end
 
+-- before the first digit all of the number is left to place
 pub placing_starts : (first end count number : ℕ) (initial : List ℕ) → count ≤ end → first ≡ end - count
     → Placing first end count number initial end number initial
 placing_starts first end count number initial room is =
@@ -70,6 +71,7 @@ placing_starts first end count number initial room is =
       most = omega arith;
     }
 
+-- the last digit of what is left is placed one place further to the front
 pub placing_goes_on : (first end count number : ℕ) (initial : List ℕ) (from left : ℕ) (bytes new : List ℕ)
     → first < from →
     Placing first end count number initial from left bytes → Stands ((48 + left % 10) ∷ []) (from - 1) from bytes new →
@@ -88,6 +90,7 @@ placing_goes_on first end count number initial from left bytes new more p s =
       most = omega (arith, p.most);
     }
 
+-- where the front is reached, the digits stand
 pub placed_all : (first end count number : ℕ) (initial : List ℕ) (from left : ℕ) (bytes : List ℕ) → count ≤ end
     → first ≡ end - count → from ≤ first →
     Placing first end count number initial from left bytes
@@ -135,6 +138,7 @@ one_left first end count number initial from left bytes below more last p =
     let is : left / 10 ^ 1 ≡ 0 = ap (λ (k : ℕ). left / 10 ^ k) (sym one) ∙ p.left_is ∙ none in
     omega (arith, is)
 
+-- where one digit is left, it is the first, and then the digits stand
 pub one_placed : (first end count number : ℕ) (initial : List ℕ) (from left : ℕ) (bytes new : List ℕ) → count ≤ end
     → first ≡ end - count → number < 10 ^ count → first < from → from ≤ first + 1 →
     Placing first end count number initial from left bytes → Stands ((48 + left) ∷ []) (from - 1) from bytes new
@@ -153,6 +157,7 @@ places_room places number end some room =
     let digits : length (fixed_digits places number) ≡ places = fixed_digits_length places number in
     omega (arith, room, digits, ap length (pointed_more (fixed_digits places number) (omega (arith, some, digits))))
 
+-- the point stands before its places
 pub places_stand : (places number end taken : ℕ) (old now new : List ℕ) → 0 < places → taken ≡ places
     → Stands (fixed_digits places number) (end - places) end old now →
     Stands (46 ∷ []) (end - taken - 1) (end - taken) now new

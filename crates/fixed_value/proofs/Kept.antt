@@ -20,6 +20,7 @@ past_sixth : (v : ℤ) (z : ℕ) → nat_abs v ≤ 999999999999999 → scaled v 
 past_sixth v z within =
     (let same : 6 + z - 6 ≡ z = omega arith in exact v (6 + z) within (omega arith) ∙ ap (λ k. nat_abs v * 10 ^ k) same)
 
+-- with six places a number is its size in millionths
 pub sixth : (v : ℤ) → nat_abs v ≤ 999999999999999 → scaled v 6 ≡ nat_abs v
 sixth v within = past_sixth v 0 within ∙ (omega arith)
 
@@ -49,6 +50,7 @@ zero_same n z = elim (cases_Bool (n == 0)) [
       let test : (n * 10 ^ z == 0) ≡ false = grind (arith, nat_tests, larger, power_positive z) in some ∙ sym test)
 ]
 
+-- what is kept of a number is zero exactly where all of it is
 pub zero_kept : (v : ℤ) (places kept n : ℕ) → nat_abs v ≤ 999999999999999 → kept ≡ min places 6 → n ≡ scaled v kept
     → (n == 0) ≡ (scaled v places == 0)
 zero_kept v places kept n within is number =
@@ -62,18 +64,21 @@ front_kept a k z all n m parts is =
     ap (λ l. take a (fixed_digits (a + l) m)) parts ∙ ap (λ l. take a (fixed_digits (a + (k + z)) l)) is
     ∙ front_part a k z n
 
+-- the kept digits, and zeros behind them
 pub last_kept : (a k z all n m : ℕ) → all ≡ k + z → m ≡ n * 10 ^ z
     → drop a (fixed_digits (a + all) m) ≡ fixed_digits k n ++ replicate z 48
 last_kept a k z all n m parts is =
     ap (λ l. drop a (fixed_digits (a + l) m)) parts ∙ ap (λ l. drop a (fixed_digits (a + (k + z)) l)) is
     ∙ last_part a k z n
 
+-- a power of ten more keeps what is zero, and only that
 pub zero_raised : (n z m : ℕ) → m ≡ n * 10 ^ z → (m == 0) ≡ (n == 0)
 zero_raised n z m is = ap (λ k. k == 0) is ∙ sym (zero_same n z)
 
 abbrev signed_text : Bool → Bool → List ℕ → List ℕ → List ℕ
 signed_text minus none whole places = minus_sign (minus && not none) ++ (without_zeros whole ++ pointed places)
 
+-- the same parts are the same text
 pub same_text : (minus minus2 none none2 : Bool) (whole whole2 places places2 : List ℕ) → minus ≡ minus2 → none ≡ none2
     → whole ≡ whole2 → places ≡ places2 → signed_text minus none whole places ≡ signed_text minus2 none2 whole2 places2
 same_text minus minus2 none none2 whole whole2 places places2 a b c d =
@@ -81,6 +86,7 @@ same_text minus minus2 none none2 whole whole2 places places2 a b c d =
     ∙ ap (λ (l : List ℕ). signed_text minus2 none2 l places) c
     ∙ ap (λ (l : List ℕ). signed_text minus2 none2 whole2 l) d
 
+-- the number of the kept places with zeros behind is the number as it is written
 pub decimal_is : (v : ℤ) (places kept n : ℕ) (minus : Bool) → nat_abs v ≤ 999999999999999 → kept ≡ min places 6
     → n ≡ scaled v kept → minus ≡ int_lt v (pos 0) →
     minus_sign (minus && not (n == 0))
@@ -97,12 +103,14 @@ decimal_is v places kept n minus within is number sign =
     (sym (front_kept 10 kept (places - kept) places n (scaled v places) parts value))
     (sym (last_kept 10 kept (places - kept) places n (scaled v places) parts value))
 
+-- zeros behind a text are dropped with its last zeros
 pub zeros_dropped : (xs : List ℕ) (z : ℕ) → without_last_zeros (xs ++ replicate z 48) ≡ without_last_zeros xs
 zeros_dropped xs zero = ap without_last_zeros (append-nil xs)
 zeros_dropped xs (suc z) =
     ap without_last_zeros (sym (append_assoc xs (48 ∷ []) (replicate z 48))) ∙ zeros_dropped (xs ++ 48 ∷ []) z
     ∙ zero_dropped xs
 
+-- the digits without last zeros are the short text
 pub short_is : (v : ℤ) (places kept n left rest : ℕ) (minus : Bool) → nat_abs v ≤ 999999999999999 → kept ≡ min places 6
     → n ≡ scaled v kept → minus ≡ int_lt v (pos 0) →
     fixed_digits left rest ≡ without_last_zeros (fixed_digits kept n) → rest / 10 ^ left ≡ n / 10 ^ kept
@@ -125,6 +133,7 @@ short_is v places kept n left rest minus within is number sign digits whole none
     (ap (fixed_digits 10) whole ∙ sym (front_kept 10 kept (places - kept) places n (scaled v places) parts value))
     (sym behind)
 
+-- the kept places two further on, with zeros behind, are the hundredfold
 pub hundredfold_is : (v : ℤ) (places kept n : ℕ) (minus : Bool) → nat_abs v ≤ 999999999999999 → kept ≡ min places 4
     → n ≡ scaled v (kept + 2) → minus ≡ int_lt v (pos 0) →
     minus_sign (minus && not (n == 0))
@@ -181,6 +190,7 @@ parts_len v places n number =
     sym (ap length text) ∙ text_len (int_lt v (pos 0)) (n == 0) (fixed_digits 10 (n / 10 ^ places))
     (fixed_digits places n)
 
+-- how long a number with places is, by its parts
 pub len_with_point : (v : ℤ) (places n sign whole : ℕ) → n ≡ scaled v places → 0 < places
     → sign ≡ length (minus_sign (int_lt v (pos 0) && not (n == 0)))
     → whole ≡ length (without_zeros (fixed_digits 10 (n / 10 ^ places))) →
@@ -207,6 +217,7 @@ len_of_short v left rest minus text sign is =
     + (length (without_zeros (fixed_digits 10 (rest / 10 ^ left))) + length (pointed l)))
     (append-nil (fixed_digits left rest))
 
+-- the zeros that a short text leaves out are what it lacks of the whole length
 pub len_with_zeros : (v : ℤ) (places n left rest : ℕ) (minus : Bool) (text : List ℕ) → n ≡ scaled v places
     → minus ≡ int_lt v (pos 0) → rest / 10 ^ left ≡ n / 10 ^ places → (rest == 0) ≡ (n == 0) →
     text ≡ minus_sign (minus && not (rest == 0))
@@ -229,5 +240,6 @@ room_for len room text wanted fits is =
     (let test : nat_le len room ≡ true = grind (arith, nat_tests, fits) in
     ap (λ (l : List ℕ). Some l) is ∙ rw test refl)
 
+-- a text that is longer than the room isn't written
 pub no_room_for : (len room : ℕ) (wanted : List ℕ) → room < len → None ≡ (if nat_le len room then Some wanted else None)
 no_room_for len room wanted past = (let test : nat_le len room ≡ false = grind (arith, nat_tests, past) in rw test refl)

@@ -28,6 +28,7 @@ one_more k n text h =
     sym (ap (λ (l : List ℕ). l ++ text) (last_digit k n h)
     ∙ append_assoc (fixed_digits (k - 1) (n / 10)) ((48 + n % 10) ∷ []) text)
 
+-- a tenth by one power less is the same
 pub by_ten : (k n : ℕ) → 0 < k → n / 10 / 10 ^ (k - 1) ≡ n / 10 ^ k
 by_ten zero n h = absurd (omega (arith, h))
 by_ten (suc k) n h =
@@ -62,6 +63,7 @@ zeros (suc z) n =
 pub raised : (z n : ℕ) → n * 10 ^ z / 10 ^ z ≡ n
 raised z n = quotient_is (10 ^ z) n (n * 10 ^ z) (power_positive z) (omega arith) (omega (arith, power_positive z))
 
+-- the front of a number's digits are those of the number before the cut
 pub front_part : (a k z n : ℕ) → take a (fixed_digits (a + (k + z)) (n * 10 ^ z)) ≡ fixed_digits a (n / 10 ^ k)
 front_part a k z n =
     let power : 10 ^ (k + z) ≡ 10 ^ z * 10 ^ k = pow-add 10 k z ∙ omega arith in
@@ -72,11 +74,13 @@ front_part a k z n =
     ∙ take_at (fixed_digits a (n * 10 ^ z / 10 ^ (k + z))) (fixed_digits (k + z) (n * 10 ^ z)) a
     (fixed_digits_length a (n * 10 ^ z / 10 ^ (k + z))) ∙ ap (fixed_digits a) number
 
+-- a power of ten more is so many zeros more
 pub zeros_behind : (k z n : ℕ) → fixed_digits (k + z) (n * 10 ^ z) ≡ fixed_digits k n ++ replicate z 48
 zeros_behind k z n =
     split k z (n * 10 ^ z) ∙ ap (λ m. fixed_digits k m ++ fixed_digits z (n * 10 ^ z)) (raised z n)
     ∙ ap (λ (l : List ℕ). fixed_digits k n ++ l) (zeros z n)
 
+-- the digits behind the cut, with the zeros that a power of ten makes
 pub last_part : (a k z n : ℕ) → drop a (fixed_digits (a + (k + z)) (n * 10 ^ z)) ≡ fixed_digits k n ++ replicate z 48
 last_part a k z n =
     ap (drop a) (split a (k + z) (n * 10 ^ z))
@@ -128,6 +132,7 @@ not_all_zero (suc k) n some below =
           rw (not_all_zero k (n / 10) large (omega (arith, below, ten_more k))) refl)
     ]
 
+-- a number below ten has one digit
 pub one_digit : (k n : ℕ) → 0 < k → n < 10 → without_zeros (fixed_digits k n) ≡ (48 + n) ∷ []
 one_digit k n some below =
     let last : 48 + n % 10 ≡ 48 + n = omega (arith, below) in
@@ -135,6 +140,7 @@ one_digit k n some below =
     ∙ no_digit (fixed_digits (k - 1) (n / 10)) (48 + n % 10) (all_zero (k - 1) (n / 10) (omega (arith, below)))
     ∙ ap (λ d. d ∷ []) last
 
+-- a number from ten on has two places at least, and its tenth one fewer
 pub smaller : (k n : ℕ) → 10 ≤ n → n < 10 ^ k → (2 ≤ k) × (n / 10 < 10 ^ (k - 1))
 smaller zero n large below = absurd (omega (arith, large, below))
 smaller (suc zero) n large below = absurd (omega (arith, large, below))
@@ -142,6 +148,7 @@ smaller (suc (suc k)) n large below =
     (let same : suc (suc k) - 1 ≡ suc k = omega arith in
     (omega arith, rw same (omega (arith, below, ten_more (suc k)))))
 
+-- a number from ten on is written as its tenth and its last digit
 pub more_digits : (k n : ℕ) → 10 ≤ n → n < 10 ^ k
     → without_zeros (fixed_digits k n) ≡ without_zeros (fixed_digits (k - 1) (n / 10)) ++ (48 + n % 10) ∷ []
 more_digits k n large below =
@@ -157,6 +164,7 @@ whole_more k n text large below =
     sym (ap (λ (l : List ℕ). l ++ text) (more_digits k n large below)
     ∙ append_assoc (without_zeros (fixed_digits (k - 1) (n / 10))) ((48 + n % 10) ∷ []) text)
 
+-- it has one digit more than its tenth
 pub count_more : (k n : ℕ) → 10 ≤ n → n < 10 ^ k
     → length (without_zeros (fixed_digits k n)) ≡ length (without_zeros (fixed_digits (k - 1) (n / 10))) + 1
 count_more k n large below =
@@ -171,12 +179,14 @@ zero_gone k n some none =
     ∙ ap (λ d. without_last_zeros (fixed_digits (k - 1) (n / 10) ++ (48 + d) ∷ [])) none
     ∙ zero_dropped (fixed_digits (k - 1) (n / 10)))
 
+-- digits that end with no zero lose none
 pub digit_stays : (k n : ℕ) → 0 < k → (n % 10 ≡ 0 → ⊥) → fixed_digits k n ≡ without_last_zeros (fixed_digits k n)
 digit_stays k n some other =
     let test : (48 + n % 10 == 48) ≡ false = grind (arith, nat_tests, other) in
     sym (ap without_last_zeros (last_digit k n some) ∙ digit_kept (fixed_digits (k - 1) (n / 10)) (48 + n % 10) test
     ∙ sym (last_digit k n some))
 
+-- no digits lose none
 pub no_digits : (k n : ℕ) → k ≡ 0 → fixed_digits k n ≡ without_last_zeros (fixed_digits k n)
 no_digits zero n none = refl
 no_digits (suc k) n none = absurd (omega (arith, none))

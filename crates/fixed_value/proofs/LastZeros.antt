@@ -6,9 +6,11 @@ use Rattle.std.proofs.lemmas.List.Folds.{list_all-append}
 use Rattle.std.proofs.Math.Bool.{and-true, and-false}
 use Rattle.fixed_value.specs.Written.{without_last_zeros}
 
+-- the byte is a zero's
 abbrev pub is_zero : ℕ → Bool
 is_zero e = e == 48
 
+-- a zero at the end is dropped
 pub zero_dropped : (xs : List ℕ) → without_last_zeros (xs ++ 48 ∷ []) ≡ without_last_zeros xs
 zero_dropped [] = refl
 zero_dropped (x ∷ xs) =
@@ -16,6 +18,7 @@ zero_dropped (x ∷ xs) =
     list_all-append is_zero (x ∷ xs) (48 ∷ []) ∙ and-true (list_all is_zero (x ∷ xs)) in
     rw (all, zero_dropped xs) refl
 
+-- a digit at the end that is no zero stays, with all before it
 pub digit_kept : (xs : List ℕ) (d : ℕ) → (d == 48) ≡ false → without_last_zeros (xs ++ d ∷ []) ≡ xs ++ d ∷ []
 digit_kept [] d h = rw h refl
 digit_kept (x ∷ xs) d h =

@@ -16,6 +16,7 @@ use Rattle.fixed_value.specs.declared.decimal.Decimal.TheVariants.{Num, TooLarge
 use Rattle.fixed_value.specs.Decimals.{digit_more, fraction_of, number_of, whole_digits}
 use Rattle.fixed_value.specs.Numbers.{nearest, signed}
 
+-- a quotient is told by the two multiples that hold the number
 pub quotient_is : (d k m : ℕ) → 0 < d → d * k ≤ m → m < d * (k + 1) → m / d ≡ k
 quotient_is d k m h p q = div-eq_of_lt-le d (omega arith) (omega arith)
 
@@ -30,6 +31,7 @@ nearest_by_digit x p h =
     sym (ap (λ q. q / 10) (sym (add-mul-div_right (x * 10) 5 h)) ∙ div-div-eq-div-mul (x * 10 + 5 * p) p 10
     ∙ quotient_is (p * 10) k (x * 10 + 5 * p) (omega arith) low5 high5)
 
+-- the next power of ten
 pub ten_more : (k : ℕ) → 10 ^ suc k ≡ 10 * 10 ^ k
 ten_more k = omega (arith, pow-suc 10 k)
 
@@ -45,9 +47,11 @@ folded_on n (d ∷ ds) =
     ∙ ap (λ k. n * k + ((0 * 10 + (d - 48)) * p + f)) (sym (ten_more (length ds)))
     ∙ ap (λ k. n * 10 ^ suc (length ds) + k) (sym (folded_on (0 * 10 + (d - 48)) ds))
 
+-- the number of digits in two parts
 pub number_of-append : (xs ys : List ℕ) → number_of (xs ++ ys) ≡ number_of xs * 10 ^ length ys + number_of ys
 number_of-append xs ys = fold-append digit_more 0 xs ys ∙ folded_on (number_of xs) ys
 
+-- the number of one digit more
 pub number_of-more : (xs : List ℕ) (d : ℕ) → number_of (xs ++ d ∷ []) ≡ number_of xs * 10 + (d - 48)
 number_of-more xs d = fold-append digit_more 0 xs (d ∷ [])
 
@@ -77,6 +81,7 @@ below_power (d ∷ ds) h =
     let bound : (d - 48) * 10 ^ length ds ≤ 9 * 10 ^ length ds = mul-le-mul_right (10 ^ length ds) small in
     omega (arith, ten_more (length ds), split, bound, later)
 
+-- a power of ten is above zero
 pub power_positive : (n : ℕ) → 0 < 10 ^ n
 power_positive n = pow-le-pow_right {n = 10} (omega arith) {i = 0} {j = n} (omega arith)
 
@@ -134,6 +139,7 @@ fraction_size whole places =
     ap (λ n. nearest (n * 1000000) (10 ^ length places)) (number_of-append whole places)
     ∙ fraction_rounded (number_of whole) (number_of places) (10 ^ length places) (power_positive (length places))
 
+-- digits that come to more than the largest number are too large
 pub too_large : (minus : Bool) (whole places : List ℕ) (w s : ℕ) → w ≡ min (number_of whole) 1000000000
     → s ≡ number_of places * 10000000 / 10 ^ length places → 999999999999999 < w * 1000000 + (s + 5) / 10 →
     fraction_of minus whole places ≡ TooLarge
@@ -144,6 +150,7 @@ too_large minus whole places w s w_is s_is large =
     let test : nat_le n 999999999999999 ≡ false = grind (arith, nat_tests, past) in
     rw test refl
 
+-- any others are the number that they come to
 pub in_size : (minus : Bool) (whole places : List ℕ) (w s : ℕ) → w ≡ min (number_of whole) 1000000000
     → s ≡ number_of places * 10000000 / 10 ^ length places → w * 1000000 + (s + 5) / 10 ≤ 999999999999999 →
     fraction_of minus whole places ≡ Num (signed minus (w * 1000000 + (s + 5) / 10))

@@ -34,10 +34,12 @@ front_digits (d ∷ ds) rest all h =
     let more = front_digits ds rest (and_parts (is_ascii_digit d) (list_all is_ascii_digit ds) all).1 h in
     (rw digit (ap (λ (l : List ℕ). d ∷ l) more.0), rw digit more.1)
 
+-- what stops behind a point's places stops the number too
 pub point_stops : (ds rest : List ℕ) → Stops rest → Stops (pointed ds ++ rest)
 point_stops [] rest h = h
 point_stops (d ∷ ds) rest h = refl
 
+-- the places behind a point are read back
 pub pointed_places : (ds : List ℕ) → list_all is_ascii_digit ds ≡ true → places_of (pointed ds) ≡ Some ds
 pointed_places [] all = refl
 pointed_places (d ∷ ds) all = rw all refl
@@ -53,6 +55,7 @@ read_plain minus whole places all later =
     let front = front_digits whole (pointed places) all stops in
     rw (front.0, front.1, pointed_places places later) refl
 
+-- a sign, digits and places are read as the fraction that they are
 pub read_signed : (minus : Bool) (whole places : List ℕ) → 0 < length whole → list_all is_ascii_digit whole ≡ true
     → list_all is_ascii_digit places ≡ true →
     decimal_of (minus_sign minus ++ (whole ++ pointed places)) ≡ fraction_of minus whole places
@@ -122,6 +125,7 @@ behind v places = drop 10 (digits v places)
 abbrev pub whole : ℤ → ℕ → List ℕ
 whole v places = without_zeros (take 10 (digits v places))
 
+-- the digits behind the point, without last zeros
 abbrev pub shown : ℤ → ℕ → List ℕ
 shown v places = without_last_zeros (behind v places)
 
@@ -135,12 +139,15 @@ module _ (v : ℤ) (places : ℕ) (within : nat_abs v ≤ 999999999999999) (enou
   both : (list_all is_ascii_digit (take 10 (digits v places)) && list_all is_ascii_digit (behind v places)) ≡ true
   both = long.both v places within enough
 
+  -- a number has a digit before its point
   pub some : 0 < length (whole v places)
   some = long.stripped_stays (take 10 (digits v places)) (omega (arith, long.front_long v places within enough))
 
+  -- these are digits
   pub all_whole : list_all is_ascii_digit (whole v places) ≡ true
   all_whole = long.all_stripped (take 10 (digits v places)) (and_parts _ _ both).0
 
+  -- so are those behind the point
   pub all_shown : list_all is_ascii_digit (shown v places) ≡ true
   all_shown = cut_off.digits (and_parts _ _ both).1
 
@@ -165,6 +172,7 @@ module _ (v : ℤ) (places : ℕ) (within : nat_abs v ≤ 999999999999999) (enou
       (nat_abs v * 10 ^ length (shown v places)) (10 ^ cut_off.count) (power_positive cut_off.count) same)
       ∙ long.nearest_exact (nat_abs v) (10 ^ length (shown v places)) (power_positive (length (shown v places)))
 
+  -- the short text of a number is read back as it
   pub read_back : decimal_of (short v places) ≡ Num v
   read_back =
       let minus : Bool = long.sign_with v (scaled v places) in

@@ -107,5 +107,6 @@ behind_below places number millionths is below =
 pub does_fit : (len room : ℕ) → len ≤ room → true ≡ nat_le len room
 does_fit len room fits = grind (arith, nat_tests, fits)
 
+-- a text that is longer than the room doesn't fit
 pub does_not_fit : (len room : ℕ) → room < len → false ≡ nat_le len room
 does_not_fit len room past = grind (arith, nat_tests, past)

@@ -20,6 +20,7 @@ use Rattle.fixed_value.specs.Numbers.{nearest, signed}
 use Rattle.fixed_value.specs.Written.{fixed_digits, minus_sign, pointed, scaled, without_zeros, written}
 use Rattle.fixed_value.proofs.Places.{number_of-append, number_of-more, power_positive, quotient_is, ten_more}
 
+-- so many digits are asked for, and so many there are
 pub fixed_digits_length : (k n : ℕ) → length (fixed_digits k n) ≡ k
 fixed_digits_length zero n = refl
 fixed_digits_length (suc k) n =
@@ -46,6 +47,7 @@ number_of_stripped (d ∷ e ∷ ds) = elim (cases_Bool (d == 48)) [
   | inr other ↦ rw other refl
 ]
 
+-- without leading zeros they are digits still
 pub all_stripped : (ds : List ℕ) → list_all is_ascii_digit ds ≡ true → list_all is_ascii_digit (without_zeros ds) ≡ true
 all_stripped [] h = refl
 all_stripped (d ∷ []) h = h
@@ -54,6 +56,7 @@ all_stripped (d ∷ e ∷ ds) h = elim (cases_Bool (d == 48)) [
   | inr other ↦ rw other h
 ]
 
+-- some digit stays
 pub stripped_stays : (ds : List ℕ) → 0 < length ds → 0 < length (without_zeros ds)
 stripped_stays [] h = absurd (omega arith)
 stripped_stays (d ∷ []) h = omega arith
@@ -76,6 +79,7 @@ behind_to_point (d ∷ ds) rest h =
     let digit : is_ascii_digit d ≡ true = (and_parts (is_ascii_digit d) (list_all is_ascii_digit ds) h).0 in
     rw digit (behind_to_point ds rest (and_parts (is_ascii_digit d) (list_all is_ascii_digit ds) h).1)
 
+-- digits and places are the fraction that they make
 pub from_digits : (minus : Bool) (whole places : List ℕ) → 0 < length whole
     → decimal_from minus whole (Some places) ≡ fraction_of minus whole places
 from_digits minus [] places h = absurd (omega arith)
@@ -101,13 +105,16 @@ read_signed false whole places h all later =
     rw (bare.0, bare.1, whole_to_point whole places all, behind_to_point whole places all, later)
     (from_digits false whole places h)
 
+-- a multiple is its own quotient
 pub nearest_exact : (a d : ℕ) → 0 < d → nearest (a * d) d ≡ a
 nearest_exact a d h = quotient_is (2 * d) a (2 * (a * d) + d) (omega arith) (omega arith) (omega arith)
 
+-- places stand behind a point
 pub pointed_more : (ds : List ℕ) → 0 < length ds → pointed ds ≡ 46 ∷ ds
 pointed_more [] h = absurd (omega arith)
 pointed_more (d ∷ ds) h = refl
 
+-- a count is not below zero
 pub plus_size : (k : ℕ) → int_lt (pos k) (pos 0) ≡ false
 plus_size k = grind (arith, ints)
 
@@ -115,6 +122,7 @@ plus_size k = grind (arith, ints)
 abbrev pub sign_with : ℤ → ℕ → Bool
 sign_with v n = int_lt v (pos 0) && not (n == 0)
 
+-- a number's sign and size are the number
 pub signed_back : (v : ℤ) (n p : ℕ) → 0 < p → n ≡ nat_abs v * p → signed (sign_with v n) (nat_abs v) ≡ v
 signed_back (pos k) n p h is = rw (plus_size k) refl
 signed_back (negsuc k) n p h is =
@@ -123,12 +131,15 @@ signed_back (negsuc k) n p h is =
     rw test refl
 
 module _ (v : ℤ) (places : ℕ) (within : nat_abs v ≤ 999999999999999) (enough : 6 ≤ places) where
+  -- what one millionth is in places past the sixth
   abbrev pub unit : ℕ
   unit = 10 ^ (places - 6)
 
+  -- the power of ten of the places, by this unit
   pub power_splits : 10 ^ places ≡ unit * 1000000
   power_splits = ap (λ n. 10 ^ n) (let e : places ≡ (places - 6) + 6 = omega arith in e) ∙ pow-add 10 (places - 6) 6
 
+  -- with six places or more nothing is rounded away
   pub exact : scaled v places ≡ nat_abs v * unit
   exact =
       ap (λ n. nearest n 1000000)
@@ -136,12 +147,15 @@ module _ (v : ℤ) (places : ℕ) (within : nat_abs v ≤ 999999999999999) (enou
       ∙ (let e : nat_abs v * (unit * 1000000) ≡ nat_abs v * unit * 1000000 = omega arith in e))
       ∙ nearest_exact (nat_abs v * unit) 1000000 (omega arith)
 
+  -- all digits, those behind the point among them
   abbrev pub digits : List ℕ
   digits = fixed_digits (10 + places) (scaled v places)
 
+  -- the digits before the point
   abbrev pub whole : List ℕ
   whole = without_zeros (take 10 digits)
 
+  -- the digits behind the point
   abbrev pub behind : List ℕ
   behind = drop 10 digits
 
@@ -153,20 +167,24 @@ module _ (v : ℤ) (places : ℕ) (within : nat_abs v ≤ 999999999999999) (enou
       let some : 0 < unit = power_positive (places - 6) in
       omega (arith, exact, power, most, some)
 
+  -- there are as many as places
   pub long : length behind ≡ places
   long = omega (arith, length-drop 10 digits, fixed_digits_length (10 + places) (scaled v places))
 
+  -- there are ten before them
   pub front_long : length (take 10 digits) ≡ 10
   front_long = length-take-le 10 digits (omega (arith, fixed_digits_length (10 + places) (scaled v places)))
 
   parts : take 10 digits ++ behind ≡ digits
   parts = take-append-drop 10 digits
 
+  -- all of them are digits
   pub both : (list_all is_ascii_digit (take 10 digits) && list_all is_ascii_digit behind) ≡ true
   both =
       sym (list_all-append is_ascii_digit (take 10 digits) behind) ∙ ap (list_all is_ascii_digit) parts
       ∙ all_fixed_digits (10 + places) (scaled v places)
 
+  -- what the digits are as one number
   pub number : number_of (whole ++ behind) ≡ nat_abs v * unit
   number =
       number_of-append whole behind
@@ -183,6 +201,7 @@ module _ (v : ℤ) (places : ℕ) (within : nat_abs v ≤ 999999999999999) (enou
       ap (λ n. nearest (number_of (whole ++ behind) * 1000000) (10 ^ n)) long ∙ ap (λ n. nearest n (10 ^ places)) same
       ∙ nearest_exact (nat_abs v) (10 ^ places) (power_positive places)
 
+  -- a number that is written with six places or more is read back
   pub read_back : decimal_of (written v places) ≡ Num v
   read_back =
       let minus : Bool = sign_with v (scaled v places) in

@@ -188,5 +188,6 @@ read_back (negsuc k) bits w within =
     read_minus split.exponent split.fraction bits (suc k) split.exponent_in split.exponent_from split.fraction_in
     split.bits_are split.size within
 
+-- no bits at all are zero
 pub nothing_back : double_of 0 ≡ Num (pos 0)
 nothing_back = refl

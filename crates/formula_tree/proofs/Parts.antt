@@ -16,6 +16,7 @@ use Rattle.formula_tree.specs.View.{listed}
 abbrev pub all_pass : (Tree → Bool) → List Tree → Bool
 all_pass test ts = list_all (every test) ts
 
+-- every tree of a list is fine
 abbrev pub all_fine : List Tree → Bool
 all_fine ts = list_all (every is_fine) ts
 
@@ -38,6 +39,7 @@ every_listed : (test : Tree → Bool) (ts : Trees) → every_one test ts ≡ lis
 every_listed test no_trees = refl
 every_listed test (trees t ts) = ap (λ b. every test t && b) (every_listed test ts)
 
+-- a test of a whole tree is one of its root and of its parts
 pub split : (test : Tree → Bool) (t : Tree) → every test t ≡ (test t && list_all (every test) (parts t))
 split test (num v) = alone (test (num v))
 split test (str v) = alone (test (str v))
@@ -53,6 +55,7 @@ nodes_listed : (ts : Trees) → all_nodes ts ≡ sum_by nodes (listed_parts ts)
 nodes_listed no_trees = refl
 nodes_listed (trees t ts) = omega (arith, nodes_listed ts, sum_by-append nodes (t ∷ []) (listed_parts ts))
 
+-- a tree has one node more than its parts together
 pub larger : (t : Tree) → nodes t ≡ 1 + sum_by nodes (parts t)
 larger (num v) = refl
 larger (str v) = refl
@@ -68,6 +71,7 @@ sizes_listed : (ts : Trees) → all_sizes ts ≡ sum_by nodes_size (listed_parts
 sizes_listed no_trees = refl
 sizes_listed (trees t ts) = omega (arith, sizes_listed ts, sum_by-append nodes_size (t ∷ []) (listed_parts ts))
 
+-- its size is its root's and its parts'
 pub own_size : (t : Tree) → nodes_size t ≡ node_size t + sum_by nodes_size (parts t)
 own_size (num v) = omega arith
 own_size (str v) = omega arith
@@ -79,6 +83,7 @@ own_size (not a) = omega arith
 own_size (binary op a b) = omega arith
 own_size (call f ts) = omega (arith, sizes_listed ts)
 
+-- the parts of a list are the list
 pub parts_listed : (ts : List Tree) → listed_parts (listed ts) ≡ ts
 parts_listed [] = refl
 parts_listed (t ∷ ts) = ap (λ l. t ∷ l) (parts_listed ts)
@@ -93,6 +98,7 @@ last_passes true true false h = refl
 last_passes false f p h = refl
 last_passes true false p h = cc
 
+-- a root that passes leaves its parts to be tested
 pub passes_on : (test : Tree → Bool) (below : List Tree) (t : Tree) → test t ≡ true
     → all_pass test (below ++ parts t) ≡ all_pass test (below ++ t ∷ [])
 passes_on test below t h =
@@ -120,6 +126,7 @@ unfit below t whole h is =
 abbrev pub left_size : ℕ → List Tree → ℕ
 left_size code stack = code + sum_by nodes_size stack
 
+-- a root that is counted leaves its parts to be counted
 pub as_long : (below : List Tree) (t : Tree) (code : ℕ)
     → left_size (code + node_size t) (below ++ parts t) ≡ left_size code (below ++ t ∷ [])
 as_long below t code =

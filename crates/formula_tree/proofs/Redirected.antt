@@ -162,6 +162,7 @@ both false b c d h e f = absurd cc
 shorter : (a b : ℕ) → a ≤ b → nat_le (1 + b) 65520 ≡ true → nat_le (1 + a) 65520 ≡ true
 shorter a b less h = grind (arith, nat_tests, less, h)
 
+-- a formula with other references is a formula
 pub formula_kept : (new : New) (t : Tree) → IsFormula t → IsFormula (redirected new t)
 formula_kept new t is = record {
   shallow = omega (arith, depth_kept new t, is.shallow);
@@ -193,6 +194,7 @@ call_every : (f : Function) (args : ExprList)
     → every is_ranged (tree_of (Call f args)) ≡ list_all (λ e. every is_ranged (tree_of e)) args.items.items
 call_every f args = ap (every is_ranged) (tree_of-Call f args) ∙ sym (every_listed args.items.items)
 
+-- a call with other arguments has its references in the sheet where they have
 pub call_ranged : (f g : Function) (args list : ExprList)
     → (list_all (λ e. every is_ranged (tree_of e)) args.items.items ≡ true
     → list_all (λ e. every is_ranged (tree_of e)) list.items.items ≡ true)

@@ -33,13 +33,16 @@ tree_of-Call f args =
     let row = row_of (Call f args) in
     ap (call f) (row_is row.0 row.1 ∙ ap (λ es. listed (map tree_of es)) (items_hidden-the_row-Expr-0 args.items))
 
+-- a list of trees has as many arguments
 pub counted_list : (ts : List Tree) → count (listed ts) ≡ length ts
 counted_list [] = refl
 counted_list (t ∷ ts) = omega (arith, counted_list ts)
 
+-- a list of expressions too
 pub count_listed : (es : List Expr) → length es ≡ count (listed (map tree_of es))
 count_listed es = sym (counted_list (map tree_of es) ∙ length-map es tree_of)
 
+-- whether one of them is volatile
 pub volatile_listed : (es : List Expr)
     → list_any (λ e. is_volatile (tree_of e)) es ≡ any_volatile (listed (map tree_of es))
 volatile_listed [] = refl
@@ -51,15 +54,18 @@ max_le a b c = grind (arith, nat_tests)
 zero_le : (c : ℕ) → nat_le 0 c ≡ true
 zero_le c = grind (arith, nat_tests)
 
+-- one more on both sides changes no comparison
 pub suc_le : (a c : ℕ) → nat_le (1 + a) (c + 1) ≡ nat_le a c
 suc_le a c = grind (arith, nat_tests)
 
+-- whether all of them are within a depth
 pub deep_listed : (limit : ℕ) (es : List Expr)
     → list_all (λ e. nat_le (depth (tree_of e)) limit) es ≡ nat_le (greatest_depth (listed (map tree_of es))) limit
 deep_listed limit [] = sym (zero_le limit)
 deep_listed limit (e ∷ es) =
     ap (λ b. nat_le (depth (tree_of e)) limit && b) (deep_listed limit es) ∙ sym (max_le _ _ limit)
 
+-- a tree is at least one deep
 pub one_deep : (t : Tree) → 1 ≤ depth t
 one_deep (num v) = omega arith
 one_deep (str v) = omega arith
@@ -71,6 +77,7 @@ one_deep (not a) = omega arith
 one_deep (binary op a b) = omega arith
 one_deep (call f args) = omega arith
 
+-- the spans that they read
 pub spans_listed : (at : Place) (es : List Expr)
     → flat_map (λ e. spans_of (tree_of e) at) es ≡ spans_of_all (listed (map tree_of es)) at
 spans_listed at [] = refl
@@ -83,6 +90,7 @@ fewer_nodes [] i d h = absurd (omega arith)
 fewer_nodes (x ∷ xs) zero d h = omega arith
 fewer_nodes (x ∷ xs) (suc i) d h = omega (arith, fewer_nodes xs i d (omega arith))
 
+-- one more expression of a list
 pub one_taken : (es : List Expr) (i : ℕ) (d : Expr) → i < length es
     → map tree_of (take (suc i) es) ≡ map tree_of (take i es) ++ (tree_of (get_or es i d) ∷ [])
 one_taken [] i d h = absurd (omega arith)

@@ -19,6 +19,7 @@ use Rattle.grid_address.specs.Progress.{first_digit, later_digit, next_of, secon
 use Rattle.grid_address.specs.Reading.{Begins, IsAddress, SpellsCell, StopsAt}
 use Rattle.grid_address.proofs.Decimals.{decimal_more, decimal_one}
 
+-- the bytes are the front of an address
 abbrev pub BeginsAddress : List ℕ → Type 0
 BeginsAddress = Begins IsAddress
 
@@ -108,12 +109,15 @@ unfolded b h = grind (arith, nat_tests, h)
 from_some : {X : Type 0} (P : X → Type 0) (x t : X) → Some x ≡ Some t → P x → P t
 from_some P x t e here = subst P (let same : x ≡ t = cc in same) here
 
+-- something is not nothing
 pub some_is_not : {X : Type 0} (x : X) → ◌≡◌ {A = Option X} (Some x) None → ⊥
 some_is_not x e = absurd cc
 
+-- the first 26 columns have one letter
 pub one_letter : (c : ℕ) → c < 26 → column_name c ≡ (65 + c) ∷ []
 one_letter c h = (let test : nat_lt c 26 ≡ true = grind (arith, nat_tests, h) in rw test refl)
 
+-- the others have two
 pub two_letters : (c : ℕ) → 26 ≤ c → column_name c ≡ (64 + c / 26) ∷ (65 + c % 26) ∷ []
 two_letters c h = (let test : nat_lt c 26 ≡ false = grind (arith, nat_tests, h) in rw test refl)
 
@@ -179,6 +183,7 @@ later_row c n b xs t below from p q is e =
       | inr past ↦ (let none : None ≡ Some t = rw past at e in absurd (some_is_not t (sym none)))
     ]
 
+-- a byte that goes on with what is read keeps it read
 pub goes_on : (s t : Progress) (b : ℕ) (xs : List ℕ) → next_of s b ≡ Some t → IsRead s xs → IsRead t (xs ++ b ∷ [])
 goes_on Nothing t b xs e is = elim (cases_Bool (is_ascii_uppercase (to_ascii_uppercase b))) [
   | inl capital ↦ (let in_capitals = capital_in (to_ascii_uppercase b) capital in
@@ -223,6 +228,7 @@ row_one c xs below is = (
   ),
 )
 
+-- what is read is the front of an address
 pub begun : (s : Progress) (xs : List ℕ) → IsRead s xs → BeginsAddress xs
 begun Nothing xs is = (
   65 ∷ 49 ∷ [],
@@ -340,6 +346,7 @@ digit_goes_on c b from upto e =
     let test : (nat_le 49 b && nat_le b 57) ≡ true = grind (arith, nat_tests, same, from, upto) in
     some_is_not (Row c (b - 48)) (rw test at e)
 
+-- with a byte that doesn't go on it no longer is
 pub ends : (s : Progress) (b : ℕ) (xs : List ℕ) → next_of s b ≡ None → IsRead s xs → BeginsAddress (xs ++ b ∷ []) → ⊥
 ends Nothing b xs e is begins =
     let on : Behind xs b = behind xs b begins in
@@ -416,6 +423,7 @@ long_address p =
           ))
     ]
 
+-- what is no whole cell yet is no address
 pub unfinished : (s : Progress) (xs : List ℕ) → whole_cell s ≡ None → IsRead s xs → IsAddress xs → ⊥
 unfinished Nothing xs u is (p, (same, inside)) =
     absurd (omega (arith, ap length (sym same ∙ ap (map to_ascii_uppercase) is), long_address p))
@@ -441,6 +449,7 @@ unfinished (Column c) xs u is (p, (same, inside)) =
     ]
 unfinished (Row c n) xs u is same = some_is_not (record { row = n - 1; col = c }) u
 
+-- what is a whole cell spells it
 pub spells : (s : Progress) (p : Place) (xs : List ℕ) → whole_cell s ≡ Some p → IsRead s xs → SpellsCell xs p
 spells Nothing p xs e is = absurd (some_is_not p (sym e))
 spells (Letter c) p xs e is = absurd (some_is_not p (sym e))
@@ -453,6 +462,7 @@ pub reads_on : (s t : Progress) (bytes : List ℕ) (at : ℕ) → at < length by
 reads_on s t bytes at inside is e =
     subst (IsRead t) (sym (take_more bytes at 0 inside)) (goes_on s t (get_or bytes at 0) (take at bytes) e is)
 
+-- where the read front ends before the bytes do, the next byte begins no address
 pub front_ends : (s : Progress) (bytes : List ℕ) (end : ℕ) → IsFront bytes s end → end < length bytes
     → BeginsAddress (take end bytes ++ get_or bytes end 0 ∷ []) → ⊥
 front_ends s bytes end front inside b = ends s (get_or bytes end 0) (take end bytes) (front.ends inside) front.read b

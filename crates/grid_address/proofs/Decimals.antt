@@ -12,12 +12,14 @@ use Rattle.grid_address.specs.Address.{decimal, column_name}
 digits : (n : ℕ) → 0 < n → decimal n ≡ map (λ d. 48 + d) (digits_of 10 n)
 digits n h = let some : (n == 0) ≡ false = ne_eqb n 0 (λ e. omega (arith, e)) in rw some refl
 
+-- a number from ten on is written as its tenth and its last digit
 pub decimal_more : (n : ℕ) → 10 ≤ n → decimal n ≡ decimal (n / 10) ++ (48 + n % 10) ∷ []
 decimal_more n h =
     digits n (omega arith) ∙ ap (map (λ d. 48 + d)) (digits_of_step 10 n (omega arith) (omega arith))
     ∙ map-append (λ d. 48 + d) (digits_of 10 (n / 10)) (n % 10 ∷ [])
     ∙ ap (λ (l : List ℕ). l ++ (48 + n % 10) ∷ []) (sym (digits (n / 10) (omega arith)))
 
+-- a number below ten is written as one digit
 pub decimal_one : (n : ℕ) → n < 10 → decimal n ≡ (48 + n % 10) ∷ []
 decimal_one zero h = refl
 decimal_one (suc m) h =
@@ -37,6 +39,7 @@ decimal_length k n more h =
       length-digits_of-le 10 k n (omega arith) h,
     )
 
+-- it has one digit more than its tenth
 pub length-decimal_more : (n : ℕ) → 10 ≤ n → length (decimal n) ≡ length (decimal (n / 10)) + 1
 length-decimal_more n h =
     omega (arith, ap length (decimal_more n h), length-append (decimal (n / 10)) ((48 + n % 10) ∷ []))

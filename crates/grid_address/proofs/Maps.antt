@@ -15,6 +15,7 @@ use Rattle.std.proofs.Common.{sym, ◌∙◌, ap, arith, inl, inr}
 use Rattle.std.proofs.lemmas.Bool.{cases_Bool, true≢false}
 use Rattle.std.proofs.lemmas.Map.Lookups.{CmpEqualImpliesEq}
 
+-- an order that says equal is Equal
 pub equal_of : (o : Ordering) → is_eq o ≡ true → o ≡ Equal
 equal_of Less h = absurd (true≢false (sym h))
 equal_of Equal h = refl
@@ -75,6 +76,7 @@ module _ {K X : Type 0} {R : K → K → Ordering} (o : IsTotalOrder R) where
       entries-insert o (from_entries es) e.0 e.1 ∙ ap (put R e.0 e.1) (entries_kept es s.1) ∙ put_first e es s.0
 
   module _ (exact : CmpEqualImpliesEq R) where
+    -- entries that hold one key more are the map with that key put in
     pub inserted : (es fs : List (K × X)) (k : K) (v : X)
         → ((q : K) → lookup (is_at (R q)) fs ≡ cond (is_at (R k) q) (Some v) (lookup (is_at (R q)) es))
         → from_entries {R = R} fs ≡ insert (from_entries es) k v
@@ -82,6 +84,7 @@ module _ {K X : Type 0} {R : K → K → Ordering} (o : IsTotalOrder R) where
         get_entries fs q ∙ h q ∙ ap (λ b. cond b (Some v) (lookup (is_at (R q)) es)) ((eq_by_cmp_equiv o).symm k q)
         ∙ sym (get-insert o (from_entries es) k v q ∙ ap (cond (is_at (R q) k) (Some v)) (get_entries es q)))
 
+    -- entries that lack a key are the map without it
     pub removed : (es fs : List (K × X)) (k : K)
         → ((q : K) → lookup (is_at (R q)) fs ≡ cond (is_at (R k) q) None (lookup (is_at (R q)) es))
         → from_entries {R = R} fs ≡ remove (from_entries es) k

@@ -9,17 +9,21 @@ use Rattle.std.proofs.lemmas.Cmp.{on_total, then_total}
 use Rattle.std.proofs.lemmas.Map.Lookups.{CmpEqualImpliesEq, exact_pairs, exact_unsigned}
 use Rattle.grid_address.specs.Place.{place_cmp, same_place, Place}
 
+-- cells that compare as equal are the same
 pub cells_exact : CmpEqualImpliesEq place_cmp
 cells_exact a b h =
     ap (λ (p : ℕ × ℕ). record { row = p.0; col = p.1 })
     (exact_pairs nat_cmp nat_cmp exact_unsigned exact_unsigned (a.row, a.col) (b.row, b.col) h)
 
+-- the order of cells is total
 pub cells_total : IsTotalOrder place_cmp
 cells_total = then_total (on_total (λ s. s.row) nat_cmp_total) (on_total (λ s. s.col) nat_cmp_total)
 
+-- a cell is the same as itself
 pub same_place_itself : (c : Place) → same_place c c ≡ true
 same_place_itself c = and_from _ _ (eq-eqb c.row c.row refl) (eq-eqb c.col c.col refl)
 
+-- two cells that are told as the same are
 pub same_place_is : (a b : Place) → same_place a b ≡ true → a ≡ b
 same_place_is a b e =
     let p = and_parts _ _ e in
@@ -27,6 +31,7 @@ same_place_is a b e =
     let s : a.col ≡ b.col = eqb-true a.col b.col p.1 in
     λ i. record { row = r i; col = s i }
 
+-- sameness of cells is an equivalence
 pub same_place_laws : IsEquivalence same_place
 same_place_laws = record {
   refl = same_place_itself;

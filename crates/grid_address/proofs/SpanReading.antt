@@ -365,6 +365,7 @@ pub no_dots_at : (s : Progress) (bytes : List ℕ) (end : ℕ) → IsFront bytes
 no_dots_at s bytes end front more none =
     no_first s bytes end front (λ inside dot. absurd (no_dot_at end bytes inside none dot)) (λ same. absurd (more same))
 
+-- dots with no address behind them end the span before it begins
 pub no_second_at : (bytes : List ℕ) (n k end : ℕ) (one : Place) → n ≤ length bytes → SpellsCell (take n bytes) one
     → k ≡ count_dots (drop n bytes) → (k ≡ 0 → ⊥) → StopsAt IsAddress (drop (n + k) bytes) end
     → StopsAt IsSpan bytes (n + k + end)
@@ -374,6 +375,7 @@ no_second_at bytes n k end one inside is count some stops =
     (long_at bytes n k (omega (arith, inside, dots.within, length-drop n bytes))) (cut_at bytes n k)
     (parted_at bytes n k one is dots) stops
 
+-- two cells with dots between them spell their span
 pub two_cells_at : (bytes : List ℕ) (n k : ℕ) (one other : Place) → SpellsCell (take n bytes) one
     → k ≡ count_dots (drop n bytes) → (k ≡ 0 → ⊥) → SpellsCell (drop (n + k) bytes) other
     → SpellsSpan bytes (spanned one other)

@@ -74,6 +74,7 @@ word_completed begun (AltLetter l) (letters, b, is, found, letter, same) =
     (rw is (subst (λ (t : List ℕ). SpellsWord (123 ∷ t) (key.Alt (to_ascii_uppercase b)) 1)
     (sym (append_assoc letters (32 ∷ b ∷ []) (125 ∷ []))) (alt letters b found letter))))
 
+-- what was read has its keys
 pub has_keys : (bytes : List ℕ) (keys : Keys) (r : KeyReader) → HasRead bytes keys r → HasKeys bytes keys
 has_keys bytes keys r read =
     record {

@@ -206,6 +206,7 @@ module _ (bytes : List ℕ) (keys : Keys) (r : KeyReader) (b : ℕ) (read : HasR
   split_more : bytes ++ b ∷ [] ≡ read.whole ++ (read.begun ++ b ∷ [])
   split_more = ap (λ (l : List ℕ). l ++ b ∷ []) read.split ∙ append_assoc read.whole read.begun (b ∷ [])
 
+  -- a byte within a word keeps what was read
   pub goes_on : (next : Begun) → after r.begun b ≡ Going next → HasRead (bytes ++ b ∷ []) keys (moved r next)
   goes_on next is = elim (subst (Stepped read.begun b) is (stepped read.begun r.begun b read.holds)) [
     | inl holds ↦
@@ -232,6 +233,7 @@ module _ (bytes : List ℕ) (keys : Keys) (r : KeyReader) (b : ℕ) (read : HasR
     }
   ]
 
+  -- a byte that ends a word adds its key
   pub ends : (k : Key) (n : ℕ) → after r.begun b ≡ Ended k n
       → HasRead (bytes ++ b ∷ []) (keys ++ (k, n) ∷ []) (moved r Nothing)
   ends k n is = record {
@@ -251,6 +253,7 @@ module _ (bytes : List ℕ) (keys : Keys) (r : KeyReader) (b : ℕ) (read : HasR
       ∙ ap (after_keys keys) (holds_scanned read.begun r.begun read.holds)
       ∙ ap (λ (l : Keys). Some (l, r.begun)) (append-nil keys)
 
+  -- a byte that is refused begins no notation
   pub refused : after r.begun b ≡ Refused → Begins (bytes ++ b ∷ []) → ⊥
   refused is = begins_none (bytes ++ b ∷ [])
       (scan-append Nothing bytes (b ∷ []) ∙ ap (λ (s : Scan). scan_then s (b ∷ [])) scanned

@@ -22,6 +22,7 @@ use Rattle.key_words.specs.Begun.{after, closed, lettered, spaced}
 use Rattle.key_words.specs.Reading.{Holds}
 use Rattle.key_words.proofs.Tables.{capitals_split, folded_twice, letter_apart, letter_goes_on, looked_up_proper}
 
+-- keys with their repeats
 abbrev pub Keys : Type 0
 Keys = List (Key × ℕ)
 
@@ -34,15 +35,18 @@ abbrev pub after_keys : Keys → Scan → Scan
 after_keys keys None = None
 after_keys keys (Some s) = Some (keys ++ s.0, s.1)
 
+-- what a scan is behind one more byte
 abbrev pub scan_on : Next → (Begun → Scan) → Scan
 scan_on Refused rest = None
 scan_on (Going begun) rest = rest begun
 scan_on (Ended k n) rest = after_keys ((k, n) ∷ []) (rest Nothing)
 
+-- bytes that are read from a word's beginning on
 abbrev pub scan : Begun → List ℕ → Scan
 scan r [] = Some ([], r)
 scan r (b ∷ bs) = scan_on (after r b) (λ next. scan next bs)
 
+-- a scan that goes on over more bytes
 abbrev pub scan_then : Scan → List ℕ → Scan
 scan_then None bytes = None
 scan_then (Some s) bytes = after_keys s.0 (scan s.1 bytes)
@@ -51,6 +55,7 @@ keys_twice : (xs ys : Keys) (s : Scan) → after_keys xs (after_keys ys s) ≡ a
 keys_twice xs ys None = refl
 keys_twice xs ys (Some s) = ap (λ (l : Keys). Some (l, s.1)) (sym (append_assoc xs ys s.0))
 
+-- no keys before a scan change nothing
 pub no_keys : (s : Scan) → after_keys [] s ≡ s
 no_keys None = refl
 no_keys (Some s) = refl
@@ -141,6 +146,7 @@ later_fed k n d most within =
     let fits : nat_le (n * 10 + ((48 + d) - 48)) 9999 ≡ true = grind (arith, nat_tests, within) in
     rw (brace, low, high, fits) (ap (λ e. Going (Counted k (n * 10 + e))) (digit_again d))
 
+-- digits of a number of repeats are read as it
 pub digits_scanned : (k : Key) (digits : List ℕ) (n : ℕ) → IsRepeat digits n
     → scan (Spaced k) digits ≡ Some ([], Counted k n)
 digits_scanned k digits n (first {d} least most) = rw (first_fed k d least most) refl
@@ -210,6 +216,7 @@ closing letters m k found is =
     scan_from Nothing (Letters (map to_ascii_uppercase letters)) (123 ∷ letters) (125 ∷ [])
     (name_scanned letters m found) ∙ rw fed refl
 
+-- a word of the notation is read as its key
 pub word_scanned : (word : List ℕ) (k : Key) (n : ℕ) → SpellsWord word k n
     → scan Nothing word ≡ Some ((k, n) ∷ [], Nothing)
 word_scanned word k n (byte {b} is) = rw (typed_fed b is) refl
@@ -249,6 +256,7 @@ one_reading bytes xs ys p q =
     let pairs : ◌≡◌ {A = Keys × Begun} (xs, Nothing) (ys, Nothing) = cc in
     ap (λ (p : Keys × Begun). p.0) pairs
 
+-- what can't be read begins no notation
 pub begins_none : (bytes : List ℕ) → scan Nothing bytes ≡ None → Begins bytes → ⊥
 begins_none bytes none (more, keys, spelled) =
     let stopped : scan Nothing (bytes ++ more) ≡ None =

@@ -120,6 +120,7 @@ longer_is (e ∷ rest) letters b l is = elim (cases_Bool (goes_on e.0 letters b)
       record { same = later.same; more = later.more; found = found_later e rest (l ++ later.more) later.found })
 ]
 
+-- a name that is found is one of capitals
 pub looked_up_proper : (name : List ℕ) (m : Named) → looked_up name ≡ Some m
     → (0 < length name) × (list_all is_ascii_uppercase name ≡ true)
 looked_up_proper name m found =
@@ -128,6 +129,7 @@ looked_up_proper name m found =
     (found_proper names name m proper_names found) in
     (ltb-true _ _ parts.0, parts.1)
 
+-- each front of a name goes on with its next letter
 pub letter_goes_on : (letters more : List ℕ) (b : ℕ) (m : Named) → looked_up (letters ++ b ∷ more) ≡ Some m
     → longer letters b ≡ Some (letters ++ b ∷ [])
 letter_goes_on letters more b m found = longer_found names letters more b m found
@@ -154,6 +156,7 @@ capitals_split (x ∷ xs) ys all =
     let rest = capitals_split xs ys parts.1 in
     (and_from _ _ parts.0 rest.0, rest.1)
 
+-- a front that goes on is longer by that letter, and begins a name
 pub letter_is : (letters : List ℕ) (b : ℕ) (l : List ℕ) → longer letters b ≡ Some l
     → (l ≡ letters ++ b ∷ []) × BeginsName l
 letter_is letters b l is =
@@ -186,6 +189,7 @@ letter_apart b is =
     ] in
     (brace, space, rw (tilde, open_brace, brace) refl)
 
+-- letters that are raised twice are as raised once
 pub folded_twice : (letters : List ℕ)
     → map to_ascii_uppercase (map to_ascii_uppercase letters) ≡ map to_ascii_uppercase letters
 folded_twice [] = refl

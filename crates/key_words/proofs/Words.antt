@@ -15,6 +15,7 @@ module _ (at : ℕ) (inside : List ℕ) where
       named_word (looked_up (map to_ascii_uppercase (take len inside)))
       (command_named (map to_ascii_uppercase (take len inside))) (cut at (at + len)) (behind_name at inside)
 
+  -- a word in braces is what its name and what stands behind it make
   pub word_made : (n : Option Named) (c : Option Command) (len : ℕ) (behind : Option Cut) (w : MacroWord) →
       n ≡ looked_up (map to_ascii_uppercase (take len inside))
       → c ≡ command_named (map to_ascii_uppercase (take len inside)) → behind ≡ behind_name at inside

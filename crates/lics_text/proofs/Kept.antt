@@ -17,12 +17,14 @@ folded_large b h = grind (arith, nat_tests)
 lowered_large : (b : ℕ) → 32 ≤ b → 32 ≤ to_ascii_lowercase b
 lowered_large b h = grind (arith, nat_tests)
 
+-- a text stays one with its letters raised
 pub upper_kept : (xs : List ℕ) → IsText xs → IsText (map to_ascii_uppercase xs)
 upper_kept xs text = (
   omega (arith, length-map xs to_ascii_uppercase, text.0),
   All-map (λ b. 32 ≤ b) to_ascii_uppercase xs (λ k d h. folded_large (get_or xs k d) (text.1 k d h)),
 )
 
+-- it stays one with them lowered
 pub lower_kept : (xs : List ℕ) → IsText xs → IsText (map to_ascii_lowercase xs)
 lower_kept xs text = (
   omega (arith, length-map xs to_ascii_lowercase, text.0),
@@ -43,9 +45,11 @@ proper_large before (x ∷ xs) all =
     All-cons (λ b. 32 ≤ b) _ _ (cased_large before x (All-head (λ b. 32 ≤ b) x xs all))
     (proper_large (is_ascii_alphabetic x) xs (All-tail (λ b. 32 ≤ b) x xs all))
 
+-- it stays one with its words begun by capitals
 pub proper_kept : (xs : List ℕ) → IsText xs → IsText (proper_of xs)
 proper_kept xs text = (omega (arith, length-proper_after false xs, text.0), proper_large false xs (text.1))
 
+-- without its front a text is no longer
 pub front_shorter : (xs : List ℕ) → length (without_front xs) ≤ length xs
 front_shorter [] = omega arith
 front_shorter (x ∷ xs) = elim (cases_Bool (x == 32)) [
@@ -76,6 +80,7 @@ single_large (x ∷ xs) all = elim (cases_Bool (x == 32 && is_gap xs)) [
       (single_large xs (All-tail (λ b. 32 ≤ b) x xs all)))
 ]
 
+-- a trimmed text is a text
 pub trim_kept : (xs : List ℕ) → IsText xs → IsText (trimmed xs)
 trim_kept xs text = (
   omega (arith, single_shorter (without_front xs), front_shorter xs, text.0),

@@ -23,6 +23,7 @@ left_ends [] [] h = refl
 left_ends [] (y ∷ ys) h = grind (arith, nat_tests)
 left_ends (x ∷ xs) ys h = absurd (omega (arith, h))
 
+-- against an empty text the lengths decide
 pub right_ends : (xs ys : List ℕ) → length ys ≡ 0 → slice_cmp nat_cmp xs ys ≡ nat_cmp (length xs) (length ys)
 right_ends [] [] h = refl
 right_ends (x ∷ xs) [] h = grind (arith, nat_tests)
@@ -31,6 +32,7 @@ right_ends xs (y ∷ ys) h = absurd (omega (arith, h))
 same_lengths : (m n i : ℕ) → i ≤ m → i ≤ n → nat_cmp (m - i) (n - i) ≡ nat_cmp m n
 same_lengths m n i p q = grind (arith, nat_tests)
 
+-- where one of two texts ends, their lengths decide
 pub at_an_end : (a b : List ℕ) (i : ℕ) → i ≤ length a → i ≤ length b → (length a ≤ i) ⊎ (length b ≤ i)
     → slice_cmp nat_cmp (map to_ascii_uppercase (drop i a)) (map to_ascii_uppercase (drop i b))
     ≡ nat_cmp (length a) (length b)

@@ -14,6 +14,7 @@ use Rattle.outside_world.specs.declared.map_shelf.Entry.{Entry}
 use Rattle.outside_world.specs.declared.faults.ShelfFault.{ShelfFault}
 use Rattle.outside_world.specs.declared.faults.ShelfFault.TheVariants.{Failed, Memory}
 
+-- what a shelf holds under a name behind a change of one file
 pub held_here : (held : Option (List ℕ)) (name wanted : List ℕ) (files : Files)
     → file_in wanted (held_as name held files) ≡ cond (bytes_eq wanted name) held (file_in wanted files)
 held_here None name wanted files =
@@ -23,15 +24,18 @@ held_here (Some bytes) name wanted files =
     get-insert nat_list_cmp_total files name bytes wanted
     ∙ ap (λ b. cond b (Some bytes) (file_in wanted files)) (is_eq-slice_cmp wanted name)
 
+-- the changed file holds what it was given
 pub found : (held : Option (List ℕ)) (name wanted : List ℕ) (files : Files) → bytes_eq wanted name ≡ true
     → file_in wanted (held_as name held files) ≡ held
 found held name wanted files same = held_here held name wanted files ∙ ap (λ b. cond b held (file_in wanted files)) same
 
+-- any other file holds what it did
 pub passed : (held : Option (List ℕ)) (name wanted : List ℕ) (files : Files) → bytes_eq wanted name ≡ false
     → file_in wanted (held_as name held files) ≡ file_in wanted files
 passed held name wanted files other =
     held_here held name wanted files ∙ ap (λ b. cond b held (file_in wanted files)) other
 
+-- where no change is left, no file is found
 pub none_left : (rest : List Entry) (name : List ℕ) → length rest ≡ 0 → file_in name (files_of rest) ≡ None
 none_left [] name none = get-empty file_cmp name
 none_left (e ∷ rest) name none = absurd (omega arith)

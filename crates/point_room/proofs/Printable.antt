@@ -11,6 +11,7 @@ use Rattle.grid_address.specs.Place.{Place}
 use Rattle.session_rooms.specs.declared.pointed.Signs.{Signs}
 use Rattle.point_room.specs.Pointing.{anchor_text, fixes_column, fixes_row, reference_by, sign_if, signed_address}
 
+-- the byte can be shown
 abbrev pub Prints : ℕ → Type 0
 Prints b = 32 ≤ b
 
@@ -50,6 +51,7 @@ anchor_prints : (s : Signs) (anchor : Option Place) → All Prints (anchor_text 
 anchor_prints s None = All-nil Prints
 anchor_prints s (Some a) = All-append Prints (signed_address s a) (codes "..") (address_prints s a) dots_print
 
+-- a reference is written in such bytes
 pub reference_prints : (s : Signs) (anchor : Option Place) (corner : Place) → All Prints (reference_by s anchor corner)
 reference_prints s anchor corner =
     All-append Prints (anchor_text s anchor) (signed_address s corner) (anchor_prints s anchor)

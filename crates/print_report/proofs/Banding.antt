@@ -14,6 +14,7 @@ next_columns : (s : SavedSheet) (col end : ℕ) → col < end
     ∷ columns_from s (col + 1) (end - (col + 1)))
 next_columns s col end less = ap (columns_from s col) (let e : end - col ≡ suc (end - (col + 1)) = omega arith in e)
 
+-- a hidden column is left out
 pub column_passed : (s : SavedSheet) (all now : List ℕ) (col end : ℕ) → col < end → is_hidden s.store col ≡ true
     → all ≡ now ++ columns_from s col (end - col) → all ≡ now ++ columns_from s (col + 1) (end - (col + 1))
 column_passed s all now col end less hidden so_far =
@@ -22,6 +23,7 @@ column_passed s all now col end less hidden so_far =
     ∙ ap (λ b. if b then columns_from s (col + 1) (end - (col + 1)) else col
     ∷ columns_from s (col + 1) (end - (col + 1))) hidden)
 
+-- a column that isn't hidden joins the band
 pub column_taken : (s : SavedSheet) (all now : List ℕ) (col end : ℕ) → col < end → is_hidden s.store col ≡ false
     → all ≡ now ++ columns_from s col (end - col)
     → all ≡ (now ++ col ∷ []) ++ columns_from s (col + 1) (end - (col + 1))
@@ -47,6 +49,7 @@ wide_more : (s : SavedSheet) (xs : List ℕ) (c : ℕ) → wide s (xs ++ c ∷ [
 wide_more s [] c = omega arith
 wide_more s (x ∷ xs) c = omega (arith, wide_more s xs c)
 
+-- a band is wider by the column that joins it
 pub wide_taken : (s : SavedSheet) (columns : List ℕ) (at d : ℕ) → at < length columns
     → wide s (take (at + 1) columns) ≡ wide s (take at columns) + width_in s (get_or columns at d)
 wide_taken s columns at d inside =

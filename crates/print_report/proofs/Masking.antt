@@ -9,6 +9,7 @@ use Rattle.cell_format.specs.Labels.{masked}
 same_byte : (a b : ℕ) → (a == b) ≡ true → a ≡ b
 same_byte a b same = grind (arith, nat_tests, same)
 
+-- bytes that are shown as they are stay
 pub plain_kept : (bytes : List ℕ) → list_all (λ b. masked b == b) bytes ≡ true → map masked bytes ≡ bytes
 plain_kept [] all = refl
 plain_kept (b ∷ bs) all =

@@ -6,6 +6,7 @@ use Rattle.std.proofs.Math.Seq.{drop-cons}
 use Rattle.list_lemmas.proofs.Takes.{take-take-append}
 use Rattle.print_report.specs.Running.{filled, filled_in, part}
 
+-- one more byte of a header or footer
 pub byte_filled : (width number : ℕ) (day : Option ℕ) (text now next : List ℕ) (at d : ℕ) → at < length text
     → part width number day text ≡ take width (now ++ filled_in number day (drop at text))
     → next ≡ take width (now ++ filled number day (get_or text at d))
@@ -20,6 +21,7 @@ byte_filled width number day text now next at d inside so_far is =
     ∙ sym (take-take-append width (now ++ filled number day (get_or text at d)) rest)
     ∙ ap (λ (l : List ℕ). take width (l ++ rest)) (sym is)
 
+-- what is cut to a width is no longer
 pub still_short : (width : ℕ) (xs next : List ℕ) → next ≡ take width xs → length next ≤ width
 still_short width xs next is = omega (arith, ap length is, length-take width xs)
 

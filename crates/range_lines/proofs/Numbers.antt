@@ -10,6 +10,7 @@ numbers_suc n (suc k) =
     ap (λ l. n ∷ l) (numbers_suc (n + 1) k
     ∙ ap (λ m. numbers_from (n + 1) k ++ m ∷ []) (let e : n + 1 + k ≡ n + suc k = omega arith in e))
 
+-- one number more
 pub numbers_more : (n k : ℕ) → numbers_from n (k + 1) ≡ numbers_from n k ++ (n + k) ∷ []
 numbers_more n k = ap (numbers_from n) (let e : k + 1 ≡ suc k = omega arith in e) ∙ numbers_suc n k
 

@@ -10,11 +10,13 @@ use Rattle.range_lines.specs.Rows.{numbers_from}
 abbrev pub left : ℕ → ℕ → ℕ → List ℕ
 left n count i = numbers_from (n + i) (count - i)
 
+-- where numbers are left, the next one is the first of them
 pub left_more : (n count i : ℕ) → i < count → left n count i ≡ (n + i) ∷ left n count (i + 1)
 left_more n count i inside =
     ap (numbers_from (n + i)) (let e : count - i ≡ suc (count - (i + 1)) = omega (arith, inside) in e)
     ∙ ap (λ m. (n + i) ∷ numbers_from m (count - (i + 1))) (let e : n + i + 1 ≡ n + (i + 1) = omega arith in e)
 
+-- past the last one none is left
 pub left_none : (n count i : ℕ) → count ≤ i → left n count i ≡ []
 left_none n count i past = ap (numbers_from (n + i)) (let e : count - i ≡ 0 = omega (arith, past) in e)
 
@@ -25,45 +27,54 @@ left_first n count =
     ∙ ap (numbers_from n) (let e : count - 0 ≡ count = omega arith in e)
 
 module _ (f : ℕ → Bool) (n count i : ℕ) where
+  -- one that passes leaves it to the others
   pub all_more : (c : Bool) → i < count → f (n + i) ≡ true → list_all f (left n count i) ≡ c
       → list_all f (left n count (i + 1)) ≡ c
   all_more c inside held so_far =
       sym (ap (list_all f) (left_more n count i inside) ∙ ap (λ b. b && list_all f (left n count (i + 1))) held)
       ∙ so_far
 
+  -- one that doesn't decides
   pub all_stop : (c : Bool) → i < count → f (n + i) ≡ false → list_all f (left n count i) ≡ c → false ≡ c
   all_stop c inside fails so_far =
       sym (ap (list_all f) (left_more n count i inside) ∙ ap (λ b. b && list_all f (left n count (i + 1))) fails)
       ∙ so_far
 
+  -- with none left all pass
   pub all_end : (c : Bool) → count ≤ i → list_all f (left n count i) ≡ c → true ≡ c
   all_end c past so_far = sym (ap (list_all f) (left_none n count i past)) ∙ so_far
 
+  -- one that doesn't pass leaves it to the others
   pub any_more : (c : Bool) → i < count → f (n + i) ≡ false → list_any f (left n count i) ≡ c
       → list_any f (left n count (i + 1)) ≡ c
   any_more c inside fails so_far =
       sym (ap (list_any f) (left_more n count i inside) ∙ ap (λ b. b || list_any f (left n count (i + 1))) fails)
       ∙ so_far
 
+  -- one that does decides
   pub any_stop : (c : Bool) → i < count → f (n + i) ≡ true → list_any f (left n count i) ≡ c → true ≡ c
   any_stop c inside held so_far =
       sym (ap (list_any f) (left_more n count i inside) ∙ ap (λ b. b || list_any f (left n count (i + 1))) held)
       ∙ so_far
 
+  -- with none left none passes
   pub any_end : (c : Bool) → count ≤ i → list_any f (left n count i) ≡ c → false ≡ c
   any_end c past so_far = sym (ap (list_any f) (left_none n count i past)) ∙ so_far
 
+  -- one that doesn't pass is looked past
   pub find_more : (o : Option ℕ) → i < count → f (n + i) ≡ false → find f (left n count i) ≡ o
       → find f (left n count (i + 1)) ≡ o
   find_more o inside fails so_far =
       sym (ap (find f) (left_more n count i inside)
       ∙ ap (λ b. cond b (Some (n + i)) (find f (left n count (i + 1)))) fails) ∙ so_far
 
+  -- the first that passes is found
   pub find_stop : (o : Option ℕ) → i < count → f (n + i) ≡ true → find f (left n count i) ≡ o → Some (n + i) ≡ o
   find_stop o inside held so_far =
       sym (ap (find f) (left_more n count i inside)
       ∙ ap (λ b. cond b (Some (n + i)) (find f (left n count (i + 1)))) held) ∙ so_far
 
+  -- with none left none is found
   pub find_end : (o : Option ℕ) → count ≤ i → find f (left n count i) ≡ o → None ≡ o
   find_end o past so_far = sym (ap (find f) (left_none n count i past)) ∙ so_far
 
@@ -72,6 +83,7 @@ module _ {X : Type 0} (make : ℕ → X) (f : ℕ → Bool) (n count : ℕ) wher
   abbrev pub passed : ℕ → List X
   passed i = map make (filter f (left n count i))
 
+  -- one that passes is put behind what there is
   pub put_one : (i : ℕ) (now new all : List X) (x : X) → i < count → f (n + i) ≡ true → x ≡ make (n + i)
       → new ≡ now ++ x ∷ [] → now ++ passed i ≡ all → new ++ passed (i + 1) ≡ all
   put_one i now new all x inside held is more so_far =
@@ -82,6 +94,7 @@ module _ {X : Type 0} (make : ℕ → X) (f : ℕ → Bool) (n count : ℕ) wher
       ∙ ap (λ b. map make (cond b ((n + i) ∷ filter f (left n count (i + 1))) (filter f (left n count (i + 1))))) held))
       ∙ so_far
 
+  -- one that doesn't leaves what there is
   pub put_none : (i : ℕ) (now all : List X) → i < count → f (n + i) ≡ false → now ++ passed i ≡ all
       → now ++ passed (i + 1) ≡ all
   put_none i now all inside fails so_far =
@@ -91,6 +104,7 @@ module _ {X : Type 0} (make : ℕ → X) (f : ℕ → Bool) (n count : ℕ) wher
       fails))
       ∙ so_far
 
+  -- with none left all is put
   pub put_all : (i : ℕ) (now all : List X) → count ≤ i → now ++ passed i ≡ all → now ≡ all
   put_all i now all past so_far =
       sym (append-nil now) ∙ ap (λ l. now ++ map make (filter f l)) (sym (left_none n count i past)) ∙ so_far
@@ -104,6 +118,7 @@ module _ {X : Type 0} (h : ℕ → Option X) (n count : ℕ) where
   listed None xs = refl
   listed (Some x) xs = refl
 
+  -- what a number gives is put behind what there is
   pub took_next : (i : ℕ) (now new all : List X) (o : Option X) → i < count → o ≡ h (n + i)
       → new ≡ now ++ option_to_list o → now ++ taken_of i ≡ all → new ++ taken_of (i + 1) ≡ all
   took_next i now new all o inside is more so_far =
@@ -111,6 +126,7 @@ module _ {X : Type 0} (h : ℕ → Option X) (n count : ℕ) where
       ∙ ap (λ l. now ++ l) (listed o (taken_of (i + 1)) ∙ ap (λ p. cons_option p (taken_of (i + 1))) is
       ∙ sym (ap (filter_map h) (left_more n count i inside))) ∙ so_far
 
+  -- with none left all is taken
   pub took_all : (i : ℕ) (now all : List X) → count ≤ i → now ++ taken_of i ≡ all → now ≡ all
   took_all i now all past so_far =
       sym (append-nil now) ∙ ap (λ l. now ++ filter_map h l) (sym (left_none n count i past)) ∙ so_far
@@ -121,6 +137,7 @@ module _ {X : Type 0} (make : ℕ → X) where
   made_count n zero = refl
   made_count n (suc k) = ap suc (made_count (n + 1) k)
 
+  -- the item at a place is made of that number
   pub made_at : (n k i : ℕ) (d : X) → i < k → get_or (map make (numbers_from n k)) i d ≡ make (n + i)
   made_at n zero i d inside = absurd (omega (arith, inside))
   made_at n (suc k) zero d inside = ap make (let e : n ≡ n + 0 = omega arith in e)

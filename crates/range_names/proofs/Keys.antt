@@ -13,6 +13,7 @@ use Rattle.range_names.specs.Names.{name_in}
 abbrev pub key_upto : List ℕ → ℕ → List ℕ
 key_upto name at = map to_ascii_uppercase (take at name) ++ replicate (15 - at) 0
 
+-- one more letter of a name in its key
 pub filled : (name key : List ℕ) (at b : ℕ) → at < length name → length name ≤ 15 → key ≡ key_upto name at
     → b ≡ to_ascii_uppercase (get_or name at 0) → set key at b ≡ key_upto name (at + 1)
 filled name key at b inside fits is folds =
@@ -36,5 +37,6 @@ filled name key at b inside fits is folds =
 abbrev pub IsNamed : List ℕ → ℕ → Type 0
 IsNamed key len = take len key ++ name_in (drop len key) ≡ name_in key
 
+-- a name's count in a key is its first 15 bytes
 pub counted_is : (name : List ℕ) (count : ℕ) → count ≡ min (length name) 15 → take count name ≡ take 15 name
 counted_is name count is = ap (λ k. take k name) (is ∙ min_comm (length name) 15) ∙ take_min 15 name

@@ -130,6 +130,7 @@ folded_name name h =
     (λ i. fault_by (long i == 0) (nat_lt 15 (long i)) (same_space name i) q)
     ∙ same_fault (length name == 0) (nat_lt 15 (length name)) (get_or name 0 0 == 32) p q h (folded_filled name)
 
+-- the key of a name without fault is a key
 pub is_key : (name : List ℕ) → fault_of name ≡ None → IsKey (key_of name)
 is_key name h =
     let good = no_fault (length name == 0) (nat_lt 15 (length name)) (bad_place name) h in
@@ -210,6 +211,7 @@ pub record Finds (names : NameMap) (span : Extent) (name : List ℕ) : Type 0 wh
   pub short : length name ≤ 15
   pub found : get names (key_of name) ≡ Some span
 
+-- a name that is written for a span finds it
 pub finds : (names : NameMap) (span : Extent) (name : List ℕ) → AreKeys names → name_of_span names span ≡ Some name
     → Finds names span name
 finds names span name keyed h =
@@ -231,6 +233,7 @@ put_key : (c : Bool) (key other : List ℕ) (span : Extent) (old : Option Extent
 put_key true key other span old found same is before h = subst IsKey (sym (same refl)) is
 put_key false key other span old found same is before h = before h
 
+-- a key that is put in leaves all keyed
 pub put_keyed : (names : NameMap) (key : List ℕ) (span : Extent) → AreKeys names → IsKey key
     → AreKeys (insert names key span)
 put_keyed names key span keyed is q found h =
@@ -242,6 +245,7 @@ took_key : (c : Bool) (old : Option Extent) (found : Extent) → cond c None old
 took_key true old found h = absurd (none-some _ h)
 took_key false old found h = h
 
+-- a key that is taken away leaves all keyed
 pub removed_keyed : (names : NameMap) (key : List ℕ) → AreKeys names → AreKeys (remove names key)
 removed_keyed names key keyed q found h =
     keyed q found (took_key (eq_by_cmp name_cmp q key) (get names q) found

@@ -57,6 +57,7 @@ one_of goes old_at new_at old new stays at within (Some p) e is =
       row = kind_kept (is_fixed old.row) p.row new_at.row 8192;
     })
 
+-- references follow where their cells go
 pub all_follow : (goes : Place → Option Place) → StaysInSheet goes → ReferencesFollow goes
 all_follow goes stays old_at new_at old new at within is =
     one_of goes old_at new_at old new stays at within (goes (resolve old old_at)) refl is
@@ -77,6 +78,7 @@ after_move from to p here e = elim (cases_Bool (is_within from p)) [
   ])
 ]
 
+-- a move keeps cells in the sheet
 pub moves_stay : (from : Extent) (to : Place) → FitsAt from to → StaysInSheet (place_moved from to)
 moves_stay from to fits p q inside e = elim (after_move from to p q e) [
   | inl moved ↦ (let row : p.row ≤ from.last.row = grind (arith, nat_tests, moved.0) in
@@ -116,6 +118,7 @@ apart_from from to p q here within came free is =
     ap (is_within (target from to)) (is ∙ sym came) ∙ in_target from to p within in
     absurd cc
 
+-- it keeps them apart
 pub moves_apart : (from : Extent) (to : Place) → FitsAt from to → IsOneToOne (place_moved from to)
 moves_apart from to fits p q here a b e f = elim (after_move from to p here e) [
   | inl moved ↦ (elim (after_move from to q here f) [
@@ -206,6 +209,7 @@ by_col p q (Some col) e =
     (let same : record { row = p.row; col = col } ≡ q = cc in
     (ap (λ (x : Place). Some x.col) same, ap (λ (x : Place). x.row) same))
 
+-- inserts and deletes keep cells in the sheet
 pub changes_stay : (change : Change) → StaysInSheet (place_shifted change)
 changes_stay (InsertRows first count) p q inside e =
     let is = by_row p q (line_inserted 8192 first count p.row) e in
@@ -220,6 +224,7 @@ changes_stay (DeleteColumns first count) p q inside e =
     let is = by_col p q (line_deleted first count p.col) e in
     (omega (arith, inside.0, is.1), delete_stays 256 first count p.col q.col inside.1 is.0)
 
+-- they keep them apart
 pub changes_apart : (change : Change) → IsOneToOne (place_shifted change)
 changes_apart (InsertRows first count) p q here a b e f =
     let x = by_row p here (line_inserted 8192 first count p.row) e in

@@ -15,6 +15,7 @@ added n xs ys =
     let same : n - length (take n xs) ≡ n - length xs = omega (arith, length-take n xs) in
     ap (λ (k : ℕ). take n xs ++ take k ys) same ∙ sym (take-append n xs ys)
 
+-- a cut run of one byte
 pub take_run : (n m b : ℕ) → take n (replicate m b) ≡ replicate (min n m) b
 take_run n m b = elim (cases_lt m n) [
   | inl less ↦
@@ -25,6 +26,7 @@ take_run n m b = elim (cases_lt m n) [
       rw k (take-replicate n m b more)
 ]
 
+-- a padded text is as long as its width
 pub padded_length : (width : ℕ) (text : List ℕ) → length (padded width text) ≡ width
 padded_length width text = simp (length-append, length-take, length-replicate) (omega arith)
 

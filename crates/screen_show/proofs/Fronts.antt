@@ -7,6 +7,7 @@ use Rattle.std.proofs.lemmas.Bool.{cases_Bool, eq-eqb}
 use Rattle.list_lemmas.proofs.Takes.{take-add}
 use Rattle.screen_show.specs.Changes.{patched_line, line_differences, line_runs, runs_after, differing_front}
 
+-- equal bytes end the front that differs
 pub front_stops : (before after : List ℕ) (n : ℕ) → n < length before → n < length after
     → get_or before n 0 ≡ get_or after n 0 → differing_front (drop n before) (drop n after) ≡ 0
 front_stops before after n h k same =
@@ -20,6 +21,7 @@ take_further n m xs ys first more =
     take-add n m xs ∙ ap (λ (l : List ℕ). l ++ take m (drop n xs)) first ∙ ap (λ (l : List ℕ). take n ys ++ l) more
     ∙ sym (take-add n m ys)
 
+-- a patched line is the front that differs, and the patched rest
 pub run_line : (before after line : List ℕ) → length before ≡ length after → length line ≡ length after →
     patched_line before after line
     ≡ take (differing_front before after) after
@@ -44,6 +46,7 @@ inside_runs (b ∷ bs) (a ∷ xs) h = elim (cases_Bool (b == a)) [
   | inr apart ↦ rw apart (zero-add (runs_after true bs xs) ∙ inside_runs bs xs (omega arith))
 ]
 
+-- the runs of a line are one more than those of its rest
 pub run_count : (before after : List ℕ) → length before ≡ length after → 0 < differing_front before after →
     line_runs before after ≡ 1
     + line_runs (drop (differing_front before after) before) (drop (differing_front before after) after)
@@ -54,6 +57,7 @@ run_count (b ∷ bs) (a ∷ xs) h more = elim (cases_Bool (b == a)) [
   | inr apart ↦ rw apart (ap (λ n. 1 + n) (inside_runs bs xs (omega arith)))
 ]
 
+-- the bytes that differ are those of the front and of the rest
 pub run_differences : (before after : List ℕ) → length before ≡ length after →
     line_differences before after
     ≡ differing_front before after
@@ -72,6 +76,7 @@ same_first b a bs xs h = elim (cases_Bool (b == a)) [
   | inr apart ↦ (let one : suc (differing_front bs xs) ≡ 0 = rw apart at h in absurd (omega arith))
 ]
 
+-- a patched line is as long as the new one
 pub length-patched_line : (before after line : List ℕ) → length before ≡ length after → length line ≡ length after
     → length (patched_line before after line) ≡ length after
 length-patched_line [] [] line h k = refl

@@ -27,11 +27,13 @@ pub record OnLine (row col : ℕ) (before after : List ℕ) (s t : Shown) : Type
   pub puts_in : t.puts ≤ 2 ^ 64 - 1
   pub bytes_in : t.bytes_put ≤ 2 ^ 64 - 1
 
+-- a line is sent up to a column
 abbrev pub SendingLine : ℕ → ℕ → List ℕ → List ℕ → Option Shown → Option Shown → Type 0
 SendingLine row col before after None now = now ≡ None
 SendingLine row col before after (Some s) None = ⊥
 SendingLine row col before after (Some s) (Some t) = OnLine row col before after s t
 
+-- nothing of a line is sent yet
 pub line_starts : (row : ℕ) (before after : List ℕ) (was : Option Shown) → row < 25 → TellsSoundly was
     → SendingLine row 0 before after was was
 line_starts row before after None h sound = refl
@@ -141,12 +143,14 @@ module _ (row col : ℕ) (before after : List ℕ) (wide_before : length before 
         bytes_in = omega arith;
       }
 
+  -- a byte that agrees is sent as it is
   pub line_same : (was now : Option Shown) → col < 80 → differing_front (drop col before) (drop col after) ≡ 0
       → SendingLine row col before after was now → SendingLine row (col + 1) before after was now
   line_same None now below none on = on
   line_same (Some s) None below none on = on
   line_same (Some s) (Some t) below none on = same_place s t below none on
 
+  -- a run of bytes that differ is put
   pub line_put : (was then now : Option Shown) (n : ℕ) (bytes : List ℕ) (u : Unit {0})
       → n ≡ differing_front (drop col before) (drop col after) → 0 < n → col + n ≤ 80 → row < 25 → TellsSoundly was →
       bytes ≡ take n (drop col after) → Puts row col bytes then now (Ok u) → SendingLine row col before after was then
@@ -159,6 +163,7 @@ module _ (row col : ℕ) (before after : List ℕ) (wide_before : length before 
       (sym (put ∙ ap (λ (b : List ℕ). Some (with_bytes row col b t)) piece))
       (run_put s t n is more below (omega (arith, sound.screen.lines)) on)
 
+-- so is a stretch in which the lines agree, without a call
 pub line_stretch : (n row col : ℕ) (before after : List ℕ) (was now : Option Shown) → length before ≡ 80
     → length after ≡ 80 → col + n ≤ 80 →
     take n (drop col before) ≡ take n (drop col after) → SendingLine row col before after was now
@@ -180,6 +185,7 @@ line_stretch (suc n) row col before after was now before_wide after_wide within 
     (line_stretch n row (col + 1) before after was now before_wide after_wide (omega arith) more
     (line_same row col before after before_wide after_wide was now (omega arith) none on))
 
+-- a line begins with such a stretch
 pub line_begins : (n row : ℕ) (before after : List ℕ) (was : Option Shown) → row < 25 → length before ≡ 80
     → length after ≡ 80 → n ≤ 80 →
     take n before ≡ take n after → TellsSoundly was → SendingLine row n before after was was
@@ -192,9 +198,11 @@ line_begins n row before after was inside before_wide after_wide within same sou
 -- the rests of two lines from a place on
 module _ (at k : ℕ) (before after before_rest after_rest : List ℕ) (b : before_rest ≡ drop at before)
     (a : after_rest ≡ drop at after) where
+  -- what agrees in the rests agrees in the lines
   pub rests_equal : take k before_rest ≡ take k after_rest → take k (drop at before) ≡ take k (drop at after)
   rests_equal same = sym (ap (take k) b) ∙ same ∙ ap (take k) a
 
+  -- what differs in the rests differs in the lines
   pub rests_differ : (k < length before_rest → 0 < differing_front (drop k before_rest) (drop k after_rest))
       → at + k < length before →
       0 < differing_front (drop (at + k) before) (drop (at + k) after)
@@ -226,6 +234,7 @@ same_line_differences (x ∷ xs) =
     let test : (x == x) ≡ true = eq-eqb x x refl in
     rw test (omega (arith, same_line_differences xs))
 
+-- a line that didn't change needs no call
 pub line_unchanged : (row : ℕ) (before after : List ℕ) (was : Option Shown) (u : Unit {0}) → row < 25
     → length before ≡ 80 → before ≡ after → TellsSoundly was → SendsLine row before after was was (Ok u)
 line_unchanged row before after None u h wide same sound = refl

@@ -25,6 +25,7 @@ get_set_same [] i x h = absurd (omega arith)
 get_set_same (y ∷ ys) zero x h = refl
 get_set_same (y ∷ ys) (suc i) x h = get_set_same ys i x (omega arith)
 
+-- an item at another place stays
 pub get_set_other : {X : Type 0} → (xs : List X) (i j : ℕ) (x : X) → (j ≡ i → ⊥)
     → slice_get (set xs i x) j ≡ slice_get xs j
 get_set_other [] i j x apart = refl
@@ -50,6 +51,7 @@ pub record Copying (row : ℕ) (was from now : List (List ℕ)) : Type 0 where
   pub lines : length now ≡ 25
 
 module _ (lines : List Bool) (was from : List (List ℕ)) (unchanged : Unchanged lines was from) where
+  -- no line is copied yet
   pub copying_starts : (row : ℕ) → ((k : ℕ) → 0 ≤ k → k < row → slice_get lines k ≡ Some false) → length was ≡ 25
       → Copying row was from was
   copying_starts row passed long = record {
@@ -78,6 +80,7 @@ module _ (lines : List Bool) (was from : List (List ℕ)) (unchanged : Unchanged
     lines = length-set now row (get_or from row []) ∙ on.lines;
   }
 
+  -- past the last line all are copied
   pub copying_ends : (row : ℕ) (now : List (List ℕ)) → 25 ≤ row → length from ≡ 25 → Copying row was from now
       → now ≡ from
   copying_ends row now all long on = same_elements now from (λ k. elim (cases_lt k row) [

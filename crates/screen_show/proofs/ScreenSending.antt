@@ -27,17 +27,20 @@ pub record OnScreen (row : ℕ) (before after : List (List ℕ)) (s t : Shown) :
   pub closes : t.closes ≡ s.closes
   pub sound : IsSound t
 
+-- a screen is sent up to a line
 abbrev pub SendingScreen : ℕ → List (List ℕ) → List (List ℕ) → Option Shown → Option Shown → Type 0
 SendingScreen row before after None now = now ≡ None
 SendingScreen row before after (Some s) None = ⊥
 SendingScreen row before after (Some s) (Some t) = OnScreen row before after s t
 
+-- nothing of it is sent yet
 pub screen_starts : (before after : List (List ℕ)) (was : Option Shown) → TellsSoundly was
     → SendingScreen 0 before after was was
 screen_starts before after None sound = refl
 screen_starts before after (Some s) sound =
     record { screen = refl; frames = refl; puts = refl; bytes_put = refl; closes = refl; sound = sound }
 
+-- a display that is sent to still tells what it shows
 pub screen_sound : (row : ℕ) (before after : List (List ℕ)) (was now : Option Shown)
     → SendingScreen row before after was now → TellsSoundly now
 screen_sound row before after None None on = tt
@@ -110,6 +113,7 @@ module _ (row : ℕ) (before after : List (List ℕ)) (b a : List ℕ) (below : 
         };
       }
 
+  -- one more line is sent
   pub screen_more : (was then now : Option Shown) (u : Unit {0}) → SendsLine row b a then now (Ok u)
       → SendingScreen row before after was then → SendingScreen (row + 1) before after was now
   screen_more None None now u sent on = sent
@@ -208,6 +212,7 @@ module _ (row : ℕ) (before after : List (List ℕ)) (before_shape : IsScreen b
         closes = on.closes;
       }
 
+-- past the last line the screen is sent, and finished
 pub screen_ends : (row : ℕ) (before after : List (List ℕ)) (was then now : Option Shown) (result : Result Unit Failed)
     → IsScreen before → IsScreen after → TellsSoundly was → 25 ≤ row →
     SendingScreen row before after was then → Finishes then now result → Sends before after was now result

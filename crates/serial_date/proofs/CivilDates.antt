@@ -32,10 +32,12 @@ eve = omega (arith, signed_arith, days_from_civil-day_count (pos 1899) 12 31, ev
 since : (d : Date) → days_since_1899 d ≡ epoch_day d +ℤ pos 25_568
 since d = omega (arith, signed_arith, eve)
 
+-- the days since 1899, by those since a fixed day long before
 pub days_after : (d : Date) (days : ℕ) → epoch_day d +ℤ pos 4_371_587 ≡ pos days
     → days_since_1899 d +ℤ pos 4_346_019 ≡ pos days
 days_after d days e = omega (arith, signed_arith, since d, e)
 
+-- 31 December 1899 is 25,568 days before 1970
 pub eve_date : (d : Date) → IsYmd (pos 1899) (pos 12) (pos 31) d → epoch_day d +ℤ pos 25_568 ≡ pos 0
 eve_date d is =
     let month : d.month ≡ 12 = omega (arith, signed_arith, is.1) in
@@ -109,10 +111,12 @@ count_is : (y m dd : ℕ) → day_count (pos y) m dd ≡ civil_years (y + 10000)
 unfolding day_count
 count_is y m dd = refl
 
+-- up to 28 February 1900 a day's number is its count
 pub numbered_low : (z : ℤ) (n : ℕ) → z ≡ pos n → n < 60 → numbered z ≡ pos n
 numbered_low z n is low =
     rw is (let test : int_lt (pos n) (pos 60) ≡ true = grind (arith, nat_tests, low) in rw test refl)
 
+-- from 1 March 1900 on it is one more
 pub numbered_high : (z : ℤ) (n : ℕ) → z ≡ pos n → 60 ≤ n → numbered z ≡ pos (n + 1)
 numbered_high z n is high =
     rw is (let test : int_lt (pos n) (pos 60) ≡ false = grind (arith, nat_tests, high) in rw test refl)
@@ -207,6 +211,7 @@ one_day_later d y k is is_k upto =
     let number : days + 1 ≡ number_of y d.month d.day = omega (arith, ap (total days_in_year 1900) year, d.day_in.0) in
     numbered_high (days_since_1899 d) days since_is large ∙ ap pos number
 
+-- a date's number is the worksheet's number of it
 pub one_day_less : (d : Date) (y : ℕ) → d.year ≡ pos y → 1900 ≤ y → y ≤ 2099
     → numbered (days_since_1899 d) ≡ pos (number_of y d.month d.day)
 one_day_less d y is from upto = elim (cases_Bool (nat_le y 1900)) [
@@ -291,6 +296,7 @@ has_number_at d (pos y) is from upto =
     }
 has_number_at d (negsuc k) is from upto = absurd (omega (arith, signed_arith, from))
 
+-- every date from 1900 to 2099 has a number
 pub has_number : (d : Date) → pos 1900 ≤ℤ d.year → d.year ≤ℤ pos 2099 → HasNumber d
 has_number d from upto = has_number_at d d.year refl from upto
 
@@ -357,6 +363,7 @@ in_years d n more below e =
           )))) (λ le. le),
     )
 
+-- a number leads back to the date that has it
 pub date_found : (d : Date) (y m dd : ℤ) (n : ℕ) → 1 ≤ n → n ≤ 73050 → pos n ≡ numbered (days_since_1899 d)
     → IsYmd y m dd d → date_of n ≡ Some (record { year = y; month = m; day = dd })
 date_found d y m dd n more below e is =
@@ -418,10 +425,12 @@ civil_too y m d h other =
       (omega (arith, signed_arith, t.day_is, t.is.first_day), omega (arith, signed_arith, t.day_is, low, length)),
     )
 
+-- 29 February 1900, which never was, is day 60
 pub leap_day_number : day_number (pos 1900) (pos 2) (pos 29) ≡ Some 60
 unfolding total days_in_month days_in_year
 leap_day_number = refl
 
+-- day 60 is that day
 pub leap_day_found : (y m d : ℤ) → (y ≡ pos 1900) × (m ≡ pos 2) × (d ≡ pos 29) → Some 60 ≡ day_number y m d
 leap_day_found y m d is =
     sym (ap (λ z. day_number z m d) is.0 ∙ ap (λ z. day_number (pos 1900) z d) is.1
@@ -435,11 +444,13 @@ no_number y m d none other = elim (cases_Bool (is_date y m d)) [
   | inr wrong ↦ rw wrong refl
 ]
 
+-- the test of a year tells its bounds
 pub years_tested : (z : ℤ) → is_between 1900 2099 z ≡ true → (pos 1900 ≤ℤ z) × (z ≤ℤ pos 2099)
 years_tested z h =
     (let small : IsSmall 1900 2099 z = is_small 1900 2099 z h in
     (omega (arith, signed_arith, small.is, small.from), omega (arith, signed_arith, small.is, small.upto)))
 
+-- an answer that is Ok is no Err
 pub ok_is_no_err : {T E : Type 0} (r : Result T E) → IsOk r → IfErr r (λ _. ⊥)
 ok_is_no_err (Ok x) h = tt
 ok_is_no_err (Err e) h = absurd cc

@@ -47,6 +47,7 @@ in_year y m d is =
     let twelve : suc (m - 1) + (12 - m) ≡ 12 = omega (arith, is.first_month, is.last_month) in
     omega (arith, month, length, all, ap (total (days_in_month y) 1) twelve, year_months y, is.last_day)
 
+-- the number of a date of the calendar is in its range
 pub in_calendar : (y m d : ℕ) → IsCalendarDate y m d → (1 ≤ number_of y m d) × (number_of y m d ≤ 73050)
 in_calendar y m d is =
     let same : 1900 + (y - 1900) ≡ y = omega (arith, is.first_year) in (
@@ -87,6 +88,7 @@ pub record HasDate (n : ℕ) : Type 0 where
   pub is : IsCalendarDate y m d
   pub number : n ≡ number_of y m d
 
+-- every number in the range has a date
 pub has_date : (n : ℕ) → 1 ≤ n → n ≤ 73050 → HasDate n
 has_date n more below =
     let year : IsIn days_in_year 199 1900 n =
@@ -125,6 +127,7 @@ pub record IsSmall (low high : ℕ) (z : ℤ) : Type 0 where
   pub from : low ≤ n
   pub upto : n ≤ high
 
+-- a number between two counts is its size
 pub is_small : (low high : ℕ) (z : ℤ) → is_between low high z ≡ true → IsSmall low high z
 is_small low high (pos n) h =
     record { n = n; is = refl; from = grind (arith, nat_tests, h); upto = grind (arith, nat_tests, h) }
@@ -143,6 +146,7 @@ pub record IsTested (y m d : ℤ) : Type 0 where
   pub day_is : d ≡ pos day
   pub is : IsCalendarDate year month day
 
+-- the test of a date tells a date of the calendar
 pub tested : (y m d : ℤ) → is_date y m d ≡ true → IsTested y m d
 tested y m d h =
     let later : (is_between 1 12 m && is_between 1 (days_in_month (unsigned_abs y) (unsigned_abs m)) d) ≡ true =
@@ -176,6 +180,7 @@ tested y m d h =
       };
     }
 
+-- a date of the calendar passes the test
 pub passes : (y m d : ℕ) → IsCalendarDate y m d → is_date (pos y) (pos m) (pos d) ≡ true
 passes y m d is =
     rw (
@@ -198,6 +203,7 @@ same_date y m d t =
     ∙ ap (λ z. Some (record { year = y; month = z; day = pos t.day })) (sym t.month_is)
     ∙ ap (λ z. Some (record { year = y; month = m; day = z })) (sym t.day_is)
 
+-- the number of a date leads back to it
 pub number_to_date : (n : ℕ) (y m d : ℤ) → day_number y m d ≡ Some n
     → date_of n ≡ Some (record { year = y; month = m; day = d })
 number_to_date n y m d h = elim (cases_Bool (is_date y m d)) [
@@ -210,6 +216,7 @@ number_to_date n y m d h = elim (cases_Bool (is_date y m d)) [
   | inr wrong ↦ (let none : ◌≡◌ {A = Option ℕ} None (Some n) = rw wrong at h in absurd cc)
 ]
 
+-- the date of a number leads back to it
 pub date_to_number : (n : ℕ) (y m d : ℤ) → date_of n ≡ Some (record { year = y; month = m; day = d })
     → day_number y m d ≡ Some n
 date_to_number n y m d h = elim (cases_Bool (nat_le 1 n && nat_le n 73050)) [
@@ -227,6 +234,7 @@ date_to_number n y m d h = elim (cases_Bool (nat_le 1 n && nat_le n 73050)) [
       absurd cc)
 ]
 
+-- a day's number is in the calendar's range
 pub number_in_range : (y m d : ℤ) (n : ℕ) → day_number y m d ≡ Some n → (1 ≤ n) × (n ≤ 73050)
 number_in_range y m d n h = elim (cases_Bool (is_date y m d)) [
   | inl right ↦ (let t : IsTested y m d = tested y m d right in

@@ -35,6 +35,7 @@ in_first length count first n more below =
       upto = subst (λ k. n ≤ length k) (sym (plus_zero first)) below;
     }
 
+-- a count up to a total lies in one of the parts
 pub lies_in : (length : ℕ → ℕ) (count first n : ℕ) → 1 ≤ n → n ≤ total length first (suc count)
     → IsIn length count first n
 unfolding total
@@ -82,6 +83,7 @@ total_more length first zero = omega (arith, ap length (plus_zero first))
 total_more length first (suc count) =
     omega (arith, total_more length (first + 1) count, ap length (plus_suc first count))
 
+-- more parts make no smaller total
 pub total_grows : (length : ℕ → ℕ) (first count more : ℕ) → total length first count ≤ total length first (count + more)
 total_grows length first count zero = omega (arith, ap (total length first) (plus_zero count))
 total_grows length first count (suc more) =

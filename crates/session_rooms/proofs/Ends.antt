@@ -15,6 +15,7 @@ cut_at_end text bytes short =
     ∙ sym (take-append-add text bytes (240 - length text))
     ∙ ap (λ (n : ℕ). take n (text ++ bytes)) whole
 
+-- an entry with its cursor at the end is the line of its text
 pub is_line_of : (e : Entry) (t : List ℕ) → e.text ≡ t → e.cursor ≡ length t → e ≡ line_of t
 is_line_of e t text cursor =
     ap (λ (n : ℕ). record e { cursor = n }) cursor ∙ ap (λ (l : List ℕ). record (line_of t) { text = l }) text

@@ -17,6 +17,7 @@ same_parts s t cells widths hidden names settings =
     ∙ ap (λ (n : NameMap). record s { store = t.store; names = n }) names
     ∙ ap (λ (c : Choices). record { store = t.store; names = t.names; settings = c }) settings
 
+-- of so many rows there is one generated worksheet
 pub one_sheet : (rows : ℕ) (s t : SavedSheet) → IsGenerated rows s → IsGenerated rows t → s ≡ t
 one_sheet rows s t a b = same_parts s t
     (same_map cells_total cells_exact s.store.cells t.store.cells (λ p. a.cells p ∙ sym (b.cells p)))

@@ -12,9 +12,11 @@ use Rattle.sheet_store.specs.Grid.{put_state, Cells, Grid, IsSound}
 use Rattle.sheet_store.specs.State.{CellState}
 use Rattle.sheet_gen.specs.Rows.{chain, formula_state, generated, in_row, number_state, seed, triple, with_row}
 
+-- a generated number can be written
 pub is_sound_number : (n : ℕ) (s : CellState) → s ≡ number_state n → IsSound s
 is_sound_number n s is = subst IsSound (sym is) refl
 
+-- a generated formula can be written
 pub is_sound_formula : (t : Tree) (s : CellState) → s ≡ formula_state t → IsSound s
 is_sound_formula t s is = subst IsSound (sym is) (λ e. absurd cc)
 
@@ -35,6 +37,7 @@ three_put false col x y z was = refl
 abbrev place : ℕ → ℕ → Place
 place row col = record { row = row; col = col }
 
+-- the cells of one more row
 pub row_put : (g : Grid) (row : ℕ) (p : Place) → map.get (put_state (put_state (put_state g (place row 0) (number_state (seed row))) (place row 1) (formula_state triple)) (place row 2) (formula_state (chain row))).cells p ≡ with_row row p (map.get g.cells p)
 row_put g row p =
     let number : CellState = number_state (seed row) in
@@ -64,6 +67,7 @@ still at row other = elim (cases_Bool (nat_lt at row)) [
   | inr e ↦ e ∙ sym (let f : nat_lt at (row + 1) ≡ false = grind (arith, nat_tests, e, other) in f)
 ]
 
+-- a row more of the generated cells
 pub one_more : (row : ℕ) (p : Place) → with_row row p (generated row p) ≡ generated (row + 1) p
 one_more row p = elim (cases_Bool (p.row == row)) [
   | inl e ↦

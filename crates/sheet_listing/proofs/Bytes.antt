@@ -33,6 +33,7 @@ pub none_left : (before now : Option (List ℕ)) (got : Option ℕ) → got ≡ 
 none_left None now got is takes = subst HasNone (sym takes) tt
 none_left (Some rest) now got is takes = subst HasNone (sym takes.1) (ap later_bytes (no_more rest (sym is ∙ takes.0)))
 
+-- a byte that isn't there leaves what was read
 pub still_split : (all before now : Option (List ℕ)) (bytes : List ℕ) (got : Option ℕ) → got ≡ None →
     TakesByte before now (Ok got) → IsSplit all bytes before → IsSplit all bytes now
 still_split None before now bytes got is takes split = subst (λ (o : Option (List ℕ)). TakesByte o now (Ok got)) split

@@ -11,6 +11,7 @@ pub added_on : (before : Option (List ℕ)) (a b : List ℕ) → added (added be
 added_on None a b = refl
 added_on (Some before) a b = ap Some (append_assoc before a b)
 
+-- no bytes add nothing
 pub added_none : (before : Option (List ℕ)) → added before [] ≡ before
 added_none None = refl
 added_none (Some before) = ap Some (append-nil before)
@@ -84,22 +85,26 @@ pub three_parts : (w0 w1 w2 : Option (List ℕ)) (first second third s k a b : L
 three_parts w0 w1 w2 first second third s k a b is names cells =
     cells ∙ with_more w1 w0 second (first ++ a) b names ∙ ap (added w0) (in_four first s k a b is)
 
+-- with no last part all is written
 pub whole_written : (w0 w2 w3 : Option (List ℕ)) (third last all : List ℕ) → added w2 third ≡ added w0 all →
     added w3 last ≡ added w2 third → last ≡ [] → w3 ≡ added w0 all
 whole_written w0 w2 w3 third last all parts step none = sym (added_none w3) ∙ ap (added w3) (sym none) ∙ step ∙ parts
 
+-- what is written where the names break off is a front
 pub names_broken : (w0 w1 : Option (List ℕ)) (first s k a b : List ℕ) → first ≡ s ++ k →
     IsFront w1 (added w0 (first ++ a)) → IsFront w1 (added w0 (s ++ (k ++ (a ++ b))))
 names_broken w0 w1 first s k a b is front =
     subst (λ (l : List ℕ). IsFront w1 (added w0 l)) (in_four first s k a b is)
     (front_of_more w1 w0 (first ++ a) b front)
 
+-- so it is where the cells break off
 pub cells_broken : (w0 w1 w2 : Option (List ℕ)) (first second s k a b : List ℕ) → first ≡ s ++ k →
     added w1 second ≡ added w0 (first ++ a) → IsFront w2 (added w1 (second ++ b)) →
     IsFront w2 (added w0 (s ++ (k ++ (a ++ b))))
 cells_broken w0 w1 w2 first second s k a b is names front =
     subst (IsFront w2) (with_more w1 w0 second (first ++ a) b names ∙ ap (added w0) (in_four first s k a b is)) front
 
+-- so it is where the end does
 pub end_broken : (w0 w2 w3 : Option (List ℕ)) (third all : List ℕ) → added w2 third ≡ added w0 all →
     IsFront w3 (added w2 third) → IsFront w3 (added w0 all)
 end_broken w0 w2 w3 third all parts front = subst (IsFront w3) parts front

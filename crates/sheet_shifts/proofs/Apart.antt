@@ -27,6 +27,7 @@ use Rattle.sheet_shifts.specs.declared.shift.Shift.TheVariants.{Lines, Block}
 use Rattle.sheet_shifts.proofs.Listed.{all_held, all_states, entries_at, whole_picked, AreAllHeld}
 use Rattle.sheet_shifts.proofs.Maps.{all_put, each, entries_apart, entries_ordered, AreApart}
 
+-- a shift brings no two cells to one place
 pub shift_apart : (shift : Shift) → IsShift shift → IsOneToOne (place_after shift)
 shift_apart (Lines change) lines p q here a b e f = changes_apart change p q here a b e f
 shift_apart (Block from to) fits p q here a b e f = moves_apart from to fits p q here a b e f
@@ -106,6 +107,7 @@ module _ (shift : Shift) (is : IsShift shift) where
       all_put names_total names_exact (filter_map (name_after shift) (entries m))
       (names_apart (entries m) (entries_ordered names_total names_exact m))
 
+-- the entries of names have keys
 pub all_keys : (m : NameMap) → AreKeys m → AreAllKeys (entries m)
 all_keys m keyed =
     each names_total names_exact (λ k s. IsKey k) (entries m) (entries_apart names_total names_exact m)
@@ -116,6 +118,7 @@ put_first : {K X : Type 0} {R : K → K → Ordering} (m : FinMap R X) (o : Opti
 put_first m None es = refl
 put_first m (Some e) es = refl
 
+-- all cells that are put where they go are the cells behind the shift
 pub cells_put_at : (shift : Shift) → IsShift shift → (m : Cells) → AreHeld m → (into : Grid) (cells : List Place)
     → into.cells ≡ empty → cells ≡ picked any_state whole (entries m)
     → put_all_at shift m into cells ≡ record into { cells = cells_after shift m }
@@ -124,6 +127,7 @@ cells_put_at shift is m held into cells none all = ap (λ (l : Cells). record in
     ∙ ap (put_all into.cells) (entries_at shift m (entries m) (all_states m))
     ∙ ap (λ k. put_all k (filter_map (entry_after shift) (entries m))) none ∙ cells_put shift is m held)
 
+-- no name is put yet
 pub none_named : (shift : Shift) → IsShift shift → (m : NameMap) → AreKeys m
     → (now : NameMap) (rest : List (List ℕ × Extent)) → now ≡ empty → rest ≡ entries m → IsNaming shift m now rest
 none_named shift is m keyed now rest none all = record {
@@ -145,6 +149,7 @@ one_named shift names now next e rest more so here is = record {
       ∙ ap (λ l. put_all now (filter_map (name_after shift) l)) (sym here) ∙ so.names;
 }
 
+-- past the last entry all names are put
 pub all_named : (shift : Shift) (names now : NameMap) (rest : List (List ℕ × Extent)) → IsNaming shift names now rest
     → rest ≡ [] → now ≡ names_after shift names
 all_named shift names now rest so none = ap (λ l. put_all now (filter_map (name_after shift) l)) (sym none) ∙ so.names

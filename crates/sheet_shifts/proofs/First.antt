@@ -261,6 +261,7 @@ marked_first m s ordered =
     span_first (is_marked_at m) s ordered (first_marked m s)
     (rows_first (is_marked_at m) (height_of s) (width_of s) s.first)
 
+-- the first cells of a span come first
 pub names_first : (from : Extent) (to : Place) (m : Cells) → IsOrdered from → NamesFirst from to m
 names_first from to m ordered =
     let there : IsOrdered (target from to) = (omega arith, omega arith) in

@@ -21,6 +21,7 @@ use Rattle.sheet_shifts.proofs.Maps.{each, entries_apart}
 abbrev pub AreAllHeld : List (Place × CellState) → Type 0
 AreAllHeld es = AllByRecursion (λ e. IsHeld e.0 e.1) es
 
+-- the entries of held cells are held
 pub all_held : (m : Cells) → AreHeld m → AreAllHeld (entries m)
 all_held m held =
     each cells_total cells_exact IsHeld (entries m) (entries_apart cells_total cells_exact m)
@@ -30,6 +31,7 @@ all_held m held =
 abbrev pub AreStates : Cells → List (Place × CellState) → Type 0
 AreStates m es = AllByRecursion (λ e. get m e.0 ≡ Some e.1) es
 
+-- each entry is what the map holds there
 pub all_states : (m : Cells) → AreStates m (entries m)
 all_states m =
     each cells_total cells_exact (λ p s. get m p ≡ Some s) (entries m) (entries_apart cells_total cells_exact m)

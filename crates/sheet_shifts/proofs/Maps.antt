@@ -20,6 +20,7 @@ abbrev pub AreApart : {K X : Type 0} → (K → K → Ordering) → List (K × X
 AreApart R [] = Unit {0}
 AreApart R (e ∷ es) = (find R e.0 es ≡ None) × AreApart R es
 
+-- something is not nothing
 pub some_is_none : {X : Type 0} {x : X} → Some x ≡ None → ⊥
 some_is_none e = absurd cc
 
@@ -48,14 +49,17 @@ module _ {K X : Type 0} {R : K → K → Ordering} (total : IsTotalOrder R) (exa
             ∙ ap (λ b. or_else (cond b (Some e.1) (find R q es)) (get m q)) (sym other)
       ]
 
+  -- entries that are put one by one are their map
   pub all_put : (es : List (K × X)) → AreApart R es → put_all (empty {X = X} {R = R}) es ≡ from_entries es
   all_put es apart = same_map total exact (put_all empty es) (from_entries es) (λ q.
       put_get es empty q apart ∙ ap (or_else (find R q es)) (get-empty R q) ∙ or_nothing (find R q es)
       ∙ sym (get-from_entries total es q))
 
+  -- the first entry is found by its key
   pub first_found : (e : K × X) (es : List (K × X)) → find R e.0 (e ∷ es) ≡ Some e.1
   first_found e es = ap (λ b. cond b (Some e.1) (find R e.0 es)) (ap is_eq (tied_itself total e.0))
 
+  -- one behind it is found past it
   pub found_later : (e : K × X) (es : List (K × X)) (q : K) (x : X) → find R e.0 es ≡ None → find R q es ≡ Some x
       → find R q (e ∷ es) ≡ Some x
   found_later e es q x none h = elim (cases_Bool (eq_by_cmp R q e.0)) [
@@ -83,5 +87,6 @@ module _ {K X : Type 0} {R : K → K → Ordering} (total : IsTotalOrder R) (exa
   pub entries_ordered : (m : FinMap R X) → IsStrictlySortedBy R (keys_of (entries m))
   entries_ordered m = in_order total (entries m) (entries_sorted m)
 
+  -- the entries of a map have different keys
   pub entries_apart : (m : FinMap R X) → AreApart R (entries m)
   entries_apart m = ordered_apart (entries m) (entries_ordered m)

@@ -107,11 +107,13 @@ module _ (shift : Shift) (is : IsShift shift) where
       → get (cells_after shift m) here ≡ find place_cmp here (filter_map (entry_after shift) (entries m))
   got m here = get-from_entries cells_total (filter_map (entry_after shift) (entries m)) here
 
+  -- every cell goes where the shift brings it
   pub cells_go : (m : Cells) → AreHeld m → CellsGo shift m
   cells_go m held p here s found goes =
       got m here ∙ stands (entries m) (all_held m held) p here s (held p s found).inside
       (sym (get-entries m p) ∙ found) goes
 
+  -- every cell behind it came from there
   pub cells_came : (m : Cells) → AreHeld m → CellsCame shift m
   cells_came m held here t found =
       let r = came (entries m) (entries_apart cells_total cells_exact m) here t (sym (got m here) ∙ found) in

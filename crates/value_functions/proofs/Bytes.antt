@@ -5,6 +5,7 @@ use Rattle.std.proofs.lemmas.List.{drop_all, drop_more}
 use Rattle.std.proofs.lemmas.Bool.Decides.{nat_tests}
 use Rattle.value_functions.specs.Patterns.{is_like}
 
+-- where the pattern ends, the text is like it if it ends there too
 pub at_both : (pattern text : List ℕ) (i : ℕ) (c : Bool) → length pattern ≤ i → i ≤ length text
     → (i == length text) ≡ c → is_like (drop i pattern) (drop i text) ≡ c
 at_both pattern text i true past inside same =
