@@ -1,5 +1,5 @@
-"""The rules of proofs: a lemma is named somewhere, a line fits the page. `scripts/check_text` says which files break one, and
-`scripts/check_text --lemmas` tells besides which statements stand several times and which public lemmas have no meaning."""
+"""The rules of proofs: a lemma is named somewhere, a public one has its line of meaning, and a line fits the page.
+`scripts/check_text` says which files break one, and with --lemmas besides which statements stand several times."""
 import collections
 import re
 
@@ -140,9 +140,11 @@ def check(texts, fault):
             for number, line in enumerate(text.split("\n"), 1):
                 if len(line) > MOST_COLUMNS:
                     fault(f"{file}:{number}: {len(line)} columns")
-    for lemma in Proofs(texts).unnamed():
-        if lemma.file.split("/")[1] not in UNMENDED:
-            fault(f"{lemma.file}:{lemma.line + 1}: nothing names {lemma.name}")
+    proofs = Proofs(texts)
+    for lemmas, what in ((proofs.unnamed(), "nothing names it"), (proofs.without_meaning(), "it has no line of meaning")):
+        for lemma in lemmas:
+            if lemma.file.split("/")[1] not in UNMENDED:
+                fault(f"{lemma.file}:{lemma.line + 1}: {lemma.name}: {what}")
     for file, number, name in unnamed_functions(texts):
         if file.split("/")[1] not in UNMENDED:
             fault(f"{file}:{number}: no code names {name}")
