@@ -9,11 +9,13 @@ use Rattle.sheet_store.specs.declared.writes.SavedSheet.{SavedSheet}
 use Rattle.sheet_gen.specs.Rows.{IsGenerated}
 
 -- sheets of the same parts are one
-same_parts : (s t : SavedSheet) → s.store.cells ≡ t.store.cells → s.store.widths ≡ t.store.widths → s.store.hidden ≡ t.store.hidden → s.names ≡ t.names → s.settings ≡ t.settings → s ≡ t
+same_parts : (s t : SavedSheet) → s.store.cells ≡ t.store.cells → s.store.widths ≡ t.store.widths
+    → s.store.hidden ≡ t.store.hidden → s.names ≡ t.names → s.settings ≡ t.settings → s ≡ t
 same_parts s t cells widths hidden names settings =
     ap (λ (c : Cells). record s { store = record s.store { cells = c } }) cells
     ∙ ap (λ (w : List ℕ). record s { store = record s.store { cells = t.store.cells; widths = w } }) widths
-    ∙ ap (λ (h : List Bool). record s { store = record { cells = t.store.cells; widths = t.store.widths; hidden = h } }) hidden
+    ∙ ap (λ (h : List Bool). record s
+    { store = record { cells = t.store.cells; widths = t.store.widths; hidden = h } }) hidden
     ∙ ap (λ (n : NameMap). record s { store = t.store; names = n }) names
     ∙ ap (λ (c : Choices). record { store = t.store; names = t.names; settings = c }) settings
 
