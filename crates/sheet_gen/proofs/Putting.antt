@@ -92,14 +92,3 @@ still at row other = elim (cases_Bool (nat_lt at row)) [
   | inl e ↦ e ∙ sym (let f : nat_lt at (row + 1) ≡ true = grind (arith, nat_tests, e) in f)
   | inr e ↦ e ∙ sym (let f : nat_lt at (row + 1) ≡ false = grind (arith, nat_tests, e, other) in f)
 ]
-
--- a row more of the generated cells
-pub one_more : (row : ℕ) (p : Place) → with_row row p (generated row p) ≡ generated (row + 1) p
-one_more row p = elim (cases_Bool (p.row == row)) [
-  | inl e ↦
-      let same : p.row ≡ row = eqb-true p.row row e in
-      let before : nat_lt p.row row ≡ false = grind (arith, nat_tests, same) in
-      let after : nat_lt p.row (row + 1) ≡ true = grind (arith, nat_tests, same) in
-      rw (e, before, after) (ap (λ r. in_row r p.col None) (sym same))
-  | inr e ↦ rw e (ap (λ b. cond b (in_row p.row p.col None) None) (still p.row row e))
-]
