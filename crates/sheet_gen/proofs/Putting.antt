@@ -1,7 +1,7 @@
 -- What a store has after a row was put in.
 use Rattle.std.proofs.Common.{◌≡◌, ℕ, ◌+◌, true, false, Bool, Some, None, Option, refl, sym, ap, subst, ◌∙◌, inl, inr}
 use Rattle.std.proofs.Common.{arith}
-use Rattle.std.specs.Prelude.{◌&&◌, ◌==◌, cond, nat_eq, nat_lt}
+use Rattle.std.specs.Prelude.{◌&&◌, cond, nat_eq, nat_lt}
 use Rattle.std.specs.FinMap as map
 use Rattle.std.specs.FinMap.{get-empty}
 use Rattle.std.proofs.lemmas.Bool.{cases_Bool, eqb-true}
@@ -86,9 +86,3 @@ none_yet m p is =
     ap (λ (n : Cells). map.get n p) is ∙ get-empty place_cmp p
     ∙ sym (ap (λ b. cond b (in_row p.row p.col None) None)
     (let e : nat_lt p.row 0 ≡ false = grind (arith, nat_tests) in e))
-
-still : (at row : ℕ) → (at == row) ≡ false → nat_lt at row ≡ nat_lt at (row + 1)
-still at row other = elim (cases_Bool (nat_lt at row)) [
-  | inl e ↦ e ∙ sym (let f : nat_lt at (row + 1) ≡ true = grind (arith, nat_tests, e) in f)
-  | inr e ↦ e ∙ sym (let f : nat_lt at (row + 1) ≡ false = grind (arith, nat_tests, e, other) in f)
-]
