@@ -5,6 +5,7 @@ import subprocess
 import sys
 
 import definitions
+import lemma_rules
 
 TOP_FILES = {".gitignore", "1-2-3", "1-2-3-list", "CHANGELOG.md", "HANDLES", "Makefile", "README.md", "VERSION", "crates.txt"}
 TOP_FOLDERS = {".ci", "bench", "crates", "docs", "examples", "man", "oracle", "release", "scripts"}
@@ -292,10 +293,24 @@ def check_cited(named, files, fault):
             fault(f"{crate}: its line of crates.txt names {other}, which it does not cite")
 
 
+def texts_of(files):
+    """The code, the definitions and the proofs of the crates, by file."""
+    texts = {}
+    for name in files:
+        if re.match(r"crates/.*\.(rt|antt)$", name):
+            with open(name, encoding="utf-8") as it:
+                texts[name] = it.read()
+    return texts
+
+
 def main():
     files = [it for it in subprocess.run(["git", "ls-files"], capture_output=True, text=True).stdout.split("\n") if it]
     rules = Rules(files)
     rules.all()
+    texts = texts_of(files)
+    lemma_rules.check(texts, rules.fault)
+    if "--lemmas" in sys.argv[1:]:
+        lemma_rules.tell(texts)
     print("\n".join(rules.faults) if rules.faults else "text: fine")
     return 1 if rules.faults else 0
 

@@ -1,37 +1,8 @@
 -- What stands before a byte and behind it.
-use Rattle.std.proofs.Common.{◌≡◌, ◌≤◌, ◌<◌, ◌+◌, ℕ, suc, true, false, List, [], ◌∷◌, ◌++◌, take, drop, length, get_or, Some, None, refl, sym, ap, ◌∙◌, arith, append_assoc}
-use Rattle.std.specs.Prelude.{◌==◌}
-use Rattle.std.proofs.lemmas.Bool.Decides.{nat_tests}
-use Rattle.std.proofs.lemmas.List.{append-nil, drop_all, take_all, take_more}
-use Rattle.std.proofs.Math.Seq.{drop-cons}
+use Rattle.std.proofs.Common.{◌≡◌, ℕ, List, ◌++◌, take, drop}
 use Rattle.at_functions.specs.Readings.{before, behind}
 
 -- no such byte stands before a place
 abbrev pub IsBeforeFrom : ℕ → List ℕ → ℕ → Type 0
-IsBeforeFrom sep bytes at = (take at bytes ++ before sep (drop at bytes) ≡ before sep bytes) × (behind sep (drop at bytes) ≡ behind sep bytes)
-
-split_at : (bytes : List ℕ) (at : ℕ) → at < length bytes → drop at bytes ≡ get_or bytes at 0 ∷ drop (at + 1) bytes
-split_at bytes at inside = drop-cons bytes at 0 inside ∙ ap (λ k. get_or bytes at 0 ∷ drop k bytes) (let e : suc at ≡ at + 1 = omega arith in e)
-
-pub passed : (sep : ℕ) (bytes : List ℕ) (at : ℕ) → at < length bytes → (get_or bytes at 0 ≡ sep → ⊥) → IsBeforeFrom sep bytes at → IsBeforeFrom sep bytes (at + 1)
-passed sep bytes at inside other is =
-    let b : ℕ = get_or bytes at 0 in
-    let test : (b == sep) ≡ false = grind (arith, nat_tests, other) in
-    let front : before sep (drop at bytes) ≡ b ∷ before sep (drop (at + 1) bytes) = ap (before sep) (split_at bytes at inside) ∙ rw test refl in
-    let back : behind sep (drop at bytes) ≡ behind sep (drop (at + 1) bytes) = ap (behind sep) (split_at bytes at inside) ∙ rw test refl in (
-      ap (λ (l : List ℕ). l ++ before sep (drop (at + 1) bytes)) (take_more bytes at 0 inside) ∙ append_assoc (take at bytes) (b ∷ []) (before sep (drop (at + 1) bytes)) ∙ ap (λ (l : List ℕ). take at bytes ++ l) (sym front) ∙ is.0,
-      sym back ∙ is.1,
-    )
-
-pub stopped : (sep : ℕ) (bytes : List ℕ) (at : ℕ) → at < length bytes → get_or bytes at 0 ≡ sep → IsBeforeFrom sep bytes at → (at < length bytes) × (take at bytes ≡ before sep bytes) × (behind sep bytes ≡ Some (drop (at + 1) bytes))
-stopped sep bytes at inside same is =
-    let b : ℕ = get_or bytes at 0 in
-    let test : (b == sep) ≡ true = grind (arith, nat_tests, same) in
-    let front : before sep (drop at bytes) ≡ [] = ap (before sep) (split_at bytes at inside) ∙ rw test refl in
-    let back : behind sep (drop at bytes) ≡ Some (drop (at + 1) bytes) = ap (behind sep) (split_at bytes at inside) ∙ rw test refl in
-    (inside, sym (append-nil (take at bytes)) ∙ ap (λ (l : List ℕ). take at bytes ++ l) (sym front) ∙ is.0, sym is.1 ∙ back)
-
-pub none_there : (sep : ℕ) (bytes : List ℕ) (at : ℕ) → length bytes ≤ at → IsBeforeFrom sep bytes at → (before sep bytes ≡ bytes) × (behind sep bytes ≡ None)
-none_there sep bytes at past is =
-    let rest : drop at bytes ≡ [] = drop_all at bytes past in
-    (sym is.0 ∙ ap (λ (l : List ℕ). take at bytes ++ before sep l) rest ∙ append-nil (take at bytes) ∙ take_all at bytes past, sym is.1 ∙ ap (behind sep) rest)
+IsBeforeFrom sep bytes at =
+    (take at bytes ++ before sep (drop at bytes) ≡ before sep bytes) × (behind sep (drop at bytes) ≡ behind sep bytes)

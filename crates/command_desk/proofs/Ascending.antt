@@ -13,10 +13,12 @@ use Rattle.natural_recalc.specs.Laws.{Ascends}
 
 module _ (p : Place → Bool) where
   -- none passes
-  pub none_found : (cells : List Place) → ((c : Place) → has same_place cells c ≡ true → p c ≡ false) → find p cells ≡ None
+  pub none_found : (cells : List Place) → ((c : Place) → has same_place cells c ≡ true → p c ≡ false)
+      → find p cells ≡ None
   none_found [] h = refl
   none_found (x ∷ xs) h =
-      ap (λ b. cond b (Some x) (find p xs)) (h x (or_left _ _ (same_place_itself x))) ∙ none_found xs (λ c k. h c (or_right _ _ k))
+      ap (λ b. cond b (Some x) (find p xs)) (h x (or_left _ _ (same_place_itself x)))
+      ∙ none_found xs (λ c k. h c (or_right _ _ k))
 
   later : (x c : Place) (xs : List Place) → Before x xs → has same_place xs c ≡ true → place_cmp x c ≡ Less
   later x c [] b h = absurd (false≢true h)
@@ -31,7 +33,9 @@ module _ (p : Place → Bool) where
   unfolding IsStrictlySortedBy
   first_found [] c s h t f = absurd (false≢true h)
   first_found (x ∷ xs) c s h t f = elim (or_cases (same_place c x) (has same_place xs c) h) [
-    | inl e ↦ ap (λ b. cond b (Some x) (find p xs)) (ap p (sym (same_place_is c x e)) ∙ t) ∙ ap Some (sym (same_place_is c x e))
+    | inl e ↦
+        ap (λ b. cond b (Some x) (find p xs)) (ap p (sym (same_place_is c x e)) ∙ t)
+        ∙ ap Some (sym (same_place_is c x e))
     | inr k ↦ elim (cases_Bool (p x)) [
       | inl y ↦ absurd (f x (or_left _ _ (same_place_itself x)) y (later x c xs s.0 k))
       | inr n ↦ ap (λ b. cond b (Some x) (find p xs)) n ∙ first_found xs c s.1 k t (λ d a. f d (or_right _ _ a))

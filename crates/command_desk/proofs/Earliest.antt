@@ -6,26 +6,12 @@ use Rattle.std.specs.declared.cmp.Ordering.{Ordering}
 use Rattle.std.specs.declared.cmp.Ordering.TheVariants.{Less, Equal, Greater}
 use Rattle.std.proofs.Common.{sym, ◌∙◌, ap, inl, inr, subst}
 use Rattle.std.proofs.lemmas.Bool.{and_from, and_parts, cases_Bool, false≢true, or_cases, or_left, or_right}
+use Rattle.std.proofs.lemmas.Option.{none-some, same_Some}
 use Rattle.grid_address.proofs.Places.{cells_exact, cells_total, same_place_is, same_place_itself}
 use Rattle.grid_address.specs.Place.{place_cmp, same_place, Place}
 use Rattle.cell_numbers.specs.Sets.{has}
 use Rattle.natural_recalc.proofs.Filled.{has_filtered}
 use Rattle.command_desk.specs.Writing.{first_in_order, unless_before}
-
--- what an option holds
-some_place : (a b : Place) → Some a ≡ Some b → a ≡ b
-some_place a b e = ap (λ (o : Option Place). held o) e
-  where
-    held : Option Place → Place
-    held None = a
-    held (Some x) = x
-
-none_is_some : {c : Place} → None ≡ Some c → ⊥
-none_is_some h = subst is_none h tt
-  where
-    is_none : Option Place → Type 0
-    is_none None = Unit {0}
-    is_none (Some c) = ⊥
 
 not_less : (o : Ordering) → (o ≡ Less → ⊥) → is_lt o ≡ false
 not_less Less h = absurd (h refl)
@@ -46,23 +32,24 @@ gives_way x c h = by (place_cmp c x) refl
     by Equal e = sym (cells_exact c x e)
     by Greater e = absurd (h (cells_total.antisymm x c ∙ ap ordering_reverse e))
 
-module _ (x d : Place) (xs : List Place) (rest : (f : Place) → first_in_order xs ≡ Some f → has same_place xs f ≡ true) where
+module _ (x d : Place) (xs : List Place)
+    (rest : (f : Place) → first_in_order xs ≡ Some f → has same_place xs f ≡ true) where
   itself : x ≡ d → (same_place d x || has same_place xs d) ≡ true
   itself s = or_left _ _ (subst (λ (z : Place). same_place z x ≡ true) s (same_place_itself x))
 
   among_more : (o : Option Place) → first_in_order xs ≡ o → Some (unless_before x o) ≡ Some d →
       (same_place d x || has same_place xs d) ≡ true
-  among_more None is k = itself (some_place x d k)
+  among_more None is k = itself (same_Some x d k)
   among_more (Some f) is k = elim (cases_Bool (is_lt (place_cmp f x))) [
     | inl t ↦
-        let same : f ≡ d = some_place f d (sym (ap (λ b. Some (cond b f x)) t) ∙ k) in
+        let same : f ≡ d = same_Some f d (sym (ap (λ b. Some (cond b f x)) t) ∙ k) in
         or_right _ _ (rest d (is ∙ ap Some same))
-    | inr n ↦ itself (some_place x d (sym (ap (λ b. Some (cond b f x)) n) ∙ k))
+    | inr n ↦ itself (same_Some x d (sym (ap (λ b. Some (cond b f x)) n) ∙ k))
   ]
 
 -- the first is one of them
 is_among : (xs : List Place) (d : Place) → first_in_order xs ≡ Some d → has same_place xs d ≡ true
-is_among [] d e = absurd (none_is_some e)
+is_among [] d e = absurd (none-some _ e)
 is_among (x ∷ xs) d e = among_more x d xs (is_among xs) (first_in_order xs) refl e
 
 -- the cell that none of them comes before
@@ -88,6 +75,7 @@ module _ (p : Place → Bool) where
       ap (λ b. cond b (x ∷ filter p xs) (filter p xs)) (h x (or_left _ _ (same_place_itself x)))
       ∙ none_pass xs (λ c k. h c (or_right _ _ k))
 
+  -- where no cell passes, none is the first that does
   pub none_first : (cells : List Place) → ((c : Place) → has same_place cells c ≡ true → p c ≡ false) →
       first_in_order (filter p cells) ≡ None
   none_first cells h = ap first_in_order (none_pass cells h)

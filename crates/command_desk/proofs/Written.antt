@@ -26,22 +26,31 @@ use Rattle.command_desk.specs.declared.ending.CommandEnd.TheVariants.{Finished, 
 
 module _ (writes : List Write) (scene : Scene) (v mid w : Worksheet) (m n : ℕ) where
   -- what the command is, by the first protected cell
-  as_told : (first : Option Place) → first_guarded (written_cells writes) (of_worksheet v) ≡ first → (end : CommandEnd) →
-      HasActed (unless_protected first (edited scene (all_written writes (of_worksheet v))) (of_worksheet v)) end v w m n →
+  as_told : (first : Option Place) → first_guarded (written_cells writes) (of_worksheet v) ≡ first → (end : CommandEnd)
+      →
+      HasActed (unless_protected first (edited scene (all_written writes (of_worksheet v))) (of_worksheet v)) end v w m
+      n →
       HasActed (all_made writes scene (of_worksheet v)) end v w m n
   as_told first is end acted = subst (λ (o : Option Place).
-      HasActed (unless_protected o (edited scene (all_written writes (of_worksheet v))) (of_worksheet v)) end v w m n) (sym is) acted
+      HasActed (unless_protected o (edited scene (all_written writes (of_worksheet v))) (of_worksheet v)) end v w m n)
+      (sym is) acted
 
   -- writes after which all is recalculated in Automatic mode, or which are refused
   pub writes_acted : (answer : Result (Unit {0}) SheetFault) (end : CommandEnd) →
-      IsAnswered v.settings v.grid (has same_place (written_cells writes)) answer → OnOk answer (DidEdit (all_written writes) v mid) →
-      OnErr answer (mid ≡ v) → HasSettled answer scene end mid w m n → HasActed (all_made writes scene (of_worksheet v)) end v w m n
+      IsAnswered v.settings v.grid (has same_place (written_cells writes)) answer
+      → OnOk answer (DidEdit (all_written writes) v mid) →
+      OnErr answer (mid ≡ v) → HasSettled answer scene end mid w m n
+      → HasActed (all_made writes scene (of_worksheet v)) end v w m n
   writes_acted (Ok x) end answered did kept settles =
       as_told None (none_first (is_protected v.settings v.grid) (written_cells writes) answered) end
-      (record { end = settles.0; did = did_both (all_written writes (of_worksheet v)) (settled mean scene) v mid w m m n (did m) settles.1 })
+      (record {
+        end = settles.0;
+        did = did_both (all_written writes (of_worksheet v)) (settled mean scene) v mid w m m n (did m) settles.1;
+      })
   writes_acted (Err (fault.Protected c)) end answered did kept settles =
       let was = was_refused (fault.Protected c) (Refused (error.Protected c)) scene end v mid w m n refl kept settles in
-      as_told (Some c) (first_passing (is_protected v.settings v.grid) (written_cells writes) c answered.among answered.protected answered.first) end
+      as_told (Some c) (first_passing (is_protected v.settings v.grid) (written_cells writes) c answered.among
+      answered.protected answered.first) end
       (record { end = was.0; did = was.1 })
   writes_acted (Err (fault.PushedOff c)) end answered did kept settles = absurd answered
   writes_acted (Err (fault.OutOfSheet s)) end answered did kept settles = absurd answered

@@ -1,6 +1,8 @@
 // What a command comes to.
-ghost use Rattle.std.specs.Prelude.{◌≡◌, IfOk, Some};
-ghost use Rattle.command_desk.specs.Acting.{refusal_of, HasSettled};
+ghost use Rattle.std.specs.Prelude.{◌≡◌, IfOk, OnErr, OnOk, Some};
+ghost use Rattle.command_desk.specs.Acting.{error_of, refusal_of, HasSettled};
+ghost use Rattle.command_desk.specs.declared.ending.CommandEnd.TheVariants as ends;
+ghost use Rattle.sheet_store.specs.declared.writes.SheetFault.TheVariants as sheet_faults;
 
 use crate::settling::settle;
 use desk_errors::CommandError;
@@ -20,16 +22,28 @@ pub enum CommandEnd {
     Refused(CommandError),
 }
 
+/// The desk's error of a fault of the sheet, by which the command is refused. `Memory` comes exactly of want of memory.
+/// (This project's own choice.)
+pub fn sheet_error(fault: SheetFault) -> Result<CommandError, Memory>
+    ensures error { IfOk result (λ e. e ≡ error_of fault) }
+    ensures refused { IfOk result (λ e. refusal_of fault ≡ Some (ends.Refused e)) }
+    ensures told { OnOk result (fault ≡ sheet_faults.Memory → ⊥) }
+    ensures memory { OnErr result (fault ≡ sheet_faults.Memory) }
+{
+    match fault {
+        SheetFault::Protected(cell) => Ok(CommandError::Protected(cell)),
+        SheetFault::PushedOff(cell) => Ok(CommandError::PushedOff(cell)),
+        SheetFault::OutOfSheet(span) => Ok(CommandError::OutOfSheet(span)),
+        SheetFault::Memory => Err(Memory),
+    }
+}
+
 // A refused edit of the sheet is the command's refusal.
 fn refusal(fault: SheetFault) -> Result<CommandEnd, Memory>
     ensures { IfOk result (λ end. refusal_of fault ≡ Some end) }
 {
-    match fault {
-        SheetFault::Protected(cell) => Ok(CommandEnd::Refused(CommandError::Protected(cell))),
-        SheetFault::PushedOff(cell) => Ok(CommandEnd::Refused(CommandError::PushedOff(cell))),
-        SheetFault::OutOfSheet(span) => Ok(CommandEnd::Refused(CommandError::OutOfSheet(span))),
-        SheetFault::Memory => Err(Memory),
-    }
+    let error = sheet_error(fault)?;
+    Ok(CommandEnd::Refused(error))
 }
 
 /// What an edit of contents comes to, by its answer: where it was made, a recalculation follows in Automatic mode.

@@ -13,7 +13,7 @@ mod writing;
 pub use answers::{cell_at, decimal_at, line_at, order_at, span_at, whole_at};
 pub use data_blocks::{DeskRanges, LastQuery, LastTable, SortKey};
 pub use desk::Desk;
-pub use ending::{CommandEnd, settled};
+pub use ending::{CommandEnd, settled, sheet_error};
 pub use formats::FormatChoice;
 pub use moving::move_cells;
 pub use print_report::PrintSettings;

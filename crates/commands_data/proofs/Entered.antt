@@ -25,28 +25,27 @@ use Rattle.work_sheet.specs.Editing.{all_written}
 use Rattle.work_sheet.specs.Seen.{of_worksheet}
 use Rattle.work_sheet.specs.Sheets.{Worksheet}
 
--- nothing was done
-pub same_itself : (among : Place → Bool) (a b : Worksheet) → b ≡ a → IsSameBut among a b
-same_itself among a b e = record {
-  settings = ap (λ (w : Worksheet). w.settings) e;
-  formats = λ c. ap (λ (w : Worksheet). format_of (get w.grid.cells c)) e;
-  contents = λ c f. ap (λ (w : Worksheet). content_at w.grid c) e;
-}
-
--- a content was entered
+-- an edit of one cell leaves all of the sheet but it
 pub entered_same : (c : Place) (x : Content) (a b : Worksheet) → DidEdit (with_content c x) a b → IsSameBut (just c) a b
 entered_same c x a b did = record {
   settings = ap (λ s. s.settings) (did 0).sheet;
-  formats = λ p. ap (λ s. format_of (get s.grid.cells p)) (did 0).sheet ∙ format_put a.grid c (written_state a.grid c x) p refl;
-  contents = λ p f. ap (λ s. content_at s.grid p) (did 0).sheet ∙ content_put a.grid c (written_state a.grid c x) p ∙ there c p x (content_at a.grid) f;
+  formats =
+      λ p. ap (λ s. format_of (get s.grid.cells p)) (did 0).sheet
+      ∙ format_put a.grid c (written_state a.grid c x) p refl;
+  contents =
+      λ p f. ap (λ s. content_at s.grid p) (did 0).sheet ∙ content_put a.grid c (written_state a.grid c x) p
+      ∙ there c p x (content_at a.grid) f;
 }
 
 -- writes were made that leave the formats
-pub written_same : (ws : List Write) (a b : Worksheet) → DidEdit (all_written ws) a b → keep_formats ws ≡ true → IsSameBut (has same_place (written_cells ws)) a b
+pub written_same : (ws : List Write) (a b : Worksheet) → DidEdit (all_written ws) a b → keep_formats ws ≡ true
+    → IsSameBut (has same_place (written_cells ws)) a b
 written_same ws a b did keep = record {
   settings = ap (λ s. s.settings) (did 0).sheet;
   formats = λ p. ap (λ s. format_of (get s.grid.cells p)) (did 0).sheet ∙ formats_written ws a.grid p keep;
-  contents = λ p f. ap (λ s. content_at s.grid p) (did 0).sheet ∙ contents_written ws a.grid p ∙ other_behind ws (content_at a.grid) p f;
+  contents =
+      λ p f. ap (λ s. content_at s.grid p) (did 0).sheet ∙ contents_written ws a.grid p
+      ∙ other_behind ws (content_at a.grid) p f;
 }
 
 -- contents that are the same
@@ -54,7 +53,8 @@ same_content : (g h : Grid) → SameContents g h → (p : Place) → content_at 
 same_content g h same p = ap content_or_blank (same.contents p)
 
 -- a recalculation behind that
-pub recalculated_same : (among : Place → Bool) (a b c : Worksheet) → IsSameBut among a b → SameContents b.grid c.grid → c.settings ≡ b.settings → IsSameBut among a c
+pub recalculated_same : (among : Place → Bool) (a b c : Worksheet) → IsSameBut among a b → SameContents b.grid c.grid
+    → c.settings ≡ b.settings → IsSameBut among a c
 recalculated_same among a b c same contents settings = record {
   settings = settings ∙ same.settings;
   formats = λ p. contents.formats p ∙ same.formats p;
@@ -62,16 +62,22 @@ recalculated_same among a b c same contents settings = record {
 }
 
 -- what cells hold then
-pub entered_holds : (c : Place) (x : Content) (a b d : Worksheet) → DidEdit (with_content c x) a b → SameContents b.grid d.grid → content_at d.grid ≡ bench.with_content c x (content_at a.grid)
+pub entered_holds : (c : Place) (x : Content) (a b d : Worksheet) → DidEdit (with_content c x) a b
+    → SameContents b.grid d.grid → content_at d.grid ≡ bench.with_content c x (content_at a.grid)
 entered_holds c x a b d did contents = λ i p.
-    (same_content b.grid d.grid contents p ∙ ap (λ s. content_at s.grid p) (did 0).sheet ∙ content_put a.grid c (written_state a.grid c x) p) i
+    (same_content b.grid d.grid contents p ∙ ap (λ s. content_at s.grid p) (did 0).sheet
+    ∙ content_put a.grid c (written_state a.grid c x) p) i
 
-pub written_holds : (ws : List Write) (a b d : Worksheet) → DidEdit (all_written ws) a b → SameContents b.grid d.grid → content_at d.grid ≡ contents_behind ws (content_at a.grid)
+-- what the cells hold behind a list of writes is what the list tells
+pub written_holds : (ws : List Write) (a b d : Worksheet) → DidEdit (all_written ws) a b → SameContents b.grid d.grid
+    → content_at d.grid ≡ contents_behind ws (content_at a.grid)
 written_holds ws a b d did contents = λ i p.
-    (same_content b.grid d.grid contents p ∙ ap (λ s. content_at s.grid p) (did 0).sheet ∙ contents_written ws a.grid p) i
+    (same_content b.grid d.grid contents p ∙ ap (λ s. content_at s.grid p) (did 0).sheet
+    ∙ contents_written ws a.grid p) i
 
 -- a recalculation leaves the settings, whether there was memory for it or not
-pub settings_kept : (r : Result (Unit {0}) Memory) (scene : Scene) (b c : Worksheet) (m n : ℕ) → OnOk r (Did (recalculated mean scene (of_worksheet b)) b c m n) →
+pub settings_kept : (r : Result (Unit {0}) Memory) (scene : Scene) (b c : Worksheet) (m n : ℕ)
+    → OnOk r (Did (recalculated mean scene (of_worksheet b)) b c m n) →
     OnErr r (c ≡ record b { grid = c.grid }) → c.settings ≡ b.settings
 settings_kept (Ok x) scene b c m n did err = ap (λ s. s.settings) did.sheet
 settings_kept (Err e) scene b c m n did err = ap (λ (w : Worksheet). w.settings) err

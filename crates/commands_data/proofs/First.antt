@@ -1,5 +1,6 @@
 -- The first cell that passes a test, among cells that are looked through one by one.
-use Rattle.std.specs.Prelude.{ℕ, ◌≡◌, ◌+◌, ◌<◌, ◌≤◌, refl, Bool, true, false, cond, List, [], ◌∷◌, ◌++◌, map, Option, None, Some}
+use Rattle.std.specs.Prelude.{ℕ, ◌≡◌, ◌+◌, ◌<◌, ◌≤◌, refl, Bool, true, false, cond, List, [], ◌∷◌, ◌++◌, map, Option}
+use Rattle.std.specs.Prelude.{None, Some}
 use Rattle.std.specs.List.{find, flat_map}
 use Rattle.std.proofs.Common.{ap, sym, ◌∙◌}
 use Rattle.grid_address.specs.Place.{Place}
@@ -22,27 +23,37 @@ module _ (test : Place → Bool) where
       by false rest = rest
 
   module _ (cell : ℕ → Place) (n count i : ℕ) (o : Option Place) where
-    pub found_more : i < count → test (cell (n + i)) ≡ false → find test (map cell (left n count i)) ≡ o → find test (map cell (left n count (i + 1))) ≡ o
+    -- a cell that doesn't pass is looked past
+    pub found_more : i < count → test (cell (n + i)) ≡ false → find test (map cell (left n count i)) ≡ o
+        → find test (map cell (left n count (i + 1))) ≡ o
     found_more inside fails so_far =
-        sym (ap (λ l. find test (map cell l)) (left_more n count i inside) ∙ ap (λ b. cond b (Some (cell (n + i))) (find test (map cell (left n count (i + 1))))) fails) ∙ so_far
+        sym (ap (λ l. find test (map cell l)) (left_more n count i inside)
+        ∙ ap (λ b. cond b (Some (cell (n + i))) (find test (map cell (left n count (i + 1))))) fails) ∙ so_far
 
-    pub found_stop : i < count → test (cell (n + i)) ≡ true → find test (map cell (left n count i)) ≡ o → Some (cell (n + i)) ≡ o
-    found_stop inside held so_far =
-        sym (ap (λ l. find test (map cell l)) (left_more n count i inside) ∙ ap (λ b. cond b (Some (cell (n + i))) (find test (map cell (left n count (i + 1))))) held) ∙ so_far
-
+    -- past the last one none is found
     pub found_end : count ≤ i → find test (map cell (left n count i)) ≡ o → None ≡ o
     found_end past so_far = sym (ap (λ l. find test (map cell l)) (left_none n count i past)) ∙ so_far
 
   module _ (row : ℕ → List Place) (n count i : ℕ) (o : Option Place) where
     -- the rows that are left are one and those behind it
-    apart : i < count → find test (flat_map row (left n count i)) ≡ or_then (find test (row (n + i))) (find test (flat_map row (left n count (i + 1))))
-    apart inside = ap (λ l. find test (flat_map row l)) (left_more n count i inside) ∙ found_then (row (n + i)) (flat_map row (left n count (i + 1)))
+    apart : i < count → find test (flat_map row (left n count i))
+        ≡ or_then (find test (row (n + i))) (find test (flat_map row (left n count (i + 1))))
+    apart inside =
+        ap (λ l. find test (flat_map row l)) (left_more n count i inside)
+        ∙ found_then (row (n + i)) (flat_map row (left n count (i + 1)))
 
-    pub rows_more : i < count → find test (row (n + i)) ≡ None → find test (flat_map row (left n count i)) ≡ o → find test (flat_map row (left n count (i + 1))) ≡ o
-    rows_more inside none so_far = sym (apart inside ∙ ap (λ x. or_then x (find test (flat_map row (left n count (i + 1))))) none) ∙ so_far
+    -- a row in which none passes is looked past
+    pub rows_more : i < count → find test (row (n + i)) ≡ None → find test (flat_map row (left n count i)) ≡ o
+        → find test (flat_map row (left n count (i + 1))) ≡ o
+    rows_more inside none so_far =
+        sym (apart inside ∙ ap (λ x. or_then x (find test (flat_map row (left n count (i + 1))))) none) ∙ so_far
 
-    pub rows_stop : (c : Place) → i < count → find test (row (n + i)) ≡ Some c → find test (flat_map row (left n count i)) ≡ o → Some c ≡ o
-    rows_stop c inside some so_far = sym (apart inside ∙ ap (λ x. or_then x (find test (flat_map row (left n count (i + 1))))) some) ∙ so_far
+    -- the first that passes in a row is the first of all
+    pub rows_stop : (c : Place) → i < count → find test (row (n + i)) ≡ Some c
+        → find test (flat_map row (left n count i)) ≡ o → Some c ≡ o
+    rows_stop c inside some so_far =
+        sym (apart inside ∙ ap (λ x. or_then x (find test (flat_map row (left n count (i + 1))))) some) ∙ so_far
 
+    -- past the last row none is found
     pub rows_end : count ≤ i → find test (flat_map row (left n count i)) ≡ o → None ≡ o
     rows_end past so_far = sym (ap (λ l. find test (flat_map row l)) (left_none n count i past)) ∙ so_far

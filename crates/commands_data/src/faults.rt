@@ -1,34 +1,20 @@
 // What a command writes, and its refusal.
 ghost use Rattle.std.specs.Prelude.{◌≡◌, IfOk, List, OnOk, Result};
-ghost use Rattle.command_desk.specs.Acting.{error_of, HasActedBy};
+ghost use Rattle.command_desk.specs.Acting.{HasActedBy};
 ghost use Rattle.commands_data.specs.Made.{block_error, made, query_error, IsAnswer};
-ghost use Rattle.sheet_store.specs.declared.writes.SheetFault.TheVariants as sheet_faults;
 ghost use Rattle.sheet_store.specs.declared.writes.Write.{Write};
 
-use command_desk::{CommandEnd, make_writes};
+use command_desk::{CommandEnd, make_writes, sheet_error};
 use data_blocks::BlockFault;
 use data_query::QueryFault;
 use desk_errors::CommandError;
 use formula_eval::{Scene, Tally};
 use lics_text::Memory;
-use sheet_store::{SheetFault, Writes};
+use sheet_store::Writes;
 use work_sheet::Sheet;
 
-// The error of a fault of the sheet, but for want of memory.
-fn sheet_error(fault: SheetFault) -> Result<CommandError, Memory>
-    ensures error { IfOk result (λ e. e ≡ error_of fault) }
-    ensures told { OnOk result (fault ≡ sheet_faults.Memory → ⊥) }
-{
-    match fault {
-        SheetFault::Protected(cell) => Ok(CommandError::Protected(cell)),
-        SheetFault::PushedOff(cell) => Ok(CommandError::PushedOff(cell)),
-        SheetFault::OutOfSheet(span) => Ok(CommandError::OutOfSheet(span)),
-        SheetFault::Memory => Err(Memory),
-    }
-}
-
-// The error of a block's fault, but for want of memory.
-fn block_error(fault: BlockFault) -> Result<CommandError, Memory>
+/// The error of a block's fault, but for want of memory.
+pub(crate) fn block_error(fault: BlockFault) -> Result<CommandError, Memory>
     ensures error { IfOk result (λ e. e ≡ block_error fault) }
     ensures told { OnOk result (fault ≡ BlockFault.Memory → ⊥) }
 {

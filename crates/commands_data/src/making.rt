@@ -1,13 +1,14 @@
 // A table is made on a worksheet.
 ghost use Rattle.std.specs.Prelude.{◌≡◌, IfOk, OnOk};
-ghost use Rattle.command_desk.specs.Acting.{error_of, HasActedBy};
+ghost use Rattle.command_desk.specs.Acting.{HasActedBy};
 ghost use Rattle.data_blocks.specs.declared.ranges.LastTable.TheVariants as table;
-ghost use Rattle.commands_data.specs.TableCommands.{changed_cells, block_error, made, refusal_by};
+ghost use Rattle.commands_data.specs.TableCommands.{changed_cells, made, refusal_by};
 ghost use Rattle.commands_data.specs.Trying.{table_one, table_two};
 ghost use Rattle.work_sheet.specs.Did.{Did};
 ghost use Rattle.work_sheet.specs.Seen.{of_worksheet};
 
 use crate::bench::TableBench;
+use crate::faults::block_error;
 use crate::protection::protected_of_table;
 use crate::trying::{contents_of, write_out};
 use command_desk::{CommandEnd, LastTable};
@@ -16,33 +17,7 @@ use desk_errors::CommandError;
 use formula_eval::{Scene, Tally};
 use grid_address::{Cell, Span};
 use lics_text::Memory;
-use sheet_store::SheetFault;
 use work_sheet::Sheet;
-
-// The error of a fault of the sheet.
-fn sheet_error(fault: SheetFault) -> CommandError
-    ensures { result ≡ error_of fault }
-{
-    match fault {
-        SheetFault::Protected(cell) => CommandError::Protected(cell),
-        SheetFault::PushedOff(cell) => CommandError::PushedOff(cell),
-        SheetFault::OutOfSheet(span) => CommandError::OutOfSheet(span),
-        SheetFault::Memory => CommandError::Memory,
-    }
-}
-
-// The error of a block's fault.
-fn block_error(fault: BlockFault) -> CommandError
-    ensures { result ≡ block_error fault }
-{
-    match fault {
-        BlockFault::ZeroStep => CommandError::ZeroStep,
-        BlockFault::NoTable => CommandError::InvalidTable,
-        BlockFault::InputInTable(cell) => CommandError::InputInTable(cell),
-        BlockFault::Sheet(fault) => sheet_error(fault),
-        BlockFault::Memory => CommandError::Memory,
-    }
-}
 
 // Why a table is refused: by its shape, or by a protected cell of those that it writes.
 fn refusal(
@@ -50,14 +25,18 @@ fn refusal(
     sheet: &Sheet,
     span: Span,
     inputs: &[Cell],
-) -> Option<CommandError>
-    ensures { result ≡ refusal_by shape (changed_cells span inputs.now) (of_worksheet sheet.now) }
+) -> Result<Option<CommandError>, Memory>
+    ensures { IfOk result
+        (λ told. told ≡ refusal_by shape (changed_cells span inputs.now) (of_worksheet sheet.now)) }
 {
     match shape {
-        Some(fault) => Some(block_error(fault)),
+        Some(fault) => {
+            let error = block_error(fault)?;
+            Ok(Some(error))
+        }
         None => match protected_of_table(sheet, span, inputs) {
-            Some(cell) => Some(CommandError::Protected(cell)),
-            None => None,
+            Some(cell) => Ok(Some(CommandError::Protected(cell))),
+            None => Ok(None),
         },
     }
 }
@@ -124,7 +103,8 @@ fn one_made(
     ensures { IfOk result (λ end. HasActedBy (made (table.One span input) scene.entry.now)
         end sheet.old sheet.new tally.old.count tally.new.count) }
 {
-    match refusal(shape_one(span, input), sheet, span, &[input]) {
+    let refused = refusal(shape_one(span, input), sheet, span, &[input])?;
+    match refused {
         Some(error) => Ok(CommandEnd::Refused(error)),
         None => {
             make_one(span, input, sheet, scene, tally)?;
@@ -145,7 +125,8 @@ fn two_made(
     ensures { IfOk result (λ end. HasActedBy (made (table.Two span down across) scene.entry.now)
         end sheet.old sheet.new tally.old.count tally.new.count) }
 {
-    match refusal(shape_two(span, down, across), sheet, span, &[down, across]) {
+    let refused = refusal(shape_two(span, down, across), sheet, span, &[down, across])?;
+    match refused {
         Some(error) => Ok(CommandEnd::Refused(error)),
         None => {
             make_two(span, down, across, sheet, scene, tally)?;

@@ -1,5 +1,6 @@
 -- No call of the shelf changes another file, or lets the count of faults fall.
-use Rattle.std.specs.Prelude.{◌≡◌, ◌≤◌, cond, ℕ, OnErr, Bool, false, refl, List, [], Option, None, Some, Result, Ok, Err}
+use Rattle.std.specs.Prelude.{◌≡◌, ◌≤◌, cond, ℕ, OnErr, Bool, false, refl, List, [], Option, None, Some, Result, Ok}
+use Rattle.std.specs.Prelude.{Err}
 use Rattle.std.specs.Str.{bytes_eq}
 use Rattle.std.proofs.Common.{ap, arith, inl, inr, ◌∙◌}
 use Rattle.std.proofs.lemmas.Bool.{cases_Bool}
@@ -11,7 +12,9 @@ use Rattle.commands_file.specs.Steps.{HasCalled}
 use Rattle.outside_world.specs.Shelf.{Files, file_in, held_as, HasCause, HasPut, HasRead, HasRemoved, OnShelf}
 use Rattle.outside_world.specs.declared.faults.ShelfFault.{ShelfFault}
 use Rattle.outside_world.specs.declared.faults.ShelfFault.TheVariants.{Failed, Memory}
-use Rattle.commands_file.specs.Calls.{asks, failed, gets, loaded, puts, removes, there, written, Asked, HasAnswered, HasBrokenOff, IsCounted, IsTold, KeepsOthers, Reply, ShelfCall, ShelfView, shelf_view}
+use Rattle.commands_file.specs.Calls.{asks, failed, gets, loaded, puts, removes, there, written, Asked, HasAnswered}
+use Rattle.commands_file.specs.Calls.{HasBrokenOff, IsCounted, IsTold, KeepsOthers, Reply, ShelfCall, ShelfView}
+use Rattle.commands_file.specs.Calls.{shelf_view}
 
 other_than : (other name : List ℕ) → (other ≡ name → ⊥) → bytes_eq other name ≡ false
 other_than other name apart = elim (cases_Bool (bytes_eq other name)) [
@@ -22,7 +25,8 @@ other_than other name apart = elim (cases_Bool (bytes_eq other name)) [
 held_other : (held : Option (List ℕ)) (name wanted : List ℕ) (files : Files) →
     file_in wanted (held_as name held files) ≡ cond (bytes_eq wanted name) held (file_in wanted files)
 held_other None name wanted files =
-    get-remove nat_list_cmp_total files name wanted ∙ ap (λ b. cond b None (file_in wanted files)) (is_eq-slice_cmp wanted name)
+    get-remove nat_list_cmp_total files name wanted
+    ∙ ap (λ b. cond b None (file_in wanted files)) (is_eq-slice_cmp wanted name)
 held_other (Some bytes) name wanted files =
     get-insert nat_list_cmp_total files name bytes wanted
     ∙ ap (λ b. cond b (Some bytes) (file_in wanted files)) (is_eq-slice_cmp wanted name)
@@ -36,20 +40,28 @@ passed held name wanted files other =
 -- one file holds something else, or nothing
 keeps_held : (name : List ℕ) (held : Option (List ℕ)) (s t : OnShelf) (now : Option OnShelf) → now ≡ Some t →
     t.files ≡ held_as name held s.files → KeepsOthers (Some s) now
-keeps_held name held s t now is files =
-    (t, name, is, λ other apart. ap (λ (f : Files). file_in other f) files ∙ passed held name other s.files (other_than other name apart))
+keeps_held name held s t now is files = (
+  t,
+  name,
+  is,
+  λ other apart. ap (λ (f : Files). file_in other f) files
+      ∙ passed held name other s.files (other_than other name apart),
+)
 
 -- no file changed
 keeps_all : (s t : OnShelf) (now : Option OnShelf) → now ≡ Some t → t.files ≡ s.files → KeepsOthers (Some s) now
 keeps_all s t now is files = (t, [], is, λ other apart. ap (λ (f : Files). file_in other f) files)
 
-pub read_keeps : {A : Type 0} (told : Files → A) (name : List ℕ) (before now : Option OnShelf) (result : Result A ShelfFault) →
+-- a read leaves every file
+pub read_keeps : {A : Type 0} (told : Files → A) (name : List ℕ) (before now : Option OnShelf)
+    (result : Result A ShelfFault) →
     HasRead told name before now result → KeepsOthers before now
 read_keeps told name None now result h = h
 read_keeps told name (Some s) now (Ok value) h = keeps_all s _ now h.1 refl
 read_keeps told name (Some s) now (Err Failed) h = keeps_all s _ now h refl
 read_keeps told name (Some s) now (Err Memory) h = keeps_all s _ now h refl
 
+-- a write leaves every other file
 pub put_keeps : (name bytes : List ℕ) (before now : Option OnShelf) (result : Result (Unit {0}) ShelfFault) →
     HasPut name bytes before now result → KeepsOthers before now
 put_keeps name bytes None now result h = h
@@ -57,6 +69,7 @@ put_keeps name bytes (Some s) now (Ok x) h = keeps_held name (Some bytes) s _ no
 put_keeps name bytes (Some s) now (Err Failed) h = keeps_held name h.0 s _ now h.1 refl
 put_keeps name bytes (Some s) now (Err Memory) h = keeps_held name h.0 s _ now h.1 refl
 
+-- a removal leaves every other file
 pub removed_keeps : (name : List ℕ) (before now : Option OnShelf) (result : Result Bool ShelfFault) →
     HasRemoved name before now result → KeepsOthers before now
 removed_keeps name None now result h = h
@@ -69,7 +82,8 @@ cause_later before now (Ok value) h = omega (arith, h)
 cause_later before now (Err Failed) h = h.0
 cause_later before now (Err Memory) h = omega (arith, h)
 
-told_keeps : (call : ShelfCall) (reply : Reply) (before now : Option OnShelf) → IsTold call reply before now → KeepsOthers before now
+told_keeps : (call : ShelfCall) (reply : Reply) (before now : Option OnShelf) → IsTold call reply before now
+    → KeepsOthers before now
 told_keeps (asks name) failed before now h = read_keeps _ name before now _ h
 told_keeps (asks name) (there b) before now h = read_keeps _ name before now _ h
 told_keeps (asks name) (loaded file) before now h = absurd h
@@ -110,17 +124,23 @@ none_broken told faults = record { told = by told; faults = omega arith }
     by (Some s) = keeps_all s s (Some s) refl refl
 
 -- a call that found no memory
-pub read_broken : {A : Type 0} (told : Files → A) (name : List ℕ) (before now : Option OnShelf) (m n : ℕ) (result : Result A ShelfFault) →
+pub read_broken : {A : Type 0} (told : Files → A) (name : List ℕ) (before now : Option OnShelf) (m n : ℕ)
+    (result : Result A ShelfFault) →
     HasRead told name before now result → HasCause m n result → HasBrokenOff (shelf_view before m) (shelf_view now n)
-read_broken told name before now m n result h c = record { told = read_keeps told name before now result h; faults = cause_later m n result c }
+read_broken told name before now m n result h c =
+    record { told = read_keeps told name before now result h; faults = cause_later m n result c }
 
+-- a write that was broken off has its cause, and left the others
 pub put_broken : (name bytes : List ℕ) (before now : Option OnShelf) (m n : ℕ) (result : Result (Unit {0}) ShelfFault) →
     HasPut name bytes before now result → HasCause m n result → HasBrokenOff (shelf_view before m) (shelf_view now n)
-put_broken name bytes before now m n result h c = record { told = put_keeps name bytes before now result h; faults = cause_later m n result c }
+put_broken name bytes before now m n result h c =
+    record { told = put_keeps name bytes before now result h; faults = cause_later m n result c }
 
+-- a removal that was broken off has its cause, and left the others
 pub removed_broken : (name : List ℕ) (before now : Option OnShelf) (m n : ℕ) (result : Result Bool ShelfFault) →
     HasRemoved name before now result → HasCause m n result → HasBrokenOff (shelf_view before m) (shelf_view now n)
-removed_broken name before now m n result h c = record { told = removed_keeps name before now result h; faults = cause_later m n result c }
+removed_broken name before now m n result h c =
+    record { told = removed_keeps name before now result h; faults = cause_later m n result c }
 
 -- what is known anyway
 pub on_err : {A E P : Type 0} (result : Result A E) → P → OnErr result P

@@ -1,16 +1,19 @@
 -- How commands end, by what their call was answered.
 use Rattle.std.specs.Prelude.{◌≡◌, ℕ, Bool, true, false, refl, List, None, Some, Ok, Err, if◌then◌else◌}
-use Rattle.std.proofs.Common.{ap, subst, sym, ◌∙◌}
+use Rattle.std.proofs.Common.{ap, subst, sym}
 use Rattle.std.proofs.lemmas.Bool.{false≢true, true≢false}
 use Rattle.command_desk.specs.Acting.{on_desk, Acted, DeskActed, HasActedBy, HasActedOn}
 use Rattle.command_desk.specs.Desks.{of_desk, on_sheet}
 use Rattle.command_desk.specs.declared.desk.Desk as declared
 use Rattle.command_desk.specs.declared.ending.CommandEnd.{CommandEnd}
 use Rattle.command_desk.specs.declared.ending.CommandEnd.TheVariants.{Finished, Refused}
-use Rattle.commands_file.specs.Calls.{failed, gets, loaded, puts, removes, there, written, HasAnswered, Reply, ShelfCall, ShelfView}
-use Rattle.commands_file.specs.Commands.{by_call, finished, is_readable, put_readable, recalculated_there, refused, retrieved_sheet, saved_as, scene_in, taken_away, with_file, without_call, written_out, HasActedOver}
-use Rattle.commands_file.specs.Steps.{end_of_placing, end_of_put, end_of_remove, is_written, loaded_as, HasCalled, IsPlaced}
-use Rattle.commands_file.specs.declared.calling.Placed.{Placed}
+use Rattle.commands_file.specs.Calls.{failed, gets, loaded, puts, there, written, HasAnswered, Reply}
+use Rattle.commands_file.specs.Calls.{ShelfCall, ShelfView}
+use Rattle.commands_file.specs.Commands.{by_call, finished, is_readable, put_readable, recalculated_there, refused}
+use Rattle.commands_file.specs.Commands.{retrieved_sheet, saved_as, scene_in, with_file, without_call}
+use Rattle.commands_file.specs.Commands.{HasActedOver}
+use Rattle.commands_file.specs.Steps.{is_written, loaded_as, HasCalled}
+use Rattle.commands_file.specs.Steps.{IsPlaced}
 use Rattle.commands_file.specs.declared.calling.Placed.TheVariants as place
 use Rattle.commands_file.specs.declared.loading.Loaded.{Loaded}
 use Rattle.commands_file.specs.declared.loading.Loaded.TheVariants as load
@@ -31,51 +34,23 @@ abbrev IsAnswer : ShelfCall → Reply → ShelfView → ShelfView → Type 0
 IsAnswer call reply before now = HasAnswered (record { call = call; reply = reply }) before now
 
 -- a command by its one call, whose answer is this
-over : (call : ShelfCall) (act : Reply → DeskActed) (reply : Reply) (came : CommandEnd) (v w : declared.Desk) (m n : ℕ) (before now : ShelfView) →
+over : (call : ShelfCall) (act : Reply → DeskActed) (reply : Reply) (came : CommandEnd) (v w : declared.Desk) (m n : ℕ)
+    (before now : ShelfView) →
     HasActedOn (act reply) came v w m n → IsAnswer call reply before now →
     HasActedOver (λ r. by_call call r act) came v w m n before now
-over call act reply came v w m n before now acted answered = record { reply = reply; acted = acted; answered = (now, answered, refl) }
+over call act reply came v w m n before now acted answered =
+    record { reply = reply; acted = acted; answered = (now, answered, refl) }
 
 -- a refused command
-refused_on : (e : CommandError) (came : CommandEnd) (v : declared.Desk) (n : ℕ) → came ≡ Refused e → HasActedOn (refused e (of_desk v)) came v v n n
+refused_on : (e : CommandError) (came : CommandEnd) (v : declared.Desk) (n : ℕ) → came ≡ Refused e
+    → HasActedOn (refused e (of_desk v)) came v v n n
 refused_on e came v n is = record { end = is; desk = refl; work = refl }
 
 module _ (v : declared.Desk) (n : ℕ) (before now : ShelfView) where
-  -- a file was taken away
-  pub erased_over : (name : List ℕ) (came : CommandEnd) → HasCalled (removes name) end_of_remove came before now →
-      HasActedOver (λ r. by_call (removes name) r (taken_away (of_desk v))) came v v n n before now
-  erased_over name came called = by called.reply called.came_so called.answered
-    where
-      act : Reply → DeskActed
-      act = taken_away (of_desk v)
-
-      by : (r : Reply) → came ≡ end_of_remove r → IsAnswer (removes name) r before now →
-          HasActedOver (λ s. by_call (removes name) s (taken_away (of_desk v))) came v v n n before now
-      by (there true) e a = over (removes name) act (there true) came v v n n before now (record { end = e; desk = refl; work = refl }) a
-      by (there false) e a = over (removes name) act (there false) came v v n n before now (refused_on error.FileNotFound came v n e) a
-      by failed e a = over (removes name) act failed came v v n n before now (refused_on error.DiskError came v n e) a
-      by (loaded f) e a = over (removes name) act (loaded f) came v v n n before now (refused_on error.DiskError came v n e) a
-      by written e a = over (removes name) act written came v v n n before now (refused_on error.DiskError came v n e) a
-
-  -- a file was written, and the desk stays
-  pub written_over : (name bytes : List ℕ) (done : Bool) (came : CommandEnd) → came ≡ end_of_put done →
-      HasCalled (puts name bytes) is_written done before now →
-      HasActedOver (λ r. by_call (puts name bytes) r (written_out (of_desk v))) came v v n n before now
-  written_over name bytes done came is called = by called.reply (is ∙ ap end_of_put called.came_so) called.answered
-    where
-      act : Reply → DeskActed
-      act = written_out (of_desk v)
-
-      by : (r : Reply) → came ≡ end_of_put (is_written r) → IsAnswer (puts name bytes) r before now →
-          HasActedOver (λ s. by_call (puts name bytes) s (written_out (of_desk v))) came v v n n before now
-      by written e a = over (puts name bytes) act written came v v n n before now (record { end = e; desk = refl; work = refl }) a
-      by failed e a = over (puts name bytes) act failed came v v n n before now (refused_on error.DiskError came v n e) a
-      by (there b) e a = over (puts name bytes) act (there b) came v v n n before now (refused_on error.DiskError came v n e) a
-      by (loaded f) e a = over (puts name bytes) act (loaded f) came v v n n before now (refused_on error.DiskError came v n e) a
-
-  -- the sheet was saved
+  -- a save whose call wrote the file is finished
   pub saved_over : (name bytes : List ℕ) (w : declared.Desk) →
-      HasActedOn (saved_as name (of_desk v) written) Finished v w n n → HasCalled (puts name bytes) is_written true before now →
+      HasActedOn (saved_as name (of_desk v) written) Finished v w n n
+      → HasCalled (puts name bytes) is_written true before now →
       HasActedOver (λ r. by_call (puts name bytes) r (saved_as name (of_desk v))) Finished v w n n before now
   saved_over name bytes w acted called = by called.reply called.came_so called.answered
     where
@@ -91,24 +66,33 @@ module _ (v : declared.Desk) (n : ℕ) (before now : ShelfView) where
 
   -- it wasn't
   pub unsaved_over : (name bytes : List ℕ) → HasCalled (puts name bytes) is_written false before now →
-      HasActedOver (λ r. by_call (puts name bytes) r (saved_as name (of_desk v))) (Refused error.DiskError) v v n n before now
+      HasActedOver (λ r. by_call (puts name bytes) r (saved_as name (of_desk v))) (Refused error.DiskError) v v n n
+      before now
   unsaved_over name bytes called = by called.reply called.came_so called.answered
     where
       act : Reply → DeskActed
       act = saved_as name (of_desk v)
 
       by : (r : Reply) → false ≡ is_written r → IsAnswer (puts name bytes) r before now →
-          HasActedOver (λ s. by_call (puts name bytes) s (saved_as name (of_desk v))) (Refused error.DiskError) v v n n before now
+          HasActedOver (λ s. by_call (puts name bytes) s (saved_as name (of_desk v))) (Refused error.DiskError) v v n n
+          before now
       by written e a = absurd (false≢true e)
-      by failed e a = over (puts name bytes) act failed (Refused error.DiskError) v v n n before now (refused_on error.DiskError (Refused error.DiskError) v n refl) a
-      by (there b) e a = over (puts name bytes) act (there b) (Refused error.DiskError) v v n n before now (refused_on error.DiskError (Refused error.DiskError) v n refl) a
-      by (loaded f) e a = over (puts name bytes) act (loaded f) (Refused error.DiskError) v v n n before now (refused_on error.DiskError (Refused error.DiskError) v n refl) a
+      by failed e a =
+          over (puts name bytes) act failed (Refused error.DiskError) v v n n before now
+          (refused_on error.DiskError (Refused error.DiskError) v n refl) a
+      by (there b) e a =
+          over (puts name bytes) act (there b) (Refused error.DiskError) v v n n before now
+          (refused_on error.DiskError (Refused error.DiskError) v n refl) a
+      by (loaded f) e a =
+          over (puts name bytes) act (loaded f) (Refused error.DiskError) v v n n before now
+          (refused_on error.DiskError (Refused error.DiskError) v n refl) a
 
 module _ (name bytes : List ℕ) (v : declared.Desk) (n : ℕ) (before now : ShelfView) where
   -- what the placing of a worksheet's file does, by whether it would be read again
   abbrev IsSo : (Reply → DeskActed) → CommandEnd → declared.Desk → Bool → Type 0
   IsSo act came w b =
-      HasActedOver (λ r. if b then by_call (puts name bytes) r act else without_call (refused error.WorksheetTooLarge (of_desk v))) came v w n n before now
+      HasActedOver (λ r. if b then by_call (puts name bytes) r act else without_call
+      (refused error.WorksheetTooLarge (of_desk v))) came v w n n before now
 
   -- a file that would be read again
   short_over : (act : Reply → DeskActed) (came : CommandEnd) (w : declared.Desk) → is_readable bytes ≡ true →
@@ -125,18 +109,7 @@ module _ (name bytes : List ℕ) (v : declared.Desk) (n : ℕ) (before now : She
     answered = placed.1;
   })
 
-  -- a span was written, or not
-  pub extracted_over : (placed : Placed) (came : CommandEnd) → came ≡ end_of_placing placed → IsPlaced name bytes placed before now →
-      HasActedOver (λ r. put_readable name bytes r (written_out (of_desk v)) (of_desk v)) came v v n n before now
-  extracted_over place.Written came is placed = short_over (written_out (of_desk v)) came v placed.0
-      (written_over v n before now name bytes true came is placed.1)
-  extracted_over place.Failed came is placed = short_over (written_out (of_desk v)) came v placed.0
-      (written_over v n before now name bytes false came is placed.1)
-  extracted_over place.TooLarge came is placed =
-      subst (λ (e : CommandEnd). HasActedOver (λ r. put_readable name bytes r (written_out (of_desk v)) (of_desk v)) e v v n n before now)
-      (sym is) (large_over (written_out (of_desk v)) placed)
-
-  -- the sheet was saved
+  -- so is one whose sheet could be read back
   pub saved_so : (w : declared.Desk) → HasActedOn (saved_as name (of_desk v) written) Finished v w n n →
       IsPlaced name bytes place.Written before now →
       HasActedOver (λ r. put_readable name bytes r (saved_as name (of_desk v)) (of_desk v)) Finished v w n n before now
@@ -145,7 +118,8 @@ module _ (name bytes : List ℕ) (v : declared.Desk) (n : ℕ) (before now : She
 
   -- it wasn't
   pub unsaved_so : IsPlaced name bytes place.Failed before now →
-      HasActedOver (λ r. put_readable name bytes r (saved_as name (of_desk v)) (of_desk v)) (Refused error.DiskError) v v n n before now
+      HasActedOver (λ r. put_readable name bytes r (saved_as name (of_desk v)) (of_desk v)) (Refused error.DiskError) v
+      v n n before now
   unsaved_so placed = short_over (saved_as name (of_desk v)) (Refused error.DiskError) v placed.0
       (unsaved_over v n before now name bytes placed.1)
 
@@ -164,7 +138,8 @@ end_or other (load.Refused e) = Refused e
 
 module _ (make : SavedSheet → DeskActed) (name : List ℕ) (v : declared.Desk) (before now : ShelfView) where
   -- something was made of a file's sheet
-  pub made_over : (saved : SavedSheet) (came : CommandEnd) (w : declared.Desk) (m n : ℕ) → HasActedOn (make saved) came v w m n →
+  pub made_over : (saved : SavedSheet) (came : CommandEnd) (w : declared.Desk) (m n : ℕ)
+      → HasActedOn (make saved) came v w m n →
       HasCalled (gets name) loaded_as (load.Sheet saved) before now →
       HasActedOver (λ r. by_call (gets name) r (with_file make (of_desk v))) came v w m n before now
   made_over saved came w m n acted called = by called.reply called.came_so called.answered
@@ -199,18 +174,31 @@ module _ (make : SavedSheet → DeskActed) (name : List ℕ) (v : declared.Desk)
       by : (r : Reply) → load.Refused why ≡ loaded_as r → IsAnswer (gets name) r before now →
           HasActedOver (λ s. by_call (gets name) s (with_file make (of_desk v))) (Refused why) v v n n before now
       by (loaded (Some (Ok s))) e a = absurd (subst IsSheet (sym e) tt)
-      by (loaded (Some (Err f))) e a = over (gets name) act (loaded (Some (Err f))) (Refused why) v v n n before now (refused_on _ (Refused why) v n (is e)) a
-      by (loaded None) e a = over (gets name) act (loaded None) (Refused why) v v n n before now (refused_on error.FileNotFound (Refused why) v n (is e)) a
-      by failed e a = over (gets name) act failed (Refused why) v v n n before now (refused_on error.DiskError (Refused why) v n (is e)) a
-      by (there b) e a = over (gets name) act (there b) (Refused why) v v n n before now (refused_on error.DiskError (Refused why) v n (is e)) a
-      by written e a = over (gets name) act written (Refused why) v v n n before now (refused_on error.DiskError (Refused why) v n (is e)) a
+      by (loaded (Some (Err f))) e a =
+          over (gets name) act (loaded (Some (Err f))) (Refused why) v v n n before now
+          (refused_on _ (Refused why) v n (is e)) a
+      by (loaded None) e a =
+          over (gets name) act (loaded None) (Refused why) v v n n before now
+          (refused_on error.FileNotFound (Refused why) v n (is e)) a
+      by failed e a =
+          over (gets name) act failed (Refused why) v v n n before now
+          (refused_on error.DiskError (Refused why) v n (is e)) a
+      by (there b) e a =
+          over (gets name) act (there b) (Refused why) v v n n before now
+          (refused_on error.DiskError (Refused why) v n (is e)) a
+      by written e a =
+          over (gets name) act written (Refused why) v v n n before now
+          (refused_on error.DiskError (Refused why) v n (is e)) a
 
 -- what was done to the sheet alone
 pub done_on : (done : Done) (v : declared.Desk) (new : Worksheet) (m n : ℕ) → Did done v.sheet new m n →
     HasActedOn (finished done (of_desk v)) Finished v (record v { sheet = new }) m n
-done_on done v new m n did = record { end = refl; desk = ap (λ (s : Sheet). on_sheet (of_desk v) s) did.sheet; work = did.work }
+done_on done v new m n did =
+    record { end = refl; desk = ap (λ (s : Sheet). on_sheet (of_desk v) s) did.sheet; work = did.work }
 
-pub acted_on : (act : Sheet → Acted) (came : CommandEnd) (v : declared.Desk) (new : Worksheet) (m n : ℕ) → HasActedBy act came v.sheet new m n →
+-- a command over the worksheet is one over the desk
+pub acted_on : (act : Sheet → Acted) (came : CommandEnd) (v : declared.Desk) (new : Worksheet) (m n : ℕ)
+    → HasActedBy act came v.sheet new m n →
     HasActedOn (on_desk act (of_desk v)) came v (record v { sheet = new }) m n
 acted_on act came v new m n acted =
     record { end = acted.end; desk = ap (λ (s : Sheet). on_sheet (of_desk v) s) acted.did.sheet; work = acted.did.work }
@@ -218,7 +206,9 @@ acted_on act came v new m n acted =
 -- a file's sheet took the place of the sheet, and was recalculated
 pub retrieved_acts : (saved : SavedSheet) (scene there_seen : Scene) (v mid w : Worksheet) (m n : ℕ) →
     DidEdit (restored saved.store saved.names saved.settings) v mid → there_seen ≡ scene_in scene (of_worksheet mid) →
-    Did (recalculated mean there_seen (of_worksheet mid)) mid w m n → Did (retrieved_sheet saved scene (of_worksheet v)) v w m n
+    Did (recalculated mean there_seen (of_worksheet mid)) mid w m n
+    → Did (retrieved_sheet saved scene (of_worksheet v)) v w m n
 retrieved_acts saved scene there_seen v mid w m n edit is did =
-    did_both (restored saved.store saved.names saved.settings (of_worksheet v)) (recalculated_there scene) v mid w m m n (edit m)
+    did_both (restored saved.store saved.names saved.settings (of_worksheet v)) (recalculated_there scene) v mid w m m
+    n (edit m)
     (subst (λ (t : Scene). Did (recalculated mean t (of_worksheet mid)) mid w m n) is did)

@@ -18,18 +18,24 @@ use Rattle.work_sheet.specs.Sheets.{Worksheet}
 module _ (k : Combining) (file : Grid) (scene : Scene) (v w : Worksheet) (m n : ℕ) (came : CommandEnd) where
   -- what it is, by whether one would
   abbrev IsSo : Bool → Type 0
-  IsSo b = HasActed (if b then refused (error.OutOfSheet (used_span file)) (of_worksheet v) else written_in k file scene (of_worksheet v)) came v w m n
+  IsSo b =
+      HasActed (if b then refused (error.OutOfSheet (used_span file)) (of_worksheet v) else written_in k file scene
+      (of_worksheet v)) came v w m n
 
   by_test : (b : Bool) → b ≡ list_any (leaves_sheet k v.settings.pointer) (map.entries file.cells) → IsSo b →
       HasActed (combined k file scene (of_worksheet v)) came v w m n
   by_test b is so = subst IsSo is so
 
+  -- where no cell leaves the sheet, the file's cells are written
   pub written_acts : false ≡ list_any (leaves_sheet k v.settings.pointer) (map.entries file.cells) →
-      HasActed (written_in k file scene (of_worksheet v)) came v w m n → HasActed (combined k file scene (of_worksheet v)) came v w m n
+      HasActed (written_in k file scene (of_worksheet v)) came v w m n
+      → HasActed (combined k file scene (of_worksheet v)) came v w m n
   written_acts is acted = by_test false is acted
 
+-- where one does, the command is refused
 pub leaving_acts : (k : Combining) (file : Grid) (scene : Scene) (v : Worksheet) (n : ℕ) →
     true ≡ list_any (leaves_sheet k v.settings.pointer) (map.entries file.cells) →
     HasActed (combined k file scene (of_worksheet v)) (Refused (error.OutOfSheet (used_span file))) v v n n
 leaving_acts k file scene v n is =
-    by_test k file scene v v n n (Refused (error.OutOfSheet (used_span file))) true is (record { end = refl; did = left v v n n refl refl })
+    by_test k file scene v v n n (Refused (error.OutOfSheet (used_span file))) true is
+    (record { end = refl; did = left v v n n refl refl })

@@ -14,5 +14,6 @@ each : (es : List Entry) → AreAllHeld es → AreSound es
 each [] held = tt
 each (e ∷ es) held = (held.0.sound, each es held.1)
 
+-- what a store holds can be written
 pub all_sound : (m : Cells) → AreHeld m → AreSound (map.entries m)
 all_sound m held = each (map.entries m) (all_held m held)

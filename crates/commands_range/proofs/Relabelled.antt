@@ -55,5 +55,7 @@ module _ (prefix : LabelPrefix) (held : Place → Option CellState) where
       by (Some s) b t = by_content s.content b t
 
 -- the labels of a span are written in row order
-pub relabelled_ascend : (prefix : LabelPrefix) (span : Extent) (g : Grid) → Ascends (written_cells (relabelled prefix span g))
-relabelled_ascend prefix span g = labels_ascend prefix (λ c. map.get g.cells c) (cells_within g span) (picked_ascends any_state g span)
+pub relabelled_ascend : (prefix : LabelPrefix) (span : Extent) (g : Grid)
+    → Ascends (written_cells (relabelled prefix span g))
+relabelled_ascend prefix span g =
+    labels_ascend prefix (λ c. map.get g.cells c) (cells_within g span) (picked_ascends any_state g span)

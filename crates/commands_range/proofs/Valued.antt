@@ -29,7 +29,8 @@ module _ (f : Place → Write) where
       new ≡ now ++ map f (row_cells (row + n) col cols) → new ≡ map f (block_cells row col (n + 1) cols)
   joined now new row col n cols so_far more =
       more ∙ ap (λ (l : List Write). l ++ map f (row_cells (row + n) col cols)) so_far
-      ∙ sym (ap (map f) (block_more row col n cols) ∙ map-append f (block_cells row col n cols) (row_cells (row + n) col cols))
+      ∙ sym (ap (map f) (block_more row col n cols)
+      ∙ map-append f (block_cells row col n cols) (row_cells (row + n) col cols))
 
 -- each cell is that of its write
 module _ (l : Layout) (from target : Extent) (sight : Sight) where
@@ -37,5 +38,6 @@ module _ (l : Layout) (from target : Extent) (sight : Sight) where
   cells_are [] = refl
   cells_are (c ∷ cells) = ap (λ (t : List Place). c ∷ t) (cells_are cells)
 
+  -- the written values stand in the cells of the target
   pub written_are : written_cells (values_of l from target sight) ≡ cells_of target
   written_are = cells_are (cells_of target)

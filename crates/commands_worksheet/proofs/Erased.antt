@@ -48,5 +48,7 @@ pub erased_acted : (scene : Scene) (v mid w : Worksheet) (m n : ℕ) → of_work
     Did (settled mean scene (of_worksheet mid)) mid w m n → HasActedBy (erased scene) Finished v w m n
 erased_acted scene v mid w m n is none did = record {
   end = refl;
-  did = did_both (restored fresh_sheet.grid fresh_sheet.names fresh_sheet.settings (of_worksheet v)) (settled mean scene) v mid w m m n (fresh_did v mid is none m) did;
+  did =
+      did_both (restored fresh_sheet.grid fresh_sheet.names fresh_sheet.settings (of_worksheet v)) (settled mean scene)
+      v mid w m m n (fresh_did v mid is none m) did;
 }

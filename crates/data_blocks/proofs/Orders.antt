@@ -1,5 +1,5 @@
 -- The order of rows by their keys is a total order.
-use Rattle.std.proofs.Common.{◌≡◌, ℕ, ◌+◌, ◌<◌, List, [], ◌∷◌, length, drop, get_or, refl, ap, subst}
+use Rattle.std.proofs.Common.{◌≡◌, ℕ, List, [], ◌∷◌, refl, subst}
 use Rattle.std.specs.Prelude.{Bool, true, false, ℤ, pos, map}
 use Rattle.std.specs.Char.{to_ascii_uppercase}
 use Rattle.std.specs.Cmp.{IsTotalOrder}
@@ -8,7 +8,6 @@ use Rattle.std.specs.Ordering.{int_cmp, nat_cmp, on, ordering_then, then_cmp}
 use Rattle.std.specs.declared.cmp.Ordering.{Ordering}
 use Rattle.std.specs.declared.cmp.Ordering.TheVariants.{Less, Equal, Greater}
 use Rattle.std.proofs.lemmas.Cmp.{back_total, int_cmp_total, nat_cmp_total, nat_list_cmp_total, on_total, then_total}
-use Rattle.std.proofs.lemmas.List.{drop_more}
 use Rattle.grid_address.specs.Place.{Place}
 use Rattle.formula_tree.specs.declared.value.Value.{Value}
 use Rattle.formula_tree.specs.declared.value.Value.TheVariants as value
@@ -35,10 +34,15 @@ folded_in v = map to_ascii_uppercase (text_in v)
 
 -- by kind, then by number, then by folded text, then by text
 abbrev by_parts : Value → Value → Ordering
-by_parts = then_cmp (on kind_of nat_cmp) (then_cmp (on number_in int_cmp) (then_cmp (on folded_in (slice_cmp nat_cmp)) (on text_in (slice_cmp nat_cmp))))
+by_parts =
+    then_cmp (on kind_of nat_cmp)
+    (then_cmp (on number_in int_cmp) (then_cmp (on folded_in (slice_cmp nat_cmp)) (on text_in (slice_cmp nat_cmp))))
 
 parts_total : IsTotalOrder by_parts
-parts_total = then_total (on_total kind_of nat_cmp_total) (then_total (on_total number_in int_cmp_total) (then_total (on_total folded_in nat_list_cmp_total) (on_total text_in nat_list_cmp_total)))
+parts_total =
+    then_total (on_total kind_of nat_cmp_total)
+    (then_total (on_total number_in int_cmp_total)
+    (then_total (on_total folded_in nat_list_cmp_total) (on_total text_in nat_list_cmp_total)))
 
 then_equal : (o : Ordering) → ordering_then o Equal ≡ o
 then_equal Less = refl
@@ -75,18 +79,17 @@ same_order value.Na value.Na = refl
 values_total : IsTotalOrder order_of_values
 values_total = subst (λ (R : Value → Value → Ordering). IsTotalOrder R) (λ i a b. same_order a b i) parts_total
 
-turned_total : {K : Type 0} (R : K → K → Ordering) (descending : Bool) → IsTotalOrder R → IsTotalOrder (λ a b. turned descending (R a b))
+turned_total : {K : Type 0} (R : K → K → Ordering) (descending : Bool) → IsTotalOrder R
+    → IsTotalOrder (λ a b. turned descending (R a b))
 turned_total R true o = subst (λ (S : _ → _ → Ordering). IsTotalOrder S) (λ i a b. o.antisymm b a i) (back_total o)
 turned_total R false o = o
 
 key_total : (values : Place → Value) (key : SortKey) → IsTotalOrder (order_by_key values key)
-key_total values key = turned_total (λ a b. order_of_values (values (at a key.col)) (values (at b key.col))) key.descending (on_total (λ row. values (at row key.col)) values_total)
+key_total values key =
+    turned_total (λ a b. order_of_values (values (at a key.col)) (values (at b key.col))) key.descending
+    (on_total (λ row. values (at row key.col)) values_total)
 
 -- the order of rows by several keys
 pub rows_total : (values : Place → Value) (keys : List SortKey) → IsTotalOrder (order_of_rows values keys)
 rows_total values [] = record { antisymm = λ a b. refl; trans = λ a b c p q. p; congr = λ a b c e. refl }
 rows_total values (key ∷ keys) = then_total (key_total values key) (rows_total values keys)
-
--- one key more
-pub key_more : (values : Place → Value) (keys : List SortKey) (i : ℕ) (d : SortKey) (a b : ℕ) → i < length keys → order_of_rows values (drop i keys) a b ≡ ordering_then (order_by_key values (get_or keys i d) a b) (order_of_rows values (drop (i + 1) keys) a b)
-key_more values keys i d a b inside = ap (λ l. order_of_rows values l a b) (drop_more keys i d inside)

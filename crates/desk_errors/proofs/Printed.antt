@@ -32,7 +32,8 @@ pub alone : (t : List ℕ) → length t ≤ 40 → list_all is_printed t ≡ tru
 alone t short h = (omega (arith, short), each_printed t h)
 
 -- words with a number behind them
-pub numbered : (t : List ℕ) (n : ℕ) → length t ≤ 40 → length (decimal n) ≤ 20 → list_all is_printed t ≡ true → IsText (t ++ decimal n)
+pub numbered : (t : List ℕ) (n : ℕ) → length t ≤ 40 → length (decimal n) ≤ 20 → list_all is_printed t ≡ true
+    → IsText (t ++ decimal n)
 numbered t n short few h =
     let both : list_all is_printed (t ++ decimal n) ≡ true =
     list_all-append is_printed t (decimal n) ∙ rw (h, digits_printed (decimal n) (decimal_digits n)) refl in

@@ -1,14 +1,15 @@
 -- Doubles that are written are read back.
-use Rattle.std.proofs.Common.{◌≡◌, ℕ, suc, ◌+◌, ◌-◌, ◌*◌, ◌/◌, ◌%◌, ◌^◌, ◌≤◌, ◌<◌, max, true, false, refl, ap, ◌∙◌, arith, inl, inr}
+use Rattle.std.proofs.Common.{◌≡◌, ℕ, suc, ◌+◌, ◌-◌, ◌*◌, ◌/◌, ◌%◌, ◌^◌, ◌≤◌, ◌<◌, max, true, false, refl, ap, ◌∙◌}
+use Rattle.std.proofs.Common.{arith, inl, inr}
 use Rattle.std.proofs.Math.Nat.{pow-le-pow_right}
-use Rattle.std.specs.Int.RustNames.{int_lt}
 use Rattle.std.specs.Prelude.{◌==◌, nat_le, nat_lt, ℤ, pos, negsuc, nat_abs}
 use Rattle.std.proofs.lemmas.Bool.{cases_Bool}
 use Rattle.std.proofs.lemmas.Bool.Decides.{nat_tests}
-use Rattle.std.proofs.lemmas.Int.{ints}
 use Rattle.std.proofs.lemmas.Nat.{pow-add}
+use Rattle.fixed_value.proofs.Written.{plus_size}
 use Rattle.fixed_value.specs.declared.doubles.DoubleRead.TheVariants.{Num}
-use Rattle.fixed_value.specs.Doubles.{double_of, exponent_of, fraction_bits, has_minus, nearest_even, sign_bit, size_by, IsWritten}
+use Rattle.fixed_value.specs.Doubles.{double_of, exponent_of, fraction_bits, has_minus, nearest_even, sign_bit, size_by}
+use Rattle.fixed_value.specs.Doubles.{IsWritten}
 use Rattle.fixed_value.specs.Numbers.{nearest, signed}
 use Rattle.fixed_value.proofs.Places.{quotient_is}
 
@@ -31,25 +32,34 @@ tiny m e h far =
     let none : e - 1075 ≡ 0 = omega arith in
     let count : m * 1000000 * 2 ^ (e - 1075) ≡ m * 1000000 = ap (λ k. m * 1000000 * 2 ^ k) none ∙ omega arith in
     let unit : 2 ^ 74 ≤ 2 ^ (1075 - e) = pow-le-pow_right {n = 2} (omega arith) far in
-    ap (λ x. nearest x (2 ^ (1075 - e))) count ∙ quotient_is (2 * 2 ^ (1075 - e)) 0 (2 * (m * 1000000) + 2 ^ (1075 - e)) (omega arith) (omega arith) (omega (arith, unit, h))
+    ap (λ x. nearest x (2 ^ (1075 - e))) count
+    ∙ quotient_is (2 * 2 ^ (1075 - e)) 0 (2 * (m * 1000000) + 2 ^ (1075 - e)) (omega arith) (omega arith)
+    (omega (arith, unit, h))
 
 -- the even rounding lies within half of the divisor
-even_near : (x : ℕ) → (2 * (nearest_even x 1000000 * 1000000) ≤ 2 * x + 1000000) × (2 * x ≤ 2 * (nearest_even x 1000000 * 1000000) + 1000000)
+even_near : (x : ℕ) → (2 * (nearest_even x 1000000 * 1000000) ≤ 2 * x + 1000000)
+    × (2 * x ≤ 2 * (nearest_even x 1000000 * 1000000) + 1000000)
 even_near x =
     let q : ℕ = x / 1000000 in
     let r : ℕ = x % 1000000 in
     let split : x ≡ q * 1000000 + r = omega arith in
     elim (cases_Bool (nat_lt 1000000 (2 * r + q % 2))) [
-      | inl up ↦ (let more : 1000000 < 2 * r + q % 2 = grind (arith, nat_tests, up) in rw up (omega (arith, split, more), omega (arith, split, more)))
-      | inr down ↦ (let less : 2 * r + q % 2 ≤ 1000000 = grind (arith, nat_tests, down) in rw down (omega (arith, split, less), omega (arith, split, less)))
+      | inl up ↦
+          (let more : 1000000 < 2 * r + q % 2 = grind (arith, nat_tests, up) in
+          rw up (omega (arith, split, more), omega (arith, split, more)))
+      | inr down ↦
+          (let less : 2 * r + q % 2 ≤ 1000000 = grind (arith, nat_tests, down) in
+          rw down (omega (arith, split, less), omega (arith, split, less)))
     ]
 
 -- what was raised by a scale comes back
-nearest_back : (n k m : ℕ) → 1000000 < k → 2 * (m * 1000000) ≤ 2 * (n * k) + 1000000 → 2 * (n * k) ≤ 2 * (m * 1000000) + 1000000 → nearest (m * 1000000) k ≡ n
+nearest_back : (n k m : ℕ) → 1000000 < k → 2 * (m * 1000000) ≤ 2 * (n * k) + 1000000
+    → 2 * (n * k) ≤ 2 * (m * 1000000) + 1000000 → nearest (m * 1000000) k ≡ n
 nearest_back n k m large most least =
     let low : 2 * k * n ≡ 2 * (n * k) = omega arith in
     let high : 2 * k * (n + 1) ≡ 2 * (n * k) + 2 * k = omega arith in
-    quotient_is (2 * k) n (2 * (m * 1000000) + k) (omega (arith, large)) (omega (arith, low, least, large)) (omega (arith, high, most, large))
+    quotient_is (2 * k) n (2 * (m * 1000000) + k) (omega (arith, large)) (omega (arith, low, least, large))
+    (omega (arith, high, most, large))
 
 scale_large : (k : ℕ) → 22 ≤ k → 1000000 < 2 ^ k
 scale_large k h =
@@ -62,9 +72,6 @@ size_below m e h =
     let none : e - 1075 ≡ 0 = omega arith in
     ap (λ x. nearest x (2 ^ (1075 - e))) (ap (λ k. m * 1000000 * 2 ^ k) none ∙ omega arith)
 
-plus_size : (k : ℕ) → int_lt (pos k) (pos 0) ≡ false
-plus_size k = grind (arith, ints)
-
 -- the parts of the bits, and the size that they have
 record Split (v : ℤ) (bits : ℕ) : Type 0 where
   exponent : ℕ
@@ -75,26 +82,33 @@ record Split (v : ℤ) (bits : ℕ) : Type 0 where
   bits_are : bits ≡ sign_bit v + (exponent * 4503599627370496 + fraction)
   size : size_by (4503599627370496 + fraction) exponent ≡ nat_abs v
 
-read_plus : (e f bits n : ℕ) → e < 2047 → 1 ≤ e → f < 4503599627370496 → bits ≡ 0 + (e * 4503599627370496 + f) → size_by (4503599627370496 + f) e ≡ n → n ≤ 999999999999999 → double_of bits ≡ Num (pos n)
+read_plus : (e f bits n : ℕ) → e < 2047 → 1 ≤ e → f < 4503599627370496 → bits ≡ 0 + (e * 4503599627370496 + f)
+    → size_by (4503599627370496 + f) e ≡ n → n ≤ 999999999999999 → double_of bits ≡ Num (pos n)
 read_plus e f bits n e_in e_from f_in is size within =
-    let no_na : (bits == 18442240474082181120) ≡ false = grind (arith, nat_tests, (let apart : bits < 18442240474082181120 = omega (arith, is, e_in, f_in) in apart)) in
+    let no_na : (bits == 18442240474082181120) ≡ false =
+    grind (arith, nat_tests, (let apart : bits < 18442240474082181120 = omega (arith, is, e_in, f_in) in apart)) in
     let exponent : exponent_of bits ≡ e = omega (arith, is, e_in, f_in) in
     let fraction : fraction_bits bits ≡ f = omega (arith, is, f_in) in
     let no_ones : (e == 2047) ≡ false = grind (arith, nat_tests, e_in) in
     let normal : (e == 0) ≡ false = grind (arith, nat_tests, e_from) in
-    let sign : has_minus bits ≡ false = grind (arith, nat_tests, (let low : bits < 9223372036854775808 = omega (arith, is, e_in, f_in) in low)) in
+    let sign : has_minus bits ≡ false =
+    grind (arith, nat_tests, (let low : bits < 9223372036854775808 = omega (arith, is, e_in, f_in) in low)) in
     let top : max e 1 ≡ e = omega (arith, e_from) in
     let test : nat_le n 999999999999999 ≡ true = grind (arith, nat_tests, within) in
     rw (no_na, exponent, no_ones, sign, fraction, normal, top, size, test) refl
 
-read_minus : (e f bits n : ℕ) → e < 2047 → 1 ≤ e → f < 4503599627370496 → bits ≡ 9223372036854775808 + (e * 4503599627370496 + f) → size_by (4503599627370496 + f) e ≡ n → n ≤ 999999999999999 → double_of bits ≡ Num (signed true n)
+read_minus : (e f bits n : ℕ) → e < 2047 → 1 ≤ e → f < 4503599627370496
+    → bits ≡ 9223372036854775808 + (e * 4503599627370496 + f) → size_by (4503599627370496 + f) e ≡ n
+    → n ≤ 999999999999999 → double_of bits ≡ Num (signed true n)
 read_minus e f bits n e_in e_from f_in is size within =
     let exponent : exponent_of bits ≡ e = omega (arith, is, e_in, f_in) in
-    let no_na : (bits == 18442240474082181120) ≡ false = grind (arith, nat_tests, (let apart : bits < 18442240474082181120 = omega (arith, is, e_in, f_in) in apart)) in
+    let no_na : (bits == 18442240474082181120) ≡ false =
+    grind (arith, nat_tests, (let apart : bits < 18442240474082181120 = omega (arith, is, e_in, f_in) in apart)) in
     let fraction : fraction_bits bits ≡ f = omega (arith, is, f_in) in
     let no_ones : (e == 2047) ≡ false = grind (arith, nat_tests, e_in) in
     let normal : (e == 0) ≡ false = grind (arith, nat_tests, e_from) in
-    let sign : has_minus bits ≡ true = grind (arith, nat_tests, (let high : 9223372036854775808 ≤ bits = omega (arith, is) in high)) in
+    let sign : has_minus bits ≡ true =
+    grind (arith, nat_tests, (let high : 9223372036854775808 ≤ bits = omega (arith, is) in high)) in
     let top : max e 1 ≡ e = omega (arith, e_from) in
     let test : nat_le n 999999999999999 ≡ true = grind (arith, nat_tests, within) in
     rw (no_na, exponent, no_ones, sign, fraction, normal, top, size, test) refl
@@ -127,7 +141,8 @@ module _ (v : ℤ) (bits : ℕ) (w : IsWritten v bits) (within : nat_abs v ≤ 9
         fraction_in = omega (arith, h, least);
         bits_are = w.bits_are;
         size =
-            ap (λ x. size_by x (1075 - w.scale)) whole ∙ size_below m (1075 - w.scale) (omega arith) ∙ ap (λ k. nearest (m * 1000000) (2 ^ k)) back
+            ap (λ x. size_by x (1075 - w.scale)) whole ∙ size_below m (1075 - w.scale) (omega arith)
+            ∙ ap (λ k. nearest (m * 1000000) (2 ^ k)) back
             ∙ nearest_back n (2 ^ w.scale) m (scale_large w.scale (omega (arith, w.scale_from))) near.0 near.1;
       }
 
@@ -136,17 +151,23 @@ module _ (v : ℤ) (bits : ℕ) (w : IsWritten v bits) (within : nat_abs v ≤ 9
       let half : ℕ = 2 ^ (w.scale - 1) in
       let back : 1075 - (1076 - w.scale) ≡ w.scale - 1 = omega (arith, w.scale_in, w.scale_from) in
       let scale_is : w.scale ≡ (w.scale - 1) + 1 = omega (arith, w.scale_from) in
-      let twice : n * 2 ^ w.scale ≡ n * (2 * half) = ap (λ k. n * 2 ^ k) scale_is ∙ ap (λ p. n * p) (two_more (w.scale - 1)) in
+      let twice : n * 2 ^ w.scale ≡ n * (2 * half) =
+      ap (λ k. n * 2 ^ k) scale_is ∙ ap (λ p. n * p) (two_more (w.scale - 1)) in
       record {
         exponent = 1076 - w.scale;
         fraction = 0;
         exponent_in = omega (arith, w.scale_from);
         exponent_from = omega (arith, w.scale_in);
         fraction_in = omega arith;
-        bits_are = w.bits_are ∙ ap (λ k. sign_bit v + k) (let carry : (1075 - w.scale) * 4503599627370496 + (m - 4503599627370496) ≡ (1076 - w.scale) * 4503599627370496 + 0 = omega (arith, h, w.scale_in) in carry);
+        bits_are =
+            w.bits_are ∙ ap (λ k. sign_bit v + k)
+            (let carry : (1075 - w.scale) * 4503599627370496 + (m - 4503599627370496)
+            ≡ (1076 - w.scale) * 4503599627370496 + 0 = omega (arith, h, w.scale_in) in carry);
         size =
-            size_below 4503599627370496 (1076 - w.scale) (omega (arith, w.scale_from)) ∙ ap (λ k. nearest (4503599627370496 * 1000000) (2 ^ k)) back
-            ∙ nearest_back n half 4503599627370496 (scale_large (w.scale - 1) (omega (arith, w.scale_from))) (omega (arith, near.0, twice, h)) (omega (arith, near.1, twice, h));
+            size_below 4503599627370496 (1076 - w.scale) (omega (arith, w.scale_from))
+            ∙ ap (λ k. nearest (4503599627370496 * 1000000) (2 ^ k)) back
+            ∙ nearest_back n half 4503599627370496 (scale_large (w.scale - 1) (omega (arith, w.scale_from)))
+            (omega (arith, near.0, twice, h)) (omega (arith, near.1, twice, h));
       }
 
   splits : Split v bits
@@ -160,10 +181,13 @@ pub read_back : (v : ℤ) (bits : ℕ) → IsWritten v bits → nat_abs v ≤ 99
 read_back (pos k) bits w within =
     let split : Split (pos k) bits = splits (pos k) bits w within in
     let plus : sign_bit (pos k) ≡ 0 = rw (plus_size k) refl in
-    read_plus split.exponent split.fraction bits k split.exponent_in split.exponent_from split.fraction_in (split.bits_are ∙ ap (λ s. s + (split.exponent * 4503599627370496 + split.fraction)) plus) split.size within
+    read_plus split.exponent split.fraction bits k split.exponent_in split.exponent_from split.fraction_in
+    (split.bits_are ∙ ap (λ s. s + (split.exponent * 4503599627370496 + split.fraction)) plus) split.size within
 read_back (negsuc k) bits w within =
     let split : Split (negsuc k) bits = splits (negsuc k) bits w within in
-    read_minus split.exponent split.fraction bits (suc k) split.exponent_in split.exponent_from split.fraction_in split.bits_are split.size within
+    read_minus split.exponent split.fraction bits (suc k) split.exponent_in split.exponent_from split.fraction_in
+    split.bits_are split.size within
 
+-- no bits at all are zero
 pub nothing_back : double_of 0 ≡ Num (pos 0)
 nothing_back = refl

@@ -2,7 +2,8 @@
 use Rattle.std.proofs.Common.{◌<◌, arith}
 use Rattle.formula_tree.specs.Shape.{level}
 use Rattle.formula_tree.specs.declared.ast.Op.{Op}
-use Rattle.formula_tree.specs.declared.ast.Op.TheVariants.{Pow, Mul, Div, Add, Sub, Eq, Ne, Lt, Gt, Le, Ge, And, Or, Join}
+use Rattle.formula_tree.specs.declared.ast.Op.TheVariants.{Pow, Mul, Div, Add, Sub, Eq, Ne, Lt, Gt, Le, Ge, And, Or}
+use Rattle.formula_tree.specs.declared.ast.Op.TheVariants.{Join}
 
 -- a bracket binds more strongly than each operator between operands
 pub level_below : (op : Op) → level op < 8

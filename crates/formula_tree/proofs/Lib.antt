@@ -1,4 +1,3 @@
-pub mod Edges
 pub mod Levels
 pub mod Parts
 pub mod Ranged

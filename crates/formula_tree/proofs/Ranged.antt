@@ -12,5 +12,6 @@ each (b ∷ bs) h =
     let first : nat_le 32 b ≡ true = grind (arith, nat_tests, low) in
     rw first (each bs (λ k d less. h (suc k) d (omega (arith, less))))
 
+-- what is a text passes the test of texts
 pub as_text : (t : List ℕ) → IsText t → is_text t ≡ true
 as_text t h = (let short : nat_le (length t) 240 ≡ true = grind (arith, nat_tests, h.0) in λ i. short i && each t h.1 i)

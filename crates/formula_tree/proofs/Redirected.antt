@@ -1,5 +1,6 @@
 -- A tree whose references lead elsewhere is a formula's tree, as it was.
-use Rattle.std.proofs.Common.{◌≡◌, ◌+◌, ◌≤◌, ℕ, Bool, true, false, ◌&&◌, nat_le, nat_lt, min, max, List, [], ◌∷◌, Option, Some, None, map, refl, sym, ap, ◌∙◌, arith}
+use Rattle.std.proofs.Common.{◌≡◌, ◌+◌, ◌≤◌, ℕ, Bool, true, false, ◌&&◌, nat_le, nat_lt, min, max, List, [], ◌∷◌}
+use Rattle.std.proofs.Common.{Option, Some, None, map, refl, sym, ap, ◌∙◌, arith}
 use Rattle.std.specs.List.{list_all}
 use Rattle.std.proofs.lemmas.Bool.Decides.{nat_tests}
 use Rattle.grid_address.specs.Axes.{Reference}
@@ -11,7 +12,8 @@ use Rattle.formula_tree.specs.declared.function.Function.TheVariants as function
 use Rattle.formula_tree.specs.Tree.{Tree, num, str, cell, span, group, neg, not, binary, call, Trees, no_trees, trees}
 use Rattle.formula_tree.specs.Ranges.{is_ranged}
 use Rattle.formula_tree.specs.Redirected.{all_redirected, cell_or_error, error_call, redirected, span_or_error}
-use Rattle.formula_tree.specs.Shape.{all_sizes, code_size, count, depth, every, every_one, greatest_depth, is_fine, level, lowest, nodes_size, top, IsFormula}
+use Rattle.formula_tree.specs.Shape.{all_sizes, code_size, count, depth, every, every_one, greatest_depth, is_fine}
+use Rattle.formula_tree.specs.Shape.{level, lowest, nodes_size, top, IsFormula}
 use Rattle.formula_tree.specs.Table.{counts_of, takes}
 use Rattle.formula_tree.specs.View.{tree_of, trees_in, listed}
 use Rattle.formula_tree.proofs.Rows.{tree_of-Call}
@@ -117,8 +119,11 @@ mutual
   fine_kept new (group a) = ap (λ b. (true && (true && true)) && b) (fine_kept new a)
   fine_kept new (neg a) = λ i. (nat_lt 6 (top_kept new a i) && (true && true)) && fine_kept new a i
   fine_kept new (not a) = λ i. (nat_lt 2 (top_kept new a i) && (true && true)) && fine_kept new a i
-  fine_kept new (binary op a b) = λ i. ((nat_le (level op) (lowest_kept new a i) && nat_lt (level op) (top_kept new b i)) && (true && true)) && (fine_kept new a i && fine_kept new b i)
-  fine_kept new (call f ts) = λ i. (true && (takes (counts_of f) (count_kept new ts i) && true)) && all_fine_kept new ts i
+  fine_kept new (binary op a b) =
+      λ i. ((nat_le (level op) (lowest_kept new a i) && nat_lt (level op) (top_kept new b i)) && (true && true))
+      && (fine_kept new a i && fine_kept new b i)
+  fine_kept new (call f ts) =
+      λ i. (true && (takes (counts_of f) (count_kept new ts i) && true)) && all_fine_kept new ts i
 
   all_fine_kept : (new : New) (ts : Trees) → every_one is_fine (all_redirected new ts) ≡ every_one is_fine ts
   all_fine_kept new no_trees = refl
@@ -157,27 +162,41 @@ both false b c d h e f = absurd cc
 shorter : (a b : ℕ) → a ≤ b → nat_le (1 + b) 65520 ≡ true → nat_le (1 + a) 65520 ≡ true
 shorter a b less h = grind (arith, nat_tests, less, h)
 
+-- a formula with other references is a formula
 pub formula_kept : (new : New) (t : Tree) → IsFormula t → IsFormula (redirected new t)
 formula_kept new t is = record {
   shallow = omega (arith, depth_kept new t, is.shallow);
-  shaped = both (every is_fine t) (nat_le (code_size t) 65520) (every is_fine (redirected new t)) (nat_le (code_size (redirected new t)) 65520) is.shaped (fine_kept new t) (shorter (nodes_size (redirected new t)) (nodes_size t) (no_longer new t));
+  shaped =
+      both (every is_fine t) (nat_le (code_size t) 65520) (every is_fine (redirected new t))
+      (nat_le (code_size (redirected new t)) 65520) is.shaped (fine_kept new t)
+      (shorter (nodes_size (redirected new t)) (nodes_size t) (no_longer new t));
 }
 
-all_listed : (new : New) (es : List Expr) → listed (map (λ e. redirected new (tree_of e)) es) ≡ all_redirected new (listed (map tree_of es))
+all_listed : (new : New) (es : List Expr)
+    → listed (map (λ e. redirected new (tree_of e)) es) ≡ all_redirected new (listed (map tree_of es))
 all_listed new [] = refl
 all_listed new (e ∷ es) = ap (trees (redirected new (tree_of e))) (all_listed new es)
 
 -- a call whose arguments were redirected
-pub call_redirected : (new : New) (f : Function) (args list : ExprList) → trees_in list ≡ map (λ e. redirected new (tree_of e)) args.items.items → tree_of (Call f list) ≡ redirected new (tree_of (Call f args))
+pub call_redirected : (new : New) (f : Function) (args list : ExprList)
+    → trees_in list ≡ map (λ e. redirected new (tree_of e)) args.items.items
+    → tree_of (Call f list) ≡ redirected new (tree_of (Call f args))
 call_redirected new f args list is =
-    tree_of-Call f list ∙ ap (λ ts. call f (listed ts)) is ∙ ap (call f) (all_listed new args.items.items) ∙ ap (redirected new) (sym (tree_of-Call f args))
+    tree_of-Call f list ∙ ap (λ ts. call f (listed ts)) is ∙ ap (call f) (all_listed new args.items.items)
+    ∙ ap (redirected new) (sym (tree_of-Call f args))
 
-every_listed : (es : List Expr) → list_all (λ e. every is_ranged (tree_of e)) es ≡ every_one is_ranged (listed (map tree_of es))
+every_listed : (es : List Expr)
+    → list_all (λ e. every is_ranged (tree_of e)) es ≡ every_one is_ranged (listed (map tree_of es))
 every_listed [] = refl
 every_listed (e ∷ es) = ap (λ b. every is_ranged (tree_of e) && b) (every_listed es)
 
-call_every : (f : Function) (args : ExprList) → every is_ranged (tree_of (Call f args)) ≡ list_all (λ e. every is_ranged (tree_of e)) args.items.items
+call_every : (f : Function) (args : ExprList)
+    → every is_ranged (tree_of (Call f args)) ≡ list_all (λ e. every is_ranged (tree_of e)) args.items.items
 call_every f args = ap (every is_ranged) (tree_of-Call f args) ∙ sym (every_listed args.items.items)
 
-pub call_ranged : (f g : Function) (args list : ExprList) → (list_all (λ e. every is_ranged (tree_of e)) args.items.items ≡ true → list_all (λ e. every is_ranged (tree_of e)) list.items.items ≡ true) → every is_ranged (tree_of (Call f args)) ≡ true → every is_ranged (tree_of (Call g list)) ≡ true
+-- a call with other arguments has its references in the sheet where they have
+pub call_ranged : (f g : Function) (args list : ExprList)
+    → (list_all (λ e. every is_ranged (tree_of e)) args.items.items ≡ true
+    → list_all (λ e. every is_ranged (tree_of e)) list.items.items ≡ true)
+    → every is_ranged (tree_of (Call f args)) ≡ true → every is_ranged (tree_of (Call g list)) ≡ true
 call_ranged f g args list kept before = call_every g list ∙ kept (sym (call_every f args) ∙ before)

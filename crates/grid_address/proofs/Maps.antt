@@ -2,7 +2,8 @@
 use Rattle.std.specs.Prelude.{◌≡◌, ◌&&◌, Bool, T, true, false, cond, List, [], ◌∷◌, None, Some, refl, length}
 use Rattle.std.specs.declared.cmp.Ordering.{Ordering}
 use Rattle.std.specs.Cmp.{IsTotalOrder, eq_by_cmp_equiv}
-use Rattle.std.specs.FinMap.{FinMap, find, get, insert, remove, from_entries, get-entries, get-from_entries, get-insert, get-remove, same_map, entries, entries-insert, empty, len-empty, len-entries}
+use Rattle.std.specs.FinMap.{FinMap, find, get, insert, remove, from_entries, get-entries, get-from_entries, get-insert}
+use Rattle.std.specs.FinMap.{get-remove, same_map, entries, entries-insert, empty, len-empty, len-entries}
 use Rattle.std.specs.FinMap.Entries.{below_all, by_order, is_sorted, put}
 use Rattle.std.specs.List.{AllByRecursion}
 use Rattle.std.specs.List.Sorted.{IsStrictlySortedBy}
@@ -14,6 +15,7 @@ use Rattle.std.proofs.Common.{sym, ◌∙◌, ap, arith, inl, inr}
 use Rattle.std.proofs.lemmas.Bool.{cases_Bool, true≢false}
 use Rattle.std.proofs.lemmas.Map.Lookups.{CmpEqualImpliesEq}
 
+-- an order that says equal is Equal
 pub equal_of : (o : Ordering) → is_eq o ≡ true → o ≡ Equal
 equal_of Less h = absurd (true≢false (sym h))
 equal_of Equal h = refl
@@ -24,7 +26,8 @@ less_of Less h = refl
 less_of Equal h = absurd h
 less_of Greater h = absurd h
 
-both_parts : (a b : Bool) → T (a && b) → T a × T b
+-- two tests that hold
+pub both_parts : (a b : Bool) → T (a && b) → T a × T b
 both_parts true b h = (tt, h)
 both_parts false b h = absurd h
 
@@ -43,19 +46,22 @@ module _ {K X : Type 0} {R : K → K → Ordering} (o : IsTotalOrder R) where
 
   sorted_keys : (k : K) (es : List (K × X)) → T (below_all R k es) → AllByRecursion (λ y. R k y ≡ Less) (keys_of es)
   sorted_keys k [] h = tt
-  sorted_keys k (e ∷ es) h = let p = both_parts (is_lt (R k e.0)) (below_all R k es) h in (less_of (R k e.0) p.0, sorted_keys k es p.1)
+  sorted_keys k (e ∷ es) h = let p = both_parts (is_lt (R k e.0)) (below_all R k es) h in
+      (less_of (R k e.0) p.0, sorted_keys k es p.1)
 
   -- the entries of a map are in order
   pub in_order : (es : List (K × X)) → T (is_sorted R es) → IsStrictlySortedBy R (keys_of es)
   unfolding IsStrictlySortedBy
   in_order [] h = tt
-  in_order (e ∷ es) h = let p = both_parts (below_all R e.0 es) (is_sorted R es) h in (sorted_keys e.0 es p.0, in_order es p.1)
+  in_order (e ∷ es) h = let p = both_parts (below_all R e.0 es) (is_sorted R es) h in
+      (sorted_keys e.0 es p.0, in_order es p.1)
 
   -- what a map has at a key stands at it among its entries
   pub get_lookup : (m : FinMap R X) (q : K) → get m q ≡ lookup (is_at (R q)) (entries m)
   get_lookup m q = get-entries m q ∙ find_lookup (entries m) q
 
-  put_first : (e : K × X) (es : List (K × X)) → AllByRecursion (λ y. R e.0 y ≡ Less) (keys_of es) → put R e.0 e.1 es ≡ e ∷ es
+  put_first : (e : K × X) (es : List (K × X)) → AllByRecursion (λ y. R e.0 y ≡ Less) (keys_of es)
+      → put R e.0 e.1 es ≡ e ∷ es
   put_first e [] h = refl
   put_first e (f ∷ es) h = ap (λ r. by_order r (e ∷ f ∷ es) ((f.0, e.1) ∷ es) (f ∷ put R e.0 e.1 es)) h.0
 
@@ -66,15 +72,22 @@ module _ {K X : Type 0} {R : K → K → Ordering} (o : IsTotalOrder R) where
   pub entries_kept : (es : List (K × X)) → IsStrictlySortedBy R (keys_of es) → entries (from_entries {R = R} es) ≡ es
   unfolding IsStrictlySortedBy
   entries_kept [] s = no_entries
-  entries_kept (e ∷ es) s = entries-insert o (from_entries es) e.0 e.1 ∙ ap (put R e.0 e.1) (entries_kept es s.1) ∙ put_first e es s.0
+  entries_kept (e ∷ es) s =
+      entries-insert o (from_entries es) e.0 e.1 ∙ ap (put R e.0 e.1) (entries_kept es s.1) ∙ put_first e es s.0
 
   module _ (exact : CmpEqualImpliesEq R) where
-    pub inserted : (es fs : List (K × X)) (k : K) (v : X) → ((q : K) → lookup (is_at (R q)) fs ≡ cond (is_at (R k) q) (Some v) (lookup (is_at (R q)) es)) → from_entries {R = R} fs ≡ insert (from_entries es) k v
+    -- entries that hold one key more are the map with that key put in
+    pub inserted : (es fs : List (K × X)) (k : K) (v : X)
+        → ((q : K) → lookup (is_at (R q)) fs ≡ cond (is_at (R k) q) (Some v) (lookup (is_at (R q)) es))
+        → from_entries {R = R} fs ≡ insert (from_entries es) k v
     inserted es fs k v h = same_map o exact _ _ (λ q.
         get_entries fs q ∙ h q ∙ ap (λ b. cond b (Some v) (lookup (is_at (R q)) es)) ((eq_by_cmp_equiv o).symm k q)
         ∙ sym (get-insert o (from_entries es) k v q ∙ ap (cond (is_at (R q) k) (Some v)) (get_entries es q)))
 
-    pub removed : (es fs : List (K × X)) (k : K) → ((q : K) → lookup (is_at (R q)) fs ≡ cond (is_at (R k) q) None (lookup (is_at (R q)) es)) → from_entries {R = R} fs ≡ remove (from_entries es) k
+    -- entries that lack a key are the map without it
+    pub removed : (es fs : List (K × X)) (k : K)
+        → ((q : K) → lookup (is_at (R q)) fs ≡ cond (is_at (R k) q) None (lookup (is_at (R q)) es))
+        → from_entries {R = R} fs ≡ remove (from_entries es) k
     removed es fs k h = same_map o exact _ _ (λ q.
         get_entries fs q ∙ h q ∙ ap (λ b. cond b None (lookup (is_at (R q)) es)) ((eq_by_cmp_equiv o).symm k q)
         ∙ sym (get-remove o (from_entries es) k q ∙ ap (cond (is_at (R q) k) None) (get_entries es q)))

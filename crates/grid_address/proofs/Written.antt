@@ -1,6 +1,7 @@
 -- An address that is written is read.
 use Rattle.std.specs.Char.{is_ascii_digit, is_ascii_uppercase, to_ascii_uppercase}
-use Rattle.std.proofs.Common.{◌≡◌, ℕ, zero, suc, ◌+◌, ◌-◌, ◌*◌, ◌/◌, ◌%◌, ◌≤◌, ◌<◌, true, false, Option, Some, List, [], ◌∷◌, ◌++◌, length, refl, ap, ◌∙◌, arith, inl, inr}
+use Rattle.std.proofs.Common.{◌≡◌, ℕ, zero, suc, ◌+◌, ◌-◌, ◌*◌, ◌/◌, ◌%◌, ◌≤◌, ◌<◌, true, false, Option, Some, List, []}
+use Rattle.std.proofs.Common.{◌∷◌, ◌++◌, length, refl, ap, ◌∙◌, arith, inl, inr}
 use Rattle.std.specs.Prelude.{fold, nat_lt, nat_le, ◌&&◌}
 use Rattle.std.specs.List.{list_all}
 use Rattle.std.proofs.lemmas.Bool.{cases_Bool}
@@ -36,18 +37,21 @@ later c n high =
     let small : nat_le n 8192 ≡ true = grind (arith, nat_tests, high) in
     rw (digit, whole, small) refl
 
-row_read : (fuel n c : ℕ) (s : Progress) → n ≤ fuel → 1 ≤ n → n ≤ 8192 → RowFollows s c → fold step_on (Some s) (decimal n) ≡ Some (Row c n)
+row_read : (fuel n c : ℕ) (s : Progress) → n ≤ fuel → 1 ≤ n → n ≤ 8192 → RowFollows s c
+    → fold step_on (Some s) (decimal n) ≡ Some (Row c n)
 row_read zero n c s most low high follows = absurd (omega arith)
 row_read (suc fuel) n c s most low high follows = elim (cases_Bool (nat_lt n 10)) [
   | inl small ↦ (let less : n < 10 = grind (arith, nat_tests, small) in
       ap (fold step_on (Some s)) (decimal_one n less) ∙ follows (48 + n % 10) (digit_byte n) ∙ first c n low less)
   | inr large ↦ (let more : 10 ≤ n = grind (arith, nat_tests, large) in
       ap (fold step_on (Some s)) (decimal_more n more) ∙ fold_append (Some s) (decimal (n / 10)) ((48 + n % 10) ∷ [])
-      ∙ ap (λ (o : Option Progress). fold step_on o ((48 + n % 10) ∷ [])) (row_read fuel (n / 10) c s (omega arith) (omega arith) (omega arith) follows)
+      ∙ ap (λ (o : Option Progress). fold step_on o ((48 + n % 10) ∷ []))
+      (row_read fuel (n / 10) c s (omega arith) (omega arith) (omega arith) follows)
       ∙ later c n high)
 ]
 
-capital : (k : ℕ) → k < 26 → (is_ascii_uppercase (to_ascii_uppercase (65 + k)) ≡ true) × (to_ascii_uppercase (65 + k) ≡ 65 + k)
+capital : (k : ℕ) → k < 26
+    → (is_ascii_uppercase (to_ascii_uppercase (65 + k)) ≡ true) × (to_ascii_uppercase (65 + k) ≡ 65 + k)
 capital k h = (grind (arith, nat_tests), grind (arith, nat_tests))
 
 one_letter : (k : ℕ) → k < 26 → next_of Nothing (65 + k) ≡ Some (Letter k)
@@ -84,26 +88,34 @@ column_read col h = elim (cases_Bool (nat_lt col 26)) [
   })
 ]
   where
-    two_read : (col : ℕ) → 26 ≤ col → col < 256 → fold step_on (Some Nothing) ((64 + col / 26) ∷ (65 + col % 26) ∷ []) ≡ Some (Column col)
+    two_read : (col : ℕ) → 26 ≤ col → col < 256
+        → fold step_on (Some Nothing) ((64 + col / 26) ∷ (65 + col % 26) ∷ []) ≡ Some (Column col)
     two_read col low high =
-        ap (λ k. fold step_on (next_of Nothing k) ((65 + col % 26) ∷ [])) (let e : 64 + col / 26 ≡ 65 + (col / 26 - 1) = omega arith in e)
-        ∙ ap (λ (o : Option Progress). fold step_on o ((65 + col % 26) ∷ [])) (one_letter (col / 26 - 1) (omega arith)) ∙ two_letters col low high
+        ap (λ k. fold step_on (next_of Nothing k) ((65 + col % 26) ∷ []))
+        (let e : 64 + col / 26 ≡ 65 + (col / 26 - 1) = omega arith in e)
+        ∙ ap (λ (o : Option Progress). fold step_on o ((65 + col % 26) ∷ [])) (one_letter (col / 26 - 1) (omega arith))
+        ∙ two_letters col low high
 
 -- an address that is written is that of its cell
 pub address_written : (p : Place) → InSheet p → address_in (column_name p.col ++ decimal (p.row + 1)) ≡ Some p
 address_written p h =
     let column = column_read p.col h.1 in
     ap end_of (
-    fold_append (Some Nothing) (column_name p.col) (decimal (p.row + 1)) ∙ ap (λ (o : Option Progress). fold step_on o (decimal (p.row + 1))) column.reads
+    fold_append (Some Nothing) (column_name p.col) (decimal (p.row + 1))
+    ∙ ap (λ (o : Option Progress). fold step_on o (decimal (p.row + 1))) column.reads
     ∙ row_read (p.row + 1) (p.row + 1) p.col column.end (omega arith) (omega arith) (omega (arith, h.0)) column.follows)
     ∙ ap (λ n. Some (record { row = n; col = p.col })) (let e : p.row + 1 - 1 ≡ p.row = omega arith in e)
 
 digits_in : (fuel n : ℕ) → n ≤ fuel → list_all is_ascii_digit (decimal n) ≡ true
 digits_in zero n most = ap (λ k. list_all is_ascii_digit (decimal k)) (let e : n ≡ 0 = omega (arith, most) in e)
 digits_in (suc fuel) n most = elim (cases_Bool (nat_lt n 10)) [
-  | inl small ↦ (let less : n < 10 = grind (arith, nat_tests, small) in ap (list_all is_ascii_digit) (decimal_one n less) ∙ rw (digit_byte n) refl)
+  | inl small ↦
+      (let less : n < 10 = grind (arith, nat_tests, small) in
+      ap (list_all is_ascii_digit) (decimal_one n less) ∙ rw (digit_byte n) refl)
   | inr large ↦ (let more : 10 ≤ n = grind (arith, nat_tests, large) in
-      ap (list_all is_ascii_digit) (decimal_more n more) ∙ list_all-append is_ascii_digit (decimal (n / 10)) ((48 + n % 10) ∷ []) ∙ rw (digits_in fuel (n / 10) (omega arith), digit_byte n) refl)
+      ap (list_all is_ascii_digit) (decimal_more n more)
+      ∙ list_all-append is_ascii_digit (decimal (n / 10)) ((48 + n % 10) ∷ [])
+      ∙ rw (digits_in fuel (n / 10) (omega arith), digit_byte n) refl)
 ]
 
 -- a number is written in digits

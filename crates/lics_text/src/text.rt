@@ -9,7 +9,7 @@ ghost use Rattle.lics_text.specs.Texts.{text_of, pushed_text, proper_of, trimmed
 use crate::cases::{lower_all, make_proper, raise_all};
 use crate::places::first_place;
 use crate::trim::{single_spaced, without_front};
-use crate::{Line, MAX_LEN, Memory, TextFault, TextLine};
+use crate::{Line, MAX_LEN, Memory, TextFault};
 use std::alloc::Global;
 use std::cmp::Ordering;
 use std::marker::Model;
@@ -69,13 +69,6 @@ impl Text {
         items.clear();
         items.extend_from_slice(bytes)?;
         Ok(Text { bytes: items })
-    }
-
-    // The text of a line.
-    pub(crate) fn of_line(alloc: Global, line: &TextLine) -> Result<Text, Memory>
-        ensures { IfOk result (λ t. t ≡ line.now) }
-    {
-        Text::copy_of(alloc, line.bytes())
     }
 
     /// Appends a byte. `TooLong` comes exactly at 240 bytes; otherwise `BadByte` carries the text's

@@ -1,8 +1,7 @@
-ghost use Rattle.std.specs.Prelude.{◌≡◌, ◌≤◌, [], length, nat_lt, IfOk};
+ghost use Rattle.std.specs.Prelude.{◌≡◌, ◌≤◌, [], length, nat_lt};
 ghost use Rattle.lics_text.specs.Texts.{line_with};
 
-use crate::{Line, MAX_LEN, Memory, Text, TextByte};
-use std::alloc::Global;
+use crate::{Line, MAX_LEN, TextByte};
 use std::marker::Model;
 
 /// A text while it is typed: at most 240 bytes, each 32 to 255, which takes no memory.
@@ -46,12 +45,5 @@ impl TextLine {
         ensures text { IsText self.now }
     {
         self.line.bytes()
-    }
-
-    /// The line as a text.
-    pub fn to_text(&self, alloc: Global) -> Result<Text, Memory>
-        ensures { IfOk result (λ t. t ≡ self.now) }
-    {
-        Text::of_line(alloc, self)
     }
 }

@@ -9,8 +9,10 @@ use Rattle.cell_format.specs.Labels.{masked}
 same_byte : (a b : ℕ) → (a == b) ≡ true → a ≡ b
 same_byte a b same = grind (arith, nat_tests, same)
 
+-- bytes that are shown as they are stay
 pub plain_kept : (bytes : List ℕ) → list_all (λ b. masked b == b) bytes ≡ true → map masked bytes ≡ bytes
 plain_kept [] all = refl
 plain_kept (b ∷ bs) all =
     let parts = and_parts (masked b == b) (list_all (λ c. masked c == c) bs) all in
-    ap (λ (c : ℕ). c ∷ map masked bs) (same_byte (masked b) b parts.0) ∙ ap (λ (cs : List ℕ). b ∷ cs) (plain_kept bs parts.1)
+    ap (λ (c : ℕ). c ∷ map masked bs) (same_byte (masked b) b parts.0)
+    ∙ ap (λ (cs : List ℕ). b ∷ cs) (plain_kept bs parts.1)

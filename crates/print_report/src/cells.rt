@@ -33,7 +33,7 @@ fn add_text<'a>(row: &mut Row, text: &'a [u8], width: u8) -> &'a [u8]
 }
 
 // Adds what fits a column's width, so that none is left.
-#[tactic(auto, using(crate::proofs::Cutting::none_left))]
+#[tactic(auto, using(std::proofs::lemmas::List::drop_all))]
 fn add_fitting(row: &mut Row, shown: &Fitting, width: u8)
     requires width { width ≤ MOST_WIDTH }
     requires room { length row.old + width ≤ 255 }

@@ -1,23 +1,29 @@
 -- The key of a name is known by the name, and a name that is written for a span is the span's.
 use Rattle.std.specs.Char.{to_ascii_uppercase}
-use Rattle.std.proofs.Common.{◌≡◌, ◌≤◌, ◌+◌, ◌-◌, ℕ, zero, suc, Bool, true, false, cond, ◌&&◌, Option, Some, None, List, [], ◌∷◌, ◌++◌, length, map, refl, sym, ap, ◌∙◌, subst, arith, inl, inr}
+use Rattle.std.proofs.Common.{◌≡◌, ◌≤◌, ◌+◌, ◌-◌, ℕ, zero, suc, Bool, true, false, cond, ◌&&◌, Option, Some, None, List}
+use Rattle.std.proofs.Common.{[], ◌∷◌, ◌++◌, length, map, refl, sym, ap, ◌∙◌, subst, arith, inl, inr}
 use Rattle.std.specs.Prelude.{◌==◌, nat_lt, not, get_or, position, replicate, T}
 use Rattle.std.specs.List.{prefix_len}
 use Rattle.std.specs.Ordering.{eq_by_cmp, is_eq, is_lt}
 use Rattle.std.specs.declared.cmp.Ordering.{Ordering}
 use Rattle.std.specs.declared.cmp.Ordering.TheVariants.{Less, Equal, Greater}
-use Rattle.std.specs.FinMap.{empty, entries, entries_sorted, find, get, get-empty, get-entries, get-insert, get-remove, insert, is_sorted, remove}
+use Rattle.std.specs.FinMap.{empty, entries, entries_sorted, find, get, get-empty, get-entries, get-insert, get-remove}
+use Rattle.std.specs.FinMap.{insert, is_sorted, remove}
 use Rattle.std.specs.FinMap.Entries.{below_all, find_tied}
 use Rattle.std.specs.Cmp.{tied_itself}
 use Rattle.std.specs.Cmp.Lexicographic.{nat_list_cmp_total}
 use Rattle.std.proofs.lemmas.Bool.{and_parts, cases_Bool}
 use Rattle.std.proofs.lemmas.Bool.Decides.{nat_tests}
 use Rattle.std.proofs.lemmas.List.{length-map}
+use Rattle.std.proofs.lemmas.Option.{same_Some, none-some}
+use Rattle.std.proofs.lemmas.Str.Ascii.{uppercase-uppercase}
+use Rattle.grid_address.proofs.Maps.{equal_of, both_parts}
 use Rattle.grid_address.specs.Place.{Extent}
 use Rattle.range_names.specs.declared.fault.NameFault.{NameFault}
 use Rattle.range_names.specs.declared.fault.NameFault.TheVariants.{Empty, TooLong}
-use Rattle.range_names.proofs.NameMaps.{names_exact, some_is_none}
-use Rattle.range_names.specs.Names.{bad_byte, bad_place, fault_of, key_of, is_plain, name_cmp, name_in, name_of_span, named, same_extent, AreKeys, IsKey, NameMap}
+use Rattle.range_names.proofs.NameMaps.{names_exact}
+use Rattle.range_names.specs.Names.{bad_byte, bad_place, fault_of, key_of, is_plain, name_cmp, name_in, name_of_span}
+use Rattle.range_names.specs.Names.{named, same_extent, AreKeys, IsKey, NameMap}
 
 -- no byte is 0
 abbrev Filled : List ℕ → Type 0
@@ -25,9 +31,6 @@ Filled name = position (λ b. nat_lt b 32) name ≡ None
 
 no_zero : (b : ℕ) → nat_lt b 32 ≡ false → (to_ascii_uppercase b == 0) ≡ false
 no_zero b h = grind (arith, nat_tests)
-
-folded_twice : (b : ℕ) → to_ascii_uppercase (to_ascii_uppercase b) ≡ to_ascii_uppercase b
-folded_twice b = grind (arith, nat_tests)
 
 not_some : {X : Type 0} (c : Bool) (x : X) → cond c (Some x) None ≡ None → c ≡ false
 not_some true x h = cc
@@ -38,8 +41,13 @@ first_filled b bs h =
     let k : ℕ = prefix_len (λ b. not (nat_lt b 32)) bs in
     let past : nat_lt (cond (not (nat_lt b 32)) (1 + k) 0) (suc (length bs)) ≡ false = not_some _ _ h in
     elim (cases_Bool (nat_lt b 32)) [
-      | inl small ↦ absurd (starts k (length bs) (sym (ap (λ c. nat_lt (cond (not c) (1 + k) 0) (suc (length bs))) small) ∙ past))
-      | inr large ↦ (large, ap (λ c. cond c (Some k) None) (stays k (length bs) (sym (ap (λ c. nat_lt (cond (not c) (1 + k) 0) (suc (length bs))) large) ∙ past)))
+      | inl small ↦
+          absurd (starts k (length bs) (sym (ap (λ c. nat_lt (cond (not c) (1 + k) 0) (suc (length bs))) small) ∙ past))
+      | inr large ↦ (
+        large,
+        ap (λ c. cond c (Some k) None)
+            (stays k (length bs) (sym (ap (λ c. nat_lt (cond (not c) (1 + k) 0) (suc (length bs))) large) ∙ past)),
+      )
     ]
   where
     starts : (k n : ℕ) → nat_lt 0 (suc n) ≡ false → ⊥
@@ -52,7 +60,8 @@ zeros_end : (n : ℕ) → name_in (replicate n 0) ≡ []
 zeros_end zero = refl
 zeros_end (suc n) = refl
 
-name_back : (name : List ℕ) (n : ℕ) → Filled name → name_in (map to_ascii_uppercase name ++ replicate n 0) ≡ map to_ascii_uppercase name
+name_back : (name : List ℕ) (n : ℕ) → Filled name
+    → name_in (map to_ascii_uppercase name ++ replicate n 0) ≡ map to_ascii_uppercase name
 name_back [] n h = zeros_end n
 name_back (b ∷ bs) n h =
     let f = first_filled b bs h in
@@ -60,9 +69,10 @@ name_back (b ∷ bs) n h =
 
 all_twice : (name : List ℕ) → map to_ascii_uppercase (map to_ascii_uppercase name) ≡ map to_ascii_uppercase name
 all_twice [] = refl
-all_twice (b ∷ bs) = λ i. folded_twice b i ∷ all_twice bs i
+all_twice (b ∷ bs) = λ i. uppercase-uppercase b i ∷ all_twice bs i
 
-no_fault : (a b : Bool) (place : Option ℕ) → cond a (Some Empty) (cond b (Some TooLong) (bad_byte place)) ≡ None → (b ≡ false) × (place ≡ None)
+no_fault : (a b : Bool) (place : Option ℕ) → cond a (Some Empty) (cond b (Some TooLong) (bad_byte place)) ≡ None
+    → (b ≡ false) × (place ≡ None)
 no_fault true b place h = cc
 no_fault false true place h = cc
 no_fault false false None h = (refl, refl)
@@ -80,17 +90,26 @@ same_space (b ∷ bs) = folded_space b
     folded_space b = grind (arith, nat_tests)
 
 filled_more : (b : ℕ) (bs : List ℕ) → nat_lt b 32 ≡ false → Filled bs → Filled (b ∷ bs)
-filled_more b bs large h = (let k : ℕ = prefix_len (λ b. not (nat_lt b 32)) bs in ap (λ c. cond (nat_lt (cond (not c) (1 + k) 0) (suc (length bs))) (Some (cond (not c) (1 + k) 0)) None) large ∙ later k (length bs) h)
+filled_more b bs large h =
+    (let k : ℕ = prefix_len (λ b. not (nat_lt b 32)) bs in
+    ap (λ c. cond (nat_lt (cond (not c) (1 + k) 0) (suc (length bs))) (Some (cond (not c) (1 + k) 0)) None) large
+    ∙ later k (length bs) h)
   where
-    later : (k n : ℕ) → cond (nat_lt k n) (Some k) None ≡ None → cond (nat_lt (1 + k) (suc n)) (Some (1 + k)) None ≡ None
-    later k n h = (let past = not_some (nat_lt k n) k h in let test : nat_lt (1 + k) (suc n) ≡ false = grind (arith, nat_tests, past) in ap (λ c. cond c (Some (1 + k)) None) test)
+    later : (k n : ℕ) → cond (nat_lt k n) (Some k) None ≡ None
+        → cond (nat_lt (1 + k) (suc n)) (Some (1 + k)) None ≡ None
+    later k n h =
+        (let past = not_some (nat_lt k n) k h in
+        let test : nat_lt (1 + k) (suc n) ≡ false = grind (arith, nat_tests, past) in
+        ap (λ c. cond c (Some (1 + k)) None) test)
 
 folded_large : (b : ℕ) → nat_lt b 32 ≡ false → nat_lt (to_ascii_uppercase b) 32 ≡ false
 folded_large b h = grind (arith, nat_tests)
 
 folded_filled : (name : List ℕ) → Filled name → Filled (map to_ascii_uppercase name)
 folded_filled [] h = refl
-folded_filled (b ∷ bs) h = (let f = first_filled b bs h in filled_more (to_ascii_uppercase b) (map to_ascii_uppercase bs) (folded_large b f.0) (folded_filled bs f.1))
+folded_filled (b ∷ bs) h =
+    (let f = first_filled b bs h in
+    filled_more (to_ascii_uppercase b) (map to_ascii_uppercase bs) (folded_large b f.0) (folded_filled bs f.1))
 
 abbrev fault_by : Bool → Bool → Bool → Option ℕ → Option NameFault
 fault_by a b c place = cond a (Some Empty) (cond b (Some TooLong) (bad_byte (cond c (Some 0) place)))
@@ -108,16 +127,20 @@ folded_name name h =
     let long : length (map to_ascii_uppercase name) ≡ length name = length-map name to_ascii_uppercase in
     let p : Option ℕ = position (λ c. nat_lt c 32) name in
     let q : Option ℕ = position (λ c. nat_lt c 32) (map to_ascii_uppercase name) in
-    (λ i. fault_by (long i == 0) (nat_lt 15 (long i)) (same_space name i) q) ∙ same_fault (length name == 0) (nat_lt 15 (length name)) (get_or name 0 0 == 32) p q h (folded_filled name)
+    (λ i. fault_by (long i == 0) (nat_lt 15 (long i)) (same_space name i) q)
+    ∙ same_fault (length name == 0) (nat_lt 15 (length name)) (get_or name 0 0 == 32) p q h (folded_filled name)
 
+-- the key of a name without fault is a key
 pub is_key : (name : List ℕ) → fault_of name ≡ None → IsKey (key_of name)
 is_key name h =
     let good = no_fault (length name == 0) (nat_lt 15 (length name)) (bad_place name) h in
     let short : length name ≤ 15 = (let past = good.0 in grind (arith, nat_tests, past)) in
-    let back : name_in (key_of name) ≡ map to_ascii_uppercase name = name_back name (15 - length name) (no_space (get_or name 0 0 == 32) (position (λ c. nat_lt c 32) name) good.1) in
+    let back : name_in (key_of name) ≡ map to_ascii_uppercase name =
+    name_back name (15 - length name) (no_space (get_or name 0 0 == 32) (position (λ c. nat_lt c 32) name) good.1) in
     let long : length (map to_ascii_uppercase name) ≡ length name = length-map name to_ascii_uppercase in (
       omega (arith, ap length back, long, short),
-      ap key_of back ∙ ap (λ k. map to_ascii_uppercase (map to_ascii_uppercase name) ++ replicate (15 - k) 0) long ∙ ap (λ (l : List ℕ). l ++ replicate (15 - length name) 0) (all_twice name),
+      ap key_of back ∙ ap (λ k. map to_ascii_uppercase (map to_ascii_uppercase name) ++ replicate (15 - k) 0) long
+          ∙ ap (λ (l : List ℕ). l ++ replicate (15 - length name) 0) (all_twice name),
       ap fault_of back ∙ folded_name name h,
     )
 
@@ -141,36 +164,30 @@ same_is s t h =
     let four : s.last.col ≡ t.last.col = grind (arith, nat_tests, h) in
     λ i. record { first = record { row = one i; col = two i }; last = record { row = three i; col = four i } }
 
-equal : (o : Ordering) → is_eq o ≡ true → o ≡ Equal
-equal Less h = cc
-equal Equal h = refl
-equal Greater h = cc
-
-some_is : {X : Type 0} (x y : X) → Some x ≡ Some y → x ≡ y
-some_is x y h = cc
-
-parted : (a b : Bool) → T (a && b) → T a × T b
-parted true b h = (tt, h)
-parted false b h = absurd h
-
 record IsEntry (es : List (List ℕ × Extent)) (span : Extent) (name : List ℕ) : Type 0 where
   key : List ℕ
   found : find name_cmp key es ≡ Some span
   named : name_in key ≡ name
   plain : is_plain name ≡ true
 
-entry_of : (es : List (List ℕ × Extent)) (span : Extent) (name : List ℕ) → T (is_sorted name_cmp es) → named span es ≡ Some name → IsEntry es span name
+entry_of : (es : List (List ℕ × Extent)) (span : Extent) (name : List ℕ) → T (is_sorted name_cmp es)
+    → named span es ≡ Some name → IsEntry es span name
 entry_of [] span name s h = absurd cc
 entry_of (e ∷ es) span name s h = elim (cases_Bool (same_extent e.1 span && is_plain (name_in e.0))) [
-  | inl same ↦ (let is : name_in e.0 ≡ name = some_is _ _ (sym (ap (λ c. cond c (Some (name_in e.0)) (named span es)) same) ∙ h) in record {
-    key = e.0;
-    found = ap (λ c. cond c (Some e.1) (find name_cmp e.0 es)) (ap is_eq (tied_itself nat_list_cmp_total e.0)) ∙ ap (λ x. Some x) (same_is e.1 span (and_parts _ _ same).0);
-    named = is;
-    plain = ap is_plain (sym is) ∙ (and_parts _ _ same).1;
-  })
+  | inl same ↦
+      (let is : name_in e.0 ≡ name =
+      same_Some _ _ (sym (ap (λ c. cond c (Some (name_in e.0)) (named span es)) same) ∙ h) in record {
+        key = e.0;
+        found =
+            ap (λ c. cond c (Some e.1) (find name_cmp e.0 es)) (ap is_eq (tied_itself nat_list_cmp_total e.0))
+            ∙ ap (λ x. Some x) (same_is e.1 span (and_parts _ _ same).0);
+        named = is;
+        plain = ap is_plain (sym is) ∙ (and_parts _ _ same).1;
+      })
   | inr other ↦ (
-      let order = parted (below_all name_cmp e.0 es) (is_sorted name_cmp es) s in
-      let more = entry_of es span name order.1 (sym (ap (λ c. cond c (Some (name_in e.0)) (named span es)) other) ∙ h) in record {
+      let order = both_parts (below_all name_cmp e.0 es) (is_sorted name_cmp es) s in
+      let more =
+      entry_of es span name order.1 (sym (ap (λ c. cond c (Some (name_in e.0)) (named span es)) other) ∙ h) in record {
         key = more.key;
         found = other_key e es span more.key order.0 more.found;
         named = more.named;
@@ -178,9 +195,13 @@ entry_of (e ∷ es) span name s h = elim (cases_Bool (same_extent e.1 span && is
       })
 ]
   where
-    other_key : (e : List ℕ × Extent) (es : List (List ℕ × Extent)) (span : Extent) (key : List ℕ) → T (below_all name_cmp e.0 es) → find name_cmp key es ≡ Some span → find name_cmp key (e ∷ es) ≡ Some span
+    other_key : (e : List ℕ × Extent) (es : List (List ℕ × Extent)) (span : Extent) (key : List ℕ)
+        → T (below_all name_cmp e.0 es) → find name_cmp key es ≡ Some span → find name_cmp key (e ∷ es) ≡ Some span
     other_key e es span key below found = elim (cases_Bool (eq_by_cmp name_cmp key e.0)) [
-      | inl same ↦ absurd (some_is_none (sym found ∙ sym (find_tied name_cmp nat_list_cmp_total key e.0 (equal (name_cmp key e.0) same) es) ∙ first_none e.0 es below))
+      | inl same ↦
+          absurd (none-some _ (sym (first_none e.0 es below)
+          ∙ find_tied name_cmp nat_list_cmp_total key e.0 (equal_of (name_cmp key e.0) same) es
+          ∙ found))
       | inr apart ↦ ap (λ c. cond c (Some e.1) (find name_cmp key es)) apart ∙ found
     ]
 
@@ -190,7 +211,9 @@ pub record Finds (names : NameMap) (span : Extent) (name : List ℕ) : Type 0 wh
   pub short : length name ≤ 15
   pub found : get names (key_of name) ≡ Some span
 
-pub finds : (names : NameMap) (span : Extent) (name : List ℕ) → AreKeys names → name_of_span names span ≡ Some name → Finds names span name
+-- a name that is written for a span finds it
+pub finds : (names : NameMap) (span : Extent) (name : List ℕ) → AreKeys names → name_of_span names span ≡ Some name
+    → Finds names span name
 finds names span name keyed h =
     let entry = entry_of (entries names) span name (entries_sorted names) h in
     let at : get names entry.key ≡ Some span = get-entries names entry.key ∙ entry.found in
@@ -202,19 +225,28 @@ finds names span name keyed h =
 
 -- what stays keyed
 pub none_keyed : AreKeys empty
-none_keyed key span h = absurd (some_is_none (sym h ∙ get-empty name_cmp key))
+none_keyed key span h = absurd (none-some _ (sym (get-empty name_cmp key) ∙ h))
 
-put_key : (c : Bool) (key other : List ℕ) (span : Extent) (old : Option Extent) (found : Extent) → (c ≡ true → key ≡ other) → IsKey other → (old ≡ Some found → IsKey key) → cond c (Some span) old ≡ Some found → IsKey key
+put_key : (c : Bool) (key other : List ℕ) (span : Extent) (old : Option Extent) (found : Extent)
+    → (c ≡ true → key ≡ other) → IsKey other → (old ≡ Some found → IsKey key) → cond c (Some span) old ≡ Some found
+    → IsKey key
 put_key true key other span old found same is before h = subst IsKey (sym (same refl)) is
 put_key false key other span old found same is before h = before h
 
-pub put_keyed : (names : NameMap) (key : List ℕ) (span : Extent) → AreKeys names → IsKey key → AreKeys (insert names key span)
+-- a key that is put in leaves all keyed
+pub put_keyed : (names : NameMap) (key : List ℕ) (span : Extent) → AreKeys names → IsKey key
+    → AreKeys (insert names key span)
 put_keyed names key span keyed is q found h =
-    put_key (eq_by_cmp name_cmp q key) q key span (get names q) found (λ e. names_exact q key (equal (name_cmp q key) e)) is (keyed q found) (sym (get-insert nat_list_cmp_total names key span q) ∙ h)
+    put_key (eq_by_cmp name_cmp q key) q key span (get names q) found
+    (λ e. names_exact q key (equal_of (name_cmp q key) e)) is (keyed q found)
+    (sym (get-insert nat_list_cmp_total names key span q) ∙ h)
 
 took_key : (c : Bool) (old : Option Extent) (found : Extent) → cond c None old ≡ Some found → old ≡ Some found
-took_key true old found h = absurd (some_is_none (sym h))
+took_key true old found h = absurd (none-some _ h)
 took_key false old found h = h
 
+-- a key that is taken away leaves all keyed
 pub removed_keyed : (names : NameMap) (key : List ℕ) → AreKeys names → AreKeys (remove names key)
-removed_keyed names key keyed q found h = keyed q found (took_key (eq_by_cmp name_cmp q key) (get names q) found (sym (get-remove nat_list_cmp_total names key q) ∙ h))
+removed_keyed names key keyed q found h =
+    keyed q found (took_key (eq_by_cmp name_cmp q key) (get names q) found
+    (sym (get-remove nat_list_cmp_total names key q) ∙ h))

@@ -7,6 +7,7 @@ use Rattle.screen_layout.specs.Corner.{nearest, wide}
 use Rattle.work_sheet.specs.Seen.{Sheet}
 use Rattle.screen_layout.specs.Sheets.{width_in}
 
+-- no columns have no width
 pub wide_none : (s : Sheet) (col : ℕ) → wide s 0 col ≡ 0
 unfolding wide
 wide_none s col = refl
@@ -25,15 +26,19 @@ wide_more s zero col =
 wide_more s (suc count) col =
     let at : col + 1 + count ≡ col + suc count = omega arith in
     let more : suc count + 1 ≡ suc (count + 1) = omega arith in
-    let first : wide s (suc count + 1) col ≡ wide s 1 col + wide s (count + 1) (col + 1) = ap (λ (n : ℕ). wide s n col) more ∙ wide_first s (count + 1) col in
+    let first : wide s (suc count + 1) col ≡ wide s 1 col + wide s (count + 1) (col + 1) =
+    ap (λ (n : ℕ). wide s n col) more ∙ wide_first s (count + 1) col in
     let last : wide s 1 (col + 1 + count) ≡ wide s 1 (col + suc count) = ap (λ (c : ℕ). wide s 1 c) at in
     omega (arith, first, wide_more s count (col + 1), wide_first s count col, last)
 
+-- the last column is the nearest, where none is further
 pub nearest_last : (s : Sheet) (further col : ℕ) → further ≡ 0 → nearest s further col ≡ col
 unfolding nearest
 nearest_last s further col none = rw none refl
 
-pub nearest_here : (s : Sheet) (further col : ℕ) → 1 ≤ further → wide s (further + 1) col ≤ 76 → nearest s further col ≡ col
+-- a column is the nearest, where all up to the last have room
+pub nearest_here : (s : Sheet) (further col : ℕ) → 1 ≤ further → wide s (further + 1) col ≤ 76
+    → nearest s further col ≡ col
 unfolding nearest
 nearest_here s zero col some fits = absurd (omega (arith, some))
 nearest_here s (suc further) col some fits =
@@ -42,7 +47,9 @@ nearest_here s (suc further) col some fits =
     let test : nat_le (wide s (suc (suc further)) col) 76 ≡ true = grind (arith, nat_tests, same, fits) in
     rw test refl
 
-pub nearest_later : (s : Sheet) (further col : ℕ) → 1 ≤ further → 76 < wide s (further + 1) col → nearest s further col ≡ nearest s (further - 1) (col + 1)
+-- else it is a later one
+pub nearest_later : (s : Sheet) (further col : ℕ) → 1 ≤ further → 76 < wide s (further + 1) col
+    → nearest s further col ≡ nearest s (further - 1) (col + 1)
 unfolding nearest
 nearest_later s zero col some wider = absurd (omega (arith, some))
 nearest_later s (suc further) col some wider =
@@ -52,10 +59,12 @@ nearest_later s (suc further) col some wider =
     let less : suc further - 1 ≡ further = omega arith in
     rw (test, less) refl
 
+-- a hidden column has no width
 pub wide_hidden : (s : Sheet) (col : ℕ) → is_hidden s.grid col ≡ true → wide s 1 col ≡ 0
 unfolding wide
 wide_hidden s col hidden = rw hidden refl
 
+-- any other has its own
 pub wide_seen : (s : Sheet) (col : ℕ) → is_hidden s.grid col ≡ false → wide s 1 col ≡ width_in s col
 unfolding wide
 wide_seen s col seen = rw seen (omega arith)

@@ -1,5 +1,6 @@
 -- The lines between the panel's.
-use Rattle.std.proofs.Common.{◌≡◌, ℕ, zero, suc, ◌+◌, ◌-◌, ◌≤◌, ◌<◌, Bool, true, false, ◌||◌, List, [], ◌∷◌, ◌++◌, drop, get_or, Option, Some, None, refl, ap, sym, ◌∙◌, arith}
+use Rattle.std.proofs.Common.{◌≡◌, ℕ, zero, suc, ◌+◌, ◌-◌, ◌≤◌, ◌<◌, Bool, true, false, ◌||◌, List, [], ◌∷◌, ◌++◌, drop}
+use Rattle.std.proofs.Common.{get_or, Option, Some, None, refl, ap, sym, ◌∙◌, arith}
 use Rattle.std.specs.Prelude.{if◌then◌else◌, nat_le, nat_lt, unwrap_or}
 use Rattle.std.proofs.lemmas.Bool.Decides.{nat_tests}
 use Rattle.std.specs.FinMap.{get}
@@ -35,7 +36,8 @@ module _ (touched : ℕ → Bool) (s t : Sheet) (alike : AreAlike touched s t) w
   hidden_same : (col : ℕ) → is_hidden t.grid col ≡ is_hidden s.grid col
   hidden_same col = ap (λ (marks : List Bool). get_or marks col false) alike.hidden
 
-  columns_from_same : (first : Bool) (count col room : ℕ) → columns_from t first count col room ≡ columns_from s first count col room
+  columns_from_same : (first : Bool) (count col room : ℕ)
+      → columns_from t first count col room ≡ columns_from s first count col room
   unfolding columns_from
   columns_from_same first zero col room = refl
   columns_from_same first (suc count) col room =
@@ -44,10 +46,14 @@ module _ (touched : ℕ → Bool) (s t : Sheet) (alike : AreAlike touched s t) w
       else if first || nat_le width room then record { col = col; width = width } ∷ others
       else [] in
       let behind : ℕ → List Column = λ width. columns_from t false count (col + 1) (room - width) in
-      ap (λ (hidden : Bool). next hidden (width_in t col) (columns_from t first count (col + 1) room) (behind (width_in t col))) (hidden_same col)
-      ∙ ap (λ (width : ℕ). next (is_hidden s.grid col) width (columns_from t first count (col + 1) room) (behind width)) (width_same col)
-      ∙ ap (λ (passed : List Column). next (is_hidden s.grid col) (width_in s col) passed (behind (width_in s col))) (columns_from_same first count (col + 1) room)
-      ∙ ap (next (is_hidden s.grid col) (width_in s col) (columns_from s first count (col + 1) room)) (columns_from_same false count (col + 1) (room - width_in s col))
+      ap (λ (hidden : Bool). next hidden (width_in t col) (columns_from t first count (col + 1) room)
+      (behind (width_in t col))) (hidden_same col)
+      ∙ ap (λ (width : ℕ). next (is_hidden s.grid col) width (columns_from t first count (col + 1) room)
+      (behind width)) (width_same col)
+      ∙ ap (λ (passed : List Column). next (is_hidden s.grid col) (width_in s col) passed (behind (width_in s col)))
+      (columns_from_same first count (col + 1) room)
+      ∙ ap (next (is_hidden s.grid col) (width_in s col) (columns_from s first count (col + 1) room))
+      (columns_from_same false count (col + 1) (room - width_in s col))
 
   cell_same : (c : Place) (width : ℕ) → touched c.row ≡ false → cell_text t c width ≡ cell_text s c width
   cell_same c width apart =
@@ -59,15 +65,19 @@ module _ (touched : ℕ → Bool) (s t : Sheet) (alike : AreAlike touched s t) w
   column_same None x apart = refl
   column_same (Some row) x apart = cell_same (record { row = row; col = x.col }) x.width apart
 
-  beside_same : (row : Option ℕ) (xs : List Column) (over : List ℕ) → IsApart touched row → beside t row xs over ≡ beside s row xs over
+  beside_same : (row : Option ℕ) (xs : List Column) (over : List ℕ) → IsApart touched row
+      → beside t row xs over ≡ beside s row xs over
   unfolding beside
   beside_same row [] over apart = refl
   beside_same row (x ∷ xs) over apart =
       let text : Option (List ℕ) → List ℕ = λ own. unwrap_or own over in
-      ap (λ (own : Option (List ℕ)). padded x.width (text own) ++ beside t row xs (drop x.width (text own))) (column_same row x apart)
-      ∙ ap (λ (l : List ℕ). padded x.width (text (column_text s row x)) ++ l) (beside_same row xs (drop x.width (text (column_text s row x))) apart)
+      ap (λ (own : Option (List ℕ)). padded x.width (text own) ++ beside t row xs (drop x.width (text own)))
+      (column_same row x apart)
+      ∙ ap (λ (l : List ℕ). padded x.width (text (column_text s row x)) ++ l)
+      (beside_same row xs (drop x.width (text (column_text s row x))) apart)
 
-  columns_line_same : (row : Option ℕ) (first : ℕ) → IsApart touched row → columns_line t row first ≡ columns_line s row first
+  columns_line_same : (row : Option ℕ) (first : ℕ) → IsApart touched row
+      → columns_line t row first ≡ columns_line s row first
   columns_line_same row first apart =
       ap (λ (xs : List Column). margin row ++ beside t row xs []) (columns_from_same true (256 - first) first 76)
       ∙ ap (λ (l : List ℕ). margin row ++ l) (beside_same row (shown_columns s first) [] apart)
@@ -76,10 +86,12 @@ module _ (touched : ℕ → Bool) (s t : Sheet) (alike : AreAlike touched s t) w
   pub letters_same : (a b : Panel) (corner from : Place) (d e : Option ℕ) (x y : ℕ) → corner.col ≡ from.col →
       screen_line s a corner d x 3 ≡ screen_line t b from e y 3
   letters_same a b corner from d e x y stays =
-      sym (ap (λ (col : ℕ). shown_line (columns_line t None col)) (sym stays) ∙ ap shown_line (columns_line_same None corner.col tt))
+      sym (ap (λ (col : ℕ). shown_line (columns_line t None col)) (sym stays)
+      ∙ ap shown_line (columns_line_same None corner.col tt))
 
   -- a line of a row that was not touched is the same, whatever the panel and the moment are
-  pub row_same : (a b : Panel) (corner : Place) (d e : Option ℕ) (x y n : ℕ) → 4 ≤ n → n < 24 → touched (corner.row + (n - 4)) ≡ false →
+  pub row_same : (a b : Panel) (corner : Place) (d e : Option ℕ) (x y n : ℕ) → 4 ≤ n → n < 24
+      → touched (corner.row + (n - 4)) ≡ false →
       screen_line s a corner d x n ≡ screen_line t b corner e y n
   row_same a b corner d e x y n least most apart =
       let zeroth : nat_lt n 1 ≡ false = grind (arith, nat_tests) in
@@ -90,5 +102,6 @@ module _ (touched : ℕ → Bool) (s t : Sheet) (alike : AreAlike touched s t) w
       let row : ℕ = corner.row + (n - 4) in
       let same : row_line s row corner.col ≡ row_line t row corner.col =
       sym (ap (λ (l : List ℕ). if nat_lt row 8192 then l else []) (columns_line_same (Some row) corner.col apart)) in
-      let text : line_text s a corner d x n ≡ line_text t b corner e y n = rw (zeroth, first, second, third, between) same in
+      let text : line_text s a corner d x n ≡ line_text t b corner e y n =
+      rw (zeroth, first, second, third, between) same in
       ap shown_line text

@@ -38,7 +38,7 @@ fn add_whole(line: &mut PaintedLine, text: &Line, width: u8)
 }
 
 // Adds a number, which mostly fits the line and goes into its cell at once.
-#[tactic(auto, using(crate::proofs::Cuts::whole_added, crate::proofs::Cuts::none_left))]
+#[tactic(auto, using(crate::proofs::Cuts::whole_added, std::proofs::lemmas::List::drop_all))]
 fn add_number(line: &mut PaintedLine, number: Fixed, format: Format, width: u8)
     requires { width ≤ MOST_WIDTH }
     ensures line { line.new ≡ take 80 (line.old ++ padded width (shown_number number format.0 width)) }

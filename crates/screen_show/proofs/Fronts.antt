@@ -1,41 +1,32 @@
 -- How far two lines differ, and what that makes of a patched line and of the counts.
-use Rattle.std.proofs.Common.{◌≡◌, ℕ, suc, ◌+◌, ◌<◌, ◌≤◌, true, false, List, [], ◌∷◌, ◌++◌, length, take, drop, get_or, refl, ap, sym, ◌∙◌, arith, inl, inr, zero-add}
+use Rattle.std.proofs.Common.{◌≡◌, ℕ, suc, ◌+◌, ◌<◌, true, List, [], ◌∷◌, ◌++◌, length, take, drop, get_or}
+use Rattle.std.proofs.Common.{refl, ap, sym, ◌∙◌, arith, inl, inr, zero-add}
 use Rattle.std.specs.Prelude.{◌==◌}
-use Rattle.std.proofs.lemmas.List.{drop_more, drop_all, drop-take, take-append-drop, take-take}
-use Rattle.std.proofs.lemmas.Bool.{cases_Bool, eq-eqb, ne_eqb}
+use Rattle.std.proofs.lemmas.List.{drop_more}
+use Rattle.std.proofs.lemmas.Bool.{cases_Bool, eq-eqb}
+use Rattle.list_lemmas.proofs.Takes.{take-add}
 use Rattle.screen_show.specs.Changes.{patched_line, line_differences, line_runs, runs_after, differing_front}
 
-pub front_ends : (before after : List ℕ) (n : ℕ) → length before ≤ n → differing_front (drop n before) (drop n after) ≡ 0
-front_ends before after n h = rw (drop_all n before h) refl
-
-pub front_stops : (before after : List ℕ) (n : ℕ) → n < length before → n < length after → get_or before n 0 ≡ get_or after n 0 → differing_front (drop n before) (drop n after) ≡ 0
+-- equal bytes end the front that differs
+pub front_stops : (before after : List ℕ) (n : ℕ) → n < length before → n < length after
+    → get_or before n 0 ≡ get_or after n 0 → differing_front (drop n before) (drop n after) ≡ 0
 front_stops before after n h k same =
     let test : (get_or before n 0 == get_or after n 0) ≡ true = eq-eqb _ _ same in
     rw (drop_more before n 0 h, drop_more after n 0 k, test) refl
 
-pub front_goes_on : (before after : List ℕ) (n : ℕ) → n < length before → n < length after → (get_or before n 0 ≡ get_or after n 0 → ⊥) →
-    n + 1 + differing_front (drop (n + 1) before) (drop (n + 1) after) ≡ n + differing_front (drop n before) (drop n after)
-front_goes_on before after n h k apart =
-    let test : (get_or before n 0 == get_or after n 0) ≡ false = ne_eqb _ _ apart in
-    rw (drop_more before n 0 h, drop_more after n 0 k, test) (omega arith)
-
--- where two lists differ at a place, they differ from it on
-pub front_begins : (before after : List ℕ) (n : ℕ) → n < length before → n < length after → (get_or before n 0 ≡ get_or after n 0 → ⊥) →
-    0 < differing_front (drop n before) (drop n after)
-front_begins before after n h k apart = omega (arith, front_goes_on before after n h k apart)
-
-take_apart : (n m : ℕ) (xs : List ℕ) → take (n + m) xs ≡ take n xs ++ take m (drop n xs)
-take_apart n m xs =
-    sym (take-append-drop n (take (n + m) xs)) ∙ ap (λ (l : List ℕ). l ++ drop n (take (n + m) xs)) (take-take n (n + m) xs (omega arith))
-    ∙ ap (λ (l : List ℕ). take n xs ++ l) (drop-take n m xs)
-
 -- two lists that begin alike, and go on alike
-pub take_further : (n m : ℕ) (xs ys : List ℕ) → take n xs ≡ take n ys → take m (drop n xs) ≡ take m (drop n ys) → take (n + m) xs ≡ take (n + m) ys
+pub take_further : (n m : ℕ) (xs ys : List ℕ) → take n xs ≡ take n ys → take m (drop n xs) ≡ take m (drop n ys)
+    → take (n + m) xs ≡ take (n + m) ys
 take_further n m xs ys first more =
-    take_apart n m xs ∙ ap (λ (l : List ℕ). l ++ take m (drop n xs)) first ∙ ap (λ (l : List ℕ). take n ys ++ l) more ∙ sym (take_apart n m ys)
+    take-add n m xs ∙ ap (λ (l : List ℕ). l ++ take m (drop n xs)) first ∙ ap (λ (l : List ℕ). take n ys ++ l) more
+    ∙ sym (take-add n m ys)
 
+-- a patched line is the front that differs, and the patched rest
 pub run_line : (before after line : List ℕ) → length before ≡ length after → length line ≡ length after →
-    patched_line before after line ≡ take (differing_front before after) after ++ patched_line (drop (differing_front before after) before) (drop (differing_front before after) after) (drop (differing_front before after) line)
+    patched_line before after line
+    ≡ take (differing_front before after) after
+    ++ patched_line (drop (differing_front before after) before) (drop (differing_front before after) after)
+    (drop (differing_front before after) line)
 run_line [] after line h k = refl
 run_line (b ∷ bs) [] line h k = refl
 run_line (b ∷ bs) (a ∷ xs) [] h k = absurd (omega arith)
@@ -45,7 +36,9 @@ run_line (b ∷ bs) (a ∷ xs) (y ∷ ys) h k = elim (cases_Bool (b == a)) [
 ]
 
 -- a run that is begun counts no more
-inside_runs : (before after : List ℕ) → length before ≡ length after → runs_after true before after ≡ line_runs (drop (differing_front before after) before) (drop (differing_front before after) after)
+inside_runs : (before after : List ℕ) → length before ≡ length after
+    → runs_after true before after
+    ≡ line_runs (drop (differing_front before after) before) (drop (differing_front before after) after)
 inside_runs [] after h = refl
 inside_runs (b ∷ bs) [] h = refl
 inside_runs (b ∷ bs) (a ∷ xs) h = elim (cases_Bool (b == a)) [
@@ -53,8 +46,10 @@ inside_runs (b ∷ bs) (a ∷ xs) h = elim (cases_Bool (b == a)) [
   | inr apart ↦ rw apart (zero-add (runs_after true bs xs) ∙ inside_runs bs xs (omega arith))
 ]
 
+-- the runs of a line are one more than those of its rest
 pub run_count : (before after : List ℕ) → length before ≡ length after → 0 < differing_front before after →
-    line_runs before after ≡ 1 + line_runs (drop (differing_front before after) before) (drop (differing_front before after) after)
+    line_runs before after ≡ 1
+    + line_runs (drop (differing_front before after) before) (drop (differing_front before after) after)
 run_count [] after h more = absurd (omega arith)
 run_count (b ∷ bs) [] h more = absurd (omega arith)
 run_count (b ∷ bs) (a ∷ xs) h more = elim (cases_Bool (b == a)) [
@@ -62,8 +57,11 @@ run_count (b ∷ bs) (a ∷ xs) h more = elim (cases_Bool (b == a)) [
   | inr apart ↦ rw apart (ap (λ n. 1 + n) (inside_runs bs xs (omega arith)))
 ]
 
+-- the bytes that differ are those of the front and of the rest
 pub run_differences : (before after : List ℕ) → length before ≡ length after →
-    line_differences before after ≡ differing_front before after + line_differences (drop (differing_front before after) before) (drop (differing_front before after) after)
+    line_differences before after
+    ≡ differing_front before after
+    + line_differences (drop (differing_front before after) before) (drop (differing_front before after) after)
 run_differences [] after h = refl
 run_differences (b ∷ bs) [] h = refl
 run_differences (b ∷ bs) (a ∷ xs) h = elim (cases_Bool (b == a)) [
@@ -78,7 +76,9 @@ same_first b a bs xs h = elim (cases_Bool (b == a)) [
   | inr apart ↦ (let one : suc (differing_front bs xs) ≡ 0 = rw apart at h in absurd (omega arith))
 ]
 
-pub length-patched_line : (before after line : List ℕ) → length before ≡ length after → length line ≡ length after → length (patched_line before after line) ≡ length after
+-- a patched line is as long as the new one
+pub length-patched_line : (before after line : List ℕ) → length before ≡ length after → length line ≡ length after
+    → length (patched_line before after line) ≡ length after
 length-patched_line [] [] line h k = refl
 length-patched_line [] (a ∷ xs) line h k = absurd (omega arith)
 length-patched_line (b ∷ bs) [] line h k = refl

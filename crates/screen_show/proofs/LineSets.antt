@@ -1,5 +1,6 @@
 -- Sets of lines, and what a screen is while the lines of one are copied into it.
-use Rattle.std.proofs.Common.{◌≡◌, ℕ, suc, zero, ◌+◌, ◌<◌, ◌≤◌, Bool, true, false, List, [], ◌∷◌, length, get_or, set, Some, None, refl, sym, ap, ◌∙◌, arith, inl, inr}
+use Rattle.std.proofs.Common.{◌≡◌, ℕ, suc, zero, ◌+◌, ◌<◌, ◌≤◌, Bool, true, false, List, [], ◌∷◌, length, get_or, set}
+use Rattle.std.proofs.Common.{Some, None, refl, sym, ap, ◌∙◌, arith, inl, inr}
 use Rattle.std.specs.Prelude.{slice_get, replicate}
 use Rattle.std.proofs.lemmas.Bool.{cases_lt, true≢false}
 use Rattle.std.proofs.lemmas.List.{length-set}
@@ -24,7 +25,9 @@ get_set_same [] i x h = absurd (omega arith)
 get_set_same (y ∷ ys) zero x h = refl
 get_set_same (y ∷ ys) (suc i) x h = get_set_same ys i x (omega arith)
 
-pub get_set_other : {X : Type 0} → (xs : List X) (i j : ℕ) (x : X) → (j ≡ i → ⊥) → slice_get (set xs i x) j ≡ slice_get xs j
+-- an item at another place stays
+pub get_set_other : {X : Type 0} → (xs : List X) (i j : ℕ) (x : X) → (j ≡ i → ⊥)
+    → slice_get (set xs i x) j ≡ slice_get xs j
 get_set_other [] i j x apart = refl
 get_set_other (y ∷ ys) zero zero x apart = absurd (apart refl)
 get_set_other (y ∷ ys) zero (suc j) x apart = refl
@@ -48,7 +51,9 @@ pub record Copying (row : ℕ) (was from now : List (List ℕ)) : Type 0 where
   pub lines : length now ≡ 25
 
 module _ (lines : List Bool) (was from : List (List ℕ)) (unchanged : Unchanged lines was from) where
-  pub copying_starts : (row : ℕ) → ((k : ℕ) → 0 ≤ k → k < row → slice_get lines k ≡ Some false) → length was ≡ 25 → Copying row was from was
+  -- no line is copied yet
+  pub copying_starts : (row : ℕ) → ((k : ℕ) → 0 ≤ k → k < row → slice_get lines k ≡ Some false) → length was ≡ 25
+      → Copying row was from was
   copying_starts row passed long = record {
     above = λ k h. unchanged k (passed k (omega arith) h);
     below = λ k h. refl;
@@ -56,22 +61,28 @@ module _ (lines : List Bool) (was from : List (List ℕ)) (unchanged : Unchanged
   }
 
   -- a line is copied, and those up to the next one are the same already
-  pub copying_more : (row next : ℕ) (now : List (List ℕ)) → row < 25 → row + 1 ≤ next → ((k : ℕ) → row + 1 ≤ k → k < next → slice_get lines k ≡ Some false) → length from ≡ 25 →
+  pub copying_more : (row next : ℕ) (now : List (List ℕ)) → row < 25 → row + 1 ≤ next
+      → ((k : ℕ) → row + 1 ≤ k → k < next → slice_get lines k ≡ Some false) → length from ≡ 25 →
       Copying row was from now → Copying next was from (set now row (get_or from row []))
   copying_more row next now inside later passed long on = record {
     above = λ k h. elim (cases_lt k row) [
       | inl above ↦ get_set_other now row k (get_or from row []) (λ e. omega arith) ∙ on.above k above
       | inr below ↦ elim (cases_lt row k) [
-        | inl behind ↦ get_set_other now row k (get_or from row []) (λ e. omega arith) ∙ on.below k below ∙ unchanged k (passed k (omega arith) h)
+        | inl behind ↦
+            get_set_other now row k (get_or from row []) (λ e. omega arith) ∙ on.below k below
+            ∙ unchanged k (passed k (omega arith) h)
         | inr same ↦ (let here : k ≡ row = omega arith in
-            rw here (get_set_same now row (get_or from row []) (omega (arith, on.lines)) ∙ sym (slice_get-get_or from row [] (omega arith))))
+            rw here (get_set_same now row (get_or from row []) (omega (arith, on.lines))
+            ∙ sym (slice_get-get_or from row [] (omega arith))))
       ]
     ];
     below = λ k h. get_set_other now row k (get_or from row []) (λ e. omega arith) ∙ on.below k (omega arith);
     lines = length-set now row (get_or from row []) ∙ on.lines;
   }
 
-  pub copying_ends : (row : ℕ) (now : List (List ℕ)) → 25 ≤ row → length from ≡ 25 → Copying row was from now → now ≡ from
+  -- past the last line all are copied
+  pub copying_ends : (row : ℕ) (now : List (List ℕ)) → 25 ≤ row → length from ≡ 25 → Copying row was from now
+      → now ≡ from
   copying_ends row now all long on = same_elements now from (λ k. elim (cases_lt k row) [
     | inl above ↦ on.above k above
     | inr below ↦ slice_get_past now k (omega (arith, on.lines)) ∙ sym (slice_get_past from k (omega arith))

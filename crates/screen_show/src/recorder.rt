@@ -73,13 +73,6 @@ impl Recorder {
         self.bytes_put
     }
 
-    /// Whether the last of its calls to finish was `close`.
-    pub fn is_closed(&self) -> bool
-        ensures { result ≡ (recorded self.now).closed }
-    {
-        self.closed
-    }
-
     /// How many calls of `close` were finished; it stays at the last `u64`.
     pub fn closes(&self) -> u64
         ensures { result ≡ (recorded self.now).closes }

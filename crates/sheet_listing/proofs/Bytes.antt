@@ -8,11 +8,6 @@ use Rattle.outside_world.specs.Keys.{first_byte, later_bytes, TakesByte}
 use Rattle.sheet_listing.specs.Ending.{MOST_READ, Reads}
 use Rattle.sheet_listing.specs.inner.Reading.{HasNone, IsSplit, TookOne}
 
--- before the first one
-pub none_read : (all : Option (List ℕ)) → IsSplit all [] all
-none_read None = refl
-none_read (Some bytes) = (bytes, refl, refl)
-
 next_of : (byte : ℕ) (bytes rest : List ℕ) → Some byte ≡ first_byte rest →
     (bytes ++ byte ∷ []) ++ later_bytes rest ≡ bytes ++ rest
 next_of byte bytes [] same = absurd cc
@@ -38,6 +33,7 @@ pub none_left : (before now : Option (List ℕ)) (got : Option ℕ) → got ≡ 
 none_left None now got is takes = subst HasNone (sym takes) tt
 none_left (Some rest) now got is takes = subst HasNone (sym takes.1) (ap later_bytes (no_more rest (sym is ∙ takes.0)))
 
+-- a byte that isn't there leaves what was read
 pub still_split : (all before now : Option (List ℕ)) (bytes : List ℕ) (got : Option ℕ) → got ≡ None →
     TakesByte before now (Ok got) → IsSplit all bytes before → IsSplit all bytes now
 still_split None before now bytes got is takes split = subst (λ (o : Option (List ℕ)). TakesByte o now (Ok got)) split

@@ -15,6 +15,7 @@ pub read_ok : {bytes : List ℕ} {sheet : SavedSheet} → ((Ok sheet ≡ Err fau
 read_ok (inl none) = absurd cc
 read_ok (inr file) = file
 
+-- the listing of a file's bytes is that of its sheet
 pub listed_bytes : (bytes : List ℕ) (sheet : SavedSheet) (before now : Option (List ℕ)) (faults faults' : ℕ)
     (ending : Ending) → IsFile bytes (Ok sheet) → HasListedSheet sheet before now faults faults' ending →
     HasListed bytes before now faults faults' ending
@@ -24,6 +25,7 @@ listed_bytes bytes sheet before now faults faults' NotRead file h = absurd h
 listed_bytes bytes sheet before now faults faults' NotWritten file h = ((sheet, file, h.0), h.1)
 listed_bytes bytes sheet before now faults faults' NoMemory file h = inr (sheet, file, h)
 
+-- a run ends as the listing of what it read
 pub ends_so : (before now : Outside) (bytes : List ℕ) (ending : Ending) → Reads before.left bytes now.left →
     HasListed bytes before.lines now.lines before.write_faults now.write_faults ending → EndsSo before now ending
 ends_so before now bytes Written reads h = (h.0, (bytes, reads, h.1), h.2)

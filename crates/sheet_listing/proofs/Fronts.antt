@@ -4,14 +4,14 @@ use Rattle.std.specs.Prelude.{Option, Some, None, Result, Ok, Err, OnErr}
 use Rattle.std.proofs.lemmas.List.{take-append-drop}
 use Rattle.outside_world.specs.Notes.{AddsBytes}
 use Rattle.outside_world.specs.declared.faults.Failed.{Failed}
-use Rattle.sheet_listing.specs.Waiting.{added, HasFailed, IsFront}
-use Rattle.sheet_listing.specs.declared.writing.WriteFault.{WriteFault}
+use Rattle.sheet_listing.specs.Waiting.{added, IsFront}
 
 -- more behind what is there
 pub added_on : (before : Option (List ℕ)) (a b : List ℕ) → added (added before a) b ≡ added before (a ++ b)
 added_on None a b = refl
 added_on (Some before) a b = ap Some (append_assoc before a b)
 
+-- no bytes add nothing
 pub added_none : (before : Option (List ℕ)) → added before [] ≡ before
 added_none None = refl
 added_none (Some before) = ap Some (append-nil before)
@@ -75,11 +75,6 @@ pub front_written : (bytes items : List ℕ) (before now : Option (List ℕ)) (f
 front_written bytes items before now fault adds is = subst (λ (l : List ℕ). IsFront now (added before l)) is
     (front_added bytes before now fault adds)
 
--- the faults are those since the beginning, where none came before
-pub failed_since : (start before now : ℕ) (result : Result Unit WriteFault) → before ≡ start →
-    HasFailed before now result → HasFailed start now result
-failed_since start before now result same failed = subst (λ (n : ℕ). HasFailed n now result) same failed
-
 in_four : (first s k a b : List ℕ) → first ≡ s ++ k → (first ++ a) ++ b ≡ s ++ (k ++ (a ++ b))
 in_four first s k a b is = ap (λ (l : List ℕ). (l ++ a) ++ b) is ∙ append_assoc (s ++ k) a b ∙ append_assoc s k (a ++ b)
 
@@ -90,22 +85,26 @@ pub three_parts : (w0 w1 w2 : Option (List ℕ)) (first second third s k a b : L
 three_parts w0 w1 w2 first second third s k a b is names cells =
     cells ∙ with_more w1 w0 second (first ++ a) b names ∙ ap (added w0) (in_four first s k a b is)
 
+-- with no last part all is written
 pub whole_written : (w0 w2 w3 : Option (List ℕ)) (third last all : List ℕ) → added w2 third ≡ added w0 all →
     added w3 last ≡ added w2 third → last ≡ [] → w3 ≡ added w0 all
 whole_written w0 w2 w3 third last all parts step none = sym (added_none w3) ∙ ap (added w3) (sym none) ∙ step ∙ parts
 
+-- what is written where the names break off is a front
 pub names_broken : (w0 w1 : Option (List ℕ)) (first s k a b : List ℕ) → first ≡ s ++ k →
     IsFront w1 (added w0 (first ++ a)) → IsFront w1 (added w0 (s ++ (k ++ (a ++ b))))
 names_broken w0 w1 first s k a b is front =
     subst (λ (l : List ℕ). IsFront w1 (added w0 l)) (in_four first s k a b is)
     (front_of_more w1 w0 (first ++ a) b front)
 
+-- so it is where the cells break off
 pub cells_broken : (w0 w1 w2 : Option (List ℕ)) (first second s k a b : List ℕ) → first ≡ s ++ k →
     added w1 second ≡ added w0 (first ++ a) → IsFront w2 (added w1 (second ++ b)) →
     IsFront w2 (added w0 (s ++ (k ++ (a ++ b))))
 cells_broken w0 w1 w2 first second s k a b is names front =
     subst (IsFront w2) (with_more w1 w0 second (first ++ a) b names ∙ ap (added w0) (in_four first s k a b is)) front
 
+-- so it is where the end does
 pub end_broken : (w0 w2 w3 : Option (List ℕ)) (third all : List ℕ) → added w2 third ≡ added w0 all →
     IsFront w3 (added w2 third) → IsFront w3 (added w0 all)
 end_broken w0 w2 w3 third all parts front = subst (IsFront w3) parts front

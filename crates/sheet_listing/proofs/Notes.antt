@@ -7,16 +7,19 @@ use Rattle.sheet_listing.specs.Waiting.{added, IsFront}
 use Rattle.sheet_listing.specs.inner.Reading.{IsPut}
 use Rattle.sheet_listing.proofs.Fronts.{added_on, front_of_more}
 
+-- a text that was put is noted
 pub noted : (text : List ℕ) (before now : Option (List ℕ)) (faults faults' : ℕ) (done : Bool) →
     IsPut text before now faults faults' done → IsNoted text before now faults faults'
 noted text before now faults faults' true put = inl put
 noted text before now faults faults' false put = inr put
 
+-- it was put whole, where the call says so
 pub put_done : (text : List ℕ) (before now : Option (List ℕ)) (faults faults' : ℕ) (done : Bool) →
     IsPut text before now faults faults' done → done ≡ true → IsPut text before now faults faults' true
 put_done text before now faults faults' true put h = put
 put_done text before now faults faults' false put h = absurd cc
 
+-- it wasn't, where the call says so
 pub put_failed : (text : List ℕ) (before now : Option (List ℕ)) (faults faults' : ℕ) (done : Bool) →
     IsPut text before now faults faults' done → done ≡ false → IsPut text before now faults faults' false
 put_failed text before now faults faults' true put h = absurd cc

@@ -21,15 +21,21 @@ use Rattle.sheet_shifts.proofs.Maps.{each, entries_apart}
 abbrev pub AreAllHeld : List (Place × CellState) → Type 0
 AreAllHeld es = AllByRecursion (λ e. IsHeld e.0 e.1) es
 
+-- the entries of held cells are held
 pub all_held : (m : Cells) → AreHeld m → AreAllHeld (entries m)
-all_held m held = each cells_total cells_exact IsHeld (entries m) (entries_apart cells_total cells_exact m) (λ p s h. held p s (get-entries m p ∙ h))
+all_held m held =
+    each cells_total cells_exact IsHeld (entries m) (entries_apart cells_total cells_exact m)
+    (λ p s h. held p s (get-entries m p ∙ h))
 
 -- each entry is what the map holds at its place
 abbrev pub AreStates : Cells → List (Place × CellState) → Type 0
 AreStates m es = AllByRecursion (λ e. get m e.0 ≡ Some e.1) es
 
+-- each entry is what the map holds there
 pub all_states : (m : Cells) → AreStates m (entries m)
-all_states m = each cells_total cells_exact (λ p s. get m p ≡ Some s) (entries m) (entries_apart cells_total cells_exact m) (λ p s h. get-entries m p ∙ h)
+all_states m =
+    each cells_total cells_exact (λ p s. get m p ≡ Some s) (entries m) (entries_apart cells_total cells_exact m)
+    (λ p s h. get-entries m p ∙ h)
 
 in_whole : (p : Place) → InSheet p → is_within whole p ≡ true
 in_whole p h = search rules
@@ -37,10 +43,13 @@ in_whole p h = search rules
 -- all entries lie in the whole sheet
 pub whole_picked : (es : List (Place × CellState)) → AreAllHeld es → picked any_state whole es ≡ keys_of es
 whole_picked [] held = refl
-whole_picked (e ∷ es) held = ap (λ b. cond (b && true) (e.0 ∷ picked any_state whole es) (picked any_state whole es)) (in_whole e.0 held.0.inside) ∙ ap (λ l. e.0 ∷ l) (whole_picked es held.1)
+whole_picked (e ∷ es) held =
+    ap (λ b. cond (b && true) (e.0 ∷ picked any_state whole es) (picked any_state whole es))
+    (in_whole e.0 held.0.inside) ∙ ap (λ l. e.0 ∷ l) (whole_picked es held.1)
 
 -- what the map holds at the entries' places are the entries
-pub entries_at : (shift : Shift) (m : Cells) (es : List (Place × CellState)) → AreStates m es → filter_map (entry_at shift m) (keys_of es) ≡ filter_map (entry_after shift) es
+pub entries_at : (shift : Shift) (m : Cells) (es : List (Place × CellState)) → AreStates m es
+    → filter_map (entry_at shift m) (keys_of es) ≡ filter_map (entry_after shift) es
 entries_at shift m [] states = refl
 entries_at shift m (e ∷ es) states =
     ap (λ o. cons_option (entry_from shift e.0 o) (filter_map (entry_at shift m) (keys_of es))) states.0
@@ -60,15 +69,19 @@ module _ (change : Change) (span : Extent) (leaves : Leaves change span) where
       by filled None h = absurd (let t = leaves e.0 inside h in cc)
 
   -- the first pushed cell of the span is the first of all
-  pub first_listed : (m : Cells) (es : List (Place × CellState)) → AreAllHeld es → AreStates m es → first_pushed_at change m (picked any_state span es) ≡ first_pushed change es
+  pub first_listed : (m : Cells) (es : List (Place × CellState)) → AreAllHeld es → AreStates m es
+      → first_pushed_at change m (picked any_state span es) ≡ first_pushed change es
   first_listed m [] held states = refl
   first_listed m (e ∷ es) held states = elim (cases_Bool (is_within span e.0)) [
     | inl within ↦
-        ap (λ b. first_pushed_at change m (cond (b && true) (e.0 ∷ picked any_state span es) (picked any_state span es))) within
-        ∙ ap (λ o. cond (is_pushed_from change e.0 o) (Some e.0) (first_pushed_at change m (picked any_state span es))) states.0
+        ap (λ b. first_pushed_at change m
+        (cond (b && true) (e.0 ∷ picked any_state span es) (picked any_state span es))) within
+        ∙ ap (λ o. cond (is_pushed_from change e.0 o) (Some e.0) (first_pushed_at change m (picked any_state span es)))
+        states.0
         ∙ ap (cond (is_pushed change e) (Some e.0)) (first_listed m es held.1 states.1)
     | inr beside ↦
-        ap (λ b. first_pushed_at change m (cond (b && true) (e.0 ∷ picked any_state span es) (picked any_state span es))) beside
+        ap (λ b. first_pushed_at change m
+        (cond (b && true) (e.0 ∷ picked any_state span es) (picked any_state span es))) beside
         ∙ first_listed m es held.1 states.1
         ∙ sym (ap (λ b. cond b (Some e.0) (first_pushed change es)) (beside_stays e held.0.inside beside))
   ]

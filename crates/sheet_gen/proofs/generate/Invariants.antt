@@ -5,4 +5,6 @@ use Rattle.sheet_gen.specs.Rows.{generated}
 use Rattle.sheet_gen.proofs.generate.Given as goal
 
 abbrev pub invariant-loop-row : goal.invariant-loop-row
-invariant-loop-row l = ((p : Place) → map.get l.store.cells p ≡ generated l.row p) × (l.store.widths ≡ replicate 256 0) × (l.store.hidden ≡ replicate 256 false)
+invariant-loop-row l =
+    ((p : Place) → map.get l.store.cells p ≡ generated l.row p) × (l.store.widths ≡ replicate 256 0)
+    × (l.store.hidden ≡ replicate 256 false)

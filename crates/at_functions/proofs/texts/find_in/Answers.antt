@@ -13,10 +13,13 @@ units-requires c = omega (arith, c.in-Some.ensures.some.stands.within, c.find.en
 
 pub returns-in-Some : goal.returns-in-Some
 returns-in-Some c =
-    c.units.ensures ∙ ap in_units (sym (found_at c.args.what.now c.args.text.now c.unwrap_or-from.result c.in-Some.at c.in-Some.ensures.some))
-    ∙ ap (λ from. in_units (found c.args.what.now c.args.text.now from)) (c.unwrap_or-from.ensures ∙ ap (λ o. unwrap_or o 0) c.count_of.ensures ∙ from_zero (whole c.args.start))
+    c.units.ensures ∙ ap in_units
+    (sym (found_at c.args.what.now c.args.text.now c.unwrap_or-from.result c.in-Some.at c.in-Some.ensures.some))
+    ∙ ap (λ from. in_units (found c.args.what.now c.args.text.now from))
+    (c.unwrap_or-from.ensures ∙ ap (λ o. unwrap_or o 0) c.count_of.ensures ∙ from_zero (whole c.args.start))
 
 pub returns-in-None : goal.returns-in-None
 returns-in-None c =
     ap in_units (sym (found_nowhere c.args.what.now c.args.text.now c.unwrap_or-from.result c.in-None.ensures.none))
-    ∙ ap (λ from. in_units (found c.args.what.now c.args.text.now from)) (c.unwrap_or-from.ensures ∙ ap (λ o. unwrap_or o 0) c.count_of.ensures ∙ from_zero (whole c.args.start))
+    ∙ ap (λ from. in_units (found c.args.what.now c.args.text.now from))
+    (c.unwrap_or-from.ensures ∙ ap (λ o. unwrap_or o 0) c.count_of.ensures ∙ from_zero (whole c.args.start))

@@ -13,9 +13,11 @@ loop-step-preserved c =
     let less : left - 1 ≡ c.args.count - (c.loop-step._step + 1) = omega arith in
     c.loop-step.invariant ∙ one_more left c.args.arrow c.args.cells.now c.loop-step.here some
     ∙ ap (λ (n : ℕ). stepped_times n c.args.arrow c.args.cells.now next) less
-    ∙ ap (stepped_times (c.args.count - (c.loop-step._step + 1)) c.args.arrow c.args.cells.now) (sym c.stepped-here.ensures)
+    ∙ ap (stepped_times (c.args.count - (c.loop-step._step + 1)) c.args.arrow c.args.cells.now)
+    (sym c.stepped-here.ensures)
 
 pub returns : goal.returns
 returns c =
     let all : c.args.count - c.loop-step._step ≡ 0 = omega (arith, c.loop-step-test.false) in
-    sym (c.loop-step.invariant ∙ no_more (c.args.count - c.loop-step._step) c.args.arrow c.args.cells.now c.loop-step.here all)
+    sym (c.loop-step.invariant
+    ∙ no_more (c.args.count - c.loop-step._step) c.args.arrow c.args.cells.now c.loop-step.here all)

@@ -6,5 +6,6 @@ pub returns : goal.returns
 returns c = if_ok c.settled.result
     (λ end settles. writes_acted c.args.writes.now c.args.scene.now
     c.args.sheet.now c.write-answer.new.self c.settled.new.sheet c.args.tally.now.count c.settled.new.tally.count
-    c.write-answer.result end c.write-answer.ensures.answer c.write-answer.ensures.did c.write-answer.ensures.err settles)
+    c.write-answer.result end c.write-answer.ensures.answer c.write-answer.ensures.did c.write-answer.ensures.err
+    settles)
     c.settled.ensures

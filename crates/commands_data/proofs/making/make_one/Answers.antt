@@ -19,5 +19,6 @@ returns-in-Ok c =
     let same_sheet = sym was.0.sheet in
     let same_tally = sym was.0.tally in
     on_ok c.write_out.result
-    (table_written inputs scenarios scene c.args.sheet.now bench.sheet.now _ c.write_out.new.sheet c.in-Ok.writes c.args.tally.now.count bench.tally.now _ c.write_out.new.tally.count was.0.did was.1
+    (table_written inputs scenarios scene c.args.sheet.now bench.sheet.now _ c.write_out.new.sheet c.in-Ok.writes
+    c.args.tally.now.count bench.tally.now _ c.write_out.new.tally.count was.0.did was.1
     (c.sheet-1.given.1 same_sheet) (c.tally-1.given.1 same_tally)) c.write_out.ensures.did

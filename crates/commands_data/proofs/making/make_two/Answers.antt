@@ -14,7 +14,8 @@ use Rattle.commands_data.proofs.making.make_two.Goals as goal
 pub table_two-requires-clause-old : goal.table_two-requires-clause-old
 table_two-requires-clause-old c =
     let held = content_at c.args.sheet.now.grid in
-    sym (ap (λ (w : List Write). contents_behind w held) c.in_ok-kept.ensures ∙ held_behind (c.args.down ∷ c.args.across ∷ []) held)
+    sym (ap (λ (w : List Write). contents_behind w held) c.in_ok-kept.ensures
+    ∙ held_behind (c.args.down ∷ c.args.across ∷ []) held)
 
 pub returns-in-Ok : goal.returns-in-Ok
 returns-in-Ok c =
@@ -27,5 +28,6 @@ returns-in-Ok c =
     let same_sheet = sym was.0.sheet in
     let same_tally = sym was.0.tally in
     on_ok c.write_out.result
-    (table_written inputs scenarios scene c.args.sheet.now bench.sheet.now _ c.write_out.new.sheet c.in-Ok.writes c.args.tally.now.count bench.tally.now _ c.write_out.new.tally.count was.0.did was.1
+    (table_written inputs scenarios scene c.args.sheet.now bench.sheet.now _ c.write_out.new.sheet c.in-Ok.writes
+    c.args.tally.now.count bench.tally.now _ c.write_out.new.tally.count was.0.did was.1
     (c.sheet-1.given.1 same_sheet) (c.tally-1.given.1 same_tally)) c.write_out.ensures.did

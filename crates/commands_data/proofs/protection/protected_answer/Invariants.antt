@@ -10,6 +10,7 @@ use Rattle.commands_data.proofs.protection.protected_answer.Given as goal
 
 abbrev pub invariant-loop-place : goal.invariant-loop-place
 invariant-loop-place l = let s = of_worksheet l.sheet in
-    (first_protected (flat_map (λ row. map (at row) (columns_behind l.span)) (left (l.span.first.row + 1) (l.span.last.row - l.span.first.row) l.place)) s
+    (first_protected (flat_map (λ row. map (at row) (columns_behind l.span))
+    (left (l.span.first.row + 1) (l.span.last.row - l.span.first.row) l.place)) s
     ≡ first_protected (answer_cells l.span) s)
     × (l.count ≡ l.span.last.row - l.span.first.row)

@@ -11,7 +11,8 @@ returns-in-Some c =
     let sheet = c.args.sheet.now in
     let answers = answer_cells c.args.span in
     sym (found_then (is_protected sheet.settings sheet.grid) c.args.inputs.now answers
-    ∙ ap (λ o. or_then o (acting.first_protected answers (of_worksheet sheet))) (sym c.protected_among.ensures ∙ c.in-Some.is))
+    ∙ ap (λ o. or_then o (acting.first_protected answers (of_worksheet sheet)))
+    (sym c.protected_among.ensures ∙ c.in-Some.is))
 
 pub returns-in-None : goal.returns-in-None
 returns-in-None c =
@@ -19,4 +20,5 @@ returns-in-None c =
     let answers = answer_cells c.args.span in
     c.protected_answer.ensures
     ∙ sym (found_then (is_protected sheet.settings sheet.grid) c.args.inputs.now answers
-    ∙ ap (λ o. or_then o (acting.first_protected answers (of_worksheet sheet))) (sym c.protected_among.ensures ∙ c.in-None.is))
+    ∙ ap (λ o. or_then o (acting.first_protected answers (of_worksheet sheet)))
+    (sym c.protected_among.ensures ∙ c.in-None.is))

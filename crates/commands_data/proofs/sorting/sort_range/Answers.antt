@@ -13,5 +13,6 @@ returns c =
     let rows : List Write = rows_sorted (sight_in (of_worksheet c.args.sheet.now)) c.args.range c.args.keys.now in
     if_ok c.make_block.result
     (λ end acts. acts (Ok rows)
-    (always_answered fault.Memory rows c.sort_rows-answer.result c.sort_rows-answer.ensures.rows c.sort_rows-answer.ensures.fault))
+    (always_answered fault.Memory rows c.sort_rows-answer.result c.sort_rows-answer.ensures.rows
+    c.sort_rows-answer.ensures.fault))
     c.make_block.ensures

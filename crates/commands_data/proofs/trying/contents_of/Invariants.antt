@@ -4,4 +4,6 @@ use Rattle.work_sheet.specs.Seen.{of_worksheet}
 use Rattle.commands_data.proofs.trying.contents_of.Given as goal
 
 abbrev pub invariant-loop-cell : goal.invariant-loop-cell
-invariant-loop-cell l = l.writes ++ contents_of (drop l.cell-index l.cells) (of_worksheet l.sheet) ≡ contents_of l.cells (of_worksheet l.sheet)
+invariant-loop-cell l =
+    l.writes ++ contents_of (drop l.cell-index l.cells) (of_worksheet l.sheet)
+    ≡ contents_of l.cells (of_worksheet l.sheet)

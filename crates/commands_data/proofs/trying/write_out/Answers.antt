@@ -16,15 +16,20 @@ returns-in-Ok-clause-did c =
     let m = c.args.tally.now.count in
     on_ok c.calc.result
     (did_both (all_written c.args.writes.now (of_worksheet c.args.sheet.now)) (recalculated mean c.args.scene.now)
-    c.args.sheet.now c.write.new.self c.calc.new.self m m c.calc.new.tally.count (c.in-Ok.ensures.did m)) c.calc.ensures.did
+    c.args.sheet.now c.write.new.self c.calc.new.self m m c.calc.new.tally.count (c.in-Ok.ensures.did m))
+    c.calc.ensures.did
 
 pub returns-in-Ok-clause-written : goal.returns-in-Ok-clause-written
 returns-in-Ok-clause-written c =
-    always c.calc.result (written_holds c.args.writes.now c.args.sheet.now c.write.new.self c.calc.new.self c.in-Ok.ensures.did c.calc.ensures.contents)
+    always c.calc.result (written_holds c.args.writes.now c.args.sheet.now c.write.new.self c.calc.new.self
+    c.in-Ok.ensures.did c.calc.ensures.contents)
 
 pub returns-in-Ok-clause-same : goal.returns-in-Ok-clause-same
 returns-in-Ok-clause-same c = λ keep.
     let settings : c.calc.new.self.settings ≡ c.write.new.self.settings =
-    settings_kept c.calc.result c.args.scene.now c.write.new.self c.calc.new.self c.args.tally.now.count c.calc.new.tally.count c.calc.ensures.did c.calc.ensures.err in
-    recalculated_same (has same_place (written_cells c.args.writes.now)) c.args.sheet.now c.write.new.self c.calc.new.self
-    (written_same c.args.writes.now c.args.sheet.now c.write.new.self c.in-Ok.ensures.did keep) c.calc.ensures.contents settings
+    settings_kept c.calc.result c.args.scene.now c.write.new.self c.calc.new.self c.args.tally.now.count
+    c.calc.new.tally.count c.calc.ensures.did c.calc.ensures.err in
+    recalculated_same (has same_place (written_cells c.args.writes.now)) c.args.sheet.now c.write.new.self
+    c.calc.new.self
+    (written_same c.args.writes.now c.args.sheet.now c.write.new.self c.in-Ok.ensures.did keep) c.calc.ensures.contents
+    settings

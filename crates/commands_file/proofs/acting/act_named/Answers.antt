@@ -12,7 +12,8 @@ pub returns-in-Save-clause-acted : goal.returns-in-Save-clause-acted
 returns-in-Save-clause-acted g c =
     let n = c.args.tally.now.count in
     subst (λ (a : FileAction). IfOk c.save.result (λ (end : CommandEnd). HasActedOver
-    (act_named a c.args.answers.now c.args.name c.args.scene.now (of_desk c.args.desk.now)) end c.args.desk.now c.save.new.desk n n
+    (act_named a c.args.answers.now c.args.name c.args.scene.now (of_desk c.args.desk.now)) end c.args.desk.now
+    c.save.new.desk n n
     (shelf_view (g.S.Shelf.holds c.args.shelf.now) (g.S.Shelf.faults c.args.shelf.now))
     (shelf_view (g.S.Shelf.holds c.save.new.shelf) (g.S.Shelf.faults c.save.new.shelf)))) (sym c.in-Save.is)
     (if_ok c.save.result (λ end acted. acted n) c.save.ensures.acted)
@@ -24,7 +25,8 @@ returns-in-XtractFormulas-clause-acted g c =
     subst (λ (a : FileAction). IfOk c.extract.result (λ (end : CommandEnd). HasActedOver
     (act_named a c.args.answers.now c.args.name c.args.scene.now (of_desk v)) end v v n n
     (shelf_view (g.S.Shelf.holds c.args.shelf.now) (g.S.Shelf.faults c.args.shelf.now))
-    (shelf_view (g.S.Shelf.holds c.extract.new.shelf) (g.S.Shelf.faults c.extract.new.shelf)))) (sym c.in-XtractFormulas.is)
+    (shelf_view (g.S.Shelf.holds c.extract.new.shelf) (g.S.Shelf.faults c.extract.new.shelf))))
+    (sym c.in-XtractFormulas.is)
     (if_ok c.extract.result (λ end acted. acted n) c.extract.ensures.acted)
 
 pub returns-in-XtractValues-clause-acted : goal.returns-in-XtractValues-clause-acted

@@ -16,11 +16,13 @@ returns-in-Sheet-clause-acted g c =
     let kind = c.args.kind in
     let scene = c.args.scene.now in
     if_ok c.combine.result (λ end acted.
-    made_over (λ saved. on_desk (combined kind saved.store scene) (of_desk v)) c.args.name.now v _ _ c.in-Sheet.saved end _ _ _
+    made_over (λ saved. on_desk (combined kind saved.store scene) (of_desk v)) c.args.name.now v _ _ c.in-Sheet.saved
+    end _ _ _
     (acted_on (combined kind c.in-Sheet.saved.store scene) end v c.combine.new.sheet _ _ acted)
     (subst (λ (l : Loaded). HasCalled (gets c.args.name.now) loaded_as l
     (shelf_view (g.S.Shelf.holds c.args.shelf.now) (g.S.Shelf.faults c.args.shelf.now))
-    (shelf_view (g.S.Shelf.holds c.load.new.shelf) (g.S.Shelf.faults c.load.new.shelf))) c.in-Sheet.is c.in_ok-loaded.ensures.loaded)) c.combine.ensures
+    (shelf_view (g.S.Shelf.holds c.load.new.shelf) (g.S.Shelf.faults c.load.new.shelf))) c.in-Sheet.is
+    c.in_ok-loaded.ensures.loaded)) c.combine.ensures
 
 pub returns-in-Sheet-clause-memory : goal.returns-in-Sheet-clause-memory
 returns-in-Sheet-clause-memory g c = on_err c.combine.result (called_broken _ _ _ _ _ c.in_ok-loaded.ensures.loaded)
@@ -28,7 +30,9 @@ returns-in-Sheet-clause-memory g c = on_err c.combine.result (called_broken _ _ 
 pub returns-in-Refused-clause-acted : goal.returns-in-Refused-clause-acted
 returns-in-Refused-clause-acted g c =
     let v = c.args.desk.now in
-    refused_over (λ saved. on_desk (combined c.args.kind saved.store c.args.scene.now) (of_desk v)) c.args.name.now v _ _ c.in-Refused.error _
+    refused_over (λ saved. on_desk (combined c.args.kind saved.store c.args.scene.now) (of_desk v)) c.args.name.now
+    v _ _ c.in-Refused.error _
     (subst (λ (l : Loaded). HasCalled (gets c.args.name.now) loaded_as l
     (shelf_view (g.S.Shelf.holds c.args.shelf.now) (g.S.Shelf.faults c.args.shelf.now))
-    (shelf_view (g.S.Shelf.holds c.load.new.shelf) (g.S.Shelf.faults c.load.new.shelf))) c.in-Refused.is c.in_ok-loaded.ensures.loaded)
+    (shelf_view (g.S.Shelf.holds c.load.new.shelf) (g.S.Shelf.faults c.load.new.shelf))) c.in-Refused.is
+    c.in_ok-loaded.ensures.loaded)

@@ -13,7 +13,8 @@ returns-in_err-saved-clause-memory g c = on_err c.from_residual.result (none_bro
 
 pub returns-clause-placed : goal.returns-clause-placed
 returns-clause-placed g c =
-    subst (λ (x : SavedSheet). IfOk c.put_sheet.result (λ (placed : Placed). IsPlaced c.args.name.now (file_bytes x) placed
+    subst (λ (x : SavedSheet). IfOk c.put_sheet.result
+    (λ (placed : Placed). IsPlaced c.args.name.now (file_bytes x) placed
     (shelf_view (g.S.Shelf.holds c.args.shelf.now) (g.S.Shelf.faults c.args.shelf.now))
     (shelf_view (g.S.Shelf.holds c.put_sheet.new.shelf) (g.S.Shelf.faults c.put_sheet.new.shelf))))
     c.in_ok-saved.ensures c.put_sheet.ensures.placed

@@ -14,20 +14,25 @@ pub returns-in_ok-replace-in-Sheet-clause-acted : goal.returns-in_ok-replace-in-
 returns-in_ok-replace-in-Sheet-clause-acted g c =
     let v = c.args.desk.now in
     let scene = c.args.scene.now in
-    made_over (λ saved. finished (retrieved_sheet saved scene (of_worksheet v.sheet)) (of_desk v)) c.args.name.now v _ _ c.in-Sheet.saved Finished _ _ _
-    (done_on (retrieved_sheet c.in-Sheet.saved scene (of_worksheet v.sheet)) v c.replace.new.sheet _ _ c.in_ok-replace-in-Sheet.ensures)
+    made_over (λ saved. finished (retrieved_sheet saved scene (of_worksheet v.sheet)) (of_desk v)) c.args.name.now
+    v _ _ c.in-Sheet.saved Finished _ _ _
+    (done_on (retrieved_sheet c.in-Sheet.saved scene (of_worksheet v.sheet)) v c.replace.new.sheet _ _
+    c.in_ok-replace-in-Sheet.ensures)
     (subst (λ (l : Loaded). HasCalled (gets c.args.name.now) loaded_as l
     (shelf_view (g.S.Shelf.holds c.args.shelf.now) (g.S.Shelf.faults c.args.shelf.now))
-    (shelf_view (g.S.Shelf.holds c.load.new.shelf) (g.S.Shelf.faults c.load.new.shelf))) c.in-Sheet.is c.in_ok-loaded.ensures.loaded)
+    (shelf_view (g.S.Shelf.holds c.load.new.shelf) (g.S.Shelf.faults c.load.new.shelf))) c.in-Sheet.is
+    c.in_ok-loaded.ensures.loaded)
 
 pub returns-in-Refused-clause-acted : goal.returns-in-Refused-clause-acted
 returns-in-Refused-clause-acted g c =
     let v = c.args.desk.now in
     let scene = c.args.scene.now in
-    refused_over (λ saved. finished (retrieved_sheet saved scene (of_worksheet v.sheet)) (of_desk v)) c.args.name.now v _ _ c.in-Refused.error _
+    refused_over (λ saved. finished (retrieved_sheet saved scene (of_worksheet v.sheet)) (of_desk v)) c.args.name.now
+    v _ _ c.in-Refused.error _
     (subst (λ (l : Loaded). HasCalled (gets c.args.name.now) loaded_as l
     (shelf_view (g.S.Shelf.holds c.args.shelf.now) (g.S.Shelf.faults c.args.shelf.now))
-    (shelf_view (g.S.Shelf.holds c.load.new.shelf) (g.S.Shelf.faults c.load.new.shelf))) c.in-Refused.is c.in_ok-loaded.ensures.loaded)
+    (shelf_view (g.S.Shelf.holds c.load.new.shelf) (g.S.Shelf.faults c.load.new.shelf))) c.in-Refused.is
+    c.in_ok-loaded.ensures.loaded)
 
 pub returns-in_err-replace-in-Sheet-clause-memory : goal.returns-in_err-replace-in-Sheet-clause-memory
 returns-in_err-replace-in-Sheet-clause-memory g c =

@@ -23,9 +23,14 @@ returns-in-Written-clause-acted g c = λ n.
     let now = shelf_view (g.S.Shelf.holds c.put_sheet.new.shelf) (g.S.Shelf.faults c.put_sheet.new.shelf) in
     let bytes = file_bytes (saved_of (of_worksheet v.sheet)) in
     let is : c.in_ok-saved.saved ≡ saved_of (of_worksheet v.sheet) =
-    λ i. record { store = c.in_ok-saved.ensures.grid i; names = c.in_ok-saved.ensures.names i; settings = c.in_ok-saved.ensures.settings i } in
+    λ i. record {
+      store = c.in_ok-saved.ensures.grid i;
+      names = c.in_ok-saved.ensures.names i;
+      settings = c.in_ok-saved.ensures.settings i;
+    } in
     let placed = subst (λ (p : Placed). IsPlaced name bytes p before now) c.in-Written.is
-    (subst (λ (x : SavedSheet). IsPlaced name (file_bytes x) c.in_ok-placed.placed before now) is c.in_ok-placed.ensures.placed) in
+    (subst (λ (x : SavedSheet). IsPlaced name (file_bytes x) c.in_ok-placed.placed before now) is
+    c.in_ok-placed.ensures.placed) in
     saved_so name bytes v n before now (record v { file_name = Some name })
     (record { end = refl; desk = refl; work = refl }) placed
 
@@ -37,9 +42,14 @@ returns-in-Failed-clause-acted g c = λ n.
     let now = shelf_view (g.S.Shelf.holds c.put_sheet.new.shelf) (g.S.Shelf.faults c.put_sheet.new.shelf) in
     let bytes = file_bytes (saved_of (of_worksheet v.sheet)) in
     let is : c.in_ok-saved.saved ≡ saved_of (of_worksheet v.sheet) =
-    λ i. record { store = c.in_ok-saved.ensures.grid i; names = c.in_ok-saved.ensures.names i; settings = c.in_ok-saved.ensures.settings i } in
+    λ i. record {
+      store = c.in_ok-saved.ensures.grid i;
+      names = c.in_ok-saved.ensures.names i;
+      settings = c.in_ok-saved.ensures.settings i;
+    } in
     let placed = subst (λ (p : Placed). IsPlaced name bytes p before now) c.in-Failed.is
-    (subst (λ (x : SavedSheet). IsPlaced name (file_bytes x) c.in_ok-placed.placed before now) is c.in_ok-placed.ensures.placed) in
+    (subst (λ (x : SavedSheet). IsPlaced name (file_bytes x) c.in_ok-placed.placed before now) is
+    c.in_ok-placed.ensures.placed) in
     unsaved_so name bytes v n before now placed
 
 pub returns-clause-acted : goal.returns-clause-acted
@@ -50,7 +60,12 @@ returns-clause-acted g c = λ n.
     let now = shelf_view (g.S.Shelf.holds c.put_sheet.new.shelf) (g.S.Shelf.faults c.put_sheet.new.shelf) in
     let bytes = file_bytes (saved_of (of_worksheet v.sheet)) in
     let is : c.in_ok-saved.saved ≡ saved_of (of_worksheet v.sheet) =
-    λ i. record { store = c.in_ok-saved.ensures.grid i; names = c.in_ok-saved.ensures.names i; settings = c.in_ok-saved.ensures.settings i } in
+    λ i. record {
+      store = c.in_ok-saved.ensures.grid i;
+      names = c.in_ok-saved.ensures.names i;
+      settings = c.in_ok-saved.ensures.settings i;
+    } in
     let placed = subst (λ (p : Placed). IsPlaced name bytes p before now) c.in-TooLarge.is
-    (subst (λ (x : SavedSheet). IsPlaced name (file_bytes x) c.in_ok-placed.placed before now) is c.in_ok-placed.ensures.placed) in
+    (subst (λ (x : SavedSheet). IsPlaced name (file_bytes x) c.in_ok-placed.placed before now) is
+    c.in_ok-placed.ensures.placed) in
     large_over name bytes v n before now (saved_as name (of_desk v)) placed

@@ -7,4 +7,9 @@ returns-in-Err-Memory-clause-memory g c =
     removed_broken c.args.name.now _ _ _ _ _ c.in-Err-Memory.ensures.held c.in-Err-Memory.ensures.cause
 
 pub returns-in-Ok-clause-removed : goal.returns-in-Ok-clause-removed
-returns-in-Ok-clause-removed g c = record { reply = there c.in-Ok.there; came_so = c.end_of_remove.ensures; answered = record { told = c.in-Ok.ensures.held; faults = c.in-Ok.ensures.cause } }
+returns-in-Ok-clause-removed g c =
+    record {
+      reply = there c.in-Ok.there;
+      came_so = c.end_of_remove.ensures;
+      answered = record { told = c.in-Ok.ensures.held; faults = c.in-Ok.ensures.cause };
+    }

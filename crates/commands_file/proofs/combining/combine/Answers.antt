@@ -19,9 +19,11 @@ returns-then-one_leaves c =
     let is : c.one_leaves.result ≡ true = search rules in
     let v = c.args.sheet.now in
     let n = c.args.tally.now.count in
-    subst (λ (x : Extent). HasActed (combined kind file c.args.scene.now (of_worksheet v)) (Refused (error.OutOfSheet x)) v v n n) (sym c.used_span.ensures)
+    subst (λ (x : Extent). HasActed (combined kind file c.args.scene.now (of_worksheet v))
+    (Refused (error.OutOfSheet x)) v v n n) (sym c.used_span.ensures)
     (leaving_acts kind file c.args.scene.now v n
-    (sym is ∙ c.one_leaves.ensures ∙ ap (λ (x : Place). list_any (leaves_sheet kind x) (map.entries file.cells)) c.pointer_of-pointer.ensures))
+    (sym is ∙ c.one_leaves.ensures
+    ∙ ap (λ (x : Place). list_any (leaves_sheet kind x) (map.entries file.cells)) c.pointer_of-pointer.ensures))
 
 pub returns : goal.returns
 returns c =
@@ -29,5 +31,6 @@ returns c =
     let kind = c.args.kind in
     let is : c.one_leaves.result ≡ false = search rules in
     if_ok c.written_in.result (λ end acted. written_acts kind file c.args.scene.now c.args.sheet.now _ _ _ end
-    (sym is ∙ c.one_leaves.ensures ∙ ap (λ (x : Place). list_any (leaves_sheet kind x) (map.entries file.cells)) c.pointer_of-pointer.ensures)
+    (sym is ∙ c.one_leaves.ensures
+    ∙ ap (λ (x : Place). list_any (leaves_sheet kind x) (map.entries file.cells)) c.pointer_of-pointer.ensures)
     acted) c.written_in.ensures

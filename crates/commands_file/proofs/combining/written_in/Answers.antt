@@ -20,15 +20,19 @@ returns c =
     let file : Grid = c.args.file.now in
     let writes : List Write = c.in_ok-writes.writes in
     let is : writes ≡ combined_writes c.args.kind file s.grid s.settings.pointer =
-    c.in_ok-writes.ensures ∙ ap (λ (g : Grid). combined_writes c.args.kind file g c.pointer_of-pointer.result) c.cells.ensures
+    c.in_ok-writes.ensures ∙ ap (λ (g : Grid). combined_writes c.args.kind file g c.pointer_of-pointer.result)
+    c.cells.ensures
     ∙ ap (λ (x : Place). combined_writes c.args.kind file s.grid x) c.pointer_of-pointer.ensures in
     let ascends : Ascends (written_cells writes) =
-    subst (λ (l : List Write). Ascends (written_cells l)) (sym is) (combined_ascend c.args.kind s.grid s.settings.pointer file) in
+    subst (λ (l : List Write). Ascends (written_cells l)) (sym is)
+    (combined_ascend c.args.kind s.grid s.settings.pointer file) in
     if_ok c.settled.result
     (λ end settles. subst
     (λ (l : List Write). HasActed (made l c.args.scene.now s) end
     c.args.sheet.now c.settled.new.sheet c.args.tally.now.count c.settled.new.tally.count) is
-    (edit_acted (written_cells writes) (has same_place (written_cells writes)) ascends (λ x. refl) (all_written writes) c.args.scene.now
+    (edit_acted (written_cells writes) (has same_place (written_cells writes)) ascends (λ x. refl) (all_written writes)
+    c.args.scene.now
     c.args.sheet.now c.write-answer.new.self c.settled.new.sheet c.args.tally.now.count c.settled.new.tally.count
-    c.write-answer.result end c.write-answer.ensures.answer c.write-answer.ensures.did c.write-answer.ensures.err settles))
+    c.write-answer.result end c.write-answer.ensures.answer c.write-answer.ensures.did c.write-answer.ensures.err
+    settles))
     c.settled.ensures

@@ -18,7 +18,8 @@ returns-in-Ok-Some-clause-loaded g c =
         told = (
           c.in-Ok-Some.bytes,
           subst (λ (b : List ℕ). IsFile b h.0) c.bytes-in-Ok-Some.ensures h.1,
-          subst (λ (o : Option (List ℕ)). HasRead (file_in c.args.name.now) c.args.name.now (g.S.Shelf.holds c.args.shelf.now)
+          subst (λ (o : Option (List ℕ)). HasRead (file_in c.args.name.now) c.args.name.now
+              (g.S.Shelf.holds c.args.shelf.now)
               (g.S.Shelf.holds c.get.new.self) (Ok o)) some c.in-Ok-Some.ensures.held,
         );
         faults = c.in-Ok-Some.ensures.cause;
@@ -27,7 +28,8 @@ returns-in-Ok-Some-clause-loaded g c =
 
 pub returns-in-Ok-Some-clause-memory : goal.returns-in-Ok-Some-clause-memory
 returns-in-Ok-Some-clause-memory g c = on_err c.loaded_of.result
-    (read_broken (file_in c.args.name.now) c.args.name.now _ _ _ _ _ c.in-Ok-Some.ensures.held c.in-Ok-Some.ensures.cause)
+    (read_broken (file_in c.args.name.now) c.args.name.now _ _ _ _ _ c.in-Ok-Some.ensures.held
+    c.in-Ok-Some.ensures.cause)
 
 pub returns-in-Ok-None-clause-loaded : goal.returns-in-Ok-None-clause-loaded
 returns-in-Ok-None-clause-loaded g c =
@@ -36,7 +38,9 @@ returns-in-Ok-None-clause-loaded g c =
       reply = loaded None;
       came_so = refl;
       answered = record {
-        told = subst (λ (o : Option (List ℕ)). HasRead (file_in c.args.name.now) c.args.name.now (g.S.Shelf.holds c.args.shelf.now)
+        told =
+            subst (λ (o : Option (List ℕ)). HasRead (file_in c.args.name.now) c.args.name.now
+            (g.S.Shelf.holds c.args.shelf.now)
             (g.S.Shelf.holds c.get.new.self) (Ok o)) none c.in-Ok-None.ensures.held;
         faults = c.in-Ok-None.ensures.cause;
       };
@@ -44,4 +48,5 @@ returns-in-Ok-None-clause-loaded g c =
 
 pub returns-in-Err-Memory-clause-memory : goal.returns-in-Err-Memory-clause-memory
 returns-in-Err-Memory-clause-memory g c =
-    read_broken (file_in c.args.name.now) c.args.name.now _ _ _ _ _ c.in-Err-Memory.ensures.held c.in-Err-Memory.ensures.cause
+    read_broken (file_in c.args.name.now) c.args.name.now _ _ _ _ _ c.in-Err-Memory.ensures.held
+    c.in-Err-Memory.ensures.cause

@@ -25,4 +25,5 @@ returns-in-Ok-clause-looked g c =
 
 pub returns-in-Err-Memory-clause-memory : goal.returns-in-Err-Memory-clause-memory
 returns-in-Err-Memory-clause-memory g c =
-    read_broken (has_file c.in-Some.name) c.in-Some.name _ _ _ _ _ c.in-Err-Memory.ensures.held c.in-Err-Memory.ensures.cause
+    read_broken (has_file c.in-Some.name) c.in-Some.name _ _ _ _ _ c.in-Err-Memory.ensures.held
+    c.in-Err-Memory.ensures.cause

@@ -20,7 +20,8 @@ returns-in-Header-clause-memory g c = on_err c.keep_text.result (none_broken _ _
 
 pub returns-in-Footer-clause-acted : goal.returns-in-Footer-clause-acted
 returns-in-Footer-clause-acted g c =
-    rw c.in-Footer.is (if_ok c.keep_text-in-Footer.result (λ end acted n. alone _ _ _ _ _ _ _ (acted n)) c.keep_text-in-Footer.ensures)
+    rw c.in-Footer.is (if_ok c.keep_text-in-Footer.result (λ end acted n. alone _ _ _ _ _ _ _ (acted n))
+    c.keep_text-in-Footer.ensures)
 
 pub returns-in-Footer-clause-memory : goal.returns-in-Footer-clause-memory
 returns-in-Footer-clause-memory g c = on_err c.keep_text-in-Footer.result (none_broken _ _)

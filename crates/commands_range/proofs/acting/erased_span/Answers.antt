@@ -12,8 +12,12 @@ returns c =
     if_ok c.settled.result
     (λ end settles. record {
       same = record { sheet = refl; scene = refl; tally = refl };
-      acted = edit_acted (cells_of span) (is_within span) (span_ascends span) (has_cells span) (erased span) c.args.work.now.scene.now
-          c.args.work.now.sheet.now c.erase-answer.new.self c.settled.new.sheet c.args.work.now.tally.now.count c.settled.new.tally.count
-          c.erase-answer.result end c.erase-answer.ensures.answer c.erase-answer.ensures.did c.erase-answer.ensures.err settles;
+      acted =
+          edit_acted (cells_of span) (is_within span) (span_ascends span) (has_cells span) (erased span)
+          c.args.work.now.scene.now
+          c.args.work.now.sheet.now c.erase-answer.new.self c.settled.new.sheet c.args.work.now.tally.now.count
+          c.settled.new.tally.count
+          c.erase-answer.result end c.erase-answer.ensures.answer c.erase-answer.ensures.did c.erase-answer.ensures.err
+          settles;
     })
     c.settled.ensures

@@ -15,9 +15,11 @@ use Rattle.commands_range.proofs.formats.formatted.Goals as goal
 pub returns-in_ok-set_format-in-Ok : goal.returns-in_ok-set_format-in-Ok
 returns-in_ok-set_format-in-Ok c = λ n.
     let s : Sheet = of_worksheet c.args.sheet.now in
-    let did = subst (λ (code : ℕ). Did (reformatted c.in-Ok.span (with_code code) s) c.args.sheet.now c.set_format.new.self n n)
+    let did =
+    subst (λ (code : ℕ). Did (reformatted c.in-Ok.span (with_code code) s) c.args.sheet.now c.set_format.new.self n n)
     c.code.ensures.code (c.in_ok-set_format-in-Ok.ensures.did n) in
     let names = ap (λ m. span_at m c.args.answers.now c.args.place) c.names.ensures in
-    subst (λ (r : Result Extent CommandError). HasActed (given r (λ span. finished (reformatted span (with_code (code_of c.args.format)) s)) s)
+    subst (λ (r : Result Extent CommandError). HasActed
+    (given r (λ span. finished (reformatted span (with_code (code_of c.args.format)) s)) s)
     Finished c.args.sheet.now c.set_format.new.self n n)
     (sym c.in-Ok.is ∙ c.span_at.ensures ∙ names) (record { end = refl; did = did })

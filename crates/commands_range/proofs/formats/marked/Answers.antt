@@ -14,6 +14,8 @@ pub returns-in_ok-set_protected-in-Ok : goal.returns-in_ok-set_protected-in-Ok
 returns-in_ok-set_protected-in-Ok c = λ n.
     let s : Sheet = of_worksheet c.args.sheet.now in
     let names = ap (λ m. span_at m c.args.answers.now 0) c.names.ensures in
-    subst (λ (r : Result Extent CommandError). HasActed (given r (λ span. finished (reformatted span (with_mark c.args.protected) s)) s)
+    subst (λ (r : Result Extent CommandError). HasActed
+    (given r (λ span. finished (reformatted span (with_mark c.args.protected) s)) s)
     Finished c.args.sheet.now c.set_protected.new.self n n)
-    (sym c.in-Ok.is ∙ c.span_at.ensures ∙ names) (record { end = refl; did = c.in_ok-set_protected-in-Ok.ensures.did n })
+    (sym c.in-Ok.is ∙ c.span_at.ensures ∙ names)
+    (record { end = refl; did = c.in_ok-set_protected-in-Ok.ensures.did n })

@@ -19,7 +19,8 @@ returns c =
     let grid : Grid = c.args.work.now.sheet.now.grid in
     let writes : List Write = c.in_ok-writes.writes in
     let s : Sheet = of_worksheet c.args.work.now.sheet.now in
-    let is : writes ≡ relabelled c.args.prefix c.args.span grid = c.in_ok-writes.ensures ∙ ap (relabelled c.args.prefix c.args.span) c.cells.ensures in
+    let is : writes ≡ relabelled c.args.prefix c.args.span grid =
+    c.in_ok-writes.ensures ∙ ap (relabelled c.args.prefix c.args.span) c.cells.ensures in
     let ascends : Ascends (written_cells writes) =
     subst (λ (l : List Write). Ascends (written_cells l)) (sym is) (relabelled_ascend c.args.prefix c.args.span grid) in
     if_ok c.settled.result
@@ -28,8 +29,11 @@ returns c =
       acted = subst
           (λ (l : List Write). HasActed (written (written_cells l) (all_written l s) c.args.work.now.scene.now s) end
           c.args.work.now.sheet.now c.settled.new.sheet c.args.work.now.tally.now.count c.settled.new.tally.count) is
-          (edit_acted (written_cells writes) (has same_place (written_cells writes)) ascends (λ x. refl) (all_written writes) c.args.work.now.scene.now
-          c.args.work.now.sheet.now c.write-answer.new.self c.settled.new.sheet c.args.work.now.tally.now.count c.settled.new.tally.count
-          c.write-answer.result end c.write-answer.ensures.answer c.write-answer.ensures.did c.write-answer.ensures.err settles);
+          (edit_acted (written_cells writes) (has same_place (written_cells writes)) ascends (λ x. refl)
+          (all_written writes) c.args.work.now.scene.now
+          c.args.work.now.sheet.now c.write-answer.new.self c.settled.new.sheet c.args.work.now.tally.now.count
+          c.settled.new.tally.count
+          c.write-answer.result end c.write-answer.ensures.answer c.write-answer.ensures.did c.write-answer.ensures.err
+          settles);
     })
     c.settled.ensures

@@ -5,4 +5,5 @@ use Rattle.commands_range.proofs.labels.push_all_relabelled.Given as goal
 
 abbrev pub invariant-loop-cell : goal.invariant-loop-cell
 invariant-loop-cell l =
-    l.writes ≡ l.fn.writes ++ flat_map (λ c. relabelled_cell l.prefix c (map.get l.store.cells c)) (take l.cell-index l.cells)
+    l.writes ≡ l.fn.writes ++ flat_map (λ c. relabelled_cell l.prefix c (map.get l.store.cells c))
+    (take l.cell-index l.cells)

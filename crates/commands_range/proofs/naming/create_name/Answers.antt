@@ -12,9 +12,11 @@ pub returns-in-None : goal.returns-in-None
 returns-in-None c =
     let s : Sheet = of_worksheet c.args.sheet.now in
     let name : List ℕ = line_at c.args.answers.now 0 in
-    let is : fault_of name ≡ None = ap fault_of (sym c.line_at-name.ensures) ∙ sym c.fault_of.ensures.fault ∙ c.in-None.is in
+    let is : fault_of name ≡ None =
+    ap fault_of (sym c.line_at-name.ensures) ∙ sym c.fault_of.ensures.fault ∙ c.in-None.is in
     subst (λ (o : Option NameFault). IfOk c.name_span.result (λ end. (n : ℕ) →
-    HasActed (unless_faulty o (span_named name c.args.answers.now s) s) end c.args.sheet.now c.name_span.new.sheet n n)) (sym is)
+    HasActed (unless_faulty o (span_named name c.args.answers.now s) s) end c.args.sheet.now c.name_span.new.sheet n
+    n)) (sym is)
     (subst (λ (l : List ℕ). IfOk c.name_span.result (λ end. (n : ℕ) →
     HasActed (span_named l c.args.answers.now s) end c.args.sheet.now c.name_span.new.sheet n n))
     c.line_at-name.ensures c.name_span.ensures)

@@ -12,5 +12,7 @@ pub returns-in-None : goal.returns-in-None
 returns-in-None c = λ n.
     let s : Sheet = of_worksheet c.args.sheet.now in
     subst (λ (o : Option NameFault).
-    HasActed (unless_faulty o (taken_away (map.get s.names (key_of c.args.name.now)) c.args.name.now s) s) c.take_away.result
-    c.args.sheet.now c.take_away.new.sheet n n) (sym (sym c.fault_of.ensures.fault ∙ c.in-None.is)) (c.take_away.ensures n)
+    HasActed (unless_faulty o (taken_away (map.get s.names (key_of c.args.name.now)) c.args.name.now s) s)
+    c.take_away.result
+    c.args.sheet.now c.take_away.new.sheet n n) (sym (sym c.fault_of.ensures.fault ∙ c.in-None.is))
+    (c.take_away.ensures n)

@@ -13,6 +13,7 @@ pub returns-in_ok-give_name-in-Ok : goal.returns-in_ok-give_name-in-Ok
 returns-in_ok-give_name-in-Ok c = λ n.
     let s : Sheet = of_worksheet c.args.sheet.now in
     let names = ap (λ m. span_at m c.args.answers.now 1) c.names.ensures in
-    subst (λ (r : Result Extent CommandError). HasActed (given r (λ span. finished (with_name c.args.name.now span s)) s)
+    subst (λ (r : Result Extent CommandError). HasActed
+    (given r (λ span. finished (with_name c.args.name.now span s)) s)
     Finished c.args.sheet.now c.give_name.new.sheet n n)
     (sym c.in-Ok.is ∙ c.span_at.ensures ∙ names) (record { end = refl; did = c.in_ok-give_name-in-Ok.ensures n })

@@ -13,7 +13,9 @@ pub returns-in-Ok : goal.returns-in-Ok
 returns-in-Ok c = λ n.
     let s : Sheet = of_worksheet c.args.sheet.now in
     let there : map.get s.names (key_of c.args.name.now) ≡ Some c.in-Some._span =
-    sym (ap (λ (m : NameMap). map.get m (key_of c.args.name.now)) c.names.ensures) ∙ sym (c.find.ensures.short c.requires.short)
+    sym (ap (λ (m : NameMap). map.get m (key_of c.args.name.now)) c.names.ensures)
+    ∙ sym (c.find.ensures.short c.requires.short)
     ∙ c.in-Some.is in
-    subst (λ (o : Option Extent). HasActed (taken_away o c.args.name.now s) Finished c.args.sheet.now c.delete_name.new.self n n)
+    subst (λ (o : Option Extent). HasActed (taken_away o c.args.name.now s) Finished c.args.sheet.now
+    c.delete_name.new.self n n)
     (sym there) (record { end = refl; did = c.in-Ok.ensures.did n })

@@ -33,7 +33,9 @@ returns c =
           c.args.work.now.sheet.now c.settled.new.sheet c.args.work.now.tally.now.count c.settled.new.tally.count) is
           (edit_acted cells (has same_place (written_cells writes)) ascends
           (λ x. ap (λ (l : List Place). has same_place l x) (sym all)) (all_written writes) c.args.work.now.scene.now
-          c.args.work.now.sheet.now c.write-answer.new.self c.settled.new.sheet c.args.work.now.tally.now.count c.settled.new.tally.count
-          c.write-answer.result end c.write-answer.ensures.answer c.write-answer.ensures.did c.write-answer.ensures.err settles);
+          c.args.work.now.sheet.now c.write-answer.new.self c.settled.new.sheet c.args.work.now.tally.now.count
+          c.settled.new.tally.count
+          c.write-answer.result end c.write-answer.ensures.answer c.write-answer.ensures.did c.write-answer.ensures.err
+          settles);
     })
     c.settled.ensures

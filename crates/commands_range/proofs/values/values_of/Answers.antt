@@ -15,7 +15,8 @@ loop-down-preserved c =
     let sight : Sight = sight_in (of_worksheet c.args.sheet.now) in
     let f : Place → Write = value_of c.args.layout c.args.from c.args.target sight in
     let cols : ℕ = width_of c.args.target in (
-      joined f c.loop-down.writes c.push_row.new.writes c.args.target.first.row c.args.target.first.col c.loop-down.down cols
+      joined f c.loop-down.writes c.push_row.new.writes c.args.target.first.row c.args.target.first.col
+          c.loop-down.down cols
           c.loop-down.invariant.0 c.in_ok-push_row.ensures,
       c.loop-down.invariant.1,
     )

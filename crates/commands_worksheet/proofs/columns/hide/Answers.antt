@@ -9,4 +9,5 @@ returns-in-Ok c = λ n.
     (record { end = refl; did = c.hide_columns.ensures n })
 
 pub returns-in-Err : goal.returns-in-Err
-returns-in-Err c = λ n. was_refused (span_at c.args.sheet.now.names c.args.answers.now 0) c.in-Err.error _ _ n (search rules)
+returns-in-Err c =
+    λ n. was_refused (span_at c.args.sheet.now.names c.args.answers.now 0) c.in-Err.error _ _ n (search rules)

@@ -7,8 +7,10 @@ use Rattle.commands_worksheet.proofs.columns.set_width.Goals as goal
 
 pub returns-in-Ok : goal.returns-in-Ok
 returns-in-Ok c = λ n.
-    was_given (whole_at (action.Worksheet worksheet.SetWidth) c.args.answers.now 0) c.in-Ok.width _ _ _ _ n (search rules) (c.widen.ensures n)
+    was_given (whole_at (action.Worksheet worksheet.SetWidth) c.args.answers.now 0) c.in-Ok.width _ _ _ _ n
+    (search rules) (c.widen.ensures n)
 
 pub returns-in-Err : goal.returns-in-Err
 returns-in-Err c = λ n.
-    was_refused (whole_at (action.Worksheet worksheet.SetWidth) c.args.answers.now 0) c.in-Err.error _ _ n (search rules)
+    was_refused (whole_at (action.Worksheet worksheet.SetWidth) c.args.answers.now 0) c.in-Err.error _ _ n
+    (search rules)

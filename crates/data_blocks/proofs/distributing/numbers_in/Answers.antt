@@ -13,7 +13,12 @@ loop-place-preserved g c =
     let at = c.loop-place.place in
     elim c.match-get.branch [
       | in-Some+in_ok-put_number w ↦ (
-          let there = subst (λ (l : List Place). (at < length l) × (slice_get l at ≡ Some w.in-Some.cell.now)) (sym c.cells.view_is) w.in-Some.ensures.some in
-          gathered c.loop-place.numbers.items c.match-get.numbers.items values inside at w.in-Some.cell.now (seen_value w.value.result) c.loop-place.invariant (ap (λ v. v.items) w.numbers-is ∙ w.in_ok-put_number.ensures) w.value.ensures there)
-      | in_default w ↦ absurd (omega (arith, c.loop-place-test.true, c.len-place-end.ensures, w.in_default.ensures.none))
+          let there =
+          subst (λ (l : List Place). (at < length l) × (slice_get l at ≡ Some w.in-Some.cell.now))
+          (sym c.cells.view_is) w.in-Some.ensures.some in
+          gathered c.loop-place.numbers.items c.match-get.numbers.items values inside at w.in-Some.cell.now
+          (seen_value w.value.result) c.loop-place.invariant
+          (ap (λ v. v.items) w.numbers-is ∙ w.in_ok-put_number.ensures) w.value.ensures there)
+      | in_default w ↦
+          absurd (omega (arith, c.loop-place-test.true, c.len-place-end.ensures, w.in_default.ensures.none))
     ]

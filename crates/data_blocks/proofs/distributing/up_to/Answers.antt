@@ -10,6 +10,8 @@ pub returns : goal.returns
 returns c =
     let most = c.millionths-most.result in
     let numbers = c.args.numbers.now in
-    let point = IsPartitionPoint-from_clause (is_at_most most) _ _ c.partition_point.ensures.partitioned (parted most numbers c.requires) (λ a r q k. search rules) in
+    let point =
+    IsPartitionPoint-from_clause (is_at_most most) _ _ c.partition_point.ensures.partitioned
+    (parted most numbers c.requires) (λ a r q k. search rules) in
     all_before (is_at_most most) numbers c.partition_point.result c.partition_point.ensures.bound point.0 point.1
     ∙ ap (λ (b : ℤ). count_by (λ x. not (int_lt b x)) numbers) c.millionths-most.ensures.value

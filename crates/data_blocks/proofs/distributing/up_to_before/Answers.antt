@@ -7,4 +7,5 @@ use Rattle.data_blocks.proofs.distributing.up_to_before.Goals as goal
 
 pub returns-in-None : goal.returns-in-None
 returns-in-None c =
-    sym (ap (λ (o : Option ℤ). count_by (λ x. not (is_above o x)) c.args.numbers.now) c.in-None.is ∙ none_before c.args.numbers.now)
+    sym (ap (λ (o : Option ℤ). count_by (λ x. not (is_above o x)) c.args.numbers.now) c.in-None.is
+    ∙ none_before c.args.numbers.now)

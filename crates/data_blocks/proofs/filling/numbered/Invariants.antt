@@ -5,4 +5,6 @@ use Rattle.data_blocks.specs.inner.Steps.{reached}
 use Rattle.data_blocks.proofs.filling.numbered.Given as goal
 
 abbrev pub invariant-loop-cell : goal.invariant-loop-cell
-invariant-loop-cell l = l.writes ++ filled_from l.step l.stop l.next (drop l.cell-index l.cells) ≡ filled_from l.step l.stop (reached l.step l.stop (within l.fn.start)) l.cells
+invariant-loop-cell l =
+    l.writes ++ filled_from l.step l.stop l.next (drop l.cell-index l.cells)
+    ≡ filled_from l.step l.stop (reached l.step l.stop (within l.fn.start)) l.cells

@@ -28,12 +28,20 @@ loop-place-preserved g c =
     let value = c.index-values-from.result in
     let inside : k < s.last.row - s.first.row = omega (arith, c.loop-place-test.true, c.loop-place.invariant.count) in
     let row_is : c.row.inside.row ≡ n + k = ap (λ (p : Place). p.row) (c.row.view_is ∙ c.cell_down.ensures) in
-    let value_is : value ≡ f (n + k) = c.index-values-from.is ∙ ap (λ (i : ℕ). get_or c.args.values.now i value) at_place
-    ∙ ap (λ (l : List Value). get_or l k value) c.requires.values ∙ made_at f n (s.last.row - s.first.row) k value inside in
+    let value_is : value ≡ f (n + k) =
+    c.index-values-from.is ∙ ap (λ (i : ℕ). get_or c.args.values.now i value) at_place
+    ∙ ap (λ (l : List Value). get_or l k value) c.requires.values
+    ∙ made_at f n (s.last.row - s.first.row) k value inside in
     record {
-      taken = scenario_more shows tries (row_scenario s c.args.input before) n k c.args.bench.now c.loop-place.bench c.try_row.new.bench c.args.writes.now c.loop-place.writes c.try_row.new.writes
+      taken =
+          scenario_more shows tries (row_scenario s c.args.input before) n k c.args.bench.now c.loop-place.bench
+          c.try_row.new.bench c.args.writes.now c.loop-place.writes c.try_row.new.writes
           c.loop-place.invariant.taken
-          (row_taken shows tries s before c.loop-place.bench c.try_row.new.bench c.loop-place.writes c.try_row.new.writes c.args.input (n + k) c.row.inside.row value row_is value_is c.in_ok-try_row.ensures.taken);
-      same = same_both (shows c.args.bench.now) (shows c.loop-place.bench) (shows c.try_row.new.bench) c.loop-place.invariant.same c.try_row.ensures.same;
+          (row_taken shows tries s before c.loop-place.bench c.try_row.new.bench c.loop-place.writes
+          c.try_row.new.writes c.args.input (n + k) c.row.inside.row value row_is value_is
+          c.in_ok-try_row.ensures.taken);
+      same =
+          same_both (shows c.args.bench.now) (shows c.loop-place.bench) (shows c.try_row.new.bench)
+          c.loop-place.invariant.same c.try_row.ensures.same;
       count = c.loop-place.invariant.count;
     }

@@ -7,7 +7,8 @@ use Rattle.data_blocks.proofs.sort.row_cells.Goals as goal
 pub loop-row-preserved : goal.loop-row-preserved
 loop-row-preserved c =
     let now = c.loop-row.cells.items in (
-      made_more (λ (row : ℕ). at row c.args.span.first.col) [] now c.push.new.self.items c.args.span.first.row c.loop-row.row c.loop-row.invariant.0
+      made_more (λ (row : ℕ). at row c.args.span.first.col) [] now c.push.new.self.items c.args.span.first.row
+          c.loop-row.row c.loop-row.invariant.0
           (c.in_ok-push.ensures.items ∙ ap (λ (p : Place). now ++ p ∷ []) c.row_cell.ensures),
       c.loop-row.invariant.1,
     )

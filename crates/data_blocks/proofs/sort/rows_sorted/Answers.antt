@@ -12,7 +12,12 @@ rows_copied-requires g c =
     let span = c.args.span in
     let first = down span.first.col (rows_of span) in
     let cells = c.in_ok-cells.cells.items in
-    omega (arith, ap length c.as_slice.ensures.value, length_permutation first cells c.in_ok-cells.ensures.same, cells_count span.first.col span.first.row (height_of span))
+    omega (
+      arith,
+      ap length c.as_slice.ensures.value,
+      length_permutation first cells c.in_ok-cells.ensures.same,
+      cells_count span.first.col span.first.row (height_of span),
+    )
 
 pub returns : goal.returns
 returns g c =
@@ -26,9 +31,15 @@ returns g c =
     record {
       sorted = map row_of cells;
       order = record {
-        same = subst (λ (l : List ℕ). IsPermutation l (map row_of cells)) back (IsPermutation-map row_of first cells c.in_ok-cells.ensures.same);
+        same =
+            subst (λ (l : List ℕ). IsPermutation l (map row_of cells)) back
+            (IsPermutation-map row_of first cells c.in_ok-cells.ensures.same);
         ordered = rows_ordered lt cells c.in_ok-cells.ensures.ordered;
-        stable = subst (λ (l : List ℕ). IsStableBy lt l (map row_of cells)) back (rows_stable lt first cells c.in_ok-cells.ensures.stable);
+        stable =
+            subst (λ (l : List ℕ). IsStableBy lt l (map row_of cells)) back
+            (rows_stable lt first cells c.in_ok-cells.ensures.stable);
       };
-      moved = c.in_ok-writes.ensures ∙ ap (λ (l : List Place). rows_copied sight (columns_of span) (map row_of l) rows) c.as_slice.ensures.value;
+      moved =
+          c.in_ok-writes.ensures ∙ ap (λ (l : List Place). rows_copied sight (columns_of span) (map row_of l) rows)
+          c.as_slice.ensures.value;
     }

@@ -7,4 +7,6 @@ use Rattle.data_blocks.proofs.sort.sorted_cells.Goals as goal
 pub returns-clause-stable : goal.returns-clause-stable
 returns-clause-stable g c =
     let values = (g.K.Look.sight c.args.look.now).values in
-    subst (λ (l : List Place). IsStableBy (λ (p : Place) (q : Place). is_lt (order_of_rows values c.args.keys.now p.row q.row)) l c.sort_cells.new.cells.items) c.in_ok-cells.ensures c.in_ok-sort_cells.ensures.stable
+    subst (λ (l : List Place). IsStableBy
+    (λ (p : Place) (q : Place). is_lt (order_of_rows values c.args.keys.now p.row q.row)) l
+    c.sort_cells.new.cells.items) c.in_ok-cells.ensures c.in_ok-sort_cells.ensures.stable

@@ -26,13 +26,20 @@ loop-place-preserved g c =
     let value = c.index-seconds-from.result in
     let inside : k < s.last.col - s.first.col = omega (arith, c.loop-place-test.true, c.loop-place.invariant.count) in
     let col_is : c.col.inside.col ≡ n + k = ap (λ (p : Place). p.col) (c.col.view_is ∙ c.cell_across.ensures) in
-    let value_is : value ≡ f (n + k) = c.index-seconds-from.is ∙ ap (λ (i : ℕ). get_or c.args.seconds.now i value) at_place
-    ∙ ap (λ (l : List Value). get_or l k value) c.requires.1.1.1.1.1 ∙ made_at f n (s.last.col - s.first.col) k value inside in
+    let value_is : value ≡ f (n + k) =
+    c.index-seconds-from.is ∙ ap (λ (i : ℕ). get_or c.args.seconds.now i value) at_place
+    ∙ ap (λ (l : List Value). get_or l k value) c.requires.1.1.1.1.1
+    ∙ made_at f n (s.last.col - s.first.col) k value inside in
     record {
-      taken = scenario_more shows tries (cell_scenario s c.args.down c.args.across g.values row) n k c.args.bench.now c.loop-place.bench c.try_cell.new.bench c.args.writes.now c.loop-place.writes c.try_cell.new.writes
+      taken =
+          scenario_more shows tries (cell_scenario s c.args.down c.args.across g.values row) n k c.args.bench.now
+          c.loop-place.bench c.try_cell.new.bench c.args.writes.now c.loop-place.writes c.try_cell.new.writes
           c.loop-place.invariant.taken
-          (cell_taken shows tries s g.values c.loop-place.bench c.try_cell.new.bench c.loop-place.writes c.try_cell.new.writes c.args.down c.args.across (at row c.col.inside.col) row (n + k) c.args.first.now value
+          (cell_taken shows tries s g.values c.loop-place.bench c.try_cell.new.bench c.loop-place.writes
+          c.try_cell.new.writes c.args.down c.args.across (at row c.col.inside.col) row (n + k) c.args.first.now value
           (ap (λ (j : ℕ). at row j) col_is) c.requires.1.1.1.1.0 value_is c.in_ok-try_cell.ensures.taken);
-      same = same_both (shows c.args.bench.now) (shows c.loop-place.bench) (shows c.try_cell.new.bench) c.loop-place.invariant.same c.try_cell.ensures.same;
+      same =
+          same_both (shows c.args.bench.now) (shows c.loop-place.bench) (shows c.try_cell.new.bench)
+          c.loop-place.invariant.same c.try_cell.ensures.same;
       count = c.loop-place.invariant.count;
     }

@@ -8,7 +8,9 @@ use Rattle.data_blocks.proofs.two_inputs.try_row.Given as goal
 abbrev pub invariant-loop-place : goal.invariant-loop-place
 invariant-loop-place g l =
     let shows = g.B.Bench.shows in record {
-      taken : HasTaken shows g.B.Bench.tries (map (cell_scenario l.span l.down l.across g.values l.row) (numbers_from (l.span.first.col + 1) l.place)) l.fn.bench l.fn.writes l.bench l.writes;
+      taken : HasTaken shows g.B.Bench.tries
+          (map (cell_scenario l.span l.down l.across g.values l.row) (numbers_from (l.span.first.col + 1) l.place))
+          l.fn.bench l.fn.writes l.bench l.writes;
       same : IsSameBench (shows l.fn.bench) (shows l.bench);
       count : l.count ≡ l.span.last.col - l.span.first.col;
     }

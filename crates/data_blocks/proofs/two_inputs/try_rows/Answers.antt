@@ -1,4 +1,5 @@
-use Rattle.std.proofs.Common.{◌≡◌, ◌<◌, ◌≤◌, ◌+◌, ◌-◌, ℕ, List, length, map, get_or, ap, subst, sym, ◌∙◌, arith, rules, true}
+use Rattle.std.proofs.Common.{◌≡◌, ◌<◌, ◌≤◌, ◌+◌, ◌-◌, ℕ, List, length, map, get_or, ap, subst, sym, ◌∙◌, arith, rules}
+use Rattle.std.proofs.Common.{true}
 use Rattle.std.specs.List.{list_any}
 use Rattle.formula_tree.specs.declared.value.Value.{Value}
 use Rattle.grid_address.specs.Place.{same_place, Place}
@@ -26,11 +27,16 @@ try_row-requires g c =
     let value = c.index-firsts-from.result in
     let inside : k < s.last.row - s.first.row = omega (arith, c.loop-place-test.true, c.loop-place.invariant.count) in
     let row_is : c.row.inside.row ≡ n + k = ap (λ (p : Place). p.row) (c.row.view_is ∙ c.cell_down.ensures) in
-    let value_is : value ≡ f (n + k) = c.index-firsts-from.is ∙ ap (λ (i : ℕ). get_or c.args.firsts.now i value) at_place
-    ∙ ap (λ (l : List Value). get_or l k value) c.requires.1.1.1.0 ∙ made_at f n (s.last.row - s.first.row) k value inside in
+    let value_is : value ≡ f (n + k) =
+    c.index-firsts-from.is ∙ ap (λ (i : ℕ). get_or c.args.firsts.now i value) at_place
+    ∙ ap (λ (l : List Value). get_or l k value) c.requires.1.1.1.0
+    ∙ made_at f n (s.last.row - s.first.row) k value inside in
     let in_sheet : c.row.inside.row ≤ s.last.row = omega (arith, row_is, inside) in
-    let down : takes (shows c.loop-place.bench) c.args.down ≡ true = ap (λ (l : List Place). list_any (same_place c.args.down) l) c.loop-place.invariant.same.inputs ∙ c.requires.1.0 in
-    let across : takes (shows c.loop-place.bench) c.args.across ≡ true = ap (λ (l : List Place). list_any (same_place c.args.across) l) c.loop-place.invariant.same.inputs ∙ c.requires.1.1.0 in
+    let down : takes (shows c.loop-place.bench) c.args.down ≡ true =
+    ap (λ (l : List Place). list_any (same_place c.args.down) l) c.loop-place.invariant.same.inputs ∙ c.requires.1.0 in
+    let across : takes (shows c.loop-place.bench) c.args.across ≡ true =
+    ap (λ (l : List Place). list_any (same_place c.args.across) l) c.loop-place.invariant.same.inputs
+    ∙ c.requires.1.1.0 in
     let first : value ≡ f c.row.inside.row = value_is ∙ ap f (sym row_is) in
     let seconds = c.requires.1.1.1.1 in
     search rules
@@ -44,9 +50,14 @@ loop-place-preserved g c =
     let k : ℕ = c.loop-place.place in
     let row_is : c.row.inside.row ≡ n + k = ap (λ (p : Place). p.row) (c.row.view_is ∙ c.cell_down.ensures) in
     record {
-      taken = scenarios_more shows tries (row_scenarios s c.args.down c.args.across g.values) n k c.args.bench.now c.loop-place.bench c.try_row.new.bench c.args.writes.now c.loop-place.writes c.try_row.new.writes
+      taken =
+          scenarios_more shows tries (row_scenarios s c.args.down c.args.across g.values) n k c.args.bench.now
+          c.loop-place.bench c.try_row.new.bench c.args.writes.now c.loop-place.writes c.try_row.new.writes
           c.loop-place.invariant.taken
-          (subst (λ (r : ℕ). HasTaken shows tries (row_scenarios s c.args.down c.args.across g.values r) c.loop-place.bench c.loop-place.writes c.try_row.new.bench c.try_row.new.writes) row_is c.in_ok-try_row.ensures.taken);
-      same = same_both (shows c.args.bench.now) (shows c.loop-place.bench) (shows c.try_row.new.bench) c.loop-place.invariant.same c.try_row.ensures.same;
+          (subst (λ (r : ℕ). HasTaken shows tries (row_scenarios s c.args.down c.args.across g.values r) c.loop-place.bench
+          c.loop-place.writes c.try_row.new.bench c.try_row.new.writes) row_is c.in_ok-try_row.ensures.taken);
+      same =
+          same_both (shows c.args.bench.now) (shows c.loop-place.bench) (shows c.try_row.new.bench)
+          c.loop-place.invariant.same c.try_row.ensures.same;
       count = c.loop-place.invariant.count;
     }

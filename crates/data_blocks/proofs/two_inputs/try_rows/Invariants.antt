@@ -9,7 +9,9 @@ use Rattle.data_blocks.proofs.two_inputs.try_rows.Given as goal
 abbrev pub invariant-loop-place : goal.invariant-loop-place
 invariant-loop-place g l =
     let shows = g.B.Bench.shows in record {
-      taken : HasTaken shows g.B.Bench.tries (flat_map (row_scenarios l.span l.down l.across g.values) (numbers_from (l.span.first.row + 1) l.place)) l.fn.bench l.fn.writes l.bench l.writes;
+      taken : HasTaken shows g.B.Bench.tries
+          (flat_map (row_scenarios l.span l.down l.across g.values) (numbers_from (l.span.first.row + 1) l.place))
+          l.fn.bench l.fn.writes l.bench l.writes;
       same : IsSameBench (shows l.fn.bench) (shows l.bench);
       count : l.count ≡ l.span.last.row - l.span.first.row;
     }

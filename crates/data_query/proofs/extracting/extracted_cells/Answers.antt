@@ -7,14 +7,21 @@ pub returns-in_ok-kept : goal.returns-in_ok-kept
 returns-in_ok-kept g c =
     let outlook = outlook_of (g.K.Look.sight c.args.look.now) c.args.scene.now in
     record {
-      rows = rows_that_differ outlook c.args.input c.args.criterion c.args.unique c.args.fields.now c.in_ok-kept.kept c.as_slice.result.now c.in_ok-cells.cells c.in_ok-kept.ensures c.as_slice.ensures c.in_ok-cells.ensures c.if-unique.true;
-      count = few_kept outlook c.args.input c.args.criterion c.args.fields.now c.in_ok-kept.kept c.as_slice.result.now c.in_ok-cells.cells c.in_ok-kept.ensures c.as_slice.ensures c.in_ok-cells.ensures (omega arith);
+      rows =
+          rows_that_differ outlook c.args.input c.args.criterion c.args.unique c.args.fields.now c.in_ok-kept.kept
+          c.as_slice.result.now c.in_ok-cells.cells c.in_ok-kept.ensures c.as_slice.ensures c.in_ok-cells.ensures
+          c.if-unique.true;
+      count =
+          few_kept outlook c.args.input c.args.criterion c.args.fields.now c.in_ok-kept.kept c.as_slice.result.now
+          c.in_ok-cells.cells c.in_ok-kept.ensures c.as_slice.ensures c.in_ok-cells.ensures (omega arith);
     }
 
 pub returns-else-unique : goal.returns-else-unique
 returns-else-unique g c =
     let outlook = outlook_of (g.K.Look.sight c.args.look.now) c.args.scene.now in
     record {
-      rows = all_rows outlook c.args.input c.args.criterion c.args.unique c.args.fields.now c.in_ok-cells.cells c.in_ok-cells.ensures c.if-unique.false;
+      rows =
+          all_rows outlook c.args.input c.args.criterion c.args.unique c.args.fields.now c.in_ok-cells.cells
+          c.in_ok-cells.ensures c.if-unique.false;
       count = few_cells outlook c.args.input c.args.criterion c.in_ok-cells.cells c.in_ok-cells.ensures (omega arith);
     }

@@ -20,9 +20,11 @@ loop-place-preserved g c =
     let all = c.args.writes.now ++ records_written sight fields rows (numbers_from c.args.first c.args.room) in
     let i = c.loop-place.place in
     let from = c.index-cells-place.result in
-    let one : from.row ≡ get_or rows i 0 = ap row_of c.index-cells-place.is ∙ sym (get_or-map row_of c.args.cells.now i from 0 c.loop-place-test.true) in
+    let one : from.row ≡ get_or rows i 0 =
+    ap row_of c.index-cells-place.is ∙ sym (get_or-map row_of c.args.cells.now i from 0 c.loop-place-test.true) in
     rest_step f rows c.args.first c.args.room c.loop-place.writes c.push_record.new.writes all i 0
-    (omega (arith, c.loop-place-test.true, length-map c.args.cells.now row_of)) (omega (arith, c.requires.room, length-map c.args.cells.now row_of)) c.loop-place.invariant
+    (omega (arith, c.loop-place-test.true, length-map c.args.cells.now row_of))
+    (omega (arith, c.requires.room, length-map c.args.cells.now row_of)) c.loop-place.invariant
     (c.in_ok-push_record.ensures ∙ ap (λ (r : ℕ). c.loop-place.writes ++ f (r, c.args.first + i)) one)
 
 pub returns : goal.returns
@@ -31,5 +33,6 @@ returns g c =
     let fields = c.args.fields.now in
     let f = λ (p : ℕ × ℕ). record_written sight fields p.0 p.1 in
     let rows = map row_of c.args.cells.now in
-    rest_none f rows c.args.first c.args.room c.loop-place.writes (c.args.writes.now ++ records_written sight fields rows (numbers_from c.args.first c.args.room)) c.loop-place.place
+    rest_none f rows c.args.first c.args.room c.loop-place.writes
+    (c.args.writes.now ++ records_written sight fields rows (numbers_from c.args.first c.args.room)) c.loop-place.place
     (omega (arith, c.loop-place-test.false, length-map c.args.cells.now row_of)) c.loop-place.invariant

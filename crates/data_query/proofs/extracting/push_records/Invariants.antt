@@ -7,5 +7,7 @@ use Rattle.data_query.proofs.extracting.push_records.Given as goal
 
 abbrev pub invariant-loop-place : goal.invariant-loop-place
 invariant-loop-place g l =
-    l.writes ++ rest (λ p. record_written (g.K.Look.sight l.look) l.fields p.0 p.1) (map row_of l.cells) l.fn.first l.fn.room l.place
-    ≡ l.fn.writes ++ records_written (g.K.Look.sight l.look) l.fields (map row_of l.cells) (numbers_from l.fn.first l.fn.room)
+    l.writes ++ rest (λ p. record_written (g.K.Look.sight l.look) l.fields p.0 p.1) (map row_of l.cells) l.fn.first
+    l.fn.room l.place
+    ≡ l.fn.writes ++ records_written (g.K.Look.sight l.look) l.fields (map row_of l.cells)
+    (numbers_from l.fn.first l.fn.room)

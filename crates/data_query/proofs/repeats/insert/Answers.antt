@@ -12,4 +12,6 @@ returns-clause-told c =
 
 pub returns-clause-keys : goal.returns-clause-keys
 returns-clause-keys c =
-    c.in_ok-is_new.ensures.keys ∙ ap (λ (b : Bool). cond b c.args.keys.now.keys (c.args.keys.now.keys ++ c.args.key ∷ [])) (among_equal c.args.key c.args.keys.now.keys)
+    c.in_ok-is_new.ensures.keys
+    ∙ ap (λ (b : Bool). cond b c.args.keys.now.keys (c.args.keys.now.keys ++ c.args.key ∷ []))
+    (among_equal c.args.key c.args.keys.now.keys)

@@ -13,6 +13,9 @@ abbrev pub invariant-loop-cell : goal.invariant-loop-cell
 invariant-loop-cell g l =
     let sight = g.K.Look.sight l.look in
     record {
-      keys : map (λ (k : Vec ValueKey). all_keyed k.items) l.keys.keys ≡ map (λ (p : Place). record_values sight l.fields p.row) l.kept;
-      told : map row_of l.kept ++ to_come (same_record sight l.fields) (map row_of l.kept) (map row_of (drop l.cell-index l.cells)) ≡ without_repeats (same_record sight l.fields) (map row_of l.cells);
+      keys : map (λ (k : Vec ValueKey). all_keyed k.items) l.keys.keys
+          ≡ map (λ (p : Place). record_values sight l.fields p.row) l.kept;
+      told : map row_of l.kept
+          ++ to_come (same_record sight l.fields) (map row_of l.kept) (map row_of (drop l.cell-index l.cells))
+          ≡ without_repeats (same_record sight l.fields) (map row_of l.cells);
     }

@@ -6,4 +6,6 @@ pub write-requires-clause-below : goal.write-requires-clause-below
 write-requires-clause-below c = hundredfold_below c.scaled-number.result c.min-kept.result c.scaled-number.ensures.whole
 
 pub returns : goal.returns
-returns c = c.write.ensures ∙ hundredfold_is c.args.value c.args.places c.min-kept.result c.scaled-number.result c.is_minus.result c.scaled-number.ensures.size c.min-kept.ensures c.scaled-number.ensures.value c.is_minus.ensures
+returns c =
+    c.write.ensures ∙ hundredfold_is c.args.value c.args.places c.min-kept.result c.scaled-number.result
+    c.is_minus.result c.scaled-number.ensures.size c.min-kept.ensures c.scaled-number.ensures.value c.is_minus.ensures

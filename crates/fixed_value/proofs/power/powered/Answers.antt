@@ -4,4 +4,5 @@ use Rattle.fixed_value.proofs.power.powered.Goals as goal
 
 pub returns-in_err-power : goal.returns-in_err-power
 returns-in_err-power c =
-    c.from_residual.ensures ∙ sym (ends_none c.args.x c.loop.power c.loop.counter c.args.count (omega arith) c.loop.invariant (search rules))
+    c.from_residual.ensures
+    ∙ sym (ends_none c.args.x c.loop.power c.loop.counter c.args.count (omega arith) c.loop.invariant (search rules))

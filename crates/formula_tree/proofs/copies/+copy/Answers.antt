@@ -7,5 +7,6 @@ use Rattle.formula_tree.proofs.copies.+copy.Goals as goal
 pub copy_expr-returns-in_ok-items-in-Call : goal.copy_expr-returns-in_ok-items-in-Call
 copy_expr-returns-in_ok-items-in-Call t c =
     tree_of-Call c.in-Call.function (record { items = c.in_ok-items-in-Call.items })
-    ∙ ap (λ ts. call c.in-Call.function (listed ts)) (c.in_ok-items-in-Call.ensures ∙ ap (map tree_of) c.deref-in-Call.ensures.value)
+    ∙ ap (λ ts. call c.in-Call.function (listed ts))
+    (c.in_ok-items-in-Call.ensures ∙ ap (map tree_of) c.deref-in-Call.ensures.value)
     ∙ sym (tree_of-Call c.in-Call.function c.in-Call.args) ∙ ap tree_of (sym c.in-Call.is)

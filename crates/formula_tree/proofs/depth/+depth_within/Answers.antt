@@ -16,4 +16,5 @@ depth_within-returns-in-Call t c =
     ∙ ap (λ es. nat_le (greatest_depth (listed (map tree_of es))) less) c.deref-in-Call.ensures.value
     ∙ sym (suc_le (greatest_depth (listed (map tree_of c.in-Call.args.items.items))) less)
     ∙ ap (nat_le (1 + greatest_depth (listed (map tree_of c.in-Call.args.items.items)))) e
-    ∙ ap (λ x. nat_le (depth x) c.args.limit) (sym (tree_of-Call c.in-Call.field-0 c.in-Call.args)) ∙ ap (λ x. nat_le (depth (tree_of x)) c.args.limit) (sym c.in-Call.is)
+    ∙ ap (λ x. nat_le (depth x) c.args.limit) (sym (tree_of-Call c.in-Call.field-0 c.in-Call.args))
+    ∙ ap (λ x. nat_le (depth (tree_of x)) c.args.limit) (sym c.in-Call.is)

@@ -5,4 +5,5 @@ use Rattle.formula_tree.proofs.redirect.+keeps_references.Given as goal
 
 abbrev pub invariant-all_keep-loop-arg : goal.invariant-all_keep-loop-arg
 invariant-all_keep-loop-arg g l =
-    map (λ e. redirected (g.R.Redirect.new_reference l.by) (tree_of e)) (take l.arg-index l.args) ≡ map tree_of (take l.arg-index l.args)
+    map (λ e. redirected (g.R.Redirect.new_reference l.by) (tree_of e)) (take l.arg-index l.args)
+    ≡ map tree_of (take l.arg-index l.args)

@@ -15,11 +15,14 @@ redirect_tree-returns-in-Call-clause-tree g t c =
     let new = g.R.Redirect.new_reference c.args.by.now in
     let same : c.replace-args.result ≡ c.in-Call.args = c.replace-args.ensures.value ∙ c.in-Call.args-is in
     ap (λ (f : Function). tree_of (Call f c.redirect_all.new.args)) c.in-Call.function-is
-    ∙ call_redirected new c.in-Call.function c.in-Call.args c.redirect_all.new.args (c.redirect_all.ensures.trees ∙ ap (λ (l : ExprList). map (λ e. redirected new (tree_of e)) l.items.items) same)
+    ∙ call_redirected new c.in-Call.function c.in-Call.args c.redirect_all.new.args
+    (c.redirect_all.ensures.trees ∙ ap (λ (l : ExprList). map (λ e. redirected new (tree_of e)) l.items.items) same)
     ∙ ap (λ (e : Expr). redirected new (tree_of e)) (sym c.in-Call.is)
 
 pub redirect_tree-returns-in-Call-clause-ranged : goal.redirect_tree-returns-in-Call-clause-ranged
 redirect_tree-returns-in-Call-clause-ranged g t c before =
     let same : c.replace-args.result ≡ c.in-Call.args = c.replace-args.ensures.value ∙ c.in-Call.args-is in
-    call_ranged c.in-Call.function c.in-Call.function c.replace-args.result c.redirect_all.new.args c.redirect_all.ensures.ranged
-    (ap (λ (l : ExprList). every is_ranged (tree_of (Call c.in-Call.function l))) same ∙ ap (λ (e : Expr). every is_ranged (tree_of e)) (sym c.in-Call.is) ∙ before)
+    call_ranged c.in-Call.function c.in-Call.function c.replace-args.result c.redirect_all.new.args
+    c.redirect_all.ensures.ranged
+    (ap (λ (l : ExprList). every is_ranged (tree_of (Call c.in-Call.function l))) same
+    ∙ ap (λ (e : Expr). every is_ranged (tree_of e)) (sym c.in-Call.is) ∙ before)

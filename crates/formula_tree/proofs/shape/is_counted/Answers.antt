@@ -10,4 +10,5 @@ pub returns-in-Call : goal.returns-in-Call
 returns-in-Call c =
     c.takes.ensures ∙ ap (λ (es : List Expr). takes (counts_of c.in-Call.function) (length es)) c.items.ensures
     ∙ ap (takes (counts_of c.in-Call.function)) (count_listed c.in-Call.args.items.items)
-    ∙ ap is_counted (sym (tree_of-Call c.in-Call.function c.in-Call.args)) ∙ ap (λ e. is_counted (tree_of e)) (sym c.in-Call.is)
+    ∙ ap is_counted (sym (tree_of-Call c.in-Call.function c.in-Call.args))
+    ∙ ap (λ e. is_counted (tree_of e)) (sym c.in-Call.is)

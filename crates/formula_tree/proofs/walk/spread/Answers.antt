@@ -17,5 +17,6 @@ returns-after-loop-arg c =
     c.loop-arg.invariant
     ∙ ap (λ l. map seen c.args.stack.now.items ++ l) (
     ap (map tree_of) (take_all c.loop-arg.arg-index items c.loop-arg-test.false ∙ c.deref-arg-items.ensures.value)
-    ∙ sym (parts_listed (map tree_of c.in-Call.args.items.items)) ∙ ap parts (sym (tree_of-Call c.in-Call.field-0 c.in-Call.args)) ∙ ap (λ e. parts (tree_of e)) (sym c.in-Call.is)
+    ∙ sym (parts_listed (map tree_of c.in-Call.args.items.items))
+    ∙ ap parts (sym (tree_of-Call c.in-Call.field-0 c.in-Call.args)) ∙ ap (λ e. parts (tree_of e)) (sym c.in-Call.is)
     )

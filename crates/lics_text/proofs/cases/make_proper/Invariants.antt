@@ -5,6 +5,7 @@ use Rattle.lics_text.proofs.cases.make_proper.Given as goal
 abbrev pub invariant-loop-at : goal.invariant-loop-at
 invariant-loop-at l = record {
   rest : drop l.at l.bytes.items ≡ drop l.at l.initial.bytes.items;
-  done : take l.at l.bytes.items ++ proper_after l.inside (drop l.at l.initial.bytes.items) ≡ proper_of l.initial.bytes.items;
+  done : take l.at l.bytes.items ++ proper_after l.inside (drop l.at l.initial.bytes.items)
+      ≡ proper_of l.initial.bytes.items;
   size : length l.bytes.items ≡ length l.initial.bytes.items;
 }

@@ -5,4 +5,5 @@ use Rattle.outside_world.specs.Shelf.{file_in}
 use Rattle.outside_world.proofs.map_shelf.held.Given as goal
 
 abbrev pub invariant-loop-entry : goal.invariant-loop-entry
-invariant-loop-entry l = file_in l.name (files_of l.journal.items) ≡ file_in l.name (files_of (deque_iter_rest l.entry-iterator))
+invariant-loop-entry l =
+    file_in l.name (files_of l.journal.items) ≡ file_in l.name (files_of (deque_iter_rest l.entry-iterator))

@@ -11,4 +11,5 @@ returns-then-are_plain c =
     let is : c.cut-bytes.result.now ≡ map masked (take (page_width c.args.set.now) c.args.bytes.now) =
     sym (plain_kept c.cut-bytes.result.now (sym c.are_plain.ensures ∙ c.if-are_plain.true))
     ∙ ap (map masked) (c.cut-bytes.ensures.cut ∙ ap (λ (k : ℕ). take k c.args.bytes.now) width) in
-    subst (λ (t : List ℕ). OnOk c.put_line.result (c.put_line.new.out ≡ c.args.out.now ++ line c.args.set.now.left t)) is c.put_line.ensures
+    subst (λ (t : List ℕ). OnOk c.put_line.result (c.put_line.new.out ≡ c.args.out.now ++ line c.args.set.now.left t))
+    is c.put_line.ensures

@@ -7,7 +7,8 @@ use Rattle.screen_layout.proofs.columns.columns_line.Given as goal
 
 abbrev pub invariant-loop-column : goal.invariant-loop-column
 invariant-loop-column l = record {
-  painting : Painting (of_worksheet l.sheet) l.row (columns_line (of_worksheet l.sheet) l.row l.first) (coming (of_worksheet l.sheet) l.coming) l.line l.over;
+  painting : Painting (of_worksheet l.sheet) l.row (columns_line (of_worksheet l.sheet) l.row l.first)
+      (coming (of_worksheet l.sheet) l.coming) l.line l.over;
   used : l.coming.used ≤ 240;
 }
 

@@ -8,7 +8,9 @@ pub returns-then-rest-from-clause-column : goal.returns-then-rest-from-clause-co
 returns-then-rest-from-clause-column c =
     let s : Sheet = of_worksheet c.args.sheet.now in
     let further : ℕ = c.args.pointer - c.loop-col.col in
-    sym (c.loop-col.invariant.column ∙ nearest_here s further c.loop-col.col (omega arith) (omega (arith, c.loop-col.invariant.rest, c.if-rest-from.true)))
+    sym (c.loop-col.invariant.column
+    ∙ nearest_here s further c.loop-col.col (omega arith)
+    (omega (arith, c.loop-col.invariant.rest, c.if-rest-from.true)))
 
 pub overflow_sub-rest : goal.overflow_sub-rest
 overflow_sub-rest c =
@@ -40,7 +42,9 @@ loop-col-preserved c =
         wide_first s further col,
         ap (λ (n : ℕ). wide s n (col + 1)) less,
       );
-      column = c.loop-col.invariant.column ∙ nearest_later s further col (omega arith) (omega (arith, c.loop-col.invariant.rest, c.if-rest-from.false))
+      column =
+          c.loop-col.invariant.column
+          ∙ nearest_later s further col (omega arith) (omega (arith, c.loop-col.invariant.rest, c.if-rest-from.false))
           ∙ ap (λ (n : ℕ). nearest s n (col + 1)) one;
     }
 

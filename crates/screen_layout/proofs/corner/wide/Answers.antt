@@ -8,7 +8,9 @@ pub loop-col-init : goal.loop-col-init
 loop-col-init c =
     let none : c.from-col.result - c.args.first ≡ 0 = omega (arith, c.from-col.ensures) in
     record {
-      sum = sym (ap (λ (n : ℕ). wide (of_worksheet c.args.sheet.now) n c.args.first) none ∙ wide_none (of_worksheet c.args.sheet.now) c.args.first);
+      sum =
+          sym (ap (λ (n : ℕ). wide (of_worksheet c.args.sheet.now) n c.args.first) none
+          ∙ wide_none (of_worksheet c.args.sheet.now) c.args.first);
       most = omega arith;
     }
 

@@ -12,10 +12,13 @@ paint_lines-requires c = rw c.all.ensures (all_may_differ _ _)
 pub returns-clause-screen : goal.returns-clause-screen
 returns-clause-screen c =
     c.paint_lines.ensures
-    ∙ ap (λ (p : Panel). screen (of_worksheet c.args.sheet.now) p c.args.corner c.args.now.now.day c.args.now.now.second) c.of.ensures
+    ∙ ap (λ (p : Panel). screen (of_worksheet c.args.sheet.now) p c.args.corner c.args.now.now.day
+    c.args.now.now.second) c.of.ensures
 
 pub returns-clause-printed : goal.returns-clause-printed
-returns-clause-printed c = printed (of_worksheet c.args.sheet.now) c.args.panel.now c.args.corner c.args.now.now.day c.args.now.now.second
+returns-clause-printed c =
+    printed (of_worksheet c.args.sheet.now) c.args.panel.now c.args.corner c.args.now.now.day c.args.now.now.second
 
 pub returns-clause-shape : goal.returns-clause-shape
-returns-clause-shape c = shaped (of_worksheet c.args.sheet.now) c.args.panel.now c.args.corner c.args.now.now.day c.args.now.now.second
+returns-clause-shape c =
+    shaped (of_worksheet c.args.sheet.now) c.args.panel.now c.args.corner c.args.now.now.day c.args.now.now.second

@@ -7,5 +7,7 @@ loop-len-preserved c =
     let same : c.part.result.now ≡ c.part-in-loop-len.result.now = search rules in
     record {
       within = omega arith;
-      equal = take_further c.loop-len.len 8 c.args.before.now c.args.after.now c.loop-len.invariant.equal (sym c.part.ensures ∙ same ∙ c.part-in-loop-len.ensures);
+      equal =
+          take_further c.loop-len.len 8 c.args.before.now c.args.after.now c.loop-len.invariant.equal
+          (sym c.part.ensures ∙ same ∙ c.part-in-loop-len.ensures);
     }

@@ -5,8 +5,11 @@ use Rattle.screen_show.proofs.sender.send_lines.Goals as goal
 pub loop-row-init : goal.loop-row-init
 loop-row-init g c = record {
   within = c.next_from-row.ensures.within.1;
-  lines = screen_passes c.args.lines.now c.args.before.now c.args.after.now c.is_whole.ensures c.is_whole-2.ensures c.requires
-      0 _ _ _ (omega arith) c.next_from-row.ensures.within.1 c.next_from-row.ensures.passed (screen_starts c.args.before.now c.args.after.now _ c.is_sound.ensures);
+  lines =
+      screen_passes c.args.lines.now c.args.before.now c.args.after.now c.is_whole.ensures c.is_whole-2.ensures
+      c.requires
+      0 _ _ _ (omega arith) c.next_from-row.ensures.within.1 c.next_from-row.ensures.passed
+      (screen_starts c.args.before.now c.args.after.now _ c.is_sound.ensures);
   kind = search rules;
   faults = search rules;
 }
@@ -14,10 +17,15 @@ loop-row-init g c = record {
 pub loop-row-preserved : goal.loop-row-preserved
 loop-row-preserved g c = record {
   within = c.next_from-row-in-loop-row.ensures.within.1;
-  lines = screen_passes c.args.lines.now c.args.before.now c.args.after.now c.is_whole.ensures c.is_whole-2.ensures c.requires
-      (c.loop-row.row + 1) _ _ _ c.next_from-row-in-loop-row.ensures.within.0 c.next_from-row-in-loop-row.ensures.within.1 c.next_from-row-in-loop-row.ensures.passed
-      (screen_more c.loop-row.row c.args.before.now c.args.after.now c.line.result.now c.line-in-loop-row.result.now (omega arith)
-      c.line.ensures.screen c.line-in-loop-row.ensures.screen c.line.ensures.line c.line-in-loop-row.ensures.line c.line.ensures.width c.line-in-loop-row.ensures.width
+  lines =
+      screen_passes c.args.lines.now c.args.before.now c.args.after.now c.is_whole.ensures c.is_whole-2.ensures
+      c.requires
+      (c.loop-row.row + 1) _ _ _ c.next_from-row-in-loop-row.ensures.within.0
+      c.next_from-row-in-loop-row.ensures.within.1 c.next_from-row-in-loop-row.ensures.passed
+      (screen_more c.loop-row.row c.args.before.now c.args.after.now c.line.result.now c.line-in-loop-row.result.now
+      (omega arith)
+      c.line.ensures.screen c.line-in-loop-row.ensures.screen c.line.ensures.line c.line-in-loop-row.ensures.line
+      c.line.ensures.width c.line-in-loop-row.ensures.width
       _ _ _ c.in_ok-send_line.field-0 c.in_ok-send_line.ensures.shown c.loop-row.invariant.lines);
   kind = search rules;
   faults = search rules;
@@ -25,4 +33,5 @@ loop-row-preserved g c = record {
 
 pub returns-clause-shown : goal.returns-clause-shown
 returns-clause-shown g c =
-    screen_ends c.loop-row.row c.args.before.now c.args.after.now _ _ _ _ c.is_whole.ensures c.is_whole-2.ensures c.is_sound.ensures (omega arith) c.loop-row.invariant.lines c.end_frame.ensures.shown
+    screen_ends c.loop-row.row c.args.before.now c.args.after.now _ _ _ _ c.is_whole.ensures c.is_whole-2.ensures
+    c.is_sound.ensures (omega arith) c.loop-row.invariant.lines c.end_frame.ensures.shown

@@ -22,4 +22,5 @@ returns-in-Err-clause-number c =
     no_number c.args.year c.args.month c.args.day (λ is. (let clash : false ≡ true = date is in absurd cc)) other
 
 pub returns-in-Ok-clause-range : goal.returns-in-Ok-clause-range
-returns-in-Ok-clause-range c n is = number_in_range c.in-Ok.date.year (pos c.in-Ok.date.month) (pos c.in-Ok.date.day) n (sym c.day_of_date.ensures ∙ is)
+returns-in-Ok-clause-range c n is =
+    number_in_range c.in-Ok.date.year (pos c.in-Ok.date.month) (pos c.in-Ok.date.day) n (sym c.day_of_date.ensures ∙ is)

@@ -9,4 +9,5 @@ put-requires c = is_sound_formula _ _ c.in_ok-state.ensures
 
 pub returns : goal.returns
 returns c =
-    subst (λ s. OnOk c.put.result (c.put.new.self ≡ put_state c.args.store.now c.args.cell s)) c.in_ok-state.ensures c.put.ensures.ok
+    subst (λ s. OnOk c.put.result (c.put.new.self ≡ put_state c.args.store.now c.args.cell s)) c.in_ok-state.ensures
+    c.put.ensures.ok

@@ -1,7 +1,7 @@
 use Rattle.std.proofs.Common.{◌≡◌, ◌+◌, ◌-◌, ◌∙◌, ℕ, Bool, true, false, cond, Some, ap, sym, arith}
 use Rattle.grid_address.specs.Place.{Place}
 use Rattle.sheet_shifts.specs.Refusals.{first_in_row, is_marked_at}
-use Rattle.sheet_shifts.proofs.Rows.{right_by, row_ends, row_step}
+use Rattle.sheet_shifts.proofs.Rows.{right_by, right_place, row_ends, row_step}
 use Rattle.sheet_shifts.proofs.protection.first_in_row.Goals as goal
 
 pub returns-then-is_marked : goal.returns-then-is_marked
@@ -9,11 +9,11 @@ returns-then-is_marked c =
     let test : Place → Bool = is_marked_at c.args.store.now.cells in
     let at : ℕ = c.loop-at.at in
     let here : Place = right_by c.args.first at in
-    let row : c.first.inside.row ≡ c.args.first.row = ap (λ (p : Place). p.row) c.first.view_is in
-    let col : c.from.result + at ≡ c.args.first.col + at = ap (λ k. k + at) (c.from.ensures ∙ ap (λ (p : Place). p.col) c.first.view_is) in
-    let place : ◌≡◌ {A = Place} (record { row = c.first.inside.row; col = c.from.result + at }) here = λ i. record { row = row i; col = col i } in
+    let place =
+    right_place c.first.inside.row c.first.inside.col c.from.result at c.args.first c.first.view_is c.from.ensures in
     let marked : test here ≡ true = sym (ap test place) ∙ sym c.is_marked.ensures ∙ c.if-is_marked.true in
-    ap Some place ∙ sym (ap (λ b. cond b (Some here) (first_in_row test (c.args.width - (at + 1)) (right_by c.args.first (at + 1)))) marked)
+    ap Some place ∙ sym (ap
+    (λ b. cond b (Some here) (first_in_row test (c.args.width - (at + 1)) (right_by c.args.first (at + 1)))) marked)
     ∙ sym (row_step test c.args.width at c.args.first c.loop-at-test.true) ∙ c.loop-at.invariant
 
 pub loop-at-preserved : goal.loop-at-preserved
@@ -21,12 +21,14 @@ loop-at-preserved c =
     let test : Place → Bool = is_marked_at c.args.store.now.cells in
     let at : ℕ = c.loop-at.at in
     let here : Place = right_by c.args.first at in
-    let row : c.first.inside.row ≡ c.args.first.row = ap (λ (p : Place). p.row) c.first.view_is in
-    let col : c.from.result + at ≡ c.args.first.col + at = ap (λ k. k + at) (c.from.ensures ∙ ap (λ (p : Place). p.col) c.first.view_is) in
-    let place : ◌≡◌ {A = Place} (record { row = c.first.inside.row; col = c.from.result + at }) here = λ i. record { row = row i; col = col i } in
+    let place =
+    right_place c.first.inside.row c.first.inside.col c.from.result at c.args.first c.first.view_is c.from.ensures in
     let unmarked : test here ≡ false = sym (ap test place) ∙ sym c.is_marked.ensures ∙ c.if-is_marked.false in
-    sym (ap (λ b. cond b (Some here) (first_in_row test (c.args.width - (at + 1)) (right_by c.args.first (at + 1)))) unmarked)
+    sym (ap (λ b. cond b (Some here) (first_in_row test (c.args.width - (at + 1)) (right_by c.args.first (at + 1))))
+    unmarked)
     ∙ sym (row_step test c.args.width at c.args.first c.loop-at-test.true) ∙ c.loop-at.invariant
 
 pub returns : goal.returns
-returns c = sym (row_ends (is_marked_at c.args.store.now.cells) c.args.width c.loop-at.at c.args.first (omega (arith, c.loop-at-test.false))) ∙ c.loop-at.invariant
+returns c =
+    sym (row_ends (is_marked_at c.args.store.now.cells) c.args.width c.loop-at.at c.args.first
+    (omega (arith, c.loop-at-test.false))) ∙ c.loop-at.invariant

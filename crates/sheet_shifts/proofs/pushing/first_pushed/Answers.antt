@@ -8,4 +8,5 @@ pub returns-in-Ok : goal.returns-in-Ok
 returns-in-Ok c =
     let m = c.args.store.now.cells in
     c.first_pushed_at.ensures ∙ ap (first_pushed_at c.args.change m) (c.as_slice.ensures ∙ c.in-Ok.ensures)
-    ∙ first_listed c.args.change c.leaving.result c.leaving.ensures m (entries m) (all_held m c.are_held.ensures) (all_states m)
+    ∙ first_listed c.args.change c.leaving.result c.leaving.ensures m (entries m) (all_held m c.are_held.ensures)
+    (all_states m)

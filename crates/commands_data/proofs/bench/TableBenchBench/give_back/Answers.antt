@@ -7,9 +7,12 @@ use Rattle.commands_data.proofs.bench.TableBenchBench.give_back.Goals as goal
 pub returns-clause-old : goal.returns-clause-old
 returns-clause-old c =
     let kept = c.args.self.now.kept.now in
-    let same = same_bench kept c.args.self.now.sheet.now c.write_out.new.sheet (c.write_out.ensures.same c.args.self.now.keeps_formats) in
+    let same =
+    same_bench kept c.args.self.now.sheet.now c.write_out.new.sheet
+    (c.write_out.ensures.same c.args.self.now.keeps_formats) in
     on_ok c.write_out.result (λ holds. holds ∙ sym same.kept) c.write_out.ensures.written
 
 pub returns-clause-same : goal.returns-clause-same
 returns-clause-same c =
-    same_bench c.args.self.now.kept.now c.args.self.now.sheet.now c.write_out.new.sheet (c.write_out.ensures.same c.args.self.now.keeps_formats)
+    same_bench c.args.self.now.kept.now c.args.self.now.sheet.now c.write_out.new.sheet
+    (c.write_out.ensures.same c.args.self.now.keeps_formats)

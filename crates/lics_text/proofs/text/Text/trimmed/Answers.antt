@@ -4,7 +4,14 @@ use Rattle.lics_text.proofs.Kept.{front_shorter, trim_kept}
 use Rattle.lics_text.proofs.text.Text.trimmed.Goals as goal
 
 pub single_spaced-requires : goal.single_spaced-requires
-single_spaced-requires c = omega (arith, ap length c.without_front.ensures, front_shorter c.as_slice.result.now, ap length c.as_slice.ensures.value, c.self.invariant.0)
+single_spaced-requires c =
+    omega (
+      arith,
+      ap length c.without_front.ensures,
+      front_shorter c.as_slice.result.now,
+      ap length c.as_slice.ensures.value,
+      c.self.invariant.0,
+    )
 
 pub returns-clause-text : goal.returns-clause-text
 returns-clause-text c =

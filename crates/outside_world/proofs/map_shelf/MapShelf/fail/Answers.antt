@@ -11,4 +11,5 @@ returns-in_default-clause-put c = λ bytes. unchanged_put c.args.name.now bytes 
 
 pub returns-in-Ok-enter-clause-put : goal.returns-in-Ok-enter-clause-put
 returns-in-Ok-enter-clause-put c = λ bytes. no_put c.args.name.now bytes (shelf_told c.args.self.now) _ fault.Failed
-    (λ _. ap told_by (c.in-Ok-enter.ensures.ok ∙ ap (λ (h : Option (List ℕ)). it.Failed h ∷ c.args.self.now.journal.items) c.in-Ok.ensures)) (λ e. absurd cc)
+    (λ _. ap told_by (c.in-Ok-enter.ensures.ok
+    ∙ ap (λ (h : Option (List ℕ)). it.Failed h ∷ c.args.self.now.journal.items) c.in-Ok.ensures)) (λ e. absurd cc)

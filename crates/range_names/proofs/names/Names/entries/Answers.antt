@@ -5,4 +5,6 @@ use Rattle.range_names.proofs.NameMaps.{names_total}
 use Rattle.range_names.proofs.names.Names.entries.Goals as goal
 
 pub returns : goal.returns
-returns c = c.iter.ensures.rest ∙ sym (ap entries (sym c.self.view_is) ∙ entries_kept names_total c.self.inside.map.entries c.iter.ensures.ordered)
+returns c =
+    c.iter.ensures.rest ∙ sym
+    (ap entries (sym c.self.view_is) ∙ entries_kept names_total c.self.inside.map.entries c.iter.ensures.ordered)

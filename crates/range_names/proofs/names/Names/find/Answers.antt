@@ -5,4 +5,7 @@ use Rattle.range_names.proofs.NameMaps.{names_total}
 use Rattle.range_names.proofs.names.Names.find.Goals as goal
 
 pub returns-clause-short : goal.returns-clause-short
-returns-clause-short c = λ _. c.copied.ensures ∙ c.get.ensures.value ∙ sym (get_entries names_total c.self.inside.map.entries c.key_of.result) ∙ ap (λ m. get m c.key_of.result) c.self.view_is ∙ ap (get c.args.self.now) c.key_of.ensures
+returns-clause-short c =
+    λ _. c.copied.ensures ∙ c.get.ensures.value
+    ∙ sym (get_entries names_total c.self.inside.map.entries c.key_of.result)
+    ∙ ap (λ m. get m c.key_of.result) c.self.view_is ∙ ap (get c.args.self.now) c.key_of.ensures

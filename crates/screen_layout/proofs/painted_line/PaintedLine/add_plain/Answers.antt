@@ -13,7 +13,9 @@ invariant_of-self c =
     let long : length c.args.self.now ≡ from = ap length was ∙ length-take-le from line (omega arith) in
     let within : to ≤ 80 = omega (arith, long, c.requires, c.from.ensures) in
     let part : length c.put_plain.new.cell ≡ to - from =
-    c.put_plain.ensures.size ∙ ap length (blank_part from to line (omega arith) within (c.self.invariant.1)) ∙ length-replicate {A = ℕ} (to - from) 32 in (
+    c.put_plain.ensures.size ∙ ap length (blank_part from to line (omega arith) within (c.self.invariant.1))
+    ∙ length-replicate {A = ℕ} (to - from) 32 in (
       within,
-      drop-put_mid from (to - from) line c.put_plain.new.cell to (omega arith) (omega arith) part ∙ later_blank from to line (omega arith) within (c.self.invariant.1),
+      drop-put_mid from (to - from) line c.put_plain.new.cell to (omega arith) (omega arith) part
+          ∙ later_blank from to line (omega arith) within (c.self.invariant.1),
     )

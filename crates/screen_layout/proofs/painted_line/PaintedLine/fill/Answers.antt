@@ -4,7 +4,11 @@ use Rattle.screen_layout.proofs.Blanks.{later_blank, longer_by_blanks}
 use Rattle.screen_layout.proofs.painted_line.PaintedLine.fill.Goals as goal
 
 pub invariant_of-self : goal.invariant_of-self
-invariant_of-self c = (omega arith, later_blank c.self.inside.len c.args.column c.self.inside.bytes (omega arith) (omega arith) (c.self.invariant.1))
+invariant_of-self c = (
+  omega arith,
+  later_blank c.self.inside.len c.args.column c.self.inside.bytes (omega arith) (omega arith)
+      (c.self.invariant.1),
+)
 
 pub returns-then-self-column : goal.returns-then-self-column
 returns-then-self-column c =

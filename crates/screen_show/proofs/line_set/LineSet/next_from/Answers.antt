@@ -4,10 +4,14 @@ use Rattle.screen_show.proofs.line_set.LineSet.next_from.Goals as goal
 
 pub returns-then-rest-eq0-clause-passed : goal.returns-then-rest-eq0-clause-passed
 returns-then-rest-eq0-clause-passed c k from before =
-    sym (ap (λ lines. slice_get lines k) c.self.view_is) ∙ nothing_left c.self.inside.bits c.args.row c.requires c.if-rest-eq0.true k from before
+    sym (ap (λ lines. slice_get lines k) c.self.view_is)
+    ∙ nothing_left c.self.inside.bits c.args.row c.requires c.if-rest-eq0.true k from before
 
 pub returns-clause-within : goal.returns-clause-within
-returns-clause-within c = (next_on c.self.inside.bits c.args.row c.requires c.if-rest-eq0.false c.min.result c.min.ensures, omega (arith, c.min.ensures))
+returns-clause-within c = (
+  next_on c.self.inside.bits c.args.row c.requires c.if-rest-eq0.false c.min.result c.min.ensures,
+  omega (arith, c.min.ensures),
+)
 
 pub returns-clause-passed : goal.returns-clause-passed
 returns-clause-passed c k from before =
