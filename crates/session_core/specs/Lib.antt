@@ -12,4 +12,5 @@ pub mod Screen
 pub mod Standing
 pub mod Step
 pub mod Touches
+pub mod Unfailing
 pub mod Waiting
