@@ -3,15 +3,12 @@ from . import macro, menu, session
 from .keys import FILE_WORDS
 
 # What the program has not built as yet; a word goes when it is built. The menus don't show these paths and no letter takes
-# them, these keys are passed over, these words are none in a macro, and these are refused before the keys.
+# them, these keys are passed over, and these words are none in a macro.
 NOT_IN_MENUS = set()
 NOT_IN_KEYS = {'undo'}
 NOT_IN_MACROS = {*FILE_WORDS}
-NOT_IN_WORDS = {b'--gen'}
 
 
 def leave_out():
     """From here on the oracle knows no more than the program has built."""
-    from . import cli                        # which imports this module
-    cli.NOT_BUILT = NOT_IN_WORDS
     menu.NOT_BUILT, session.NOT_BUILT, macro.NOT_BUILT = NOT_IN_MENUS, NOT_IN_KEYS, NOT_IN_MACROS

@@ -13,9 +13,9 @@ from .session import Session
 from .sheet import Sheet
 
 LIMIT = 67108864
-WORDS = {b'--file', b'--steps', b'--show', b'--count', b'--gen'}
-# words that the program has not built, where the oracle is to leave them out
-NOT_BUILT = set()
+WORDS = {b'--file', b'--steps', b'--show', b'--count', b'--gen', b'--strict'}
+# words that take no value
+FLAGS = {'count', 'strict'}
 
 
 class BadWord(Exception):
@@ -24,7 +24,7 @@ class BadWord(Exception):
 
 
 def read_words(words):
-    """--file NAME, --steps N, --show KIND, --count, --gen N, in any order, each at most once; a value in the next
+    """--file NAME, --steps N, --show KIND, --count, --gen N, --strict, in any order, each at most once; a value in the next
     word or after `=`.  BadWord holds the refused word, or the value alone where a value is refused."""
     out = {}
     i = 0
@@ -32,15 +32,15 @@ def read_words(words):
         w = words[i]
         i += 1
         name, eq, value = w.partition(b'=')
-        if name not in WORDS - NOT_BUILT:
+        if name not in WORDS:
             raise BadWord(w)
         key = name[2:].decode()
         if key in out or (key == 'file' and 'gen' in out) or (key == 'gen' and 'file' in out):
             raise BadWord(w)
-        if key == 'count':
+        if key in FLAGS:
             if eq:
                 raise BadWord(w)
-            out['count'] = True
+            out[key] = True
             continue
         if not eq:
             if i >= len(words):              # the option whose value is missing
@@ -125,7 +125,7 @@ def top_call(words, keys, shelf, clock, displays, failed, notes):
     reader = KeyReader()
     repeat = None                            # [key, times left]
     before = EMPTY_GRID
-    status, note = 0, None
+    status, note, done = 0, None, 'more'
     while True:
         event = None
         if session.wants_key():
@@ -173,7 +173,13 @@ def top_call(words, keys, shelf, clock, displays, failed, notes):
         before = after
         if done == 'quit':
             break
-    for d in list(displays):                 # with 0, 3, 4 or 5 found
+        if 'strict' in opts and session.refused is not None:
+            status, note = 10, b'step %d at byte %d: %s' % (out.steps, reader.taken, session.refused)
+            break
+    if 'strict' in opts and status == 0 and done != 'quit' and (session.mode != 'READY' or session.engine.running):
+        left_in = b'CMD' if session.mode == 'READY' else session.mode.encode()
+        status, note = 10, b'step %d at byte %d: ended in %s' % (out.steps, reader.taken, left_in)
+    for d in list(displays):                 # with 0, 3, 4, 5 or 10 found
         try:
             d.close()
         except Failed:
@@ -210,7 +216,7 @@ class Result:
 
 
 def to_words(words):
-    return [w if isinstance(w, bytes) else w.encode() for w in words]
+    return [os.fsencode(w) for w in words]
 
 
 def run(words, key_bytes, files=None, clock=None, failing=None, kinds=('pages',)):

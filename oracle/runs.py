@@ -2,9 +2,9 @@
 go the worked ones of worked/runs, each a line of the program's words and keys, as a bytes literal spells them, and files of its folder as
 NAME=BYTES, parted by tabs; then random ones.
 
-python3 -B -m oracle.runs PROGRAM N [SEED] [--macros] [--processes P]
+python3 -B -m oracle.runs PROGRAM N [SEED] [--macros] [--strict] [--processes P]
 
-With --macros each list types two to four sheets of macros, and none of data commands; P processes share the lists, as many as the machine
+With --macros each list types two to four sheets of macros, and none of data commands; with --strict each run is strict; P processes share the lists, as many as the machine
 has processors where P isn't given.
 
 A random key list is made of what the program has built; WITHOUT and the makers of Typist and MenuKeys grow with it. Each run has a folder of
@@ -43,7 +43,10 @@ NO_NAMES = Names()
 BAD_WORDS = [['--show'], ['--show', 'page'], ['--steps', '0'], ['--steps=10000001'], ['--count=1'], ['keys'], ['--count', '--count'],
              ['--steps'], ['--show=last', '--show', 'last'], ['--steps='], ['--file'], ['--file='], ['--file', '-A'], ['--file=A.PRN'],
              ['--file', 'TOO_LONG9'], ['--file=A', '--file', 'B'], ['--file', 'A/B'], ['--file', '../A'], ['-file', 'A'], ['A.WK1'],
-             ['--file', '--count'], ['--count', '--file=a b']]
+             ['--file', '--count'], ['--count', '--file=a b'], ['--gen'], ['--gen='], ['--gen=0'], ['--gen', '8001'], ['--gen=1', '--gen=2'],
+             ['--gen=3', '--file=A'], ['--file', 'A', '--gen', '3'], ['--strict=1'], ['--strict', '--count', '--strict'],
+             ['caf\udce9', 'keys'], ['--file', '\udcff'], ['--count', '--show=\udcc4x', 'keys'], ['first', '\udcff']]
+
 
 class Run(NamedTuple):
     """The program's words, the keys, and what its folder holds by name: files, and None for a folder."""
@@ -59,8 +62,8 @@ SHEETS = ['SHEET', *('SHEET%d' % number for number in range(2, 9))]
 class Typist:
     """Makes key lists, the words before them and the folder in which they are typed."""
 
-    def __init__(self, r, macros_alone=False):
-        self.r, self.macros_alone = r, macros_alone
+    def __init__(self, r, macros_alone=False, strict=False):
+        self.r, self.macros_alone, self.strict = r, macros_alone, strict
         self.texts = Texts(r, 3, 5, False, [], without=WITHOUT)
         self.menus = MenuKeys(self)
         self.data, self.macros = DataKeys(self.menus), MacroKeys(self.menus)
@@ -252,6 +255,11 @@ class Typist:
         spelled = (r.choice(SPELLED) % (name if r.randrange(3) else name.lower())).decode()
         return r.choice([['--file', spelled], ['--file=' + spelled]])
 
+    def rows(self):
+        """The word for a generated sheet, mostly of few rows."""
+        many = self.r.choice([1, 2, 3, 5, 20, 21, 40, 300])
+        return self.r.choice([['--gen', '%d' % many], ['--gen=%d' % many]])
+
     def steps(self):
         """The limit of steps, or none; a macro may run without an end."""
         r = self.r
@@ -274,6 +282,10 @@ class Typist:
             out.append(['--count'])
         if self.opened or r.randrange(2 if self.menus.there else 16) == 0:
             out.append(self.start())
+        elif r.randrange(6) == 0:
+            out.append(self.rows())
+        if self.strict or r.randrange(6) == 0:
+            out.append(['--strict'])
         r.shuffle(out)
         return sum(out, [])
 
@@ -396,9 +408,9 @@ def run_differs(program, given):
     return screens, written, why and 'runs: ' + why_differs(given, why)
 
 
-def compared(program, seed, macros_alone, number):
+def compared(program, seed, macros_alone, strict, number):
     """A run of random keys."""
-    typist = Typist(random.Random(f'{seed} run {number}'), macros_alone)
+    typist = Typist(random.Random(f'{seed} run {number}'), macros_alone, strict)
     keys, options = typist.keys(), typist.words()
     return run_differs(program, Run(options, keys, typist.folder))
 
@@ -438,10 +450,11 @@ def main(words):
     asked.add_argument('count', type=int)
     asked.add_argument('seed', nargs='?', default=SEED)
     asked.add_argument('--macros', action='store_true')
+    asked.add_argument('--strict', action='store_true')
     asked.add_argument('--processes', type=int)
     asked = asked.parse_args(words)
     count, seed = asked.count, asked.seed
-    one = functools.partial(compared, asked.program, seed, asked.macros)
+    one = functools.partial(compared, asked.program, seed, asked.macros, asked.strict)
     with concurrent.futures.ProcessPoolExecutor(asked.processes, initializer=prepare) as pool:
         first = list(pool.map(functools.partial(worked_run, asked.program), worked('runs').splitlines(), chunksize=5))
         runs = first + list(pool.map(one, range(count), chunksize=5))

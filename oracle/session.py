@@ -82,6 +82,7 @@ class Session:
         """event: ('key', key) or ('unit',).  'more' or 'quit'."""
         self.moment = dates.Moment(*now)     # a step reads the clock first
         self.shelf = shelf
+        self.refused = None
         outside_ready = self.mode == 'READY' and not self.engine.running
         if outside_ready and not (event[0] == 'key' and event[1] == UNDO):
             self.history.begin(self.sheet)   # a command begins
@@ -107,12 +108,12 @@ class Session:
         if self.engine.running and self.engine.catch_error(e.message, self.sheet, self.scene(), self.tally):
             return
         self.mode = 'ERROR'
-        self.message = e.message
+        self.message = self.refused = e.message
 
     def macro_fault(self, number, cell):
         self.ready()
         self.mode = 'ERROR'
-        self.message = b'Macro fault M%d at %s' % (number, address.cell_text(cell))
+        self.message = self.refused = b'Macro fault M%d at %s' % (number, address.cell_text(cell))
 
     def applied(self, r):
         if r[0] == 'error':
@@ -316,6 +317,7 @@ class Session:
             self.mode = 'EDIT'
             self.entry = EntryLine(line)
             self.entry.cursor = content[1]
+            self.refused = b'refused at %d: %s' % (content[1], line)
             return
         try:
             self.sheet.enter_line(self.sheet.settings.pointer, content, self.scene(), self.tally)
@@ -439,6 +441,8 @@ class Session:
             else:
                 self.path, self.high = PARENT[self.path], 0
         if chosen is None:
+            if k == 'byte':                  # a letter that takes no item
+                self.refused = b'no item ' + bytes([key[1]])
             return
         if self.choice is not None:
             if chosen == 0:                  # No and Cancel do nothing and go to READY

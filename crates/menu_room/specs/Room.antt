@@ -1,5 +1,5 @@
 -- What a key comes to in MENU, and what is shown there.
-use Rattle.std.specs.Prelude.{ℕ, List, [], length, map, take, Option, None, Some, slice_get}
+use Rattle.std.specs.Prelude.{ℕ, Bool, is_some, not, List, [], length, map, take, Option, None, Some, slice_get}
 use Rattle.control_panel.specs.Panels.{plain_panel}
 use Rattle.control_panel.specs.declared.panel.Mode.TheVariants as mode
 use Rattle.control_panel.specs.declared.panel.Panel.{Panel}
@@ -48,6 +48,10 @@ press key.Enter r = taken_or (slice_get (items r.menu) r.highlight) r
 press (key.Byte b) r = taken_or (chosen (items r.menu) b) r
 press key.Esc r = turn.Become (menu_or_ready (parent r.menu))
 press k r = turn.Become (room.Menu (record r { highlight = highlight_after k r }))
+
+-- no item of the menu begins with a letter
+abbrev pub lacks_item : ℕ → MenuRoom → Bool
+lacks_item b r = not (is_some (chosen (items r.menu) b))
 
 -- the names of a menu's items
 abbrev pub names_of : Menu → List (List ℕ)

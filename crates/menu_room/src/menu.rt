@@ -1,6 +1,7 @@
 // What a key comes to in MENU, and what is shown there.
 ghost use Rattle.std.specs.Prelude.{◌≡◌, map, slice_get};
-ghost use Rattle.menu_room.specs.Room.{highlight_after, menu_or_ready, names_below, opened, panel, press, taken, taken_or};
+ghost use Rattle.menu_room.specs.Room.{highlight_after, lacks_item, menu_or_ready, names_below, opened, panel, press};
+ghost use Rattle.menu_room.specs.Room.{taken, taken_or};
 ghost use Rattle.menu_tree.specs.Tree.{item_name};
 
 use crate::lines::{items_line, listed};
@@ -74,6 +75,13 @@ pub fn press(alloc: Global, key: Key, room: MenuRoom) -> Turn
             ..room
         })),
     }
+}
+
+/// Whether no item of the menu begins with a letter, in either case: typed there, it is passed over.
+pub fn lacks_item(room: &MenuRoom, letter: u8) -> bool
+    ensures { result ≡ lacks_item letter room.now }
+{
+    choose(items(room.menu), letter).is_none()
 }
 
 // The items of the next level; an action has none.

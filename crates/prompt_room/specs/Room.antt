@@ -1,5 +1,6 @@
 -- What a key comes to in a prompt.
-use Rattle.std.specs.Prelude.{ℕ, zero, suc, Bool, true, false, nat_eq, List, [], ◌∷◌, ◌++◌, codes, length, position, Option, None, Some, if◌then◌else◌}
+use Rattle.std.specs.Prelude.{ℕ, zero, suc, Bool, true, false, is_some, nat_eq, not, List, [], ◌∷◌, ◌++◌, codes, length}
+use Rattle.std.specs.Prelude.{position, Option, None, Some, if◌then◌else◌}
 use Rattle.ascii_bytes.specs.Ascii as ascii
 use Rattle.key_words.specs.declared.key.Key.{Key}
 use Rattle.key_words.specs.declared.key.Key.TheVariants as key
@@ -127,6 +128,10 @@ abbrev pub decided : ℕ → AnsweredCommand → Turn
 decided zero c = turn.Become room.Ready
 decided (suc n) c = turn.Act c
 
+-- the place of the item that begins with a letter
+abbrev pub item_for : ℕ → AnsweredCommand → Option ℕ
+item_for b c = position (λ n. begins n b) (choice_names (next_ask c))
+
 -- a letter takes the item that begins with it
 abbrev pub decided_or : Option ℕ → AnsweredCommand → ℕ → Turn
 decided_or None c h = asking c (answering.Choosing h)
@@ -135,7 +140,7 @@ decided_or (Some n) c h = decided n c
 -- Enter takes the highlighted item, a letter its own, ESC gives the command up, and arrows highlight
 abbrev pub press_choosing : Key → AnsweredCommand → ℕ → Turn
 press_choosing key.Enter c h = decided h c
-press_choosing (key.Byte b) c h = decided_or (position (λ n. begins n b) (choice_names (next_ask c))) c h
+press_choosing (key.Byte b) c h = decided_or (item_for b c) c h
 press_choosing key.Esc c h = turn.Become room.Ready
 press_choosing k c h = asking c (answering.Choosing (highlighted k 2 h))
 
@@ -145,6 +150,17 @@ press_by (answering.Pointing p) k s c = press_pointing k s c p
 press_by (answering.Typing e) k s c = press_line k s c false e
 press_by (answering.Kept e) k s c = press_kept k s c e
 press_by (answering.Choosing h) k s c = press_choosing k c h
+
+-- one of two items is chosen, and a letter takes none of them
+abbrev pub lacks_item_by : Answering → ℕ → AnsweredCommand → Bool
+lacks_item_by (answering.Pointing p) b c = false
+lacks_item_by (answering.Typing e) b c = false
+lacks_item_by (answering.Kept e) b c = false
+lacks_item_by (answering.Choosing h) b c = not (is_some (item_for b c))
+
+-- a letter takes no item of a choice
+abbrev pub lacks_item : ℕ → PromptRoom → Bool
+lacks_item b r = lacks_item_by r.answering b r.command
 
 -- what a key comes to over this sheet
 abbrev pub press : Key → Sheet → PromptRoom → Turn

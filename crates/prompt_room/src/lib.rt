@@ -7,4 +7,4 @@ mod prompt;
 
 pub use following::{WhatFollows, opening};
 pub use panels::panel;
-pub use prompt::press;
+pub use prompt::{lacks_item, press};

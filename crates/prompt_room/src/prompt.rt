@@ -5,7 +5,10 @@ ghost use Rattle.lics_text.specs.Bytes.{IsText};
 ghost use Rattle.menu_tree.specs.Tree.{begins};
 ghost use Rattle.desk_answers.specs.Readings.{fault_in, refusal_of};
 ghost use Rattle.prompt_room.specs.Opening.{next_ask};
-ghost use Rattle.prompt_room.specs.Room.{answered, asking, choice_names, decided, decided_or, line_answering, name_behind, name_line, press, press_choosing, press_kept, press_line, press_pointing, refusal_by, shown, steered_prompt, takes_names, typed_by, typed_byte};
+ghost use Rattle.prompt_room.specs.Room.{answered, asking, choice_names, decided, decided_or, lacks_item, line_answering};
+ghost use Rattle.prompt_room.specs.Room.{name_behind, name_line, press, press_choosing, press_kept, press_line};
+ghost use Rattle.prompt_room.specs.Room.{press_pointing, refusal_by, shown, steered_prompt, takes_names, typed_by};
+ghost use Rattle.prompt_room.specs.Room.{typed_byte};
 ghost use Rattle.range_names.specs.Names.{next_name};
 ghost use Rattle.work_sheet.specs.Seen.{of_worksheet};
 
@@ -257,6 +260,17 @@ fn press_choosing(key: Key, command: AnsweredCommand, highlight: usize) -> Turn
             command,
             Answering::Choosing(highlighted(&key, 2, highlight)),
         ),
+    }
+}
+
+/// Whether one of two items is chosen and none of them begins with a letter, in either case: typed there, it is passed
+/// over.
+pub fn lacks_item(room: &PromptRoom, letter: u8) -> bool
+    ensures { result ≡ lacks_item letter room.now }
+{
+    match room.answering {
+        Answering::Choosing(_) => chosen(next_ask(&room.command), letter).is_none(),
+        Answering::Pointing(_) | Answering::Typing(_) | Answering::Kept(_) => false,
     }
 }
 

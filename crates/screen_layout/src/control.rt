@@ -28,8 +28,8 @@ const MODE_COLUMN: usize = 73;
 // The last column of the screen.
 const LAST_COLUMN: usize = 79;
 
-// The word that tells a mode.
-fn mode_name(mode: Mode) -> &'static [u8]
+/// The word that tells a mode (Release 2 manual, the mode indicator).
+pub fn mode_name(mode: Mode) -> &'static [u8]
     ensures name { result.now ≡ mode_name mode }
     ensures size { length result.now ≤ 5 }
 {

@@ -12,6 +12,7 @@ mod screen;
 mod shown_columns;
 mod widths;
 
+pub use control::mode_name;
 pub use corner::corner_for;
 pub use foot::wants_recalculation;
 pub use panel_view::PanelView;

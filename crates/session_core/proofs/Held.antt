@@ -32,9 +32,9 @@ use Rattle.work_sheet.specs.Doing as doing
 use Rattle.session_core.specs.Act.{act}
 use Rattle.session_core.specs.Carrying.{acted, asked, behind, carried, done_by, entered, failed, finished, finished_as, going, is_pointer_protected, left_by, looked_as, looking, opened, started, started_at}
 use Rattle.session_core.specs.Entering.{meaning_of}
-use Rattle.session_core.specs.Machine.{and_further, idle, is_running, pointer_of, sheet_of, with_done, with_macro, FrozenAreas, Outcome, Replies, State}
+use Rattle.session_core.specs.Machine.{and_further, is_running, pointer_of, sheet_of, with_done, with_macro, FrozenAreas, Outcome, Replies, State}
 use Rattle.session_core.specs.Pressing.{turn_of}
-use Rattle.session_core.specs.Step.{answered, come_to, event_taken, given, pressed_key, run_on, seen_from, stepped, taken}
+use Rattle.session_core.specs.Step.{answered, come_to, event_taken, given, pressed_key, run_on, seen_from, stepped, taken, typed_into}
 use Rattle.session_core.specs.declared.entering.Meant.{Meant}
 use Rattle.session_core.specs.declared.entering.Meant.TheVariants.{Means, Faulty as Misread}
 use Rattle.session_core.specs.declared.event.Event.{Event}
@@ -100,7 +100,7 @@ by_turn turn.Undo replies scene s = refl
 by_turn (turn.Fail e) replies scene s = by_failing e scene s
 
 by_taking : (k : Key) (replies : Replies) (scene : Scene) (s : State) → (taken k replies scene s).state.frozen ≡ s.frozen
-by_taking k replies scene s = by_turn (turn_of k s.room s.end s.desk) replies scene (idle s)
+by_taking k replies scene s = by_turn (turn_of k s.room s.end s.desk) replies scene (typed_into k s)
 
 by_end : (e : StepEnd) (replies : Replies) (scene : Scene) (s : State) → (come_to e replies scene s).state.frozen ≡ s.frozen
 by_end (Types k) replies scene s = by_taking k replies scene s

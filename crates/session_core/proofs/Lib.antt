@@ -1,4 +1,5 @@
 pub mod Acted
+pub mod Afresh
 pub mod Alone
 pub mod Answered
 pub mod Failing

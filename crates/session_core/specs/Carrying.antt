@@ -44,6 +44,7 @@ use Rattle.session_core.specs.Machine.{and_further, followed_by, in_room, pointe
 use Rattle.session_core.specs.Machine.{is_running, with_done, with_macro, Outcome, Replies, State}
 use Rattle.session_core.specs.declared.entering.Meant.{Meant}
 use Rattle.session_core.specs.declared.entering.Meant.TheVariants.{Means, Faulty}
+use Rattle.session_core.specs.declared.refusal.Refusal.TheVariants as refusal
 
 -- a message is told in ERROR, and a macro that runs stops
 abbrev pub told : List ℕ → State → State
@@ -95,10 +96,14 @@ entered x way scene s =
 abbrev pub editing : Entry → State → State
 editing line s = in_room (room.Typing (record { mode = typing.Edit; line = line })) s
 
+-- a line with a fault is refused, and edited with the cursor at the fault
+abbrev pub faulting : Entry → State → State
+faulting line s = record (editing line s) { refusal = refusal.Line }
+
 -- a fault goes to EDIT, with the cursor at its place
 abbrev pub finished_as : Meant → Way → Entry → Scene → State → Outcome
 finished_as (Means x) way line scene s = entered x way scene s
-finished_as (Faulty at) way line scene s = quiet (editing (placed line at) s)
+finished_as (Faulty at) way line scene s = quiet (faulting (placed line at) s)
 
 -- the line is entered into the pointer's cell, and then the pointer moves
 abbrev pub finished : Way → Entry → Scene → State → Outcome

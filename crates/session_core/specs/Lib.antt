@@ -7,7 +7,10 @@ pub mod Glances
 pub mod Machine
 pub mod Moving
 pub mod Pressing
+pub mod Refusing
 pub mod Screen
+pub mod Standing
 pub mod Step
 pub mod Touches
+pub mod Unfailing
 pub mod Waiting

@@ -9,6 +9,8 @@ use Rattle.macro_words.specs.declared.running.Running.{Running}
 use Rattle.serial_date.specs.declared.moment.Moment.{Moment}
 use Rattle.session_rooms.specs.declared.rooms.Room.{Room}
 use Rattle.session_rooms.specs.declared.rooms.Room.TheVariants.{Ready}
+use Rattle.session_core.specs.declared.refusal.Refusal.{Refusal}
+use Rattle.session_core.specs.declared.refusal.Refusal.TheVariants as refusal
 use Rattle.work_sheet.specs.Doing.{with_pointer, Done, Happened}
 use Rattle.work_sheet.specs.Seen.{Sheet}
 use Rattle.work_sheet.specs.Work.{HasWorked, Work}
@@ -21,7 +23,7 @@ pub record FrozenAreas : Type 0 where
 
 -- The desk with the worksheet and its pointer, the cell at the top left of the screen, what the session is doing,
 -- whether END waits for a moving key, the macro that runs, the text that a macro put in the mode's place, what of the
--- screen stands still, and the day and the second of the last step.
+-- screen stands still, what the last step refused beside an error, and the day and the second of that step.
 pub record State : Type 0 where
   pub desk : Desk
   pub corner : Place
@@ -30,6 +32,7 @@ pub record State : Type 0 where
   pub running : Option Running
   pub indicate : List ℕ
   pub frozen : FrozenAreas
+  pub refusal : Refusal
   pub day : Option ℕ
   pub second : ℕ
 
@@ -62,6 +65,7 @@ begun_with d = record {
   running = None;
   indicate = [];
   frozen = unfrozen;
+  refusal = refusal.Nothing;
   day = None;
   second = 0;
 }
@@ -105,6 +109,10 @@ in_room r s = record s { room = r }
 -- in READY, without END's mark
 abbrev pub idle : State → State
 idle s = record s { room = Ready; end = false }
+
+-- nothing is refused yet
+abbrev pub afresh : State → State
+afresh s = record s { refusal = refusal.Nothing }
 
 -- this macro runs, or none
 abbrev pub with_macro : Option Running → State → State

@@ -13,17 +13,22 @@ use Rattle.screen_layout.specs.Corner.{corner_for}
 use Rattle.serial_date.specs.declared.moment.Moment.{Moment}
 use Rattle.session_core.specs.Carrying.{carried, failed, recalculated, told}
 use Rattle.session_core.specs.Faults.{fault_message}
-use Rattle.session_core.specs.Machine.{and_further, followed_by, idle, pointer_of, quiet, scene_at, sheet_of}
+use Rattle.session_core.specs.Machine.{afresh, and_further, followed_by, idle, pointer_of, quiet, scene_at, sheet_of}
 use Rattle.session_core.specs.Machine.{with_done, with_macro, Follows, Outcome, Replies, SessionView, State}
 use Rattle.session_core.specs.Pressing.{turn_of}
+use Rattle.session_core.specs.Refusing.{key_refused}
 use Rattle.session_core.specs.Frozen.{frozen_after, switches_of}
 use Rattle.session_core.specs.Screen.{screen}
 use Rattle.session_core.specs.declared.event.Event.{Event}
 use Rattle.session_core.specs.declared.event.Event.TheVariants.{Key as KeyEvent, Unit as UnitEvent}
 
+-- in READY, without END's mark, with what is refused of a key
+abbrev pub typed_into : Key → State → State
+typed_into k s = record (idle s) { refusal = key_refused k s.room }
+
 -- What the key comes to is carried out in READY, without END's mark, whether it is pressed or a macro types it.
 abbrev pub taken : Key → Replies → Scene → State → Outcome
-taken k replies scene s = carried (turn_of k s.room s.end s.desk) replies scene (idle s)
+taken k replies scene s = carried (turn_of k s.room s.end s.desk) replies scene (typed_into k s)
 
 -- seen from where the pointer now stands
 abbrev pub seen_from : Scene → State → Scene
@@ -82,7 +87,8 @@ event_taken UnitEvent replies scene s = run_on replies scene s
 
 -- One step, over what the shelf answers in it, and then the screen follows it.
 abbrev pub step : Event → Moment → Replies → State → Outcome
-step event now replies s = and_further (event_taken event replies (scene_at s now) s) (framed (screen s) now)
+step event now replies s =
+    and_further (event_taken event replies (scene_at s now) (afresh s)) (framed (screen s) now)
 
 -- before the first step the sheet is recalculated, at this moment
 abbrev pub loaded : Moment → State → Outcome

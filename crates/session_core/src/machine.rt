@@ -5,10 +5,10 @@ ghost use Rattle.commands_file.specs.Calls.{shelf_view, HasBrokenOff};
 ghost use Rattle.entry_line.specs.Line.{placed};
 ghost use Rattle.macro_engine.specs.Keys.{broken_off};
 ghost use Rattle.screen_show.specs.Screen.{IsPrinted};
-ghost use Rattle.session_core.specs.Carrying.{acted, asked, carried, editing, entered, failed, finished, going, left_by};
+ghost use Rattle.session_core.specs.Carrying.{acted, asked, carried, entered, failed, faulting, finished, going, left_by};
 ghost use Rattle.session_core.specs.Carrying.{is_pointer_protected, looking, recalculated, settling, started, told, writing};
 ghost use Rattle.session_core.specs.Frozen.{switches_of};
-ghost use Rattle.session_core.specs.Machine.{begun_with, in_room, pointer_of, pointing_at, scene_at, sheet_of};
+ghost use Rattle.session_core.specs.Machine.{afresh, begun_with, in_room, pointer_of, pointing_at, scene_at, sheet_of};
 ghost use Rattle.session_core.specs.Machine.{wants_key, with_macro};
 ghost use Rattle.session_core.specs.Machine.{Leads, LeadsBy, LeadsOver};
 ghost use Rattle.session_core.specs.Moving.{IsMoved, OnlyMoves, OnlyMovesBy, OnlyMovesByKey};
@@ -19,6 +19,7 @@ ghost use Rattle.session_core.specs.Touches.{touches_row, HasTouched, Settles};
 ghost use Rattle.work_sheet.specs.Did.{work_of};
 
 mod painting;
+mod refusing;
 
 use crate::acting::act;
 use crate::entering::{Meant, meaning_of};
@@ -26,6 +27,7 @@ use crate::event::Event;
 use crate::faults::fault_message;
 use crate::frozen::Frozen;
 use crate::pressing::turn_of;
+use crate::refusal::{Refusal, key_refused};
 use crate::rows::{ROWS, insert_cells, insert_row};
 use crate::touched::{Taken, Touched};
 use cell_pointer::{Way, moved};
@@ -57,7 +59,7 @@ use std::mem;
 const HOME: Cell = Cell { row: 0, col: 0 };
 
 /// The desk with the worksheet and its pointer, the cell at the top left of the screen, what the session is doing, and
-/// the moment of the last step.
+/// what the last step refused and its moment.
 #[derive(Drop)]
 pub struct Machine {
     desk: Desk,
@@ -68,6 +70,7 @@ pub struct Machine {
     engine: Engine,
     indicate: Line,
     frozen: Frozen,
+    refusal: Refusal,
     moment: Moment,
 }
 
@@ -91,6 +94,7 @@ impl Model for Machine {
         running = a.engine;
         indicate = a.indicate;
         frozen = a.frozen;
+        refusal = a.refusal;
         day = a.moment.day;
         second = a.moment.second;
       };
@@ -132,6 +136,7 @@ impl Machine {
             engine,
             indicate: Line::new(),
             frozen: Frozen::none(),
+            refusal: Refusal::Nothing,
             moment: Moment::unknown(),
         }
     }
@@ -141,6 +146,13 @@ impl Machine {
         ensures { result ≡ wants_key self.now.state }
     {
         !self.engine.is_running() || self.engine.awaits_key()
+    }
+
+    /// The worksheet, and what commands keep beside it.
+    pub fn desk(&self) -> &Desk
+        ensures { of_desk result.now ≡ self.now.state.desk }
+    {
+        &self.desk
     }
 
     /// How many formulas were evaluated; the count stays at the last u64.
@@ -334,11 +346,12 @@ impl Machine {
         }
     }
 
-    // A line is edited, with the cursor at a place or at its end.
-    fn edit_at(&mut self, at: usize, mut line: EntryLine)
-        ensures state { self.new.state ≡ editing (placed line at) self.old.state }
+    // A line with a fault is refused, and edited with the cursor at the fault or at its end.
+    fn refuse_at(&mut self, at: usize, mut line: EntryLine)
+        ensures state { self.new.state ≡ faulting (placed line at) self.old.state }
         ensures work { self.new.work ≡ self.old.work }
     {
+        self.refusal = Refusal::Line;
         line.set_cursor(at.min(line.text().len()));
         self.enter_room(Room::Typing(TypingRoom {
             mode: TypingMode::Edit,
@@ -435,7 +448,7 @@ impl Machine {
         match meaning_of(line.text(), &self.desk.sheet, self.pointer())? {
             Meant::Means(content) => self.enter(content, way, now),
             Meant::Faulty(at) => {
-                self.edit_at(at, line);
+                self.refuse_at(at, line);
                 Ok(Touched::Nothing)
             }
         }
@@ -529,6 +542,7 @@ impl Machine {
         let end = self.end;
         let room = mem::replace(&mut self.room, Room::Ready);
         self.end = false;
+        self.refusal = key_refused(&key, &room);
         let turn = turn_of(key, room, end, &self.desk)?;
         self.carry(turn, now, shelf)
     }
@@ -720,6 +734,14 @@ impl Machine {
         self.calculate(now)?;
         self.moment = *now;
         Ok(())
+    }
+
+    /// A step begins: nothing is refused yet.
+    pub fn begin(&mut self)
+        ensures state { self.new.state ≡ afresh self.old.state }
+        ensures work { self.new.work ≡ self.old.work }
+    {
+        self.refusal = Refusal::Nothing;
     }
 
     // What the macro that runs has switched on.

@@ -1,19 +1,24 @@
 // A session, step by step.
-ghost use Rattle.std.specs.Prelude.{◌≡◌, OnErr, OnOk, false, true};
+ghost use Rattle.std.specs.Prelude.{◌≡◌, ◌≤◌, [], OnErr, OnOk, false, is_some, length, true};
+ghost use Rattle.std.specs.Option.{unwrap_or};
 ghost use Rattle.command_desk.specs.Desks.{of_desk};
 ghost use Rattle.commands_file.specs.Calls.{shelf_view, HasBrokenOff};
 ghost use Rattle.screen_show.specs.Changes.{Unchanged};
 ghost use Rattle.screen_show.specs.Screen.{IsScreen, IsPrinted};
 ghost use Rattle.session_core.specs.Machine.{begun, sheet_of, wants_key, Follows};
 ghost use Rattle.session_core.specs.Moving.{IsMoved, OnlyMovesBy};
+ghost use Rattle.session_core.specs.Refusing.{joined};
 ghost use Rattle.session_core.specs.Screen.{screen};
+ghost use Rattle.session_core.specs.Standing.{is_at_rest, left_in, refused};
 ghost use Rattle.session_core.specs.Step.{is_key, loaded, HasTakenStep};
 ghost use Rattle.work_sheet.specs.Did.{work_of};
 
 use crate::glance::changed_lines;
 use crate::machine::Machine;
+use crate::refusal::RefusedText;
 use crate::{Event, Stepped};
 use command_desk::Desk;
+use lics_text::MAX_LEN;
 use outside_world::{Memory, Shelf};
 use screen_show::{LineSet, Screen};
 use serial_date::Moment;
@@ -100,6 +105,13 @@ impl Session {
         self.machine.evaluations()
     }
 
+    /// The worksheet, and what commands keep beside it.
+    pub fn desk(&self) -> &Desk
+        ensures { of_desk result.now ≡ self.now.state.desk }
+    {
+        self.machine.desk()
+    }
+
     /// One step: a key exactly where the session wants one, and else the next unit of the macro that runs. `Quit`
     /// comes exactly where the menu's Quit was confirmed (Release 2 manual). After `Memory` the session is spent. A
     /// step that only moves the pointer, types, or is passed over, takes no memory and leaves all of the sheet but the
@@ -130,6 +142,7 @@ impl Session {
         ensures lines { self.new.spent ≡ false → Unchanged changed.new (screen self.old.state) (screen self.new.state) }
     {
         let before = self.machine.glance();
+        self.machine.begin();
         match self.machine.take_event(event, now, shelf) {
             Ok(taken) => {
                 let stepped = Stepped::of(taken.ends);
@@ -144,6 +157,39 @@ impl Session {
                 Stepped::Memory
             }
         }
+    }
+
+    /// Whether the last step refused something: it told an error, its finished line has a fault, or a letter took no
+    /// item of a menu or of a choice.
+    pub fn has_refused(&self) -> bool
+        ensures { result ≡ is_some (refused self.now.state) }
+    {
+        self.machine.has_refused()
+    }
+
+    /// What the last step refused, as it is told: the error's message, the line with the place of its fault, or the
+    /// letter; nothing where it refused nothing (this project's choice).
+    pub fn refusal(&self) -> RefusedText<'_>
+        ensures joined { joined result ≡ unwrap_or (refused self.now.state) [] }
+        ensures short { length result.front ≤ 40 }
+        ensures fits { length result.text.now ≤ MAX_LEN }
+    {
+        self.machine.refusal()
+    }
+
+    /// Whether nothing is left undone: the session is in READY, and no macro is at work.
+    pub fn is_at_rest(&self) -> bool
+        ensures { result ≡ is_at_rest self.now.state }
+    {
+        self.machine.is_at_rest()
+    }
+
+    /// The mode that the session is left in, or CMD where that is READY.
+    pub fn left_in(&self) -> &'static [u8]
+        ensures text { result.now ≡ left_in self.now.state }
+        ensures short { length result.now ≤ 5 }
+    {
+        self.machine.left_in()
     }
 
     /// The screen of a session that isn't spent. None of its bytes is below 32.

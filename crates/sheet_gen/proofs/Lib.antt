@@ -1,2 +1,2 @@
-mod OneSheet
+pub mod OneSheet
 mod Putting

@@ -1,5 +1,6 @@
 -- The desk that a run begins with.
 use Rattle.std.proofs.Common.{◌≡◌, ℕ, List, [], Option, None, Some, Result, Ok, Err, refl, sym, ap, ◌∙◌, subst, inr}
+use Rattle.std.specs.Prelude.{IfOk}
 use Rattle.command_desk.specs.Desks.{fresh_desk, of_desk, on_sheet, Desk as DeskSeen}
 use Rattle.command_desk.specs.declared.desk.Desk.{Desk}
 use Rattle.commands_file.specs.Calls.{ShelfView}
@@ -14,8 +15,12 @@ use Rattle.work_sheet.specs.Editing.{restored}
 use Rattle.work_sheet.specs.Seen.{of_worksheet}
 use Rattle.work_sheet.specs.Sheets.{Worksheet}
 use Rattle.work_sheet.specs.Work.{no_work, HasWorked, Work}
-use Rattle.sheet_run.specs.Beginning.{HasBegunOr, HasReadFile, HasReadSheet, IsDeskOf, IsLoaded}
-use Rattle.sheet_run.specs.Opening.{taken_over, HasBegun}
+use Rattle.sheet_gen.specs.Rows.{IsGenerated}
+use Rattle.lics_text.specs.declared.faults.Memory.{Memory as NoMemory}
+use Rattle.sheet_run.specs.Beginning.{or_memory, HasBegunOr, HasReadFile, HasReadSheet, IsDeskOf, IsGeneratedDesk, IsLoaded}
+use Rattle.sheet_run.specs.Opening.{fresh, of_file, of_rows, taken_over, HasBegun}
+use Rattle.sheet_run.specs.declared.options.Start.{Start}
+use Rattle.sheet_run.specs.declared.options.Start.TheVariants as given
 use Rattle.sheet_run.specs.declared.opening.NotBegun.{NotBegun}
 use Rattle.sheet_run.specs.declared.opening.NotBegun.TheVariants.{NotRead, Memory}
 use Rattle.sheet_run.specs.declared.opening.NotRead.TheVariants.{NoSuchFile, Faulty, DiskError}
@@ -34,37 +39,64 @@ pub same_shelf : (a b : ShelfView) → a.told ≡ b.told → a.faults ≡ b.faul
 same_shelf a b told faults = ap (λ t. record { told = t; faults = a.faults }) told ∙ ap (λ n. record { told = b.told; faults = n }) faults
 
 -- a file that isn't read
-pub not_read : (file : Option (List ℕ)) (name : List ℕ) (why : NotBegun) (before now : ShelfView) → file ≡ Some name → HasReadFile name (Err why) before now → HasBegunOr file (Err why) before now
-not_read file name (NotRead why) before now is read = (name, is, (now, read, refl))
-not_read file name Memory before now is broke = subst (λ (f : Option (List ℕ)). HasBegunOr f (Err Memory) before now) (sym is) broke
+pub not_read : (asked : Start) (name : List ℕ) (why : NotBegun) (before now : ShelfView) → asked ≡ given.File name → HasReadFile name (Err why) before now → HasBegunOr asked (Err why) before now
+not_read asked name (NotRead why) before now is read = (name, is, (now, read, refl))
+not_read asked name Memory before now is broke = subst (λ (f : Start). HasBegunOr f (Err Memory) before now) (sym is) broke
 
 -- a desk over the sheet of a file
-pub begun : (file : Option (List ℕ)) (name : List ℕ) (saved : SavedSheet) (desk : Desk) (before now : ShelfView) → file ≡ Some name → HasReadFile name (Ok saved) before now → IsDeskOf saved desk → HasBegun file desk before now
-begun file name saved desk before now is read made = record {
-  start = Some (record { name = name; saved = saved });
-  named = sym is;
+pub begun : (asked : Start) (name : List ℕ) (saved : SavedSheet) (desk : Desk) (before now : ShelfView) → asked ≡ given.File name → HasReadFile name (Ok saved) before now → IsDeskOf saved desk → HasBegun asked desk before now
+begun asked name saved desk before now is read made = rw is (record {
+  start = of_file name saved;
+  named = refl;
   answered = (now, read, refl);
-  desk_is = made.desk_is name;
+  desk_is = made.desk_is;
   worked = made.worked;
-}
+})
+
+-- a desk over a generated sheet, for which the shelf was not asked
+pub generated_begun : (asked : Start) (rows : ℕ) (desk : Desk) (shelf : ShelfView) → asked ≡ given.Rows rows → IsGeneratedDesk rows desk → HasBegun asked desk shelf shelf
+generated_begun asked rows desk shelf is (saved, generated, made) = rw is (record {
+  start = of_rows rows saved;
+  named = (refl, generated);
+  answered = refl;
+  desk_is = made.desk_is;
+  worked = made.worked;
+})
 
 -- a fresh desk
-pub fresh_begun : (file : Option (List ℕ)) (desk : Desk) (shelf : ShelfView) → file ≡ None → of_desk desk ≡ fresh_desk → desk.sheet.dirty ≡ [] → HasBegun file desk shelf shelf
-fresh_begun file desk shelf is fresh clean = record {
-  start = None;
-  named = sym is;
+pub fresh_begun : (asked : Start) (desk : Desk) (shelf : ShelfView) → asked ≡ given.Fresh → of_desk desk ≡ fresh_desk → desk.sheet.dirty ≡ [] → HasBegun asked desk shelf shelf
+fresh_begun asked desk shelf is made clean = rw is (record {
+  start = fresh;
+  named = tt;
   answered = refl;
-  desk_is = fresh;
+  desk_is = made;
   worked = ap (λ (ps : List Place). record { dirty = ps; count = 0 }) clean;
-}
+})
+
+pub generated_desk : (rows : ℕ) (saved : SavedSheet) (made : Result Desk NoMemory) (n : ℕ) → n ≡ rows → IsGenerated n saved → IfOk made (IsDeskOf saved) → IfOk made (IsGeneratedDesk rows)
+generated_desk rows saved (Ok desk) n is generated made = (saved, subst (λ (m : ℕ). IsGenerated m saved) is generated, made)
+generated_desk rows saved (Err m) n is generated made = tt
+
+-- a desk, or want of memory before one was there
+pub fresh_or : (asked : Start) (made : Result Desk NoMemory) (shelf : ShelfView) → asked ≡ given.Fresh → IfOk made (λ d. of_desk d ≡ fresh_desk) → IfOk made (λ d. d.sheet.dirty ≡ []) → HasBegunOr asked (or_memory made) shelf shelf
+fresh_or asked (Ok desk) shelf is made clean = fresh_begun asked desk shelf is made clean
+fresh_or asked (Err m) shelf is made clean = rw is refl
+
+pub file_or : (asked : Start) (name : List ℕ) (saved : SavedSheet) (made : Result Desk NoMemory) (before now : ShelfView) → asked ≡ given.File name → HasReadFile name (Ok saved) before now → IfOk made (IsDeskOf saved) → HasBegunOr asked (or_memory made) before now
+file_or asked name saved (Ok desk) before now is read made = begun asked name saved desk before now is read made
+file_or asked name saved (Err m) before now is read made = rw is (inr (read.told.0, read.told.2, read.faults))
+
+pub rows_or : (asked : Start) (rows : ℕ) (made : Result Desk NoMemory) (shelf : ShelfView) → asked ≡ given.Rows rows → IfOk made (IsGeneratedDesk rows) → HasBegunOr asked (or_memory made) shelf shelf
+rows_or asked rows (Ok desk) shelf is made = generated_begun asked rows desk shelf is made
+rows_or asked rows (Err m) shelf is made = rw is refl
 
 -- the sheet of a file on a fresh desk
-pub desk_made : (saved : SavedSheet) (fresh : Desk) (s : Worksheet) → of_desk fresh ≡ fresh_desk → fresh.sheet.dirty ≡ [] → ((before : Worksheet) → DidEdit (restored saved.store saved.names saved.settings) before s) → IsDeskOf saved (record fresh { sheet = s })
-desk_made saved fresh s is clean edit =
-    let no_dirty : work_of fresh.sheet 0 ≡ no_work = ap (λ (ps : List Place). record { dirty = ps; count = 0 }) clean in
+pub desk_made : (saved : SavedSheet) (made : Desk) (s : Worksheet) → of_desk made ≡ fresh_desk → made.sheet.dirty ≡ [] → ((before : Worksheet) → DidEdit (restored saved.store saved.names saved.settings) before s) → IsDeskOf saved (record made { sheet = s })
+desk_made saved made s is clean edit =
+    let no_dirty : work_of made.sheet 0 ≡ no_work = ap (λ (ps : List Place). record { dirty = ps; count = 0 }) clean in
     record {
-      desk_is = λ name. ap (λ (d : DeskSeen). on_sheet d (of_worksheet s)) is ∙ ap (on_sheet fresh_desk) (edit fresh.sheet 0).sheet;
-      worked = subst (λ (w : Work). HasWorked (taken_over saved).log w (work_of s 0)) no_dirty (edit fresh.sheet 0).work;
+      desk_is = ap (λ (d : DeskSeen). on_sheet d (of_worksheet s)) is ∙ ap (on_sheet fresh_desk) (edit made.sheet 0).sheet;
+      worked = subst (λ (w : Work). HasWorked (taken_over saved).log w (work_of s 0)) no_dirty (edit made.sheet 0).work;
     }
 
 -- a session is loaded

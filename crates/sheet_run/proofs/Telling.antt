@@ -1,10 +1,14 @@
 -- Notes that are written one after another.
-use Rattle.std.proofs.Common.{◌≡◌, ℕ, suc, ◌+◌, List, [], ◌∷◌, ◌++◌, length, take, Option, Some, None, refl, sym, ap, ◌∙◌, subst, arith, inl, inr, append_assoc, length-append}
+use Rattle.std.proofs.Common.{◌≡◌, ℕ, suc, ◌+◌, Bool, List, [], ◌∷◌, ◌++◌, length, take, Option, Some, None, Result, Ok, Err, refl, sym, ap, ◌∙◌, subst, arith, inl, inr, append_assoc, length-append}
 use Rattle.std.specs.Prelude.{codes}
-use Rattle.std.proofs.lemmas.List.{take-append-le}
+use Rattle.std.specs.Result.{IsErr}
+use Rattle.std.proofs.lemmas.List.{append-nil, take-append-le}
 use Rattle.outside_world.specs.Causes.{Rose}
+use Rattle.outside_world.specs.declared.faults.Failed.{Failed}
 use Rattle.grid_address.specs.Address.{decimal}
-use Rattle.sheet_run.specs.Notes.{AddsPart, AddsText, Tells, note}
+use Rattle.session_core.specs.Machine.{State}
+use Rattle.sheet_run.specs.Notes.{AddsPart, AddsText, HasWritten, Tells, ending_note, ending_status, note}
+use Rattle.sheet_run.specs.declared.drive.Ending.{Ending}
 
 pub told_as : (text line : List ℕ) (found status_found : ℕ) (before now : Option (List ℕ)) (faults faults' status : ℕ) → text ≡ line → found ≡ status_found →
     Tells line status_found before now faults faults' status → Tells text found before now faults faults' status
@@ -49,6 +53,36 @@ told_after first more found a b c f f' f'' status x same (inr t) = inr (t.0, tex
 -- the first write failed, and no more was written
 pub told_none : (first more : List ℕ) (found : ℕ) (a b : Option (List ℕ)) (f f' : ℕ) → AddsPart first a b → Rose f f' → Tells (first ++ more) found a b f f' 8
 told_none first more found a b f f' x rose = inr (refl, part_of_first first more a b x, rose)
+
+-- nothing was written
+pub nothing_written : (text : List ℕ) (a : Option (List ℕ)) (f : ℕ) (u : Unit {0}) → text ≡ [] → HasWritten text a a f f (Ok u)
+nothing_written text None f u none = (refl, refl)
+nothing_written text (Some old) f u none = (ap Some (sym (append-nil old)) ∙ ap (λ (t : List ℕ). Some (old ++ t)) (sym none), refl)
+
+-- one text was written, and then what comes after it was, or not
+pub written_after : (first more : List ℕ) (a b c : Option (List ℕ)) (f f' f'' : ℕ) (r : Result Unit Failed) → AddsText first a b → f' ≡ f → HasWritten more b c f' f'' r → HasWritten (first ++ more) a c f f'' r
+written_after first more a b c f f' f'' (Ok u) x same w = (text_then first more a b c x w.0, w.1 ∙ same)
+written_after first more a b c f f' f'' (Err e) x same w = (text_then_part first more a b c x w.0, subst (λ (n : ℕ). Rose n f'') same w.1)
+
+-- the first wasn't, and no more was written
+pub written_none : (first more : List ℕ) (a b : Option (List ℕ)) (f f' : ℕ) (r : Result Unit Failed) → IsErr r → AddsPart first a b × Rose f f' → HasWritten (first ++ more) a b f f' r
+written_none first more a b f f' (Ok u) is w = absurd cc
+written_none first more a b f f' (Err e) is w = (part_of_first first more a b w.0, w.1)
+
+-- the same text was written
+pub written_as : (text line : List ℕ) (a b : Option (List ℕ)) (f f' : ℕ) (r : Result Unit Failed) → text ≡ line → HasWritten line a b f f' r → HasWritten text a b f f' r
+written_as text line a b f f' r same w = subst (λ (t : List ℕ). HasWritten t a b f f' r) (sym same) w
+
+-- a line on a sum, part by part
+pub sum_parts : (head digits value : List ℕ) → (((head ++ digits) ++ 32 ∷ []) ++ value) ++ 10 ∷ [] ≡ head ++ ((digits ++ 32 ∷ value) ++ 10 ∷ [])
+sum_parts head digits value =
+    ap (λ (l : List ℕ). l ++ 10 ∷ []) (append_assoc (head ++ digits) (32 ∷ []) value ∙ append_assoc head digits (32 ∷ value)) ∙ append_assoc head (digits ++ 32 ∷ value) (10 ∷ [])
+
+-- the note of an ending, by an equal limit
+pub told_limit : (limit other : ℕ) (s : State) (moved : Bool) (ending : Ending) (before now : Option (List ℕ)) (faults faults' status : ℕ) → limit ≡ other →
+    Tells (ending_note limit s moved ending) (ending_status moved ending) before now faults faults' status → Tells (ending_note other s moved ending) (ending_status moved ending) before now faults faults' status
+told_limit limit other s moved ending before now faults faults' status same told =
+    subst (λ (n : ℕ). Tells (ending_note n s moved ending) (ending_status moved ending) before now faults faults' status) same told
 
 -- the last part of a line with a number in its middle
 pub stopped_line : (n : ℕ) → note (codes "stopped after " ++ decimal n ++ codes " steps") ≡ (codes "1-2-3: stopped after " ++ decimal n) ++ (codes " steps" ++ 10 ∷ [])

@@ -1,15 +1,26 @@
 -- The notes of a run.
 use Rattle.std.specs.Prelude.{◌≡◌, ℕ, ◌+◌, ◌-◌, ◌/◌, ◌%◌, ◌≤◌, ◌⊎◌, nat_lt, Bool, Result, Ok, Err, List, [], ◌∷◌, ◌++◌, length, take, Option, Some, None, codes, if◌then◌else◌}
+use Rattle.std.specs.Option.{unwrap_or}
 use Rattle.ascii_bytes.specs.Ascii as ascii
 use Rattle.grid_address.specs.Address.{decimal}
+use Rattle.fixed_value.specs.Written.{short}
+use Rattle.formula_tree.specs.declared.value.Value.{Value}
+use Rattle.formula_tree.specs.declared.value.Value.TheVariants as value
+use Rattle.grid_address.specs.Place.{Place}
 use Rattle.outside_world.specs.Causes.{Rose}
 use Rattle.outside_world.specs.declared.faults.Failed.{Failed}
+use Rattle.session_core.specs.Machine.{sheet_of, State}
+use Rattle.session_core.specs.Standing.{left_in, refused}
+use Rattle.sheet_store.specs.Grid.{Grid}
+use Rattle.work_sheet.specs.Sheets.{value_told}
 use Rattle.work_sheet.specs.Work.{Work}
 use Rattle.sheet_run.specs.declared.drive.Ending.{Ending}
-use Rattle.sheet_run.specs.declared.drive.Ending.TheVariants.{KeysEnded, Quit, BadWord, KeysFailed, Stopped, NoMemory}
+use Rattle.sheet_run.specs.declared.drive.Ending.TheVariants.{KeysEnded, Undone, Quit, Refused, BadWord, KeysFailed, Stopped, NoMemory}
 use Rattle.sheet_run.specs.declared.opening.NotRead.{NotRead}
 use Rattle.sheet_run.specs.declared.opening.NotRead.TheVariants.{NoSuchFile, Faulty, DiskError}
 use Rattle.sheet_run.specs.declared.options.Options.{Options}
+use Rattle.sheet_run.specs.declared.options.Start.{Start}
+use Rattle.sheet_run.specs.declared.options.Start.TheVariants as given
 use Rattle.wk1_records.specs.declared.fault.Wk1Fault.{Wk1Fault}
 use Rattle.wk1_records.specs.declared.fault.Wk1Fault.TheVariants as fault
 
@@ -79,6 +90,45 @@ abbrev pub count_note : Option ℕ → List ℕ
 count_note None = []
 count_note (Some n) = note (codes "evaluations " ++ decimal n)
 
+-- a value as a note tells it: a number with the places that it needs, a text as its bytes
+abbrev pub told_value : Option Value → List ℕ
+told_value None = []
+told_value (Some value.Blank) = []
+told_value (Some (value.Num n)) = short n 6
+told_value (Some (value.Str text)) = text
+told_value (Some value.Err) = codes "ERR"
+told_value (Some value.Na) = codes "NA"
+
+-- the cell with the sum of all rows of a generated sheet
+abbrev pub sum_cell : ℕ → Place
+sum_cell rows = record { row = rows - 1; col = 2 }
+
+-- that cell's address, and the value that it then has
+abbrev pub sum_text : ℕ → Option Value → List ℕ
+sum_text rows v = codes "C" ++ decimal rows ++ ascii.space ∷ told_value v
+
+-- the note on the sum of all rows
+abbrev pub sum_note : ℕ → Grid → List ℕ
+sum_note rows g = note (sum_text rows (value_told g (sum_cell rows)))
+
+-- the note on how many rows there are
+abbrev pub row_count_note : ℕ → List ℕ
+row_count_note rows = note (codes "rows " ++ decimal rows)
+
+-- the notes on a generated sheet: its rows, and the sum of all of them
+abbrev pub generated_notes : ℕ → Grid → List ℕ
+generated_notes rows g = row_count_note rows ++ sum_note rows g
+
+-- they are told where the sheet was generated
+abbrev pub rows_notes : Start → State → List ℕ
+rows_notes (given.Rows rows) s = generated_notes rows (sheet_of s).grid
+rows_notes given.Fresh s = []
+rows_notes (given.File name) s = []
+
+-- the notes on the session, for which the words ask: those on a generated sheet, and the count of evaluations
+abbrev pub session_notes : Options → State → Work → List ℕ
+session_notes o s w = rows_notes o.start s ++ count_note (count_of o w)
+
 -- the note where a display failed, as the flag says
 abbrev pub display_note : Bool → List ℕ
 display_note moved = if moved then note (codes "display failed") else []
@@ -87,19 +137,27 @@ display_note moved = if moved then note (codes "display failed") else []
 abbrev pub display_status : Bool → ℕ
 display_status moved = if moved then 7 else 0
 
--- the note of an ending; the flag says whether a display failed
-abbrev pub ending_note : ℕ → Bool → Ending → List ℕ
-ending_note limit moved KeysEnded = display_note moved
-ending_note limit moved Quit = display_note moved
-ending_note limit moved (BadWord at) = note (codes "bad key word at byte " ++ decimal at)
-ending_note limit moved KeysFailed = note (codes "keys failed")
-ending_note limit moved Stopped = note (codes "stopped after " ++ decimal limit ++ codes " steps")
-ending_note limit moved NoMemory = memory_note
+-- the note on where a strict run stopped: behind so many steps and bytes, and why
+abbrev pub stop_note : ℕ → ℕ → List ℕ → List ℕ
+stop_note count at why = note (codes "step " ++ decimal count ++ codes " at byte " ++ decimal at ++ codes ": " ++ why)
+
+-- The note of an ending that leaves a session in this state; the flag says whether a display failed.
+abbrev pub ending_note : ℕ → State → Bool → Ending → List ℕ
+ending_note limit s moved KeysEnded = display_note moved
+ending_note limit s moved (Undone count at) = stop_note count at (codes "ended in " ++ left_in s)
+ending_note limit s moved Quit = display_note moved
+ending_note limit s moved (Refused count at) = stop_note count at (unwrap_or (refused s) [])
+ending_note limit s moved (BadWord at) = note (codes "bad key word at byte " ++ decimal at)
+ending_note limit s moved KeysFailed = note (codes "keys failed")
+ending_note limit s moved Stopped = note (codes "stopped after " ++ decimal limit ++ codes " steps")
+ending_note limit s moved NoMemory = memory_note
 
 -- the status of an ending; the flag says whether a display failed
 abbrev pub ending_status : Bool → Ending → ℕ
 ending_status moved KeysEnded = display_status moved
+ending_status moved (Undone count at) = 10
 ending_status moved Quit = display_status moved
+ending_status moved (Refused count at) = 10
 ending_status moved (BadWord at) = 4
 ending_status moved KeysFailed = 5
 ending_status moved Stopped = 3
@@ -108,7 +166,9 @@ ending_status moved NoMemory = 9
 -- an ending that leaves a session that goes on
 abbrev pub LeavesSession : Ending → Type 0
 LeavesSession KeysEnded = Unit {0}
+LeavesSession (Undone count at) = Unit {0}
 LeavesSession Quit = Unit {0}
+LeavesSession (Refused count at) = Unit {0}
 LeavesSession (BadWord at) = Unit {0}
 LeavesSession KeysFailed = Unit {0}
 LeavesSession Stopped = Unit {0}

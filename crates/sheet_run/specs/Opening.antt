@@ -1,6 +1,6 @@
--- How a run begins: the start file is asked for, where the words name one, and its sheet, or a fresh one, is
--- recalculated.
-use Rattle.std.specs.Prelude.{◌≡◌, ℕ, ◌⊎◌, List, [], ◌∷◌, ◌++◌, Option, Some, None, Ok, Err, false}
+-- How a run begins: the start file is asked for, where the words name one, or a sheet is generated, where they say of
+-- how many rows; that sheet, or a fresh one, is recalculated.
+use Rattle.std.specs.Prelude.{◌≡◌, ℕ, ⊤, ◌⊎◌, List, [], ◌∷◌, ◌++◌, Option, Some, None, Ok, Err, false}
 use Rattle.command_desk.specs.Desks.{fresh_desk, of_desk, on_sheet, Desk}
 use Rattle.command_desk.specs.declared.desk.Desk as declared
 use Rattle.commands_file.specs.Calls.{failed, gets, loaded as loaded_as, Asked, HaveAnswered, Reply, ShelfView}
@@ -9,6 +9,7 @@ use Rattle.outside_world.specs.Shelf.{file_in, HasRead}
 use Rattle.serial_date.specs.declared.moment.Moment.{Moment}
 use Rattle.session_core.specs.Machine.{begun_with, Outcome}
 use Rattle.session_core.specs.Step.{loaded}
+use Rattle.sheet_gen.specs.Rows.{IsGenerated}
 use Rattle.sheet_store.specs.declared.writes.SavedSheet.{SavedSheet}
 use Rattle.work_sheet.specs.Did.{work_of}
 use Rattle.work_sheet.specs.Doing.{Done, Happened}
@@ -18,42 +19,51 @@ use Rattle.work_sheet.specs.Work.{no_work, HasWorked}
 use Rattle.sheet_run.specs.Run.{Outside}
 use Rattle.sheet_run.specs.declared.opening.NotRead.{NotRead}
 use Rattle.sheet_run.specs.declared.opening.NotRead.TheVariants.{NoSuchFile, Faulty, DiskError}
+use Rattle.sheet_run.specs.declared.options.Start.{Start}
+use Rattle.sheet_run.specs.declared.options.Start.TheVariants as given
 
--- a start file: its name, and the sheet that it is read as
-pub record StartFile : Type 0 where
-  pub name : List ℕ
-  pub saved : SavedSheet
+-- what a run begins with: a fresh sheet, a file of this name with the sheet that it is read as, or a sheet that is
+-- generated, of so many rows
+pub data StartSheet : Type 0 where
+  fresh : StartSheet
+  of_file : List ℕ → SavedSheet → StartSheet
+  of_rows : ℕ → SavedSheet → StartSheet
 
--- the start file's name, where there is one
-abbrev pub name_of : Option StartFile → Option (List ℕ)
-name_of None = None
-name_of (Some f) = Some f.name
+-- it is what the words ask for
+abbrev pub IsAskedFor : Start → StartSheet → Type 0
+IsAskedFor given.Fresh fresh = ⊤
+IsAskedFor (given.File name) (of_file other saved) = other ≡ name
+IsAskedFor (given.Rows rows) (of_rows other saved) = (other ≡ rows) × IsGenerated rows saved
+IsAskedFor asked is = ⊥
 
--- the sheet of a file takes the place of a fresh one: all its formulas are dirty
+-- the sheet of a file, or a generated one, takes the place of a fresh one: all its formulas are dirty
 abbrev pub taken_over : SavedSheet → Done
 taken_over saved = restored saved.store saved.names saved.settings fresh_sheet
 
 -- the desk that a run begins with
-abbrev pub desk_from : Option StartFile → Desk
-desk_from None = fresh_desk
-desk_from (Some f) = on_sheet fresh_desk (taken_over f.saved).sheet
+abbrev pub desk_from : StartSheet → Desk
+desk_from fresh = fresh_desk
+desk_from (of_file name saved) = on_sheet fresh_desk (taken_over saved).sheet
+desk_from (of_rows rows saved) = on_sheet fresh_desk (taken_over saved).sheet
 
 -- what happened in its sheet
-abbrev pub log_from : Option StartFile → List Happened
-log_from None = []
-log_from (Some f) = (taken_over f.saved).log
+abbrev pub log_from : StartSheet → List Happened
+log_from fresh = []
+log_from (of_file name saved) = (taken_over saved).log
+log_from (of_rows rows saved) = (taken_over saved).log
 
 -- the one call that asks for a file, with its answer
 abbrev pub asked_for : List ℕ → Reply → List Asked
 asked_for name reply = record { call = gets name; reply = reply } ∷ []
 
 -- the calls of the shelf, with their answers: a start file is asked for once, and its sheet is the answer
-abbrev pub calls_from : Option StartFile → List Asked
-calls_from None = []
-calls_from (Some f) = asked_for f.name (loaded_as (Some (Ok f.saved)))
+abbrev pub calls_from : StartSheet → List Asked
+calls_from fresh = []
+calls_from (of_file name saved) = asked_for name (loaded_as (Some (Ok saved)))
+calls_from (of_rows rows saved) = []
 
 -- What a run begins with: the sheet is recalculated in both modes, at the first reading of the clock.
-abbrev pub opening : Option StartFile → Moment → Outcome
+abbrev pub opening : StartSheet → Moment → Outcome
 opening start first = record {
   state = (loaded first (begun_with (desk_from start))).state;
   log = log_from start ++ (loaded first (begun_with (desk_from start))).log;
@@ -69,24 +79,24 @@ answer_of DiskError = failed
 
 -- Memory ran out before the sheet was there. The shelf was not asked, or it gave the bytes of the start file; no file
 -- is changed.
-abbrev pub BreaksOff : Option (List ℕ) → ShelfView → ShelfView → Type 0
-BreaksOff None before now = now ≡ before
-BreaksOff (Some name) before now = (now ≡ before)
+abbrev pub BreaksOff : Start → ShelfView → ShelfView → Type 0
+BreaksOff given.Fresh before now = now ≡ before
+BreaksOff (given.File name) before now = (now ≡ before)
     ⊎ ((bytes : List ℕ) × HasRead (file_in name) name before.told now.told (Ok (Some bytes))
     × (now.faults ≡ before.faults))
+BreaksOff (given.Rows rows) before now = now ≡ before
 
--- a desk was made, with a fresh sheet or that of the named file, of which the shelf was asked so
-pub record HasBegun (file : Option (List ℕ)) (desk : declared.Desk) (before now : ShelfView) : Type 0 where
-  pub start : Option StartFile
-  pub named : name_of start ≡ file
+-- a desk was made, with the sheet that the words ask for, for which the shelf was asked so
+pub record HasBegun (asked : Start) (desk : declared.Desk) (before now : ShelfView) : Type 0 where
+  pub start : StartSheet
+  pub named : IsAskedFor asked start
   pub answered : HaveAnswered (calls_from start) before now
   pub desk_is : of_desk desk ≡ desk_from start
   pub worked : HasWorked (log_from start) no_work (work_of desk.sheet 0)
 
 -- the start file was asked for and read, if the words name one, and then the clock was read for the start
-pub record HasOpened (file : Option (List ℕ)) (start : Option StartFile) (first : Moment)
-    (before now : Outside) : Type 0 where
-  pub named : name_of start ≡ file
+pub record HasOpened (asked : Start) (start : StartSheet) (first : Moment) (before now : Outside) : Type 0 where
+  pub named : IsAskedFor asked start
   pub shelf : ShelfView
   pub answered : HaveAnswered (opening start first).calls before.shelf shelf
   pub readings : Option (List Moment)

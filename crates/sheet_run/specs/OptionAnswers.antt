@@ -2,6 +2,8 @@
 use Rattle.std.specs.Prelude.{◌≡◌, ◌<◌, ◌≤◌, ℕ, List, [], drop, length, slice_index_or, Option, Some, None, Result, Ok, Err}
 use Rattle.sheet_run.specs.Options.{option_text, words_read}
 use Rattle.sheet_run.specs.declared.options.Options.{Options}
+use Rattle.sheet_run.specs.declared.options.Start.{Start}
+use Rattle.sheet_run.specs.declared.options.Start.TheVariants as given
 use Rattle.sheet_run.specs.declared.options.Wanted.{Wanted}
 use Rattle.sheet_run.specs.declared.options.Refused.{Refused}
 use Rattle.sheet_run.specs.declared.options.Refused.TheVariants.{Part, NoValue}
@@ -25,6 +27,12 @@ refused_text words (NoValue wanted) = option_text wanted
 abbrev pub IsPart : List (List ℕ) → Refused → Type 0
 IsPart words (Part place from) = (place < length words) × (from ≤ length (slice_index_or words place []))
 IsPart words (NoValue wanted) = Unit {0}
+
+-- the words name a start file
+abbrev pub IsFromFile : Start → Type 0
+IsFromFile given.Fresh = ⊥
+IsFromFile (given.File name) = Unit {0}
+IsFromFile (given.Rows rows) = ⊥
 
 -- what the words ask for, or what is refused of them
 abbrev pub HasReadWords : List (List ℕ) → Result Options Refused → Type 0

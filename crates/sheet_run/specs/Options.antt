@@ -9,17 +9,24 @@ use Rattle.outside_world.specs.FileNames.{file_name}
 use Rattle.outside_world.specs.declared.file_name.Ext.TheVariants.{Wk1}
 use Rattle.screen_show.specs.declared.display.DisplayKind.{DisplayKind}
 use Rattle.screen_show.specs.declared.display.DisplayKind.TheVariants.{Pages, Ansi, Last}
+use Rattle.sheet_run.specs.declared.options.Bounds.{Bounds}
 use Rattle.sheet_run.specs.declared.options.Options.{Options}
 use Rattle.sheet_run.specs.declared.options.Wanted.{Wanted}
-use Rattle.sheet_run.specs.declared.options.Wanted.TheVariants.{File, Steps, Show}
+use Rattle.sheet_run.specs.declared.options.Start.{Start}
+use Rattle.sheet_run.specs.declared.options.Start.TheVariants as given
+use Rattle.sheet_run.specs.declared.options.Wanted.TheVariants.{File, Steps, Show, Gen}
 
 -- nothing is asked for
 abbrev pub no_options : Options
-no_options = record { file = None; steps = None; show = None; count = false }
+no_options = record { start = given.Fresh; steps = None; show = None; count = false; strict = false }
 
 -- the most steps of the run, one million where the words don't say it
 abbrev pub limit_of : Options → ℕ
 limit_of o = unwrap_or o.steps 1000000
+
+-- what bounds the run: the most steps, and whether a refusal ends it
+abbrev pub bounds_of : Options → Bounds
+bounds_of o = record { steps = limit_of o; strict = o.strict }
 
 -- the kind of display that is used, pages where the words don't say it
 abbrev pub shown_kind : Options → DisplayKind
@@ -32,6 +39,11 @@ is_number digits = nat_lt ascii.zero (slice_index digits 0) && list_all is_ascii
 -- a number of at most 10,000,000
 unfoldable pub steps_of : List ℕ → Option ℕ
 steps_of v = if is_number v && nat_le (number_of v) 10000000 then Some (number_of v) else None
+
+-- how many rows are to be made, 1 to 8000
+unfoldable pub rows_of : List ℕ → Option ℕ
+rows_of v =
+    if is_number v && nat_le 1 (number_of v) && nat_le (number_of v) 8000 then Some (number_of v) else None
 
 -- the kind of display that a word names
 abbrev pub kind_of : List ℕ → Option DisplayKind
@@ -51,11 +63,17 @@ abbrev pub option_text : Wanted → List ℕ
 option_text File = codes "--file"
 option_text Steps = codes "--steps"
 option_text Show = codes "--show"
+option_text Gen = codes "--gen"
 
 -- a file's name takes its place, and a value that is none is refused
 abbrev pub file_taken : Options → Option (List ℕ) → List ℕ → Result Options (List ℕ)
 file_taken o None value = Err value
-file_taken o (Some name) value = Ok (record o { file = Some name })
+file_taken o (Some name) value = Ok (record o { start = given.File name })
+
+-- a number of rows takes its place, and a value that is none is refused
+abbrev pub rows_taken : Options → Option ℕ → List ℕ → Result Options (List ℕ)
+rows_taken o None value = Err value
+rows_taken o (Some rows) value = Ok (record o { start = given.Rows rows })
 
 -- a limit takes its place, and a value that is none is refused
 abbrev pub steps_taken : Options → Option ℕ → List ℕ → Result Options (List ℕ)
@@ -72,36 +90,63 @@ abbrev pub on_value : Options → Wanted → List ℕ → Result Options (List �
 on_value o File value = file_taken o (file_of value) value
 on_value o Steps value = steps_taken o (steps_of value) value
 on_value o Show value = show_taken o (kind_of value) value
+on_value o Gen value = rows_taken o (rows_of value) value
 
--- the option was given before
+-- the words name what the run begins with
+abbrev pub is_named : Start → Bool
+is_named given.Fresh = false
+is_named (given.File name) = true
+is_named (given.Rows rows) = true
+
+-- the option was given before, or one that excludes it: a start file and a sheet that is made exclude each other
 abbrev pub is_given : Options → Wanted → Bool
-is_given o File = is_some o.file
+is_given o File = is_named o.start
 is_given o Steps = is_some o.steps
 is_given o Show = is_some o.show
+is_given o Gen = is_named o.start
 
 -- no value is wanted behind the word
 abbrev pub complete : Result Options (List ℕ) → Result (Options × Option Wanted) (List ℕ)
 complete (Ok o) = Ok (o, None)
 complete (Err text) = Err text
 
--- an option that was not given before, with its value behind `=`
+-- the option that a word names, whose value is the next word
+abbrev pub option_named : List ℕ → Option Wanted
+option_named w = if bytes_eq w (codes "--file") then Some File
+    else if bytes_eq w (codes "--steps") then Some Steps
+    else if bytes_eq w (codes "--show") then Some Show
+    else if bytes_eq w (codes "--gen") then Some Gen
+    else None
+
+-- the option in a word with its value behind `=`, and where the value begins
+abbrev pub option_joined : List ℕ → Option (Wanted × ℕ)
+option_joined w = if has_front w (codes "--file=") then Some (File, 7)
+    else if has_front w (codes "--steps=") then Some (Steps, 8)
+    else if has_front w (codes "--show=") then Some (Show, 7)
+    else if has_front w (codes "--gen=") then Some (Gen, 6)
+    else None
+
+-- an option that was not given before takes its value, which begins there
+abbrev pub joined : Options → List ℕ → Option (Wanted × ℕ) → Result (Options × Option Wanted) (List ℕ)
+joined o w None = Err w
+joined o w (Some (wanted, from)) =
+    if is_given o wanted then Err w else complete (on_value o wanted (drop from w))
+
+-- a word with its value behind `=`
 abbrev pub on_joined : Options → List ℕ → Result (Options × Option Wanted) (List ℕ)
-on_joined o w =
-    if has_front w (codes "--file=") then (if is_given o File then Err w else complete (on_value o File (drop 7 w)))
-    else if has_front w (codes "--steps=") then
-    (if is_given o Steps then Err w else complete (on_value o Steps (drop 8 w)))
-    else if has_front w (codes "--show=") then
-    (if is_given o Show then Err w else complete (on_value o Show (drop 7 w)))
-    else Err w
+on_joined o w = joined o w (option_joined w)
+
+-- an option that was not given before waits for its value
+abbrev pub waiting : Options → List ℕ → Option Wanted → Result (Options × Option Wanted) (List ℕ)
+waiting o w None = on_joined o w
+waiting o w (Some wanted) = if is_given o wanted then Err w else Ok (o, Some wanted)
 
 -- a word where no value is wanted: an option that was not given before, alone or with its value
 abbrev pub on_word : Options → List ℕ → Result (Options × Option Wanted) (List ℕ)
 on_word o w =
     if bytes_eq w (codes "--count") then (if o.count then Err w else Ok (record o { count = true }, None))
-    else if bytes_eq w (codes "--file") then (if is_given o File then Err w else Ok (o, Some File))
-    else if bytes_eq w (codes "--steps") then (if is_given o Steps then Err w else Ok (o, Some Steps))
-    else if bytes_eq w (codes "--show") then (if is_given o Show then Err w else Ok (o, Some Show))
-    else on_joined o w
+    else if bytes_eq w (codes "--strict") then (if o.strict then Err w else Ok (record o { strict = true }, None))
+    else waiting o w (option_named w)
 
 -- what a word comes to, where a value is wanted or not
 abbrev pub taken : Options → Option Wanted → List ℕ → Result (Options × Option Wanted) (List ℕ)

@@ -1,11 +1,14 @@
-// The start of a run: a fresh sheet, or that of the start file.
-ghost use Rattle.std.specs.Prelude.{◌≡◌, IfOk, Option, Some};
+// The start of a run: a fresh sheet, that of the start file, or a generated one.
+ghost use Rattle.std.specs.Prelude.{◌≡◌, IfOk};
 ghost use Rattle.sheet_run.specs.Around.{shelf_of};
-ghost use Rattle.sheet_run.specs.Beginning.{HasBegunOr, HasLoaded, HasReadFile, HasReadSheet, IsDeskOf};
+ghost use Rattle.sheet_run.specs.Beginning.{or_memory, HasBegunOr, HasLoaded, HasReadFile, HasReadSheet};
+ghost use Rattle.sheet_run.specs.Beginning.{IsDeskOf, IsGeneratedDesk};
 
+use crate::options::{RowCount, Start};
 use command_desk::Desk;
 use outside_world::{ByteBuffer, Clock, FileName, Memory, Shelf, ShelfFault};
 use session_core::Session;
+use sheet_gen::generate;
 use sheet_store::SavedSheet;
 use std::alloc::Global;
 use wk1_file::{Wk1Fault, read};
@@ -66,25 +69,36 @@ fn desk_over(alloc: Global, saved: SavedSheet) -> Result<Desk, Memory>
     Ok(desk)
 }
 
-/// The desk that a run begins with: with the sheet of the start file, where there is one, or with a fresh sheet. The
-/// shelf is asked once for the start file, and for nothing else.
-pub fn begin<S: Shelf>(
-    alloc: Global,
-    file: &Option<FileName>,
-    shelf: &mut S,
-) -> Result<Desk, NotBegun>
-    ensures { let at = shelf_of S.Shelf in HasBegunOr file.now result (at shelf.old) (at shelf.new) }
+// A desk with a generated sheet.
+fn generated_desk(alloc: Global, rows: &RowCount) -> Result<Desk, Memory>
+    ensures { IfOk result (IsGeneratedDesk rows.now) }
 {
-    let Some(name) = file else {
-        return match Desk::new(alloc) {
-            Ok(desk) => Ok(desk),
-            Err(Memory) => Err(NotBegun::Memory),
-        };
-    };
-    let saved = read_file(alloc, name, shelf)?;
-    match desk_over(alloc, saved) {
+    let saved = generate(alloc, rows.rows())?;
+    desk_over(alloc, saved)
+}
+
+// A desk, or want of memory.
+fn or_memory(desk: Result<Desk, Memory>) -> Result<Desk, NotBegun>
+    ensures { result ≡ or_memory desk }
+{
+    match desk {
         Ok(desk) => Ok(desk),
         Err(Memory) => Err(NotBegun::Memory),
+    }
+}
+
+/// The desk that a run begins with: with the sheet of the start file, where there is one, with a generated sheet, or
+/// with a fresh one. The shelf is asked once for the start file, and for nothing else.
+pub fn begin<S: Shelf>(alloc: Global, start: &Start, shelf: &mut S) -> Result<Desk, NotBegun>
+    ensures { let at = shelf_of S.Shelf in HasBegunOr start.now result (at shelf.old) (at shelf.new) }
+{
+    match start {
+        Start::Fresh => or_memory(Desk::new(alloc)),
+        Start::File(name) => {
+            let saved = read_file(alloc, name, shelf)?;
+            or_memory(desk_over(alloc, saved))
+        }
+        Start::Rows(rows) => or_memory(generated_desk(alloc, rows)),
     }
 }
 

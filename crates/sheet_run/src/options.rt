@@ -1,25 +1,86 @@
 // Reads the words of the command line.
-ghost use Rattle.std.specs.Prelude.{◌≡◌, ◌≤◌, ◌<◌, min, drop, length, slice_index_or, []};
+ghost use Rattle.std.specs.Prelude.{◌≡◌, ◌≤◌, ◌<◌, min, drop, length, slice_index_or, [], IfSome};
 ghost use Rattle.std.specs.Str.{bytes_eq};
-ghost use Rattle.sheet_run.specs.Options.{is_number, steps_of, file_of, kind_of, on_joined, on_value, on_word, complete, taken, limit_of, shown_kind, has_front};
+ghost use Rattle.sheet_run.specs.Options.{is_given, is_named, is_number, rows_of, steps_of, file_of, kind_of};
+ghost use Rattle.sheet_run.specs.Options.{on_joined, on_value, on_word, option_joined, option_named};
+ghost use Rattle.sheet_run.specs.Options.{bounds_of, complete, taken, limit_of, shown_kind, has_front};
 ghost use Rattle.sheet_run.specs.OptionAnswers.{HasValue, HasTaken, HasReadWords};
 
 use crate::Words;
 use fixed_value::{all_digits, capped_number};
 use outside_world::FileName;
 use screen_show::DisplayKind;
+use std::marker::Model;
 
-/// What the words ask for: at most once each, in any order.
+/// How many rows a generated sheet has, 1 to 8000.
+#[derive(Drop)]
+pub struct RowCount {
+    rows: u16,
+}
+
+impl Model for RowCount {
+    ghost use Rattle.std.specs.Prelude.{ℕ, ◌≤◌};
+
+    ghost Value = { ℕ };
+
+    ghost view = { λ a. a.rows };
+
+    ghost invariant = { λ a. (1 ≤ a.rows) × (a.rows ≤ 8000) };
+}
+
+impl RowCount {
+    /// The number of rows.
+    pub fn rows(&self) -> u16
+        ensures rows { result ≡ self.now }
+        ensures some { 1 ≤ result }
+        ensures most { result ≤ 8000 }
+    {
+        self.rows
+    }
+}
+
+/// What a run begins with.
+#[derive(Drop)]
+pub enum Start {
+    Fresh,
+    /// The sheet of a file.
+    File(FileName),
+    /// A sheet that is generated.
+    Rows(RowCount),
+}
+
+impl Start {
+    // Whether the words name it.
+    fn is_named(&self) -> bool
+        ensures { result ≡ is_named self.now }
+    {
+        match self {
+            Start::Fresh => false,
+            Start::File(_) | Start::Rows(_) => true,
+        }
+    }
+}
+
+/// What the words ask for: at most once each, in any order, and `--file` or `--gen` alone.
 #[derive(Drop)]
 pub struct Options {
-    /// `--file NAME`: the file whose sheet the run begins with.
-    pub file: Option<FileName>,
+    /// `--file NAME` or `--gen N`: what the run begins with, a fresh sheet where neither is given.
+    pub start: Start,
     /// `--steps N`: the most steps of the run, 1 to 10,000,000.
     pub steps: Option<u32>,
     /// `--show pages`, `ansi` or `last`: the kind of display that is used.
     pub show: Option<DisplayKind>,
     /// `--count`: the number of evaluations is told.
     pub count: bool,
+    /// `--strict`: the run ends behind the first step that refuses something.
+    pub strict: bool,
+}
+
+/// What bounds a run: the most steps, and whether a step that refuses something ends it.
+#[derive(Clone, Copy)]
+pub struct Bounds {
+    pub steps: u32,
+    pub strict: bool,
 }
 
 /// An option that waits for its value, which is the next word.
@@ -28,6 +89,7 @@ pub enum Wanted {
     File,
     Steps,
     Show,
+    Gen,
 }
 
 /// What is refused of the words.
@@ -41,6 +103,9 @@ pub enum Refused {
 
 /// The most steps that a limit can allow.
 pub const MAX_STEPS: u32 = 10_000_000;
+
+/// The most rows of a generated sheet.
+const MAX_ROWS: u16 = 8000;
 
 /// How many steps a run makes where the words don't say it.
 pub const DEFAULT_STEPS: u32 = 1_000_000;
@@ -56,6 +121,16 @@ impl Options {
         }
     }
 
+    /// What bounds the run.
+    pub fn bounds(&self) -> Bounds
+        ensures { result ≡ bounds_of self.now }
+    {
+        Bounds {
+            steps: self.limit(),
+            strict: self.strict,
+        }
+    }
+
     /// The kind of display that is used.
     pub fn kind(&self) -> DisplayKind
         ensures { result ≡ shown_kind self.now }
@@ -63,6 +138,17 @@ impl Options {
         match self.show {
             Some(kind) => kind,
             None => DisplayKind::Pages,
+        }
+    }
+
+    // Whether an option was given before, or one that excludes it.
+    fn has(&self, wanted: Wanted) -> bool
+        ensures { result ≡ is_given self.now wanted }
+    {
+        match wanted {
+            Wanted::File | Wanted::Gen => self.start.is_named(),
+            Wanted::Steps => self.steps.is_some(),
+            Wanted::Show => self.show.is_some(),
         }
     }
 }
@@ -104,6 +190,24 @@ fn steps_of(value: &[u8]) -> Option<u32>
     }
 }
 
+// The number of rows of a generated sheet.
+#[tactic(auto, unfolding(crate::specs::Options::rows_of))]
+fn rows_of(value: &[u8]) -> Option<RowCount>
+    ensures { result ≡ rows_of value.now }
+{
+    if !is_number(value) {
+        return None;
+    }
+    let number = capped_number(value);
+    if number >= 1 && number <= u64::from(MAX_ROWS) {
+        Some(RowCount {
+            rows: number as u16,
+        })
+    } else {
+        None
+    }
+}
+
 // The name of a worksheet's file.
 fn file_of(value: &[u8]) -> Option<FileName>
     ensures { result ≡ file_of value.now }
@@ -136,9 +240,10 @@ fn on_value(options: Options, wanted: Wanted, value: &[u8]) -> Option<Options>
 {
     let mut options = options;
     match wanted {
-        Wanted::File => options.file = Some(file_of(value)?),
+        Wanted::File => options.start = Start::File(file_of(value)?),
         Wanted::Steps => options.steps = Some(steps_of(value)?),
         Wanted::Show => options.show = Some(kind_of(value)?),
+        Wanted::Gen => options.start = Start::Rows(rows_of(value)?),
     }
     Some(options)
 }
@@ -167,32 +272,55 @@ fn rest(word: &[u8], from: usize) -> &[u8]
     &word[from..]
 }
 
+// The option that a word names, whose value is the next word.
+fn option_named(word: &[u8]) -> Option<Wanted>
+    ensures { result ≡ option_named word.now }
+{
+    if is_same(word, b"--file") {
+        Some(Wanted::File)
+    } else if is_same(word, b"--steps") {
+        Some(Wanted::Steps)
+    } else if is_same(word, b"--show") {
+        Some(Wanted::Show)
+    } else if is_same(word, b"--gen") {
+        Some(Wanted::Gen)
+    } else {
+        None
+    }
+}
+
+// The option in a word with its value behind `=`, and where the value begins.
+fn option_joined(word: &[u8]) -> Option<(Wanted, usize)>
+    ensures option { result ≡ option_joined word.now }
+    ensures inside { IfSome result (λ found. found.1 ≤ length word.now) }
+{
+    if has_front(word, b"--file=") {
+        Some((Wanted::File, 7))
+    } else if has_front(word, b"--steps=") {
+        Some((Wanted::Steps, 8))
+    } else if has_front(word, b"--show=") {
+        Some((Wanted::Show, 7))
+    } else if has_front(word, b"--gen=") {
+        Some((Wanted::Gen, 6))
+    } else {
+        None
+    }
+}
+
 // Takes an option with its value behind `=`.
 fn on_joined(options: Options, word: &[u8]) -> Result<(Options, Option<Wanted>), usize>
     ensures { HasTaken word.now (on_joined options word.now) result }
 {
-    if has_front(word, b"--file=") {
-        return if options.file.is_some() {
-            Err(0)
-        } else {
-            with_value(options, Wanted::File, word, 7)
-        };
+    match option_joined(word) {
+        Some((wanted, from)) => {
+            if options.has(wanted) {
+                Err(0)
+            } else {
+                with_value(options, wanted, word, from)
+            }
+        }
+        None => Err(0),
     }
-    if has_front(word, b"--steps=") {
-        return if options.steps.is_some() {
-            Err(0)
-        } else {
-            with_value(options, Wanted::Steps, word, 8)
-        };
-    }
-    if has_front(word, b"--show=") {
-        return if options.show.is_some() {
-            Err(0)
-        } else {
-            with_value(options, Wanted::Show, word, 7)
-        };
-    }
-    Err(0)
 }
 
 // Takes a word where no value is wanted.
@@ -207,28 +335,24 @@ fn on_word(options: Options, word: &[u8]) -> Result<(Options, Option<Wanted>), u
         options.count = true;
         return Ok((options, None));
     }
-    if is_same(word, b"--file") {
-        return if options.file.is_some() {
-            Err(0)
-        } else {
-            Ok((options, Some(Wanted::File)))
-        };
+    if is_same(word, b"--strict") {
+        if options.strict {
+            return Err(0);
+        }
+        let mut options = options;
+        options.strict = true;
+        return Ok((options, None));
     }
-    if is_same(word, b"--steps") {
-        return if options.steps.is_some() {
-            Err(0)
-        } else {
-            Ok((options, Some(Wanted::Steps)))
-        };
+    match option_named(word) {
+        Some(wanted) => {
+            if options.has(wanted) {
+                Err(0)
+            } else {
+                Ok((options, Some(wanted)))
+            }
+        }
+        None => on_joined(options, word),
     }
-    if is_same(word, b"--show") {
-        return if options.show.is_some() {
-            Err(0)
-        } else {
-            Ok((options, Some(Wanted::Show)))
-        };
-    }
-    on_joined(options, word)
 }
 
 // Takes the next word.
@@ -262,10 +386,11 @@ pub fn read_words(words: &Words) -> Result<Options, Refused>
     ensures { HasReadWords words.now result }
 {
     let mut options = Options {
-        file: None,
+        start: Start::Fresh,
         steps: None,
         show: None,
         count: false,
+        strict: false,
     };
     let mut wanted = None;
     for place in 0..words.len() {

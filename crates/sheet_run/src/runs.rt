@@ -1,10 +1,11 @@
 // The top call.
-ghost use Rattle.std.specs.Prelude.{◌≡◌, ℕ, is_some, true, List, Some};
+ghost use Rattle.std.specs.Prelude.{◌≡◌, ℕ, List};
 ghost use Rattle.sheet_run.specs.Around.{around};
-ghost use Rattle.sheet_run.specs.Completeness.{HasEndedWell, RanAsTold, MustEndWell};
+ghost use Rattle.sheet_run.specs.Completeness.{Answers, HasEndedWell, RanAsTold, MustEndWell};
 ghost use Rattle.sheet_run.specs.Lent.{told_with, IsSame};
-ghost use Rattle.sheet_run.specs.Notes.{count_of, file_note, file_status, Tells};
-ghost use Rattle.sheet_run.specs.OptionAnswers.{refused_text, IsPart};
+ghost use Rattle.sheet_run.specs.Notes.{file_note, file_status, Tells};
+ghost use Rattle.sheet_run.specs.OptionAnswers.{refused_text, IsFromFile, IsPart};
+ghost use Rattle.sheet_run.specs.declared.options.Start.TheVariants as given;
 ghost use Rattle.sheet_run.specs.Status.{IsRun, RunsWith, Surroundings};
 
 use crate::Words;
@@ -12,11 +13,10 @@ use crate::displays::{Work, keep_kind, work_on_all};
 use crate::drive::{Ending, drive};
 use crate::notes::{tell, tell_memory, tell_refused, tell_unread};
 use crate::opening::{NotBegun, NotRead, begin, load};
-use crate::options::{Options, Refused, Wanted, read_words, word_at};
+use crate::options::{Options, Refused, Start, Wanted, read_words, word_at};
 use crate::outside::Outside;
-use outside_world::{Clock, FileName, Keys, Notes, Shelf};
+use outside_world::{Clock, Keys, Notes, Shelf};
 use screen_show::Display;
-use session_core::Session;
 use std::alloc::Global;
 
 // The refused part of the words.
@@ -32,6 +32,7 @@ fn refused_text(words: &Words, refused: Refused) -> &[u8]
         Refused::NoValue(Wanted::File) => b"--file",
         Refused::NoValue(Wanted::Steps) => b"--steps",
         Refused::NoValue(Wanted::Show) => b"--show",
+        Refused::NoValue(Wanted::Gen) => b"--gen",
     }
 }
 
@@ -40,8 +41,8 @@ fn refused_text(words: &Words, refused: Refused) -> &[u8]
 ///
 /// The order of work: the words are read; room for every display is reserved in `failed`; displays of a
 /// kind that wasn't asked for are dropped, of which no clause tells that nothing is asked of them before;
-/// the shelf is asked once for the start file, where the words name one; the clock is read once, and the
-/// file's sheet, or a fresh one, is recalculated; then the steps follow.
+/// the shelf is asked once for the start file, where the words name one, or a sheet is generated; the clock is read
+/// once, and that sheet, or a fresh one, is recalculated; then the steps follow.
 /// Before each step, where the session wants a key, bytes are read until a key is there or the keys end; where it wants
 /// none, the step is of a macro's unit. Then the limit is tested, then the clock is read, the step is made and its
 /// screen is sent to each display in order. A display whose call failed moves to the end of `failed`, and the others go
@@ -60,11 +61,16 @@ fn refused_text(words: &Words, refused: Refused) -> &[u8]
 /// | 7 | exactly where status 0 would come and `failed` grew | `display failed` |
 /// | 8 | only where the count of the notes' faults rose; it takes the place of the others | none |
 /// | 9 | memory ran out | `memory full`, unless that can't be written |
+/// | 10 | exactly where a strict run ended by a refusal, or left something undone | `step N at byte B: MESSAGE` |
 ///
+/// A run is strict by `--strict`: it ends behind a step that refuses something and doesn't quit the run, which is an
+/// error that is told, a finished line with a fault, or a letter that takes no item. Where its keys end at a word's end
+/// it leaves something undone outside READY, and where a macro is at work. N is the number of steps, B of bytes.
 /// One more step could begin of a macro's unit, of a repeat that is left, or of a key that was read.
 /// Every note begins with `1-2-3: ` and ends with a line feed. A file's fault is told as F with its number and the
-/// numbers that it carries, a function's code in two capital hexadecimal digits. With `--count`, `evaluations N` comes
-/// first wherever a session was made and memory didn't run out. (This project's choice.)
+/// numbers that it carries, a function's code in two capital hexadecimal digits. Wherever a session was made and memory
+/// didn't run out, `--gen N` tells first `rows N` and `CN V`, the value V that the sum of all rows then has, and then
+/// `--count` tells `evaluations N`. (This project's choice.)
 pub fn run<K: Keys, S: Shelf, C: Clock, N: Notes>(
     alloc: Global,
     words: &Words,
@@ -123,53 +129,43 @@ fn run_with<K: Keys, S: Shelf, C: Clock, N: Notes>(
         return tell_memory(notes);
     }
     keep_kind(options.kind(), outside.displays);
-    let desk = match begin(alloc, &options.file, outside.shelf) {
+    let desk = match begin(alloc, &options.start, outside.shelf) {
         Ok(desk) => desk,
-        Err(NotBegun::NotRead(why)) => return tell_start(&options.file, why, notes),
+        Err(NotBegun::NotRead(why)) => return tell_start(&options.start, why, notes),
         Err(NotBegun::Memory) => return tell_memory(notes),
     };
     let Ok(mut session) = load(desk, outside.clock) else {
         return tell_memory(notes);
     };
-    let limit = options.limit();
-    let ending = drive(limit, keys, outside, &mut session);
+    let bounds = options.bounds();
+    let ending = drive(bounds, keys, outside, &mut session);
     if let Ending::NoMemory = ending {
         return tell_memory(notes);
     }
     work_on_all(&Work::Close, outside.displays, outside.failed);
     let moved = outside.failed.len() > failed_before;
-    tell(notes, count_of(&options, &session), limit, moved, ending)
+    tell(notes, &options, &session, moved, ending)
 }
 
 // Tells that the start file isn't read.
-fn tell_start<N: Notes>(file: &Option<FileName>, why: NotRead, notes: &mut N) -> u8
-    requires { is_some file.now ≡ true }
-    ensures { (name : List ℕ) → file.now ≡ Some name →
+fn tell_start<N: Notes>(start: &Start, why: NotRead, notes: &mut N) -> u8
+    requires { IsFromFile start.now }
+    ensures { (name : List ℕ) → start.now ≡ given.File name →
         Tells (file_note name why) (file_status why)
         (N.written notes.old) (N.written notes.new) (N.faults notes.old) (N.faults notes.new) result }
 {
-    match file {
-        Some(name) => tell_unread(notes, name, why),
-        None => unreachable!(),
-    }
-}
-
-// How many formulas were evaluated, where the words ask for it.
-fn count_of(options: &Options, session: &Session) -> Option<u64>
-    ensures { result ≡ count_of options.now session.now.work }
-{
-    if options.count {
-        Some(session.evaluations())
-    } else {
-        None
+    match start {
+        Start::File(name) => tell_unread(notes, name, why),
+        Start::Fresh | Start::Rows(_) => unreachable!(),
     }
 }
 
 /// A run ends well where the words are in the grammar, the start file reads as a sheet, nothing failed, and the bytes
 /// spell keys that with the macros they start come to their end within the limit of steps, or begin with words whose
-/// keys quit the run within it, unless memory ran out.
+/// keys quit the run within it, unless memory ran out. Whether they do is asked of any answers that the shelf may give,
+/// failed calls too, or, where no call of the shelf failed, of answers alone that tell of none.
 pub fn a_run_ends_well()
     ensures { (words : List (List ℕ)) (before now : Surroundings) (status : ℕ) →
-        IsRun words before now status → (must : MustEndWell words before now) →
+        IsRun words before now status → (answers : Answers) (must : MustEndWell answers words before now) →
         HasEndedWell must.start before now status }
 {}

@@ -54,11 +54,11 @@ impl Words {
     }
 
     /// Adds a word at the end. The words are unchanged where memory runs out.
-    pub fn push(&mut self, word: &str) -> Result<(), Memory>
+    pub fn push(&mut self, word: &[u8]) -> Result<(), Memory>
         ensures ok { OnOk result (self.new ≡ self.old ++ word.now ∷ []) }
         ensures err { OnErr result (self.new ≡ self.old) }
     {
-        let bytes = word.as_bytes().to_vec(self.alloc)?;
+        let bytes = word.to_vec(self.alloc)?;
         self.words.push(Word { bytes })?;
         Ok(())
     }

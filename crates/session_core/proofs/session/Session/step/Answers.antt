@@ -2,8 +2,12 @@ use Rattle.std.proofs.Common.{◌≡◌, rules, false, List, ℕ, ap, sym, subst
 use Rattle.screen_show.specs.Changes.{Unchanged}
 use Rattle.screen_show.specs.Screen.{IsPrinted}
 use Rattle.session_core.specs.Frozen.{switches_of}
-use Rattle.session_core.specs.Machine.{scene_at, sheet_of, SessionView, State}
+use Rattle.session_core.specs.Machine.{afresh, scene_at, sheet_of, SessionView, State}
+use Rattle.session_core.specs.Touches.{HasTouched}
+use Rattle.session_core.specs.Moving.{IsMoved, OnlyMovesBy}
 use Rattle.session_core.specs.Screen.{screen}
+use Rattle.work_sheet.specs.Doing.{with_pointer}
+use Rattle.session_core.proofs.Afresh.{moves_afresh}
 use Rattle.session_core.proofs.Held.{by_event}
 use Rattle.session_core.proofs.Kept.{lines_followed}
 use Rattle.session_core.proofs.session.Session.step.Goals as goal
@@ -17,11 +21,15 @@ paint_lines-requires g c =
     let fresh : c.self.inside.spent ≡ false = search rules in
     let kept = c.self.invariant fresh in
     let led = c.in-Ok.ensures.ok in
+    let b : State = c.begin.new.self.state in
     let held : mid.frozen ≡ s.frozen =
-    ap (λ (u : State). u.frozen) led.leads.state ∙ by_event c.args.event led.replies (scene_at s c.args.now.now) s in
+    ap (λ (u : State). u.frozen) led.leads.state ∙ by_event c.args.event led.replies (scene_at b c.args.now.now) b
+    ∙ ap (λ (u : State). u.frozen) c.begin.ensures.state in
+    let touch : HasTouched c.in-Ok.taken.touched s mid =
+    subst (λ (u : State). HasTouched c.in-Ok.taken.touched u mid) c.begin.ensures.state c.in-Ok.ensures.touched in
     let same : Unchanged c.changed_lines.result (screen s) (screen t) =
     lines_followed s mid t c.self.inside.shown c.in-Ok.taken.touched c.glance-before.result c.glance-after.result c.changed_lines.result (switches_of mid.running)
-    kept.shown c.in-Ok.ensures.touched (ap (λ (u : State). sheet_of u) c.follow.ensures.state) (ap (λ (u : State). u.frozen) c.follow.ensures.state) held
+    kept.shown touch (ap (λ (u : State). sheet_of u) c.follow.ensures.state) (ap (λ (u : State). u.frozen) c.follow.ensures.state) held
     c.glance-before.ensures c.glance-after.ensures c.changed_lines.ensures in
     subst (λ (shown : List (List ℕ)). Unchanged c.changed_lines.result shown (screen t)) (sym kept.shown) same
 
@@ -40,10 +48,25 @@ returns-in-Ok-clause-lines g c is_fresh =
     let fresh : c.self.inside.spent ≡ false = search rules in
     let kept = c.self.invariant fresh in
     let led = c.in-Ok.ensures.ok in
+    let b : State = c.begin.new.self.state in
     let held : mid.frozen ≡ s.frozen =
-    ap (λ (u : State). u.frozen) led.leads.state ∙ by_event c.args.event led.replies (scene_at s c.args.now.now) s in
+    ap (λ (u : State). u.frozen) led.leads.state ∙ by_event c.args.event led.replies (scene_at b c.args.now.now) b
+    ∙ ap (λ (u : State). u.frozen) c.begin.ensures.state in
+    let touch : HasTouched c.in-Ok.taken.touched s mid =
+    subst (λ (u : State). HasTouched c.in-Ok.taken.touched u mid) c.begin.ensures.state c.in-Ok.ensures.touched in
     let same : Unchanged c.changed_lines.result (screen s) (screen t) =
     lines_followed s mid t c.self.inside.shown c.in-Ok.taken.touched c.glance-before.result c.glance-after.result c.changed_lines.result (switches_of mid.running)
-    kept.shown c.in-Ok.ensures.touched (ap (λ (u : State). sheet_of u) c.follow.ensures.state) (ap (λ (u : State). u.frozen) c.follow.ensures.state) held
+    kept.shown touch (ap (λ (u : State). sheet_of u) c.follow.ensures.state) (ap (λ (u : State). u.frozen) c.follow.ensures.state) held
     c.glance-before.ensures c.glance-after.ensures c.changed_lines.ensures in
     subst (λ (shown : List (List ℕ)). Unchanged c.changed_lines.result shown (screen t)) (ap (λ (r : SessionView). screen r.state) c.self.view_is) same
+
+-- a step that only moves leaves all of the sheet but the pointer, seen from before the step began
+pub returns-in-Ok-clause-sheet : goal.returns-in-Ok-clause-sheet
+returns-in-Ok-clause-sheet g c only =
+    let mid : State = c.take_event.new.self.state in
+    let b : State = c.begin.new.self.state in
+    let from : b ≡ afresh c.args.self.now.state =
+    c.begin.ensures.state ∙ ap (λ (r : SessionView). afresh r.state) c.self.view_is in
+    let moved : IsMoved (sheet_of b) (sheet_of mid) =
+    c.in-Ok.ensures.sheet (subst (λ (u : State). OnlyMovesBy c.args.event u) (sym from) (moves_afresh c.args.event c.args.self.now.state only)) in
+    (moved.0, ap (λ (u : State). sheet_of u) c.follow.ensures.state ∙ moved.1 ∙ ap (λ (u : State). with_pointer moved.0 (sheet_of u)) from)
