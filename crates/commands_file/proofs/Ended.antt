@@ -7,7 +7,7 @@ use Rattle.command_desk.specs.Desks.{of_desk, on_sheet}
 use Rattle.command_desk.specs.declared.desk.Desk as declared
 use Rattle.command_desk.specs.declared.ending.CommandEnd.{CommandEnd}
 use Rattle.command_desk.specs.declared.ending.CommandEnd.TheVariants.{Finished, Refused}
-use Rattle.commands_file.specs.Calls.{failed, gets, loaded, puts, removes, there, written, HasAnswered, Reply, ShelfCall, ShelfView}
+use Rattle.commands_file.specs.Calls.{failed, fetched, gets, loaded, puts, removes, there, written, HasAnswered, Reply, ShelfCall, ShelfView}
 use Rattle.commands_file.specs.Commands.{by_call, finished, is_readable, put_readable, recalculated_there, refused, retrieved_sheet, saved_as, scene_in, taken_away, with_file, without_call, written_out, HasActedOver}
 use Rattle.commands_file.specs.Steps.{end_of_placing, end_of_put, end_of_remove, is_written, loaded_as, HasCalled, IsPlaced}
 use Rattle.commands_file.specs.declared.calling.Placed.{Placed}
@@ -55,6 +55,7 @@ module _ (v : declared.Desk) (n : ℕ) (before now : ShelfView) where
       by (there false) e a = over (removes name) act (there false) came v v n n before now (refused_on error.FileNotFound came v n e) a
       by failed e a = over (removes name) act failed came v v n n before now (refused_on error.DiskError came v n e) a
       by (loaded f) e a = over (removes name) act (loaded f) came v v n n before now (refused_on error.DiskError came v n e) a
+      by (fetched got) e a = over (removes name) act (fetched got) came v v n n before now (refused_on error.DiskError came v n e) a
       by written e a = over (removes name) act written came v v n n before now (refused_on error.DiskError came v n e) a
 
   -- a file was written, and the desk stays
@@ -71,6 +72,7 @@ module _ (v : declared.Desk) (n : ℕ) (before now : ShelfView) where
       by written e a = over (puts name bytes) act written came v v n n before now (record { end = e; desk = refl; work = refl }) a
       by failed e a = over (puts name bytes) act failed came v v n n before now (refused_on error.DiskError came v n e) a
       by (there b) e a = over (puts name bytes) act (there b) came v v n n before now (refused_on error.DiskError came v n e) a
+      by (fetched got) e a = over (puts name bytes) act (fetched got) came v v n n before now (refused_on error.DiskError came v n e) a
       by (loaded f) e a = over (puts name bytes) act (loaded f) came v v n n before now (refused_on error.DiskError came v n e) a
 
   -- the sheet was saved
@@ -87,6 +89,7 @@ module _ (v : declared.Desk) (n : ℕ) (before now : ShelfView) where
       by written e a = over (puts name bytes) act written Finished v w n n before now acted a
       by failed e a = absurd (true≢false e)
       by (there b) e a = absurd (true≢false e)
+      by (fetched got) e a = absurd (true≢false e)
       by (loaded f) e a = absurd (true≢false e)
 
   -- it wasn't
@@ -102,6 +105,7 @@ module _ (v : declared.Desk) (n : ℕ) (before now : ShelfView) where
       by written e a = absurd (false≢true e)
       by failed e a = over (puts name bytes) act failed (Refused error.DiskError) v v n n before now (refused_on error.DiskError (Refused error.DiskError) v n refl) a
       by (there b) e a = over (puts name bytes) act (there b) (Refused error.DiskError) v v n n before now (refused_on error.DiskError (Refused error.DiskError) v n refl) a
+      by (fetched got) e a = over (puts name bytes) act (fetched got) (Refused error.DiskError) v v n n before now (refused_on error.DiskError (Refused error.DiskError) v n refl) a
       by (loaded f) e a = over (puts name bytes) act (loaded f) (Refused error.DiskError) v v n n before now (refused_on error.DiskError (Refused error.DiskError) v n refl) a
 
 module _ (name bytes : List ℕ) (v : declared.Desk) (n : ℕ) (before now : ShelfView) where
@@ -183,6 +187,7 @@ module _ (make : SavedSheet → DeskActed) (name : List ℕ) (v : declared.Desk)
       by (loaded None) e a = absurd (none e)
       by failed e a = absurd (none e)
       by (there b) e a = absurd (none e)
+      by (fetched got) e a = absurd (none e)
       by written e a = absurd (none e)
 
   -- the file was refused
@@ -203,6 +208,7 @@ module _ (make : SavedSheet → DeskActed) (name : List ℕ) (v : declared.Desk)
       by (loaded None) e a = over (gets name) act (loaded None) (Refused why) v v n n before now (refused_on error.FileNotFound (Refused why) v n (is e)) a
       by failed e a = over (gets name) act failed (Refused why) v v n n before now (refused_on error.DiskError (Refused why) v n (is e)) a
       by (there b) e a = over (gets name) act (there b) (Refused why) v v n n before now (refused_on error.DiskError (Refused why) v n (is e)) a
+      by (fetched got) e a = over (gets name) act (fetched got) (Refused why) v v n n before now (refused_on error.DiskError (Refused why) v n (is e)) a
       by written e a = over (gets name) act written (Refused why) v v n n before now (refused_on error.DiskError (Refused why) v n (is e)) a
 
 -- what was done to the sheet alone
