@@ -1,12 +1,11 @@
 """What of the rules the program has built."""
 from . import macro, menu, session
-from .keys import FILE_WORDS
 
 # What the program has not built as yet; a word goes when it is built. The menus don't show these paths and no letter takes
 # them, these keys are passed over, and these words are none in a macro.
 NOT_IN_MENUS = set()
 NOT_IN_KEYS = {'undo'}
-NOT_IN_MACROS = {*FILE_WORDS}
+NOT_IN_MACROS = set()
 
 
 def leave_out():

@@ -6,6 +6,7 @@ from .cases import Macros, any_case, is_read
 from .fixed import read_decimal
 from .names import names_of
 from .session import VALUE_BEGINS
+from .text_keys import TextFiles
 from .wait_keys import Waits
 
 # what fails in a fresh sheet, or nearly so, and mostly by which message
@@ -344,7 +345,7 @@ class MacroKeys:
 
     def __init__(self, menus):
         self.menus, self.typist, self.r = menus, menus.typist, menus.r
-        self.soup, self.programs, self.waits = Soup(self.r), Programs(self.r), Waits(self.r)
+        self.soup, self.programs, self.waits, self.files = Soup(self.r), Programs(self.r), Waits(self.r), TextFiles(self.r)
 
     def start(self):
         """A key that starts a macro, seldom one that isn't there."""
@@ -367,6 +368,8 @@ class MacroKeys:
         waits = r.randrange(3) == 0
         if waits:
             sheet = self.programs.lines_of(self.waits.program())
+        elif r.randrange(4) == 0:
+            sheet = self.programs.lines_of({**{b'B1': r.choice([b'A', b'B', b'3', b'+A1*2'])}, **self.files.program()})
         else:
             sheet = self.soup.sheet() if r.randrange(4) == 0 else self.programs.sheet(last)
         names = [(b'D1..D3', b'\\A'), (b'E1', b'\\B'), (b'D8192', b'\\C'), (b'D3', b'\\D'), (b'D5', b'\\E')]

@@ -32,6 +32,7 @@ from .menu_keys import FILES, MenuKeys, SPELLED
 from .names import Names
 from .outside import file_name, page
 from .session import VALUE_BEGINS
+from .text_keys import some_files as text_files
 
 BLANK_MOMENT = b' ' * 15
 MOMENT = re.compile(rb'\d\d-[A-Z][a-z][a-z]-\d\d \d\d:\d\d')
@@ -84,6 +85,8 @@ class Typist:
             out[r.choice(FILES).decode() + '.WK1'] = None
         if r.randrange(6) == 0:
             out[r.choice(FILES).decode() + '.PRN'] = r.choice([b'', b'a report', b'a report', None])
+        if self.macros_alone or r.randrange(4) == 0:
+            out.update(text_files(r))
         if r.randrange(6) == 0:
             out[r.choice(['a.wk1', 'B.wk1', 'C', 'A.TXT', 'A.WK1.old'])] = b'other'
         return out
@@ -290,7 +293,7 @@ class Typist:
         return sum(out, [])
 
 
-def is_of_shelf(name, kinds=('WK1', 'PRN')):
+def is_of_shelf(name, kinds=('WK1', 'PRN', 'TXT')):
     """Whether it is a name of a file of these kinds, as the shelf spells it."""
     return any(file_name(os.fsencode(name), ext) == name for ext in kinds)
 

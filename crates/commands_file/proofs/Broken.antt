@@ -12,7 +12,7 @@ use Rattle.commands_file.specs.Steps.{HasCalled}
 use Rattle.outside_world.specs.Shelf.{Files, file_in, held_as, HasCause, HasPut, HasRead, HasRemoved, OnShelf}
 use Rattle.outside_world.specs.declared.faults.ShelfFault.{ShelfFault}
 use Rattle.outside_world.specs.declared.faults.ShelfFault.TheVariants.{Failed, Memory}
-use Rattle.commands_file.specs.Calls.{asks, failed, gets, loaded, puts, removes, there, written, Asked, HasAnswered}
+use Rattle.commands_file.specs.Calls.{asks, failed, fetched, fetches, gets, loaded, puts, removes, there, written, Asked, HasAnswered}
 use Rattle.commands_file.specs.Calls.{HasBrokenOff, IsCounted, IsTold, KeepsOthers, Reply, ShelfCall, ShelfView}
 use Rattle.commands_file.specs.Calls.{shelf_view}
 
@@ -87,25 +87,35 @@ told_keeps : (call : ShelfCall) (reply : Reply) (before now : Option OnShelf) �
 told_keeps (asks name) failed before now h = read_keeps _ name before now _ h
 told_keeps (asks name) (there b) before now h = read_keeps _ name before now _ h
 told_keeps (asks name) (loaded file) before now h = absurd h
+told_keeps (asks name) (fetched got) before now h = absurd h
 told_keeps (asks name) written before now h = absurd h
 told_keeps (gets name) failed before now h = read_keeps _ name before now _ h
 told_keeps (gets name) (there b) before now h = absurd h
 told_keeps (gets name) (loaded None) before now h = read_keeps _ name before now _ h
 told_keeps (gets name) (loaded (Some file)) before now h = read_keeps _ name before now _ h.2
+told_keeps (gets name) (fetched got) before now h = absurd h
 told_keeps (gets name) written before now h = absurd h
+told_keeps (fetches name) failed before now h = read_keeps _ name before now _ h
+told_keeps (fetches name) (there b) before now h = absurd h
+told_keeps (fetches name) (loaded file) before now h = absurd h
+told_keeps (fetches name) (fetched got) before now h = read_keeps _ name before now _ h
+told_keeps (fetches name) written before now h = absurd h
 told_keeps (puts name bytes) failed before now h = put_keeps name bytes before now _ h
 told_keeps (puts name bytes) (there b) before now h = absurd h
 told_keeps (puts name bytes) (loaded file) before now h = absurd h
+told_keeps (puts name bytes) (fetched got) before now h = absurd h
 told_keeps (puts name bytes) written before now h = put_keeps name bytes before now _ h
 told_keeps (removes name) failed before now h = removed_keeps name before now _ h
 told_keeps (removes name) (there b) before now h = removed_keeps name before now _ h
 told_keeps (removes name) (loaded file) before now h = absurd h
+told_keeps (removes name) (fetched got) before now h = absurd h
 told_keeps (removes name) written before now h = absurd h
 
 counted_later : (reply : Reply) (before now : ℕ) → IsCounted reply before now → before ≤ now
 counted_later failed before now h = h.0
 counted_later (there b) before now h = omega (arith, h)
 counted_later (loaded file) before now h = omega (arith, h)
+counted_later (fetched got) before now h = omega (arith, h)
 counted_later written before now h = omega (arith, h)
 
 -- a call that was answered

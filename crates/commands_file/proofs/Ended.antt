@@ -7,7 +7,7 @@ use Rattle.command_desk.specs.Desks.{of_desk, on_sheet}
 use Rattle.command_desk.specs.declared.desk.Desk as declared
 use Rattle.command_desk.specs.declared.ending.CommandEnd.{CommandEnd}
 use Rattle.command_desk.specs.declared.ending.CommandEnd.TheVariants.{Finished, Refused}
-use Rattle.commands_file.specs.Calls.{failed, gets, loaded, puts, there, written, HasAnswered, Reply}
+use Rattle.commands_file.specs.Calls.{failed, fetched, gets, loaded, puts, there, written, HasAnswered, Reply}
 use Rattle.commands_file.specs.Calls.{ShelfCall, ShelfView}
 use Rattle.commands_file.specs.Commands.{by_call, finished, is_readable, put_readable, recalculated_there, refused}
 use Rattle.commands_file.specs.Commands.{retrieved_sheet, saved_as, scene_in, with_file, without_call}
@@ -62,6 +62,7 @@ module _ (v : declared.Desk) (n : ℕ) (before now : ShelfView) where
       by written e a = over (puts name bytes) act written Finished v w n n before now acted a
       by failed e a = absurd (true≢false e)
       by (there b) e a = absurd (true≢false e)
+      by (fetched got) e a = absurd (true≢false e)
       by (loaded f) e a = absurd (true≢false e)
 
   -- it wasn't
@@ -82,6 +83,9 @@ module _ (v : declared.Desk) (n : ℕ) (before now : ShelfView) where
           (refused_on error.DiskError (Refused error.DiskError) v n refl) a
       by (there b) e a =
           over (puts name bytes) act (there b) (Refused error.DiskError) v v n n before now
+          (refused_on error.DiskError (Refused error.DiskError) v n refl) a
+      by (fetched got) e a =
+          over (puts name bytes) act (fetched got) (Refused error.DiskError) v v n n before now
           (refused_on error.DiskError (Refused error.DiskError) v n refl) a
       by (loaded f) e a =
           over (puts name bytes) act (loaded f) (Refused error.DiskError) v v n n before now
@@ -158,6 +162,7 @@ module _ (make : SavedSheet → DeskActed) (name : List ℕ) (v : declared.Desk)
       by (loaded None) e a = absurd (none e)
       by failed e a = absurd (none e)
       by (there b) e a = absurd (none e)
+      by (fetched got) e a = absurd (none e)
       by written e a = absurd (none e)
 
   -- the file was refused
@@ -185,6 +190,9 @@ module _ (make : SavedSheet → DeskActed) (name : List ℕ) (v : declared.Desk)
           (refused_on error.DiskError (Refused why) v n (is e)) a
       by (there b) e a =
           over (gets name) act (there b) (Refused why) v v n n before now
+          (refused_on error.DiskError (Refused why) v n (is e)) a
+      by (fetched got) e a =
+          over (gets name) act (fetched got) (Refused why) v v n n before now
           (refused_on error.DiskError (Refused why) v n (is e)) a
       by written e a =
           over (gets name) act written (Refused why) v v n n before now

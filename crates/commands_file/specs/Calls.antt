@@ -7,19 +7,22 @@ use Rattle.sheet_store.specs.declared.writes.SavedSheet.{SavedSheet}
 use Rattle.wk1_file.specs.Files.{IsFile}
 use Rattle.wk1_records.specs.declared.fault.Wk1Fault.{Wk1Fault}
 
--- a call: whether a file is there, what it holds, what it is to hold, or that it is to go
+-- a call: whether a file is there, as which worksheet or which bytes it is read, what it is to hold, or that it is to
+-- go
 pub data ShelfCall : Type 0 where
   asks : List ℕ → ShelfCall
   gets : List ℕ → ShelfCall
+  fetches : List ℕ → ShelfCall
   puts : List ℕ → List ℕ → ShelfCall
   removes : List ℕ → ShelfCall
 
 -- an answer: the call failed; whether the file is there, or was; as which sheet the file is read, or by which fault it
--- is refused, if it is there; or that it is written
+-- is refused, if it is there; its bytes, if it is there; or that it is written
 pub data Reply : Type 0 where
   failed : Reply
   there : Bool → Reply
   loaded : Option (Result SavedSheet Wk1Fault) → Reply
+  fetched : Option (List ℕ) → Reply
   written : Reply
 
 -- a call and its answer
@@ -35,6 +38,8 @@ IsTold (gets name) failed before now = HasRead (file_in name) name before now (E
 IsTold (gets name) (loaded None) before now = HasRead (file_in name) name before now (Ok None)
 IsTold (gets name) (loaded (Some file)) before now =
     (bytes : List ℕ) × IsFile bytes file × HasRead (file_in name) name before now (Ok (Some bytes))
+IsTold (fetches name) failed before now = HasRead (file_in name) name before now (Err Failed)
+IsTold (fetches name) (fetched got) before now = HasRead (file_in name) name before now (Ok got)
 IsTold (puts name bytes) failed before now = HasPut name bytes before now (Err Failed)
 IsTold (puts name bytes) written before now = HasPut name bytes before now (Ok tt)
 IsTold (removes name) failed before now = HasRemoved name before now (Err Failed)

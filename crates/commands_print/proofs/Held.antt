@@ -9,7 +9,7 @@ use Rattle.command_desk.specs.Desks.{of_desk, Desk}
 use Rattle.command_desk.specs.declared.desk.Desk as declared
 use Rattle.command_desk.specs.declared.ending.CommandEnd.{CommandEnd}
 use Rattle.command_desk.specs.declared.ending.CommandEnd.TheVariants.{Finished, Quits, Refused}
-use Rattle.commands_file.specs.Calls.{failed, loaded, there, written, HaveAnswered, Reply, ShelfView}
+use Rattle.commands_file.specs.Calls.{failed, fetched, loaded, there, written, HaveAnswered, Reply, ShelfView}
 use Rattle.commands_file.specs.Commands.{HasActedOver}
 use Rattle.commands_print.specs.Commands.{printed, report_of, reported, written_to, HoldsReport}
 use Rattle.formula_eval.specs.declared.look.Scene.{Scene}
@@ -64,6 +64,7 @@ module _ (scene : Scene) (d : Desk) (reply : Reply) (before now : ShelfView) whe
   by_reply name bytes range failed file is made was had = absurd was
   by_reply name bytes range (there b) file is made was had = absurd was
   by_reply name bytes range (loaded f) file is made was had = absurd was
+  by_reply name bytes range (fetched got) file is made was had = absurd was
 
   by_file : (file : Option (List ℕ)) (bytes : List ℕ) (range : Extent) → d.print.file ≡ file
       → d.print.range ≡ Some range →

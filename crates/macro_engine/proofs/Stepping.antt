@@ -51,6 +51,7 @@ worked_leaves (change.Recalculate sweep) scene s h = absurd (false≢true h)
 
 ended_leaves : (m : Move) (x : Change) (scene : Scene) (s : Sheet) → leaves_sheet (ended x m) ≡ true → (changed scene x s).sheet ≡ s
 ended_leaves (move.Indicate t) x scene s h = absurd (false≢true h)
+ended_leaves (move.Files d) x scene s h = absurd (false≢true h)
 ended_leaves move.Stay x scene s h = worked_leaves x scene s h
 ended_leaves (move.Go spot) x scene s h = worked_leaves x scene s h
 ended_leaves (move.Call word spot) x scene s h = worked_leaves x scene s h

@@ -24,7 +24,7 @@ use Rattle.work_sheet.specs.Seen.{Sheet}
 use Rattle.work_sheet.specs.Sheets.{Worksheet}
 use Rattle.macro_engine.specs.Changes.{changed, changed_cells, first_protected, outlook_in}
 use Rattle.macro_engine.specs.declared.steps.StepEnd.{StepEnd}
-use Rattle.macro_engine.specs.declared.steps.StepEnd.TheVariants.{Faulty, Indicates, Moves, Refused, Types, Works}
+use Rattle.macro_engine.specs.declared.steps.StepEnd.TheVariants.{Faulty, Files, Indicates, Moves, Refused, Types, Works}
 
 -- what a step came to, the macro behind it, which stopped where there is none, and what was done to the sheet
 pub record MacroStep : Type 0 where
@@ -50,9 +50,10 @@ abbrev pub worked : Change → StepEnd
 worked change.Nothing = Moves
 worked _ = Works
 
--- what a word comes to: it may have a text for the mode's place
+-- what a word comes to: it may have a text for the mode's place, or ask for something of a text file
 abbrev pub ended : Change → Move → StepEnd
 ended x (move.Indicate t) = Indicates t
+ended x (move.Files d) = Files d
 ended x _ = worked x
 
 -- a word changes the sheet, and moves the macro
@@ -94,12 +95,19 @@ unfoldable pub macro_step : Scene → Option Running → Sheet → MacroStep
 macro_step scene None s = record { end = Works; running = None; done = quiet s }
 macro_step scene (Some r) s = next_step scene r (next_unit (outlook_in scene s) r.position) s
 
+-- The macro that runs does a deed, behind a step that asked for something of a text file. Where none runs there is
+-- nothing to do.
+unfoldable pub carried_step : Scene → Deed → Option Running → Sheet → MacroStep
+carried_step scene d None s = record { end = Works; running = None; done = quiet s }
+carried_step scene d (Some r) s = deed_step scene r d s
+
 -- whether a step that came to this surely left the sheet as it was
 abbrev pub leaves_sheet : StepEnd → Bool
 leaves_sheet (Types k) = true
 leaves_sheet Moves = true
 leaves_sheet Works = false
 leaves_sheet (Indicates t) = false
+leaves_sheet (Files d) = false
 leaves_sheet (Faulty f c) = true
 leaves_sheet (Refused c) = true
 

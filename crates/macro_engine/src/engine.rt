@@ -10,13 +10,13 @@ ghost use Rattle.macro_words.specs.Moves.{begun_at};
 ghost use Rattle.work_sheet.specs.Seen.{of_worksheet};
 
 use crate::catching::caught;
-use crate::steps::{StepEnd, key_stepped, stepped};
+use crate::steps::{StepEnd, deed_stepped, key_stepped, stepped};
 use formula_eval::{Scene, Tally};
 use grid_address::Cell;
 use key_words::{Key, Letter};
 use lics_text::Memory;
 use macro_text::{KeptWords, named_span};
-use macro_words::{Running, Waiting};
+use macro_words::{Deed, Running, Waiting};
 use range_names::Names;
 use std::alloc::Global;
 use std::marker::Model;
@@ -200,6 +200,31 @@ impl Engine {
             return Ok(StepEnd::Works);
         };
         let (end, next) = key_stepped(running, key, sheet, scene, tally)?;
+        self.running = next;
+        Ok(end)
+    }
+
+    /// The macro that runs does a deed, behind a step that asked for something of a text file: in Automatic mode a
+    /// recalculation follows where it writes cells. Where one of them is protected, it writes nothing, and the macro
+    /// stays; the cell is the first such one in row order. Where no macro runs, nothing is done. After `Memory` no
+    /// macro runs, and the sheet is open but for what it keeps.
+    #[tactic(auto, unfolding(crate::specs::Steps::carried_step))]
+    pub fn carry(
+        &mut self,
+        deed: Deed,
+        sheet: &mut Sheet,
+        scene: &Scene,
+        tally: &mut Tally,
+    ) -> Result<StepEnd, Memory>
+        ensures step { let step = spec.carried_step scene.entry.now deed self.old (of_worksheet sheet.old) in
+            IfOk result (λ end. HasStepped step end self.new sheet.old sheet.new tally.old.count tally.new.count) }
+        ensures memory { OnErr result (self.new ≡ None) }
+    {
+        let Some(running) = self.running.take() else {
+            drop(deed);
+            return Ok(StepEnd::Works);
+        };
+        let (end, next) = deed_stepped(running, deed, sheet, scene, tally)?;
         self.running = next;
         Ok(end)
     }

@@ -12,7 +12,7 @@ use grid_address::Cell;
 use key_words::Key;
 use lics_text::{Memory, Text};
 use macro_text::{KeptWords, MacroFault, Position, Unit, next_unit};
-use macro_words::{Change, Deed, Move, Row, Running, Waiting, key_row, return_row, row};
+use macro_words::{Change, Deed, FileDeed, Move, Row, Running, Waiting, key_row, return_row, row};
 use std::mem;
 use work_sheet::Sheet;
 
@@ -28,6 +28,8 @@ pub enum StepEnd {
     Works,
     /// A word was carried out, and this text is shown in the mode's place, or with an empty one the mode again.
     Indicates(Text),
+    /// A word asks for this of a text file, and the sheet is as it was.
+    Files(FileDeed),
     /// The macro stopped with a fault of the word in this cell.
     Faulty(MacroFault, Cell),
     /// This cell was to be written and is protected.
@@ -42,7 +44,7 @@ impl StepEnd {
         match self {
             StepEnd::Types(_) | StepEnd::Moves | StepEnd::Faulty(_, _) | StepEnd::Refused(_) =>
                 true,
-            StepEnd::Works | StepEnd::Indicates(_) => false,
+            StepEnd::Works | StepEnd::Indicates(_) | StepEnd::Files(_) => false,
         }
     }
 }
@@ -78,12 +80,13 @@ fn done(running: Running, change: &Change, after: Move) -> Result<Stepped, Memor
 {
     match after {
         Move::Indicate(text) => Ok((StepEnd::Indicates(text), Some(running))),
+        Move::Files(deed) => Ok((StepEnd::Files(deed), Some(running))),
         _ => Ok((worked(change), moved(running, after)?)),
     }
 }
 
-// A deed of a word.
-fn deed_stepped(
+/// A deed of a macro that runs: what it comes to, and the macro behind it.
+pub fn deed_stepped(
     running: Running,
     deed: Deed,
     sheet: &mut Sheet,

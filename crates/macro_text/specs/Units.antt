@@ -5,8 +5,6 @@ use Rattle.formula_eval.specs.Outlook.{Outlook}
 use Rattle.formula_text.specs.Words.{named_span}
 use Rattle.grid_address.specs.Place.{Extent, Place}
 use Rattle.grid_address.specs.Limits.{LAST_ROW}
-use Rattle.key_words.specs.declared.command.Command.{Command}
-use Rattle.key_words.specs.declared.command.Command.TheVariants as command
 use Rattle.key_words.specs.declared.key.Key.{Key}
 use Rattle.key_words.specs.declared.macro_word.MacroWord.{MacroWord}
 use Rattle.key_words.specs.declared.macro_word.MacroWord.TheVariants as word
@@ -47,19 +45,6 @@ down p =
     if nat_lt p.spot.cell.row LAST_ROW then (unit.Down, at_spot (start_of (cell_below p.spot.cell)))
     else (unit.Return, p)
 
--- the commands that are words; those of text files are none
-abbrev pub is_known : Command → Bool
-is_known command.Open = false
-is_known command.Close = false
-is_known command.Read = false
-is_known command.ReadLn = false
-is_known command.Write = false
-is_known command.WriteLn = false
-is_known command.FileSize = false
-is_known command.GetPos = false
-is_known command.SetPos = false
-is_known _ = true
-
 -- a word that is none
 abbrev pub unknown : Position → Next
 unknown p = (unit.Fault fault.UnknownWord, p)
@@ -67,10 +52,6 @@ unknown p = (unit.Fault fault.UnknownWord, p)
 -- a command, or a call: its word stands at the place
 abbrev pub carried : ℕ → Position → Next
 carried end p = (unit.Command p.spot, behind end p)
-
--- a command, where it is a word
-abbrev pub command_unit : Command → ℕ → Position → Next
-command_unit c end p = if is_known c then carried end p else unknown p
 
 -- a call of a name, where there is such a name
 abbrev pub call_unit : Option Extent → ℕ → Position → Next
@@ -96,7 +77,7 @@ now n = Now n.0 n.1
 abbrev pub word_turn : Outlook → List ℕ → MacroWord → ℕ → Position → Turn
 word_turn w text (word.Key k) end p = Now (unit.Key k) (behind end p)
 word_turn w text (word.Repeated k c) end p = repeated_turn k (number_of w p.spot.cell (part text c)) end p
-word_turn w text (word.Command c args) end p = now (command_unit c end p)
+word_turn w text (word.Command c args) end p = now (carried end p)
 word_turn w text (word.Call name args) end p = now (call_unit (named_span w.sight.names (part text name)) end p)
 word_turn w text (word.PlaceCall c) end p = now (carried end p)
 word_turn w text word.End end p = now (down p)

@@ -17,4 +17,4 @@ pub use pieces::{macro_text, part, text_in};
 pub use position::{Position, Spot};
 pub use ranges::{named_span, place_of, range_of};
 pub use text_list::TextList;
-pub use unit::{MacroFault, Unit, is_known, next_unit};
+pub use unit::{MacroFault, Unit, next_unit};

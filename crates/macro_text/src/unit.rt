@@ -11,7 +11,7 @@ use crate::{KeptWords, Position, Spot};
 use fixed_value::Fixed;
 use formula_eval::{Look, Scene};
 use grid_address::{Cell, LAST_ROW};
-use key_words::{Command, Key, MacroWord};
+use key_words::{Key, MacroWord};
 use lics_text::Memory;
 use range_names::Names;
 use std::alloc::Global;
@@ -86,27 +86,6 @@ fn down(position: &Position) -> Turn
     }
 }
 
-/// Whether a command is a word of macros; those of text files are none as yet.
-pub fn is_known(command: Command) -> bool
-    ensures { result ≡ spec.is_known command }
-{
-    match command {
-        Command::Branch | Command::Dispatch | Command::Define | Command::Return => true,
-        Command::Restart | Command::Quit | Command::If | Command::For => true,
-        Command::ForBreak | Command::Let | Command::Put | Command::Blank => true,
-        Command::Contents | Command::OnError => true,
-        Command::Recalc | Command::RecalcCol => true,
-        Command::Get | Command::GetLabel | Command::GetNumber | Command::Look => true,
-        Command::MenuBranch | Command::MenuCall | Command::Wait | Command::Interact => true,
-        Command::Beep | Command::Indicate | Command::PanelOn | Command::PanelOff => true,
-        Command::WindowsOn | Command::WindowsOff => true,
-        Command::BreakOn | Command::BreakOff => true,
-        Command::Open | Command::Close | Command::Read | Command::ReadLn => false,
-        Command::Write | Command::WriteLn | Command::FileSize => false,
-        Command::GetPos | Command::SetPos => false,
-    }
-}
-
 // A word that is none.
 fn unknown(position: &Position) -> Turn
     ensures { result ≡ spec.now (spec.unknown position.now) }
@@ -119,17 +98,6 @@ fn carried(end: usize, position: &Position) -> Turn
     ensures { result ≡ spec.now (spec.carried end position.now) }
 {
     Turn::Now(Unit::Command(position.spot), behind(end, position))
-}
-
-// A command, where it is a word.
-fn command_turn(command: Command, end: usize, position: &Position) -> Turn
-    ensures { result ≡ spec.now (spec.command_unit command end position.now) }
-{
-    if is_known(command) {
-        carried(end, position)
-    } else {
-        unknown(position)
-    }
 }
 
 // A call of a name, where there is such a name.
@@ -189,7 +157,7 @@ fn word_turn<K: Look>(
             let number = number_of(alloc, part(text, cut), position.spot.cell, look, scene)?;
             Ok(repeated_turn(key, number, end, position))
         }
-        MacroWord::Command(command, _) => Ok(command_turn(command, end, position)),
+        MacroWord::Command(_, _) => Ok(carried(end, position)),
         MacroWord::Call(name, _) => {
             let name = part(text, name);
             Ok(call_turn(look.names(), name, end, position))

@@ -53,6 +53,7 @@ moved (move.Wait x) r = Some (record r { waiting = x })
 moved (move.Pause s n) r = Some (record r { position = at_spot s; waiting = waiting.Time n })
 moved (move.Switch x) r = Some (record r { switches = x })
 moved (move.Indicate t) r = Some r
+moved (move.Files d) r = Some r
 
 -- all is on
 abbrev pub all_on : Switches

@@ -1,6 +1,7 @@
 -- What each word of a macro does: a row for each (Release 2 manual).
-use Rattle.std.specs.Prelude.{ℕ, zero, ℤ, pos, ◌+◌, ◌&&◌, nat_le, nat_lt, Bool, true, false, List, [], ◌∷◌, length, get_or, min, Option, None, Some, Result, Ok, Err, if◌then◌else◌}
+use Rattle.std.specs.Prelude.{ℕ, zero, ℤ, pos, ◌+◌, ◌&&◌, nat_le, nat_lt, Bool, true, false, List, [], ◌∷◌, codes, length, get_or, min, Option, None, Some, Result, Ok, Err, if◌then◌else◌}
 use Rattle.std.specs.Int.RustNames.{int_lt}
+use Rattle.std.specs.Str.{str_eq_ignore_ascii_case}
 use Rattle.at_functions.specs.Numbers.{count_of}
 use Rattle.block_writes.specs.Writing.{as_content, written}
 use Rattle.entry_line.specs.Line.{nothing}
@@ -17,9 +18,13 @@ use Rattle.key_words.specs.declared.macro_word.MacroWord.{MacroWord}
 use Rattle.key_words.specs.declared.macro_word.MacroWord.TheVariants as word
 use Rattle.key_words.specs.MacroText.{unit_at}
 use Rattle.lics_text.specs.Limits.{MAX_LEN}
+use Rattle.outside_world.specs.FileNames.{file_name}
+use Rattle.outside_world.specs.declared.file_name.Ext.TheVariants.{Prn, Txt}
 use Rattle.range_names.specs.Names.{NameMap}
 use Rattle.sheet_store.specs.Limits.{MOST_WIDTH}
 use Rattle.sheet_store.specs.declared.writes.Write.{Write}
+use Rattle.text_channel.specs.declared.attached.Access.{Access}
+use Rattle.text_channel.specs.declared.attached.Access.TheVariants as access
 use Rattle.value_functions.specs.Operators.{binary_value}
 use Rattle.value_functions.specs.Scalars.{now_value}
 use Rattle.value_functions.specs.Values.{text_in}
@@ -27,6 +32,8 @@ use Rattle.macro_words.specs.Items.{items_at}
 use Rattle.macro_words.specs.Moves.{below, innermost}
 use Rattle.macro_words.specs.Shown.{shown_cell}
 use Rattle.macro_words.specs.Values.{as_string, as_value, ends_in, label, let_value, without}
+use Rattle.macro_words.specs.declared.files.FileWord.{FileWord}
+use Rattle.macro_words.specs.declared.files.FileWord.TheVariants as asked
 use Rattle.macro_words.specs.declared.frames.Frame.{Frame}
 use Rattle.macro_words.specs.declared.frames.Frame.TheVariants as frame
 use Rattle.macro_words.specs.declared.frames.Loop.{Loop}
@@ -440,6 +447,65 @@ recalc_row w at by_columns args =
     on_some (given_count w at args 2 1 most_passes (passes_left_out args)) (λ most.
     sweeps (record { span = s; by_columns = by_columns; until = c; at = at.cell; most = most }))))
 
+-- ---- text files
+
+-- the first name that there is
+abbrev pub first_name : Option (List ℕ) → Option (List ℕ) → Option (List ℕ)
+first_name None other = other
+first_name (Some name) other = Some name
+
+-- the text file that a text names: .TXT is added where no extension stands, and .TXT and .PRN may stand
+abbrev pub text_file : List ℕ → Option (List ℕ)
+text_file text = first_name (file_name Txt text) (file_name Prn text)
+
+-- R, W or M, in either case, tells what may be done with a file
+abbrev pub access_of : List ℕ → Option Access
+access_of text =
+    if str_eq_ignore_ascii_case text (codes "R") then Some access.Read
+    else if str_eq_ignore_ascii_case text (codes "W") then Some access.Write
+    else if str_eq_ignore_ascii_case text (codes "M") then Some access.Modify
+    else None
+
+-- where what is asked for was done the macro goes on in the cell below, and else where it stands
+abbrev pub asks : Spot → FileWord → Row
+asks at x = moves (move.Files (record { word = x; done = below 1 at.cell }))
+
+-- OPEN
+abbrev pub open_row : Outlook → Spot → List (List ℕ) → Row
+open_row w at args =
+    on_text w at.cell (arg args 0) (λ t. on_some (text_file t) (λ name.
+    on_some (access_of (arg args 1)) (λ a. asks at (asked.Open name a))))
+
+-- READ: so many bytes, cut toward zero, from 0 to 240
+abbrev pub read_row : Outlook → Spot → List (List ℕ) → Row
+read_row w at args =
+    on_some (within 0 MAX_LEN (count_in (number_of w at.cell (arg args 0)))) (λ count.
+    on_place w (arg args 1) (λ c. asks at (asked.Read count c)))
+
+-- READLN
+abbrev pub read_line_row : Outlook → Spot → List (List ℕ) → Row
+read_line_row w at args = on_place w (arg args 0) (λ c. asks at (asked.ReadLine c))
+
+-- WRITE
+abbrev pub write_row : Outlook → Spot → List (List ℕ) → Row
+write_row w at args = on_text w at.cell (arg args 0) (λ t. asks at (asked.Write t))
+
+-- WRITELN
+abbrev pub write_line_row : Outlook → Spot → List (List ℕ) → Row
+write_line_row w at args = on_text w at.cell (arg args 0) (λ t. asks at (asked.WriteLine t))
+
+-- FILESIZE
+abbrev pub size_row : Outlook → Spot → List (List ℕ) → Row
+size_row w at args = on_place w (arg args 0) (λ c. asks at (asked.Size c))
+
+-- GETPOS
+abbrev pub position_row : Outlook → Spot → List (List ℕ) → Row
+position_row w at args = on_place w (arg args 0) (λ c. asks at (asked.Position c))
+
+-- SETPOS: a place from 0 on, cut toward zero
+abbrev pub set_position_row : Outlook → Spot → List (List ℕ) → Row
+set_position_row w at args = on_count w at.cell (arg args 0) (λ place. asks at (asked.SetPosition place))
+
 -- ---- the table
 
 -- the fewest and the most arguments of a command; a text has no more of them than bytes
@@ -468,6 +534,14 @@ counts command.MenuBranch = (1, 1)
 counts command.MenuCall = (1, 1)
 counts command.Wait = (1, 1)
 counts command.Indicate = (0, 1)
+counts command.Open = (2, 2)
+counts command.Read = (2, 2)
+counts command.ReadLn = (1, 1)
+counts command.Write = (1, 1)
+counts command.WriteLn = (1, 1)
+counts command.FileSize = (1, 1)
+counts command.GetPos = (1, 1)
+counts command.SetPos = (1, 1)
 counts _ = (0, 0)
 
 -- a command with as many arguments as it takes
@@ -504,7 +578,15 @@ command_row w global r at command.WindowsOn args = switch_row r command.WindowsO
 command_row w global r at command.WindowsOff args = switch_row r command.WindowsOff
 command_row w global r at command.BreakOn args = switch_row r command.BreakOn
 command_row w global r at command.BreakOff args = switch_row r command.BreakOff
-command_row w global r at _ args = bad
+command_row w global r at command.Open args = open_row w at args
+command_row w global r at command.Close args = asks at asked.Close
+command_row w global r at command.Read args = read_row w at args
+command_row w global r at command.ReadLn args = read_line_row w at args
+command_row w global r at command.Write args = write_row w at args
+command_row w global r at command.WriteLn args = write_line_row w at args
+command_row w global r at command.FileSize args = size_row w at args
+command_row w global r at command.GetPos args = position_row w at args
+command_row w global r at command.SetPos args = set_position_row w at args
 
 -- within the fewest and the most
 abbrev pub is_taken : ℕ × ℕ → ℕ → Bool

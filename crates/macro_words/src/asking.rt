@@ -41,8 +41,8 @@ fn text_of(value: Value) -> Option<Text>
     }
 }
 
-// A text, as LET takes one; none where the argument's value is none.
-fn text_given<K: Look>(
+/// A text, as LET takes one; none where the argument's value is none.
+pub fn text_given<K: Look>(
     alloc: Global,
     look: &K,
     scene: &Scene,

@@ -102,7 +102,7 @@ impl Running {
         ensures stops { IfOk result (λ b. b ≡ false → spec.moved after self.old ≡ None) }
     {
         match after {
-            Move::Stay | Move::Indicate(_) => Ok(true),
+            Move::Stay | Move::Indicate(_) | Move::Files(_) => Ok(true),
             Move::Stop => Ok(false),
             Move::Go(spot) => {
                 self.go(spot);

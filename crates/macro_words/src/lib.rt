@@ -3,6 +3,8 @@
 
 mod asking;
 mod define;
+mod file_rows;
+mod files;
 mod frames;
 mod going;
 mod items;
@@ -16,6 +18,7 @@ mod values;
 mod waiting;
 mod writing;
 
+pub use files::{FileDeed, FileWord};
 pub use frames::{Frame, Frames, Loop};
 pub use going::{ALL_ON, start_of};
 pub use items::{beside, item_text};

@@ -1,6 +1,6 @@
 // A macro that runs, and what a word does.
 
-use crate::{Frames, Loop, Switches, Waiting};
+use crate::{FileDeed, Frames, Loop, Switches, Waiting};
 use fixed_value::Fixed;
 use formula_tree::Formula;
 use grid_address::{Cell, Span};
@@ -53,6 +53,8 @@ pub enum Move {
     Switch(Switches),
     /// It shows a text in the mode's place, or with an empty one the mode again.
     Indicate(Text),
+    /// It stays until this is done of a text file.
+    Files(FileDeed),
 }
 
 /// What a word does to the sheet.

@@ -8,10 +8,14 @@ use crate::asking::{
     awaits, get_row, indicate_row, look_row, menu_row, question_row, switch_row, wait_row,
 };
 use crate::define::define_row;
+use crate::file_rows::{
+    asks, open_row, position_row, read_line_row, read_row, set_position_row, size_row,
+    write_line_row, write_row,
+};
 use crate::looping::{break_row, for_row, return_row};
 use crate::rows::{bad, branch_row, call_row, calls, dispatch_row, if_row, moves, onerror_row};
 use crate::writing::{blank_row, contents_row, let_row, put_row, recalc_row};
-use crate::{Move, Row, Running, Waiting, Wanted};
+use crate::{FileWord, Move, Row, Running, Waiting, Wanted};
 use formula_eval::{Look, Scene};
 use grid_address::Format;
 use key_words::{Command, MacroWord, unit_at};
@@ -19,7 +23,7 @@ use lics_text::{MAX_LEN, Memory};
 use macro_text::{Spot, TextList, arguments_of, macro_text, named_span, part, place_of};
 use std::alloc::Global;
 
-// The fewest and the most arguments of a command; those that are no words as yet take none.
+// The fewest and the most arguments of a command.
 fn counts(command: Command) -> (usize, usize)
     ensures { result ≡ spec.counts command }
 {
@@ -39,9 +43,10 @@ fn counts(command: Command) -> (usize, usize)
         Command::Interact | Command::Beep | Command::PanelOn | Command::PanelOff => (0, 0),
         Command::WindowsOn | Command::WindowsOff => (0, 0),
         Command::BreakOn | Command::BreakOff => (0, 0),
-        Command::Open | Command::Close | Command::Read | Command::ReadLn => (0, 0),
-        Command::Write | Command::WriteLn | Command::FileSize => (0, 0),
-        Command::GetPos | Command::SetPos => (0, 0),
+        Command::Open | Command::Read => (2, 2),
+        Command::Close => (0, 0),
+        Command::ReadLn | Command::Write | Command::WriteLn => (1, 1),
+        Command::FileSize | Command::GetPos | Command::SetPos => (1, 1),
     }
 }
 
@@ -98,9 +103,15 @@ fn command_row<K: Look>(
         Command::PanelOn | Command::PanelOff => Ok(switch_row(running, command)),
         Command::WindowsOn | Command::WindowsOff => Ok(switch_row(running, command)),
         Command::BreakOn | Command::BreakOff => Ok(switch_row(running, command)),
-        Command::Open | Command::Close | Command::Read | Command::ReadLn => Ok(bad()),
-        Command::Write | Command::WriteLn | Command::FileSize => Ok(bad()),
-        Command::GetPos | Command::SetPos => Ok(bad()),
+        Command::Open => open_row(alloc, look, scene, at, args),
+        Command::Close => Ok(asks(at, FileWord::Close)),
+        Command::Read => read_row(alloc, look, scene, at, args),
+        Command::ReadLn => Ok(read_line_row(look, scene, at, args)),
+        Command::Write => write_row(alloc, look, scene, at, args),
+        Command::WriteLn => write_line_row(alloc, look, scene, at, args),
+        Command::FileSize => Ok(size_row(look, scene, at, args)),
+        Command::GetPos => Ok(position_row(look, scene, at, args)),
+        Command::SetPos => set_position_row(alloc, look, scene, at, args),
     }
 }
 

@@ -45,8 +45,8 @@ fn count_in(number: Option<Fixed>) -> Option<u32>
     }
 }
 
-// A whole number that isn't below 0.
-fn count_given<K: Look>(
+/// A whole number that isn't below 0.
+pub fn count_given<K: Look>(
     alloc: Global,
     look: &K,
     scene: &Scene,
@@ -114,8 +114,8 @@ pub fn blank_row<K: Look>(look: &K, scene: &Scene, args: &TextList) -> Row
     }
 }
 
-// A whole number within bounds.
-fn within(low: u8, high: u8, count: Option<u32>) -> Option<u8>
+/// A whole number within bounds.
+pub fn within(low: u8, high: u8, count: Option<u32>) -> Option<u8>
     ensures { result ≡ spec.within low high count }
 {
     match count {

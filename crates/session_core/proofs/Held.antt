@@ -11,6 +11,7 @@ use Rattle.commands_file.specs.declared.looking.Looked.TheVariants.{There, Unkno
 use Rattle.desk_errors.specs.declared.error.CommandError.{CommandError}
 use Rattle.desk_errors.specs.declared.error.CommandError.TheVariants as error
 use Rattle.entry_line.specs.Line.{Entry}
+use Rattle.file_words.specs.Serving.{served_word, target_of, Served}
 use Rattle.formula_eval.specs.Mean.{mean}
 use Rattle.formula_eval.specs.declared.look.Scene.{Scene}
 use Rattle.formula_tree.specs.declared.value.Content.{Content}
@@ -20,7 +21,9 @@ use Rattle.key_words.specs.declared.key.Key.TheVariants as key
 use Rattle.macro_engine.specs.Keys.{broken_off, key_step, takes_key}
 use Rattle.macro_engine.specs.Steps.{macro_named, macro_step, MacroStep}
 use Rattle.macro_engine.specs.declared.steps.StepEnd.{StepEnd}
-use Rattle.macro_engine.specs.declared.steps.StepEnd.TheVariants.{Faulty, Indicates, Moves, Refused as Protects, Types, Works}
+use Rattle.macro_engine.specs.declared.steps.StepEnd.TheVariants.{Faulty, Files, Indicates, Moves, Refused as Protects, Types, Works}
+use Rattle.macro_words.specs.declared.files.FileDeed.{FileDeed}
+use Rattle.macro_words.specs.declared.running.Deed.{Deed}
 use Rattle.menu_tree.specs.declared.menu.Action.{Action}
 use Rattle.prompt_room.specs.Opening.{opening}
 use Rattle.prompt_room.specs.declared.following.WhatFollows.{WhatFollows}
@@ -32,9 +35,9 @@ use Rattle.work_sheet.specs.Doing as doing
 use Rattle.session_core.specs.Act.{act}
 use Rattle.session_core.specs.Carrying.{acted, asked, behind, carried, done_by, entered, failed, finished, finished_as, going, is_pointer_protected, left_by, looked_as, looking, opened, started, started_at}
 use Rattle.session_core.specs.Entering.{meaning_of}
-use Rattle.session_core.specs.Machine.{and_further, is_running, pointer_of, sheet_of, with_done, with_macro, FrozenAreas, Outcome, Replies, State}
+use Rattle.session_core.specs.Machine.{and_further, is_running, pointer_of, sheet_of, with_channel, with_done, with_macro, FrozenAreas, Outcome, Replies, State}
 use Rattle.session_core.specs.Pressing.{turn_of}
-use Rattle.session_core.specs.Step.{answered, come_to, event_taken, given, pressed_key, run_on, seen_from, stepped, taken, typed_into}
+use Rattle.session_core.specs.Step.{answered, come_to, event_taken, given, on_file, pressed_key, protected_target, run_on, seen_from, served_as, stepped, taken, typed_into}
 use Rattle.session_core.specs.declared.entering.Meant.{Meant}
 use Rattle.session_core.specs.declared.entering.Meant.TheVariants.{Means, Faulty as Misread}
 use Rattle.session_core.specs.declared.event.Event.{Event}
@@ -102,11 +105,22 @@ by_turn (turn.Fail e) replies scene s = by_failing e scene s
 by_taking : (k : Key) (replies : Replies) (scene : Scene) (s : State) → (taken k replies scene s).state.frozen ≡ s.frozen
 by_taking k replies scene s = by_turn (turn_of k s.room s.end s.desk) replies scene (typed_into k s)
 
+by_serving : (x : Option Deed) (scene : Scene) (s : State) → (served_as x scene s).state.frozen ≡ s.frozen
+by_serving None scene s = by_failing error.DiskError scene s
+by_serving (Some d) scene s = refl
+
+by_file : (cell : Option Place) (d : FileDeed) (replies : Replies) (scene : Scene) (s : State) → (on_file cell d replies scene s).state.frozen ≡ s.frozen
+by_file (Some c) d replies scene s = by_failing (error.Protected c) scene s
+by_file None d replies scene s =
+    let x : Served = served_word d replies.look replies.act s.channel in
+    by_serving x.deed scene (with_channel x.channel s)
+
 by_end : (e : StepEnd) (replies : Replies) (scene : Scene) (s : State) → (come_to e replies scene s).state.frozen ≡ s.frozen
 by_end (Types k) replies scene s = by_taking k replies scene s
 by_end Moves replies scene s = refl
 by_end Works replies scene s = refl
 by_end (Indicates t) replies scene s = refl
+by_end (Files d) replies scene s = by_file (protected_target (target_of d.word) s) d replies scene s
 by_end (Faulty f c) replies scene s = refl
 by_end (Protects c) replies scene s = by_failing (error.Protected c) scene s
 

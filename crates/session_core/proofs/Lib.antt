@@ -13,4 +13,5 @@ pub mod Settled
 pub mod ShownRows
 pub mod Stepping
 pub mod Still
+pub mod TextFiles
 pub mod Touching

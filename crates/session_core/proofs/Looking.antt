@@ -2,7 +2,7 @@
 use Rattle.std.proofs.Common.{◌≡◌, ℕ, ◌≤◌, List, Option, None, Some, subst, arith}
 use Rattle.menu_tree.specs.declared.menu.Action.{Action}
 use Rattle.outside_world.specs.Shelf.{answered, done, failed as call_failed, file_in, OnShelf, ShelfAnswer}
-use Rattle.commands_file.specs.Calls.{asks, failed, loaded, there, written, HasBrokenOff, HaveAnswered, IsCounted, IsTold, KeepsOthers, Reply, ShelfView}
+use Rattle.commands_file.specs.Calls.{asks, failed, fetched, loaded, there, written, HasBrokenOff, HaveAnswered, IsCounted, IsTold, KeepsOthers, Reply, ShelfView}
 use Rattle.commands_file.specs.Commands.{kind_of, looked, looked_at, named}
 
 -- one answer more changes no file
@@ -19,12 +19,14 @@ told_keeps name failed (Some s) b c told keeps = keeps_behind s (call_failed (fi
 told_keeps name (there x) None b c told keeps = tells_nothing b c told keeps
 told_keeps name (there x) (Some s) b c told keeps = keeps_behind s done b c told.1 keeps
 told_keeps name (loaded x) a b c told keeps = absurd told
+told_keeps name (fetched x) a b c told keeps = absurd told
 told_keeps name written a b c told keeps = absurd told
 
 counted_later : (reply : Reply) (m n : ℕ) → IsCounted reply m n → m ≤ n
 counted_later failed m n counted = counted.0
 counted_later (there x) m n counted = omega (arith, counted)
 counted_later (loaded x) m n counted = omega (arith, counted)
+counted_later (fetched x) m n counted = omega (arith, counted)
 counted_later written m n counted = omega (arith, counted)
 
 look_at_keeps : (name : Option (List ℕ)) (reply : Reply) (a b c : ShelfView) → HaveAnswered (looked_at name reply).calls a b → HasBrokenOff b c → HasBrokenOff a c

@@ -8,7 +8,7 @@ use Rattle.commands_data.specs.Answers.{key_at}
 use Rattle.commands_data.specs.Commands as on_data
 use Rattle.commands_data.specs.Kept.{kept_by}
 use Rattle.commands_data.specs.TableCommands.{given_on}
-use Rattle.commands_file.specs.Calls.{failed, loaded, puts, there, written, Reply}
+use Rattle.commands_file.specs.Calls.{failed, fetched, loaded, puts, there, written, Reply}
 use Rattle.commands_file.specs.Commands.{act_by, act_named, by_call, extracted_to, is_readable, named, put_readable, refused, saved_as, sheet_bytes, span_bytes, taken_away, with_file, without_call, written_out}
 use Rattle.commands_file.specs.declared.extracting.Extracting.{Extracting}
 use Rattle.commands_file.specs.declared.extracting.Extracting.TheVariants.{Formulas, Values}
@@ -46,18 +46,21 @@ module _ (d : Desk) where
   by_file make (loaded None) h = refl
   by_file make (loaded (Some (Ok saved))) h = h saved
   by_file make (loaded (Some (Err f))) h = refl
+  by_file make (fetched got) h = refl
   by_file make written h = refl
 
   by_save : (name : List ℕ) (reply : Reply) → KeepsOf d (saved_as name d reply)
   by_save name failed = refl
   by_save name (there b) = refl
   by_save name (loaded f) = refl
+  by_save name (fetched got) = refl
   by_save name written = refl
 
   by_put : (reply : Reply) → KeepsOf d (written_out d reply)
   by_put failed = refl
   by_put (there b) = refl
   by_put (loaded f) = refl
+  by_put (fetched got) = refl
   by_put written = refl
 
   by_placing : (name bytes : List ℕ) (reply : Reply) (make : Reply → DeskActed) → KeepsOf d (make reply) →
@@ -73,6 +76,7 @@ module _ (d : Desk) where
   by_removal (there true) = refl
   by_removal (there false) = refl
   by_removal (loaded f) = refl
+  by_removal (fetched got) = refl
   by_removal written = refl
 
   by_extract : (k : Extracting) (name : List ℕ) (span : Result Extent CommandError) (reply : Reply) → KeepsOf d (extracted_to k name span d reply).acted

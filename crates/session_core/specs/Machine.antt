@@ -11,6 +11,7 @@ use Rattle.session_rooms.specs.declared.rooms.Room.{Room}
 use Rattle.session_rooms.specs.declared.rooms.Room.TheVariants.{Ready}
 use Rattle.session_core.specs.declared.refusal.Refusal.{Refusal}
 use Rattle.session_core.specs.declared.refusal.Refusal.TheVariants as refusal
+use Rattle.text_channel.specs.declared.attached.Attached.{Attached}
 use Rattle.work_sheet.specs.Doing.{with_pointer, Done, Happened}
 use Rattle.work_sheet.specs.Seen.{Sheet}
 use Rattle.work_sheet.specs.Work.{HasWorked, Work}
@@ -22,14 +23,16 @@ pub record FrozenAreas : Type 0 where
   pub windows : Option (List (List ℕ))
 
 -- The desk with the worksheet and its pointer, the cell at the top left of the screen, what the session is doing,
--- whether END waits for a moving key, the macro that runs, the text that a macro put in the mode's place, what of the
--- screen stands still, what the last step refused beside an error, and the day and the second of that step.
+-- whether END waits for a moving key, the macro that runs, the text file that macros have attached, the text that a
+-- macro put in the mode's place, what of the screen stands still, what the last step refused beside an error, and the
+-- day and the second of that step.
 pub record State : Type 0 where
   pub desk : Desk
   pub corner : Place
   pub room : Room
   pub end : Bool
   pub running : Option Running
+  pub channel : Option Attached
   pub indicate : List ℕ
   pub frozen : FrozenAreas
   pub refusal : Refusal
@@ -63,6 +66,7 @@ begun_with d = record {
   room = Ready;
   end = false;
   running = None;
+  channel = None;
   indicate = [];
   frozen = unfrozen;
   refusal = refusal.Nothing;
@@ -114,6 +118,10 @@ idle s = record s { room = Ready; end = false }
 abbrev pub afresh : State → State
 afresh s = record s { refusal = refusal.Nothing }
 
+-- this text file is attached, or none
+abbrev pub with_channel : Option Attached → State → State
+with_channel c s = record s { channel = c }
+
 -- this macro runs, or none
 abbrev pub with_macro : Option Running → State → State
 with_macro r s = record s { running = r }
@@ -130,8 +138,9 @@ pub record Outcome : Type 0 where
   pub ends : Bool
   pub calls : List Asked
 
--- what the shelf answers in a step: whether the file is there that a command may replace, and the command's own call;
--- where no call is made any answer serves
+-- what the shelf answers in a step: whether the file is there that a command may replace, or how the text file is put
+-- that a macro finishes; and the own call of the command or of the macro's word. Where no call is made any answer
+-- serves.
 pub record Replies : Type 0 where
   pub look : Reply
   pub act : Reply

@@ -1,20 +1,25 @@
 -- One step of the session.
-use Rattle.std.specs.Prelude.{◌≡◌, ℕ, Bool, true, false, List, if◌then◌else◌}
+use Rattle.std.specs.Prelude.{◌≡◌, ℕ, Bool, true, false, List, Option, None, Some, if◌then◌else◌}
 use Rattle.commands_file.specs.Calls.{HaveAnswered, ShelfView}
 use Rattle.desk_errors.specs.declared.error.CommandError.TheVariants as error
 use Rattle.formula_eval.specs.declared.look.Scene.{Scene}
 use Rattle.key_words.specs.declared.key.Key.{Key}
 use Rattle.key_words.specs.declared.key.Key.TheVariants as key
 use Rattle.macro_engine.specs.Keys.{broken_off, key_step, takes_key}
-use Rattle.macro_engine.specs.Steps.{macro_step, MacroStep}
+use Rattle.file_words.specs.Serving.{served_word, target_of, Served}
+use Rattle.grid_address.specs.Place.{Place}
+use Rattle.macro_engine.specs.Steps.{carried_step, macro_step, MacroStep}
 use Rattle.macro_engine.specs.declared.steps.StepEnd.{StepEnd}
-use Rattle.macro_engine.specs.declared.steps.StepEnd.TheVariants.{Faulty, Indicates, Moves, Refused, Types, Works}
+use Rattle.macro_engine.specs.declared.steps.StepEnd.TheVariants.{Faulty, Files, Indicates, Moves, Refused, Types, Works}
+use Rattle.macro_words.specs.declared.files.FileDeed.{FileDeed}
+use Rattle.macro_words.specs.declared.running.Deed.{Deed}
 use Rattle.screen_layout.specs.Corner.{corner_for}
+use Rattle.sheet_edits.specs.Edits.{is_protected}
 use Rattle.serial_date.specs.declared.moment.Moment.{Moment}
-use Rattle.session_core.specs.Carrying.{carried, failed, recalculated, told}
+use Rattle.session_core.specs.Carrying.{behind_calls, carried, failed, recalculated, told}
 use Rattle.session_core.specs.Faults.{fault_message}
 use Rattle.session_core.specs.Machine.{afresh, and_further, followed_by, idle, pointer_of, quiet, scene_at, sheet_of}
-use Rattle.session_core.specs.Machine.{with_done, with_macro, Follows, Outcome, Replies, SessionView, State}
+use Rattle.session_core.specs.Machine.{with_channel, with_done, with_macro, Follows, Outcome, Replies, SessionView, State}
 use Rattle.session_core.specs.Pressing.{turn_of}
 use Rattle.session_core.specs.Refusing.{key_refused}
 use Rattle.session_core.specs.Frozen.{frozen_after, switches_of}
@@ -34,20 +39,52 @@ taken k replies scene s = carried (turn_of k s.room s.end s.desk) replies scene 
 abbrev pub seen_from : Scene → State → Scene
 seen_from scene s = record scene { cursor = pointer_of s }
 
--- What follows behind a macro's step, by what it came to: a key that the macro types is taken, a fault stops the macro
--- and is told, and a protected cell is an error.
+-- the cell that a word on a text file would write, where it is protected
+abbrev pub protected_target : Option Place → State → Option Place
+protected_target None s = None
+protected_target (Some c) s = if is_protected (sheet_of s).settings (sheet_of s).grid c then Some c else None
+
+-- the macro's own step, which makes no call
+abbrev pub by_step : MacroStep → State → Outcome
+by_step x s = with_done x.done (with_macro x.running s)
+
+-- the macro does what its word on a text file came to; where the shelf failed that is an error
+abbrev pub served_as : Option Deed → Scene → State → Outcome
+served_as None scene s = failed error.DiskError scene s
+served_as (Some d) scene s = by_step (carried_step scene d s.running (sheet_of s)) s
+
+-- a word on a text file was carried out: its calls were made, and this is attached
+abbrev pub behind_word : Served → Scene → State → Outcome
+behind_word x scene s = behind_calls x.calls (served_as x.deed scene (with_channel x.channel s))
+
+-- a word on a text file is carried out, by what is attached
+abbrev pub by_word : FileDeed → Replies → Scene → State → Outcome
+by_word d replies scene s = behind_word (served_word d replies.look replies.act s.channel) scene s
+
+-- the same, unless the cell is protected that it would write
+abbrev pub on_file : Option Place → FileDeed → Replies → Scene → State → Outcome
+on_file (Some c) d replies scene s = failed (error.Protected c) scene s
+on_file None d replies scene s = by_word d replies scene s
+
+-- A word on a text file: where the cell is protected that it would write, that is an error before anything is done.
+abbrev pub by_file : FileDeed → Replies → Scene → State → Outcome
+by_file d replies scene s = on_file (protected_target (target_of d.word) s) d replies scene s
+
+-- What follows behind a macro's step, by what it came to: a key that the macro types is taken, a word on a text file is
+-- carried out, a fault stops the macro and is told, and a protected cell is an error.
 abbrev pub come_to : StepEnd → Replies → Scene → State → Outcome
 come_to (Types k) replies scene s = taken k replies scene s
 come_to Moves replies scene s = quiet s
 come_to Works replies scene s = quiet s
 come_to (Indicates t) replies scene s = quiet (record s { indicate = t })
+come_to (Files d) replies scene s = by_file d replies scene s
 come_to (Faulty f c) replies scene s = quiet (told (fault_message f c) s)
 come_to (Refused c) replies scene s = failed (error.Protected c) scene s
 
 -- a macro's step, and what follows it, seen from where the pointer then stands
 abbrev pub stepped : MacroStep → Replies → Scene → State → Outcome
 stepped x replies scene s =
-    followed_by (with_done x.done (with_macro x.running s)) (λ t. come_to x.end replies (seen_from scene t) t)
+    followed_by (by_step x s) (λ t. come_to x.end replies (seen_from scene t) t)
 
 -- the macro that waits takes the key, which takes END's mark away; what the session is doing stays
 abbrev pub answered : Key → Replies → Scene → State → Outcome

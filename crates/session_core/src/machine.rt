@@ -20,6 +20,7 @@ ghost use Rattle.work_sheet.specs.Did.{work_of};
 
 mod painting;
 mod refusing;
+mod text_files;
 
 use crate::acting::act;
 use crate::entering::{Meant, meaning_of};
@@ -55,6 +56,7 @@ use session_rooms::{AnsweredCommand, Answering, PromptRoom, Room, Turn, TypingMo
 use sheet_store::{Settings, SheetFault};
 use std::marker::Model;
 use std::mem;
+use text_channel::Channel;
 
 const HOME: Cell = Cell { row: 0, col: 0 };
 
@@ -68,6 +70,7 @@ pub struct Machine {
     room: Room,
     end: bool,
     engine: Engine,
+    channel: Channel,
     indicate: Line,
     frozen: Frozen,
     refusal: Refusal,
@@ -92,6 +95,7 @@ impl Model for Machine {
         room = a.room;
         end = a.end;
         running = a.engine;
+        channel = a.channel;
         indicate = a.indicate;
         frozen = a.frozen;
         refusal = a.refusal;
@@ -134,6 +138,7 @@ impl Machine {
             room: Room::Ready,
             end: false,
             engine,
+            channel: Channel::new(),
             indicate: Line::new(),
             frozen: Frozen::none(),
             refusal: Refusal::Nothing,
@@ -581,6 +586,7 @@ impl Machine {
                 self.show_in_place(&text);
                 Ok(UNTOUCHED)
             }
+            StepEnd::Files(deed) => self.do_on_file(deed, now, shelf),
             StepEnd::Faulty(fault, cell) => {
                 self.tell(fault_message(fault, cell));
                 Ok(UNTOUCHED)

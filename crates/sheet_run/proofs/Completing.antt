@@ -11,7 +11,7 @@ use Rattle.session_core.specs.Unfailing.{NoneFailed}
 use Rattle.session_core.specs.Step.{is_key}
 use Rattle.session_core.specs.declared.event.Event.{Event}
 use Rattle.session_core.specs.declared.event.Event.TheVariants.{Key as KeyEvent, Unit as UnitEvent}
-use Rattle.commands_file.specs.Calls.{failed as call_failed, loaded, there, written, Asked, HaveAnswered, IsCounted, Reply, ShelfView}
+use Rattle.commands_file.specs.Calls.{failed as call_failed, fetched, loaded, there, written, Asked, HaveAnswered, IsCounted, Reply, ShelfView}
 use Rattle.outside_world.specs.Shelf.{answered, failed, file_in, HasRead, OnShelf}
 use Rattle.outside_world.specs.declared.faults.ShelfFault.TheVariants.{Failed}
 use Rattle.serial_date.specs.declared.moment.Moment.{Moment}
@@ -204,6 +204,7 @@ counted_on : (reply : Reply) (a b : ℕ) → IsCounted reply a b → a ≤ b
 counted_on call_failed a b is = is.0
 counted_on (there x) a b is = omega (arith, is)
 counted_on (loaded x) a b is = omega (arith, is)
+counted_on (fetched x) a b is = omega (arith, is)
 counted_on written a b is = omega (arith, is)
 
 counts_on : (calls : List Asked) (a b : ShelfView) → HaveAnswered calls a b → a.faults ≤ b.faults

@@ -1,6 +1,7 @@
-ghost use Rattle.std.specs.Prelude.{◌≡◌, ◌≤◌, ℕ, None, IfOk, OnOk, OnErr};
+ghost use Rattle.std.specs.Prelude.{◌≡◌, ◌≤◌, ℕ, None, IfOk, IfSome, OnOk, OnErr};
 ghost use Rattle.outside_world.specs.Shelf.{HasCause};
 ghost use Rattle.text_channel.specs.Channels.{by_shelf, can_stand, can_write, position_of, size_of, stood, written, HasAttached, HasFinished, given, left_after, HasOpened, HasTaken};
+ghost use Rattle.text_channel.specs.Channels as spec;
 ghost use Rattle.text_channel.specs.Lines.{next_bytes, next_line};
 
 use crate::attached::{Access, Attached};
@@ -49,7 +50,8 @@ impl Channel {
 
     /// How many bytes the file has, and none exactly where nothing is attached.
     pub fn size(&self) -> Option<u32>
-        ensures { result ≡ size_of self.now }
+        ensures size { result ≡ size_of self.now }
+        ensures most { IfSome result (λ size. size ≤ spec.LIMIT) }
     {
         match &self.attached {
             Some(file) => Some(file.bytes.len() as u32),
@@ -59,7 +61,8 @@ impl Channel {
 
     /// The position, and none exactly where nothing is attached.
     pub fn position(&self) -> Option<u32>
-        ensures { result ≡ position_of self.now }
+        ensures position { result ≡ position_of self.now }
+        ensures most { IfSome result (λ place. place ≤ spec.LIMIT) }
     {
         match &self.attached {
             Some(file) => Some(file.at as u32),

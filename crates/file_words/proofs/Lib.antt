@@ -1,0 +1,2 @@
+pub mod Calling
+mod Attached

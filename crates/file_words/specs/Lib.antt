@@ -1,0 +1,2 @@
+pub mod Attaching
+pub mod Serving
