@@ -14,9 +14,9 @@ use crate::writing::{blank_row, contents_row, let_row, put_row, recalc_row};
 use crate::{Move, Row, Running, Waiting, Wanted};
 use formula_eval::{Look, Scene};
 use grid_address::Format;
-use key_words::{Command, MacroWord, unit_at};
+use key_words::{Command, MacroWord};
 use lics_text::{MAX_LEN, Memory};
-use macro_text::{Spot, TextList, arguments_of, macro_text, named_span, part, place_of};
+use macro_text::{KeptWords, Spot, TextList, arguments_of, macro_text, named_span, part, place_of};
 use std::alloc::Global;
 
 // The fewest and the most arguments of a command; those that are no words as yet take none.
@@ -164,8 +164,8 @@ fn word_row<K: Look>(
 /// What the word at a place does, as its text now stands, where the sheet's format is `global`: to the sheet and to the
 /// macro, or why it is a fault; a fault writes nothing. All arguments are read first: one that isn't of its kind, or a
 /// wrong number of them, comes before a cell without a text and before a call or loop inside 31 others. A place
-/// without a command or a call is a bad argument. (Release 2 manual for the words; the order of causes and the
-/// nesting of 31 are this project's choice.)
+/// without a command or a call is a bad argument. A word that was kept of this very text isn't read again. (Release 2
+/// manual for the words; the order of causes and the nesting of 31 are this project's choice.)
 #[tactic(auto, unfolding(crate::specs::Rows::row))]
 pub fn row<K: Look>(
     alloc: Global,
@@ -173,6 +173,7 @@ pub fn row<K: Look>(
     scene: &Scene,
     global: Format,
     running: &Running,
+    kept: &mut KeptWords,
     at: &Spot,
 ) -> Result<Row, Memory>
     ensures { let outlook = outlook_of (K.sight look.now) scene.entry.now in
@@ -182,6 +183,6 @@ pub fn row<K: Look>(
         return Ok(bad());
     };
     let bytes = text.bytes();
-    let (word, _) = unit_at(bytes, at.offset);
+    let (word, _) = kept.word_at(bytes, at.offset);
     word_row(alloc, look, scene, global, running, at, bytes, word)
 }
