@@ -53,7 +53,7 @@ fn text_given<K: Look>(
     ensures { let outlook = outlook_of (K.sight look.now) scene.entry.now in
         IfOk result (λ t. t ≡ text_in (values.let_value outlook at text.now)) }
 {
-    let value = let_value(alloc, look, scene, at, text)?;
+    let value = let_value(alloc, look, scene, at, text, None)?;
     Ok(text_of(value))
 }
 
