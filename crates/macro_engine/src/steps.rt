@@ -144,6 +144,7 @@ fn cell_of(running: &Running) -> Cell
 fn unit_stepped(
     running: Running,
     unit: &Unit,
+    kept: &mut KeptWords,
     sheet: &mut Sheet,
     scene: &Scene,
     tally: &mut Tally,
@@ -155,7 +156,7 @@ fn unit_stepped(
         Unit::Key(key) => Ok((StepEnd::Types(*key), Some(running))),
         Unit::Command(at) => {
             let global = sheet.settings().format;
-            let row = row(sheet.alloc(), sheet, scene, global, &running, at)?;
+            let row = row(sheet.alloc(), sheet, scene, global, &running, kept, at)?;
             row_stepped(running, at.cell, row, sheet, scene, tally)
         }
         Unit::Down => Ok((StepEnd::Moves, Some(running))),
@@ -205,7 +206,7 @@ pub fn stepped(
         IfOk result (λ x. HasStepped step x.0 x.1 sheet.old sheet.new tally.old.count tally.new.count) }
 {
     let (unit, position) = next_unit(sheet.alloc(), sheet, scene, kept, &running.position)?;
-    unit_stepped(placed(running, position), &unit, sheet, scene, tally)
+    unit_stepped(placed(running, position), &unit, kept, sheet, scene, tally)
 }
 
 /// A key that a macro takes which waits: what it comes to, and the macro behind it.

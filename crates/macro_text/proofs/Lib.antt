@@ -1,4 +1,5 @@
 pub mod Cutting
 pub mod Keeping
+pub mod Nameless
 pub mod Splitting
 pub mod Turns

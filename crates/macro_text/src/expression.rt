@@ -3,6 +3,7 @@ ghost use Rattle.std.specs.Prelude.{◌≡◌, ◌≤◌, IfOk, IfSome};
 ghost use Rattle.at_functions.specs.Numbers as numbers;
 ghost use Rattle.formula_eval.specs.Scenes.{outlook_of};
 ghost use Rattle.macro_text.specs.Arguments as spec;
+ghost use Rattle.macro_text.specs.Read.{IsRead};
 
 use at_functions::whole;
 use fixed_value::Fixed;
@@ -45,6 +46,25 @@ pub fn expression_value<K: Look>(
     match formula_in(alloc, text, at, look, scene)? {
         Some(formula) => Ok(Some(glance(&formula, at, look, scene)?)),
         None => Ok(None),
+    }
+}
+
+/// The same, where the text's formula may have been read already.
+pub fn read_value<K: Look>(
+    alloc: Global,
+    text: &[u8],
+    formula: Option<&Formula>,
+    at: Cell,
+    look: &K,
+    scene: &Scene,
+) -> Result<Option<Value>, Memory>
+    requires { IfSome formula (λ f. IsRead at text.now f.now) }
+    ensures { let outlook = outlook_of (K.sight look.now) scene.entry.now in
+        IfOk result (λ v. v ≡ spec.expression_value outlook at text.now) }
+{
+    match formula {
+        Some(formula) => Ok(Some(glance(formula, at, look, scene)?)),
+        None => expression_value(alloc, text, at, look, scene),
     }
 }
 

@@ -1,19 +1,24 @@
 // Words that were read already.
-ghost use Rattle.std.specs.Prelude.{◌≡◌, IfSome, true};
+ghost use Rattle.std.specs.Prelude.{◌≡◌, true, IfOk, IfSome, OnOk};
 ghost use Rattle.key_words.specs.MacroText.{unit_at};
 ghost use Rattle.lics_text.specs.Bytes.{IsText};
+ghost use Rattle.macro_text.specs.Kept.{arguments_in, listed_by};
 
-use key_words::{MacroWord, unit_at};
-use lics_text::Line;
+use crate::ReadArguments;
+use crate::listed::arguments_of;
+use grid_address::Cell;
+use key_words::{Arguments, MacroWord, unit_at};
+use lics_text::{Line, Memory};
 use std::alloc::Global;
 use std::marker::Model;
 
-/// A word that stands at an offset, and the offset behind it.
-#[derive(Clone, Copy)]
+/// A word that stands at an offset, the offset behind it, and its arguments, where it is a command.
+#[derive(Drop)]
 pub struct KeptWord {
     pub at: usize,
     pub word: MacroWord,
     pub end: usize,
+    pub args: ReadArguments,
 }
 
 /// The words that were read from a text, which are used only while the text is the same.
@@ -32,6 +37,32 @@ impl Model for KeptWords {
     ghost view = { λ k. k.text };
 
     ghost invariant = { λ k. AreWordsOf k.text k.words.items };
+}
+
+// The arguments that a command's word lists.
+fn listed_by(word: &MacroWord) -> Arguments
+    ensures { result ≡ listed_by word.now }
+{
+    match word {
+        MacroWord::Command(_, args) => *args,
+        MacroWord::Key(_) | MacroWord::Repeated(_, _) => Arguments::Nothing,
+        MacroWord::Call(_, _) | MacroWord::PlaceCall(_) => Arguments::Nothing,
+        MacroWord::End | MacroWord::Bad => Arguments::Nothing,
+    }
+}
+
+// The arguments of a command in a text that stands in a cell.
+fn read_arguments(
+    alloc: Global,
+    text: &[u8],
+    word: &MacroWord,
+    cell: Cell,
+) -> Result<ReadArguments, Memory>
+    requires { IsText text.now }
+    ensures { IfOk result (λ a. a ≡ arguments_in text.now word.now) }
+{
+    let list = arguments_of(alloc, false, text, listed_by(word))?;
+    ReadArguments::of(alloc, list, cell)
 }
 
 impl KeptWords {
@@ -76,26 +107,60 @@ impl KeptWords {
         }
     }
 
-    // Keeps the word at an offset, if there is memory.
-    fn keep(&mut self, at: usize, word: &MacroWord, end: usize)
-        requires { unit_at self.old at ≡ (word.now, end) }
+    // Keeps the word at an offset with its arguments.
+    fn keep(
+        &mut self,
+        at: usize,
+        word: &MacroWord,
+        end: usize,
+        args: ReadArguments,
+    ) -> Result<(), Memory>
+        requires word { unit_at self.old at ≡ (word.now, end) }
+        requires args { args ≡ arguments_in self.old word.now }
         ensures { self.new ≡ self.old }
     {
         let word = *word;
-        let _ = self.words.push(KeptWord { at, word, end });
+        self.words.push(KeptWord {
+            at,
+            word,
+            end,
+            args,
+        })?;
+        Ok(())
     }
 
-    /// The word at an offset of a text, and the offset behind it, as `unit_at` of key_words tells them.
-    pub fn word_at(&mut self, text: &[u8], offset: usize) -> (MacroWord, usize)
+    /// The word at an offset of a text that stands in a cell, and the offset behind it, as `unit_at` of key_words tells
+    /// them. It is kept, with its arguments.
+    pub fn word_at(
+        &mut self,
+        alloc: Global,
+        text: &[u8],
+        offset: usize,
+        cell: Cell,
+    ) -> Result<(MacroWord, usize), Memory>
         requires { IsText text.now }
-        ensures { result ≡ unit_at text.now offset }
+        ensures word { IfOk result (λ w. w ≡ unit_at text.now offset) }
+        ensures text { OnOk result (self.new ≡ text.now) }
     {
         self.follow(text);
         if let Some(found) = self.find(offset) {
-            return found;
+            return Ok(found);
         }
         let (word, end) = unit_at(text, offset);
-        self.keep(offset, &word, end);
-        (word, end)
+        let args = read_arguments(alloc, text, &word, cell)?;
+        self.keep(offset, &word, end, args)?;
+        Ok((word, end))
+    }
+
+    /// The arguments of the command at an offset of the text, if it is kept.
+    pub fn arguments_at(&self, offset: usize) -> Option<&ReadArguments>
+        ensures { IfSome result (λ a. a.now ≡ arguments_in self.now (unit_at self.now offset).0) }
+    {
+        for kept in &self.words {
+            if kept.at == offset {
+                return Some(&kept.args);
+            }
+        }
+        None
     }
 }

@@ -1,6 +1,7 @@
 //! What a macro's text says: its words as they stand in a sheet, their arguments, and the next unit.
 #![tactic(auto)]
 
+mod arguments;
 mod expression;
 mod kept;
 mod listed;
@@ -10,7 +11,8 @@ mod ranges;
 mod text_list;
 mod unit;
 
-pub use expression::{count_of, expression_value, formula_in, number_of};
+pub use arguments::ReadArguments;
+pub use expression::{count_of, expression_value, formula_in, number_of, read_value};
 pub use kept::KeptWords;
 pub use listed::{arguments_of, call_arguments, front, rest_of};
 pub use pieces::{macro_text, part, text_in};

@@ -1,5 +1,5 @@
 // Arguments that are places or ranges.
-ghost use Rattle.std.specs.Prelude.{◌≡◌};
+ghost use Rattle.std.specs.Prelude.{◌≡◌, None};
 ghost use Rattle.formula_text.specs.Words as words;
 ghost use Rattle.macro_text.specs.Ranges as spec;
 
@@ -13,14 +13,13 @@ pub fn named_span(names: &Names, name: &[u8]) -> Option<Span>
     names.find(name)
 }
 
-// A cell, or the first one of a span.
-fn cell_or_first(cell: Option<Cell>, span: Option<Span>) -> Option<Cell>
-    ensures { result ≡ spec.cell_or_first cell span }
+// The first cell of a name's span.
+fn first_named(names: &Names, name: &[u8]) -> Option<Cell>
+    ensures { result ≡ spec.cell_or_first None (words.named_span names.now name.now) }
 {
-    match (cell, span) {
-        (Some(cell), _) => Some(cell),
-        (None, Some(span)) => Some(span.first),
-        (None, None) => None,
+    match named_span(names, name) {
+        Some(span) => Some(span.first),
+        None => None,
     }
 }
 
@@ -29,16 +28,9 @@ fn cell_or_first(cell: Option<Cell>, span: Option<Span>) -> Option<Cell>
 pub fn place_of(names: &Names, text: &[u8]) -> Option<Cell>
     ensures { result ≡ spec.place_of names.now text.now }
 {
-    cell_or_first(cell_in(text), named_span(names, text))
-}
-
-// A span, or else that of a name.
-fn span_or_named(span: Option<Span>, named: Option<Span>) -> Option<Span>
-    ensures { result ≡ spec.span_or_named span named }
-{
-    match span {
-        Some(span) => Some(span),
-        None => named,
+    match cell_in(text) {
+        Some(cell) => Some(cell),
+        None => first_named(names, text),
     }
 }
 
@@ -46,5 +38,8 @@ fn span_or_named(span: Option<Span>, named: Option<Span>) -> Option<Span>
 pub fn range_of(names: &Names, text: &[u8]) -> Option<Span>
     ensures { result ≡ spec.range_of names.now text.now }
 {
-    span_or_named(span_in(text), named_span(names, text))
+    match span_in(text) {
+        Some(span) => Some(span),
+        None => named_span(names, text),
+    }
 }

@@ -184,7 +184,8 @@ fn turn_at<K: Look>(
         return Ok(Turn::Now(Unit::Return, *position));
     };
     let bytes = text.bytes();
-    let (word, end) = kept.word_at(bytes, position.spot.offset);
+    let Spot { cell, offset } = position.spot;
+    let (word, end) = kept.word_at(alloc, bytes, offset, cell)?;
     word_turn(alloc, look, scene, position, bytes, word, end)
 }
 

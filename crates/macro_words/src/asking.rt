@@ -9,7 +9,7 @@ ghost use Rattle.value_functions.specs.Values.{text_in};
 use crate::items::items_at;
 use crate::rows::{bad, moves};
 use crate::values::{let_value, puts_text};
-use crate::{MacroMenu, Move, Question, Row, Running, Switches, Waiting, Wanted};
+use crate::{KeptQuestion, MacroMenu, Move, Question, Row, Running, Switches, Waiting, Wanted};
 use entry_line::EntryLine;
 use fixed_value::Fixed;
 use formula_eval::{Look, Scene};
@@ -53,7 +53,7 @@ pub fn text_given<K: Look>(
     ensures { let outlook = outlook_of (K.sight look.now) scene.entry.now in
         IfOk result (λ t. t ≡ text_in (values.let_value outlook at text.now)) }
 {
-    let value = let_value(alloc, look, scene, at, text)?;
+    let value = let_value(alloc, look, scene, at, text, None)?;
     Ok(text_of(value))
 }
 
@@ -83,12 +83,15 @@ pub fn question_row<K: Look>(
         return Ok(bad());
     };
     match place_of(look.names(), args.get(1)) {
-        Some(target) => Ok(awaits(Waiting::Line(Question {
-            prompt,
-            line: EntryLine::new(b""),
-            target,
-            wanted,
-        }))),
+        Some(target) => {
+            let question = Question {
+                prompt,
+                line: EntryLine::new(b""),
+                target,
+                wanted,
+            };
+            Ok(awaits(Waiting::Line(KeptQuestion::new(alloc, question)?)))
+        }
         None => {
             drop(prompt);
             Ok(bad())

@@ -8,7 +8,7 @@ use crate::asking::awaits;
 use crate::items::{beside, chosen_by};
 use crate::rows::{below, calls_at, moves};
 use crate::values::{puts_text, puts_value};
-use crate::{MacroMenu, Move, Question, Row, Running, Waiting, Wanted};
+use crate::{KeptQuestion, MacroMenu, Move, Question, Row, Running, Waiting, Wanted};
 use formula_eval::{Look, Scene};
 use formula_tree::Value;
 use grid_address::Cell;
@@ -126,16 +126,16 @@ fn line_row<K: Look>(
     look: &K,
     scene: &Scene,
     at: Cell,
-    mut question: Question,
+    mut question: KeptQuestion,
     key: Key,
 ) -> Result<Row, Memory>
     ensures { let outlook = outlook_of (K.sight look.now) scene.entry.now in
         IfOk result (λ r. r ≡ spec.line_row outlook at question key) }
 {
     match key {
-        Key::Enter => finished_row(alloc, look, scene, at, &question),
+        Key::Enter => finished_row(alloc, look, scene, at, question.question()),
         _ => {
-            let _ = question.line.key(key);
+            question.press(key);
             Ok(awaits(Waiting::Line(question)))
         }
     }

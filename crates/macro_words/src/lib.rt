@@ -27,4 +27,4 @@ pub use looping::return_row;
 pub use rows::{is_true, moves};
 pub use running::{Change, Deed, Handler, Move, Row, Running, Sweep};
 pub use table::row;
-pub use waiting::{MacroMenu, Question, Switches, Waiting, Wanted};
+pub use waiting::{KeptQuestion, MacroMenu, Question, Switches, Waiting, Wanted};

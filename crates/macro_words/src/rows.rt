@@ -10,7 +10,7 @@ use formula_eval::{Look, Scene};
 use formula_tree::Value;
 use grid_address::{Cell, LAST_ROW, ROWS, Span};
 use lics_text::Memory;
-use macro_text::{MacroFault, Spot, TextList, expression_value, place_of, text_in};
+use macro_text::{MacroFault, ReadArguments, Spot, TextList, place_of, read_value, text_in};
 use std::alloc::Global;
 
 /// An argument isn't of its kind.
@@ -141,12 +141,14 @@ pub fn if_row<K: Look>(
     look: &K,
     scene: &Scene,
     at: &Spot,
-    args: &TextList,
+    given: &ReadArguments,
 ) -> Result<Row, Memory>
     ensures { let outlook = outlook_of (K.sight look.now) scene.entry.now in
-        IfOk result (λ r. r ≡ spec.if_row outlook at.now args.now) }
+        IfOk result (λ r. r ≡ spec.if_row outlook at.now given.now) }
 {
-    let value = expression_value(alloc, args.get(0), at.cell, look, scene)?;
+    let text = given.list().get(0);
+    let formula = given.formula(0, at.cell);
+    let value = read_value(alloc, text, formula, at.cell, look, scene)?;
     match &value {
         None => Ok(bad()),
         Some(value) => {

@@ -2,6 +2,7 @@
 ghost use Rattle.std.specs.Prelude.{◌≡◌, IfOk};
 ghost use Rattle.formula_eval.specs.Scenes.{outlook_of};
 ghost use Rattle.lics_text.specs.Bytes.{IsText};
+ghost use Rattle.macro_text.specs.Kept.{arguments_in};
 ghost use Rattle.macro_words.specs.Rows as spec;
 
 use crate::asking::{
@@ -18,9 +19,9 @@ use crate::writing::{blank_row, contents_row, let_row, put_row, recalc_row};
 use crate::{FileWord, Move, Row, Running, Waiting, Wanted};
 use formula_eval::{Look, Scene};
 use grid_address::Format;
-use key_words::{Command, MacroWord, unit_at};
+use key_words::{Command, MacroWord};
 use lics_text::{MAX_LEN, Memory};
-use macro_text::{Spot, TextList, arguments_of, macro_text, named_span, part, place_of};
+use macro_text::{KeptWords, ReadArguments, Spot, macro_text, named_span, part, place_of};
 use std::alloc::Global;
 
 // The fewest and the most arguments of a command.
@@ -68,11 +69,13 @@ fn command_row<K: Look>(
     running: &Running,
     at: &Spot,
     command: Command,
-    args: &TextList,
+    args: &ReadArguments,
 ) -> Result<Row, Memory>
     ensures { let outlook = outlook_of (K.sight look.now) scene.entry.now in
         IfOk result (λ r. r ≡ spec.command_row outlook global.0 running.now at.now command args.now) }
 {
+    let given = args;
+    let args = given.list();
     match command {
         Command::Branch => Ok(branch_row(look, scene, args)),
         Command::Dispatch => Ok(dispatch_row(look, scene, args)),
@@ -80,11 +83,11 @@ fn command_row<K: Look>(
         Command::Return => return_row(alloc, look, scene, running),
         Command::Restart => Ok(moves(Move::Forget)),
         Command::Quit => Ok(moves(Move::Stop)),
-        Command::If => if_row(alloc, look, scene, at, args),
+        Command::If => if_row(alloc, look, scene, at, given),
         Command::For => for_row(alloc, look, scene, running, at, args),
         Command::ForBreak => Ok(break_row(running)),
-        Command::Let => let_row(alloc, look, scene, at, args),
-        Command::Put => put_row(alloc, look, scene, at, args),
+        Command::Let => let_row(alloc, look, scene, at, given),
+        Command::Put => put_row(alloc, look, scene, at, given),
         Command::Blank => Ok(blank_row(look, scene, args)),
         Command::Contents => contents_row(alloc, look, scene, global, at, args),
         Command::OnError => Ok(onerror_row(look, scene, args)),
@@ -125,19 +128,19 @@ fn counted_row<K: Look>(
     running: &Running,
     at: &Spot,
     command: Command,
-    args: &TextList,
+    args: &ReadArguments,
 ) -> Result<Row, Memory>
     ensures { let outlook = outlook_of (K.sight look.now) scene.entry.now in
         IfOk result (λ r. r ≡ spec.counted_row outlook global.0 running.now at.now command args.now) }
 {
-    if is_taken(command, args.len()) {
+    if is_taken(command, args.list().len()) {
         command_row(alloc, look, scene, global, running, at, command, args)
     } else {
         Ok(bad())
     }
 }
 
-// What a word of a text does that stands at a place.
+// What a word of a text does that stands at a place, with these arguments.
 fn word_row<K: Look>(
     alloc: Global,
     look: &K,
@@ -147,15 +150,16 @@ fn word_row<K: Look>(
     at: &Spot,
     text: &[u8],
     word: MacroWord,
+    args: &ReadArguments,
 ) -> Result<Row, Memory>
-    requires { IsText text.now }
+    requires text { IsText text.now }
+    requires args { args.now ≡ arguments_in text.now word }
     ensures { let outlook = outlook_of (K.sight look.now) scene.entry.now in
         IfOk result (λ r. r ≡ spec.word_row outlook global.0 running.now at.now text.now word) }
 {
     match word {
-        MacroWord::Command(command, args) => {
-            let args = arguments_of(alloc, false, text, args)?;
-            counted_row(alloc, look, scene, global, running, at, command, &args)
+        MacroWord::Command(command, _) => {
+            counted_row(alloc, look, scene, global, running, at, command, args)
         }
         MacroWord::Call(name, _) => {
             let name = part(text, name);
@@ -175,8 +179,8 @@ fn word_row<K: Look>(
 /// What the word at a place does, as its text now stands, where the sheet's format is `global`: to the sheet and to the
 /// macro, or why it is a fault; a fault writes nothing. All arguments are read first: one that isn't of its kind, or a
 /// wrong number of them, comes before a cell without a text and before a call or loop inside 31 others. A place
-/// without a command or a call is a bad argument. (Release 2 manual for the words; the order of causes and the
-/// nesting of 31 are this project's choice.)
+/// without a command or a call is a bad argument. A word that was kept of this very text isn't read again. (Release 2
+/// manual for the words; the order of causes and the nesting of 31 are this project's choice.)
 #[tactic(auto, unfolding(crate::specs::Rows::row))]
 pub fn row<K: Look>(
     alloc: Global,
@@ -184,6 +188,7 @@ pub fn row<K: Look>(
     scene: &Scene,
     global: Format,
     running: &Running,
+    kept: &mut KeptWords,
     at: &Spot,
 ) -> Result<Row, Memory>
     ensures { let outlook = outlook_of (K.sight look.now) scene.entry.now in
@@ -193,6 +198,9 @@ pub fn row<K: Look>(
         return Ok(bad());
     };
     let bytes = text.bytes();
-    let (word, _) = unit_at(bytes, at.offset);
-    word_row(alloc, look, scene, global, running, at, bytes, word)
+    let (word, _) = kept.word_at(alloc, bytes, at.offset, at.cell)?;
+    match kept.arguments_at(at.offset) {
+        Some(args) => word_row(alloc, look, scene, global, running, at, bytes, word, args),
+        None => Err(Memory),
+    }
 }

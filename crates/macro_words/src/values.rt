@@ -1,19 +1,20 @@
 // What is put into cells.
-ghost use Rattle.std.specs.Prelude.{◌≡◌, ◌∷◌, [], IfOk};
+ghost use Rattle.std.specs.Prelude.{◌≡◌, ◌∷◌, [], IfOk, IfSome};
 ghost use Rattle.block_writes.specs.Writing.{as_content, written};
 ghost use Rattle.formula_eval.specs.Scenes.{outlook_of};
 ghost use Rattle.formula_tree.specs.declared.value.Value.TheVariants as value;
 ghost use Rattle.lics_text.specs.Bytes.{IsText};
+ghost use Rattle.macro_text.specs.Read.{IsRead};
 ghost use Rattle.macro_words.specs.Rows as rows;
 ghost use Rattle.macro_words.specs.Values as spec;
 
 use crate::{Change, Deed, Move, Row};
 use block_writes::{content_of, written};
 use formula_eval::{Look, Scene};
-use formula_tree::{Content, Value};
+use formula_tree::{Content, Formula, Value};
 use grid_address::Cell;
 use lics_text::{LabelPrefix, Memory, Text};
-use macro_text::{expression_value, front, rest_of};
+use macro_text::{front, read_value, rest_of};
 use sheet_store::Writes;
 use std::alloc::Global;
 
@@ -95,33 +96,38 @@ fn typed_value<K: Look>(
     scene: &Scene,
     at: Cell,
     text: &[u8],
+    formula: Option<&Formula>,
 ) -> Result<Value, Memory>
-    requires { IsText text.now }
+    requires text { IsText text.now }
+    requires formula { IfSome formula (λ f. IsRead at text.now f.now) }
     ensures { let outlook = outlook_of (K.sight look.now) scene.entry.now in
         IfOk result (λ v. v ≡ spec.typed_value outlook at text.now) }
 {
     if ends_in(text, AS_STRING) {
         return text_value(alloc, without(text, AS_STRING));
     }
-    let value = expression_value(alloc, text, at, look, scene)?;
+    let value = read_value(alloc, text, formula, at, look, scene)?;
     value_or_bytes(alloc, text, value)
 }
 
-/// What LET puts: an ending `:value` is dropped first; behind it `:string`, or no formula, gives the bytes.
+/// What LET puts: an ending `:value` is dropped first; behind it `:string`, or no formula, gives the bytes. The text's
+/// formula may have been read already.
 pub fn let_value<K: Look>(
     alloc: Global,
     look: &K,
     scene: &Scene,
     at: Cell,
     text: &[u8],
+    formula: Option<&Formula>,
 ) -> Result<Value, Memory>
-    requires { IsText text.now }
+    requires text { IsText text.now }
+    requires formula { IfSome formula (λ f. IsRead at text.now f.now) }
     ensures { let outlook = outlook_of (K.sight look.now) scene.entry.now in
         IfOk result (λ v. v ≡ spec.let_value outlook at text.now) }
 {
     if ends_in(text, AS_VALUE) {
-        typed_value(alloc, look, scene, at, without(text, AS_VALUE))
+        typed_value(alloc, look, scene, at, without(text, AS_VALUE), None)
     } else {
-        typed_value(alloc, look, scene, at, text)
+        typed_value(alloc, look, scene, at, text, formula)
     }
 }

@@ -13,7 +13,9 @@ use formula_eval::{Look, Scene};
 use formula_tree::{Content, Formula};
 use grid_address::{Cell, Format, Span};
 use lics_text::{LabelPrefix, Memory};
-use macro_text::{Spot, TextList, count_of, formula_in, number_of, place_of, range_of};
+use macro_text::{
+    ReadArguments, Spot, TextList, count_of, formula_in, number_of, place_of, range_of,
+};
 use sheet_store::MOST_WIDTH;
 use std::alloc::Global;
 
@@ -23,15 +25,17 @@ pub fn let_row<K: Look>(
     look: &K,
     scene: &Scene,
     at: &Spot,
-    args: &TextList,
+    given: &ReadArguments,
 ) -> Result<Row, Memory>
     ensures { let outlook = outlook_of (K.sight look.now) scene.entry.now in
-        IfOk result (λ r. r ≡ spec.let_row outlook at.now args.now) }
+        IfOk result (λ r. r ≡ spec.let_row outlook at.now given.now) }
 {
+    let args = given.list();
     let Some(cell) = place_of(look.names(), args.get(0)) else {
         return Ok(bad());
     };
-    let value = let_value(alloc, look, scene, at.cell, args.get(1))?;
+    let formula = given.formula(1, at.cell);
+    let value = let_value(alloc, look, scene, at.cell, args.get(1), formula)?;
     puts_value(alloc, cell, &value, Move::Stay)
 }
 
@@ -80,11 +84,12 @@ pub fn put_row<K: Look>(
     look: &K,
     scene: &Scene,
     at: &Spot,
-    args: &TextList,
+    given: &ReadArguments,
 ) -> Result<Row, Memory>
     ensures { let outlook = outlook_of (K.sight look.now) scene.entry.now in
-        IfOk result (λ r. r ≡ spec.put_row outlook at.now args.now) }
+        IfOk result (λ r. r ≡ spec.put_row outlook at.now given.now) }
 {
+    let args = given.list();
     let Some(span) = range_of(look.names(), args.get(0)) else {
         return Ok(bad());
     };
@@ -97,7 +102,8 @@ pub fn put_row<K: Look>(
     let Some(cell) = cell_in(span, col, row) else {
         return Ok(bad());
     };
-    let value = let_value(alloc, look, scene, at.cell, args.get(3))?;
+    let formula = given.formula(3, at.cell);
+    let value = let_value(alloc, look, scene, at.cell, args.get(3), formula)?;
     puts_value(alloc, cell, &value, Move::Stay)
 }
 

@@ -86,7 +86,7 @@ pub(crate) fn waiting_panel(sheet: &Sheet, running: Option<&Running>, room: Pane
         return room;
     };
     match &running.waiting {
-        Waiting::Line(question) => question_panel(question),
+        Waiting::Line(kept) => question_panel(kept.question()),
         Waiting::Item(menu) => menu_panel(sheet, menu),
         Waiting::Nothing | Waiting::Time(_) | Waiting::OneKey(_) | Waiting::Enter => room,
     }

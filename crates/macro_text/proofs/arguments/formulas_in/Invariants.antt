@@ -1,0 +1,5 @@
+use Rattle.macro_text.specs.Read.{AreReadOf}
+use Rattle.macro_text.proofs.arguments.formulas_in.Given as goal
+
+abbrev pub invariant-loop-place : goal.invariant-loop-place
+invariant-loop-place l = AreReadOf l.list l.formulas.items
