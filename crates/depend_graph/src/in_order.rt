@@ -14,7 +14,7 @@ use crate::marks::put_mark;
 use cell_numbers::PlaceTable;
 use grid_address::{Cell, Span};
 use lics_text::Memory;
-use range_index::hold;
+use range_index::{Hull, hold};
 use std::alloc::Global;
 
 // Whether no cell of a row, from one column to another, is marked.
@@ -67,14 +67,17 @@ fn holds_none(span: Span, cells: &[Cell]) -> bool
     true
 }
 
-// Whether a span holds none of the cells, which are marked: it looks at each place of the span, or at each of the
-// cells, whichever are fewer.
-fn is_clear(marked: &PlaceTable, cells: &[Cell], span: Span) -> bool
-    requires { AreMarked marked.now cells.now }
+// Whether a span holds none of the cells, which are marked and lie in the hull: where it lies apart from that, no cell
+// is looked at, and else each place of the span, or each of the cells, whichever are fewer.
+fn is_clear(marked: &PlaceTable, hull: &Hull, cells: &[Cell], span: Span) -> bool
+    requires { AreMarked marked.now hull.now cells.now }
     ensures { result ≡ true → (d : Place) → has same_place cells.now d ≡ true → is_within span d ≡ false }
 {
     if is_one(span) {
         return is_unmarked(marked, span);
+    }
+    if hull.is_apart(span) {
+        return true;
     }
     let places = usize::from(span.width()) * usize::from(span.height());
     if places <= cells.len() {
@@ -84,26 +87,26 @@ fn is_clear(marked: &PlaceTable, cells: &[Cell], span: Span) -> bool
     }
 }
 
-// Whether the spans hold none of the cells, which are marked.
-fn are_clear(marked: &PlaceTable, cells: &[Cell], spans: &[Span]) -> bool
-    requires { AreMarked marked.now cells.now }
+// Whether the spans hold none of the cells, which are marked and lie in the hull.
+fn are_clear(marked: &PlaceTable, hull: &Hull, cells: &[Cell], spans: &[Span]) -> bool
+    requires { AreMarked marked.now hull.now cells.now }
     ensures { result ≡ true → (d : Place) → has same_place cells.now d ≡ true → hold spans.now d ≡ false }
 {
     for span in spans {
-        if !is_clear(marked, cells, *span) {
+        if !is_clear(marked, hull, cells, *span) {
             return false;
         }
     }
     true
 }
 
-// Whether the formula of a cell isn't volatile, and reads none of the cells, which are marked.
-fn stands_first(graph: &Graph, marked: &PlaceTable, cells: &[Cell], cell: Cell) -> bool
-    requires { AreMarked marked.now cells.now }
+// Whether the formula of a cell isn't volatile, and reads none of the cells, which are marked and lie in the hull.
+fn stands_first(graph: &Graph, marked: &PlaceTable, hull: &Hull, cells: &[Cell], cell: Cell) -> bool
+    requires { AreMarked marked.now hull.now cells.now }
     ensures { result ≡ true → StandsFirst (is_volatile_at graph.now) (reads graph.now) cells.now cell }
 {
     match graph.get(cell) {
-        Some(node) => !node.volatile && are_clear(marked, cells, node.reads.as_slice()),
+        Some(node) => !node.volatile && are_clear(marked, hull, cells, node.reads.as_slice()),
         None => true,
     }
 }
@@ -127,13 +130,18 @@ pub fn is_in_order(alloc: Global, graph: &Graph, cells: &[Cell]) -> Result<bool,
         return Ok(stands_alone(graph, cells[0]));
     }
     let mut marked = PlaceTable::new(alloc);
+    let mut hull = Hull::new();
     let mut next = cells.len();
     'back: while next > 0 {
         next -= 1;
         let cell = cells[next];
         cell.is_on_sheet();
         put_mark(&mut marked, cell, 1)?;
-        if !stands_first(graph, &marked, &cells[next..], cell) {
+        hull.put(Span {
+            first: cell,
+            last: cell,
+        });
+        if !stands_first(graph, &marked, &hull, &cells[next..], cell) {
             return Ok(false);
         }
     }

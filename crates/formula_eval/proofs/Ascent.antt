@@ -101,3 +101,9 @@ pub in_column : (values : Place → Value) (s : Extent) (column : Option Extent)
     IfSome column (IsColumn values) → IsRising values s
 in_column values s None some row col fewer is = absurd (false≢true some)
 in_column values s (Some t) some row col fewer is = part_rises values t s row col fewer is.1
+
+-- a column that is kept rises still where the cell that changes isn't in it
+pub column_stays : (values others : Place → Value) (kept : Option Extent) (c : Place) → IfSome kept (λ s. is_within s c ≡ false) → ((d : Place) → same_place d c ≡ false → others d ≡ values d) →
+    IfSome kept (IsColumn values) → IfSome kept (IsColumn others)
+column_stays values others None c outside same is = tt
+column_stays values others (Some s) c outside same is = (is.0, still_rises values others s c is.0 outside same is.1)

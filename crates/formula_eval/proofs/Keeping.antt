@@ -1,14 +1,16 @@
 -- A total that is kept: it holds while none of its cells changes, and a range with more rows begins with it.
-use Rattle.std.proofs.Common.{◌≡◌, ℕ, zero, suc, ◌+◌, ◌≤◌, ◌<◌, List, ◌++◌, inl, inr, refl, sym, ap, ◌∙◌, arith}
-use Rattle.std.specs.Prelude.{true, false}
+use Rattle.std.proofs.Common.{◌≡◌, ℕ, zero, suc, ◌+◌, ◌≤◌, ◌<◌, List, ◌++◌, Some, None, inl, inr, refl, sym, ap, subst, ◌∙◌, arith}
+use Rattle.std.specs.Prelude.{true, false, Option, IfSome}
 use Rattle.std.proofs.lemmas.Bool.{cases_Bool, true≢false}
 use Rattle.std.proofs.lemmas.Bool.Decides.{nat_tests}
 use Rattle.grid_address.specs.Place.{height_of, is_within, same_place, width_of, Extent, Place}
 use Rattle.formula_tree.specs.declared.value.Value.{Value}
 use Rattle.formula_eval.specs.declared.items.Item.{Item}
+use Rattle.formula_eval.specs.declared.kept.Running.{Running}
+use Rattle.formula_eval.specs.Kept.{IsRunning}
 use Rattle.formula_eval.specs.Lists.{in_range, items_in}
 use Rattle.formula_eval.specs.Outlook.{block_cells, cells_of, row_cells}
-use Rattle.formula_eval.specs.Totals.{so_far}
+use Rattle.formula_eval.specs.Totals.{so_far, IsTotal}
 use Rattle.formula_eval.proofs.Blocks.{place}
 use Rattle.formula_eval.proofs.Totalled.{items_append}
 
@@ -53,3 +55,9 @@ goes_on values s t row col width =
     ap (λ r. items_in values (block_cells r s.first.col (height_of s) (width_of s))) row
     ∙ ap (λ k. items_in values (block_cells t.first.row k (height_of s) (width_of s))) col
     ∙ ap (λ w. items_in values (block_cells t.first.row t.first.col (height_of s) w)) width
+
+-- a total that is kept is one still where the cell that changes isn't in its range
+pub running_stays : (values others : Place → Value) (kept : Option Running) (c : Place) → IfSome kept (λ r. is_within r.span c ≡ false) → ((d : Place) → same_place d c ≡ false → others d ≡ values d) →
+    IfSome kept (IsRunning values) → IfSome kept (IsRunning others)
+running_stays values others None c outside same is = tt
+running_stays values others (Some r) c outside same is = subst (IsTotal r.total) (stays values others r.span c outside same) is

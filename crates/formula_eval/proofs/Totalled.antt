@@ -4,23 +4,19 @@ use Rattle.std.specs.Prelude.{Bool, true, false, ◌||◌, ℤ, pos, ◌+ℤ◌,
 use Rattle.std.specs.List.{filter, list_any}
 use Rattle.std.proofs.lemmas.Bool.Decides.{nat_tests}
 use Rattle.std.proofs.lemmas.List.{append-nil}
-use Rattle.fixed_value.specs.Numbers.{within}
-use Rattle.grid_address.specs.Place.{is_within, width_of, Extent, Place}
+use Rattle.grid_address.specs.Place.{height_of, is_within, width_of, Extent, Place}
 use Rattle.formula_tree.specs.Values.{is_filled}
-use Rattle.formula_tree.specs.declared.ast.Op.TheVariants.{Div}
 use Rattle.formula_tree.specs.declared.function.Function.{Function}
-use Rattle.formula_tree.specs.declared.function.Function.TheVariants as function
 use Rattle.formula_tree.specs.declared.value.Value.{Value}
 use Rattle.formula_tree.specs.declared.value.Value.TheVariants as value
-use Rattle.value_functions.specs.Operators.{binary_value}
-use Rattle.value_functions.specs.Values.{answer, counted, stop, unless_stopped}
+use Rattle.value_functions.specs.Values.{stop, unless_stopped}
 use Rattle.formula_eval.specs.declared.items.Item.{Item}
 use Rattle.formula_eval.specs.declared.items.Item.TheVariants as item
 use Rattle.formula_eval.specs.declared.totals.Total.{Total}
-use Rattle.formula_eval.specs.Lists.{in_range, is_err, is_na, items_in, larger, list_row, list_value, size_of, smaller}
+use Rattle.formula_eval.specs.Lists.{in_range, is_err, is_na, items_in, larger, list_row, list_value, size_of, smaller, told_by}
 use Rattle.formula_eval.specs.Outlook.{block_cells, cells_of, filled, row_cells}
 use Rattle.formula_eval.proofs.Blocks.{block_more, place, row_more}
-use Rattle.formula_eval.specs.Totals.{so_far, IsTotal}
+use Rattle.formula_eval.specs.Totals.{row_by, so_far, value_by, IsTotal}
 
 -- blank cells have no items
 pub unfiltered : (values : Place → Value) (ps : List Place) → items_in values (filter (λ p. is_filled (values p)) ps) ≡ items_in values ps
@@ -112,70 +108,97 @@ longer : {X : Type 0} (l : List X) (x : X) → length (l ++ x ∷ []) ≡ length
 longer [] x = refl
 longer (y ∷ l) x = omega (arith, longer l x)
 
-neither : (a b : Bool) → a ≡ false → b ≡ false → (a || b) ≡ false
-neither a b h g = grind arith
+any_behind : {X : Type 0} (test : X → Bool) (l : List X) (x : X) → list_any test (l ++ x ∷ []) ≡ (list_any test l || test x)
+any_behind test [] x = last (test x)
+  where
+    last : (b : Bool) → (b || false) ≡ (false || b)
+    last b = grind arith
+any_behind test (y ∷ l) x = ap (λ b. test y || b) (any_behind test l x) ∙ sym (either_of (test y) (list_any test l) (test x))
+  where
+    either_of : (a b c : Bool) → ((a || b) || c) ≡ (a || (b || c))
+    either_of a b c = grind arith
 
-first_false : (a b : Bool) → (a || b) ≡ false → a ≡ false
-first_false a b h = grind arith
-
-rest_false : (a b : Bool) → (a || b) ≡ false → b ≡ false
-rest_false a b h = grind arith
-
-none_behind : {X : Type 0} (test : X → Bool) (l : List X) (x : X) → list_any test l ≡ false → test x ≡ false → list_any test (l ++ x ∷ []) ≡ false
-none_behind test [] x h g = neither (test x) false g refl
-none_behind test (y ∷ l) x h g = neither (test y) (list_any test (l ++ x ∷ [])) (first_false (test y) (list_any test l) h) (none_behind test l x (rest_false (test y) (list_any test l) h) g)
-
--- a total with a number more
-pub number_put : (t new : Total) (x : ℤ) → new.count ≡ t.count + 1 → new.sum ≡ t.sum +ℤ x → new.least ≡ smaller t.least (item.Is x) → new.greatest ≡ larger t.greatest (item.Is x) →
-    (l : List Item) → IsTotal t l → IsTotal new (l ++ item.Is x ∷ [])
-number_put t new x counts sums least_is greatest_is l is = record {
-  counted = counts ∙ ap (λ n. n + 1) is.counted ∙ sym (longer l (item.Is x));
-  summed = sums ∙ ap (λ z. z +ℤ x) is.summed ∙ sym (fold_behind (λ total i. total +ℤ size_of i) (pos 0) l (item.Is x));
-  least = least_is ∙ ap (λ o. smaller o (item.Is x)) is.least ∙ sym (fold_behind smaller None l (item.Is x));
-  greatest = greatest_is ∙ ap (λ o. larger o (item.Is x)) is.greatest ∙ sym (fold_behind larger None l (item.Is x));
-  no_err = none_behind is_err l (item.Is x) is.no_err refl;
-  no_na = none_behind is_na l (item.Is x) is.no_na refl;
+-- a total with an item more
+pub item_put : (t new : Total) (x : Item) → new.count ≡ t.count + 1 → new.sum ≡ t.sum +ℤ size_of x → new.least ≡ smaller t.least x → new.greatest ≡ larger t.greatest x → new.has_err ≡ (t.has_err || is_err x) → new.has_na ≡ (t.has_na || is_na x) →
+    (l : List Item) → IsTotal t l → IsTotal new (l ++ x ∷ [])
+item_put t new x counts sums least_is greatest_is errs_are nas_are l is = record {
+  counted = counts ∙ ap (λ n. n + 1) is.counted ∙ sym (longer l x);
+  summed = sums ∙ ap (λ z. z +ℤ size_of x) is.summed ∙ sym (fold_behind (λ total i. total +ℤ size_of i) (pos 0) l x);
+  least = least_is ∙ ap (λ o. smaller o x) is.least ∙ sym (fold_behind smaller None l x);
+  greatest = greatest_is ∙ ap (λ o. larger o x) is.greatest ∙ sym (fold_behind larger None l x);
+  errs = errs_are ∙ ap (λ b. b || is_err x) is.errs ∙ sym (any_behind is_err l x);
+  nas = nas_are ∙ ap (λ b. b || is_na x) is.nas ∙ sym (any_behind is_na l x);
 }
 
--- a list of numbers stops no function
-unstopped : (f : Function) (t : Total) (l : List Item) → IsTotal t l → list_value f l ≡ list_row f l
-unstopped f t l is =
-    ap (λ b. unless_stopped (stop b (list_any is_na l)) (list_row f l)) is.no_err ∙ ap (λ b. unless_stopped (stop false b) (list_row f l)) is.no_na
+-- a number in the place of an item
+sized_smaller : (o : Option ℤ) (x : Item) → smaller o (item.Is (size_of x)) ≡ smaller o x
+sized_smaller None x = refl
+sized_smaller (Some n) x = refl
+
+sized_larger : (o : Option ℤ) (x : Item) → larger o (item.Is (size_of x)) ≡ larger o x
+sized_larger None x = refl
+sized_larger (Some n) x = refl
+
+-- the same, where the item is told by its number, and whether it is ERR or NA
+pub size_put : (t new : Total) (x : Item) (size : ℤ) (err na : Bool) → size ≡ size_of x → err ≡ is_err x → na ≡ is_na x →
+    new.count ≡ t.count + 1 → new.sum ≡ t.sum +ℤ size → new.least ≡ smaller t.least (item.Is size) → new.greatest ≡ larger t.greatest (item.Is size) → new.has_err ≡ (t.has_err || err) → new.has_na ≡ (t.has_na || na) →
+    (l : List Item) → IsTotal t l → IsTotal new (l ++ x ∷ [])
+size_put t new x size err na size_is err_is na_is counts sums least_is greatest_is errs_are nas_are =
+    item_put t new x counts (sums ∙ ap (λ z. t.sum +ℤ z) size_is)
+    (least_is ∙ ap (λ z. smaller t.least (item.Is z)) size_is ∙ sized_smaller t.least x)
+    (greatest_is ∙ ap (λ z. larger t.greatest (item.Is z)) size_is ∙ sized_larger t.greatest x)
+    (errs_are ∙ ap (λ b. t.has_err || b) err_is) (nas_are ∙ ap (λ b. t.has_na || b) na_is)
+
+row_for : (f : Function) (t : Total) (l : List Item) → IsTotal t l → row_by f t ≡ list_row f l
+row_for f t l is = λ i. told_by f (is.counted i) (is.summed i) (is.least i) (is.greatest i)
+
+-- a function of a list, by its total
+pub value_for : (f : Function) (t : Total) (l : List Item) → IsTotal t l → value_by f t ≡ list_value f l
+value_for f t l is =
+    ap (λ b. unless_stopped (stop b t.has_na) (row_by f t)) is.errs
+    ∙ ap (λ b. unless_stopped (stop (list_any is_err l) b) (row_by f t)) is.nas
+    ∙ ap (unless_stopped (stop (list_any is_err l) (list_any is_na l))) (row_for f t l is)
 
 -- the value of a function of the list
 abbrev pub IsBy : Function → Total → ℤ → Type 0
 IsBy f t n = (l : List Item) → IsTotal t l → list_value f l ≡ value.Num n
-
-pub sum_by : (f : Function) (t : Total) (found : Option ℤ) → f ≡ function.Sum → found ≡ within t.sum → IfSome found (IsBy f t)
-sum_by f t None is so = tt
-sum_by f t (Some n) is so = λ l total. ap (λ g. list_value g l) is ∙ unstopped function.Sum t l total ∙ ap (λ z. answer (within z)) (sym total.summed) ∙ ap answer (sym so)
-
-pub count_by : (f : Function) (t : Total) (found : Option ℤ) → f ≡ function.Count → counted t.count ≡ answer found → IfSome found (IsBy f t)
-count_by f t None is so = tt
-count_by f t (Some n) is so = λ l total. ap (λ g. list_value g l) is ∙ unstopped function.Count t l total ∙ ap counted (sym total.counted) ∙ so
-
-pub mean_by : (f : Function) (t : Total) (found : Option ℤ) (s c : ℤ) → f ≡ function.Avg → within t.sum ≡ Some s → counted t.count ≡ value.Num c →
-    binary_value Div (value.Num s) (value.Num c) ≡ answer found → IfSome found (IsBy f t)
-mean_by f t None s c is sums counts so = tt
-mean_by f t (Some n) s c is sums counts so = λ l total.
-    ap (λ g. list_value g l) is
-    ∙ unstopped function.Avg t l total
-    ∙ ap (λ z. binary_value Div (answer (within z)) (counted (length l))) (sym total.summed)
-    ∙ ap (λ k. binary_value Div (answer (within t.sum)) (counted k)) (sym total.counted)
-    ∙ ap (λ o. binary_value Div (answer o) (counted t.count)) sums
-    ∙ ap (binary_value Div (value.Num s)) counts
-    ∙ so
-
-pub least_by : (f : Function) (t : Total) (found : Option ℤ) → f ≡ function.Min → found ≡ t.least → IfSome found (IsBy f t)
-least_by f t None is so = tt
-least_by f t (Some n) is so = λ l total. ap (λ g. list_value g l) is ∙ unstopped function.Min t l total ∙ ap answer (sym total.least ∙ sym so)
-
-pub greatest_by : (f : Function) (t : Total) (found : Option ℤ) → f ≡ function.Max → found ≡ t.greatest → IfSome found (IsBy f t)
-greatest_by f t None is so = tt
-greatest_by f t (Some n) is so = λ l total. ap (λ g. list_value g l) is ∙ unstopped function.Max t l total ∙ ap answer (sym total.greatest ∙ sym so)
 
 -- the value of a function of the cells of a range, where they have that total
 pub found_by : (f : Function) (t : Total) (found : Option ℤ) (values : Place → Value) (s : Extent) → IsTotal t (items_in values (cells_of s)) → IfSome found (IsBy f t) →
     IfSome found (λ n. list_value f (items_in values (filled values s)) ≡ value.Num n)
 found_by f t None values s total by = tt
 found_by f t (Some n) values s total by = ap (list_value f) (unfiltered values (cells_of s)) ∙ by (items_in values (cells_of s)) total
+
+-- the items of two parts of the rows of a block
+parted : (values : Place → Value) (row col a b cols : ℕ) → items_in values (block_cells row col (a + b) cols) ≡ items_in values (block_cells row col a cols) ++ items_in values (block_cells (row + a) col b cols)
+parted values row col zero b cols =
+    ap (λ n. items_in values (block_cells row col n cols)) (let e : 0 + b ≡ b = omega arith in e)
+    ∙ ap (λ r. items_in values (block_cells r col b cols)) (let e : row ≡ row + 0 = omega arith in e)
+parted values row col (suc a) b cols =
+    let first = items_in values (row_cells row col cols) in
+    let upper = items_in values (block_cells (row + 1) col a cols) in
+    ap (λ n. items_in values (block_cells row col n cols)) (let e : suc a + b ≡ suc (a + b) = omega arith in e)
+    ∙ items_append values (row_cells row col cols) (block_cells (row + 1) col (a + b) cols)
+    ∙ ap (λ (l : List Item). first ++ l) (parted values (row + 1) col a b cols)
+    ∙ sym (append_assoc first upper (items_in values (block_cells (row + 1 + a) col b cols)))
+    ∙ ap (λ (l : List Item). l ++ items_in values (block_cells (row + 1 + a) col b cols)) (sym (items_append values (row_cells row col cols) (block_cells (row + 1) col a cols)))
+    ∙ ap (λ r. items_in values (block_cells row col (suc a) cols) ++ items_in values (block_cells r col b cols)) (let e : row + 1 + a ≡ row + suc a = omega arith in e)
+
+-- the items of some rows behind those above them
+pub rows_put : (values : Place → Value) (s b : Extent) (from to : ℕ) → from < to → b.first ≡ place (s.first.row + from) s.first.col → b.last ≡ place (s.first.row + (to - 1)) s.last.col →
+    so_far values s from ++ items_in values (cells_of b) ≡ so_far values s to
+rows_put values s b from to some first last =
+    let height : height_of b ≡ to - from = omega (arith, some, ap (λ (p : Place). p.row) first, ap (λ (p : Place). p.row) last) in
+    let width : width_of b ≡ width_of s = omega (arith, ap (λ (p : Place). p.col) first, ap (λ (p : Place). p.col) last) in
+    ap (λ n. so_far values s from ++ items_in values (block_cells b.first.row b.first.col n (width_of b))) height
+    ∙ ap (λ n. so_far values s from ++ items_in values (block_cells b.first.row b.first.col (to - from) n)) width
+    ∙ ap (λ (p : Place). so_far values s from ++ items_in values (block_cells p.row p.col (to - from) (width_of s))) first
+    ∙ sym (parted values s.first.row s.first.col from (to - from) (width_of s))
+    ∙ ap (so_far values s) (let e : from + (to - from) ≡ to = omega (arith, some) in e)
+
+-- a range without a used cell has no items
+pub unused_none : (values : Place → Value) (s : Extent) → ((p : Place) → is_within s p ≡ true → values p ≡ value.Blank) → items_in values (cells_of s) ≡ []
+unused_none values s blank =
+    ap (so_far values s) (let e : height_of s ≡ 0 + height_of s = omega arith in e)
+    ∙ blank_rows values s 0 (height_of s) (λ row col above below left right.
+    blank (place row col) (lies_in s row col (omega (arith, above)) (omega (arith, above, below)) left right))

@@ -2,6 +2,7 @@
 use Rattle.std.specs.Prelude.{ℕ, ◌≡◌, ◌≤◌, ◌<◌, true, false, ℤ, IfSome}
 use Rattle.grid_address.specs.Place.{height_of, Extent, Place}
 use Rattle.formula_tree.specs.declared.value.Value.{Value}
+use Rattle.formula_eval.specs.declared.kept.Findings.{Findings}
 use Rattle.formula_eval.specs.declared.kept.Kept.{Kept}
 use Rattle.formula_eval.specs.declared.kept.Running.{Running}
 use Rattle.formula_eval.specs.Lists.{items_in}
@@ -27,8 +28,12 @@ IsRising values s = RisesTo values s (height_of s)
 abbrev pub IsColumn : (Place → Value) → Extent → Type 0
 IsColumn values s = (s.first.col ≤ s.last.col) × IsRising values s
 
+-- what was found is so with these values
+pub record AreFound (values : Place → Value) (f : Findings) : Type 0 where
+  pub last : IfSome f.last (IsRunning values)
+  pub before : IfSome f.before (IsRunning values)
+  pub rising : IfSome f.rising (IsColumn values)
+
 -- what is kept is so with these values
-pub record IsKept (k : Kept) (values : Place → Value) : Type 0 where
-  pub last : IfSome k.last (IsRunning values)
-  pub before : IfSome k.before (IsRunning values)
-  pub rising : IfSome k.rising (IsColumn values)
+abbrev pub IsKept : Kept → (Place → Value) → Type 0
+IsKept k values = IfSome k.findings (AreFound values)

@@ -1,5 +1,5 @@
 -- Functions of lists.
-use Rattle.std.specs.Prelude.{◌+ℤ◌, ℤ, pos, Bool, true, false, Option, Some, None, List, [], ◌∷◌, ◌++◌, fold, length, if◌then◌else◌}
+use Rattle.std.specs.Prelude.{◌+ℤ◌, ℕ, ℤ, pos, Bool, true, false, Option, Some, None, List, [], ◌∷◌, ◌++◌, fold, length, if◌then◌else◌}
 use Rattle.std.specs.List.{list_any}
 use Rattle.std.specs.Int.RustNames.{int_lt}
 use Rattle.fixed_value.specs.Numbers.{within}
@@ -90,13 +90,18 @@ abbrev pub larger : Option ℤ → Item → Option ℤ
 larger None i = Some (size_of i)
 larger (Some x) i = if int_lt x (size_of i) then Some (size_of i) else Some x
 
--- SUM, AVG, COUNT, MIN and MAX; AVG is SUM divided by COUNT
+-- SUM, AVG, COUNT, MIN and MAX, by how many items there are, their sum, the least and the greatest; AVG is SUM divided
+-- by COUNT
+abbrev pub told_by : Function → ℕ → ℤ → Option ℤ → Option ℤ → Value
+told_by function.Sum count sum least greatest = answer (within sum)
+told_by function.Avg count sum least greatest = binary_value Div (answer (within sum)) (counted count)
+told_by function.Count count sum least greatest = counted count
+told_by function.Min count sum least greatest = answer least
+told_by f count sum least greatest = answer greatest
+
+-- these of a list
 abbrev pub list_row : Function → List Item → Value
-list_row function.Sum items = answer (within (sum items))
-list_row function.Avg items = binary_value Div (answer (within (sum items))) (counted (length items))
-list_row function.Count items = counted (length items)
-list_row function.Min items = answer (fold smaller None items)
-list_row f items = answer (fold larger None items)
+list_row f items = told_by f (length items) (sum items) (fold smaller None items) (fold larger None items)
 
 -- a function of a list; ERR and NA among its items pass through it
 abbrev pub list_value : Function → List Item → Value

@@ -3,7 +3,7 @@ ghost use Rattle.std.specs.Prelude.{◌≡◌, ◌≤◌, ◌<◌, IfSome, IsSom
 ghost use Rattle.grid_address.specs.Place.{height_of, is_within, same_place, width_of, Place};
 ghost use Rattle.formula_tree.specs.declared.value.Value.{Value};
 ghost use Rattle.formula_tree.specs.declared.value.Value.TheVariants as value;
-ghost use Rattle.formula_eval.specs.Kept.{IsKept, IsRising, IsRunning};
+ghost use Rattle.formula_eval.specs.Kept.{AreFound, IsKept, IsRising, IsRunning};
 ghost use Rattle.formula_eval.specs.Lists.{items_in, list_value};
 ghost use Rattle.formula_eval.specs.Lookups.{by_number};
 ghost use Rattle.formula_eval.specs.Outlook.{cells_of, filled, Sight};
@@ -23,23 +23,23 @@ pub struct Running {
     total: Total,
 }
 
-/// The totals of the ranges that were added up last, from which those of ranges with more rows go on: two, so that two
-/// columns may run side by side. And the column that was found last to rise, in which lookups go by halves, and the one
-/// that was found not to.
+// The totals of the ranges that were added up last, from which those of ranges with more rows go on: two, so that two
+// columns may run side by side. And the column that was found last to rise, in which lookups go by halves, and the one
+// that was found not to.
 #[derive(Clone, Copy)]
-pub struct Kept {
+struct Findings {
     last: Option<Running>,
     before: Option<Running>,
     rising: Option<Span>,
     uneven: Option<Span>,
 }
 
-impl Kept {
-    /// Nothing is kept.
-    pub fn new() -> Kept
-        ensures { (values : Place → Value) → IsKept result values }
+impl Findings {
+    // Nothing was found.
+    fn none() -> Findings
+        ensures { (values : Place → Value) → AreFound values result }
     {
-        Kept {
+        Findings {
             last: None,
             before: None,
             rising: None,
@@ -47,21 +47,39 @@ impl Kept {
         }
     }
 
-    /// Lets go what hangs on the value of a cell, which changes.
-    pub fn forget(&mut self, cell: Cell)
-        ensures { (values others : Place → Value) → IsKept self.old values →
-            ((c : Place) → same_place c cell ≡ false → others c ≡ values c) → IsKept self.new others }
+    // Whether one of them hangs on the value of a cell.
+    fn hang_on(&self, cell: Cell) -> bool
+        ensures last { result ≡ false → IfSome self.now.last (λ r. is_within r.span cell ≡ false) }
+        ensures before { result ≡ false → IfSome self.now.before (λ r. is_within r.span cell ≡ false) }
+        ensures rising { result ≡ false → IfSome self.now.rising (λ s. is_within s cell ≡ false) }
     {
-        self.last = without(self.last, cell);
-        self.before = without(self.before, cell);
-        self.rising = beside(self.rising, cell);
-        self.uneven = beside(self.uneven, cell);
+        is_added(&self.last, cell)
+            || is_added(&self.before, cell)
+            || lies_in(&self.rising, cell)
+            || lies_in(&self.uneven, cell)
+    }
+
+    // Those that don't hang on the value of a cell, which changes.
+    fn without(self, cell: Cell) -> Findings
+        ensures { (values others : Place → Value) → AreFound values self →
+            ((c : Place) → same_place c cell ≡ false → others c ≡ values c) → AreFound others result }
+    {
+        let last = without(self.last, cell);
+        let before = without(self.before, cell);
+        let rising = beside(self.rising, cell);
+        let uneven = beside(self.uneven, cell);
+        Findings {
+            last,
+            before,
+            rising,
+            uneven,
+        }
     }
 
     // The total of the first rows of a range, so many of them.
     fn begun(&self, span: Span) -> (Total, u16)
         ensures rows { result.1 ≤ height_of span }
-        ensures total { (values : Place → Value) → IsKept self.now values →
+        ensures total { (values : Place → Value) → AreFound values self.now →
             IsTotal result.0 (so_far values span result.1) }
     {
         if let Some(begun) = first_rows(self.last, span) {
@@ -75,8 +93,8 @@ impl Kept {
 
     // Keeps the total of a range in place of the one that it goes on from, or else of the older one.
     fn keep(&mut self, span: Span, total: Total)
-        ensures { (values : Place → Value) → IsKept self.old values →
-            IsTotal total (items_in values (cells_of span)) → IsKept self.new values }
+        ensures { (values : Place → Value) → AreFound values self.old →
+            IsTotal total (items_in values (cells_of span)) → AreFound values self.new }
     {
         if let None = first_rows(self.last, span) {
             self.before = self.last;
@@ -84,32 +102,11 @@ impl Kept {
         self.last = Some(Running { span, total });
     }
 
-    /// SUM, AVG, COUNT, MIN and MAX over a range; none where the value is no number, or where it is found otherwise.
-    pub fn range_number<K: Look>(
-        &mut self,
-        function: Function,
-        span: Span,
-        look: &K,
-    ) -> Option<Fixed>
-        requires { IsKept self.old (K.sight look.now).values }
-        ensures number { let values = (K.sight look.now).values in
-            IfSome result (λ n. list_value function (items_in values (filled values span)) ≡ value.Num n) }
-        ensures kept { IsKept self.new (K.sight look.now).values }
-    {
-        let (begun, rows) = self.begun(span);
-        let mut total = begun;
-        if !add_rest(&mut total, span, rows, look) {
-            return None;
-        }
-        self.keep(span, total);
-        number_for(function, total)
-    }
-
     // Whether the first column of a range rises, which is found once for many lookups.
     fn is_rising<K: Look>(&mut self, span: Span, look: &K) -> bool
-        requires { IsKept self.old (K.sight look.now).values }
+        requires { AreFound (K.sight look.now).values self.old }
         ensures rising { result ≡ true → IsRising (K.sight look.now).values span }
-        ensures kept { IsKept self.new (K.sight look.now).values }
+        ensures found { AreFound (K.sight look.now).values self.new }
     {
         if is_part(span, self.rising) {
             return true;
@@ -126,6 +123,69 @@ impl Kept {
         }
         found
     }
+}
+
+/// What evaluations found that those behind them may use. Where no function of a list and no lookup was evaluated, it
+/// is nothing, and costs a test.
+#[derive(Clone, Copy)]
+pub struct Kept {
+    findings: Option<Findings>,
+}
+
+impl Kept {
+    /// Nothing is kept.
+    pub fn new() -> Kept
+        ensures { (values : Place → Value) → IsKept result values }
+    {
+        Kept { findings: None }
+    }
+
+    /// Lets go what hangs on the value of a cell, which changes.
+    pub fn forget(&mut self, cell: Cell)
+        ensures { (values others : Place → Value) → IsKept self.old values →
+            ((c : Place) → same_place c cell ≡ false → others c ≡ values c) → IsKept self.new others }
+    {
+        let Some(findings) = &self.findings else {
+            return;
+        };
+        if !findings.hang_on(cell) {
+            return;
+        }
+        self.findings = Some(findings.without(cell));
+    }
+
+    // What is kept, as findings.
+    fn findings(&self) -> Findings
+        ensures { (values : Place → Value) → IsKept self.now values → AreFound values result }
+    {
+        match self.findings {
+            Some(findings) => findings,
+            None => Findings::none(),
+        }
+    }
+
+    /// SUM, AVG, COUNT, MIN and MAX over a range; none where the value is no number, or where it is found otherwise.
+    pub fn range_number<K: Look>(
+        &mut self,
+        function: Function,
+        span: Span,
+        look: &K,
+    ) -> Option<Fixed>
+        requires { IsKept self.old (K.sight look.now).values }
+        ensures number { let values = (K.sight look.now).values in
+            IfSome result (λ n. list_value function (items_in values (filled values span)) ≡ value.Num n) }
+        ensures kept { IsKept self.new (K.sight look.now).values }
+    {
+        let mut findings = self.findings();
+        let (begun, rows) = findings.begun(span);
+        let mut total = begun;
+        if !add_rest(&mut total, span, rows, look) {
+            return None;
+        }
+        findings.keep(span, total);
+        self.findings = Some(findings);
+        number_for(function, &total)
+    }
 
     /// VLOOKUP of a number at a place of a range; none where the value is no number, or where it is found otherwise.
     pub fn lookup_number<K: Look>(
@@ -141,11 +201,34 @@ impl Kept {
             (λ n. by_number (K.sight look.now).values false span place x ≡ value.Num n) }
         ensures kept { IsKept self.new (K.sight look.now).values }
     {
-        if self.is_rising(span, look) {
+        let mut findings = self.findings();
+        let is_rising = findings.is_rising(span, look);
+        self.findings = Some(findings);
+        if is_rising {
             number_beside(span, place, x, look)
         } else {
             None
         }
+    }
+}
+
+// Whether a cell lies in a range that was added up.
+fn is_added(running: &Option<Running>, cell: Cell) -> bool
+    ensures { result ≡ false → IfSome running.now (λ r. is_within r.span cell ≡ false) }
+{
+    match running {
+        Some(running) => running.span.contains(cell),
+        None => false,
+    }
+}
+
+// Whether a cell lies in a column that is kept.
+fn lies_in(column: &Option<Span>, cell: Cell) -> bool
+    ensures { result ≡ false → IfSome column.now (λ s. is_within s cell ≡ false) }
+{
+    match column {
+        Some(column) => column.contains(cell),
+        None => false,
     }
 }
 

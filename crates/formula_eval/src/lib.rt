@@ -11,6 +11,7 @@ mod fields;
 mod headers;
 mod items;
 mod kept;
+mod lists;
 mod look;
 mod lookups;
 mod meaning;

@@ -14,8 +14,8 @@ ghost use Rattle.formula_tree.specs.declared.value.Value.TheVariants as value;
 use crate::argument::{Argument, Operand};
 use crate::calls::{called, choice};
 use crate::databases::{Databases, Recorded, Refused};
-use crate::items::{items_of, list_value};
 use crate::kept::Kept;
+use crate::lists::listed;
 use crate::look::{Look, Scene};
 use crate::numbers::number_of;
 use fixed_value::Fixed;
@@ -127,8 +127,7 @@ fn listed_value<D: Databases, K: Look>(
         IfOk result (λ v. v ≡ list_value function items) }
 {
     let arguments = arguments_of(alloc, databases, exprs, at, look, scene)?;
-    let items = items_of(alloc, arguments.as_slice(), look)?;
-    Ok(list_value(function, items.as_slice()))
+    listed(function, arguments.as_slice(), look)
 }
 
 // The value of a function of arguments.

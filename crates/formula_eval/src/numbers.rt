@@ -17,6 +17,7 @@ use grid_address::{Cell, Span};
 use value_functions::binary_numbers;
 
 // The number of a part that is one, or of the cell that it names. It spares most operators a call for each side.
+#[inline(always)]
 fn number_at<K: Look>(expr: &Expr, at: Cell, look: &K) -> Option<Fixed>
     ensures { IfSome result (IsNumber (tree_of expr.now) at (K.sight look.now)) }
 {
@@ -83,32 +84,60 @@ fn call_number<K: Look>(
     }
 }
 
-/// The number of a part that is made of numbers; none where it has none, or where one of its parts is found otherwise.
-/// It spares time alone, and so does what is kept.
-pub fn number_of<K: Look>(expr: &Expr, at: Cell, look: &K, kept: &mut Kept) -> Option<Fixed>
+// The number of an operator between two parts that are numbers, or cells with one, as most formulas are; none for any
+// other part.
+#[inline(always)]
+fn plain_number<K: Look>(expr: &Expr, at: Cell, look: &K) -> Option<Fixed>
+    ensures { IfSome result (IsNumber (tree_of expr.now) at (K.sight look.now)) }
+{
+    match expr {
+        Expr::Binary(op, left, right) => {
+            let x = number_at(left, at, look)?;
+            let y = number_at(right, at, look)?;
+            binary_numbers(*op, x, y)
+        }
+        Expr::Num(_) | Expr::Cell(_) | Expr::Str(_) | Expr::Span(_, _) => None,
+        Expr::Group(_) | Expr::Neg(_) | Expr::Not(_) | Expr::Call(_, _) => None,
+    }
+}
+
+// The number of a part that is made of numbers, by those of its parts.
+fn number_within<K: Look>(expr: &Expr, at: Cell, look: &K, kept: &mut Kept) -> Option<Fixed>
     requires { IsKept kept.old (K.sight look.now).values }
     ensures number { IfSome result (IsNumber (tree_of expr.now) at (K.sight look.now)) }
     ensures kept { IsKept kept.new (K.sight look.now).values }
 {
     match expr {
-        Expr::Group(inner) => number_of(inner, at, look, kept),
+        Expr::Group(inner) => number_within(inner, at, look, kept),
         Expr::Neg(inner) => {
-            let number = number_of(inner, at, look, kept)?;
+            let number = number_within(inner, at, look, kept)?;
             Some(number.neg())
         }
         Expr::Binary(op, left, right) => {
-            if let Some(x) = number_at(left, at, look)
-                && let Some(y) = number_at(right, at, look)
-            {
-                return binary_numbers(*op, x, y);
+            if let Some(number) = plain_number(expr, at, look) {
+                return Some(number);
             }
-            let x = number_of(left, at, look, kept)?;
-            let y = number_of(right, at, look, kept)?;
+            let x = number_within(left, at, look, kept)?;
+            let y = number_within(right, at, look, kept)?;
             binary_numbers(*op, x, y)
         }
         Expr::Call(function, exprs) => call_number(*function, exprs.items(), at, look, kept),
         Expr::Num(_) | Expr::Cell(_) | Expr::Str(_) | Expr::Span(_, _) | Expr::Not(_) => {
             number_at(expr, at, look)
         }
+    }
+}
+
+/// The number of a part that is made of numbers; none where it has none, or where one of its parts is found otherwise.
+/// It spares time alone, and so does what is kept.
+#[inline(always)]
+pub fn number_of<K: Look>(expr: &Expr, at: Cell, look: &K, kept: &mut Kept) -> Option<Fixed>
+    requires { IsKept kept.old (K.sight look.now).values }
+    ensures number { IfSome result (IsNumber (tree_of expr.now) at (K.sight look.now)) }
+    ensures kept { IsKept kept.new (K.sight look.now).values }
+{
+    match plain_number(expr, at, look) {
+        Some(number) => Some(number),
+        None => number_within(expr, at, look, kept),
     }
 }

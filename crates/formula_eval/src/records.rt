@@ -10,9 +10,11 @@ use crate::argument::Argument;
 use crate::criteria::{fields_of, record_matches};
 use crate::fields::has_fields;
 use crate::headers::missing;
-use crate::items::{Item, list_value, put_cell};
+use crate::items::{Item, put_cell};
+use crate::lists::total_in;
 use crate::look::{Look, Scene};
 use crate::lookups::{place_in, range_of};
+use crate::totals::value_for;
 use formula_tree::{Function, Value};
 use grid_address::{Cell, Span};
 use lics_text::Memory;
@@ -106,7 +108,8 @@ fn over_column<K: Look>(
     }
     let col = column_at(input, place);
     let items = record_items(alloc, look, scene, input, criterion, col)?;
-    Ok(list_value(list_function(function), items.as_slice()))
+    let total = total_in(items.as_slice())?;
+    Ok(value_for(list_function(function), &total))
 }
 
 // A function of records over the column of this number.

@@ -1,38 +1,41 @@
-// Functions of lists over a range, without a list of its items.
-ghost use Rattle.std.specs.Prelude.{◌≡◌, ◌<◌, ◌≤◌, ◌+◌, ◌-◌, ◌++◌, [], IfSome, List, true};
+// What lists of items come to, without a list of them.
+ghost use Rattle.std.specs.Prelude.{◌≡◌, ◌<◌, ◌≤◌, ◌+◌, ◌-◌, ◌++◌, ◌∷◌, ◌||◌, [], nat_abs, IfSome, List, true};
+ghost use Rattle.fixed_value.specs.Numbers.{within};
 ghost use Rattle.grid_address.specs.Place.{height_of, width_of};
 ghost use Rattle.formula_tree.specs.Seen.{seen_value};
 ghost use Rattle.formula_tree.specs.declared.value.Value.TheVariants as value;
 ghost use Rattle.formula_eval.specs.declared.items.Item.{Item};
-ghost use Rattle.formula_eval.specs.Lists.{in_range, items_in, list_value};
+ghost use Rattle.formula_eval.specs.Lists.{in_range, is_err, is_na, items_in, list_value, size_of};
 ghost use Rattle.formula_eval.specs.Outlook.{row_cells, Sight};
-ghost use Rattle.formula_eval.specs.Totals.{so_far, IsTotal};
+ghost use Rattle.formula_eval.specs.Totals.{row_by, so_far, value_by, IsTotal};
 
 use crate::items::{Item, larger, smaller};
 use crate::look::Look;
 use crate::lookups::cell_at;
-use fixed_value::Fixed;
-use formula_tree::{Function, Op, ValueRef};
+use fixed_value::{Fixed, MAX_SIZE};
+use formula_tree::{Function, Value, ValueRef};
 use grid_address::{Cell, Span};
-use value_functions::{binary_numbers, whole_number};
+use value_functions::{answer, counted, divided, stop};
 
 /// How many rows a sheet tells of together whether they are used.
 const BAND: u16 = 256;
 
 /// So many cells, and eight for each number, are looked at in a band. Past that a range is gone over by the cells that
 /// aren't blank, which are few.
-const MOST_BLANK: u32 = 1_024;
+const MOST_BLANK: usize = 1_024;
 
-/// What a list of numbers comes to.
+/// What a list of items comes to.
 #[derive(Clone, Copy)]
 pub struct Total {
-    count: u16,
-    sum: i64,
+    count: usize,
+    sum: i128,
     least: Option<Fixed>,
     greatest: Option<Fixed>,
+    has_err: bool,
+    has_na: bool,
 }
 
-/// The total of no number.
+/// The total of no item.
 pub fn nothing() -> Total
     ensures { IsTotal result [] }
 {
@@ -41,27 +44,74 @@ pub fn nothing() -> Total
         sum: 0,
         least: None,
         greatest: None,
+        has_err: false,
+        has_na: false,
     }
 }
 
-// Adds a number; false where the count or the sum has no room.
-fn add_number(total: &mut Total, number: Fixed) -> bool
-    ensures { result ≡ true → (l : List Item) → IsTotal total.old l →
-        IsTotal total.new (l ++ in_range (value.Num number)) }
+// What is added of an item: its number, and whether it is ERR or NA.
+#[derive(Clone, Copy)]
+struct Addend {
+    size: Fixed,
+    is_err: bool,
+    is_na: bool,
+}
+
+// An item as it is added.
+fn as_addend(item: Item) -> Addend
+    ensures size { result.size ≡ size_of item }
+    ensures err { result.is_err ≡ is_err item }
+    ensures na { result.is_na ≡ is_na item }
 {
+    match item {
+        Item::Is(size) => Addend {
+            size,
+            is_err: false,
+            is_na: false,
+        },
+        Item::Err => Addend {
+            size: Fixed::ZERO,
+            is_err: true,
+            is_na: false,
+        },
+        Item::Na => Addend {
+            size: Fixed::ZERO,
+            is_err: false,
+            is_na: true,
+        },
+    }
+}
+
+// Whether one of two is so.
+fn either(one: bool, other: bool) -> bool
+    ensures { result ≡ (one || other) }
+{
+    one || other
+}
+
+/// Adds an item; false where the count or the sum has no room, which a sheet can't come to.
+pub fn add_item(total: &mut Total, item: Item) -> bool
+    ensures { result ≡ true → (l : List Item) → IsTotal total.old l → IsTotal total.new (l ++ item ∷ []) }
+{
+    let addend = as_addend(item);
+    let size = addend.size;
     let Some(count) = total.count.checked_add(1) else {
         return false;
     };
-    let Some(sum) = total.sum.checked_add(number.millionths()) else {
+    let Some(sum) = total.sum.checked_add(i128::from(size.millionths())) else {
         return false;
     };
-    let least = smaller(total.least, Item::Is(number));
-    let greatest = larger(total.greatest, Item::Is(number));
+    let least = smaller(total.least, Item::Is(size));
+    let greatest = larger(total.greatest, Item::Is(size));
+    let has_err = either(total.has_err, addend.is_err);
+    let has_na = either(total.has_na, addend.is_na);
     *total = Total {
         count,
         sum,
         least,
         greatest,
+        has_err,
+        has_na,
     };
     true
 }
@@ -73,8 +123,8 @@ fn add_value(total: &mut Total, value: &ValueRef<'_>) -> bool
 {
     match value {
         ValueRef::Blank => true,
-        ValueRef::Num(number) => add_number(total, *number),
-        ValueRef::Str(_) => add_number(total, Fixed::ZERO),
+        ValueRef::Num(number) => add_item(total, Item::Is(*number)),
+        ValueRef::Str(_) => add_item(total, Item::Is(Fixed::ZERO)),
         ValueRef::Err | ValueRef::Na => false,
     }
 }
@@ -95,8 +145,9 @@ fn add_row<K: Look>(total: &mut Total, span: Span, row: u16, look: &K) -> bool
 }
 
 // Whether so many rows hold far fewer numbers than cells.
-fn is_sparse(rows: u16, width: u16, count: u16) -> bool {
-    u32::from(rows).saturating_mul(u32::from(width)) > MOST_BLANK + 8 * u32::from(count)
+fn is_sparse(rows: u16, width: u16, count: usize) -> bool {
+    let cells = usize::from(rows) * usize::from(width);
+    cells.saturating_sub(MOST_BLANK) / 8 > count
 }
 
 // Adds the cells of a range from a row on up to another; false also where few of them are filled.
@@ -114,8 +165,8 @@ fn add_rows<K: Look>(total: &mut Total, span: Span, from: u16, to: u16, look: &K
     true
 }
 
-// The row behind the last of the band in which a row lies, or behind the last of the range.
-fn band_end(span: Span, row: u16) -> u16
+/// The row behind the last of the band in which a row lies, or behind the last of the range.
+pub fn band_end(span: Span, row: u16) -> u16
     requires { row < height_of span }
     ensures behind { row < result }
     ensures inside { result ≤ height_of span }
@@ -128,8 +179,8 @@ fn band_end(span: Span, row: u16) -> u16
     }
 }
 
-// Some rows of a range, of which there is one at least.
-fn rows_of(span: Span, from: u16, to: u16) -> Span
+/// Some rows of a range, of which there is one at least.
+pub fn rows_of(span: Span, from: u16, to: u16) -> Span
     requires rows { from < to }
     requires inside { to ≤ height_of span }
     ensures first { result.first ≡ record { row = span.first.row + from; col = span.first.col } }
@@ -165,20 +216,61 @@ pub fn add_rest<K: Look>(total: &mut Total, span: Span, from: u16, look: &K) -> 
     true
 }
 
-/// A function of a list, by its total; none where that is no number.
-pub fn number_for(function: Function, total: Total) -> Option<Fixed>
-    ensures { IfSome result (λ n. (l : List Item) → IsTotal total l → list_value function l ≡ value.Num n) }
+// A sum in 64 bits.
+fn narrow(total: i128) -> i64
+    requires { nat_abs total ≤ 999999999999999 }
+    ensures { result ≡ total }
+{
+    total as i64
+}
+
+// The number of so many millionths, and none past the size.
+fn number_of(total: i128) -> Option<Fixed>
+    ensures { result ≡ within total }
+{
+    if total.unsigned_abs() <= u128::from(MAX_SIZE) {
+        Fixed::of(narrow(total))
+    } else {
+        None
+    }
+}
+
+// SUM, AVG, COUNT, MIN and MAX of numbers by their total; AVG is SUM divided by COUNT.
+fn row_by(function: Function, total: &Total) -> Value
+    ensures { result ≡ row_by function total.now }
 {
     match function {
-        Function::Sum => Fixed::of(total.sum),
-        Function::Avg => {
-            let sum = Fixed::of(total.sum)?;
-            let count = whole_number(usize::from(total.count))?;
-            binary_numbers(Op::Div, sum, count)
-        }
-        Function::Count => whole_number(usize::from(total.count)),
-        Function::Min => total.least,
-        Function::Max => total.greatest,
-        _ => None,
+        Function::Sum => answer(number_of(total.sum)),
+        Function::Avg => divided(&answer(number_of(total.sum)), &counted(total.count)),
+        Function::Count => counted(total.count),
+        Function::Min => answer(total.least),
+        _ => answer(total.greatest),
+    }
+}
+
+// A function of a list, by what its total tells.
+fn value_by(function: Function, total: &Total) -> Value
+    ensures { result ≡ value_by function total.now }
+{
+    match stop(total.has_err, total.has_na) {
+        Some(stopped) => stopped,
+        None => row_by(function, total),
+    }
+}
+
+/// A function of a list, by its total.
+pub fn value_for(function: Function, total: &Total) -> Value
+    ensures { (l : List Item) → IsTotal total.now l → result ≡ list_value function l }
+{
+    value_by(function, total)
+}
+
+/// A function of a list, by its total; none where that is no number.
+pub fn number_for(function: Function, total: &Total) -> Option<Fixed>
+    ensures { IfSome result (λ n. (l : List Item) → IsTotal total.now l → list_value function l ≡ value.Num n) }
+{
+    match value_for(function, total) {
+        Value::Num(number) => Some(number),
+        Value::Blank | Value::Str(_) | Value::Err | Value::Na => None,
     }
 }

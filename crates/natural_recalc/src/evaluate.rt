@@ -36,6 +36,7 @@ pub fn evaluate_at<E: Means>(
 }
 
 // The same behind other evaluations, with what they kept of the values as they stand.
+#[inline(always)]
 fn evaluate_next<E: Means>(
     store: &mut Store,
     cell: Cell,

@@ -114,7 +114,8 @@ pub fn format_in(global: Format, own: Format) -> Format
 }
 
 /// What a cell shows in a column's width, by what is kept of it, the sheet's names and the format that stands in for
-/// the default one. None comes exactly where it is blank: a text from the left may run on over it.
+/// the default one. None comes exactly where it is blank: a text from the left may run on over it. A formula's value is
+/// looked at where it is shown alone.
 #[inline(always)]
 pub fn shown_in<'a>(
     state: Option<&'a CellState>,
@@ -128,10 +129,20 @@ pub fn shown_in<'a>(
 {
     let state = state?;
     let content = state.content();
+    let format = format_in(global, state.format());
     match content {
         ContentRef::Blank => None,
-        ContentRef::Number(_) | ContentRef::Label(_, _) | ContentRef::Formula(_) => {
-            let format = format_in(global, state.format());
+        ContentRef::Formula(formula) => {
+            let is_hidden = format.is_shown_as(Format::HIDDEN);
+            if is_hidden {
+                return Some(Shown::RunsOn(b""));
+            }
+            if format.is_shown_as(Format::TEXT) {
+                return Some(Shown::Fits(Fitting::Printed(formula, cell, names)));
+            }
+            Some(value_in(&state.value(), format, width))
+        }
+        ContentRef::Number(_) | ContentRef::Label(_, _) => {
             let shown = shown_content(&content, &state.value(), names, cell, format, width);
             Some(shown)
         }

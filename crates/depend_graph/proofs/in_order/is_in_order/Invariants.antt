@@ -5,7 +5,7 @@ use Rattle.depend_graph.proofs.in_order.is_in_order.Given as goal
 abbrev pub invariant-back : goal.invariant-back
 invariant-back l = record {
   within : l.next ≤ length l.fn.cells;
-  marked : AreMarked l.marked (drop l.next l.fn.cells);
+  marked : AreMarked l.marked l.hull (drop l.next l.fn.cells);
   goes : GoesInOrder l.fn.graph (drop l.next l.fn.cells);
 }
 

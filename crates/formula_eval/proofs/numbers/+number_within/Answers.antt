@@ -3,7 +3,7 @@ use Rattle.formula_tree.specs.Tree.{neg}
 use Rattle.formula_tree.specs.View.{tree_of}
 use Rattle.formula_tree.specs.declared.value.Value.TheVariants as value
 use Rattle.formula_eval.proofs.Composed.{in_call, in_neg}
-use Rattle.formula_eval.proofs.numbers.+number_of.Goals as goal
+use Rattle.formula_eval.proofs.numbers.+number_within.Goals as goal
 
 pub returns-in_ok-number-in-Neg-clause-number : goal.returns-in_ok-number-in-Neg-clause-number
 returns-in_ok-number-in-Neg-clause-number g t c =

@@ -1,7 +1,7 @@
 use Rattle.std.proofs.Common.{◌≤◌, sym, ap, arith}
 use Rattle.grid_address.specs.Place.{height_of, Extent}
 use Rattle.formula_eval.proofs.Ascent.{in_column, part_rises}
-use Rattle.formula_eval.proofs.kept.Kept.is_rising.Goals as goal
+use Rattle.formula_eval.proofs.kept.Findings.is_rising.Goals as goal
 
 pub returns-then-is_part-clause-rising : goal.returns-then-is_part-clause-rising
 returns-then-is_part-clause-rising g c =
@@ -16,8 +16,8 @@ returns-then-found-clause-rising g c = λ yes.
     let rows : height_of c.args.span ≤ height_of column = omega (arith, ap (λ (s : Extent). height_of s) is) in
     part_rises (g.K.Look.sight c.args.look.now).values column c.args.span (sym (ap (λ (s : Extent). s.first.row) is)) (sym (ap (λ (s : Extent). s.first.col) is)) rows (c.rises-found.ensures yes))
 
-pub returns-then-found-clause-kept : goal.returns-then-found-clause-kept
-returns-then-found-clause-kept g c =
+pub returns-then-found-clause-found : goal.returns-then-found-clause-found
+returns-then-found-clause-found g c =
     let is = c.first_column-column.ensures in
     record {
       last = c.requires.last;

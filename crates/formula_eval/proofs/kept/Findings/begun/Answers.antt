@@ -1,4 +1,4 @@
-use Rattle.formula_eval.proofs.kept.Kept.begun.Goals as goal
+use Rattle.formula_eval.proofs.kept.Findings.begun.Goals as goal
 
 pub returns-in-Some-clause-total : goal.returns-in-Some-clause-total
 returns-in-Some-clause-total c = λ values is. c.in-Some.ensures.total values is.last
