@@ -364,7 +364,7 @@ class MacroKeys:
         """A sheet with macros, and keys that start them; the last one may end the run."""
         r = self.r
         self.programs.starts = None
-        waits = r.randrange(3) == 0
+        waits = r.randrange(3) == 0 or self.typist.waits_alone
         if waits:
             sheet = self.programs.lines_of(self.waits.program())
         else:

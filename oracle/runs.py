@@ -2,10 +2,10 @@
 go the worked ones of worked/runs, each a line of the program's words and keys, as a bytes literal spells them, and files of its folder as
 NAME=BYTES, parted by tabs; then random ones.
 
-python3 -B -m oracle.runs PROGRAM N [SEED] [--macros] [--processes P]
+python3 -B -m oracle.runs PROGRAM N [SEED] [--macros | --waits] [--random] [--processes P]
 
-With --macros each list types two to four sheets of macros, and none of data commands; P processes share the lists, as many as the machine
-has processors where P isn't given.
+With --macros each list types two to four sheets of macros, and none of data commands; with --waits all of them are macros that ask, wait and
+switch. With --random the worked ones are left out. P processes share the lists, as many as the machine has processors where P isn't given.
 
 A random key list is made of what the program has built; WITHOUT and the makers of Typist and MenuKeys grow with it. Each run has a folder of
 its own, which mostly holds a few files. The moment on a screen's last line is left out, and no formula asks for it."""
@@ -57,10 +57,11 @@ SHEETS = ['SHEET', *('SHEET%d' % number for number in range(2, 9))]
 
 
 class Typist:
-    """Makes key lists, the words before them and the folder in which they are typed."""
+    """Makes key lists, the words before them and the folder in which they are typed: all sheets are of macros, or of those that wait, where
+    these alone are asked for."""
 
-    def __init__(self, r, macros_alone=False):
-        self.r, self.macros_alone = r, macros_alone
+    def __init__(self, r, macros_alone=False, waits_alone=False):
+        self.r, self.macros_alone, self.waits_alone = r, macros_alone or waits_alone, waits_alone
         self.texts = Texts(r, 3, 5, False, [], without=WITHOUT)
         self.menus = MenuKeys(self)
         self.data, self.macros = DataKeys(self.menus), MacroKeys(self.menus)
@@ -396,9 +397,9 @@ def run_differs(program, given):
     return screens, written, why and 'runs: ' + why_differs(given, why)
 
 
-def compared(program, seed, macros_alone, number):
-    """A run of random keys."""
-    typist = Typist(random.Random(f'{seed} run {number}'), macros_alone)
+def compared(program, seed, alone, number):
+    """A run of random keys; `alone` is `macros` or `waits` where the sheets are of these alone."""
+    typist = Typist(random.Random(f'{seed} run {number}'), alone == 'macros', alone == 'waits')
     keys, options = typist.keys(), typist.words()
     return run_differs(program, Run(options, keys, typist.folder))
 
@@ -437,13 +438,17 @@ def main(words):
     asked.add_argument('program', type=os.path.abspath)
     asked.add_argument('count', type=int)
     asked.add_argument('seed', nargs='?', default=SEED)
-    asked.add_argument('--macros', action='store_true')
+    kinds = asked.add_mutually_exclusive_group()
+    kinds.add_argument('--macros', action='store_const', const='macros', dest='alone')
+    kinds.add_argument('--waits', action='store_const', const='waits', dest='alone')
+    asked.add_argument('--random', action='store_true')
     asked.add_argument('--processes', type=int)
     asked = asked.parse_args(words)
     count, seed = asked.count, asked.seed
-    one = functools.partial(compared, asked.program, seed, asked.macros)
+    one = functools.partial(compared, asked.program, seed, asked.alone)
+    lines = [] if asked.random else worked('runs').splitlines()
     with concurrent.futures.ProcessPoolExecutor(asked.processes, initializer=prepare) as pool:
-        first = list(pool.map(functools.partial(worked_run, asked.program), worked('runs').splitlines(), chunksize=5))
+        first = list(pool.map(functools.partial(worked_run, asked.program), lines, chunksize=5))
         runs = first + list(pool.map(one, range(count), chunksize=5))
     bad = [why for _, _, why in runs if why]
     for why in bad[:5]:
