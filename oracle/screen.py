@@ -56,8 +56,6 @@ def centred(text, width):
 def cell_row(sheet, columns, row):
     """The cells of a row: labels and text values run on over blank cells to the right."""
     parts = [(col, w, state_of(sheet, (col, row))) for col, w in columns]
-    if all(st is None for _, _, st in parts):
-        return b' ' * sum(w for _, w in columns)
     i = 0
     pieces = []
     while i < len(parts):
@@ -177,8 +175,10 @@ def sheet_lines(sheet, corner):
     """Lines 3 to 23: the columns' letters and twenty rows."""
     columns = shown_columns(sheet, corner[0])
     lines = [b'    ' + b''.join(centred(address.col_text(c), w) for c, w in columns)]
+    blank, with_cells = b' ' * sum(w for _, w in columns), {row for _, row in sheet.cells}
     for row in range(corner[1], corner[1] + 20):
-        lines.append(b'' if row > 8191 else str(row + 1).encode().rjust(4) + cell_row(sheet, columns, row))
+        cells = cell_row(sheet, columns, row) if row in with_cells else blank
+        lines.append(b'' if row > 8191 else str(row + 1).encode().rjust(4) + cells)
     return lines
 
 
