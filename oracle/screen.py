@@ -1,6 +1,6 @@
 """The screen of 25 lines of 80.  Painted from nothing."""
 from . import address, cellformat, dates
-from .macro import shown_cell, mask, state_of
+from .macro_cells import mask, shown_cell, state_of
 from .menu import MENUS, items as items_of
 
 
