@@ -21,18 +21,22 @@ MESSAGES = {
 
 
 class CommandError(Exception):
+    """A message of the manual, or of this project, by its number."""
+
     def __init__(self, number, fault=None):
         super().__init__(number)
         self.number = number
         self.fault = fault                   # message 7 tells which fault of a worksheet file
 
     def message(self):
+        """The message."""
         if self.number == 7:
             return ('File refused F%d' % self.fault).encode()
         return MESSAGES[self.number].encode()
 
 
 def sheet_error(f):
+    """The message of a sheet's fault."""
     return CommandError({'Protected': 5, 'PushedOff': 9, 'OutOfSheet': 10}[f.kind])
 
 
@@ -46,6 +50,8 @@ class PrintSettings:
 
 
 class Desk:
+    """A sheet and what the commands remember beside it."""
+
     def __init__(self, sheet):
         self.sheet = sheet
         self.input = self.criterion = self.output = self.sort = None
@@ -77,6 +83,7 @@ def span_of(line, desk):
 
 
 def whole_of(line, low, high):
+    """A whole number between two, or message 2."""
     v = fixed.read_decimal(line)
     if isinstance(v, str) or v % 1_000_000 or not low <= v // 1_000_000 <= high:
         raise CommandError(2)
@@ -84,6 +91,7 @@ def whole_of(line, low, high):
 
 
 def decimal_of(line):
+    """A number, or message 2."""
     v = fixed.read_decimal(line)
     if isinstance(v, str):
         raise CommandError(2)
@@ -114,11 +122,13 @@ def test_line(ask, line, desk):
 
 
 def test_answer(action, answers, desk):
+    """The test of the last answer."""
     asks = [ask for _, ask in prompts(action) if ask not in ('replace', 'confirm')]
     test_line(asks[len(answers) - 1], answers[-1], desk)
 
 
 def the_file(action, answers):
+    """The file that the answers name, or None."""
     for (_, ask), line in zip(prompts(action), answers):
         if ask[0] == 'F':
             return file_name(line, ask[1])
@@ -144,6 +154,7 @@ PREFIX = {'left': ord("'"), 'right': ord('"'), 'center': ord('^')}
 
 
 def set_settings(sheet, **fields):
+    """Changes settings of a sheet."""
     s = sheet.settings.copy()
     for k, v in fields.items():
         setattr(s, k, v)
@@ -151,6 +162,7 @@ def set_settings(sheet, **fields):
 
 
 def state_of(sheet, cell):
+    """The state of a cell, also of one that is absent."""
     st = sheet.cells.get(cell)
     return st if st is not None else State(('blank',), ('blank',), 0xFF)
 
@@ -494,16 +506,19 @@ def of_block(call, *given):
 
 
 def block_error(f):
+    """The message of a fault on blocks."""
     if f.kind == 'Sheet':
         return sheet_error(f.payload)
     return CommandError({'ZeroStep': 11, 'NoTable': 12, 'InputInTable': 13}[f.kind])
 
 
 def query_error(f):
+    """The message of a query's fault."""
     return CommandError({'NoFieldRow': 14, 'FieldAbsent': 15, 'OutputFull': 16}[f.kind])
 
 
 def run_query(kind, desk, scene, tally):
+    """Data Query Extract, Unique or Delete, which the next Query repeats."""
     sheet = desk.sheet
     if desk.input is None or desk.criterion is None or (kind != 'delete' and desk.output is None):
         raise CommandError(14)
@@ -535,6 +550,7 @@ class TableBench:
         self.sheet.calc(self.scene, self.tally)
 
     def answer(self, cell):
+        """The value of a cell, or None."""
         st = self.sheet.cells.get(cell)
         return None if st is None else st.value
 
@@ -547,6 +563,7 @@ class TableBench:
 
 
 def table(what, desk, scene, tally):
+    """Data Table 1 or 2: its span and input cells."""
     sheet = desk.sheet
     span, inputs = what[1], what[2:]
     (c0, r0), (c1, r1) = span
@@ -603,6 +620,7 @@ def xtract(sheet, span, values):
 
 
 def print_command(action, a, desk, shelf, scene):
+    """The commands of Print."""
     s = desk.print_set
     if action == 'p.file':
         desk.print_file = the_file(action, a)

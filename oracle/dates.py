@@ -28,6 +28,7 @@ def day_of(year, month, day):
 
 
 def civil_of(day):
+    """Year, month and day of a day number, or None."""
     if not 1 <= day <= LAST_DAY:
         return None
     if day == 60:

@@ -17,10 +17,13 @@ LAST_U64 = 2 ** 64 - 1
 
 
 class Tally:
+    """How many evaluations there were."""
+
     def __init__(self):
         self.count = 0
 
     def raise_by(self, n):
+        """Adds to the count, which stays at the last u64."""
         self.count = min(LAST_U64, self.count + n)
 
 
@@ -38,10 +41,12 @@ def glance(formula, at, look, scene, inside=False):
 
 
 def sized(v):
+    """A number, or ERR where there is none."""
     return ERR if v is None else num(v)
 
 
 def truth(b):
+    """1 or 0."""
     return TRUE if b else FALSE
 
 
@@ -67,10 +72,12 @@ def compare_order(a, b):
 
 # functions of single values: code -> (kinds of the arguments, function); n a number, t a text
 def _number(f):
+    """A function whose result is a number."""
     return lambda *a: sized(f(*a))
 
 
 def _text(f):
+    """A function whose result is a text."""
     def g(*a):
         r = f(*a)
         return ERR if r is None else string(r)
@@ -130,10 +137,13 @@ def range_item(value):
 
 
 class _Mean:
+    """What the formula in a cell means."""
+
     def __init__(self, at, look, scene, inside):
         self.at, self.look, self.scene, self.inside = at, look, scene, inside
 
     def of(self, e):
+        """The value of a tree."""
         kind = e[0]
         if kind == 'num':
             return num(e[1])
@@ -235,6 +245,7 @@ class _Mean:
         return self.look.value(cell)
 
     def items(self, args):
+        """The items of a list function: the cells of spans that count, and one value for each other argument."""
         out = []
         for a in args:
             if a[0] == 'span':

@@ -28,6 +28,7 @@ def stored(frame):
 
 
 def store(path, held):
+    """Writes a file."""
     with open(path, 'wb') as file:
         file.write(held)
 
@@ -54,6 +55,7 @@ def make(example):
 
 
 def main(names):
+    """Makes the examples anew."""
     prepare()
     for example in [f'examples/{name}' for name in names] or sorted(path[:-5] for path in glob.glob('examples/*.keys')):
         print(make(example))

@@ -27,6 +27,7 @@ def saved_of(data):
 
 
 def bytes_of(word):
+    """The bytes that a word spells."""
     return b'' if word == b'-' else bytes.fromhex(word.decode())
 
 
@@ -134,10 +135,12 @@ def told_files(lines):
 # ---------------------------------------------------------------- sheets that are built
 
 def some_text(r, *sizes):
+    """A text of one of some sizes."""
     return bytes(r.choice(TEXT_BYTES) for _ in range(r.choice(sizes)))
 
 
 def hex_of(data):
+    """Bytes in hexadecimal digits."""
     return data.hex().encode() or b'-'
 
 
@@ -399,6 +402,7 @@ def places_of(data):
 
 
 def changed_byte(r, data):
+    """A byte is changed."""
     at = r.randrange(len(data))
     byte = data[at]
     byte = r.choice([r.randrange(256), byte ^ 1 << r.randrange(8), (byte + 1) % 256, (byte - 1) % 256, 0, 255])
@@ -406,16 +410,19 @@ def changed_byte(r, data):
 
 
 def cut_short(r, data):
+    """The file ends early."""
     at = r.randrange(len(data))
     return at, len(data) - at, b''
 
 
 def cut_out(r, data):
+    """Bytes are left out."""
     at = r.randrange(len(data))
     return at, min(r.choice([1, 1, 2, 4, 9]), len(data) - at), b''
 
 
 def doubled(r, data):
+    """Bytes stand twice."""
     at = r.randrange(len(data))
     return at, 0, data[at:at + r.choice([1, 1, 2, 4, 9])]
 

@@ -60,12 +60,14 @@ OP_TEXT = {'AND': b'#AND#', 'OR': b'#OR#', 'NOT': b'#NOT#'}
 
 
 def op_text(op):
+    """An operator as it is printed."""
     return OP_TEXT.get(op, op.encode())
 
 
 # ---- trees ----
 
 def kids(expr):
+    """The trees directly below a tree."""
     kind = expr[0]
     if kind in ('group', 'neg', 'not'):
         return (expr[1],)
@@ -107,14 +109,17 @@ def edge_min(expr):
 
 
 def left_ok(op, left):
+    """Whether a tree may stand in front of an operator without brackets."""
     return edge_min(left) >= LEVEL[op]
 
 
 def right_ok(op, right):
+    """Whether a tree may stand behind an operator without brackets."""
     return not (right[0] == 'bin' and LEVEL[right[1]] <= LEVEL[op])
 
 
 def front_ok(front_level, operand):
+    """Whether a tree may stand behind a sign of a level without brackets."""
     return not (operand[0] == 'bin' and LEVEL[operand[1]] <= front_level)
 
 
@@ -209,6 +214,7 @@ def read_cells(expr, at):
 
 
 def is_volatile(expr):
+    """Whether a formula is evaluated at each recalculation."""
     if expr[0] == 'call' and expr[1] in VOLATILE:
         return True
     return any(is_volatile(k) for k in kids(expr))
@@ -227,6 +233,7 @@ class ParseFault(Exception):
 
 
 def is_word_byte(b):
+    """Whether a byte may stand in an address or a name."""
     return is_letter(b) or is_digit(b) or b in b'_$'
 
 
@@ -361,6 +368,7 @@ def next_token(text, pos, at, names):
 
 
 def word_end(text, pos):
+    """Where the bytes of a word end."""
     end = pos
     while end < len(text) and is_word_byte(text[end]):
         end += 1
@@ -470,11 +478,13 @@ class _Builder:
         self.i = 0
 
     def take(self):
+        """The next token."""
         token = self.tokens[self.i]
         self.i += 1
         return token
 
     def peek(self):
+        """The next token, which isn't taken."""
         return self.tokens[self.i] if self.i < len(self.tokens) else (None,)
 
     def tree(self, above):
@@ -502,6 +512,7 @@ class _Builder:
 
 
 def read(text, at, names):
+    """The tree that a text spells in a cell."""
     tokens = scan(text, at, names)
     builder = _Builder(tokens)
     expr = builder.tree(0)
@@ -538,6 +549,7 @@ def tree_tokens(expr):
 # ---- printing ----
 
 def ref_text(ref, at):
+    """A reference with its signs."""
     col, row = resolve(ref, at)
     return ((b'$' if ref[0][0] == 'abs' else b'') + col_text(col)
             + (b'$' if ref[1][0] == 'abs' else b'') + str(row + 1).encode())
@@ -550,6 +562,7 @@ def alike(refs):
 
 
 def operand_text(expr, at, names):
+    """A cell or a span, as a name where all of its coordinates are alike."""
     if expr[0] == 'cell':
         kind = alike([expr[1]])
         cell = resolve(expr[1], at)
@@ -568,6 +581,7 @@ def operand_text(expr, at, names):
 
 
 def _print(expr, at, names):
+    """The text of a tree."""
     kind = expr[0]
     if kind == 'num':
         return fixed.plain(expr[1])

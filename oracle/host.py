@@ -168,29 +168,35 @@ class HostShelf:
         self.folder = dict(folder)
 
     def _look(self, name):
+        """What stands under a name."""
         entry = self.folder.get(name)
         if entry and entry.other:
             raise Failed()
         return entry
 
     def _look_to_change(self, name):
+        """The same, where it may be written."""
         entry = self._look(name)
         if entry and not entry.rights & WRITABLE:
             raise Failed()
         return entry
 
     def has(self, name):
+        """Whether there is a file."""
         return self._look(name) is not None
 
     def get(self, name):
+        """A file's bytes, or None."""
         entry = self._look(name)
         return entry and entry.data[:MOST_BYTES]
 
     def put(self, name, data):
+        """Writes a file, which keeps its rights."""
         entry = self._look_to_change(name)
         self.folder[name] = plain(data, entry.rights if entry else NEW_RIGHTS)
 
     def remove(self, name):
+        """Removes a file; whether there was one."""
         there = self._look_to_change(name) is not None
         self.folder.pop(name, None)
         return there
@@ -204,6 +210,7 @@ class HostKeys(ListKeys):
         self.later, self.shelf, self.display, self.screens = host.later, shelf, display, 0
 
     def next(self):
+        """The next byte; what stands in the folder changes before it."""
         if self.later and self.at == self.later[0]:
             self.screens = len(self.display.frames)
             self.shelf.folder[self.later[1]] = self.later[2]
@@ -360,6 +367,7 @@ def compared(program, clock, line):
 
 
 def main(words):
+    """Runs the lines and tells what differs."""
     asked = argparse.ArgumentParser(prog='python3 -B -m oracle.host')
     asked.add_argument('program', type=os.path.abspath)
     asked.add_argument('clock', type=os.path.abspath)

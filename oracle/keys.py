@@ -19,6 +19,7 @@ UNDO = ('undo',)
 
 
 def byte_key(b):
+    """The key of a byte."""
     return ('byte', b)
 
 
@@ -88,6 +89,7 @@ class KeyReader:
         self.bad = None
 
     def feed(self, byte):
+        """A byte: 'more', ('key', key, count) or ('bad', the place of the word)."""
         before = self.taken
         self.taken += 1
         if self.bad is not None:             # after Bad the reader answers the same
@@ -105,6 +107,7 @@ class KeyReader:
         return s
 
     def at_rest(self):
+        """Whether no word is begun."""
         return not self.buf
 
 

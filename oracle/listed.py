@@ -53,6 +53,7 @@ def odd_runs(program):
 
 
 def files(count, seed):
+    """The files of a seed."""
     return all_files(random.Random(f'{seed} files'), count)
 
 
@@ -65,6 +66,7 @@ def keep(folder, count, seed):
 
 
 def main(words):
+    """Compares the files and the odd runs."""
     parser = argparse.ArgumentParser(prog='python3 -B -m oracle.listed')
     parser.add_argument('program', type=os.path.abspath)
     parser.add_argument('count', type=int)

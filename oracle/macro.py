@@ -13,6 +13,8 @@ NOT_BUILT = set()
 
 
 class Engine:
+    """The macro that runs, or none: its place, its callers and what it waits for."""
+
     def __init__(self):
         self.indicate = b''                  # INDICATE's text stays when a macro stops
         self.channel = Channel()             # one channel
@@ -20,6 +22,7 @@ class Engine:
         self._reset()
 
     def _reset(self):
+        """As it is while no macro runs."""
         self.cell = (0, 0)
         self.offset = 0
         self.reps = 0                        # repetitions already typed of the present word
@@ -51,6 +54,7 @@ class Engine:
         self._reset()
 
     def go(self, cell, offset=0):
+        """Goes to a place."""
         self.cell, self.offset, self.reps, self.wait = cell, offset, 0, None
 
     def below(self, col, row):
@@ -113,15 +117,18 @@ class Engine:
 
     # ------------------------------------------------------------ arguments
     def expr(self, text, cell, sheet):
+        """An argument as a formula."""
         try:
             return formula.read(text, cell, sheet.names)
         except formula.ParseFault:
             raise MacroFault(4)
 
     def glance(self, text, cell, sheet, scene):
+        """The value of an argument."""
         return evaluate.glance(self.expr(text, cell, sheet), cell, sheet, scene)
 
     def number_arg(self, text, cell, sheet, scene):
+        """The number of an argument."""
         v = self.glance(text, cell, sheet, scene)
         if v[0] != 'num':
             raise MacroFault(4)
@@ -139,6 +146,7 @@ class Engine:
         return span[0]
 
     def range(self, text, sheet):
+        """An argument as a range, by corners or by name."""
         try:
             return address.read_span(text)
         except address.NotAnAddress:
@@ -202,6 +210,7 @@ class Engine:
             return ('error', 8)              # DiskError is shown as message 8
 
     def do_call(self, word_cell, word_offset, target):
+        """Calls a routine."""
         if len(self.frames) >= 31:           # M2 where a call would add a 32nd frame
             raise MacroFault(2)
         self.frames.append(('call', word_cell, word_offset, (self.cell, self.offset)))
@@ -303,6 +312,7 @@ class Engine:
         return next((at for at, text in enumerate(texts) if text and fold(text[:1]) == fold(bytes([byte]))), None)
 
     def label_text(self, sheet, cell):
+        """The text of a label, or nothing."""
         st = state_of(sheet, cell)
         return st.content[2] if st is not None and st.content[0] == 'label' else b''
 

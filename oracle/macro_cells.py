@@ -33,15 +33,18 @@ def content_of_value(value):
 
 
 def state_of(sheet, cell):
+    """The state of a cell, or None."""
     return sheet.cells.get(cell)
 
 
 def value_of(sheet, cell):
+    """The value of a cell."""
     st = sheet.cells.get(cell)
     return st.value if st is not None else ('blank',)
 
 
 def is_protected(sheet, cell):
+    """Whether a cell may not be written."""
     st = sheet.cells.get(cell)
     byte = st.format if st is not None else 0xFF
     return sheet.settings.protection and byte & 0x80 != 0
@@ -60,6 +63,7 @@ def macro_text(sheet, cell):
 
 
 def past(k, b, s):
+    """Whether a count is behind its last number, in the step's direction."""
     return k > b if s > 0 else k < b
 
 

@@ -4,6 +4,7 @@
 
 
 def formats(prefix, reset):
+    """The items of a menu of formats."""
     out = [('Fixed', prefix + 'fixed'), ('Currency', prefix + 'currency'), (',', prefix + 'comma'),
            ('General', prefix + 'general'), ('Percent', prefix + 'percent'), ('Date', prefix + 'date'),
            ('Text', prefix + 'text'), ('Hidden', prefix + 'hidden')]
@@ -13,6 +14,7 @@ def formats(prefix, reset):
 
 
 def dates(prefix):
+    """The items of a menu of dates."""
     return [('1', prefix + 'date1'), ('2', prefix + 'date2'), ('3', prefix + 'date3')]
 
 
@@ -142,4 +144,5 @@ CHOICES = {'replace': ['Cancel', 'Replace'], 'confirm': ['No', 'Yes']}
 
 
 def prompts(action):
+    """What an action asks for."""
     return PROMPTS.get(action, [])

@@ -502,5 +502,6 @@ class MenuKeys:
                               self.printed, self.printed])()
 
     def part(self):
+        """Keys of a command, or of a menu that is left."""
         many = [self.scene] * 16 + [self.command] * 7 + [self.wandered, self.stayed]
         return self.too_long() if self.r.randrange(40) == 0 else self.r.choice(many)()

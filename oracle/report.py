@@ -16,11 +16,14 @@ class PrintFault(Exception):
 
 
 class PrintSettings:
+    """The settings of a report."""
+
     def __init__(self, header=b'', footer=b'', left=4, right=76, top=2, bottom=2, length=66):
         self.header, self.footer = header, footer
         self.left, self.right, self.top, self.bottom, self.length = left, right, top, bottom, length
 
     def copy(self):
+        """Settings of their own."""
         return PrintSettings(self.header, self.footer, self.left, self.right, self.top, self.bottom, self.length)
 
 

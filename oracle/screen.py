@@ -5,6 +5,7 @@ from .menu import MENUS, items as items_of
 
 
 def width_of(sheet, col):
+    """The width of a column."""
     own = sheet.own_width(col)
     return own if own is not None else sheet.settings.width
 
@@ -49,6 +50,7 @@ def moved_corner(sheet, corner):
 
 
 def centred(text, width):
+    """A text in the middle of a width."""
     left = (width - len(text)) // 2 if width > len(text) else 0
     return (b' ' * left + text)[:width].ljust(width)
 
@@ -84,6 +86,7 @@ def long_text(sheet, cell, st, width):
 
 
 def indicator_text(byte):
+    """What is told of a format."""
     return cellformat.indicator(byte)
 
 
@@ -187,6 +190,7 @@ def foot_line(sheet, message, moment, end_mark, running):
     last = bytearray(b' ' * 80)
 
     def at(col, text):
+        """Puts a text at a column."""
         last[col:col + len(text)] = text[:80 - col]
 
     if message is not None:

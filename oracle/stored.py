@@ -118,6 +118,7 @@ def check(program, names, pool):
 
 
 def main(words):
+    """Makes the stored runs, or compares them."""
     parser = argparse.ArgumentParser(prog='python3 -B -m oracle.stored')
     parser.add_argument('--make', action='store_true')
     parser.add_argument('--seed', default=SEED)

@@ -77,6 +77,7 @@ def files(r):
 
 
 def main(words):
+    """Compares runs over new files."""
     parser = argparse.ArgumentParser(prog='python3 -B -m oracle.stored_files')
     parser.add_argument('program', type=os.path.abspath)
     parser.add_argument('count', type=int)

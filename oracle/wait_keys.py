@@ -35,11 +35,13 @@ class Waits:
         self.keys = b''
 
     def place(self):
+        """A place, seldom none."""
         r = self.r
         return r.choice([b'NONE', b'$A$1', b'A1..B2', b' A1', b'IV8192', b'A8193']) if r.randrange(20) == 0 else r.choice(
             [b'A1', b'A2', b'B1', b'B2', b'COUNT', b'TABLE', b'C3', b'a1', b'D1', b'D2', b'D3'])
 
     def deeds(self, most):
+        """Some of what a macro does."""
         return b''.join(self.r.choice(DEEDS) for _ in range(self.r.randrange(most + 1)))
 
     def switched(self):
@@ -49,10 +51,12 @@ class Waits:
     # ------------------------------------------------------------ questions
 
     def prompt(self):
+        """A prompt's text, seldom none."""
         r = self.r
         return r.choice([b'"Name: "', b'Name', b'"Amount, net: "', b'+"N"&B1', b'""', b'B1', b'N:string', b'"' + b'p' * r.choice([60, 75, 85]) + b'"', b'1', b'@NA'])
 
     def question(self):
+        """A word that asks."""
         r, place = self.r, self.place()
         plain = r.choice([b'Name', b'Amount: ', b'', b'"quoted"', b'a,b', b'N}'])
         return r.choice([
@@ -197,6 +201,7 @@ class Waits:
                 b'K3': b"'" + self.until() + b'{QUIT}'}
 
     def program(self):
+        """Any of these, by its cells."""
         r = self.r
         return r.choice([self.asked] * 4 + [self.looped] * 2 + [self.menued] * 4 + [self.handed] * 3 + [self.frozen] * 5 + [self.indicated] * 2 + [self.unbroken] * 3
                         + [self.rewritten] * 2)()

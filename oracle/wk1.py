@@ -46,10 +46,12 @@ class CodeFault(Exception):
 
 
 def u16(data, at):
+    """Two bytes as a number from 0."""
     return data[at] | data[at + 1] << 8
 
 
 def i16(data, at):
+    """Two bytes as a number with a sign."""
     v = u16(data, at)
     return v - 65536 if v >= 32768 else v
 
@@ -80,6 +82,7 @@ def _axis(v, size, mask):
 
 
 def _ref(code, at):
+    """The reference at a place, or None."""
     col = _axis(u16(code, at), COLS, 0xFF)
     row = _axis(u16(code, at + 2), ROWS, 0x1FFF)
     return None if col is None or row is None else (col, row)
@@ -256,6 +259,7 @@ def _written_ref(ref, at):
 
 
 def _write_tree(expr, at):
+    """The code of a tree without its end."""
     kind = expr[0]
     if kind == 'num':
         if formula.is_short(expr[1]):
@@ -278,6 +282,7 @@ def _write_tree(expr, at):
 
 
 def write_code(expr, at):
+    """The code of a formula."""
     out = _write_tree(expr, at) + b'\x03'
     assert len(out) == formula.code_size(expr)
     return out
@@ -307,6 +312,7 @@ def _records(data):
 
 
 def _double(body):
+    """The number of eight bytes."""
     return fixed.from_double_bits(int.from_bytes(body, 'little'))
 
 
@@ -470,10 +476,12 @@ def read(data):
 
 
 def _record(kind, body=b''):
+    """A record."""
     return kind.to_bytes(2, 'little') + len(body).to_bytes(2, 'little') + body
 
 
 def _u16s(*numbers):
+    """Numbers of two bytes each."""
     return b''.join(n.to_bytes(2, 'little') for n in numbers)
 
 
@@ -488,6 +496,7 @@ def _range_end(saved):
 
 
 def _value_bits(value):
+    """The bits of a formula's value."""
     if value[0] == 'str':
         return TEXT_BITS
     if value == ERR:
