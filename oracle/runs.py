@@ -256,6 +256,8 @@ class Typist:
     def steps(self):
         """The limit of steps, or none; a macro may run without an end."""
         r = self.r
+        if self.waits_alone:
+            return r.choice([r.randrange(1, 100), *[300] * 6, 600])
         if self.may_run:
             return r.choice([r.randrange(1, 100), r.randrange(1, 800), *[2000] * 7, *[3000] * 3])
         return r.choice([1, 2, 10, 50, 10000000]) if r.randrange(4 if self.opened is None else 30) == 0 else None
