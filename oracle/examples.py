@@ -8,9 +8,10 @@ import glob
 import os
 import sys
 
+from .checks import prepare
 from .cli import run
 from .outside import page
-from .runs import BLANK_MOMENT, prepare
+from .runs import BLANK_MOMENT
 
 
 def held_in(folder):

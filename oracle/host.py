@@ -2,7 +2,7 @@
 little room, a stated clock, and names under which no plain file stands, or one that nobody may write. All that the program writes is
 compared with what the oracle tells, and so are the status and the files left with their rights.
 
-python3 -B -m oracle.host PROGRAM CLOCK [N [SEED]]
+python3 -B -m oracle.host PROGRAM N [SEED] --clock CLOCK
 
 N random runs of macros that wait while a stated clock goes on come behind them.
 CLOCK is the library that scripts/clock.c makes. A line of worked/host has the program's words and its keys, as a bytes literal spells them,
@@ -13,8 +13,8 @@ and then, each behind a tab, what is stated of the host:
                         repeated; `none` is a failed reading, and so are all where no clock is stated
     NAME=WHAT           what stands in the folder under a name, as `read_entry` reads it
     N NAME=WHAT         the same, from when the screens of the first N bytes of the keys are there"""
-import argparse
 import datetime
+import functools
 import os
 import random
 import resource
@@ -25,13 +25,14 @@ import tempfile
 import time
 from typing import NamedTuple, Optional
 
-from .cases import SEED, worked
+from .cases import worked
+from .checks import ended, parser, prepare, processes
 from .cli import LIMIT, to_words, top_call
 from .data_keys import file_of
 from .dates import Moment, day_of
 from .outside import Failed, HostDisplay, ListClock, ListKeys, Writer
 from .macro_keys import Programs
-from .runs import kind_of, prepare, spelled_bytes
+from .runs import kind_of, spelled_bytes
 from .wait_keys import Waits
 
 # the most bytes of a file that are looked at
@@ -368,20 +369,15 @@ def compared(program, clock, line):
 
 def main(words):
     """Runs the lines and tells what differs."""
-    asked = argparse.ArgumentParser(prog='python3 -B -m oracle.host')
-    asked.add_argument('program', type=os.path.abspath)
-    asked.add_argument('clock', type=os.path.abspath)
-    asked.add_argument('count', type=int, nargs='?', default=0)
-    asked.add_argument('seed', nargs='?', default=SEED)
+    asked = parser('host')
+    asked.add_argument('--clock', type=os.path.abspath, required=True)
     asked = asked.parse_args(words)
     prepare()
     first = worked('host').splitlines()
     lines = first + [spelled(some_host(random.Random(f'{asked.seed} host {number}'))).encode() for number in range(asked.count)]
-    bad = [why for why in (compared(asked.program, asked.clock, line) for line in lines) if why]
-    for why in bad[:5]:
-        print(why)
-    print(f'host: {len(first)} worked runs and {asked.count} of seed {asked.seed}, {len(bad)} differ')
-    return 1 if bad else 0
+    with processes(asked.processes) as pool:
+        found = list(pool.map(functools.partial(compared, asked.program, asked.clock), lines, chunksize=5))
+    return ended([why for why in found if why], f'host: {len(first)} worked runs and {asked.count} of seed {asked.seed}')
 
 
 if __name__ == '__main__':

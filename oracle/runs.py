@@ -9,8 +9,6 @@ switch. With --random the worked ones are left out. P processes share the lists,
 
 A random key list is made of what the program has built; WITHOUT and the makers of Typist and MenuKeys grow with it. Each run has a folder of
 its own, which mostly holds a few files. The moment on a screen's last line is left out, and no formula asks for it."""
-import argparse
-import concurrent.futures
 import functools
 import os
 import random
@@ -21,8 +19,8 @@ import sys
 import tempfile
 from typing import NamedTuple
 
-from .built import leave_out
-from .cases import SEED, Texts, WORDS, is_read, worked
+from .cases import Texts, WORDS, is_read, worked
+from .checks import ended, parser, prepare, processes
 from .cli import run
 from .data_keys import DataKeys, file_of
 from .files import file_for_runs
@@ -430,34 +428,23 @@ def worked_run(program, line):
     return run_differs(program, read_run(line))
 
 
-def prepare():
-    leave_out()
-    sys.setrecursionlimit(100000)
-
-
 def main(words):
-    asked = argparse.ArgumentParser(prog='python3 -B -m oracle.runs')
-    asked.add_argument('program', type=os.path.abspath)
-    asked.add_argument('count', type=int)
-    asked.add_argument('seed', nargs='?', default=SEED)
+    """Compares the worked runs and random ones."""
+    asked = parser('runs')
     kinds = asked.add_mutually_exclusive_group()
     kinds.add_argument('--macros', action='store_const', const='macros', dest='alone')
     kinds.add_argument('--waits', action='store_const', const='waits', dest='alone')
     asked.add_argument('--random', action='store_true')
-    asked.add_argument('--processes', type=int)
     asked = asked.parse_args(words)
     count, seed = asked.count, asked.seed
     one = functools.partial(compared, asked.program, seed, asked.alone)
     lines = [] if asked.random else worked('runs').splitlines()
-    with concurrent.futures.ProcessPoolExecutor(asked.processes, initializer=prepare) as pool:
+    with processes(asked.processes) as pool:
         first = list(pool.map(functools.partial(worked_run, asked.program), lines, chunksize=5))
         runs = first + list(pool.map(one, range(count), chunksize=5))
-    bad = [why for _, _, why in runs if why]
-    for why in bad[:5]:
-        print(why)
     screens, written = sum(run[0] for run in runs), sum(run[1] for run in runs)
-    print(f'runs: {len(first)} worked runs and {count} of seed {seed}, {screens} screens, {written} files written, {len(bad)} differ')
-    return 1 if bad else 0
+    return ended([why for _, _, why in runs if why],
+                 f'runs: {len(first)} worked runs and {count} of seed {seed}, {screens} screens, {written} files written')
 
 
 if __name__ == '__main__':
