@@ -54,10 +54,12 @@ def date1(day):
 
 
 def date2(day):
+    """A day as 01-Jun."""
     _, month, d = civil_of(day)
     return b'%02d-%s' % (d, MONTHS[month - 1])
 
 
 def date3(day):
+    """A day as Jun-87."""
     year, month, _ = civil_of(day)
     return b'%s-%02d' % (MONTHS[month - 1], year % 100)

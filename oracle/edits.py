@@ -67,6 +67,7 @@ class Desk:
             self.calc()
 
     def set(self, letters):
+        """Settings by letters."""
         settings = self.sheet.settings
         for letter in letters.decode():
             if letter in 'NCR':
@@ -79,6 +80,7 @@ class Desk:
                 settings.passes = int(letter)
 
     def set_global(self, byte, width):
+        """The sheet's format byte and width."""
         self.sheet.settings.format = int(byte)
         if width:
             self.sheet.settings.width = int(width)

@@ -79,6 +79,7 @@ def _number(f):
 def _text(f):
     """A function whose result is a text."""
     def g(*a):
+        """The function, whose text is a value."""
         r = f(*a)
         return ERR if r is None else string(r)
     return g
@@ -280,6 +281,7 @@ class _Mean:
             return ERR
 
         def cell(line, k):
+            """The cell of a line, so far from the first."""
             return (c0 + line, r0 + k) if across else (c0 + k, r0 + line)
 
         if x[0] == 'str':
@@ -300,6 +302,7 @@ class _Mean:
         return ERR if passed is None else self.look.value(cell(passed, n))
 
     def index(self, args):
+        """@INDEX."""
         if not self.is_range(args[0]):
             return ERR
         what, got = self.scalars(args[1:], 'nn')
@@ -473,10 +476,12 @@ def label_condition(pattern, value):
 
 
 def label_condition_plain(pattern, value):
+    """Whether a text meets a pattern."""
     return value[0] == 'str' and pattern_matches(pattern, value[1])
 
 
 def condition_holds(cell, field_value, shift, look, scene):
+    """Whether a field's value meets the condition that a cell of the criterion holds."""
     content = look.content(cell)
     if content[0] == 'blank':
         return True

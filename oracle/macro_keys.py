@@ -68,6 +68,7 @@ class Soup(Macros):
     """Sheets of macros of random words, and of keys for every room."""
 
     def word(self):
+        """A word of a macro, or keys for a room."""
         r = self.r
         pick = r.randrange(10)
         if pick < 3:
@@ -90,6 +91,7 @@ class Programs:
         self.starts = None
 
     def number(self):
+        """A small number."""
         return b'%d' % self.r.randrange(1, 8)
 
     def counted(self):
