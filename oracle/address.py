@@ -5,6 +5,8 @@ ROWS = 8192
 
 
 class NotAnAddress(Exception):
+    """A text that isn't one; `at` is the place of the first byte with which none goes on."""
+
     def __init__(self, at):
         super().__init__(at)
         self.at = at
@@ -16,20 +18,24 @@ def row_order(cell):
 
 
 def col_text(col):
+    """A column's letters."""
     if col < 26:
         return bytes([65 + col])
     return bytes([64 + col // 26, 65 + col % 26])
 
 
 def cell_text(cell):
+    """A cell's address."""
     return col_text(cell[0]) + str(cell[1] + 1).encode()
 
 
 def span_text(span):
+    """A span as its corners with two dots between."""
     return cell_text(span[0]) + b'..' + cell_text(span[1])
 
 
 def _letter(byte):
+    """The number of a letter from 0, or None."""
     if 65 <= byte <= 90:
         return byte - 65
     if 97 <= byte <= 122:
@@ -41,6 +47,7 @@ def read_cell_at(data, at):
     """Reads the longest cell that begins at `at`: (cell, next place).  NotAnAddress names the
     first byte with which no cell goes on, or the text's length."""
     def byte(i):
+        """A byte of the text, or -1 behind it."""
         return data[i] if i < len(data) else -1
 
     first = _letter(byte(at)) if at < len(data) else None
@@ -69,6 +76,7 @@ def read_cell_at(data, at):
 
 
 def read_cell(data):
+    """The cell that the whole text spells."""
     cell, i = read_cell_at(data, 0)
     if i != len(data):
         raise NotAnAddress(i)
@@ -97,6 +105,7 @@ def read_span(data):
 
 
 def in_span(cell, span):
+    """Whether a cell stands in a span."""
     return span[0][0] <= cell[0] <= span[1][0] and span[0][1] <= cell[1] <= span[1][1]
 
 
@@ -108,14 +117,17 @@ def cells_of(span):
 
 
 def width_of(span):
+    """How many columns a span has."""
     return span[1][0] - span[0][0] + 1
 
 
 def height_of(span):
+    """How many rows a span has."""
     return span[1][1] - span[0][1] + 1
 
 
 def area(span):
+    """How many cells a span has."""
     return width_of(span) * height_of(span)
 
 
@@ -133,10 +145,12 @@ def axis_place(axis, own, size):
 
 
 def resolve(ref, at):
+    """The cell that a reference in a cell leads to."""
     return (axis_place(ref[0], at[0], COLS), axis_place(ref[1], at[1], ROWS))
 
 
 def ref_of(target, at, fixed_col, fixed_row):
+    """The reference in a cell to another, with columns and rows absolute or not."""
     col = ('abs', target[0]) if fixed_col else ('off', (target[0] - at[0]) % COLS)
     row = ('abs', target[1]) if fixed_row else ('off', (target[1] - at[1]) % ROWS)
     return (col, row)

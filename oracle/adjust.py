@@ -10,6 +10,7 @@ def rebuild(expr, old_at, new_at, where):
     kind = expr[0]
 
     def ref(r):
+        """A reference to the new place, or None."""
         target = where(resolve(r, old_at))
         if target is None:
             return None
@@ -52,6 +53,7 @@ def line_place(line, lines, insert, first, count):
 
 
 def change_place(cell, change):
+    """Where a cell is after a change of lines, or None."""
     kind, first, count = change
     insert = kind.startswith('Insert')
     if kind.endswith('Rows'):
@@ -62,14 +64,17 @@ def change_place(cell, change):
 
 
 def moved(expr, old_at, new_at, source, to):
+    """A formula after a move."""
     return rebuild(expr, old_at, new_at, lambda cell: move_place(cell, source, to))
 
 
 def shifted(expr, old_at, new_at, change):
+    """A formula after a change of lines."""
     return rebuild(expr, old_at, new_at, lambda cell: change_place(cell, change))
 
 
 def span_with(span, where):
+    """A span whose corners go to their new places, or None where one is lost."""
     a, b = where(span[0]), where(span[1])
     if a is None or b is None:
         return None
@@ -77,8 +82,10 @@ def span_with(span, where):
 
 
 def span_moved(span, source, to):
+    """A span after a move."""
     return span_with(span, lambda cell: move_place(cell, source, to))
 
 
 def span_shifted(span, change):
+    """A span after a change of lines."""
     return span_with(span, lambda cell: change_place(cell, change))

@@ -53,6 +53,7 @@ def compare(a, b):
 def sort_rows(span, keys, look):
     """keys: one or two (col, descending) in order, columns in the span.  Stable; rows move as copies."""
     def by_keys(r, s):
+        """How two rows stand to each other."""
         for col, descending in keys:
             c = compare(look.value((col, r)), look.value((col, s)))
             if c:
@@ -88,6 +89,7 @@ def distribution(values, bins, look):
 
 
 def _test_table(span, inputs):
+    """Refuses a table of one row or column, and an input cell within."""
     if span[0][0] == span[1][0] or span[0][1] == span[1][1]:
         raise BlockFault('NoTable')  # one row or one column
     for cell in inputs:
@@ -96,11 +98,13 @@ def _test_table(span, inputs):
 
 
 def _answer(bench, cell):
+    """The value of a cell of the bench."""
     v = bench.answer(cell)
     return BLANK if v is None else v
 
 
 def table_one(span, cell, bench):
+    """A table of one input: each value of the first column is tried, and the formulas of the first row are noted."""
     _test_table(span, [cell])
     (c0, r0), (c1, r1) = span
     rows, cols = range(r0 + 1, r1 + 1), range(c0 + 1, c1 + 1)
@@ -117,6 +121,7 @@ def table_one(span, cell, bench):
 
 
 def table_two(span, down, across, bench):
+    """A table of two inputs: the values of the first column and row are tried together, and the formula in the corner is noted."""
     _test_table(span, [down, across])
     (c0, r0), (c1, r1) = span
     rows, cols = range(r0 + 1, r1 + 1), range(c0 + 1, c1 + 1)

@@ -17,6 +17,7 @@ WORDS = [b'FIG', b'c2', b'type', b'address', b'12:30', b'a b  c', b'1-Jun-87', b
 
 
 def worked(name):
+    """The worked lines of a name."""
     with open(os.path.join(HERE, 'worked', name), 'rb') as it:
         return it.read()
 
@@ -34,6 +35,7 @@ def decimal(r):
 
 
 def quoted(r, words=WORDS):
+    """A text in quotes."""
     text = r.choice(words) if r.randrange(2) else bytes(r.choice(TEXT_BYTES) for _ in range(r.randrange(12)))
     return b'"' + text.replace(b'"', b"'") + b'"'
 
@@ -69,6 +71,7 @@ class Texts:
         self.functions = [code for code, (name, _, _) in FUNCTIONS.items() if name not in without]
 
     def cell(self):
+        """A cell, relative or absolute."""
         r = self.r
         if self.far and r.randrange(8) == 0:
             col, row = r.choice([0, 25, 26, 52, 254, 255]), r.choice([0, 1, 8190, 8191, r.randrange(8192)])
@@ -78,12 +81,15 @@ class Texts:
         return sign() + col_text(col) + sign() + b'%d' % (row + 1)
 
     def span(self):
+        """A span."""
         return self.cell() + self.r.choice([b'..', b'..', b'..', b'.']) + self.cell()
 
     def name(self):
+        """A name."""
         return (b'$' if self.r.randrange(4) == 0 else b'') + self.r.choice(self.names)
 
     def leaf(self):
+        """An operand."""
         r = self.r
         word = lambda: quoted(r, self.words)
         constant = lambda: r.choice([b'@NA', b'@ERR', b'@TRUE', b'@FALSE', b'@TRUE', b'@FALSE', b'@NOW'])
@@ -91,6 +97,7 @@ class Texts:
         return r.choice([lambda: decimal(r)] * 3 + [self.cell] * 5 + [word, name, constant])()
 
     def call(self, depth):
+        """A function with its arguments."""
         r = self.r
         code = r.choice(self.functions)
         name, least, most = FUNCTIONS[code]
@@ -113,6 +120,7 @@ class Texts:
                          self.tree(depth)])
 
     def tree(self, depth):
+        """A formula of at most a depth."""
         r = self.r
         pick = r.randrange(10) if depth > 0 else 0
         if pick < 3:
@@ -162,6 +170,7 @@ def broken(r, text):
 
 
 def is_read(text, at, names):
+    """Whether a text spells a formula."""
     try:
         formula.read(text, at, names)
         return True
@@ -173,6 +182,7 @@ def is_read(text, at, names):
 
 
 def any_case(r, word):
+    """A word whose letters are in either case."""
     return bytes(b + 32 if 65 <= b <= 90 and r.randrange(2) else b for b in word)
 
 
@@ -200,9 +210,11 @@ class Sheets:
         self.desk = Desk()
 
     def cell(self):
+        """A cell of the block."""
         return col_text(self.r.randrange(3)) + b'%d' % self.r.randrange(1, 5)
 
     def span(self):
+        """A span of the block."""
         return self.cell() + b'..' + self.cell()
 
     def text(self, cell, cols=3, rows=4):
@@ -246,13 +258,16 @@ class Sheets:
         return self.r.choice([b'w%s 12', b'w%s 3', b'w%s 0', b'h%s', b'v%s']) % self.cell()
 
     def write(self):
+        """A write of a list."""
         cell = self.cell()
         code = self.r.choice([b'-', b'-', b'2', b'127', b'255', b'%d' % self.r.randrange(256)])
         return cell + b' ' + code + b' ' + self.text(cell)
 
     def edit(self):
+        """An edit."""
         r = self.r
         def entry():
+            """An entry."""
             cell = self.cell() if r.randrange(15) else r.choice(FAR_CELLS)
             return b'=' + cell + b' ' + self.text(cell)
         far = lambda: self.cell() if r.randrange(12) else r.choice([b'IV1', b'IU1..IV2', b'A8192', b'IV8192'])
@@ -320,6 +335,7 @@ class Blocks:
         return r.choice([number, number, label, label, formula, lambda: b''])()
 
     def place(self):
+        """A cell of the block."""
         r = self.r
         return self.left + r.randrange(self.cols), self.top + r.randrange(self.rows)
 
@@ -332,6 +348,7 @@ class Blocks:
         return (min(a, c), min(b, d)), (max(a, c), max(b, d))
 
     def fill(self):
+        """A fill."""
         r = self.r
         first = r.choice([self.place(), self.place(), (254, 8190)])
         last = min(first[0] + r.randrange(3), 255), min(first[1] + r.randrange(6), 8191)
@@ -342,12 +359,14 @@ class Blocks:
         return b'f' + b' '.join([span_text((first, last)), number(), step(), stop()])
 
     def sort(self):
+        """A sort by one or two keys."""
         r = self.r
         span = self.span()
         key = lambda: r.choice([b'+', b'-']) + cell_text((r.randrange(span[0][0], span[1][0] + 1), r.randrange(8)))
         return b's' + b' '.join([span_text(span)] + [key() for _ in range(r.choice([1, 1, 2]))])
 
     def distribution(self):
+        """A distribution."""
         r = self.r
         bins = self.span() if r.randrange(2) else (self.place(),) * 2
         if r.randrange(8) == 0:
@@ -389,9 +408,11 @@ class Queries:
         return first, (min(first[0] + cols - 1, 255), min(first[1] + rows - 1, 8191))
 
     def row(self, span, line):
+        """The cells of a line of a span."""
         return [(col, span[0][1] + line) for col in range(span[0][0], span[1][0] + 1)]
 
     def put(self, cell, text):
+        """A write of a list."""
         code = self.r.choice([b'-', b'-', b'2', b'113', b'%d' % self.r.randrange(256)])
         return cell_text(cell) + b' ' + code + b' ' + text
 
@@ -405,6 +426,7 @@ class Queries:
         return b"'" + any_case(r, self.names[place])
 
     def value(self):
+        """A field's value."""
         r = self.r
         return r.choice([lambda: b'%d' % r.randrange(4), lambda: b"'" + r.choice([b'fig', b'Fig', b'fi', b'figs', b'', b'b']),
                          lambda: r.choice([b'', b'@NA', b'@ERR', b'+"fig"', b'1.5', b'+' + self.near()])])()
@@ -417,6 +439,7 @@ class Queries:
         return r.choice([b'', b'', b'', b'$']) + col_text(cell[0]) + r.choice([b'', b'', b'', b'$']) + b'%d' % (cell[1] + 1)
 
     def condition(self):
+        """A condition of a criterion."""
         r = self.r
         number = lambda: b'%d' % r.randrange(4)
         pattern = lambda: b"'" + r.choice([b'fig', b'f*', b'?i?', b'~fig', b'~f*', b'~', b'', b'*', b'fig?', b'~*', b'x*y', b'FI*z'])
@@ -496,6 +519,7 @@ class Macros:
         return r.choice([b'$A$1', b' A1', b'NOWHERE', b'A1..B2', b'', b'1', b'A8193']) if r.randrange(25) == 0 else r.choice(self.TARGETS)
 
     def range(self):
+        """A range, seldom none."""
         r = self.r
         return r.choice([b'TABLE', b'B1..C3', b'C3.B1', b'A1', b'D1..D3', b'SUB', b'A1..B2', b'E1..E2', b'A8191..A8192', self.target()])
 
@@ -561,6 +585,7 @@ class Macros:
         return (r.choice([b"'", b"'", b"'", b'^', b'"', b'\\']) + text)[:240]
 
     def sheet(self):
+        """The lines of a sheet with macros."""
         r = self.r
         out = [b':'] + [b'+' + span + b' ' + name for span, name in self.NAMES]
         cells = [(cell, self.text()) for cell in (b'D1', b'D2', b'D3', b'E1') if r.randrange(8)]

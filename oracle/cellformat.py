@@ -13,10 +13,12 @@ GENERAL = 0x71
 
 
 def kind_of(fmt):
+    """Bits 4 to 6: the kind of format."""
     return (fmt >> 4) & 7
 
 
 def detail_of(fmt):
+    """Bits 0 to 3: decimals, or which format of the last kind."""
     return fmt & 15
 
 
@@ -54,6 +56,7 @@ def grouped(digits):
 
 
 def is_zero(digits):
+    """Whether all digits are zeros."""
     return not any(b in b'123456789' for b in digits)
 
 
@@ -102,10 +105,12 @@ def number_text(v, fmt, room):
 
 
 def is_hidden(fmt):
+    """Whether a format hides the cell."""
     return kind_of(fmt) == 7 and detail_of(fmt) == 6
 
 
 def is_text_format(fmt):
+    """Whether a format shows the formula."""
     return kind_of(fmt) == 7 and detail_of(fmt) == 5
 
 
@@ -123,6 +128,7 @@ def masked(data):
 
 
 def cut_left(data, width):
+    """A text at the left, cut to the width."""
     return data[:width].ljust(width)
 
 
@@ -138,6 +144,7 @@ def stands_left(prefix, data, width):
 
 
 def show_label(prefix, data, width):
+    """A label in its width, by its prefix."""
     text = masked(data)
     if prefix == 0x5C:  # \ repeats its text through the width
         if not text:

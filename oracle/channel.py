@@ -10,6 +10,8 @@ def clean(data):
 
 
 class Channel:
+    """The one text file that is open, or none."""
+
     def __init__(self):
         self.name = None
         self.access = None
@@ -17,6 +19,7 @@ class Channel:
         self.pos = 0
 
     def _drop(self):
+        """Nothing is open."""
         self.name, self.access, self.data, self.pos = None, None, bytearray(), 0
 
     def attach(self, name, access, shelf):
@@ -32,6 +35,7 @@ class Channel:
         return True
 
     def finish(self, shelf):
+        """Writes what was changed and lets the file go; false where none is open."""
         if self.name is None:
             return False
         if self.access in ('W', 'M'):
@@ -40,9 +44,11 @@ class Channel:
         return True
 
     def _unreadable(self):
+        """Whether nothing can be read at the place."""
         return self.name is None or self.access == 'W' or self.pos >= len(self.data)
 
     def read(self, count):
+        """So many bytes, or as many as there are; None where nothing can be read."""
         if self._unreadable():
             return None
         out = self.data[self.pos:self.pos + count]
@@ -50,6 +56,7 @@ class Channel:
         return clean(out)
 
     def read_line(self):
+        """The line at the place without its end, of which 240 bytes at most are taken; None where nothing can be read."""
         if self._unreadable():
             return None
         lf = self.data.find(b'\n', self.pos)
@@ -65,6 +72,7 @@ class Channel:
         return clean(line)
 
     def write(self, data):
+        """Puts bytes over what stands at the place; false where it can't be written, or would be too large."""
         if self.name is None or self.access == 'R':
             return False
         if max(len(self.data), self.pos + len(data)) > LIMIT:
@@ -74,12 +82,15 @@ class Channel:
         return True
 
     def size(self):
+        """The size, or None."""
         return None if self.name is None else len(self.data)
 
     def position(self):
+        """The place, or None."""
         return None if self.name is None else self.pos
 
     def set_position(self, at):
+        """Goes to a place of the file, or to its end; false past that."""
         if self.name is None or at > len(self.data):
             return False
         self.pos = at

@@ -11,6 +11,7 @@ MOST_READ = 240
 # ---------------------------------------------------------------- what the program must answer
 
 def bytes_of(word):
+    """The bytes that a word spells."""
     return bytes.fromhex(word.decode())
 
 

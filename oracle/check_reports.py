@@ -13,6 +13,7 @@ LAST_DAY = 73050
 # ---------------------------------------------------------------- what the program must answer
 
 def bytes_of(word):
+    """The bytes that a word spells."""
     return bytes.fromhex(word.decode())
 
 

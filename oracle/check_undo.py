@@ -62,6 +62,7 @@ def answers(lines):
 # ---------------------------------------------------------------- the lines
 
 def file_of(saved):
+    """The bytes of a sheet's file in hexadecimal digits."""
     return wk1.write(saved).hex().encode()
 
 

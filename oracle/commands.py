@@ -21,18 +21,22 @@ MESSAGES = {
 
 
 class CommandError(Exception):
+    """A message of the manual, or of this project, by its number."""
+
     def __init__(self, number, fault=None):
         super().__init__(number)
         self.number = number
         self.fault = fault                   # message 7 tells which fault of a worksheet file
 
     def message(self):
+        """The message."""
         if self.number == 7:
             return ('File refused F%d' % self.fault).encode()
         return MESSAGES[self.number].encode()
 
 
 def sheet_error(f):
+    """The message of a sheet's fault."""
     return CommandError({'Protected': 5, 'PushedOff': 9, 'OutOfSheet': 10}[f.kind])
 
 
@@ -46,6 +50,8 @@ class PrintSettings:
 
 
 class Desk:
+    """A sheet and what the commands remember beside it."""
+
     def __init__(self, sheet):
         self.sheet = sheet
         self.input = self.criterion = self.output = self.sort = None
@@ -77,6 +83,7 @@ def span_of(line, desk):
 
 
 def whole_of(line, low, high):
+    """A whole number between two, or message 2."""
     v = fixed.read_decimal(line)
     if isinstance(v, str) or v % 1_000_000 or not low <= v // 1_000_000 <= high:
         raise CommandError(2)
@@ -84,6 +91,7 @@ def whole_of(line, low, high):
 
 
 def decimal_of(line):
+    """A number, or message 2."""
     v = fixed.read_decimal(line)
     if isinstance(v, str):
         raise CommandError(2)
@@ -114,11 +122,13 @@ def test_line(ask, line, desk):
 
 
 def test_answer(action, answers, desk):
+    """The test of the last answer."""
     asks = [ask for _, ask in prompts(action) if ask not in ('replace', 'confirm')]
     test_line(asks[len(answers) - 1], answers[-1], desk)
 
 
 def the_file(action, answers):
+    """The file that the answers name, or None."""
     for (_, ask), line in zip(prompts(action), answers):
         if ask[0] == 'F':
             return file_name(line, ask[1])
@@ -144,6 +154,7 @@ PREFIX = {'left': ord("'"), 'right': ord('"'), 'center': ord('^')}
 
 
 def set_settings(sheet, **fields):
+    """Changes settings of a sheet."""
     s = sheet.settings.copy()
     for k, v in fields.items():
         setattr(s, k, v)
@@ -151,6 +162,7 @@ def set_settings(sheet, **fields):
 
 
 def state_of(sheet, cell):
+    """The state of a cell, also of one that is absent."""
     st = sheet.cells.get(cell)
     return st if st is not None else State(('blank',), ('blank',), 0xFF)
 
@@ -163,187 +175,350 @@ def recalc(desk, scene, tally):
 
 def act(action, answers, desk, shelf, scene, tally):
     """'changed', 'looked' or 'quit'; CommandError, with the sheet unchanged."""
+    deed = Deed(action, answers, desk, shelf, scene, tally)
     try:
-        return _act(action, answers, desk, shelf, scene, tally)
+        return (DEEDS.get(action) or HEADS[deed.head])(deed)
     except SheetFault as f:
         raise sheet_error(f)
     except Failed:
         raise CommandError(8)
 
 
-def _act(action, answers, desk, shelf, scene, tally):
-    sheet = desk.sheet
-    head, _, tail = action.partition('.')
-    a = answers
+class Deed:
+    """A command that is carried out: its action's name, whose part behind the point is its tail, the answers, and what it works on. Each
+    command of DEEDS, or of HEADS for all actions that begin alike, answers 'changed', 'looked' or 'quit'."""
 
-    def span(i):
-        return span_of(a[i], desk)
+    def __init__(self, action, answers, desk, shelf, scene, tally):
+        self.action, self.answers, self.desk = action, answers, desk
+        self.shelf, self.scene, self.tally = shelf, scene, tally
+        self.sheet = desk.sheet
+        self.head, _, self.tail = action.partition('.')
 
-    def cell(i):
-        return span_of(a[i], desk)[0]        # for a cell its first cell counts
+    def span(self, at):
+        """The span of an answer."""
+        return span_of(self.answers[at], self.desk)
 
-    def changed():
-        recalc(desk, scene, tally)
+    def cell(self, at):
+        """For a cell its first cell counts."""
+        return self.span(at)[0]
+
+    def whole(self, at, low, high):
+        """The whole number of an answer."""
+        return whole_of(self.answers[at], low, high)
+
+    def changed(self):
+        """What follows each edit of contents."""
+        recalc(self.desk, self.scene, self.tally)
         return 'changed'
 
-    if action == 'q.yes':
+    def write(self, writes):
+        """A list of writes, and what follows it."""
+        self.sheet.write(writes)
+        return self.changed()
+
+    def set(self, **fields):
+        """Settings of the sheet."""
+        set_settings(self.sheet, **fields)
+        return 'looked'
+
+    def looks(self):
+        """Nothing is done."""
+        return 'looked'
+
+    def quits(self):
+        """The run ends."""
         return 'quit'
-    if action == 'nothing':
+
+    # ------------------------------------------------------------ Worksheet
+
+    def sheet_format(self):
+        """Worksheet Global Format."""
+        return self.set(format=FORMATS[self.tail] if self.tail in FORMATS else DETAILED[self.tail] | self.whole(0, 0, 15))
+
+    def sheet_prefix(self):
+        """Worksheet Global Label-Prefix."""
+        return self.set(prefix=PREFIX[self.tail])
+
+    def sheet_width(self):
+        """Worksheet Global Column-Width."""
+        return self.set(width=self.whole(0, 1, 240))
+
+    def sheet_recalculation(self):
+        """Worksheet Global Recalculation; an order change is no content edit."""
+        if self.tail in ('automatic', 'manual'):
+            return self.set(automatic=self.tail == 'automatic')
+        if self.tail == 'iteration':
+            return self.set(passes=self.whole(0, 1, 50))
+        self.sheet.set_order(self.tail)
         return 'looked'
-    if head == 'wgf':
-        byte = FORMATS[tail] if tail in FORMATS else DETAILED[tail] | whole_of(a[0], 0, 15)
-        set_settings(sheet, format=byte)
-        return 'looked'
-    if head == 'wgl':
-        set_settings(sheet, prefix=PREFIX[tail])
-        return 'looked'
-    if action == 'wgc':
-        set_settings(sheet, width=whole_of(a[0], 1, 240))
-        return 'looked'
-    if head == 'wgr':
-        if tail in ('automatic', 'manual'):
-            set_settings(sheet, automatic=tail == 'automatic')
-        elif tail == 'iteration':
-            set_settings(sheet, passes=whole_of(a[0], 1, 50))
+
+    def sheet_protection(self):
+        """Worksheet Global Protection."""
+        return self.set(protection=self.tail == 'enable')
+
+    def lines_change(self):
+        """Worksheet Insert and Delete, of rows and columns."""
+        sheet, (first, last) = self.sheet, self.span(0)
+        inserts = self.head == 'wi'
+        if self.tail == 'row':
+            (sheet.insert_rows if inserts else sheet.delete_rows)(first[1], last[1] - first[1] + 1)
         else:
-            sheet.set_order(tail)            # an order change is no content edit
+            (sheet.insert_columns if inserts else sheet.delete_columns)(first[0], last[0] - first[0] + 1)
+        return self.changed()
+
+    def column_width(self):
+        """Worksheet Column Set-Width."""
+        self.sheet.set_width(self.sheet.settings.pointer[0], self.whole(0, 1, 240))
         return 'looked'
-    if head == 'wgp':
-        set_settings(sheet, protection=tail == 'enable')
+
+    def column_reset(self):
+        """Worksheet Column Reset-Width."""
+        self.sheet.set_width(self.sheet.settings.pointer[0], None)
         return 'looked'
-    if head in ('wi', 'wd'):
-        s = span(0)
-        if tail == 'row':
-            at, count = s[0][1], s[1][1] - s[0][1] + 1
-            (sheet.insert_rows if head == 'wi' else sheet.delete_rows)(at, count)
+
+    def columns_hide(self):
+        """Worksheet Column Hide and Display."""
+        first, last = self.span(0)
+        self.sheet.set_hidden(first[0], last[0], self.tail == 'hide')
+        return 'looked'
+
+    def sheet_erase(self):
+        """Worksheet Erase."""
+        self.desk.sheet = Sheet()
+        self.scene = Scene(self.desk.sheet.settings.pointer, self.scene.now)
+        return self.changed()
+
+    # ------------------------------------------------------------ Range
+
+    def range_format(self):
+        """Range Format."""
+        if self.tail in FORMATS:
+            byte, span = FORMATS[self.tail], self.span(0)
         else:
-            at, count = s[0][0], s[1][0] - s[0][0] + 1
-            (sheet.insert_columns if head == 'wi' else sheet.delete_columns)(at, count)
-        return changed()
-    if action == 'wc.set':
-        sheet.set_width(sheet.settings.pointer[0], whole_of(a[0], 1, 240))
+            byte, span = DETAILED[self.tail] | self.whole(0, 0, 15), self.span(1)
+        self.sheet.set_format(span, byte)
         return 'looked'
-    if action == 'wc.reset':
-        sheet.set_width(sheet.settings.pointer[0], None)
+
+    def range_prefix(self):
+        """Range Label-Prefix: the labels alone are written."""
+        there = [(cell, self.sheet.cells.get(cell)) for cell in address.cells_of(self.span(0))]
+        return self.write([(cell, ('label', PREFIX[self.tail], st.content[2]), None)
+                           for cell, st in there if st is not None and st.content[0] == 'label'])
+
+    def range_erase(self):
+        """Range Erase."""
+        self.sheet.erase(self.span(0))
+        return self.changed()
+
+    def name_create(self):
+        """Range Name Create."""
+        self.sheet.create_name(self.answers[0], self.span(1))
         return 'looked'
-    if action in ('wc.hide', 'wc.display'):
-        s = span(0)
-        sheet.set_hidden(s[0][0], s[1][0], tail == 'hide')
+
+    def name_delete(self):
+        """Range Name Delete."""
+        self.sheet.delete_name(self.answers[0])
         return 'looked'
-    if action == 'we.yes':
-        desk.sheet = Sheet()
-        recalc(desk, Scene(desk.sheet.settings.pointer, scene.now), tally)
-        return 'changed'
-    if head == 'rf':
-        if tail in FORMATS:
-            byte, s = FORMATS[tail], span(0)
-        else:
-            byte, s = DETAILED[tail] | whole_of(a[0], 0, 15), span(1)
-        sheet.set_format(s, byte)
+
+    def names_reset(self):
+        """Range Name Reset."""
+        self.sheet.reset_names()
         return 'looked'
-    if head == 'rl':                         # new prefix of the labels: the labels alone are written
-        writes = []
-        for c in address.cells_of(span(0)):
-            st = sheet.cells.get(c)
-            if st is not None and st.content[0] == 'label':
-                writes.append((c, ('label', PREFIX[tail], st.content[2]), None))
-        sheet.write(writes)
-        return changed()
-    if action == 'r.erase':
-        sheet.erase(span(0))
-        return changed()
-    if action == 'rn.create':
-        sheet.create_name(a[0], span(1))
+
+    def range_protect(self):
+        """Range Protect and Unprotect."""
+        self.sheet.set_protected(self.span(0), self.tail == 'protect')
         return 'looked'
-    if action == 'rn.delete':
-        sheet.delete_name(a[0])
+
+    def range_value(self):
+        """Range Value."""
+        self.sheet.value_span(self.span(0), self.cell(1))
+        return self.changed()
+
+    def range_transpose(self):
+        """Range Transpose."""
+        self.sheet.transpose(self.span(0), self.cell(1))
+        return self.changed()
+
+    def copy(self):
+        """Copy."""
+        self.sheet.copy_span(self.span(0), self.span(1))
+        return self.changed()
+
+    def move(self):
+        """Move."""
+        self.sheet.shift(self.span(0), self.cell(1))
+        return self.changed()
+
+    # ------------------------------------------------------------ Print and Data
+
+    def prints(self):
+        """The commands of Print."""
+        return print_command(self.action, self.answers, self.desk, self.shelf, self.scene)
+
+    def data_fill(self):
+        """Data Fill."""
+        span, numbers = self.span(0), [decimal_of(line) for line in self.answers[1:4]]
+        return self.write(of_block(blocks.fill, span, *numbers))
+
+    def data_distribution(self):
+        """Data Distribution."""
+        return self.write(of_block(blocks.distribution, self.span(0), self.span(1), self.sheet))
+
+    def data_table(self):
+        """Data Table 1 and 2."""
+        span, inputs = self.span(0), [self.cell(at) for at in range(1, int(self.tail) + 1)]
+        return table((int(self.tail), span, *inputs), self.desk, self.scene, self.tally)
+
+    def table_reset(self):
+        """Data Table Reset."""
+        self.desk.last_table = None
         return 'looked'
-    if action == 'rn.reset':
-        sheet.reset_names()
+
+    def sort_range(self):
+        """Data Sort Data-Range."""
+        self.desk.sort = self.span(0)
         return 'looked'
-    if action in ('r.protect', 'r.unprotect'):
-        sheet.set_protected(span(0), tail == 'protect')
+
+    def sort_key(self):
+        """Data Sort Primary-Key and Secondary-Key."""
+        setattr(self.desk, self.tail, (self.cell(0)[0], fold(self.answers[1]) == b'D'))
         return 'looked'
-    if action == 'r.value':
-        sheet.value_span(span(0), cell(1))
-        return changed()
-    if action == 'r.transpose':
-        sheet.transpose(span(0), cell(1))
-        return changed()
-    if action == 'copy':
-        sheet.copy_span(span(0), span(1))
-        return changed()
-    if action == 'move':
-        sheet.shift(span(0), cell(1))
-        return changed()
-    if head in ('f', 'fc', 'fx'):
-        return file_command(action, a, desk, shelf, scene, tally)
-    if head in ('p', 'po', 'pm'):
-        return print_command(action, a, desk, shelf, scene)
-    if action == 'd.fill':
-        try:
-            writes = blocks.fill(span(0), decimal_of(a[1]), decimal_of(a[2]), decimal_of(a[3]))
-        except blocks.BlockFault as f:
-            raise block_error(f)
-        sheet.write(writes)
-        return changed()
-    if action == 'dt.1':
-        return table((1, span(0), cell(1)), desk, scene, tally)
-    if action == 'dt.2':
-        return table((2, span(0), cell(1), cell(2)), desk, scene, tally)
-    if action == 'dt.reset':
-        desk.last_table = None
+
+    def sort_reset(self):
+        """Data Sort Reset."""
+        self.desk.sort = self.desk.primary = self.desk.secondary = None
         return 'looked'
-    if action == 'ds.range':
-        desk.sort = span(0)
-        return 'looked'
-    if action in ('ds.primary', 'ds.secondary'):
-        key = (cell(0)[0], fold(a[1]) == b'D')
-        setattr(desk, tail, key)
-        return 'looked'
-    if action == 'ds.reset':
-        desk.sort = desk.primary = desk.secondary = None
-        return 'looked'
-    if action == 'ds.go':
+
+    def sort_go(self):
+        """Data Sort Go."""
+        desk = self.desk
         if desk.sort is None or desk.primary is None:
             raise CommandError(18)
-        keys = [desk.primary] + ([desk.secondary] if desk.secondary is not None else [])
-        for k in keys:
-            if not desk.sort[0][0] <= k[0] <= desk.sort[1][0]:
-                raise CommandError(20)
-        sheet.write(blocks.sort_rows(desk.sort, keys, sheet))
-        return changed()
-    if action in ('dq.input', 'dq.criterion', 'dq.output'):
-        setattr(desk, tail, span(0))
+        keys = [key for key in (desk.primary, desk.secondary) if key is not None]
+        if not all(desk.sort[0][0] <= col <= desk.sort[1][0] for col, _ in keys):
+            raise CommandError(20)
+        return self.write(blocks.sort_rows(desk.sort, keys, self.sheet))
+
+    def query_range(self):
+        """Data Query Input, Criterion and Output."""
+        setattr(self.desk, self.tail, self.span(0))
         return 'looked'
-    if action == 'dq.reset':                 # the three ranges; the last query stays
-        desk.input = desk.criterion = desk.output = None
+
+    def query_reset(self):
+        """Data Query Reset: the three ranges; the last query stays."""
+        self.desk.input = self.desk.criterion = self.desk.output = None
         return 'looked'
-    if action in ('dq.extract', 'dq.unique', 'dq.delete'):
-        return run_query(tail, desk, scene, tally)
-    if action == 'd.distribution':
+
+    def query(self):
+        """Data Query Extract, Unique and Delete."""
+        return run_query(self.tail, self.desk, self.scene, self.tally)
+
+    # ------------------------------------------------------------ File
+
+    def the_file(self):
+        """The file that an answer names."""
+        return the_file(self.action, self.answers)
+
+    def saved_file(self):
+        """The worksheet of the named file; a call that fails is message 8."""
+        data = self.shelf.get(self.the_file())
+        if data is None:
+            raise CommandError(6)
         try:
-            writes = blocks.distribution(span(0), span(1), sheet)
-        except blocks.BlockFault as f:
-            raise block_error(f)
-        sheet.write(writes)
-        return changed()
-    if action in ('po.quit', 'pm.quit'):
+            return wk1.read(data)
+        except wk1.Wk1Fault as f:
+            raise CommandError(7, f.number)
+
+    def file_retrieve(self):
+        """File Retrieve recalculates in both modes; the pointer is where it then stands."""
+        self.desk.sheet = Sheet.restore(self.saved_file())
+        self.desk.sheet.calc(Scene(self.desk.sheet.settings.pointer, self.scene.now), self.tally)
+        return 'changed'
+
+    def file_save(self):
+        """File Save; the name is kept for the next one."""
+        name = self.the_file()
+        self.shelf.put(name, written(self.sheet.snapshot()))
+        self.desk.file_name = name
         return 'looked'
-    raise AssertionError(action)
+
+    def file_erase(self):
+        """File Erase."""
+        if not self.shelf.remove(self.the_file()):
+            raise CommandError(6)
+        return 'looked'
+
+    def file_xtract(self):
+        """File Xtract Formulas and Values."""
+        name = self.the_file()
+        self.shelf.put(name, written(xtract(self.sheet, self.span(1), self.tail == 'values')))
+        return 'looked'
+
+    def file_combine(self):
+        """File Combine Copy, Add and Subtract: from the pointer on, what the file's cells hold or their numbers."""
+        saved, (col, row) = self.saved_file(), self.sheet.settings.pointer
+        filled = [cell for cell in sorted(saved.cells, key=lambda cell: (cell[1], cell[0])) if is_combined(self.tail, saved.cells[cell])]
+        if any(cell[0] + col > 255 or cell[1] + row > 8191 for cell in filled):
+            raise CommandError(10)
+        placed = (((cell[0] + col, cell[1] + row), saved.cells[cell]) for cell in filled)
+        writes = (combined(self.tail, state_of(self.sheet, to).content, to, st) for to, st in placed)
+        return self.write([write for write in writes if write is not None])
+
+
+def is_combined(kind, st):
+    """Whether a cell of a file is combined: filled, and a number where numbers are added."""
+    return st.content[0] != 'blank' and (kind == 'copy' or st.value[0] == 'num')
+
+
+def combined(kind, here, to, st):
+    """What Combine writes into a cell with a content, or none."""
+    if kind == 'copy':
+        return to, st.content, st.format
+    if here[0] not in ('number', 'blank'):
+        return None
+    base = here[1] if here[0] == 'number' else 0
+    total = base + (st.value[1] if kind == 'add' else -st.value[1])
+    return to, ('formula', ('call', 0x20, [])) if abs(total) > 999_999_999_999_999 else ('number', total), None
+
+
+# what carries out the actions that begin so, and the others
+HEADS = {'wgf': Deed.sheet_format, 'wgl': Deed.sheet_prefix, 'wgr': Deed.sheet_recalculation, 'wgp': Deed.sheet_protection,
+         'wi': Deed.lines_change, 'wd': Deed.lines_change, 'rf': Deed.range_format, 'rl': Deed.range_prefix, 'fc': Deed.file_combine,
+         'fx': Deed.file_xtract, 'p': Deed.prints, 'po': Deed.prints, 'pm': Deed.prints}
+DEEDS = {'q.yes': Deed.quits, 'nothing': Deed.looks, 'wgc': Deed.sheet_width, 'wc.set': Deed.column_width, 'wc.reset': Deed.column_reset,
+         'wc.hide': Deed.columns_hide, 'wc.display': Deed.columns_hide, 'we.yes': Deed.sheet_erase, 'r.erase': Deed.range_erase,
+         'rn.create': Deed.name_create, 'rn.delete': Deed.name_delete, 'rn.reset': Deed.names_reset, 'r.protect': Deed.range_protect,
+         'r.unprotect': Deed.range_protect, 'r.value': Deed.range_value, 'r.transpose': Deed.range_transpose, 'copy': Deed.copy,
+         'move': Deed.move, 'f.retrieve': Deed.file_retrieve, 'f.save': Deed.file_save, 'f.erase': Deed.file_erase, 'd.fill': Deed.data_fill,
+         'd.distribution': Deed.data_distribution, 'dt.1': Deed.data_table, 'dt.2': Deed.data_table, 'dt.reset': Deed.table_reset,
+         'ds.range': Deed.sort_range, 'ds.primary': Deed.sort_key, 'ds.secondary': Deed.sort_key, 'ds.reset': Deed.sort_reset,
+         'ds.go': Deed.sort_go, 'dq.input': Deed.query_range, 'dq.criterion': Deed.query_range, 'dq.output': Deed.query_range,
+         'dq.reset': Deed.query_reset, 'dq.extract': Deed.query, 'dq.unique': Deed.query, 'dq.delete': Deed.query}
+
+
+def of_block(call, *given):
+    """What a call on blocks of cells answers, its faults told as errors."""
+    try:
+        return call(*given)
+    except blocks.BlockFault as f:
+        raise block_error(f)
 
 
 def block_error(f):
+    """The message of a fault on blocks."""
     if f.kind == 'Sheet':
         return sheet_error(f.payload)
     return CommandError({'ZeroStep': 11, 'NoTable': 12, 'InputInTable': 13}[f.kind])
 
 
 def query_error(f):
+    """The message of a query's fault."""
     return CommandError({'NoFieldRow': 14, 'FieldAbsent': 15, 'OutputFull': 16}[f.kind])
 
 
 def run_query(kind, desk, scene, tally):
+    """Data Query Extract, Unique or Delete, which the next Query repeats."""
     sheet = desk.sheet
     if desk.input is None or desk.criterion is None or (kind != 'delete' and desk.output is None):
         raise CommandError(14)
@@ -375,6 +550,7 @@ class TableBench:
         self.sheet.calc(self.scene, self.tally)
 
     def answer(self, cell):
+        """The value of a cell, or None."""
         st = self.sheet.cells.get(cell)
         return None if st is None else st.value
 
@@ -387,6 +563,7 @@ class TableBench:
 
 
 def table(what, desk, scene, tally):
+    """Data Table 1 or 2: its span and input cells."""
     sheet = desk.sheet
     span, inputs = what[1], what[2:]
     (c0, r0), (c1, r1) = span
@@ -400,15 +577,8 @@ def table(what, desk, scene, tally):
         for c in list(inputs) + results:
             if state_of(sheet, c).format & 0x80:
                 raise CommandError(5)
-    bench = TableBench(sheet, scene, tally)
-    try:
-        if what[0] == 1:
-            writes = blocks.table_one(span, inputs[0], bench)
-        else:
-            writes = blocks.table_two(span, inputs[0], inputs[1], bench)
-    except blocks.BlockFault as f:
-        raise block_error(f)
-    sheet.write(writes)
+    make = blocks.table_one if what[0] == 1 else blocks.table_two
+    sheet.write(of_block(make, span, *inputs, TableBench(sheet, scene, tally)))
     sheet.calc(scene, tally)                 # one recalculation follows in either mode
     desk.last_table = what
     return 'changed'
@@ -420,66 +590,6 @@ def written(saved):
     if len(data) > MOST_BYTES:
         raise CommandError(25)
     return data
-
-
-def file_command(action, a, desk, shelf, scene, tally):
-    sheet = desk.sheet
-    name = the_file(action, a)
-
-    def get():
-        data = shelf.get(name)               # Failed: message 8
-        if data is None:
-            raise CommandError(6)
-        try:
-            return wk1.read(data)
-        except wk1.Wk1Fault as f:
-            raise CommandError(7, f.number)
-
-    if action == 'f.retrieve':
-        saved = get()
-        desk.sheet = Sheet.restore(saved)
-        # each retrieve recalculates in both modes; the pointer is where it then stands
-        desk.sheet.calc(Scene(desk.sheet.settings.pointer, scene.now), tally)
-        return 'changed'
-    if action == 'f.save':
-        shelf.put(name, written(sheet.snapshot()))
-        desk.file_name = name                # kept for the next Save
-        return 'looked'
-    if action == 'f.erase':
-        if not shelf.remove(name):
-            raise CommandError(6)
-        return 'looked'
-    if action.startswith('fx.'):
-        shelf.put(name, written(xtract(sheet, span_of(a[1], desk), action == 'fx.values')))
-        return 'looked'
-    saved = get()                            # Combine
-    px, py = sheet.settings.pointer
-    kind = action[3:]
-    filled = [c for c in sorted(saved.cells, key=lambda c: (c[1], c[0])) if saved.cells[c].content[0] != 'blank']
-    if kind != 'copy':
-        filled = [c for c in filled if saved.cells[c].value[0] == 'num']
-    if any(c[0] + px > 255 or c[1] + py > 8191 for c in filled):
-        raise CommandError(10)
-    writes = []
-    for c in filled:
-        to = (c[0] + px, c[1] + py)
-        st = saved.cells[c]
-        if kind == 'copy':
-            writes.append((to, st.content, st.format))
-            continue
-        here = state_of(sheet, to).content
-        if here[0] not in ('number', 'blank'):
-            continue
-        base = here[1] if here[0] == 'number' else 0
-        v = st.value[1] if kind == 'add' else -st.value[1]
-        total = base + v
-        if abs(total) > 999_999_999_999_999:
-            writes.append((to, ('formula', ('call', 0x20, [])), None))
-        else:
-            writes.append((to, ('number', total), None))
-    sheet.write(writes)
-    recalc(desk, scene, tally)
-    return 'changed'
 
 
 def xtract(sheet, span, values):
@@ -510,6 +620,7 @@ def xtract(sheet, span, values):
 
 
 def print_command(action, a, desk, shelf, scene):
+    """The commands of Print."""
     s = desk.print_set
     if action == 'p.file':
         desk.print_file = the_file(action, a)

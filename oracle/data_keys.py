@@ -59,6 +59,7 @@ class DataKeys:
         return b''
 
     def typed_sheet(self, lines):
+        """Keys that type a sheet of lines."""
         return b''.join(self.typed_line(line) for line in lines)
 
     # ------------------------------------------------------------ answers
@@ -68,6 +69,7 @@ class DataKeys:
         return usual if r.randrange(4) else r.choice(NO_NUMBERS if r.randrange(12) == 0 else NUMBERS)
 
     def order(self):
+        """An order of sorting."""
         r = self.r
         return self.typist.typed(r.choice(NO_ORDERS)) if r.randrange(25) == 0 else r.choice([b'A', b'a', b'D', b'd'])
 

@@ -28,6 +28,7 @@ def day_of(year, month, day):
 
 
 def civil_of(day):
+    """Year, month and day of a day number, or None."""
     if not 1 <= day <= LAST_DAY:
         return None
     if day == 60:
@@ -53,10 +54,12 @@ def date1(day):
 
 
 def date2(day):
+    """A day as 01-Jun."""
     _, month, d = civil_of(day)
     return b'%02d-%s' % (d, MONTHS[month - 1])
 
 
 def date3(day):
+    """A day as Jun-87."""
     year, month, _ = civil_of(day)
     return b'%s-%02d' % (MONTHS[month - 1], year % 100)

@@ -26,6 +26,7 @@ class Desk:
         self.tally = Tally()
 
     def content_of(self, cell, text):
+        """The content that a text spells."""
         if not text:
             return C_BLANK
         if text[:1] in (b"'", b'"', b'^', b'\\', b'|'):
@@ -41,6 +42,7 @@ class Desk:
         return [(read_cell(cell), self.content_of(read_cell(cell), held), None if code == b'-' else int(code)) for cell, code, held in parts]
 
     def calc(self):
+        """Recalculates."""
         self.sheet.calc(SCENE, self.tally)
 
     def edit(self, line):
@@ -65,6 +67,7 @@ class Desk:
             self.calc()
 
     def set(self, letters):
+        """Settings by letters."""
         settings = self.sheet.settings
         for letter in letters.decode():
             if letter in 'NCR':
@@ -77,6 +80,7 @@ class Desk:
                 settings.passes = int(letter)
 
     def set_global(self, byte, width):
+        """The sheet's format byte and width."""
         self.sheet.settings.format = int(byte)
         if width:
             self.sheet.settings.width = int(width)

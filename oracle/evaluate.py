@@ -17,10 +17,13 @@ LAST_U64 = 2 ** 64 - 1
 
 
 class Tally:
+    """How many evaluations there were."""
+
     def __init__(self):
         self.count = 0
 
     def raise_by(self, n):
+        """Adds to the count, which stays at the last u64."""
         self.count = min(LAST_U64, self.count + n)
 
 
@@ -38,10 +41,12 @@ def glance(formula, at, look, scene, inside=False):
 
 
 def sized(v):
+    """A number, or ERR where there is none."""
     return ERR if v is None else num(v)
 
 
 def truth(b):
+    """1 or 0."""
     return TRUE if b else FALSE
 
 
@@ -67,11 +72,14 @@ def compare_order(a, b):
 
 # functions of single values: code -> (kinds of the arguments, function); n a number, t a text
 def _number(f):
+    """A function whose result is a number."""
     return lambda *a: sized(f(*a))
 
 
 def _text(f):
+    """A function whose result is a text."""
     def g(*a):
+        """The function, whose text is a value."""
         r = f(*a)
         return ERR if r is None else string(r)
     return g
@@ -130,10 +138,13 @@ def range_item(value):
 
 
 class _Mean:
+    """What the formula in a cell means."""
+
     def __init__(self, at, look, scene, inside):
         self.at, self.look, self.scene, self.inside = at, look, scene, inside
 
     def of(self, e):
+        """The value of a tree."""
         kind = e[0]
         if kind == 'num':
             return num(e[1])
@@ -185,68 +196,43 @@ class _Mean:
         return ('go', out)
 
     def call(self, code, args):
-        if code == 0x1F:
-            return NA
-        if code == 0x20:
-            return ERR
-        if code == 0x33:
-            return FALSE
-        if code == 0x34:
-            return TRUE
-        if code == 0x37:  # NOW
-            now = self.scene.now
-            if now.day is None or not 1 <= now.day <= dates.LAST_DAY:
-                return ERR
-            return num(now.day * fixed.ONE + dates.fraction_of(now.second))
+        """The value of a function."""
         if code in SCALAR:
-            kinds, f = SCALAR[code]
-            what, got = self.scalars(args, kinds)
-            return got if what == 'stop' else f(*got)
-        if code == 0x30:  # CHOOSE: the n-th value alone decides
-            what, got = self.scalars(args[:1], 'n')
-            if what == 'stop':
-                return got
-            n = functions.whole(got[0])
-            if not 0 <= n < len(args) - 1:
-                return ERR
-            return self.of(args[1 + n])
-        if code == 0x3B:  # IF: only c and the chosen one decide
-            what, got = self.scalars(args[:1], 'n')
-            if what == 'stop':
-                return got
-            return self.of(args[1] if got[0] != 0 else args[2])
-        if code == 0x31:
-            return truth(self.of(args[0]) == NA)
-        if code == 0x32:
-            return truth(self.of(args[0]) == ERR)
-        if code == 0x44:  # 0 for a text and 1 for all else
-            return truth(self.of(args[0])[0] != 'str')
-        if code == 0x45:
-            return truth(self.of(args[0])[0] == 'str')
+            return self.with_scalars(args, *SCALAR[code])
         if code in LISTS:
             return list_answer(LISTS[code], self.items(args))
-        if code in (0x55, 0x5A):
-            return self.lookup(code == 0x5A, args)
         if code in DATABASE:
             return self.database(DATABASE[code], args)
-        if code == 0x62:
-            return self.index(args)
-        if code in (0x63, 0x64):
-            if not self.is_range(args[0]):
-                return ERR
-            span = span_of(args[0], self.at)
-            return num((width_of(span) if code == 0x63 else height_of(span)) * fixed.ONE)
-        if code == 0x4F:
-            return self.attribute(args[0], self.scene.cursor)
-        if code == 0x6C:
-            if not self.is_range(args[1]):
-                return ERR
-            return self.attribute(args[0], span_of(args[1], self.at)[0])
-        assert code == 0x73
-        what, got = self.scalars(args, 't')
-        if what == 'stop':
-            return got
-        return self.spelled(got[0])
+        return CALLS[code](self, args)
+
+    def with_scalars(self, args, kinds, f):
+        """What a function makes of scalar arguments of these kinds, or what stops it."""
+        what, got = self.scalars(args, kinds)
+        return got if what == 'stop' else f(*got)
+
+    def now(self):
+        """The moment, where its day is in the calendar."""
+        now = self.scene.now
+        if now.day is None or not 1 <= now.day <= dates.LAST_DAY:
+            return ERR
+        return num(now.day * fixed.ONE + dates.fraction_of(now.second))
+
+    def chosen(self, args):
+        """CHOOSE: the n-th value alone decides."""
+        nth = lambda n: self.of(args[1 + n]) if 0 <= n < len(args) - 1 else ERR
+        return self.with_scalars(args[:1], 'n', lambda n: nth(functions.whole(n)))
+
+    def if_then(self, args):
+        """IF: only the condition and the chosen value decide."""
+        return self.with_scalars(args[:1], 'n', lambda n: self.of(args[1] if n != 0 else args[2]))
+
+    def size_of(self, arg, size):
+        """How many columns or rows a range has."""
+        return num(size(span_of(arg, self.at)) * fixed.ONE) if self.is_range(arg) else ERR
+
+    def attribute_of(self, args):
+        """CELL: of the first cell of a range."""
+        return self.attribute(args[0], span_of(args[1], self.at)[0]) if self.is_range(args[1]) else ERR
 
     def spelled(self, t):
         """@@: the value of the cell, or of the first cell of the name, that t spells."""
@@ -260,6 +246,7 @@ class _Mean:
         return self.look.value(cell)
 
     def items(self, args):
+        """The items of a list function: the cells of spans that count, and one value for each other argument."""
         out = []
         for a in args:
             if a[0] == 'span':
@@ -294,6 +281,7 @@ class _Mean:
             return ERR
 
         def cell(line, k):
+            """The cell of a line, so far from the first."""
             return (c0 + line, r0 + k) if across else (c0 + k, r0 + line)
 
         if x[0] == 'str':
@@ -314,6 +302,7 @@ class _Mean:
         return ERR if passed is None else self.look.value(cell(passed, n))
 
     def index(self, args):
+        """@INDEX."""
         if not self.is_range(args[0]):
             return ERR
         what, got = self.scalars(args[1:], 'nn')
@@ -377,6 +366,20 @@ class _Mean:
                 if item is not None:
                     items.append(item)
         return list_answer(which, items)
+
+
+# functions whose arguments aren't all values
+CALLS = {
+    0x1F: lambda mean, args: NA, 0x20: lambda mean, args: ERR, 0x33: lambda mean, args: FALSE, 0x34: lambda mean, args: TRUE,
+    0x37: lambda mean, args: mean.now(), 0x30: _Mean.chosen, 0x3B: _Mean.if_then,
+    0x31: lambda mean, args: truth(mean.of(args[0]) == NA), 0x32: lambda mean, args: truth(mean.of(args[0]) == ERR),
+    # 0 for a text and 1 for all else
+    0x44: lambda mean, args: truth(mean.of(args[0])[0] != 'str'), 0x45: lambda mean, args: truth(mean.of(args[0])[0] == 'str'),
+    0x55: lambda mean, args: mean.lookup(False, args), 0x5A: lambda mean, args: mean.lookup(True, args), 0x62: lambda mean, args: mean.index(args),
+    0x63: lambda mean, args: mean.size_of(args[0], width_of), 0x64: lambda mean, args: mean.size_of(args[0], height_of),
+    0x4F: lambda mean, args: mean.attribute(args[0], mean.scene.cursor), 0x6C: _Mean.attribute_of,
+    0x73: lambda mean, args: mean.with_scalars(args, 't', mean.spelled),
+}
 
 
 def binary(op, a, b):
@@ -473,10 +476,12 @@ def label_condition(pattern, value):
 
 
 def label_condition_plain(pattern, value):
+    """Whether a text meets a pattern."""
     return value[0] == 'str' and pattern_matches(pattern, value[1])
 
 
 def condition_holds(cell, field_value, shift, look, scene):
+    """Whether a field's value meets the condition that a cell of the criterion holds."""
     content = look.content(cell)
     if content[0] == 'blank':
         return True

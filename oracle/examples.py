@@ -8,9 +8,10 @@ import glob
 import os
 import sys
 
+from .checks import prepare
 from .cli import run
 from .outside import page
-from .runs import BLANK_MOMENT, prepare
+from .runs import BLANK_MOMENT
 
 
 def held_in(folder):
@@ -28,6 +29,7 @@ def stored(frame):
 
 
 def store(path, held):
+    """Writes a file."""
     with open(path, 'wb') as file:
         file.write(held)
 
@@ -54,6 +56,7 @@ def make(example):
 
 
 def main(names):
+    """Makes the examples anew."""
     prepare()
     for example in [f'examples/{name}' for name in names] or sorted(path[:-5] for path in glob.glob('examples/*.keys')):
         print(make(example))

@@ -27,6 +27,7 @@ def saved_of(data):
 
 
 def bytes_of(word):
+    """The bytes that a word spells."""
     return b'' if word == b'-' else bytes.fromhex(word.decode())
 
 
@@ -48,12 +49,14 @@ class Desk:
         self.file = b''
 
     def put(self, cell, state):
+        """Puts a cell."""
         if state.content == C_BLANK and state.format == DEFAULT_FORMAT:
             self.saved.cells.pop(cell, None)
         else:
             self.saved.cells[cell] = state
 
     def cell(self, line):
+        """A cell that a line tells."""
         cell, code, text = line.split(b' ', 2)
         cell = read_cell(cell)
         if not text:
@@ -66,6 +69,7 @@ class Desk:
         self.put(cell, state)
 
     def formula(self, line):
+        """A formula with its value that a line tells."""
         cell, code, value, text = line.split(b' ', 3)
         cell = read_cell(cell)
         tree = formula.read(text, cell, self.saved.names)
@@ -79,6 +83,7 @@ class Desk:
         self.put(cell, State(('formula', tree), value, int(code)))
 
     def settings(self, line):
+        """The settings that a line tells."""
         mode, passes, prefix, code, width, protection, order, pointer = line.split(b' ')
         settings = self.saved.settings
         settings.automatic, settings.passes, settings.prefix = mode == b'A', int(passes), prefix[0]
@@ -134,10 +139,12 @@ def told_files(lines):
 # ---------------------------------------------------------------- sheets that are built
 
 def some_text(r, *sizes):
+    """A text of one of some sizes."""
     return bytes(r.choice(TEXT_BYTES) for _ in range(r.choice(sizes)))
 
 
 def hex_of(data):
+    """Bytes in hexadecimal digits."""
     return data.hex().encode() or b'-'
 
 
@@ -148,9 +155,11 @@ class Built:
         self.r, self.columns, self.rows, self.without = r, columns, rows, without
 
     def place(self):
+        """A cell's address."""
         return cell_text((self.r.choice(self.columns), self.r.choice(self.rows)))
 
     def text(self):
+        """A text."""
         r = self.r
         if r.randrange(3) == 0:
             return r.choice(WORDS)
@@ -167,20 +176,24 @@ class Built:
         return text if isinstance(fixed.read_decimal(text), int) else b'7'
 
     def value(self):
+        """A value as a line tells it."""
         r = self.r
         number = lambda: b'n%d' % fixed.read_decimal(self.number())
         text = lambda: b's' + hex_of(self.text())
         return r.choice([number, number, number, text, lambda: b'e', lambda: b'a'])()
 
     def name(self):
+        """A name of a span."""
         r = self.r
         known = r.choice([b'TOTAL', b'rates', b'Tax_Rate', b'A1', b'NET PAY', b'\\A', b'EXACTLY15LETTER'])
         return known if r.randrange(2) else some_text(r, *range(1, 16)).lstrip(b' ') or b'Q'
 
     def span(self):
+        """A span."""
         return self.place() + (b'..' + self.place() if self.r.randrange(3) else b'')
 
     def cell(self, names):
+        """A line of a cell."""
         r, place, code = self.r, self.place(), b'%d' % self.r.choice(FORMATS)
         texts = Texts(r, 7, 8, self.columns is COLUMNS, [name for name in names if name.isalnum()], without=self.without)
         while r.randrange(2):
@@ -191,6 +204,7 @@ class Built:
         return b'c' + place + b' ' + code + b' ' + r.choice([self.number, self.number, label, label, lambda: b''])()
 
     def settings(self):
+        """A line of settings."""
         r = self.r
         return b' '.join([b's' + r.choice([b'A', b'M']), b'%d' % r.choice([1, 2, 49, 50, r.randrange(1, 51)]),
                           r.choice([b"'", b'"', b'^']), b'%d' % r.choice(FORMATS),
@@ -198,6 +212,7 @@ class Built:
                           r.choice([b'N', b'C', b'R']), self.place()])
 
     def lines(self):
+        """The lines of a sheet."""
         r = self.r
         names = {self.name(): self.span() for _ in range(r.choice([0, 0, 1, 2, 4]))}
         out = [b':'] + [self.settings()] * (r.randrange(3) > 0)
@@ -209,6 +224,7 @@ class Built:
 
 
 def names_of_lines(names):
+    """Names as lines tell them."""
     return names_of([(name, span.decode()) for name, span in names.items()])
 
 
@@ -237,9 +253,11 @@ class Codes:
         return r.choice([0, 1, size - 1, r.randrange(size)]) if r.randrange(60) else r.choice([size, size + 1, 0x7FFF])
 
     def ref(self):
+        """A reference."""
         return wk1._u16s(self.coordinate(256, 8), self.coordinate(8192, 13))
 
     def text(self):
+        """A text, seldom one that is none."""
         r = self.r
         text = some_text(r, 0, 1, 4, 12).replace(b'"', b"'")
         if r.randrange(30) == 0:
@@ -247,6 +265,7 @@ class Codes:
         return b'\x06' + text + b'\0'
 
     def leaf(self):
+        """An operand."""
         r = self.r
         double = lambda: b'\0' + any_double(r)
         whole = lambda: b'\x05' + r.choice([0, 1, 100, 32767, 32768, 65535, r.randrange(65536)]).to_bytes(2, 'little')
@@ -255,6 +274,7 @@ class Codes:
                          lambda: b'\x02' + self.ref() + self.ref(), bare])()
 
     def call(self, depth):
+        """A function behind its arguments, seldom one that is left out or has a wrong count."""
         r = self.r
         code = r.choice(list(formula.FUNCTIONS))
         if r.randrange(15) == 0:
@@ -267,6 +287,7 @@ class Codes:
         return args + bytes([code]) + (bytes([count]) if code in formula.COUNTED else b'')
 
     def tree(self, depth):
+        """The code of a tree of at most a depth."""
         r = self.r
         pick = r.randrange(10) if depth > 0 else 0
         if pick < 3:
@@ -278,6 +299,7 @@ class Codes:
         return self.call(depth)
 
     def whole(self):
+        """A whole code, seldom one that is too deep, cut short or goes on."""
         r = self.r
         code = self.tree(r.choice([0, 1, 2, 3, 4]))
         odd = r.randrange(100)
@@ -297,15 +319,18 @@ class Records:
         self.codes = Codes(r)
 
     def place(self):
+        """A place, seldom out of the sheet."""
         r = self.r
         if r.randrange(150) == 0:
             return r.choice([(256, 0), (0, 8192), (65535, 65535), (256, 8192), (32768, 1)])
         return r.choice(COLUMNS), r.choice(ROWS)
 
     def head(self):
+        """A cell record's format and place."""
         return bytes([self.r.choice(FORMATS)]) + wk1._u16s(*self.place())
 
     def text(self):
+        """The text of a record, seldom a faulty one."""
         r = self.r
         text = some_text(r, 0, 1, 3, 8, 20)
         if r.randrange(40) == 0:
@@ -313,6 +338,7 @@ class Records:
         return text + (b'\0' if r.randrange(60) else b'') + (b'\0more' if r.randrange(20) == 0 else b'')
 
     def name(self):
+        """The body of a name's record."""
         r = self.r
         name = r.choice([b'TOTAL', b'rates', b'A1', b'x y', b'Q', b'q', b'fifteen_bytes_x', some_text(r, 1)])
         if r.randrange(25) == 0:
@@ -325,6 +351,7 @@ class Records:
         return (name + b'\0' + after)[:16] + wk1._u16s(*first, *last)
 
     def window(self):
+        """The body of a window's record."""
         r = self.r
         place = r.choice([self.place(), self.place(), (256, 3), (3, 8192), (65535, 0)])
         width = r.choice([9, 1, 240, r.randrange(1, 241), 0, 241, 256, 65535])
@@ -332,6 +359,7 @@ class Records:
         return wk1._u16s(*place) + bytes([r.choice(FORMATS), r.randrange(256)]) + wk1._u16s(width) + tail
 
     def formula(self, head):
+        """A formula's record."""
         code = self.codes.whole()
         return wk1._record(wk1.FORMULA, head + any_double(self.r) + wk1._u16s(len(code)) + code)
 
@@ -344,6 +372,7 @@ class Records:
         return self.formula(head) + between + wk1._record(wk1.STRING, other + self.text())
 
     def body(self, kind):
+        """The body of a record of a kind."""
         r = self.r
         any_bytes = lambda *sizes: bytes(r.randrange(256) for _ in range(r.choice(sizes)))
         choice = lambda: bytes([r.choice([0, 1, 2, 50, 51, 254, 255, r.randrange(256)])])
@@ -365,6 +394,7 @@ class Records:
         }.get(kind, lambda: any_bytes(*range(6)))()
 
     def record(self):
+        """A record, seldom one that is too short or too long."""
         r = self.r
         passed_over = r.choice([0x04, 0x18, 0x60, 0x100, 0xFFFF])
         kinds = [kind for kind in wk1.LEAST if kind != wk1.EOF]
@@ -380,6 +410,7 @@ class Records:
         return wk1._record(kind, body)
 
     def file(self):
+        """A file."""
         r = self.r
         version = r.choice([b'\x06\x04'] * 8 + [b'\x05\x04', b'\x04\x04', b'\x06\x04more', b'\x04\x04\0'])
         if r.randrange(60) == 0:
@@ -399,6 +430,7 @@ def places_of(data):
 
 
 def changed_byte(r, data):
+    """A byte is changed."""
     at = r.randrange(len(data))
     byte = data[at]
     byte = r.choice([r.randrange(256), byte ^ 1 << r.randrange(8), (byte + 1) % 256, (byte - 1) % 256, 0, 255])
@@ -406,16 +438,19 @@ def changed_byte(r, data):
 
 
 def cut_short(r, data):
+    """The file ends early."""
     at = r.randrange(len(data))
     return at, len(data) - at, b''
 
 
 def cut_out(r, data):
+    """Bytes are left out."""
     at = r.randrange(len(data))
     return at, min(r.choice([1, 1, 2, 4, 9]), len(data) - at), b''
 
 
 def doubled(r, data):
+    """Bytes stand twice."""
     at = r.randrange(len(data))
     return at, 0, data[at:at + r.choice([1, 1, 2, 4, 9])]
 

@@ -20,6 +20,7 @@ def sized(v):
 
 
 def neg(a):
+    """The number with the other sign."""
     return -a
 
 
@@ -34,18 +35,22 @@ def int_(a):
 
 
 def add(a, b):
+    """The sum, or None past the size."""
     return sized(a + b)
 
 
 def sub(a, b):
+    """The difference, or None past the size."""
     return sized(a - b)
 
 
 def mul(a, b):
+    """The rounded product, or None past the size."""
     return sized(round_away(Fraction(a * b, ONE)))
 
 
 def div(a, b):
+    """The rounded quotient, or None past the size or for a zero divisor."""
     if b == 0:
         return None
     return sized(round_away(Fraction(a * ONE, b)))

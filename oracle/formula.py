@@ -60,12 +60,14 @@ OP_TEXT = {'AND': b'#AND#', 'OR': b'#OR#', 'NOT': b'#NOT#'}
 
 
 def op_text(op):
+    """An operator as it is printed."""
     return OP_TEXT.get(op, op.encode())
 
 
 # ---- trees ----
 
 def kids(expr):
+    """The trees directly below a tree."""
     kind = expr[0]
     if kind in ('group', 'neg', 'not'):
         return (expr[1],)
@@ -107,14 +109,17 @@ def edge_min(expr):
 
 
 def left_ok(op, left):
+    """Whether a tree may stand in front of an operator without brackets."""
     return edge_min(left) >= LEVEL[op]
 
 
 def right_ok(op, right):
+    """Whether a tree may stand behind an operator without brackets."""
     return not (right[0] == 'bin' and LEVEL[right[1]] <= LEVEL[op])
 
 
 def front_ok(front_level, operand):
+    """Whether a tree may stand behind a sign of a level without brackets."""
     return not (operand[0] == 'bin' and LEVEL[operand[1]] <= front_level)
 
 
@@ -209,6 +214,7 @@ def read_cells(expr, at):
 
 
 def is_volatile(expr):
+    """Whether a formula is evaluated at each recalculation."""
     if expr[0] == 'call' and expr[1] in VOLATILE:
         return True
     return any(is_volatile(k) for k in kids(expr))
@@ -227,6 +233,7 @@ class ParseFault(Exception):
 
 
 def is_word_byte(b):
+    """Whether a byte may stand in an address or a name."""
     return is_letter(b) or is_digit(b) or b in b'_$'
 
 
@@ -272,97 +279,179 @@ def number_end(text, pos):
     return i if digits else pos
 
 
+def number_token(text, pos, end):
+    """A number that ends there."""
+    v = fixed.read_decimal(text[pos:end])
+    return ('operand', end, None, 6) if v == fixed.TOO_LARGE else ('operand', end, ('num', v), None)
+
+
+def text_token(text, pos):
+    """A text in quotes: none where what stands between isn't a text (a byte below 32: this project's choice)."""
+    close = text.find(b'"', pos + 1)
+    if close < 0:
+        return ('open', len(text), None, None)
+    held = text[pos + 1:close]
+    return ('operand', close + 1, ('str', held), None) if is_text(held) else None
+
+
+def word_token(text, pos, at, names):
+    """An address, two of them with one or two dots between, or a name."""
+    end = word_end(text, pos)
+    ref = read_address(text[pos:end], at)
+    if ref is None:
+        return name_token(text[pos:end], end, at, names)
+    dots = len(text[end:end + 2]) - len(text[end:end + 2].lstrip(b'.'))
+    start = end + dots
+    if dots and start < len(text) and is_word_byte(text[start]) and not is_digit(text[start]):
+        stop = word_end(text, start)
+        other = read_address(text[start:stop], at)
+        if other is not None:
+            return ('operand', stop, ('span', ref, other), None)
+    return ('operand', end, ('cell', ref), None)
+
+
+def name_token(word, end, at, names):
+    """A name's span, or its cell, absolute behind a dollar sign."""
+    absolute = word[:1] == b'$'
+    span = names.find(word[1:] if absolute else word)
+    if span is None:
+        return ('operand', end, None, 7)
+    first, last = (ref_of(corner, at, absolute, absolute) for corner in span)
+    return ('operand', end, ('cell', first) if span[0] == span[1] else ('span', first, last), None)
+
+
+def function_token(text, pos):
+    """The name of a function, which is an operand where it takes no argument; a run has at least one byte."""
+    if text[pos + 1:pos + 2] == b'@':
+        return ('function', pos + 2, 0x73, None)
+    end = pos + 1
+    while end < len(text) and (is_letter(text[end]) or is_digit(text[end])):
+        end += 1
+    name = fold(text[pos + 1:end])
+    if not name:
+        return None
+    if name not in CODE_OF:
+        return ('function', end, None, 4 if name in LEFT_OUT_NAMES else 3)
+    code = CODE_OF[name]
+    return ('operand', end, ('call', code, []), None) if FUNCTIONS[code][2] == 0 else ('function', end, code, None)
+
+
+def sign_token(text, pos):
+    """A sign of two bytes or of one."""
+    if text[pos:pos + 2] in PUNCT2:
+        return ('op', pos + 2, text[pos:pos + 2].decode(), None)
+    if text[pos] not in PUNCT1:
+        return None
+    sign = chr(text[pos])
+    if sign in '(),;':
+        return (',' if sign == ';' else sign, pos + 1, None, None)
+    return ('op', pos + 1, sign, None)
+
+
 def next_token(text, pos, at, names):
     """The longest token at pos: (kind, end, payload, fault) with fault None or 3, 4, 6, 7;
     None where no token begins there.  An unclosed text has the kind 'open'."""
     b = text[pos]
     end = number_end(text, pos)
     if end > pos:
-        v = fixed.read_decimal(text[pos:end])
-        if v == fixed.TOO_LARGE:
-            return ('operand', end, None, 6)
-        return ('operand', end, ('num', v), None)
+        return number_token(text, pos, end)
     if b == 0x22:
-        close = text.find(b'"', pos + 1)
-        if close < 0:
-            return ('open', len(text), None, None)
-        if not is_text(text[pos + 1:close]):
-            return None  # what stands between isn't a text (a byte below 32: this project's choice)
-        return ('operand', close + 1, ('str', text[pos + 1:close]), None)
+        return text_token(text, pos)
     if is_word_byte(b):  # digits were numbers
-        end = word_end(text, pos)
-        word = text[pos:end]
-        ref = read_address(word, at)
-        if ref is not None:
-            # an address, one or two dots, and an address form one span operand
-            i = end
-            dots = 0
-            while dots < 2 and i < len(text) and text[i] == 0x2E:
-                i += 1
-                dots += 1
-            if dots and i < len(text) and is_word_byte(text[i]) and not is_digit(text[i]):
-                stop = word_end(text, i)
-                other = read_address(text[i:stop], at)
-                if other is not None:
-                    return ('operand', stop, ('span', ref, other), None)
-            return ('operand', end, ('cell', ref), None)
-        absolute = word[:1] == b'$'
-        span = names.find(word[1:] if absolute else word)
-        if span is None:
-            return ('operand', end, None, 7)
-        first = ref_of(span[0], at, absolute, absolute)
-        if span[0] == span[1]:
-            return ('operand', end, ('cell', first), None)
-        return ('operand', end, ('span', first, ref_of(span[1], at, absolute, absolute)), None)
+        return word_token(text, pos, at, names)
     if b == 0x40:
-        if text[pos + 1:pos + 2] == b'@':
-            return ('function', pos + 2, 0x73, None)
-        end = pos + 1
-        while end < len(text) and (is_letter(text[end]) or is_digit(text[end])):
-            end += 1
-        name = fold(text[pos + 1:end])
-        if not name:
-            return None  # a run has at least one byte
-        if name in CODE_OF:
-            code = CODE_OF[name]
-            if FUNCTIONS[code][2] == 0:
-                return ('operand', end, ('call', code, []), None)
-            return ('function', end, code, None)
-        if name in LEFT_OUT_NAMES:
-            return ('function', end, None, 4)
-        return ('function', end, None, 3)
+        return function_token(text, pos)
     if b == 0x23:
-        for word in HASH:
-            if fold(text[pos:pos + len(word)]) == word:
-                return ('op', pos + len(word), word[1:-1].decode(), None)
-        return None
-    if text[pos:pos + 2] in PUNCT2:
-        return ('op', pos + 2, text[pos:pos + 2].decode(), None)
-    if b in PUNCT1:
-        sign = chr(b)
-        if sign in '(),;':
-            return (',' if sign == ';' else sign, pos + 1, None, None)
-        return ('op', pos + 1, sign, None)
-    return None
+        word = next((word for word in HASH if fold(text[pos:pos + len(word)]) == word), None)
+        return word and ('op', pos + len(word), word[1:-1].decode(), None)
+    return sign_token(text, pos)
 
 
 def word_end(text, pos):
+    """Where the bytes of a word end."""
     end = pos
     while end < len(text) and is_word_byte(text[end]):
         end += 1
     return end
 
 
+class _Scanner:
+    """The token list of a text as it grows, by a table of two states, before an operand and behind one."""
+
+    def __init__(self):
+        self.tokens = []
+        # each ['(', None, 0] or ['f', code, arguments that are complete]
+        self.brackets = []
+        # 'operand' wanted, 'operator' wanted, or 'bracket': a function's own ( wanted
+        self.state = 'operand'
+
+    def put(self, state, *token):
+        """A token, and what is wanted behind it."""
+        self.tokens.append(token)
+        self.state = state
+
+    def take(self, kind, payload, pos):
+        """The token at a place; at one place the faults come in the order 3, 4, 7, 6, 5, 1."""
+        if not {'bracket': self.bracket, 'operand': self.operand, 'operator': self.operator}[self.state](kind, payload, pos):
+            raise ParseFault(1, pos)
+
+    def bracket(self, kind, _payload, _pos):
+        """A function's own bracket."""
+        if kind != '(':
+            return False
+        self.brackets.append(['f', self.tokens[-1][1], 0])
+        self.state = 'operand'
+        return True
+
+    def operand(self, kind, payload, pos):
+        """What may stand before an operand and is one; a + in front is passed over before grouping."""
+        if kind == 'open':
+            raise ParseFault(2)  # the text ends in a text
+        if kind == ')' and self.brackets and self.brackets[-1][0] == 'f':
+            self.test_count(self.brackets[-1], self.brackets[-1][2], pos)  # as at `@SUM()`
+        if kind == 'operand':
+            self.put('operator', 'operand', payload)
+        elif kind == '(':
+            self.put('operand', '(')
+            self.brackets.append(['(', None, 0])
+        elif kind == 'function':
+            self.put('bracket', 'function', payload)
+        elif kind == 'op' and payload in ('-', 'NOT'):
+            self.put('operand', 'front', payload)
+        else:
+            return kind == 'op' and payload == '+'
+        return True
+
+    def operator(self, kind, payload, pos):
+        """What may stand behind an operand."""
+        if kind == 'op' and payload in LEVEL:
+            self.put('operand', 'bin', payload)
+        elif kind == ',' and self.brackets and self.brackets[-1][0] == 'f':
+            self.brackets[-1][2] += 1
+            self.put('operand', ',')
+        elif kind == ')' and self.brackets:
+            bracket = self.brackets.pop()
+            self.test_count(bracket, bracket[2] + 1, pos)
+            self.put('operator', ')')
+        else:
+            return False
+        return True
+
+    @staticmethod
+    def test_count(bracket, count, pos):
+        """Whether a function takes so many arguments."""
+        if bracket[0] == 'f':
+            _, least, most = FUNCTIONS[bracket[1]]
+            if not least <= count <= most:
+                raise ParseFault(5, pos)
+
+
 def scan(text, at, names):
-    """The token list of a text that spells a tree, by a table of two states, before an operand and
-    behind one; raises the first fault otherwise."""
+    """The token list of a text that spells a tree; raises the first fault otherwise. That it is past 240 bytes comes first."""
     text = bytes(text)
     if len(text) > 240:
-        raise ParseFault(8)  # it comes first, exactly past 240 bytes
-    tokens = []
-    brackets = []  # each ['(', None, 0] or ['f', code, arguments that are complete]
-    state = 'operand'  # 'operand' wanted, 'operator' wanted, 'bracket': a function's own ( wanted
-    pos = 0
+        raise ParseFault(8)
+    scanner, pos = _Scanner(), 0
     while True:
         while pos < len(text) and text[pos] == 0x20:
             pos += 1
@@ -372,56 +461,13 @@ def scan(text, at, names):
         if token is None:
             raise ParseFault(1, pos)
         kind, end, payload, fault = token
-        # at one place the faults come in the order 3, 4, 7, 6, 5, 1
         if fault is not None:
             raise ParseFault(fault, pos)
-        if state == 'bracket':
-            if kind != '(':
-                raise ParseFault(1, pos)
-            brackets.append(['f', tokens[-1][1], 0])
-            state = 'operand'
-        elif state == 'operand':
-            if kind == 'operand':
-                tokens.append(('operand', payload))
-                state = 'operator'
-            elif kind == 'open':
-                raise ParseFault(2)  # the text ends in a text
-            elif kind == 'op' and payload in ('+', '-', 'NOT'):
-                if payload != '+':  # a + in front is passed over before grouping
-                    tokens.append(('front', payload))
-            elif kind == '(':
-                tokens.append(('(',))
-                brackets.append(['(', None, 0])
-            elif kind == 'function':
-                tokens.append(('function', payload))
-                state = 'bracket'
-            else:
-                if kind == ')' and brackets and brackets[-1][0] == 'f':
-                    _, least, most = FUNCTIONS[brackets[-1][1]]
-                    if not least <= brackets[-1][2] <= most:
-                        raise ParseFault(5, pos)  # as at `@SUM()`
-                raise ParseFault(1, pos)
-        else:
-            if kind == 'op' and payload in LEVEL:
-                tokens.append(('bin', payload))
-                state = 'operand'
-            elif kind == ',' and brackets and brackets[-1][0] == 'f':
-                brackets[-1][2] += 1
-                tokens.append((',',))
-                state = 'operand'
-            elif kind == ')' and brackets:
-                what, code, count = brackets.pop()
-                if what == 'f':
-                    _, least, most = FUNCTIONS[code]
-                    if not least <= count + 1 <= most:
-                        raise ParseFault(5, pos)
-                tokens.append((')',))
-            else:
-                raise ParseFault(1, pos)
+        scanner.take(kind, payload, pos)
         pos = end
-    if state != 'operator' or brackets:
+    if scanner.state != 'operator' or scanner.brackets:
         raise ParseFault(2)
-    return tokens
+    return scanner.tokens
 
 
 class _Builder:
@@ -432,11 +478,13 @@ class _Builder:
         self.i = 0
 
     def take(self):
+        """The next token."""
         token = self.tokens[self.i]
         self.i += 1
         return token
 
     def peek(self):
+        """The next token, which isn't taken."""
         return self.tokens[self.i] if self.i < len(self.tokens) else (None,)
 
     def tree(self, above):
@@ -464,6 +512,7 @@ class _Builder:
 
 
 def read(text, at, names):
+    """The tree that a text spells in a cell."""
     tokens = scan(text, at, names)
     builder = _Builder(tokens)
     expr = builder.tree(0)
@@ -500,6 +549,7 @@ def tree_tokens(expr):
 # ---- printing ----
 
 def ref_text(ref, at):
+    """A reference with its signs."""
     col, row = resolve(ref, at)
     return ((b'$' if ref[0][0] == 'abs' else b'') + col_text(col)
             + (b'$' if ref[1][0] == 'abs' else b'') + str(row + 1).encode())
@@ -512,6 +562,7 @@ def alike(refs):
 
 
 def operand_text(expr, at, names):
+    """A cell or a span, as a name where all of its coordinates are alike."""
     if expr[0] == 'cell':
         kind = alike([expr[1]])
         cell = resolve(expr[1], at)
@@ -530,6 +581,7 @@ def operand_text(expr, at, names):
 
 
 def _print(expr, at, names):
+    """The text of a tree."""
     kind = expr[0]
     if kind == 'num':
         return fixed.plain(expr[1])

@@ -12,6 +12,7 @@ def whole(v):
 
 
 def date(y, m, d):
+    """@DATE: years from 1900 to 2099."""
     year = whole(y)
     if not 0 <= year <= 199:
         return None
@@ -20,6 +21,7 @@ def date(y, m, d):
 
 
 def time(h, m, s):
+    """@TIME."""
     h, m, s = whole(h), whole(m), whole(s)
     if not (0 <= h <= 23 and 0 <= m <= 59 and 0 <= s <= 59):
         return None
@@ -27,20 +29,24 @@ def time(h, m, s):
 
 
 def _civil(n):
+    """Year, month and day of a number, or None."""
     return dates.civil_of(whole(n))
 
 
 def day(n):
+    """@DAY."""
     c = _civil(n)
     return None if c is None else c[2] * ONE
 
 
 def month(n):
+    """@MONTH."""
     c = _civil(n)
     return None if c is None else c[1] * ONE
 
 
 def year(n):
+    """@YEAR: 0 is 1900."""
     c = _civil(n)
     return None if c is None else (c[0] - 1900) * ONE
 
@@ -53,16 +59,19 @@ def _seconds(n):
 
 
 def hour(n):
+    """@HOUR."""
     s = _seconds(n)
     return None if s is None else s // 3600 * ONE
 
 
 def minute(n):
+    """@MINUTE."""
     s = _seconds(n)
     return None if s is None else s // 60 % 60 * ONE
 
 
 def second(n):
+    """@SECOND."""
     s = _seconds(n)
     return None if s is None else s % 60 * ONE
 
@@ -115,6 +124,7 @@ def timevalue(t):
 
 
 def string(x, n):
+    """@STRING: a number with 0 to 15 decimals."""
     places = whole(n)
     if not 0 <= places <= 15:
         return None
@@ -122,6 +132,7 @@ def string(x, n):
 
 
 def mid(t, s, n):
+    """@MID: n bytes from a place on."""
     s, n = whole(s), whole(n)
     if s < 0 or n < 0:
         return None
@@ -129,11 +140,13 @@ def mid(t, s, n):
 
 
 def left(t, n):
+    """@LEFT."""
     n = whole(n)
     return None if n < 0 else t[:n]
 
 
 def right(t, n):
+    """@RIGHT."""
     n = whole(n)
     if n < 0:
         return None
@@ -141,6 +154,7 @@ def right(t, n):
 
 
 def replace(t, s, n, new):
+    """@REPLACE: n bytes from a place on by others."""
     s, n = whole(s), whole(n)
     if s < 0 or n < 0:
         return None
@@ -149,6 +163,7 @@ def replace(t, s, n, new):
 
 
 def repeat(t, n):
+    """@REPEAT."""
     n = whole(n)
     if n < 0 or len(t) * n > text.MAX:
         return None
@@ -156,11 +171,13 @@ def repeat(t, n):
 
 
 def char_of(n):
+    """@CHAR: codes 32 to 255."""
     n = whole(n)
     return bytes([n]) if 32 <= n <= 255 else None
 
 
 def code(t):
+    """@CODE of the first byte."""
     return t[0] * ONE if t else None
 
 
@@ -172,4 +189,5 @@ def find_in(w, t, s):
 
 
 def average(total, count):
+    """A sum by its count, rounded."""
     return fixed.round_away(Fraction(total, count))

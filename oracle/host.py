@@ -2,8 +2,9 @@
 little room, a stated clock, and names under which no plain file stands, or one that nobody may write. All that the program writes is
 compared with what the oracle tells, and so are the status and the files left with their rights.
 
-python3 -B -m oracle.host PROGRAM CLOCK
+python3 -B -m oracle.host PROGRAM N [SEED] --clock CLOCK
 
+N random runs of macros that wait while a stated clock goes on come behind them.
 CLOCK is the library that scripts/clock.c makes. A line of worked/host has the program's words and its keys, as a bytes literal spells them,
 and then, each behind a tab, what is stated of the host:
     keys=fail           behind the keys a read fails
@@ -13,7 +14,9 @@ and then, each behind a tab, what is stated of the host:
     NAME=WHAT           what stands in the folder under a name, as `read_entry` reads it
     N NAME=WHAT         the same, from when the screens of the first N bytes of the keys are there"""
 import datetime
+import functools
 import os
+import random
 import resource
 import shlex
 import subprocess
@@ -23,10 +26,14 @@ import time
 from typing import NamedTuple, Optional
 
 from .cases import worked
+from .checks import ended, parser, prepare, processes
 from .cli import LIMIT, to_words, top_call
+from .data_keys import file_of
 from .dates import Moment, day_of
 from .outside import Failed, HostDisplay, ListClock, ListKeys, Writer
-from .runs import kind_of, prepare, spelled_bytes
+from .macro_keys import Programs
+from .runs import kind_of, spelled_bytes
+from .wait_keys import Waits
 
 # the most bytes of a file that are looked at
 MOST_BYTES = LIMIT + 1
@@ -118,6 +125,40 @@ def read_host(line):
     return Host(shlex.split(options), keys, keys_fail, room, clock, folder, later)
 
 
+# ---------------------------------------------------------------- random runs
+
+STARTS = ['1987-06-01T14:05:00', '1987-06-01T23:59:57', '2000-02-28T23:59:59', '1970-01-01T00:00:00', '2099-12-31T23:59:55', '2026-03-29T01:59:58']
+NAMES = [b'+D1..D3 \\A', b'+E1 \\B']
+
+
+def some_readings(r):
+    """A clock's readings: from a start on it goes on by seconds, and at times stands, leaps, is set back or can't be read."""
+    moment, out = datetime.datetime.fromisoformat(r.choice(STARTS)), []
+    for _ in range(r.choice([1, 10, 40, 120])):
+        moment += datetime.timedelta(seconds=r.choice([0, 0, 0, 0, 1, 1, 1, 2, 5]) if r.randrange(30) else r.choice([60, 3600, 86400, -1, -30, -86400]))
+        out.append(None if r.randrange(40) == 0 else moment)
+    return out
+
+
+def some_host(r):
+    """A run of a macro that waits, on a stated clock; the limit of steps ends one that waits for ever."""
+    waits = Waits(r)
+    cells = waits.timed() if r.randrange(4) else waits.program()
+    sheet = Programs(r).lines_of(cells)
+    sheet[1:1] = NAMES
+    options = ['--file', 'SHEET', '--steps', str(r.choice([20, 100, 300]))]
+    options += r.choice([[], [], ['--count'], ['--show', 'last'], ['--show', 'ansi']])
+    keys = b'{ALT A}' + waits.keys + r.choice([b'', b'~', b'{ALT B}~', b'{BREAK}', b'7~'])
+    return Host(options, keys, False, {}, some_readings(r), {'SHEET.WK1': plain(file_of(sheet))}, None)
+
+
+def spelled(host):
+    """A random run as a line spells it."""
+    clock = ','.join('none' if reading is None else reading.isoformat() for reading in host.clock)
+    files = (f'{name}={entry.data.hex()}' for name, entry in host.folder.items())
+    return '\t'.join([shlex.join(host.options), ascii(host.keys)[2:-1], 'clock=' + clock, *files])
+
+
 # ---------------------------------------------------------------- the oracle's side
 
 class HostShelf:
@@ -128,29 +169,35 @@ class HostShelf:
         self.folder = dict(folder)
 
     def _look(self, name):
+        """What stands under a name."""
         entry = self.folder.get(name)
         if entry and entry.other:
             raise Failed()
         return entry
 
     def _look_to_change(self, name):
+        """The same, where it may be written."""
         entry = self._look(name)
         if entry and not entry.rights & WRITABLE:
             raise Failed()
         return entry
 
     def has(self, name):
+        """Whether there is a file."""
         return self._look(name) is not None
 
     def get(self, name):
+        """A file's bytes, or None."""
         entry = self._look(name)
         return entry and entry.data[:MOST_BYTES]
 
     def put(self, name, data):
+        """Writes a file, which keeps its rights."""
         entry = self._look_to_change(name)
         self.folder[name] = plain(data, entry.rights if entry else NEW_RIGHTS)
 
     def remove(self, name):
+        """Removes a file; whether there was one."""
         there = self._look_to_change(name) is not None
         self.folder.pop(name, None)
         return there
@@ -164,6 +211,7 @@ class HostKeys(ListKeys):
         self.later, self.shelf, self.display, self.screens = host.later, shelf, display, 0
 
     def next(self):
+        """The next byte; what stands in the folder changes before it."""
         if self.later and self.at == self.later[0]:
             self.screens = len(self.display.frames)
             self.shelf.folder[self.later[1]] = self.later[2]
@@ -320,14 +368,16 @@ def compared(program, clock, line):
 
 
 def main(words):
-    program, clock = map(os.path.abspath, words)
+    """Runs the lines and tells what differs."""
+    asked = parser('host')
+    asked.add_argument('--clock', type=os.path.abspath, required=True)
+    asked = asked.parse_args(words)
     prepare()
-    lines = worked('host').splitlines()
-    bad = [why for why in (compared(program, clock, line) for line in lines) if why]
-    for why in bad[:5]:
-        print(why)
-    print(f'host: {len(lines)} worked runs, {len(bad)} differ')
-    return 1 if bad else 0
+    first = worked('host').splitlines()
+    lines = first + [spelled(some_host(random.Random(f'{asked.seed} host {number}'))).encode() for number in range(asked.count)]
+    with processes(asked.processes) as pool:
+        found = list(pool.map(functools.partial(compared, asked.program, asked.clock), lines, chunksize=5))
+    return ended([why for why in found if why], f'host: {len(first)} worked runs and {asked.count} of seed {asked.seed}')
 
 
 if __name__ == '__main__':

@@ -19,6 +19,7 @@ UNDO = ('undo',)
 
 
 def byte_key(b):
+    """The key of a byte."""
     return ('byte', b)
 
 
@@ -88,6 +89,7 @@ class KeyReader:
         self.bad = None
 
     def feed(self, byte):
+        """A byte: 'more', ('key', key, count) or ('bad', the place of the word)."""
         before = self.taken
         self.taken += 1
         if self.bad is not None:             # after Bad the reader answers the same
@@ -105,6 +107,7 @@ class KeyReader:
         return s
 
     def at_rest(self):
+        """Whether no word is begun."""
         return not self.buf
 
 
@@ -181,46 +184,43 @@ class Word:
         self.args = args
 
 
-def word_at(text, offset):
-    """The macro word at an offset."""
-    if offset >= len(text):                  # an offset past the present text is its end
-        return Word('end', len(text))
-    b = text[offset]
-    if b == ord('~'):
-        return Word('key', offset + 1, key=ENTER)
-    if b == ord('}'):                        # a bare `}` is M3
-        return Word('bad', offset + 1)
-    if b == ord('/') and fold(text[offset + 1:offset + 2]) == b'X' and len(text) > offset + 2 \
-            and fold(text[offset + 2:offset + 3])[0] in SLASH:
-        name, tildes = SLASH[fold(text[offset + 2:offset + 3])[0]]
-        at = offset + 3
-        args = []
-        for _ in range(tildes):
-            end = text.find(b'~', at)
-            if end < 0:                      # lacks a `~` of its form: M3
-                return Word('bad', len(text))
-            args.append(bytes(text[at:end]))
-            at = end + 1
-        return Word('command', at, name=name, args=args)
-    if b != ord('{'):
-        return Word('key', offset + 1, key=byte_key(b))
+def slash_word(text, offset):
+    """A /X command at an offset, which lacks a `~` of its form (M3), or none."""
+    letter = fold(text[offset + 2:offset + 3])
+    if fold(text[offset + 1:offset + 2]) != b'X' or not letter or letter[0] not in SLASH:
+        return None
+    name, tildes = SLASH[letter[0]]
+    at, args = offset + 3, []
+    for _ in range(tildes):
+        end = text.find(b'~', at)
+        if end < 0:
+            return Word('bad', len(text))
+        args.append(bytes(text[at:end]))
+        at = end + 1
+    return Word('command', at, name=name, args=args)
+
+
+def closing_at(text, offset):
+    """Where the first `}` outside quotes stands, or none."""
+    quoted = False
+    for at in range(offset, len(text)):
+        if text[at] == ord('"'):
+            quoted = not quoted
+        if text[at] == ord('}') and not quoted:
+            return at
+    return None
+
+
+def brace_word(text, offset):
+    """The word in braces at an offset; an unclosed brace is M3."""
     three = bytes(text[offset + 1:offset + 3])
     if three in TEXTS:
         return Word('key', offset + 3, key=TEXTS[three])
-    quoted = False
-    end = None
-    for i in range(offset + 1, len(text)):   # the word ends at the first `}` outside quotes
-        if text[i] == ord('"'):
-            quoted = not quoted
-        if text[i] == ord('}') and not quoted:
-            end = i
-            break
-    if end is None:                          # an unclosed brace: M3
+    end = closing_at(text, offset + 1)
+    if end is None:
         return Word('bad', len(text))
-    inside = bytes(text[offset + 1:end])
-    space = inside.find(b' ')
-    name = fold(inside if space < 0 else inside[:space])
-    rest = None if space < 0 else inside[space + 1:]
+    name, space, rest = bytes(text[offset + 1:end]).partition(b' ')
+    name, rest = fold(name), rest if space else None
     if name in BY_NAME:
         if rest is None:
             return Word('key', end + 1, key=BY_NAME[name])
@@ -228,3 +228,17 @@ def word_at(text, offset):
     if name in COMMANDS:
         return Word('command', end + 1, name=name, args=split_args(rest))
     return Word('call', end + 1, name=name, args=split_args(rest, name.count(b'"') % 2 == 1))
+
+
+def word_at(text, offset):
+    """The macro word at an offset; one past the present text is its end, and a bare `}` is M3."""
+    if offset >= len(text):
+        return Word('end', len(text))
+    b = text[offset]
+    if b == ord('~'):
+        return Word('key', offset + 1, key=ENTER)
+    if b == ord('}'):
+        return Word('bad', offset + 1)
+    if b == ord('{'):
+        return brace_word(text, offset)
+    return (slash_word(text, offset) if b == ord('/') else None) or Word('key', offset + 1, key=byte_key(b))

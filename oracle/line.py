@@ -2,6 +2,8 @@
 
 
 class EntryLine:
+    """A line and the place of its cursor."""
+
     def __init__(self, text=b''):
         assert len(text) <= 240
         self.text = bytes(text)

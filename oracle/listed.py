@@ -4,18 +4,15 @@ python3 -B -m oracle.listed PROGRAM N [SEED] [--processes P]
     the worked files, those of N sheets, as many that nobody saved, and three damaged forms of each; then odd runs
 python3 -B -m oracle.listed FOLDER N [SEED] --cases
     the same files in a folder, each beside what is written of it as NAME.stdout"""
-import argparse
-import concurrent.futures
 import functools
 import os
 import random
 import subprocess
 import sys
 
-from .cases import SEED
+from .checks import ended, parser, prepare, processes
 from .files import all_files
 from .listing import BAD_WORD, told
-from .runs import prepare
 from .wk1 import MOST
 
 NOT_READ, NOT_WRITTEN = 5, 7  # statuses
@@ -53,6 +50,7 @@ def odd_runs(program):
 
 
 def files(count, seed):
+    """The files of a seed."""
     return all_files(random.Random(f'{seed} files'), count)
 
 
@@ -65,24 +63,17 @@ def keep(folder, count, seed):
 
 
 def main(words):
-    parser = argparse.ArgumentParser(prog='python3 -B -m oracle.listed')
-    parser.add_argument('program', type=os.path.abspath)
-    parser.add_argument('count', type=int)
-    parser.add_argument('seed', nargs='?', default=SEED)
-    parser.add_argument('--processes', type=int)
-    parser.add_argument('--cases', action='store_true')
-    asked = parser.parse_args(words)
+    """Compares the files and the odd runs."""
+    asked = parser('listed')
+    asked.add_argument('--cases', action='store_true')
+    asked = asked.parse_args(words)
     prepare()
     if asked.cases:
         keep(asked.program, asked.count, asked.seed)
         return 0
-    with concurrent.futures.ProcessPoolExecutor(asked.processes, initializer=prepare) as pool:
+    with processes(asked.processes) as pool:
         found = list(pool.map(functools.partial(differs, asked.program), files(asked.count, asked.seed), chunksize=20))
-    bad = [why for why in found if why] + odd_runs(asked.program)
-    for why in bad[:5]:
-        print(why)
-    print(f'listing: {len(found)} files and 7 odd runs, {len(bad)} differ')
-    return 1 if bad else 0
+    return ended([why for why in found if why] + odd_runs(asked.program), f'listing: {len(found)} files and 7 odd runs')
 
 
 if __name__ == '__main__':

@@ -16,6 +16,7 @@ PROTECTED = 0x80
 
 
 def value_text(value):
+    """A value as it is listed."""
     if value[0] == 'num':
         return fixed.plain(value[1])
     if value[0] == 'str':
@@ -60,6 +61,7 @@ def told(data):
 
 
 def main():
+    """Lists the file on standard input."""
     out, note, status = told(sys.stdin.buffer.read(MOST_READ))
     sys.stdout.buffer.write(out)
     sys.stderr.buffer.write(note)

@@ -69,6 +69,7 @@ class Soup(Macros):
     """Sheets of macros of random words, and of keys for every room."""
 
     def word(self):
+        """A word of a macro, or keys for a room."""
         r = self.r
         pick = r.randrange(10)
         if pick < 3:
@@ -91,6 +92,7 @@ class Programs:
         self.starts = None
 
     def number(self):
+        """A small number."""
         return b'%d' % self.r.randrange(1, 8)
 
     def counted(self):
@@ -365,7 +367,7 @@ class MacroKeys:
         """A sheet with macros, and keys that start them; the last one may end the run."""
         r = self.r
         self.programs.starts = None
-        waits = r.randrange(3) == 0
+        waits = r.randrange(3) == 0 or self.typist.waits_alone
         if waits:
             sheet = self.programs.lines_of(self.waits.program())
         elif r.randrange(4) == 0:

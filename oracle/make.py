@@ -30,6 +30,7 @@ def whole(seed=SEED):
 
 
 def main(words):
+    """Prints the data."""
     leave_out()
     if len(words) > 1:
         print('oracle.make takes a seed', file=sys.stderr)

@@ -4,6 +4,7 @@
 
 
 def formats(prefix, reset):
+    """The items of a menu of formats."""
     out = [('Fixed', prefix + 'fixed'), ('Currency', prefix + 'currency'), (',', prefix + 'comma'),
            ('General', prefix + 'general'), ('Percent', prefix + 'percent'), ('Date', prefix + 'date'),
            ('Text', prefix + 'text'), ('Hidden', prefix + 'hidden')]
@@ -13,6 +14,7 @@ def formats(prefix, reset):
 
 
 def dates(prefix):
+    """The items of a menu of dates."""
     return [('1', prefix + 'date1'), ('2', prefix + 'date2'), ('3', prefix + 'date3')]
 
 
@@ -79,70 +81,57 @@ PARENT['print'] = 'p'          # the menu that Print > File opens stands below P
 
 # asks: 'R' range, 'C' cell, ('N', low, high), 'D', 'T' (kind), ('F', ext), 'replace', 'confirm'
 DECIMALS = ('N', 0, 15)
-PROMPTS = {}
+WORKSHEET, REPORT = ('F', 'WK1'), ('F', 'PRN')
+WITH_DECIMALS = ('fixed', 'currency', 'comma', 'percent')
 
-
-def _make():
-    p = PROMPTS
-    for name, act in MENUS['wgf.'] + MENUS['wgf.date']:
-        if act in ('wgf.fixed', 'wgf.currency', 'wgf.comma', 'wgf.percent'):
-            p[act] = [(name, DECIMALS)]
-    for name, act in MENUS['rf.'] + MENUS['rf.date']:
-        if act == 'rf.date':
-            continue
-        if act in ('rf.fixed', 'rf.currency', 'rf.comma', 'rf.percent'):
-            p[act] = [(name, DECIMALS), ('Range', 'R')]
-        else:
-            p[act] = [(name, 'R')]
-    p['wgc'] = [('Column-Width', ('N', 1, 240))]
-    p['wgr.iteration'] = [('Iteration', ('N', 1, 50))]
-    for a in ('wi', 'wd'):
-        p[a + '.column'] = [('Column', 'R')]
-        p[a + '.row'] = [('Row', 'R')]
-    p['wc.set'] = [('Set-Width', ('N', 1, 240))]
-    p['wc.hide'] = [('Hide', 'R')]
-    p['wc.display'] = [('Display', 'R')]
-    for name, act in MENUS['rl']:
-        p[act] = [(name, 'R')]
-    p['r.erase'] = [('Erase', 'R')]
-    p['rn.create'] = [('Create', 'T:name'), ('Range', 'R')]
-    p['rn.delete'] = [('Delete', 'T:old')]
-    p['r.protect'] = [('Protect', 'R')]
-    p['r.unprotect'] = [('Unprotect', 'R')]
-    p['r.value'] = [('Value', 'R'), ('To', 'C')]
-    p['r.transpose'] = [('Transpose', 'R'), ('To', 'C')]
-    p['copy'] = [('Copy', 'R'), ('To', 'R')]
-    p['move'] = [('Move', 'R'), ('To', 'C')]
-    p['f.retrieve'] = [('Retrieve', ('F', 'WK1'))]
-    p['f.save'] = [('Save', ('F', 'WK1')), ('', 'replace')]
-    for name, act in MENUS['fc']:
-        p[act] = [(name, ('F', 'WK1'))]
-    for name, act in MENUS['fx']:
-        p[act] = [(name, ('F', 'WK1')), ('Range', 'R'), ('', 'replace')]
-    p['f.erase'] = [('Erase', ('F', 'WK1')), ('', 'confirm')]
-    p['p.file'] = [('File', ('F', 'PRN')), ('', 'replace')]
-    p['p.range'] = [('Range', 'R')]
-    p['po.header'] = [('Header', 'T')]
-    p['po.footer'] = [('Footer', 'T')]
-    p['po.length'] = [('Pg-Length', ('N', 10, 100))]
-    p['pm.left'] = [('Left', ('N', 0, 240))]
-    p['pm.right'] = [('Right', ('N', 0, 240))]
-    p['pm.top'] = [('Top', ('N', 0, 10))]
-    p['pm.bottom'] = [('Bottom', ('N', 0, 10))]
-    p['d.fill'] = [('Fill', 'R'), ('Start', 'D'), ('Step', 'D'), ('Stop', 'D')]
-    p['dt.1'] = [('1', 'R'), ('Down', 'C')]      # the name of table 1's second prompt isn't given: this project's choice
-    p['dt.2'] = [('2', 'R'), ('Down', 'C'), ('Across', 'C')]
-    p['ds.range'] = [('Data-Range', 'R')]
-    p['ds.primary'] = [('Primary-Key', 'C'), ('Order', 'T:order')]
-    p['ds.secondary'] = [('Secondary-Key', 'C'), ('Order', 'T:order')]
-    p['dq.input'] = [('Input', 'R')]
-    p['dq.criterion'] = [('Criterion', 'R')]
-    p['dq.output'] = [('Output', 'R')]
-    p['d.distribution'] = [('Distribution', 'R'), ('Range', 'R')]  # the bins' prompt isn't named: this project's choice
-    p['goto'] = [('Goto', 'C')]                  # the prompt of GOTO isn't named: this project's choice
-
-
-_make()
+# the prompts of each action by their names: the name of table 1's second prompt, that of the bins and that of GOTO aren't given, and are this
+# project's choice
+PROMPTS = {
+    **{act: [(name, DECIMALS)] for name, act in MENUS['wgf.'] if act[4:] in WITH_DECIMALS},
+    **{act: [(name, DECIMALS), ('Range', 'R')] if act[3:] in WITH_DECIMALS else [(name, 'R')]
+       for name, act in MENUS['rf.'] + MENUS['rf.date'] if act != 'rf.date'},
+    'wgc': [('Column-Width', ('N', 1, 240))],
+    'wgr.iteration': [('Iteration', ('N', 1, 50))],
+    **{act: [(name, 'R')] for name, act in MENUS['wi'] + MENUS['wd']},
+    'wc.set': [('Set-Width', ('N', 1, 240))],
+    'wc.hide': [('Hide', 'R')],
+    'wc.display': [('Display', 'R')],
+    **{act: [(name, 'R')] for name, act in MENUS['rl']},
+    'r.erase': [('Erase', 'R')],
+    'rn.create': [('Create', 'T:name'), ('Range', 'R')],
+    'rn.delete': [('Delete', 'T:old')],
+    'r.protect': [('Protect', 'R')],
+    'r.unprotect': [('Unprotect', 'R')],
+    'r.value': [('Value', 'R'), ('To', 'C')],
+    'r.transpose': [('Transpose', 'R'), ('To', 'C')],
+    'copy': [('Copy', 'R'), ('To', 'R')],
+    'move': [('Move', 'R'), ('To', 'C')],
+    'f.retrieve': [('Retrieve', WORKSHEET)],
+    'f.save': [('Save', WORKSHEET), ('', 'replace')],
+    **{act: [(name, WORKSHEET)] for name, act in MENUS['fc']},
+    **{act: [(name, WORKSHEET), ('Range', 'R'), ('', 'replace')] for name, act in MENUS['fx']},
+    'f.erase': [('Erase', WORKSHEET), ('', 'confirm')],
+    'p.file': [('File', REPORT), ('', 'replace')],
+    'p.range': [('Range', 'R')],
+    'po.header': [('Header', 'T')],
+    'po.footer': [('Footer', 'T')],
+    'po.length': [('Pg-Length', ('N', 10, 100))],
+    'pm.left': [('Left', ('N', 0, 240))],
+    'pm.right': [('Right', ('N', 0, 240))],
+    'pm.top': [('Top', ('N', 0, 10))],
+    'pm.bottom': [('Bottom', ('N', 0, 10))],
+    'd.fill': [('Fill', 'R'), ('Start', 'D'), ('Step', 'D'), ('Stop', 'D')],
+    'dt.1': [('1', 'R'), ('Down', 'C')],
+    'dt.2': [('2', 'R'), ('Down', 'C'), ('Across', 'C')],
+    'ds.range': [('Data-Range', 'R')],
+    'ds.primary': [('Primary-Key', 'C'), ('Order', 'T:order')],
+    'ds.secondary': [('Secondary-Key', 'C'), ('Order', 'T:order')],
+    'dq.input': [('Input', 'R')],
+    'dq.criterion': [('Criterion', 'R')],
+    'dq.output': [('Output', 'R')],
+    'd.distribution': [('Distribution', 'R'), ('Range', 'R')],
+    'goto': [('Goto', 'C')],
+}
 
 # where a finished command leads: the menu it goes back to; absent is READY
 BACK = {'ds.range': 'ds', 'ds.primary': 'ds', 'ds.secondary': 'ds',
@@ -155,4 +144,5 @@ CHOICES = {'replace': ['Cancel', 'Replace'], 'confirm': ['No', 'Yes']}
 
 
 def prompts(action):
+    """What an action asks for."""
     return PROMPTS.get(action, [])

@@ -152,6 +152,7 @@ class MenuKeys:
     asked_old = asked_name
 
     def asked_N(self, low, high):
+        """An answer to a prompt for a whole number, mostly between the bounds."""
         r = self.r
         pick = r.randrange(16)
         if pick < 2:
@@ -166,9 +167,11 @@ class MenuKeys:
         return r.choice(BESIDE_NUMBERS) if r.randrange(8) == 0 else r.choice(NUMBERS + [b'1', b'2', b'-1', b'0'])
 
     def asked_T(self):
+        """A text."""
         return self.typist.typed(self.r.choice(RUNNING))
 
     def asked_order(self):
+        """An order of sorting."""
         return self.r.choice([b'A', b'a', b'D', b'd', b'A', b'D', b'x', b''])
 
     def asked_F(self, ext):
@@ -186,6 +189,7 @@ class MenuKeys:
         return self.r.choice((TAKEN if self.r.randrange(6) else GIVEN_UP)[ask])
 
     def asked_confirm(self):
+        """The choice No or Yes."""
         keys = self.choice('confirm')
         if keys in TAKEN['confirm']:
             self.among.discard(self.named_last)
@@ -228,6 +232,7 @@ class MenuKeys:
         return keys + b''.join(self.answer(ask) for _, ask in menu.prompts(action)) + self.behind(action)
 
     def at(self, cell):
+        """Keys that go to a cell."""
         return b'{GOTO}' + cell + b'~'
 
     def looked(self, cells):
@@ -248,6 +253,7 @@ class MenuKeys:
                          lambda: b'+"long text beside "&@STRING(' + ref() + b',2)'])()
 
     def content(self):
+        """Keys that spell a content."""
         r = self.r
         return self.typist.typed(r.choice([lambda: r.choice(NUMBERS), lambda: r.choice(LABELS), self.formula])())
 
@@ -435,9 +441,11 @@ class MenuKeys:
         return self.done(r.choice(['wi.row', 'wi.column', 'wd.row', 'wd.column']), r.choice([b'A1', b'B2', b'D1..E2', b'C3', b'F1']))
 
     def order(self):
+        """Keys that set an order of evaluation."""
         return self.done(self.r.choice(['wgr.natural', 'wgr.columnwise', 'wgr.rowwise']))
 
     def passes(self):
+        """Keys that set the number of passes."""
         return self.done('wgr.iteration', self.r.choice([b'1', b'1', b'2', b'3', b'5', b'50']))
 
     def reckoned(self):
@@ -502,5 +510,6 @@ class MenuKeys:
                               self.printed, self.printed])()
 
     def part(self):
+        """Keys of a command, or of a menu that is left."""
         many = [self.scene] * 16 + [self.command] * 7 + [self.wandered, self.stayed]
         return self.too_long() if self.r.randrange(40) == 0 else self.r.choice(many)()

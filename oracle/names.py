@@ -41,22 +41,28 @@ def is_plain(name):
 
 
 class Names:
+    """The names of spans, folded."""
+
     def __init__(self):
         self.map = {}
 
     def create(self, name, span):
+        """Names a span, also where the name stood for another."""
         self.map[check(name)] = span
 
     def delete(self, name):
+        """Takes a name away, which must be there."""
         folded = check(name)
         if folded not in self.map:
             raise NameFault('Absent')
         del self.map[folded]
 
     def reset(self):
+        """Takes all away."""
         self.map.clear()
 
     def find(self, name):
+        """The span of a name, or None."""
         return self.map.get(fold(name))
 
     def of_span(self, span):
@@ -73,9 +79,11 @@ class Names:
         return min(later) if later else None
 
     def items(self):
+        """Names and spans in the names' order."""
         return [(n, self.map[n]) for n in sorted(self.map)]
 
     def copy(self):
+        """Names of their own."""
         other = Names()
         other.map = dict(self.map)
         return other

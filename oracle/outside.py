@@ -4,6 +4,8 @@ from .keys import fold
 
 
 class Failed(Exception):
+    """A call on the outside failed."""
+
     pass
 
 
@@ -17,6 +19,8 @@ def file_name(data, ext='WK1'):
 
 
 class ListKeys:
+    """Bytes of keys, one behind another; the calls with the given numbers fail."""
+
     def __init__(self, data, failing=()):
         self.data = bytes(data)
         self.at = 0
@@ -25,6 +29,7 @@ class ListKeys:
         self.faults = 0
 
     def next(self):
+        """The next byte, or None at the end."""
         self.calls += 1
         if self.calls in self.failing:
             self.faults += 1
@@ -46,6 +51,7 @@ class MapShelf:
         self.log = []
 
     def _call(self, what, name):
+        """Counts a call and keeps what it was; some fail."""
         self.calls += 1
         if self.calls in self.failing or self.files.get(name, b'') is None:
             self.faults += 1
@@ -54,18 +60,22 @@ class MapShelf:
         self.log.append((what, name, 'done'))
 
     def has(self, name):
+        """Whether there is a file."""
         self._call('has', name)
         return name in self.files
 
     def get(self, name):
+        """A file's bytes, or None."""
         self._call('get', name)
         return self.files.get(name)
 
     def put(self, name, data):
+        """Writes a file."""
         self._call('put', name)
         self.files[name] = bytes(data)
 
     def remove(self, name):
+        """Removes a file; whether there was one."""
         self._call('remove', name)
         return self.files.pop(name, None) is not None
 
@@ -79,6 +89,7 @@ class ListClock:
         self.taken = 0
 
     def read(self):
+        """The next moment."""
         m = self.readings[min(self.taken, len(self.readings) - 1)]
         self.taken += 1
         return m
@@ -95,6 +106,7 @@ class ListNotes:
         self.faults = 0
 
     def write(self, data):
+        """Takes a note."""
         self.calls += 1
         if self.calls in self.failing or self.room is not None and len(self.bytes) + len(data) > self.room:
             self.faults += 1
@@ -119,12 +131,14 @@ class Recorder:
         self.closed = False
 
     def _call(self):
+        """Counts a call; some fail."""
         self.calls += 1
         if self.calls in self.failing:
             self.faults += 1
             raise Failed()
 
     def put(self, row, col, data):
+        """Takes a run of bytes of a line."""
         self._call()
         self.closed = False
         self.grid[row][col:col + len(data)] = data
@@ -132,6 +146,7 @@ class Recorder:
         self.bytes_put += len(data)
 
     def done(self):
+        """A screen is whole."""
         self._call()
         if self.room is not None and len(self.frames) >= self.room:
             self.faults += 1
@@ -141,6 +156,7 @@ class Recorder:
         self.per_frame.append((self.puts, self.bytes_put))
 
     def close(self):
+        """No more screens come."""
         self._call()
         self.closed = True
 
@@ -158,6 +174,7 @@ class Writer:
         self.bytes = b''
 
     def write(self, data):
+        """Takes what there is room for, and fails where that isn't all."""
         left = len(data) if self.room is None else self.room - len(self.bytes)
         self.bytes += data[:left]
         if left < len(data):
@@ -173,16 +190,19 @@ class HostDisplay(Recorder):
         self.writer = writer
 
     def put(self, row, col, data):
+        """Writes the run, for a terminal."""
         super().put(row, col, data)
         if self.kind == 'ansi':
             self.writer.write(b'\x1b[%d;%dH' % (row + 1, col + 1) + data)
 
     def done(self):
+        """Writes the page."""
         super().done()
         if self.kind == 'pages':
             self.writer.write(page(self.frames[-1]))
 
     def close(self):
+        """Writes the last page, where it alone is shown."""
         super().close()
         if self.kind == 'last' and self.frames:
             self.writer.write(page(self.frames[-1]))

@@ -24,6 +24,7 @@ def select(span, criterion, look, scene):
 
 
 def extract(span, criterion, output, unique, look, scene):
+    """The records that match, or each once, below the output's names."""
     chosen = select(span, criterion, look, scene)
     names = fields(span, look)
     top = output[0][1]

@@ -16,11 +16,14 @@ class PrintFault(Exception):
 
 
 class PrintSettings:
+    """The settings of a report."""
+
     def __init__(self, header=b'', footer=b'', left=4, right=76, top=2, bottom=2, length=66):
         self.header, self.footer = header, footer
         self.left, self.right, self.top, self.bottom, self.length = left, right, top, bottom, length
 
     def copy(self):
+        """Settings of their own."""
         return PrintSettings(self.header, self.footer, self.left, self.right, self.top, self.bottom, self.length)
 
 
@@ -65,51 +68,56 @@ def row_line(saved, columns, widths, row):
     return line
 
 
+def bands_of(span, saved, width):
+    """The columns of a span that are shown, with the widths that their cells get, in bands of at most a width; a lone wide column's cells are
+    cut to it."""
+    bands, used = [], 0
+    for col in range(span[0][0], span[1][0] + 1):
+        if col in saved.hidden:
+            continue
+        own = saved.widths.get(col, saved.settings.width)
+        if not bands or used + own > width:
+            bands.append([])
+            used = 0
+        bands[-1].append((col, own))
+        used += own
+    return bands
+
+
+class Pages:
+    """A report as it grows, page by page."""
+
+    def __init__(self, set_, saved, now):
+        self.set, self.saved, self.now = set_, saved, now
+        self.width = set_.right - set_.left
+        self.height = set_.length - set_.top - set_.bottom - 6
+        self.out, self.page = bytearray(), 0
+
+    def put(self, *lines):
+        """Lines behind the left margin, without the spaces at their ends."""
+        for line in lines:
+            if line.strip(b' '):
+                self.out.extend((b' ' * self.set.left + line).rstrip(b' '))
+            self.out.extend(b'\r\n')
+
+    def add(self, band, rows):
+        """A page of a band."""
+        self.page += 1
+        cols, widths = [col for col, _ in band], [width for _, width in band]
+        text = lambda text: running_line(text, self.width, self.page, self.now)
+        self.put(*[b''] * self.set.top, text(self.set.header), b'', b'')
+        self.put(*(row_line(self.saved, cols, widths, row)[:self.width] for row in rows), *[b''] * (self.height - len(rows)))
+        self.put(b'', b'', text(self.set.footer), *[b''] * self.set.bottom)
+        if len(self.out) > MOST:
+            raise PrintFault('TooLong')
+
+
 def report(span, set_, saved, now):
+    """The bytes of a report: its bands one behind another, each in pages of so many rows."""
     if set_.top + set_.bottom + 6 >= set_.length or set_.right <= set_.left:
         raise PrintFault('PageTooSmall')
-    w = set_.right - set_.left
-    columns = [c for c in range(span[0][0], span[1][0] + 1) if c not in saved.hidden]
-    bands = []
-    while columns:
-        band, total = [], 0
-        while columns:
-            width = saved.widths.get(columns[0], saved.settings.width)
-            if band and total + width > w:
-                break
-            band.append((columns.pop(0), min(width, w)))  # a lone wide one's cells are cut to W
-            total += width
-        bands.append(band)
-    rows = list(range(span[0][1], span[1][1] + 1))
-    height = set_.length - set_.top - set_.bottom - 6
-    out = bytearray()
-    page = 0
-
-    def put(line):
-        if line.strip(b' '):
-            out.extend((b' ' * set_.left + line).rstrip(b' '))
-        out.extend(b'\r\n')
-
-    for band in bands:
-        cols = [c for c, _ in band]
-        widths = [saved.widths.get(c, saved.settings.width) for c in cols]
-        for start in range(0, len(rows), height):
-            page += 1
-            for _ in range(set_.top):
-                put(b'')
-            put(running_line(set_.header, w, page, now))
-            put(b'')
-            put(b'')
-            chunk = rows[start:start + height]
-            for row in chunk:
-                put(row_line(saved, cols, widths, row)[:w])
-            for _ in range(height - len(chunk)):
-                put(b'')
-            put(b'')
-            put(b'')
-            put(running_line(set_.footer, w, page, now))
-            for _ in range(set_.bottom):
-                put(b'')
-            if len(out) > MOST:
-                raise PrintFault('TooLong')
-    return bytes(out)
+    pages, rows = Pages(set_, saved, now), range(span[0][1], span[1][1] + 1)
+    for band in bands_of(span, saved, pages.width):
+        for at in range(0, len(rows), pages.height):
+            pages.add(band, rows[at:at + pages.height])
+    return bytes(pages.out)

@@ -5,6 +5,7 @@ import traceback
 
 from . import address, cellformat, evaluate, fixed, formula, menu, wk1
 from .cli import run
+from .commands import MESSAGES
 from .dates import Moment
 from .names import Names
 from .sheet import Sheet, State
@@ -930,8 +931,8 @@ def stopped(r, t):
     eq((mode(r), message(r)), (b'ERROR', t))
 
 
-@row('macro words')
-def _():
+def macros_branch():
+    """DISPATCH, IF and /XI."""
     r = ok(macro([('D1', '{DISPATCH B1}'), ('B1', 'D5'), ('D5', '{LET A1,5}')]))
     want(r, 'A1', 5)
     stopped(ok(macro([('D1', '{DISPATCH B1}')])), b'Macro fault M5 at D1')
@@ -942,7 +943,10 @@ def _():
     want(r, 'A2', 2)
     eq(value(r, 'A3'), ('blank',))
     want(r, 'A4', 4)
-    # calls, DEFINE, RETURN
+
+
+def macros_call():
+    """Calls, DEFINE, RETURN and RESTART."""
     k = "{GOTO}F1~/RNCSUB~~" + macro([('D1', '{SUB 1+2,1+2}{LET A3,9}'), ('F1', '{DEFINE A1,A2:value}{RETURN}{LET A4,1}')])
     r = ok(k)
     eq(text(r, 'A1'), b"'1+2")
@@ -956,7 +960,10 @@ def _():
     want(r, 'A1', 1)
     want(r, 'A2', 2)
     eq(value(r, 'A3'), ('blank',))
-    # FOR
+
+
+def macros_loop():
+    """FOR and FORBREAK."""
     r = ok(macro([('D1', '{FOR A1,3,1,-1,D5}{LET A3,A1}'), ('D5', '{LET A2,A2*10+A1}')]))
     want(r, 'A2', 321)
     want(r, 'A3', 0)
@@ -972,7 +979,10 @@ def _():
     want(r, 'A1', 5)
     eq(value(r, 'A2'), ('blank',))
     want(r, 'A3', 7)
-    # LET, PUT, BLANK, CONTENTS
+
+
+def macros_put():
+    """LET, PUT, BLANK and CONTENTS."""
     r = ok(macro([('D1', '{LET A1,B2:string}{LET A2,abc def}{LET A3,1/0}{LET A4,5:value}{PUT A5..B6,1,1,8}'),
                   ('D2', '{CONTENTS C1,A4}{CONTENTS C2,A4,6,2}{BLANK A1..A2}')]))
     eq(value(r, 'A1'), ('blank',))
@@ -983,15 +993,27 @@ def _():
     eq(text(r, 'C2'), b"' 5.00 ")
     stopped(ok(macro([('D1', '{PUT A5..B6,2,1,8}')])), b'Macro fault M4 at D1')
     ok(macro([('D1', '{LET A1,@SUM(3,4)}')]))      # not cut inside round brackets
-    # repeats
+
+
+def macros_repeat():
+    """Keys with numbers of repeats."""
     r = ok(macro([('D1', '{DOWN B1}x~'), ('B1', 'y')]))
     stopped(r, b'Macro fault M4 at D1')
     r = ok(macro([('D1', '{DOWN 2+1}{RIGHT 0}{UP -1}x~')]))
     eq(text(r, 'A4'), b"'x")
 
 
-@row('waiting words')
+@row('macro words')
 def _():
+    macros_branch()
+    macros_call()
+    macros_loop()
+    macros_put()
+    macros_repeat()
+
+
+def macros_ask():
+    """GET, GETLABEL, GETNUMBER, LOOK, /XL and /XN."""
     r = ok(macro([('D1', '{GETLABEL "Name?",A1}{GET A2}{GETNUMBER Age,A3}{LOOK A4}'), ('D2', '/XLhey~B1~/XNn~B2~')],
                  after='{ALT A}abc{UP}{ESC}{ESC}de~{ALT x}1+1~fg~zz*~'))
     eq(text(r, 'A1'), b"'de")
@@ -1003,6 +1025,10 @@ def _():
     r = ok(macro([('D1', '{GETLABEL "Name?",A1}')], after='{ALT A}ab'))
     eq(r.frames[-1][1][:9], b'Name? ab ')
     eq(mode(r), b'EDIT')
+
+
+def macros_show_menus():
+    """MENUBRANCH, MENUCALL and `?`."""
     cells = [('D1', '{MENUBRANCH F1}{LET A9,9}'), ('F1', 'One'), ('G1', 'Two'), ('F2', 'first'), ('G2', 'second'),
              ('F3', '{LET A1,1}'), ('G3', '{LET A1,2}')]
     r = ok(macro(cells))
@@ -1021,7 +1047,10 @@ def _():
     r = ok(macro([('D1', '{?}{LET A9,9}')], after='{ALT A}{DOWN}5{DOWN}~'))
     want(r, 'A2', 5)
     want(r, 'A9', 9)
-    # WAIT
+
+
+def macros_wait():
+    """WAIT over stated moments, and BREAK at words that wait."""
     k = macro([('D1', '{WAIT 31930}{LET A1,1}')])
     base = ok(k[:-len('{ALT A}')]).steps
     r = run([], k, {}, [(31929, 0)] * (base + 5) + [(31930, 0)])
@@ -1037,6 +1066,13 @@ def _():
     eq(value(r, 'A2'), ('blank',))
     r = ok(macro([('D1', '{GET A1}')], after='{ALT A}{UNDO}x'))
     eq(text(r, 'A1'), b"'x")
+
+
+@row('waiting words')
+def _():
+    macros_ask()
+    macros_show_menus()
+    macros_wait()
 
 
 @row('switches')
@@ -1106,6 +1142,27 @@ def _():
 # ---------------------------------------------------------------- tables of keys, written before the code was read.
 # A case is (keys, what is seen).
 
+def sees_texts(r, wanted, what):
+    """The texts of cells."""
+    for at, x in wanted.items():
+        eq(text(r, at), x.encode('latin-1'), what + ' ' + at)
+
+
+def sees_values(r, wanted, what):
+    """The values of cells; None is blank."""
+    for at, x in wanted.items():
+        if x is None:
+            eq(value(r, at), ('blank',), what + ' ' + at)
+        else:
+            eq(num(r, at), int(round(x * M)), what + ' ' + at)
+
+
+# what is seen of a run under each letter but `l`
+SEEN = {'m': lambda r, w, what: eq(mode(r), w.encode(), what), 'p': lambda r, w, what: eq(r.session.sheet.settings.pointer, c(w), what),
+        'k': lambda r, w, what: eq(len(r.frames), w, what), 's': lambda r, w, what: eq(r.steps, w, what),
+        'n': lambda r, w, what: eq(r.notes, b''.join(b'1-2-3: ' + x.encode() + b'\n' for x in w), what), 't': sees_texts, 'v': sees_values}
+
+
 def sees(keys, words=(), files=None, clock=None, failing=None, status=0, **seen):
     """m mode, p pointer, l0, l1, l2, l3, l4 and l24 lines without end blanks, e error, f macro fault, b bad key word,
     n notes, k frames, s steps, t texts, v values (None is blank)."""
@@ -1119,33 +1176,13 @@ def sees(keys, words=(), files=None, clock=None, failing=None, status=0, **seen)
     if 'f' in seen:
         eq((mode(r), message(r)), (b'ERROR', b'Macro fault ' + seen.pop('f').encode()), what)
     if 'e' in seen:
-        from .commands import MESSAGES
         eq((mode(r), message(r)), (b'ERROR', MESSAGES[seen.pop('e')].encode()), what)
     for k, w in seen.items():
-        if k == 'm':
-            eq(mode(r), w.encode(), what)
-        elif k == 'p':
-            eq(r.session.sheet.settings.pointer, c(w), what)
-        elif k[0] == 'l':
-            n_ = int(k[1:])
-            eq(lines[n_][:72 if n_ == 0 else 80].rstrip(), w.encode('latin-1'), what)
-        elif k == 'k':
-            eq(len(r.frames), w, what)
-        elif k == 's':
-            eq(r.steps, w, what)
-        elif k == 'n':
-            eq(r.notes, b''.join(b'1-2-3: ' + x.encode() + b'\n' for x in w), what)
-        elif k == 't':
-            for at, x in w.items():
-                eq(text(r, at), x.encode('latin-1'), what + ' ' + at)
-        elif k == 'v':
-            for at, x in w.items():
-                if x is None:
-                    eq(value(r, at), ('blank',), what + ' ' + at)
-                else:
-                    eq(num(r, at), int(round(x * M)), what + ' ' + at)
+        if k[0] == 'l':
+            line = int(k[1:])
+            eq(lines[line][:72 if line == 0 else 80].rstrip(), w.encode('latin-1'), what)
         else:
-            raise AssertionError(k)
+            SEEN[k](r, w, what)
     return r
 
 
@@ -1352,8 +1389,8 @@ def _():
     sees('{DOWN 2}{ALT B}', f='M1 at A3')
 
 
-@row('macro runs')
-def _():
+def macros_end():
+    """How macros go on and end."""
     sub = [('SUB', 'G1')]
     macro_sees({'D1': '{SUB}Y~', 'G1': 'X{RESTART}Z~'}, names=sub, t={'A1': "'XZ"})
     macro_sees({'D1': '{SUB}Y~', 'G1': 'X{QUIT}Z~'}, names=sub, m='LABEL', l1='X', l24='')
@@ -1371,6 +1408,10 @@ def _():
     macro_sees({'D1': '{LET D1,5}X~'}, m='READY', t={'A1': ''})
     macro_sees({'D1': '/RND\\A~{LET A1,1}'}, v={'A1': 1})
     macro_sees({'D1': '/WEY{LET A1,1}'}, v={'A1': None}, m='READY')
+
+
+def macros_take():
+    """What LET, GET and questions take."""
     for e_, t in [('foo', "'foo"), ('5:string', "'5"), ('5:value', '5'), ('1/0', '@ERR'), ('B1', '0'), ('"a,b"', "'a,b"),
                   ('foo bar:STRING', "'foo bar"), ('"x":string', '\'"x"'), (' foo ', "' foo "), ('1000000000', "'1000000000")]:
         macro_sees({'D1': '{LET A1,%s}' % e_}, t={'A1': t})
@@ -1381,6 +1422,10 @@ def _():
     macro_sees({'D1': '{BREAKOFF}{GETLABEL "N",A1}'}, keys='A{BREAK}B~', t={'A1': "'AB"})
     macro_sees({'D1': '{BREAKOFF}{?}'}, keys='AB{BREAK}C', m='LABEL', l1='C')
     macro_sees({'D1': '{BREAKOFF}X{GET A1}'}, keys='{BREAK}', m='READY', l24=' ' * 67 + 'CMD')
+
+
+def macros_among_keys():
+    """Questions among keys, and screens that stand still."""
     macro_sees({'D1': '/WCS{GETLABEL "n",A9}7~'}, keys='zz~', l0='A1: [W7]', t={'A9': "'zz"})
     macro_sees({'D1': '+{RIGHT}{GET A9}~'}, keys='z', t={'A1': '+B1'})
     macro_sees({'D1': '{END}{LET B1,1}{DOWN}'}, p='A8192')
@@ -1390,6 +1435,10 @@ def _():
     macro_sees({'D1': '{WINDOWSOFF}{DOWN 30}{GET A9}'}, l0='A31:',
                l4='   1' + ' ' * 27 + '{WINDOWSOFF}{DOWN 30}{GET A9}')
     macro_sees({'D1': '/{PANELOFF}R{GET A9}'}, m='MENU', l1='[Worksheet] Range  Copy  Move  File  Print  Data  Quit')
+
+
+def macros_wait_and_read():
+    """WAIT, and text files."""
     k = "{GOTO}D1~'{{}WAIT 31929.5{}}X~/RNC\\A~~{HOME}"
     base = sees(k).steps
     sees(k + '{ALT A}', clock=[(31929, 0)] * (base + 2) + [(31929, 43199), (31929, 43200)],
@@ -1400,6 +1449,14 @@ def _():
     macro_sees({'D1': '{FILESIZE A1}'}, before='/WGPE', e=5)
     r = macro_sees({'D1': '{OPEN L,W}', 'D2': '{WRITE "a"}', 'D3': '{OPEN M,W}', 'D4': '{WRITE "b"}'})
     eq(r.files, {'L.TXT': b'a'})
+
+
+@row('macro runs')
+def _():
+    macros_end()
+    macros_take()
+    macros_among_keys()
+    macros_wait_and_read()
 
 
 @row('undo')

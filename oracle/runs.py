@@ -2,15 +2,14 @@
 go the worked ones of worked/runs, each a line of the program's words and keys, as a bytes literal spells them, and files of its folder as
 NAME=BYTES, parted by tabs; then random ones.
 
-python3 -B -m oracle.runs PROGRAM N [SEED] [--macros] [--strict] [--processes P]
+python3 -B -m oracle.runs PROGRAM N [SEED] [--macros | --waits] [--strict] [--random] [--processes P]
 
-With --macros each list types two to four sheets of macros, and none of data commands; with --strict each run is strict; P processes share the lists, as many as the machine
+With --macros each list types two to four sheets of macros, and none of data commands; with --waits all of them are macros that ask, wait and
+switch. With --strict each run is strict, and with --random the worked ones are left out. P processes share the lists, as many as the machine
 has processors where P isn't given.
 
 A random key list is made of what the program has built; WITHOUT and the makers of Typist and MenuKeys grow with it. Each run has a folder of
 its own, which mostly holds a few files. The moment on a screen's last line is left out, and no formula asks for it."""
-import argparse
-import concurrent.futures
 import functools
 import os
 import random
@@ -21,8 +20,8 @@ import sys
 import tempfile
 from typing import NamedTuple
 
-from .built import leave_out
-from .cases import SEED, Texts, WORDS, is_read, worked
+from .cases import Texts, WORDS, is_read, worked
+from .checks import ended, parser, prepare, processes
 from .cli import run
 from .data_keys import DataKeys, file_of
 from .files import file_for_runs
@@ -61,10 +60,11 @@ SHEETS = ['SHEET', *('SHEET%d' % number for number in range(2, 9))]
 
 
 class Typist:
-    """Makes key lists, the words before them and the folder in which they are typed."""
+    """Makes key lists, the words before them and the folder in which they are typed: all sheets are of macros, or of those that wait, where
+    these alone are asked for."""
 
-    def __init__(self, r, macros_alone=False, strict=False):
-        self.r, self.macros_alone, self.strict = r, macros_alone, strict
+    def __init__(self, r, macros_alone=False, waits_alone=False, strict=False):
+        self.r, self.macros_alone, self.waits_alone, self.strict = r, macros_alone or waits_alone, waits_alone, strict
         self.texts = Texts(r, 3, 5, False, [], without=WITHOUT)
         self.menus = MenuKeys(self)
         self.data, self.macros = DataKeys(self.menus), MacroKeys(self.menus)
@@ -94,6 +94,7 @@ class Typist:
     typed = staticmethod(typed)
 
     def arrow(self):
+        """An arrow, with or without a number of repeats."""
         r = self.r
         name = r.choice([b'UP', b'DOWN', b'LEFT', b'RIGHT', b'DOWN', b'RIGHT', b'u', b'd', b'l', b'r', b'Down'])
         count = b'' if r.randrange(4) else b' %d' % r.choice([1, 2, 3, 7, 8, 19, 20, 21, 30, 100])
@@ -109,6 +110,7 @@ class Typist:
                 return text
 
     def label(self):
+        """A line that spells a label."""
         r = self.r
         while True:
             size = r.choice([0, 1, 3, 8, 9, 10, 30, 75, 80, 200, 245])
@@ -197,6 +199,7 @@ class Typist:
         return r.choice([b'{CALC}', b'{calc}', b'~', b'\n', b'{WINDOW}', b'{GRAPH}', b'{NAME}', b'{ABS}', b'{DEL}', b'{BS}', b'{ESC}', b'{BREAK}', b'{QUERY}', b'{TABLE}', b'{UNDO}'])
 
     def part(self):
+        """Keys of one kind."""
         if self.r.randrange(5) < 2:
             return self.menus.part()
         many = [self.entry] * 4 + [self.arrow, self.moving, self.end, self.edited, self.faulty, self.pointed, self.goto, self.other]
@@ -234,6 +237,7 @@ class Typist:
         return b'{BREAK}/FS' + self.r.choice([b'', b'{ESC}']) + b'LAST~'
 
     def keys(self):
+        """The keys of a list."""
         r = self.r
         parts = [self.part() for _ in range(r.choice([0, 1, 3, 8, 15, 30]))]
         pick = 0 if self.macros_alone else r.randrange(9)
@@ -266,6 +270,8 @@ class Typist:
     def steps(self):
         """The limit of steps, or none; a macro may run without an end."""
         r = self.r
+        if self.waits_alone:
+            return r.choice([r.randrange(1, 100), *[300] * 6, 600])
         if self.may_run:
             return r.choice([r.randrange(1, 100), r.randrange(1, 800), *[2000] * 7, *[3000] * 3])
         return r.choice([1, 2, 10, 50, 10000000]) if r.randrange(4 if self.opened is None else 30) == 0 else None
@@ -299,6 +305,7 @@ def is_of_shelf(name, kinds=('WK1', 'PRN', 'TXT')):
 
 
 def kind_of(words):
+    """The kind of display that the words ask for."""
     joined = ' '.join(words).replace('=', ' ')
     return 'ansi' if '--show ansi' in joined else 'last' if '--show last' in joined else 'pages'
 
@@ -382,6 +389,7 @@ def files_differ(wanted, found):
 
 
 def difference(wanted, found):
+    """Why what was found isn't what is wanted, or none."""
     if wanted[0] != found[0]:
         return f'the status is {found[0]}, and {wanted[0]} is wanted'
     if wanted[2] != found[2]:
@@ -411,9 +419,9 @@ def run_differs(program, given):
     return screens, written, why and 'runs: ' + why_differs(given, why)
 
 
-def compared(program, seed, macros_alone, strict, number):
-    """A run of random keys."""
-    typist = Typist(random.Random(f'{seed} run {number}'), macros_alone, strict)
+def compared(program, seed, alone, strict, number):
+    """A run of random keys; `alone` is `macros` or `waits` where the sheets are of these alone."""
+    typist = Typist(random.Random(f'{seed} run {number}'), alone == 'macros', alone == 'waits', strict)
     keys, options = typist.keys(), typist.words()
     return run_differs(program, Run(options, keys, typist.folder))
 
@@ -442,31 +450,24 @@ def worked_run(program, line):
     return run_differs(program, read_run(line))
 
 
-def prepare():
-    leave_out()
-    sys.setrecursionlimit(100000)
-
-
 def main(words):
-    asked = argparse.ArgumentParser(prog='python3 -B -m oracle.runs')
-    asked.add_argument('program', type=os.path.abspath)
-    asked.add_argument('count', type=int)
-    asked.add_argument('seed', nargs='?', default=SEED)
-    asked.add_argument('--macros', action='store_true')
+    """Compares the worked runs and random ones."""
+    asked = parser('runs')
+    kinds = asked.add_mutually_exclusive_group()
+    kinds.add_argument('--macros', action='store_const', const='macros', dest='alone')
+    kinds.add_argument('--waits', action='store_const', const='waits', dest='alone')
     asked.add_argument('--strict', action='store_true')
-    asked.add_argument('--processes', type=int)
+    asked.add_argument('--random', action='store_true')
     asked = asked.parse_args(words)
     count, seed = asked.count, asked.seed
-    one = functools.partial(compared, asked.program, seed, asked.macros, asked.strict)
-    with concurrent.futures.ProcessPoolExecutor(asked.processes, initializer=prepare) as pool:
-        first = list(pool.map(functools.partial(worked_run, asked.program), worked('runs').splitlines(), chunksize=5))
+    one = functools.partial(compared, asked.program, seed, asked.alone, asked.strict)
+    lines = [] if asked.random else worked('runs').splitlines()
+    with processes(asked.processes) as pool:
+        first = list(pool.map(functools.partial(worked_run, asked.program), lines, chunksize=5))
         runs = first + list(pool.map(one, range(count), chunksize=5))
-    bad = [why for _, _, why in runs if why]
-    for why in bad[:5]:
-        print(why)
     screens, written = sum(run[0] for run in runs), sum(run[1] for run in runs)
-    print(f'runs: {len(first)} worked runs and {count} of seed {seed}, {screens} screens, {written} files written, {len(bad)} differ')
-    return 1 if bad else 0
+    return ended([why for _, _, why in runs if why],
+                 f'runs: {len(first)} worked runs and {count} of seed {seed}, {screens} screens, {written} files written')
 
 
 if __name__ == '__main__':

@@ -1,10 +1,11 @@
 """The screen of 25 lines of 80.  Painted from nothing."""
 from . import address, cellformat, dates
-from .macro import shown_cell, mask, state_of
+from .macro_cells import mask, shown_cell, state_of
 from .menu import MENUS, items as items_of
 
 
 def width_of(sheet, col):
+    """The width of a column."""
     own = sheet.own_width(col)
     return own if own is not None else sheet.settings.width
 
@@ -49,6 +50,7 @@ def moved_corner(sheet, corner):
 
 
 def centred(text, width):
+    """A text in the middle of a width."""
     left = (width - len(text)) // 2 if width > len(text) else 0
     return (b' ' * left + text)[:width].ljust(width)
 
@@ -56,8 +58,6 @@ def centred(text, width):
 def cell_row(sheet, columns, row):
     """The cells of a row: labels and text values run on over blank cells to the right."""
     parts = [(col, w, state_of(sheet, (col, row))) for col, w in columns]
-    if all(st is None for _, _, st in parts):
-        return b' ' * sum(w for _, w in columns)
     i = 0
     pieces = []
     while i < len(parts):
@@ -86,6 +86,7 @@ def long_text(sheet, cell, st, width):
 
 
 def indicator_text(byte):
+    """What is told of a format."""
     return cellformat.indicator(byte)
 
 
@@ -177,8 +178,10 @@ def sheet_lines(sheet, corner):
     """Lines 3 to 23: the columns' letters and twenty rows."""
     columns = shown_columns(sheet, corner[0])
     lines = [b'    ' + b''.join(centred(address.col_text(c), w) for c, w in columns)]
+    blank, with_cells = b' ' * sum(w for _, w in columns), {row for _, row in sheet.cells}
     for row in range(corner[1], corner[1] + 20):
-        lines.append(b'' if row > 8191 else str(row + 1).encode().rjust(4) + cell_row(sheet, columns, row))
+        cells = cell_row(sheet, columns, row) if row in with_cells else blank
+        lines.append(b'' if row > 8191 else str(row + 1).encode().rjust(4) + cells)
     return lines
 
 
@@ -187,6 +190,7 @@ def foot_line(sheet, message, moment, end_mark, running):
     last = bytearray(b' ' * 80)
 
     def at(col, text):
+        """Puts a text at a column."""
         last[col:col + len(text)] = text[:80 - col]
 
     if message is not None:

@@ -26,6 +26,8 @@ class SheetFault(Exception):
 
 
 class State:
+    """What a cell holds: content, value and format byte."""
+
     def __init__(self, content=C_BLANK, value=BLANK, format=DEFAULT_FORMAT):
         self.content = content
         self.value = value
@@ -33,6 +35,7 @@ class State:
         self._reads = None  # a cache of the spans that it reads, for the one cell where this state stands
 
     def copy(self):
+        """A state of its own."""
         return State(self.content, self.value, self.format)
 
     def __eq__(self, other):
@@ -44,6 +47,8 @@ class State:
 
 
 class Settings:
+    """The settings of a sheet, which its file keeps."""
+
     FIELDS = ('automatic', 'passes', 'prefix', 'format', 'width', 'protection', 'pointer', 'order')
 
     def __init__(self):
@@ -58,6 +63,7 @@ class Settings:
         self.order = 'natural'
 
     def copy(self):
+        """Settings of their own."""
         other = Settings()
         for f in self.FIELDS:
             setattr(other, f, getattr(self, f))
@@ -81,6 +87,7 @@ class Saved:
         self.settings = Settings() if settings is None else settings
 
     def copy(self):
+        """What is kept, of its own."""
         return Saved({c: s.copy() for c, s in self.cells.items()}, dict(self.widths), set(self.hidden),
                      self.names.copy(), self.settings.copy())
 
@@ -90,6 +97,7 @@ class Saved:
                 and self.settings == other.settings)
 
     def last_used(self):
+        """The last column and row that hold a cell, or None."""
         return last_used(self.cells)
 
 
@@ -232,6 +240,8 @@ class Graph:
 
 
 class Sheet:
+    """A worksheet."""
+
     def __init__(self):
         self.cells = {}
         self.widths = {}
@@ -253,6 +263,7 @@ class Sheet:
         return sheet
 
     def _take(self, saved):
+        """Takes the place of all that there is; all formulas are dirty."""
         saved = saved.copy()
         self.cells, self.widths, self.hidden = saved.cells, saved.widths, saved.hidden
         self.names, self.settings = saved.names, saved.settings
@@ -260,9 +271,11 @@ class Sheet:
         self.dirty = set(self.graph().formulas)
 
     def snapshot(self):
+        """What is kept of the sheet now."""
         return Saved(self.cells, self.widths, self.hidden, self.names, self.settings).copy()
 
     def keep(self):
+        """What undo keeps of the sheet now."""
         return KeptState(self.snapshot(), self.circ, self.stale)
 
     def put_back(self, kept):
@@ -274,26 +287,32 @@ class Sheet:
     # ---- looking ----
 
     def graph(self):
+        """Which formula reads which, made anew behind each edit."""
         if self._graph is None:
             self._graph = Graph(self.cells)
         return self._graph
 
     def state(self, cell):
+        """The state of a cell, also of one that is absent."""
         return self.cells.get(cell) or State()
 
     def value(self, cell):
+        """The value of a cell."""
         s = self.cells.get(cell)
         return BLANK if s is None else s.value
 
     def content(self, cell):
+        """The content of a cell."""
         s = self.cells.get(cell)
         return C_BLANK if s is None else s.content
 
     def format(self, cell):
+        """The format byte of a cell."""
         s = self.cells.get(cell)
         return DEFAULT_FORMAT if s is None else s.format
 
     def width(self, col):
+        """The width of a column, its own or the sheet's."""
         return self.widths.get(col, self.settings.width)
 
     def filled(self, span):
@@ -320,18 +339,23 @@ class Sheet:
         return b''
 
     def own_width(self, col):
+        """The width of a column of its own, or None."""
         return self.widths.get(col)
 
     def last_used(self):
+        """The last column and row that hold a cell, or None."""
         return last_used(self.cells)
 
     def is_hidden(self, col):
+        """Whether a column is hidden."""
         return col in self.hidden
 
     def is_circular(self):
+        """Whether the last recalculation met a circle."""
         return self.circ
 
     def is_stale(self):
+        """Whether contents were edited since the last recalculation."""
         return self.stale
 
     # ---- refusals ----
@@ -353,6 +377,7 @@ class Sheet:
             self.cells[cell] = State(content, value, fmt)
 
     def _write(self, cell, content, fmt=None):
+        """Puts a content with its first value, and a format byte or the cell's own."""
         self._put(cell, content, first_value(content), self.format(cell) if fmt is None else fmt)
 
     def _edited(self, written):
@@ -364,9 +389,11 @@ class Sheet:
             span = written
 
             def is_written(cell):
+                """Whether a cell is written."""
                 return in_span(cell, span)
 
             def touches(s):
+                """Whether a span that is read holds a written cell."""
                 return not (s[1][0] < span[0][0] or span[1][0] < s[0][0]
                             or s[1][1] < span[0][1] or span[1][1] < s[0][1])
         else:
@@ -381,12 +408,14 @@ class Sheet:
         self.dirty = {c for c in self.dirty if c in graph.is_formula} | graph.reaching(seeds)
 
     def _all_dirty(self):
+        """All formulas are dirty."""
         self._graph = None
         self.dirty = set(self.graph().formulas)
 
     # ---- edits ----
 
     def enter(self, cell, content):
+        """Writes a content into a cell."""
         self._test_protected([cell])
         self._write(cell, content)
         self._edited((cell, cell))
@@ -412,6 +441,7 @@ class Sheet:
         return span_at(to[0], width, height)
 
     def copy_span(self, source, to):
+        """Copy: contents and format bytes; the values are those that new contents have."""
         target = self.copy_target(source, to)
         if target is None:
             raise SheetFault('OutOfSheet', source)
@@ -424,6 +454,7 @@ class Sheet:
         self._edited(target)
 
     def _write_values(self, source, to, turn):
+        """Writes the values of a span, which may be turned round its corner."""
         w, h = width_of(source), height_of(source)
         target = span_at(to, h, w) if turn else span_at(to, w, h)
         if target is None:
@@ -437,9 +468,11 @@ class Sheet:
         self._edited(target)
 
     def value_span(self, source, to):
+        """Range Value."""
         self._write_values(source, to, False)
 
     def transpose(self, source, to):
+        """Range Transpose."""
         self._write_values(source, to, True)
 
     def shift(self, source, to):
@@ -467,6 +500,7 @@ class Sheet:
         self._all_dirty()
 
     def _move_names(self, where):
+        """Names follow their spans."""
         names = Names()
         for name, span in self.names.items():
             new = where(span)
@@ -484,6 +518,7 @@ class Sheet:
         self._edited({w[0] for w in writes})
 
     def _lines(self, change):
+        """Rows or columns are inserted or deleted, as a change tells."""
         kind, first, count = change
         rows = kind.endswith('Rows')
         if self.settings.protection:  # it names the first cell of the first line
@@ -513,20 +548,25 @@ class Sheet:
         self._all_dirty()
 
     def insert_rows(self, at, count):
+        """Inserts rows before a row."""
         self._lines(('InsertRows', at, count))
 
     def insert_columns(self, at, count):
+        """Inserts columns before a column."""
         self._lines(('InsertColumns', at, count))
 
     def delete_rows(self, at, count):
+        """Deletes rows from a row on."""
         self._lines(('DeleteRows', at, count))
 
     def delete_columns(self, at, count):
+        """Deletes columns from a column on."""
         self._lines(('DeleteColumns', at, count))
 
     # ---- changes that write no content ----
 
     def _set_byte(self, cell, fmt):
+        """Gives a cell a format byte; a blank cell with byte FF isn't kept."""
         s = self.state(cell)
         if s.content == C_BLANK and fmt == DEFAULT_FORMAT:
             self.cells.pop(cell, None)
@@ -541,22 +581,27 @@ class Sheet:
             self._set_byte(cell, self.format(cell) & 0x80 | code & 0x7F)
 
     def set_protected(self, span, protected):
+        """Sets bit 7 or takes it away."""
         for cell in cells_of(span):
             self._set_byte(cell, self.format(cell) & 0x7F | (0x80 if protected else 0))
 
     def set_width(self, col, width):
+        """Gives a column a width of its own, or takes it away."""
         if width is None:
             self.widths.pop(col, None)
         else:
             self.widths[col] = width
 
     def create_name(self, name, span):
+        """Names a span."""
         self.names.create(name, span)
 
     def delete_name(self, name):
+        """Takes a name away."""
         self.names.delete(name)
 
     def reset_names(self):
+        """Takes all names away."""
         self.names.reset()
 
     def set_settings(self, settings):
@@ -565,11 +610,13 @@ class Sheet:
         self.settings = settings.copy()
 
     def set_order(self, order):
+        """Another order of evaluation makes all formulas dirty."""
         if order != self.settings.order:
             self.settings.order = order
             self.dirty = set(self.graph().formulas)
 
     def set_hidden(self, first, last, hidden):
+        """Hides columns, or shows them again."""
         assert first <= last
         for col in range(first, last + 1):
             (self.hidden.add if hidden else self.hidden.discard)(col)

@@ -10,7 +10,6 @@ python3 -B -m oracle.stored --make [--seed SEED] [NAME..] [--processes P]
 A line of stored/NAME is a digest and, as in worked/runs, the program's words, its keys and the files of its folder. MAKERS tells what makes
 the runs of each name: a call that takes the random numbers of the seed and the name, and yields them. No run may ask for the moment."""
 import argparse
-import concurrent.futures
 import functools
 import hashlib
 import os
@@ -22,7 +21,8 @@ import sys
 from . import (stored_base, stored_data, stored_files, stored_formulas, stored_numbers, stored_rooms, stored_sheets,
                stored_words)
 from .cases import HERE, SEED
-from .runs import difference, expected, got, prepare, read_run, why_differs
+from .checks import MOST_TOLD, prepare, processes
+from .runs import difference, expected, got, read_run, why_differs
 
 STORED = os.path.join(HERE, 'stored')
 # what makes the runs of each name
@@ -110,7 +110,7 @@ def check(program, names, pool):
     differ = 0
     for name in names:
         bad, count = compared(name, program, pool)
-        for line in bad[:max(5 - differ, 0)]:
+        for line in bad[:max(MOST_TOLD - differ, 0)]:
             print(f'stored: {name}: {why(program, line)}')
         print(f'stored: {name}: {count} runs, {len(bad)} differ')
         differ += len(bad)
@@ -118,6 +118,7 @@ def check(program, names, pool):
 
 
 def main(words):
+    """Makes the stored runs, or compares them."""
     parser = argparse.ArgumentParser(prog='python3 -B -m oracle.stored')
     parser.add_argument('--make', action='store_true')
     parser.add_argument('--seed', default=SEED)
@@ -130,7 +131,7 @@ def main(words):
     if not set(names) <= set(MAKERS):
         parser.error('there are the runs of ' + ', '.join(MAKERS))
     prepare()
-    with concurrent.futures.ProcessPoolExecutor(asked.processes, initializer=prepare) as pool:
+    with processes(asked.processes) as pool:
         if not asked.make:
             return 1 if check(os.path.abspath(program), names or MAKERS, pool) else 0
         for name in names or MAKERS:

@@ -67,6 +67,7 @@ def placed_text(r):
 
 
 def any_leaf(r):
+    """An operand as a line tells it."""
     return r.choice([lambda: b'%d' % r.randrange(LIMIT), lambda: b'%d' % (r.randrange(9) * ONE), lambda: b"'" + b'ab'[:r.randrange(3)],
                      lambda: b'cell ' + cell_text(any_cell(r)),
                      lambda: b'span ' + cell_text(any_cell(r)) + b' ' + cell_text(any_cell(r)),
@@ -106,6 +107,7 @@ def long_tree(r):
 
 
 def any_name(r):
+    """A name, good or bad."""
     return bytes(r.choice(r.choice([b'aAbB', b'12', b' _.$\x1f\xff~'])) for _ in range(r.choice([0, 1, 1, 2, 2, 3, 14, 15, 16])))
 
 

@@ -2,18 +2,15 @@
 
 python3 -B -m oracle.stored_files PROGRAM N [SEED] [--processes P]
     such runs over the files of N sheets, through the program and the oracle"""
-import argparse
-import concurrent.futures
 import functools
-import os
 import random
 import string
 import sys
 
 from .address import row_order
-from .cases import SEED
+from .checks import ended, parser, prepare, processes
 from .files import SHEETS, all_files, saved_of
-from .runs import Run, prepare, run_differs
+from .runs import Run, run_differs
 from .stored_parts import goto
 
 # the names of a folder's files; what is saved of them has a second letter
@@ -77,21 +74,14 @@ def files(r):
 
 
 def main(words):
-    parser = argparse.ArgumentParser(prog='python3 -B -m oracle.stored_files')
-    parser.add_argument('program', type=os.path.abspath)
-    parser.add_argument('count', type=int)
-    parser.add_argument('seed', nargs='?', default=SEED)
-    parser.add_argument('--processes', type=int)
-    asked = parser.parse_args(words)
+    """Compares runs over new files."""
+    asked = parser('stored_files').parse_args(words)
     prepare()
-    with concurrent.futures.ProcessPoolExecutor(asked.processes, initializer=prepare) as pool:
+    with processes(asked.processes) as pool:
         made = runs(random.Random(f'{asked.seed} files'), asked.count)
         told = list(pool.map(functools.partial(run_differs, asked.program), made, chunksize=5))
-    bad = [why for _, _, why in told if why]
-    for why in bad[:5]:
-        print(why)
-    print(f'files: {len(told)} runs over the files of {asked.count} sheets and as many others, {len(bad)} differ')
-    return 1 if bad else 0
+    return ended([why for _, _, why in told if why],
+                 f'files: {len(told)} runs over the files of {asked.count} sheets and as many others')
 
 
 if __name__ == '__main__':

@@ -62,6 +62,7 @@ def by_letter(r):
 
 
 def whole_numbers(line):
+    """The whole numbers of a line."""
     return [int(word) for word in line.split(b' ')]
 
 

@@ -14,6 +14,7 @@ LONGEST = 240
 
 
 def goto(cell):
+    """Keys that go to a cell."""
     return b'{GOTO}' + cell_text(cell) + b'~'
 
 
@@ -64,10 +65,12 @@ EMPTY = bytes.fromhex('00000200060401000000')
 
 
 def of_number(value, code=DEFAULT_FORMAT):
+    """The state of a cell with a number."""
     return State(('number', value), num(value), code)
 
 
 def of_label(text, prefix=0x27, code=DEFAULT_FORMAT):
+    """The state of a cell with a label."""
     return State(('label', prefix, text), string(text), code)
 
 

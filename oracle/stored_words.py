@@ -16,6 +16,7 @@ STEPS = 400
 
 
 def key_word(r):
+    """A word of keys."""
     name = r.choice([n for _, ns in KEYS for n in ns])
     return r.choice([
         lambda: b'{' + any_case(r, name) + b'}', lambda: b'{' + any_case(r, name) + b'}',
@@ -27,6 +28,7 @@ def key_word(r):
 
 
 def macro_word(r):
+    """A word of a macro's text."""
     listed = lambda: b' ' + r.choice([b',', b';']).join(r.choice(ARGUMENTS) for _ in range(r.randrange(1, 4)))
     args = lambda: r.choice([b'', b' ', listed()])
     return r.choice([

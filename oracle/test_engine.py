@@ -1086,68 +1086,93 @@ def test_dates():
         assert dates.seconds_of(dates.fraction_of(s)) == s
 
 
-def test_walk_against_recursion():
-    """The natural order by recursion, and what holds of dirty formulas over random edits (the checks of ORACLE_CHECK)."""
-    from . import sheet as module
-    module.CHECK = True
-    r = random.Random(6)
-    places = [(c, w) for c in range(3) for w in range(4)]
+PLACES = [(c, w) for c in range(3) for w in range(4)]
 
-    def walk(g, path, done, c, mark):
+
+def walked(g):
+    """The natural order by recursion, and whether a circle was met."""
+    mark = []
+
+    def walk(path, done, c):
+        """The order so far, and a formula behind what it reads."""
         if c in done:
             return done
         if c in path:
             mark.append(c)
             return done
         for d in g.pre[c]:
-            done = walk(g, path + [c], done, d, mark)
+            done = walk(path + [c], done, d)
         return done + [c]
 
+    done = []
+    for f in g.formulas:
+        done = walk([], done, f)
+    return done, bool(mark)
+
+
+def reach_themselves(g):
+    """The formulas that reach themselves, by definition."""
+    own = set()
+    for f in g.formulas:
+        seen, todo = set(), list(g.pre[f])
+        while todo:
+            d = todo.pop()
+            if d not in seen:
+                seen.add(d)
+                todo += g.pre[d]
+        if f in seen:
+            own.add(f)
+    return own
+
+
+def typed_in(r, b, name, other):
+    """A formula or another content is typed."""
+    many = [lambda: r.choice(['+%s+%s*2', '@SUM(%s..%s)', '@IF(%s>3,%s,1)', '@COUNT(%s,%s)&"x"']) % tuple(other[:2])] * 4
+    many += [lambda: r.choice(['@NOW', '@CELLPOINTER("row")', '@@("%s")' % other[0], '@CELL("contents",%s)' % other[0]])]
+    many += [lambda: r.choice(['5', 'lab', '-1.5'])] * 2
+    b.type(name, r.choice(many)())
+
+
+def changed_in(r, b, c, other):
+    """A command changes the sheet, its order, or what is evaluated."""
+    block = span(other[0] + '.' + other[1])
+    line = lambda: getattr(b.s, r.choice(['insert_rows', 'delete_rows', 'insert_columns', 'delete_columns']))(r.randrange(3), 1)
+    edit = r.choice([lambda: b.s.erase(block), lambda: b.s.copy_span(block, (c, c)), lambda: b.s.shift(block, c), line, None])
+    if edit:
+        edit()
+        b.after()
+    else:
+        r.choice([lambda: b.s.set_order(r.choice(['natural', 'columnwise', 'rowwise'])), b.calc,
+                  lambda: b.s.recalc_span(block, r.random() < 0.5, b.sc(), b.t), lambda: b.s.put_back(b.s.keep())])()
+
+
+def settled(r, b):
+    """A sheet in either mode, of some passes."""
+    settings = b.s.settings.copy()
+    settings.automatic = r.random() < 0.7
+    settings.passes = r.choice([1, 1, 2, 5])
+    b.s.set_settings(settings)
+
+
+def test_walk_against_recursion():
+    """The natural order by recursion, and what holds of dirty formulas over random edits (the checks of ORACLE_CHECK)."""
+    from . import sheet as module
+    module.CHECK = True
+    r = random.Random(6)
     for _ in range(150):
         b = Bed()
-        st = b.s.settings.copy(); st.automatic = r.random() < 0.7; st.passes = r.choice([1, 1, 2, 5]); b.s.set_settings(st)
+        settled(r, b)
         for _ in range(25):
-            k = r.randrange(12)
-            c = r.choice(places)
-            name = address.cell_text(c).decode()
-            other = [address.cell_text(r.choice(places)).decode() for _ in range(3)]
-            if k < 4:
-                b.type(name, r.choice(['+%s+%s*2', '@SUM(%s..%s)', '@IF(%s>3,%s,1)', '@COUNT(%s,%s)&"x"']) % tuple(other[:2]))
-            elif k == 4:
-                b.type(name, r.choice(['@NOW', '@CELLPOINTER("row")', '@@("%s")' % other[0], '@CELL("contents",%s)' % other[0]]))
-            elif k < 7:
-                b.type(name, r.choice(['5', 'lab', '-1.5']))
-            elif k == 7:
-                b.s.erase(span(other[0] + '.' + other[1])); b.after()
-            elif k == 8:
-                b.s.copy_span(span(other[0] + '.' + other[1]), (c, c)); b.after()
-            elif k == 9:
-                b.s.shift(span(other[0] + '.' + other[1]), c); b.after()
-            elif k == 10:
-                which = r.choice(['insert_rows', 'delete_rows', 'insert_columns', 'delete_columns'])
-                getattr(b.s, which)(r.randrange(3), 1); b.after()
+            c = r.choice(PLACES)
+            other = [address.cell_text(r.choice(PLACES)).decode() for _ in range(3)]
+            if r.randrange(12) < 7:
+                typed_in(r, b, address.cell_text(c).decode(), other)
             else:
-                r.choice([lambda: b.s.set_order(r.choice(['natural', 'columnwise', 'rowwise'])), b.calc,
-                          lambda: b.s.recalc_span(span(other[0] + '.' + other[1]), r.random() < 0.5, b.sc(), b.t),
-                          lambda: b.s.put_back(b.s.keep())])()
+                changed_in(r, b, c, other)
             b.s.check(b.sc())
             g = Graph(b.s.cells)
-            done, mark = [], []
-            for f in g.formulas:
-                done = walk(g, [], done, f, mark)
-            assert g.natural() == (done, bool(mark))
-            # reaches itself, by definition
-            own = set()
-            for f in g.formulas:
-                seen, todo = set(), list(g.pre[f])
-                while todo:
-                    d = todo.pop()
-                    if d not in seen:
-                        seen.add(d)
-                        todo += g.pre[d]
-                if f in seen:
-                    own.add(f)
-            assert own == g.on_circles()
+            assert g.natural() == walked(g)
+            assert reach_themselves(g) == g.on_circles()
             assert wk1.read(wk1.write(b.s.snapshot())) == b.s.snapshot()
     module.CHECK = False
 

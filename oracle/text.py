@@ -23,6 +23,7 @@ def check(data):
 
 
 def is_text(data):
+    """Whether bytes are a text."""
     try:
         check(data)
     except TextFault:
@@ -36,6 +37,7 @@ def fold_byte(byte):
 
 
 def fold(data):
+    """A text in capitals."""
     return bytes(fold_byte(b) for b in data)
 
 
@@ -46,18 +48,22 @@ def fold_cmp(a, b):
 
 
 def is_letter(byte):
+    """Whether a byte is one of the 52 letters."""
     return 65 <= byte <= 90 or 97 <= byte <= 122
 
 
 def is_digit(byte):
+    """Whether a byte is a digit."""
     return 48 <= byte <= 57
 
 
 def upper(data):
+    """A text in capitals."""
     return fold(data)
 
 
 def lower(data):
+    """A text in small letters."""
     return bytes(b + 32 if 65 <= b <= 90 else b for b in data)
 
 

@@ -6,10 +6,12 @@ NA = ('na',)
 
 
 def num(millionths):
+    """A number's value."""
     return ('num', millionths)
 
 
 def string(data):
+    """A text's value."""
     return ('str', bytes(data))
 
 

@@ -21,6 +21,9 @@ DEEDS = [b'{DOWN}', b'{RIGHT 9}', b'{GOTO}B30~', b'{PGDN}', b'{LET A1,A1+1}', b'
          b'/RFF2~A1..B2~', b'/REA1~', b'/WIRA1~', b'/WGC7~', b'{CALC}', b'{END}{DOWN}', b'{HOME}', b'/WGRM', b'{LET A2,1}', b'/', b'{ESC}', b'/R', b'5', b'{EDIT}',
          b'1+~{ESC 2}', b'/RNCTOTAL~A1..A3~', b'/WCHC1~']
 FAILS = [b'/FRNONE~', b'/RNDNONE~', b'{QUERY}', b'/WCS0~', b'/DSG']
+# what WAIT waits for
+UNTIL = [b'@NOW', b'@NOW+@TIME(0,0,1)', b'@NOW+@TIME(0,0,3)', b'@NOW+@TIME(0,1,0)', b'A1', b'A1+@TIME(0,0,2)', b'@INT(@NOW)+@TIME(14,5,3)', b'@DATE(87,6,1)+@TIME(14,5,4)',
+         b'@NOW-1', b'@NOW+1/86400', b'@NOW+0.000034', b'+A1+A2', b'0', b'-1', b'31929.586840', b'99999', b'@TODAY+@TIME(23,59,59)', b'@NA', b'@ERR', b'"x"', b'1/0']
 TEXTS = [b'"WAIT"', b'"busy now"', b'', b'""', b'"a,b"', b'+"c"&B1', b'"a long text here"', b'B1', b'5', b'plain', b'"e":string', b'7:string']
 
 
@@ -32,11 +35,13 @@ class Waits:
         self.keys = b''
 
     def place(self):
+        """A place, seldom none."""
         r = self.r
         return r.choice([b'NONE', b'$A$1', b'A1..B2', b' A1', b'IV8192', b'A8193']) if r.randrange(20) == 0 else r.choice(
             [b'A1', b'A2', b'B1', b'B2', b'COUNT', b'TABLE', b'C3', b'a1', b'D1', b'D2', b'D3'])
 
     def deeds(self, most):
+        """Some of what a macro does."""
         return b''.join(self.r.choice(DEEDS) for _ in range(self.r.randrange(most + 1)))
 
     def switched(self):
@@ -46,10 +51,12 @@ class Waits:
     # ------------------------------------------------------------ questions
 
     def prompt(self):
+        """A prompt's text, seldom none."""
         r = self.r
         return r.choice([b'"Name: "', b'Name', b'"Amount, net: "', b'+"N"&B1', b'""', b'B1', b'N:string', b'"' + b'p' * r.choice([60, 75, 85]) + b'"', b'1', b'@NA'])
 
     def question(self):
+        """A word that asks."""
         r, place = self.r, self.place()
         plain = r.choice([b'Name', b'Amount: ', b'', b'"quoted"', b'a,b', b'N}'])
         return r.choice([
@@ -172,7 +179,29 @@ class Waits:
         return {b'D1': first, b'D2': r.choice([b'{LET A2,2}', b'+"{GETLABEL ""P ""&B1&"",A1}"', b'@IF(A1>2,"{GET A2}","{GETNUMBER ""N "",A1}{BRANCH D2}")', b'']),
                 b'J1': r.choice([b"'Go", b'+"Go"', b"'{LET A1,1}"]), b'J2': b'+"below "&@STRING(A1,0)', b'J3': r.choice([b"'{LET J1,5}{MENUBRANCH J1}", b"'{LET A1,1}"]), b'E1': b'{GET E1}'}
 
+    # ------------------------------------------------------------ a stated clock
+
+    def until(self):
+        """WAIT for what mostly comes."""
+        r = self.r
+        return b'{' + r.choice([b'WAIT', b'WAIT', b'wait']) + b' ' + r.choice(UNTIL[:10] if r.randrange(3) else UNTIL) + b'}'
+
+    def timed(self):
+        """WAIT while a clock goes on, stands, is set back or can't be read, in loops, in what is called, between questions and where the screen
+        stands still; its number may be written anew meanwhile, and so may its own text."""
+        r = self.r
+        self.keys = r.choice([b'', b'', self.line(), self.choice(), b'{BREAK}', b'12~~', b'{DOWN}~', b'{CALC}~'])
+        part = lambda: r.choice([self.until, self.until, self.until, lambda: self.deeds(1), lambda: r.choice(SWITCHES), self.question, lambda: b'{?}',
+                                 lambda: b'{LET A1,@NOW}', lambda: b'{RECALC A1..C3}', lambda: b'{INDICATE ' + r.choice(TEXTS) + b'}'])()
+        again = r.choice([b'', b'', b'{LET A3,A3+1}{IF A3<3}{BRANCH D1}', b'{SUB}', b'{FOR A3,1,2,1,SUB}', b'{LET B1,@NOW}', b'{MENUBRANCH J1}'])
+        return {b'D1': r.choice([b'', b'', b'{ONERROR D3,A2}', b'{BREAKOFF}', b'/WGRM', b'{WINDOWSOFF}{PANELOFF}', b'{LET A1,@NOW}']) + self.until() + part(), b'D2': part() + again,
+                b'D3': r.choice([b'{LET C3,C3+1}', self.until(), b'', b'+"{WAIT "&@STRING(A1,6)&"}{LET C2,9}"', b'@IF(@NOW>A1,"{LET B3,1}","{WAIT @NOW+0.00002}")']),
+                b'E1': self.until() + part(), b'A1': r.choice([b'@NOW', b'+@NOW+@TIME(0,0,2)', b'31929.586840', b'1', b'text']),
+                b'A2': r.choice([b'0.00002', b'@TIME(0,0,1)', b'-1', b'']), b'J1': b"'Go", b'K1': b'+"at "&@STRING(@NOW,4)', b'J3': b"'" + self.until(),
+                b'K3': b"'" + self.until() + b'{QUIT}'}
+
     def program(self):
+        """Any of these, by its cells."""
         r = self.r
         return r.choice([self.asked] * 4 + [self.looped] * 2 + [self.menued] * 4 + [self.handed] * 3 + [self.frozen] * 5 + [self.indicated] * 2 + [self.unbroken] * 3
                         + [self.rewritten] * 2)()

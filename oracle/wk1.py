@@ -46,10 +46,12 @@ class CodeFault(Exception):
 
 
 def u16(data, at):
+    """Two bytes as a number from 0."""
     return data[at] | data[at + 1] << 8
 
 
 def i16(data, at):
+    """Two bytes as a number with a sign."""
     v = u16(data, at)
     return v - 65536 if v >= 32768 else v
 
@@ -80,130 +82,170 @@ def _axis(v, size, mask):
 
 
 def _ref(code, at):
+    """The reference at a place, or None."""
     col = _axis(u16(code, at), COLS, 0xFF)
     row = _axis(u16(code, at + 2), ROWS, 0x1FFF)
     return None if col is None or row is None else (col, row)
 
 
+def _bracket(node):
+    """A tree in brackets."""
+    return _Node(('group', node.expr), [node])
+
+
+def _number(v):
+    """A negative number becomes minus in front of its size."""
+    if v < 0:
+        inner = _Node(('num', -v))
+        return _Node(('neg', inner.expr), [inner], formula.NEG_LEVEL)
+    return _Node(('num', v))
+
+
+class _Codes:
+    """Reads a code into the tree of its formula, by a stack; `at` is where the present one begins. Each reader answers how many bytes it
+    took."""
+
+    def __init__(self, code):
+        self.code, self.at, self.stack = bytes(code), 0, []
+
+    def bad(self):
+        """The fault of the present code."""
+        return CodeFault('Bad', self.at)
+
+    def need(self, size):
+        """So many bytes, or it is cut short."""
+        if self.at + size > len(self.code):
+            raise self.bad()
+        return size
+
+    def take(self, count):
+        """So many operands from the stack."""
+        if len(self.stack) < count:
+            raise self.bad()
+        at = len(self.stack) - count
+        parts = self.stack[at:]
+        del self.stack[at:]
+        return parts
+
+    def reference(self, at):
+        """The reference so far behind the present code."""
+        ref = _ref(self.code, self.at + at)
+        if ref is None:
+            raise self.bad()
+        return ref
+
+    def double(self):
+        """A number of eight bytes."""
+        size = self.need(9)
+        got = fixed.from_double_bits(int.from_bytes(self.code[self.at + 1:self.at + 9], 'little'))
+        if got == fixed.TOO_LARGE:
+            raise CodeFault('TooLarge')
+        self.stack.append(_Node(ERR_EXPR) if got == 'ERR' else _Node(NA_EXPR) if got == 'NA' else _number(got))
+        return size
+
+    def cell(self):
+        """A cell."""
+        size = self.need(5)
+        self.stack.append(_Node(('cell', self.reference(1))))
+        return size
+
+    def span(self):
+        """A span."""
+        size = self.need(9)
+        self.stack.append(_Node(('span', self.reference(1), self.reference(5))))
+        return size
+
+    def group(self):
+        """Brackets."""
+        self.stack.append(_bracket(*self.take(1)))
+        return 1
+
+    def integer(self):
+        """A whole number of two bytes."""
+        size = self.need(3)
+        self.stack.append(_number(i16(self.code, self.at + 1) * fixed.ONE))
+        return size
+
+    def string(self):
+        """A text up to its zero."""
+        end = self.code.find(b'\0', self.at + 1)
+        data = self.code[self.at + 1:end]
+        if end < 0 or not text.is_text(data) or b'"' in data:
+            raise self.bad()
+        self.stack.append(_Node(('str', data)))
+        return end + 1 - self.at
+
+    def plus(self):
+        """Plus in front is dropped."""
+        self.stack.extend(self.take(1))
+        return 1
+
+    def front(self):
+        """Minus in front, or NOT."""
+        kind, level = ('neg', formula.NEG_LEVEL) if self.code[self.at] == 0x08 else ('not', formula.NOT_LEVEL)
+        (inner,) = self.take(1)
+        if not formula.front_ok(level, inner.expr):
+            inner = _bracket(inner)
+        self.stack.append(_Node((kind, inner.expr), [inner], min(level, inner.edge)))
+        return 1
+
+    def binary(self):
+        """An operator, with one bracket round each direct operand that would break well-bracketing there."""
+        left, right = self.take(2)
+        name = BINARY[self.code[self.at]]
+        level = formula.LEVEL[name]
+        if left.edge < level:
+            left = _bracket(left)
+        if not formula.right_ok(name, right.expr):
+            right = _bracket(right)
+        self.stack.append(_Node(('bin', name, left.expr, right.expr), [left, right], min(level, right.edge)))
+        return 1
+
+    def function(self):
+        """A function of its arguments, which a byte counts where there may be more or fewer."""
+        op, size = self.code[self.at], 1
+        _, least, most = formula.FUNCTIONS[op]
+        count = least
+        if op in formula.COUNTED:
+            size = self.need(2)
+            count = self.code[self.at + 1]
+            if not least <= count <= most:
+                raise self.bad()
+        args = self.take(count)
+        self.stack.append(_Node(('call', op, [arg.expr for arg in args]), args))
+        return size
+
+    def unknown(self):
+        """A function that is left out, or nothing that is known."""
+        if self.code[self.at] in formula.LEFT_OUT:
+            raise CodeFault('Outside', self.code[self.at])
+        raise self.bad()
+
+    def end(self):
+        """The tree at the end."""
+        if len(self.stack) != 1 or self.stack[0].size + 1 > 65520:
+            raise self.bad()
+        if self.stack[0].depth > 256:
+            raise CodeFault('TooDeep')
+        return self.stack[0].expr
+
+
+READERS = {0x00: _Codes.double, 0x01: _Codes.cell, 0x02: _Codes.span, 0x04: _Codes.group, 0x05: _Codes.integer, 0x06: _Codes.string,
+           0x08: _Codes.front, 0x16: _Codes.front, 0x17: _Codes.plus, **dict.fromkeys(BINARY, _Codes.binary),
+           **dict.fromkeys(formula.FUNCTIONS, _Codes.function)}
+END_OF_CODE = 0x03
+
+
 def read_code(code):
     """The tree of a code, or CodeFault: the fault at the least offset; TooDeep only where there is no
     other."""
-    code = bytes(code)
-    stack = []
-    at = 0
-
-    def bad():
-        return CodeFault('Bad', at)
-
-    def need(n):
-        if at + n > len(code):
-            raise bad()  # cut short
-
-    def take(n):
-        if len(stack) < n:
-            raise bad()  # lacks operands
-        parts = stack[len(stack) - n:]
-        del stack[len(stack) - n:]
-        return parts
-
-    def bracket(node):
-        return _Node(('group', node.expr), [node])
-
-    def number(v):
-        """A negative number becomes minus in front of its size."""
-        if v < 0:
-            inner = _Node(('num', -v))
-            return _Node(('neg', inner.expr), [inner], formula.NEG_LEVEL)
-        return _Node(('num', v))
-
-    while True:
-        if at >= len(code):
-            raise CodeFault('Bad', len(code))  # no 03 comes: the code's size
-        op = code[at]
-        size = 1
-        if op == 0x00:
-            need(9)
-            got = fixed.from_double_bits(int.from_bytes(code[at + 1:at + 9], 'little'))
-            if got == fixed.TOO_LARGE:
-                raise CodeFault('TooLarge')
-            if got == 'ERR':
-                stack.append(_Node(ERR_EXPR))
-            elif got == 'NA':
-                stack.append(_Node(NA_EXPR))
-            else:
-                stack.append(number(got))
-            size = 9
-        elif op == 0x01:
-            need(5)
-            ref = _ref(code, at + 1)
-            if ref is None:
-                raise bad()
-            stack.append(_Node(('cell', ref)))
-            size = 5
-        elif op == 0x02:
-            need(9)
-            first, last = _ref(code, at + 1), _ref(code, at + 5)
-            if first is None or last is None:
-                raise bad()
-            stack.append(_Node(('span', first, last)))
-            size = 9
-        elif op == 0x03:
-            if len(stack) != 1 or stack[0].size + 1 > 65520:
-                raise bad()
-            if stack[0].depth > 256:
-                raise CodeFault('TooDeep')
-            return stack[0].expr
-        elif op == 0x04:
-            (inner,) = take(1)
-            stack.append(bracket(inner))
-        elif op == 0x05:
-            need(3)
-            stack.append(number(i16(code, at + 1) * fixed.ONE))
-            size = 3
-        elif op == 0x06:
-            end = code.find(b'\0', at + 1)
-            if end < 0:
-                raise bad()
-            data = code[at + 1:end]
-            if not text.is_text(data) or b'"' in data:
-                raise bad()
-            stack.append(_Node(('str', data)))
-            size = end + 1 - at
-        elif op == 0x17:
-            take_one = take(1)  # plus in front: dropped
-            stack.extend(take_one)
-        elif op in (0x08, 0x16):
-            (inner,) = take(1)
-            level = formula.NEG_LEVEL if op == 0x08 else formula.NOT_LEVEL
-            if not formula.front_ok(level, inner.expr):
-                inner = bracket(inner)
-            stack.append(_Node(('neg' if op == 0x08 else 'not', inner.expr), [inner], min(level, inner.edge)))
-        elif op in BINARY:
-            left, right = take(2)
-            name = BINARY[op]
-            level = formula.LEVEL[name]
-            # one bracket round each direct operand that would break well-bracketing there
-            if left.edge < level:
-                left = bracket(left)
-            if not formula.right_ok(name, right.expr):
-                right = bracket(right)
-            stack.append(_Node(('bin', name, left.expr, right.expr), [left, right], min(level, right.edge)))
-        elif op in formula.FUNCTIONS:
-            _, least, most = formula.FUNCTIONS[op]
-            count = least
-            if op in formula.COUNTED:
-                need(2)
-                count = code[at + 1]
-                size = 2
-                if not least <= count <= most:
-                    raise bad()
-            args = take(count)
-            stack.append(_Node(('call', op, [a.expr for a in args]), args))
-        elif op in formula.LEFT_OUT:
-            raise CodeFault('Outside', op)
-        else:
-            raise bad()  # unknown
-        at += size
+    codes = _Codes(code)
+    while codes.at < len(codes.code):
+        op = codes.code[codes.at]
+        if op == END_OF_CODE:
+            return codes.end()
+        codes.at += READERS.get(op, _Codes.unknown)(codes)
+    raise codes.bad()                        # no 03 comes: the code's size
 
 
 def _written_ref(ref, at):
@@ -217,6 +259,7 @@ def _written_ref(ref, at):
 
 
 def _write_tree(expr, at):
+    """The code of a tree without its end."""
     kind = expr[0]
     if kind == 'num':
         if formula.is_short(expr[1]):
@@ -239,6 +282,7 @@ def _write_tree(expr, at):
 
 
 def write_code(expr, at):
+    """The code of a formula."""
     out = _write_tree(expr, at) + b'\x03'
     assert len(out) == formula.code_size(expr)
     return out
@@ -267,130 +311,177 @@ def _records(data):
         number += 1
 
 
-def _text(body, record):
-    """F5: no 00, more than 240 bytes of text, or a byte below 32."""
-    end = body.find(b'\0')
-    if end < 0:
-        raise Wk1Fault(5, record)
-    return body[:end]
-
-
 def _double(body):
+    """The number of eight bytes."""
     return fixed.from_double_bits(int.from_bytes(body, 'little'))
 
 
+class _File:
+    """Reads the records of a file into a saved sheet. `body` is that of the present record; a cell's record begins with its format and its
+    place."""
+
+    def __init__(self):
+        self.saved = Saved()
+        self.settings = self.saved.settings
+        self.number, self.body, self.format, self.cell = 0, b'', None, None
+        # number and cell of the latest FORMULA
+        self.last_formula = None
+
+    def fault(self, number, *more):
+        """A fault of the present record."""
+        return Wk1Fault(number, self.number, *more)
+
+    def take(self, number, kind, body):
+        """A record; those of other types are passed over."""
+        if kind not in LEAST:
+            return
+        self.number, self.body = number, body
+        if len(body) < LEAST[kind] or kind == FORMULA and len(body) < 15 + u16(body, 13):
+            raise self.fault(3)
+        if kind in HEADED:
+            self.format, self.cell = body[0], (u16(body, 1), u16(body, 3))
+            if self.cell[0] >= COLS or self.cell[1] >= ROWS:
+                raise self.fault(4)
+        if kind in TAKERS:
+            TAKERS[kind](self)
+
+    def put(self, content, value):
+        """A later cell record for a cell replaces the earlier one; a blank cell of format FF isn't kept."""
+        if content == C_BLANK and self.format == DEFAULT_FORMAT:
+            self.saved.cells.pop(self.cell, None)
+        else:
+            self.saved.cells[self.cell] = State(content, value, self.format)
+
+    def text(self):
+        """The text of a cell's record: F5 where there is no 00, more than 240 bytes of text, or a byte below 32."""
+        end = self.body.find(b'\0', 5)
+        if end < 0:
+            raise self.fault(5)
+        return self.body[5:end]
+
+    def mode(self):
+        """CALCMODE."""
+        self.settings.automatic = self.body[0] != 0
+
+    def order(self):
+        """CALCORDER."""
+        self.settings.order = {0x01: 'columnwise', 0xFF: 'rowwise'}.get(self.body[0], 'natural')
+
+    def window(self):
+        """WINDOW1: pointer, format and width."""
+        pointer, width = (u16(self.body, 0), u16(self.body, 2)), u16(self.body, 6)
+        self.settings.pointer = pointer if pointer[0] < COLS and pointer[1] < ROWS else (0, 0)
+        self.settings.format = self.body[4]
+        self.settings.width = width if 1 <= width <= 240 else 9
+
+    def width(self):
+        """COLW1."""
+        col, width = u16(self.body, 0), self.body[2]
+        if col < COLS and 1 <= width <= 240:
+            self.saved.widths[col] = width
+
+    def hidden(self):
+        """HIDVEC1: a later one replaces an earlier one."""
+        self.saved.hidden = {col for col in range(COLS) if self.body[col // 8] >> (col % 8) & 1}
+
+    def name(self):
+        """NAME."""
+        end = self.body.find(b'\0', 0, 16)
+        if end < 0:
+            raise self.fault(9)
+        try:
+            names_.check(self.body[:end])
+        except names_.NameFault:
+            raise self.fault(9)
+        first, last = (u16(self.body, 16), u16(self.body, 18)), (u16(self.body, 20), u16(self.body, 22))
+        if max(first[0], last[0]) >= COLS or max(first[1], last[1]) >= ROWS or ordered(first, last) != (first, last):
+            raise self.fault(10)
+        self.saved.names.create(self.body[:end], (first, last))
+
+    def protection(self):
+        """PROTEC."""
+        self.settings.protection = self.body[0] != 0
+
+    def prefix(self):
+        """LABELFMT."""
+        self.settings.prefix = self.body[0] if self.body[0] in b"'\"^" else 0x27
+
+    def passes(self):
+        """CALCCOUNT."""
+        self.settings.passes = min(max(self.body[0], 1), 50)
+
+    def blank(self):
+        """BLANK."""
+        self.put(C_BLANK, BLANK)
+
+    def integer(self):
+        """INTEGER."""
+        v = i16(self.body, 5) * fixed.ONE
+        self.put(('number', v), num(v))
+
+    def real(self):
+        """NUMBER."""
+        v = _double(self.body[5:13])
+        if v == fixed.TOO_LARGE:
+            raise self.fault(6)
+        if v in ('ERR', 'NA'):
+            self.put(('formula', ERR_EXPR if v == 'ERR' else NA_EXPR), ERR if v == 'ERR' else NA)
+        else:
+            self.put(('number', v), num(v))
+
+    def label(self):
+        """LABEL: without a prefix it has the apostrophe's."""
+        held, prefix = self.text(), 0x27
+        if held and held[0] in PREFIXES:
+            prefix, held = held[0], held[1:]
+        if not text.is_text(held):
+            raise self.fault(5)
+        self.put(('label', prefix, held), string(held))
+
+    def formula(self):
+        """FORMULA, with the fault of its code."""
+        v = _double(self.body[5:13])
+        value = ERR if v in ('ERR', fixed.TOO_LARGE) else NA if v == 'NA' else num(v)
+        try:
+            expr = read_code(self.body[15:15 + u16(self.body, 13)])
+        except CodeFault as fault:
+            number = {'Bad': 7, 'Outside': 8, 'TooLarge': 6, 'TooDeep': 12}[fault.kind]
+            raise self.fault(number, *([fault.payload] if number in (7, 8) else []))
+        self.put(('formula', expr), value)
+        self.last_formula = (self.number, self.cell)
+
+    def string(self):
+        """STRING: the value of the formula before."""
+        held = self.text()
+        if not text.is_text(held):
+            raise self.fault(5)
+        if self.last_formula == (self.number - 1, self.cell):
+            self.saved.cells[self.cell].value = string(held)
+
+
+TAKERS = {CALCMODE: _File.mode, CALCORDER: _File.order, WINDOW1: _File.window, COLW1: _File.width, HIDVEC1: _File.hidden, NAME: _File.name,
+          PROTEC: _File.protection, LABELFMT: _File.prefix, CALCCOUNT: _File.passes, BLANK_R: _File.blank, INTEGER: _File.integer,
+          NUMBER: _File.real, LABEL: _File.label, FORMULA: _File.formula, STRING: _File.string}
+
+
 def read(data):
+    """The sheet that a file saved, or Wk1Fault."""
     data = bytes(data)
     if len(data) > MOST:
         raise Wk1Fault(11)
-    saved = Saved()
-    settings = saved.settings
-    last_formula = None  # (record number, cell) of the latest FORMULA
-    for record, kind, body in _records(data):
-        if kind not in LEAST:
-            continue  # other types are passed over
-        if len(body) < LEAST[kind]:
-            raise Wk1Fault(3, record)
-        if kind == FORMULA and len(body) < 15 + u16(body, 13):
-            raise Wk1Fault(3, record)
-        cell = fmt = None
-        if kind in HEADED:
-            fmt, cell = body[0], (u16(body, 1), u16(body, 3))
-            if cell[0] >= COLS or cell[1] >= ROWS:
-                raise Wk1Fault(4, record)
-
-        def put(content, value):
-            # a later cell record for a cell replaces the earlier one; a blank cell of format FF isn't kept
-            if content == C_BLANK and fmt == DEFAULT_FORMAT:
-                saved.cells.pop(cell, None)
-            else:
-                saved.cells[cell] = State(content, value, fmt)
-
-        if kind == CALCMODE:
-            settings.automatic = body[0] != 0
-        elif kind == CALCORDER:
-            settings.order = {0x01: 'columnwise', 0xFF: 'rowwise'}.get(body[0], 'natural')
-        elif kind == WINDOW1:
-            pointer = (u16(body, 0), u16(body, 2))
-            settings.pointer = pointer if pointer[0] < COLS and pointer[1] < ROWS else (0, 0)
-            settings.format = body[4]
-            width = u16(body, 6)
-            settings.width = width if 1 <= width <= 240 else 9
-        elif kind == COLW1:
-            col, width = u16(body, 0), body[2]
-            if col < COLS and 1 <= width <= 240:
-                saved.widths[col] = width
-        elif kind == HIDVEC1:  # a later one replaces an earlier one
-            saved.hidden = {c for c in range(COLS) if body[c // 8] >> (c % 8) & 1}
-        elif kind == NAME:
-            end = body.find(b'\0', 0, 16)
-            if end < 0:
-                raise Wk1Fault(9, record)
-            try:
-                names_.check(body[:end])
-            except names_.NameFault:
-                raise Wk1Fault(9, record)
-            first, last = (u16(body, 16), u16(body, 18)), (u16(body, 20), u16(body, 22))
-            if (max(first[0], last[0]) >= COLS or max(first[1], last[1]) >= ROWS
-                    or ordered(first, last) != (first, last)):
-                raise Wk1Fault(10, record)
-            saved.names.create(body[:end], (first, last))
-        elif kind == PROTEC:
-            settings.protection = body[0] != 0
-        elif kind == LABELFMT:
-            settings.prefix = body[0] if body[0] in b"'\"^" else 0x27
-        elif kind == CALCCOUNT:
-            settings.passes = min(max(body[0], 1), 50)
-        elif kind == BLANK_R:
-            put(C_BLANK, BLANK)
-        elif kind == INTEGER:
-            v = i16(body, 5) * fixed.ONE
-            put(('number', v), num(v))
-        elif kind == NUMBER:
-            v = _double(body[5:13])
-            if v == fixed.TOO_LARGE:
-                raise Wk1Fault(6, record)
-            if v == 'ERR':
-                put(('formula', ERR_EXPR), ERR)
-            elif v == 'NA':
-                put(('formula', NA_EXPR), NA)
-            else:
-                put(('number', v), num(v))
-        elif kind == LABEL:
-            t = _text(body[5:], record)
-            prefix = 0x27  # no prefix, or empty
-            if t and t[0] in PREFIXES:
-                prefix, t = t[0], t[1:]
-            if not text.is_text(t):
-                raise Wk1Fault(5, record)
-            put(('label', prefix, t), string(t))
-        elif kind == FORMULA:
-            v = _double(body[5:13])
-            value = ERR if v in ('ERR', fixed.TOO_LARGE) else NA if v == 'NA' else num(v)
-            try:
-                expr = read_code(body[15:15 + u16(body, 13)])
-            except CodeFault as fault:
-                if fault.kind == 'Bad':
-                    raise Wk1Fault(7, record, fault.payload)
-                if fault.kind == 'Outside':
-                    raise Wk1Fault(8, record, fault.payload)
-                raise Wk1Fault(6 if fault.kind == 'TooLarge' else 12, record)
-            put(('formula', expr), value)
-            last_formula = (record, cell)
-        elif kind == STRING:
-            t = _text(body[5:], record)
-            if not text.is_text(t):
-                raise Wk1Fault(5, record)
-            if last_formula == (record - 1, cell):
-                saved.cells[cell].value = string(t)
-    return saved
+    file = _File()
+    for number, kind, body in _records(data):
+        file.take(number, kind, body)
+    return file.saved
 
 
 def _record(kind, body=b''):
+    """A record."""
     return kind.to_bytes(2, 'little') + len(body).to_bytes(2, 'little') + body
 
 
 def _u16s(*numbers):
+    """Numbers of two bytes each."""
     return b''.join(n.to_bytes(2, 'little') for n in numbers)
 
 
@@ -405,6 +496,7 @@ def _range_end(saved):
 
 
 def _value_bits(value):
+    """The bits of a formula's value."""
     if value[0] == 'str':
         return TEXT_BITS
     if value == ERR:
@@ -414,45 +506,48 @@ def _value_bits(value):
     return fixed.to_double_bits(value[1]) if value[0] == 'num' else 0
 
 
+def _setting_records(saved):
+    """The records in front of the cells."""
+    s = saved.settings
+    yield _record(BOF, b'\x06\x04')
+    yield _record(RANGE, _u16s(0, 0, *_range_end(saved)))
+    yield _record(CALCCOUNT, bytes([s.passes]))
+    yield _record(CALCMODE, b'\xFF' if s.automatic else b'\x00')
+    yield _record(CALCORDER, {'natural': b'\x00', 'columnwise': b'\x01', 'rowwise': b'\xFF'}[s.order])
+    yield _record(PROTEC, b'\x01' if s.protection else b'\x00')
+    yield _record(LABELFMT, bytes([s.prefix]))
+    yield _record(WINDOW1, _u16s(*s.pointer) + bytes([s.format, 0]) + _u16s(s.width) + bytes(23))
+    for col in sorted(saved.widths):
+        yield _record(COLW1, _u16s(col) + bytes([saved.widths[col]]))
+    if saved.hidden:
+        yield _record(HIDVEC1, sum(1 << col for col in saved.hidden).to_bytes(32, 'little'))
+    for name, (first, last) in saved.names.items():
+        yield _record(NAME, name.ljust(16, b'\0') + _u16s(*first, *last))
+
+
+def _number_record(head, v):
+    """A number is saved in two bytes where it is whole and they can tell it."""
+    whole, rest = divmod(v, fixed.ONE)
+    if rest == 0 and -32768 <= whole <= 32767:
+        return _record(INTEGER, head + whole.to_bytes(2, 'little', signed=True))
+    return _record(NUMBER, head + fixed.to_double_bits(v).to_bytes(8, 'little'))
+
+
+def _cell_records(cell, state):
+    """The records of a cell: one, and behind a formula whose value is a text that text."""
+    head, content = bytes([state.format]) + _u16s(*cell), state.content
+    if content[0] == 'blank':
+        return _record(BLANK_R, head)
+    if content[0] == 'number':
+        return _number_record(head, content[1])
+    if content[0] == 'label':
+        return _record(LABEL, head + bytes([content[1]]) + content[2] + b'\0')
+    code = write_code(content[1], cell)
+    out = _record(FORMULA, head + _value_bits(state.value).to_bytes(8, 'little') + _u16s(len(code)) + code)
+    return out + _record(STRING, head + state.value[1] + b'\0') if state.value[0] == 'str' else out
+
+
 def write(saved):
     """The one list of records, in the order in which this project writes them."""
-    s = saved.settings
-    out = [_record(BOF, b'\x06\x04')]
-    out.append(_record(RANGE, _u16s(0, 0, *_range_end(saved))))
-    out.append(_record(CALCCOUNT, bytes([s.passes])))
-    out.append(_record(CALCMODE, b'\xFF' if s.automatic else b'\x00'))
-    out.append(_record(CALCORDER, {'natural': b'\x00', 'columnwise': b'\x01', 'rowwise': b'\xFF'}[s.order]))
-    out.append(_record(PROTEC, b'\x01' if s.protection else b'\x00'))
-    out.append(_record(LABELFMT, bytes([s.prefix])))
-    out.append(_record(WINDOW1, _u16s(*s.pointer) + bytes([s.format, 0]) + _u16s(s.width) + bytes(23)))
-    for col in sorted(saved.widths):
-        out.append(_record(COLW1, _u16s(col) + bytes([saved.widths[col]])))
-    if saved.hidden:
-        bits = bytearray(32)
-        for c in saved.hidden:
-            bits[c // 8] |= 1 << c % 8
-        out.append(_record(HIDVEC1, bytes(bits)))
-    for name, (first, last) in saved.names.items():
-        out.append(_record(NAME, name.ljust(16, b'\0') + _u16s(*first, *last)))
-    for cell in sorted(saved.cells, key=row_order):
-        state = saved.cells[cell]
-        head = bytes([state.format]) + _u16s(*cell)
-        kind = state.content[0]
-        if kind == 'blank':
-            out.append(_record(BLANK_R, head))
-        elif kind == 'number':
-            v = state.content[1]
-            if v % fixed.ONE == 0 and -32768 <= v // fixed.ONE <= 32767:
-                out.append(_record(INTEGER, head + (v // fixed.ONE).to_bytes(2, 'little', signed=True)))
-            else:
-                out.append(_record(NUMBER, head + fixed.to_double_bits(v).to_bytes(8, 'little')))
-        elif kind == 'label':
-            out.append(_record(LABEL, head + bytes([state.content[1]]) + state.content[2] + b'\0'))
-        else:
-            code = write_code(state.content[1], cell)
-            body = head + _value_bits(state.value).to_bytes(8, 'little') + _u16s(len(code)) + code
-            out.append(_record(FORMULA, body))
-            if state.value[0] == 'str':
-                out.append(_record(STRING, head + state.value[1] + b'\0'))
-    out.append(_record(EOF))
-    return b''.join(out)
+    cells = (_cell_records(cell, saved.cells[cell]) for cell in sorted(saved.cells, key=row_order))
+    return b''.join([*_setting_records(saved), *cells, _record(EOF)])

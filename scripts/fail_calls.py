@@ -124,7 +124,7 @@ def main(words):
     is_well = True
     with tempfile.TemporaryDirectory() as room, concurrent.futures.ThreadPoolExecutor(os.cpu_count()) as pool:
         shim = f"{room}/failing.so"
-        subprocess.run(["cc", "-O1", "-shared", "-fPIC", "-o", shim, "scripts/failing.c"], check=True)
+        subprocess.run(["scripts/compile", "-O1", "-shared", "-fPIC", "-o", shim, "scripts/failing.c"], check=True)
         for keys in sorted(glob.glob("examples/*.keys")):
             # all pages, since a run that stops early shows a front of them
             calls = Calls(program, shim, keys, ["--show", "pages", "--count"])

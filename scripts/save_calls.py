@@ -102,7 +102,7 @@ def main(words):
     bad = 0
     with tempfile.TemporaryDirectory() as room:
         shim = f"{room}/failing.so"
-        subprocess.run(["cc", "-O1", "-shared", "-fPIC", "-o", shim, "scripts/failing.c"], check=True)
+        subprocess.run(["scripts/compile", "-O1", "-shared", "-fPIC", "-o", shim, "scripts/failing.c"], check=True)
         for check in (order, swapped):
             faults = check(os.path.abspath(words[0]), shim)
             for why in faults[:5]:
