@@ -19,6 +19,8 @@ FLAGS = {'count', 'strict'}
 
 
 class BadWord(Exception):
+    """A word that is refused."""
+
     def __init__(self, word):
         self.word = word
 
@@ -60,132 +62,158 @@ def read_words(words):
     return out
 
 
+class Refused(Exception):
+    """The run ends before its first step, with a status and a note."""
+
+    def __init__(self, status, note):
+        super().__init__(status, note)
+        self.status, self.note = status, note
+
+
 class Outcome:
-    pass
+    """Status, steps, and the session where there was one."""
+
+    def __init__(self):
+        self.status, self.steps, self.session = 0, 0, None
+
+
+class KeyFeed:
+    """The keys of a run, each as often as its word tells; `end` is the status and the note where they end."""
+
+    def __init__(self, keys):
+        self.keys, self.reader = keys, KeyReader()
+        self.repeat = None                   # [key, times left]
+        self.end = None
+
+    def key(self):
+        """The next key, which `take` takes, or None where the keys end; bytes are read until a key is there."""
+        while self.repeat is None:
+            try:
+                byte = self.keys.next()
+            except Failed:
+                self.end = (5, b'keys failed')
+                return None
+            if byte is None:
+                self.end = (0, None) if self.reader.at_rest() else (4, b'bad key word at byte %d' % self.reader.taken)
+                return None
+            fed = self.reader.feed(byte)
+            if fed[0] == 'bad':
+                self.end = (4, b'bad key word at byte %d' % fed[1])
+                return None
+            if fed != 'more':
+                self.repeat = [fed[1], fed[2]]
+        return self.repeat[0]
+
+    def take(self):
+        """The key is taken once."""
+        self.repeat[1] -= 1
+        if self.repeat[1] == 0:
+            self.repeat = None
+
+
+def opened(opts, shelf):
+    """The sheet with which a run begins: that of a file, a generated one, or a fresh one."""
+    if 'gen' in opts:
+        return Sheet.restore(gen.generate(opts['gen']))
+    if 'file' not in opts:
+        return Sheet()
+    name = opts['file']
+    try:
+        data = shelf.get(name)
+    except Failed:
+        raise Refused(6, name.encode() + b': disk error')
+    if data is None:
+        raise Refused(2, name.encode() + b': no such file')
+    try:
+        return Sheet.restore(wk1.read(data))
+    except wk1.Wk1Fault as f:
+        raise Refused(2, name.encode() + b': ' + fault_text(f))
+
+
+def to_each(displays, failed, call):
+    """A call on each display in order; one that fails goes to the failed ones."""
+    for display in list(displays):
+        try:
+            call(display)
+        except Failed:
+            displays.remove(display)
+            failed.append(display)
+
+
+def drive(out, opts, keys, shelf, clock, show):
+    """The steps of a run: the status and the note with which they end. The limit is tested behind the reading of a key, and a screen is shown
+    after each step."""
+    session, feed, limit = out.session, KeyFeed(keys), opts.get('steps', 1_000_000)
+    before, done = EMPTY_GRID, 'more'
+    while done != 'quit':
+        event = ('key', feed.key()) if session.wants_key() else ('unit',)
+        if feed.end is not None:
+            status, note = feed.end
+            return (status, note) if status or 'strict' not in opts else ended_in(out, feed)
+        if out.steps == limit:
+            return 3, b'stopped after %d steps' % limit
+        if event[0] == 'key':
+            feed.take()
+        done = session.step(event, clock.read(), shelf)
+        out.steps += 1
+        after = session.grid()
+        show(before, after)
+        before = after
+        if done != 'quit' and 'strict' in opts and session.refused is not None:
+            return 10, b'step %d at byte %d: %s' % (out.steps, feed.reader.taken, session.refused)
+    return 0, None
+
+
+def ended_in(out, feed):
+    """A strict run ends in READY, with no macro running."""
+    session = out.session
+    if session.mode == 'READY' and not session.engine.running:
+        return 0, None
+    left_in = b'CMD' if session.mode == 'READY' else session.mode.encode()
+    return 10, b'step %d at byte %d: ended in %s' % (out.steps, feed.reader.taken, left_in)
+
+
+def counts(opts, session):
+    """The notes in front of the last one."""
+    if session is None:
+        return
+    if 'gen' in opts:
+        yield b'rows %d' % opts['gen']
+        yield b'C%d %s' % (opts['gen'], chain_text(session.sheet, opts['gen']))
+    if 'count' in opts:
+        yield b'evaluations %d' % session.evaluations()
+
+
+def noted(lines, notes):
+    """Whether all lines were written; after a failed one no more are."""
+    for line in lines:
+        try:
+            notes.write(b'1-2-3: ' + line + b'\n')
+        except Failed:
+            return False
+    return True
 
 
 def top_call(words, keys, shelf, clock, displays, failed, notes):
     """One run: words, keys, screens and notes.  Changes the lists displays and failed; returns the outcome with status and the session."""
-    out = Outcome()
-    out.session = None
-    out.steps = 0
-    lines = []
-
-    def finish(status, note=None):
-        if out.session is not None:
-            if 'gen' in opts:
-                n = opts['gen']
-                lines.append(b'rows %d' % n)
-                lines.append(b'C%d %s' % (n, chain_text(out.session.sheet, n)))
-            if 'count' in opts:
-                lines.append(b'evaluations %d' % out.session.evaluations())
-        if status == 0 and len(failed) > before_failed:
-            status, note = 7, b'display failed'
-        if note is not None:
-            lines.append(note)
-        for line in lines:
-            try:
-                notes.write(b'1-2-3: ' + line + b'\n')
-            except Failed:                   # after a failed one no more lines are written
-                status = 8
-                break
-        out.status = status
-        return out
-
-    opts = {}
-    before_failed = len(failed)
+    out, opts, before_failed = Outcome(), {}, len(failed)
     try:
         opts = read_words(words)
+        displays[:] = [d for d in displays if d.kind == opts.get('show', 'pages')]    # the others are dropped
+        session = Session(Desk(opened(opts, shelf)))
+        session.load(clock.read())
+        out.session = session
+        status, note = drive(out, opts, keys, shelf, clock, lambda before, after: to_each(displays, failed, lambda d: send(before, after, d)))
+        to_each(displays, failed, lambda d: d.close())
     except BadWord as e:
-        opts = {}
-        return finish(1, b'bad word: ' + e.word)
-    kind = opts.get('show', 'pages')
-    displays[:] = [d for d in displays if d.kind == kind]    # the others are dropped
-    if 'file' in opts:
-        name = opts['file']
-        try:
-            data = shelf.get(name)
-        except Failed:
-            return finish(6, name.encode() + b': disk error')
-        if data is None:
-            return finish(2, name.encode() + b': no such file')
-        try:
-            saved = wk1.read(data)
-        except wk1.Wk1Fault as f:
-            return finish(2, name.encode() + b': ' + fault_text(f))
-        sheet = Sheet.restore(saved)
-    elif 'gen' in opts:
-        sheet = Sheet.restore(gen.generate(opts['gen']))
-    else:
-        sheet = Sheet()
-    session = Session(Desk(sheet))
-    session.load(clock.read())
-    out.session = session
-    limit = opts.get('steps', 1_000_000)
-    reader = KeyReader()
-    repeat = None                            # [key, times left]
-    before = EMPTY_GRID
-    status, note, done = 0, None, 'more'
-    while True:
-        event = None
-        if session.wants_key():
-            if repeat is None:
-                ended = False
-                while repeat is None:        # bytes are read until a key is there or the keys end
-                    try:
-                        b = keys.next()
-                    except Failed:
-                        status, note, ended = 5, b'keys failed', True
-                        break
-                    if b is None:
-                        ended = True
-                        if not reader.at_rest():
-                            status, note = 4, b'bad key word at byte %d' % reader.taken
-                        break
-                    fed = reader.feed(b)
-                    if fed == 'more':
-                        continue
-                    if fed[0] == 'bad':
-                        status, note, ended = 4, b'bad key word at byte %d' % fed[1], True
-                        break
-                    repeat = [fed[1], fed[2]]
-                if ended:
-                    break
-            event = ('key', repeat[0])
-        else:
-            event = ('unit',)
-        if out.steps == limit:               # then the limit is tested
-            status, note = 3, b'stopped after %d steps' % limit
-            break
-        if event[0] == 'key':
-            repeat[1] -= 1
-            if repeat[1] == 0:
-                repeat = None
-        done = session.step(event, clock.read(), shelf)
-        out.steps += 1
-        after = session.grid()
-        for d in list(displays):             # the new screen is sent to each display in order
-            try:
-                send(before, after, d)
-            except Failed:
-                displays.remove(d)
-                failed.append(d)
-        before = after
-        if done == 'quit':
-            break
-        if 'strict' in opts and session.refused is not None:
-            status, note = 10, b'step %d at byte %d: %s' % (out.steps, reader.taken, session.refused)
-            break
-    if 'strict' in opts and status == 0 and done != 'quit' and (session.mode != 'READY' or session.engine.running):
-        left_in = b'CMD' if session.mode == 'READY' else session.mode.encode()
-        status, note = 10, b'step %d at byte %d: ended in %s' % (out.steps, reader.taken, left_in)
-    for d in list(displays):                 # with 0, 3, 4, 5 or 10 found
-        try:
-            d.close()
-        except Failed:
-            displays.remove(d)
-            failed.append(d)
-    return finish(status, note)
+        status, note = 1, b'bad word: ' + e.word
+    except Refused as e:
+        status, note = e.status, e.note
+    if status == 0 and len(failed) > before_failed:
+        status, note = 7, b'display failed'
+    lines = [*counts(opts, out.session), *([note] if note is not None else [])]
+    out.status = status if noted(lines, notes) else 8
+    return out
 
 
 def fault_text(f):
@@ -216,6 +244,7 @@ class Result:
 
 
 def to_words(words):
+    """Words as bytes."""
     return [os.fsencode(w) for w in words]
 
 
@@ -303,12 +332,8 @@ def dump(r):
     return b'\n'.join(lines) + b'\n'
 
 
-def main(argv):
-    if '--' in argv:
-        cut = argv.index('--')
-        own, words = argv[:cut], argv[cut + 1:]
-    else:
-        own, words = argv, []
+def parser():
+    """The words of the oracle's own, in front of `--`."""
     p = argparse.ArgumentParser(prog='oracle')
     p.add_argument('--keys', default='-')
     p.add_argument('--dir')
@@ -321,36 +346,68 @@ def main(argv):
                    help='stdout gets exactly what the program writes for the kind of --show (pages, ansi, last)')
     p.add_argument('--state', help='a text dump of the last state goes to this file')
     p.add_argument('--built', action='store_true', help='no more menus, keys and macro words than the program has built')
-    a = p.parse_args(own)
-    if a.built:
-        leave_out()
-    data = sys.stdin.buffer.read() if a.keys == '-' else open(a.keys, 'rb').read()
+    return p
+
+
+def files_in(folder):
+    """The files of a folder that a shelf has, by their names; None for what is no file."""
     files = {}
-    if a.dir:
-        for n in sorted(os.listdir(a.dir)):
-            path = os.path.join(a.dir, n)
-            stem, _, ext = n.rpartition('.')
-            if ext not in ('WK1', 'PRN', 'TXT') or file_name(os.fsencode(n), ext) != n:
-                continue
-            files[n] = None                  # a folder, say
-            if os.path.isfile(path):
-                with open(path, 'rb') as f:
-                    files[n] = f.read(LIMIT + 1)
+    for n in sorted(os.listdir(folder)):
+        path = os.path.join(folder, n)
+        ext = n.rpartition('.')[2]
+        if ext not in ('WK1', 'PRN', 'TXT') or file_name(os.fsencode(n), ext) != n:
+            continue
+        files[n] = None
+        if os.path.isfile(path):
+            with open(path, 'rb') as f:
+                files[n] = f.read(LIMIT + 1)
+    return files
+
+
+def put_back(folder, before, after):
+    """Leaves in a folder what a run left of its files."""
+    for n, content in after.items():
+        if before.get(n) != content:
+            with open(os.path.join(folder, n), 'wb') as f:
+                f.write(content)
+    for n in before:
+        if n not in after:
+            os.remove(os.path.join(folder, n))
+
+
+def failing_calls(items):
+    """The numbers of the calls that fail, by what is called."""
     failing = {}
-    for item in a.fail:
+    for item in items:
         kind, _, numbers = item.partition(':')
         numbers = [int(x) for x in numbers.split(',')]
         if kind == 'display':
             failing.setdefault('displays', []).append(numbers)
         else:
             failing[kind] = numbers
-    kinds = ('pages',)
-    for i, w in enumerate(words):            # main hands in one display of each kind; only the chosen one shows
+    return failing
+
+
+def kind_shown(words):
+    """The kind of the one display that shows: main hands in one of each kind."""
+    kind = 'pages'
+    for i, w in enumerate(words):
         if w == '--show' and i + 1 < len(words) and words[i + 1] in ('ansi', 'last'):
-            kinds = (words[i + 1],)
+            kind = words[i + 1]
         if w in ('--show=ansi', '--show=last'):
-            kinds = (w[7:],)
-    r = run([os.fsencode(w) for w in words], data, files, parse_clock(a.clock), failing, kinds)
+            kind = w[7:]
+    return kind
+
+
+def main(argv):
+    """Runs the oracle by its words and the program's."""
+    cut = argv.index('--') if '--' in argv else len(argv)
+    a, words = parser().parse_args(argv[:cut]), argv[cut + 1:]
+    if a.built:
+        leave_out()
+    data = sys.stdin.buffer.read() if a.keys == '-' else open(a.keys, 'rb').read()
+    files, kind = files_in(a.dir) if a.dir else {}, kind_shown(words)
+    r = run([os.fsencode(w) for w in words], data, files, parse_clock(a.clock), failing_calls(a.fail), (kind,))
     body = b''.join(page(f) for f in r.frames)
     if a.state and r.session is not None:
         with open(a.state, 'wb') as f:
@@ -359,19 +416,12 @@ def main(argv):
         with open(a.frames, 'wb') as f:
             f.write(body)
     if a.as_program:
-        sys.stdout.buffer.write(program_bytes(r, kinds[0]))
-        sys.stdout.buffer.flush()
+        sys.stdout.buffer.write(program_bytes(r, kind))
     elif not a.frames:
         sys.stdout.buffer.write(body)
-        sys.stdout.buffer.flush()
+    sys.stdout.buffer.flush()
     sys.stderr.buffer.write(r.notes)
     sys.stderr.buffer.flush()
     if a.dir:
-        for n, content in r.files.items():
-            if files.get(n) != content:
-                with open(os.path.join(a.dir, n), 'wb') as f:
-                    f.write(content)
-        for n in files:
-            if n not in r.files:
-                os.remove(os.path.join(a.dir, n))
+        put_back(a.dir, files, r.files)
     return r.status

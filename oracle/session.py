@@ -28,10 +28,14 @@ class ErrorE(Exception):
 
 
 class Quit(Exception):
+    """The run ends."""
+
     pass
 
 
 class Session:
+    """What a run shows and takes keys in: its mode, what is typed, the macro that runs, and the desk."""
+
     def __init__(self, desk):
         self.desk = desk
         self.engine = Engine()
@@ -61,15 +65,19 @@ class Session:
 
     @property
     def sheet(self):
+        """The sheet of the desk."""
         return self.desk.sheet
 
     def scene(self):
+        """What formulas ask for besides cells: the pointer and the moment."""
         return Scene(self.sheet.settings.pointer, self.moment)
 
     def wants_key(self):
+        """Whether the next step takes a key: no macro runs, or it waits for one."""
         return not self.engine.running or self.engine.awaits is not None
 
     def evaluations(self):
+        """How many evaluations there were."""
         return self.tally.count
 
     def load(self, now, shelf=None):
@@ -111,17 +119,20 @@ class Session:
         self.message = self.refused = e.message
 
     def macro_fault(self, number, cell):
+        """The mode ERROR with a macro's fault."""
         self.ready()
         self.mode = 'ERROR'
         self.message = self.refused = b'Macro fault M%d at %s' % (number, address.cell_text(cell))
 
     def applied(self, r):
+        """What a macro's unit, or a key for it, came to."""
         if r[0] == 'error':
             raise ErrorE(r[1])
         if r[0] == 'fault':
             self.macro_fault(r[1], r[2])
 
     def unit_event(self):
+        """The next unit of the macro."""
         unit = self.engine.next(self.sheet, self.scene())
         if unit[0] == 'key':
             self.part_key(unit[1])
@@ -129,6 +140,7 @@ class Session:
         self.applied(self.engine.apply(unit, self.sheet, self.scene(), self.tally, self.shelf))
 
     def key_event(self, key):
+        """A key that comes from outside."""
         if key == BREAK:
             self.end_mark = False
             # drops what is being typed and goes to READY
@@ -156,6 +168,7 @@ class Session:
 
     # ------------------------------------------------------------ READY
     def in_ready(self, key, mark):
+        """A key in READY; what isn't told here is passed over, and so are ALT and UNDO while a macro runs."""
         k = key[0]
         if k in NOT_BUILT:
             return
@@ -171,12 +184,7 @@ class Session:
         elif k == 'edit':
             self.edit_cell()
         elif k == 'byte':
-            b = key[1]
-            if b == ord('/'):
-                self.mode, self.path, self.high = 'MENU', 'main', 0
-            else:
-                self.mode = 'VALUE' if b in VALUE_BEGINS else 'LABEL'
-                self.line = bytes([b])
+            self.begin_line(key[1])
         elif k == 'goto':
             self.question = ('goto', [])
             self.begin_prompt()
@@ -190,17 +198,22 @@ class Session:
             if self.desk.last_table is None:
                 raise ErrorE(12)
             self.command(lambda: commands.table(self.desk.last_table, self.desk, self.scene(), self.tally))
-        elif k == 'alt':
-            if not self.engine.running:      # with no macro running; else passed over
-                if not self.engine.start(key[1], self.sheet):
-                    self.macro_fault(1, self.sheet.settings.pointer)
-        elif k == 'undo':
-            if not self.engine.running:
-                if not self.history.undo(self.sheet):
-                    raise ErrorE(21)
-        # all else is passed over
+        elif k == 'alt' and not self.engine.running:
+            if not self.engine.start(key[1], self.sheet):
+                self.macro_fault(1, self.sheet.settings.pointer)
+        elif k == 'undo' and not self.engine.running and not self.history.undo(self.sheet):
+            raise ErrorE(21)
+
+    def begin_line(self, b):
+        """A byte in READY opens the menu, or begins a line."""
+        if b == ord('/'):
+            self.mode, self.path, self.high = 'MENU', 'main', 0
+        else:
+            self.mode = 'VALUE' if b in VALUE_BEGINS else 'LABEL'
+            self.line = bytes([b])
 
     def set_pointer(self, cell):
+        """Puts the pointer on a cell."""
         set_settings(self.sheet, pointer=cell)
 
     def next_column(self, col, step):
@@ -213,6 +226,7 @@ class Session:
         return col
 
     def move(self, k):
+        """A key that moves the pointer."""
         col, row = self.sheet.settings.pointer
         if k in ('left', 'right'):
             col = self.next_column(col, 1 if k == 'right' else -1)
@@ -232,6 +246,7 @@ class Session:
         self.set_pointer((col, row))
 
     def filled(self, cell):
+        """Whether a cell holds something."""
         st = self.sheet.cells.get(cell)
         return st is not None and st.content[0] != 'blank'
 
@@ -240,6 +255,7 @@ class Session:
         col, row = self.sheet.settings.pointer
 
         def inside(c):
+            """Whether a place is in the sheet."""
             return 0 <= c[0] <= 255 and 0 <= c[1] <= 8191
 
         here = (col, row)
@@ -255,6 +271,7 @@ class Session:
         self.set_pointer(here)
 
     def edit_cell(self):
+        """The pointer's cell is edited; message 19 where its text is too long for a line."""
         text = self.sheet.text_of(self.sheet.settings.pointer)
         if len(text) > 240:
             raise ErrorE(19)
@@ -263,9 +280,11 @@ class Session:
 
     # ------------------------------------------------------------ LABEL and VALUE
     def in_label(self, key, mark):
+        """A key in LABEL."""
         self.typing(key)
 
     def in_value(self, key, mark):
+        """A key in VALUE; an arrow behind an operator begins to point."""
         k = key[0]
         if k in ARROWS and self.line[-1:] and self.line[-1] in OPERATORS + b'(,':
             self.mode = 'POINT'              # begins POINT instead
@@ -275,6 +294,7 @@ class Session:
         self.typing(key)
 
     def typing(self, key):
+        """A key in a line that is typed."""
         k = key[0]
         if k == 'byte':
             if len(self.line) < 240:         # at 240 bytes it is passed over
@@ -331,6 +351,7 @@ class Session:
 
     # ------------------------------------------------------------ EDIT
     def in_edit(self, key, mark):
+        """A key in EDIT."""
         if self.question is not None:
             self.typed_answer(key)
             return
@@ -349,6 +370,7 @@ class Session:
 
     # ------------------------------------------------------------ POINT
     def in_point(self, key, mark):
+        """A key in POINT."""
         k = key[0]
         if k in ARROWS:
             self.move_corner(k)
@@ -385,6 +407,7 @@ class Session:
                 self.point = None
 
     def move_corner(self, k):
+        """An arrow moves the corner that is pointed at."""
         (col, row), d = self.point[0], ARROWS[k]
         if d[0]:
             col = self.next_column(col, d[0])
@@ -397,6 +420,7 @@ class Session:
         corner, anchor, dollars = self.point
 
         def text(c):                         # from A1 to $A$1, A$1, $A1 and back
+            """A corner with its signs."""
             letters = address.col_text(c[0])
             number = str(c[1] + 1).encode()
             return [letters + number, b'$' + letters + b'$' + number, letters + b'$' + number,
@@ -410,11 +434,13 @@ class Session:
 
     # ------------------------------------------------------------ MENU
     def items(self):
+        """The items of the menu, or of the choice."""
         if self.choice is not None:
             return [(n, None) for n in CHOICES[self.choice]]
         return menu.items(self.path)
 
     def in_menu(self, key, mark):
+        """A key in MENU."""
         items = self.items()
         k = key[0]
         chosen = None
@@ -429,21 +455,25 @@ class Session:
         elif k == 'enter':
             chosen = self.high
         elif k == 'byte':
-            for i, (name, _) in enumerate(items):
-                if fold(name.encode()[:1]) == fold(bytes([key[1]])):
-                    chosen = i
-                    break
-        elif k == 'esc':
-            if self.choice is not None:      # a choice has no level above it that is a menu
-                self.ready()
-            elif self.path == 'main':
-                self.ready()
-            else:
-                self.path, self.high = PARENT[self.path], 0
-        if chosen is None:
-            if k == 'byte':                  # a letter that takes no item
+            letters = [fold(name.encode()[:1]) for name, _ in items]
+            letter = fold(bytes([key[1]]))
+            chosen = letters.index(letter) if letter in letters else None
+            if chosen is None:               # a letter that takes no item
                 self.refused = b'no item ' + bytes([key[1]])
-            return
+        elif k == 'esc':
+            self.leave_menu()
+        if chosen is not None:
+            self.choose(items, chosen)
+
+    def leave_menu(self):
+        """ESC goes to the level above; a choice has none that is a menu."""
+        if self.choice is not None or self.path == 'main':
+            self.ready()
+        else:
+            self.path, self.high = PARENT[self.path], 0
+
+    def choose(self, items, chosen):
+        """An item is chosen: a menu opens, a prompt begins, or a choice is made."""
         if self.choice is not None:
             if chosen == 0:                  # No and Cancel do nothing and go to READY
                 self.ready()
@@ -461,6 +491,7 @@ class Session:
 
     # ------------------------------------------------------------ Prompt
     def current_prompt(self):
+        """What is asked for now, or None."""
         action, answers = self.question
         asks = prompts(action)
         return asks[len(answers)] if len(answers) < len(asks) else None
@@ -490,6 +521,7 @@ class Session:
             self.entry = EntryLine(text)
 
     def ask_choice(self, ask):
+        """Asks for a choice, where one is needed, or carries the command out."""
         action, answers = self.question
         if commands.needs_choice(action, answers, ask, self.shelf):
             self.mode, self.choice, self.high = 'MENU', ask, 0
@@ -497,6 +529,7 @@ class Session:
             self.perform()
 
     def typed_answer(self, key):
+        """A key in a typed answer."""
         k = key[0]
         if k in ('up', 'down', 'pgup', 'pgdn'):  # passed over
             return
@@ -527,6 +560,7 @@ class Session:
         self.entry = EntryLine(name)
 
     def answered(self, line):
+        """An answer is tested, and the next is asked for."""
         action, answers = self.question
         answers = answers + [line]
         try:
@@ -538,12 +572,14 @@ class Session:
 
     # ------------------------------------------------------------ Command
     def command_step(self, what):
+        """A step of a command; its error is told."""
         try:
             what()
         except CommandError as e:
             raise ErrorE(e.number, e.message())
 
     def command(self, what):
+        """A command on the sheet; its error is told."""
         try:
             what()
         except CommandError as e:
@@ -552,6 +588,7 @@ class Session:
             raise ErrorE(sheet_error(f).number)
 
     def perform(self):
+        """The command that was asked for is carried out."""
         action, answers = self.question
         if action == 'goto':
             cell = commands.span_of(answers[0], self.desk)[0]
@@ -562,6 +599,7 @@ class Session:
         done = None
 
         def go():
+            """Carries it out."""
             nonlocal done
             done = commands.act(action, lines, self.desk, self.shelf, self.scene(), self.tally)
 
@@ -574,11 +612,13 @@ class Session:
 
     # ------------------------------------------------------------ ERROR
     def in_error(self, key, mark):
+        """A key in ERROR, which Enter and ESC leave."""
         if key == ENTER or key[0] == 'esc':
             self.ready()
 
     # ------------------------------------------------------------ Frame
     def frame(self):
+        """The screen is painted anew, but for what stands still."""
         self.corner = screen.moved_corner(self.sheet, self.corner)
         before = self.shown
         if self.engine.panel:
@@ -592,9 +632,11 @@ class Session:
         self.shown = screen.paint(self)
 
     def grid(self):
+        """The lines of the screen."""
         return self.shown if self.shown is not None else screen.paint(self)
 
 
 def commands_tally():
+    """A count of evaluations, at none."""
     from .evaluate import Tally
     return Tally()

@@ -7,6 +7,7 @@ def differs(a, b):
 
 
 def shape(saved):
+    """What of a sheet a command may change."""
     s = saved.settings
     settings = (s.automatic, s.passes, s.prefix, s.format, s.width, s.protection, s.order)
     cells = {c: (st.content, st.value, st.format) for c, st in saved.cells.items()}
@@ -26,17 +27,22 @@ class Kept:
 
 
 class History:
+    """What the last commands found, of which each can be taken back once."""
+
     def __init__(self):
         self.list = []
         self.begun = None
 
     def begin(self, sheet):
+        """A command begins."""
         self.begun = Kept(sheet)
 
     def has_begun(self):
+        """Whether a command goes on."""
         return self.begun is not None
 
     def end(self, sheet):
+        """A command ends; whether it changed something and is kept."""
         begun, self.begun = self.begun, None
         if not differs(begun.saved, sheet.snapshot()):
             return False
@@ -46,6 +52,7 @@ class History:
         return True
 
     def undo(self, sheet):
+        """Takes the last command back; false where there is none."""
         if not self.list:
             return False
         sheet.put_back(self.list.pop())
