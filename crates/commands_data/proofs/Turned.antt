@@ -3,8 +3,8 @@ use Rattle.std.specs.Prelude.{ℕ, ◌≡◌, refl, List, [], ◌∷◌, ◌++�
 use Rattle.std.proofs.Common.{ap, append_assoc, subst, sym, ◌∙◌}
 use Rattle.std.proofs.lemmas.List.{append-nil}
 use Rattle.commands_data.specs.inner.Held.{shown, HasDone, HasGivenBack, HasTried}
-use Rattle.commands_data.specs.Trying.{answers_of, contents_of, entered, tabled, all_tried, tried, value_in, values_after}
-use Rattle.commands_data.specs.Trying.{written_out}
+use Rattle.commands_data.specs.Trying.{answers_of, contents_of, entered, tabled, all_tried, tried, value_in}
+use Rattle.commands_data.specs.Trying.{values_after, written_out}
 use Rattle.commands_data.specs.declared.bench.TableBench.{TableBench}
 use Rattle.data_blocks.specs.Benches as bench
 use Rattle.data_blocks.specs.Benches.{values_on, IsTable}
@@ -62,12 +62,14 @@ same_values d a b h = ap value_in h.did.sheet
 -- scenarios were tried
 pub scenarios_then : (ts : List Scenario) (d : Done) (a b c : TableBench) (ws vs : List Write) → HasDone d a b
     → bench.HasTaken shown HasTried ts b ws c vs →
-    HasDone (after_scenarios (tried a.scene) ts d) a c × (vs ≡ ws ++ scenarios_written (tried a.scene) values_after ts d)
+    HasDone (after_scenarios (tried a.scene) ts d) a c
+    × (vs ≡ ws ++ scenarios_written (tried a.scene) values_after ts d)
 scenarios_then [] d a b c ws vs h k = (subst (λ (x : TableBench). HasDone d a x) (sym k.0) h, k.1 ∙ sym (append-nil ws))
 scenarios_then (t ∷ ts) d a b c ws vs h k =
     let next : Done = after_trials (tried a.scene) t.trials d in
     let now : HasDone next a k.0 = trials_then t.trials d a b k.0 h k.1 in
-    let rest = scenarios_then ts next a k.0 c (ws ++ map (answer_written (values_on (shown k.0))) t.answers) vs now k.2 in
+    let rest =
+    scenarios_then ts next a k.0 c (ws ++ map (answer_written (values_on (shown k.0))) t.answers) vs now k.2 in
     let more : List Write = scenarios_written (tried a.scene) values_after ts next in (
       rest.0,
       rest.1 ∙ ap (λ (f : Place → Value). (ws ++ map (answer_written f) t.answers) ++ more) (same_values next a k.0 now)
@@ -88,8 +90,8 @@ table_taken inputs ts a c ws h kept =
     (turned.0.kept ∙ kept)
     (subst (λ (m : Scene). HasDone (written_out m h.0.kept.now (of_worksheet h.0.sheet.now)) h.0 c) turned.0.scene
     h.2) in (
-      done_then (after_scenarios (tried a.scene) ts (quiet s)) (written_out a.scene (contents_of inputs s)) a h.0 c turned.0
-          back,
+      done_then (after_scenarios (tried a.scene) ts (quiet s)) (written_out a.scene (contents_of inputs s)) a h.0 c
+          turned.0 back,
       turned.1,
     )
 

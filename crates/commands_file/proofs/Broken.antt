@@ -12,7 +12,8 @@ use Rattle.commands_file.specs.Steps.{HasCalled}
 use Rattle.outside_world.specs.Shelf.{Files, file_in, held_as, HasCause, HasPut, HasRead, HasRemoved, OnShelf}
 use Rattle.outside_world.specs.declared.faults.ShelfFault.{ShelfFault}
 use Rattle.outside_world.specs.declared.faults.ShelfFault.TheVariants.{Failed, Memory}
-use Rattle.commands_file.specs.Calls.{asks, failed, fetched, fetches, gets, loaded, puts, removes, there, written, Asked, HasAnswered}
+use Rattle.commands_file.specs.Calls.{asks, failed, fetched, fetches, gets, loaded, puts, removes, there, written}
+use Rattle.commands_file.specs.Calls.{Asked, HasAnswered}
 use Rattle.commands_file.specs.Calls.{HasBrokenOff, IsCounted, IsTold, KeepsOthers, Reply, ShelfCall, ShelfView}
 use Rattle.commands_file.specs.Calls.{shelf_view}
 

@@ -1,9 +1,11 @@
 -- What a channel's attaching and finishing come to, over some answers of the shelf.
-use Rattle.std.proofs.Common.{◌≡◌, ℕ, ◌≤◌, Bool, true, false, List, [], ◌∷◌, ◌++◌, Option, None, Some, Result, Ok, Err, ap, refl, subst, sym, arith, ◌∙◌}
+use Rattle.std.proofs.Common.{◌≡◌, ℕ, ◌≤◌, Bool, true, false, List, [], ◌∷◌, ◌++◌, Option, None, Some, Result, Ok, Err}
+use Rattle.std.proofs.Common.{ap, refl, subst, sym, arith, ◌∙◌}
 use Rattle.std.proofs.lemmas.Bool.{false≢true}
 use Rattle.std.specs.Prelude.{is_some, option_map}
 use Rattle.commands_file.proofs.Broken.{put_keeps}
-use Rattle.commands_file.specs.Calls.{failed, fetched, shelf_view, written, Asked, HasAnswered, HasBrokenOff, HaveAnswered, KeepsOthers, Reply, ShelfView}
+use Rattle.commands_file.specs.Calls.{failed, fetched, shelf_view, written, Asked, HasAnswered, HasBrokenOff}
+use Rattle.commands_file.specs.Calls.{HaveAnswered, KeepsOthers, Reply, ShelfView}
 use Rattle.file_words.proofs.Calling.{read_behind}
 use Rattle.file_words.specs.Attaching.{attaching, finished, finished_by, put_away, taken, then_by, Attaching}
 use Rattle.file_words.specs.Serving.{goes_on, served_by, Served, WasServed}
@@ -13,7 +15,8 @@ use Rattle.outside_world.specs.Causes.{Rose}
 use Rattle.outside_world.specs.Shelf.{HasCause, OnShelf}
 use Rattle.outside_world.specs.declared.faults.ShelfFault.{ShelfFault}
 use Rattle.outside_world.specs.declared.faults.ShelfFault.TheVariants as shelf
-use Rattle.text_channel.specs.Channels.{by_shelf, finished as finished_first, of_shelf, unfinished, HasAttached, HasFinished, HasFinishedBy, HasOpened, HasPutAway, HasTaken}
+use Rattle.text_channel.specs.Channels.{by_shelf, finished as finished_first, of_shelf, unfinished, HasAttached}
+use Rattle.text_channel.specs.Channels.{HasFinished, HasFinishedBy, HasOpened, HasPutAway, HasTaken}
 use Rattle.text_channel.specs.declared.attached.Access.{Access}
 use Rattle.text_channel.specs.declared.attached.Access.TheVariants.{Read, Write, Modify}
 use Rattle.text_channel.specs.declared.attached.Attached.{Attached}
@@ -21,7 +24,8 @@ use Rattle.text_channel.specs.declared.channel.ChannelFault.{ChannelFault}
 use Rattle.text_channel.specs.declared.channel.ChannelFault.TheVariants as fault
 
 -- it came to this over some answer
-record Came (x : Reply → Attaching) (done : Option Bool) (now : Option Attached) (before after : ShelfView) : Type 0 where
+record Came (x : Reply → Attaching) (done : Option Bool) (now : Option Attached) (before after : ShelfView) : Type
+    0 where
   reply : Reply
   done_so : done ≡ (x reply).done
   channel_so : now ≡ (x reply).channel
@@ -46,7 +50,8 @@ no_answer is = absurd (false≢true (ap is_answer is))
 unasked : (before after : Option OnShelf) (n : ℕ) → after ≡ before → shelf_view after n ≡ shelf_view before n
 unasked before after n is = ap (λ (o : Option OnShelf). shelf_view o n) is
 
-put_done : (a : Attached) (before after : Option OnShelf) (n : ℕ) (now : Option Attached) (b : Bool) → HasPutAway a before after now (Ok b) →
+put_done : (a : Attached) (before after : Option OnShelf) (n : ℕ) (now : Option Attached) (b : Bool)
+    → HasPutAway a before after now (Ok b) →
     Came (put_away a) (Some b) now (shelf_view before n) (shelf_view after n)
 put_done a before after n now b h = record {
   reply = written;
@@ -55,7 +60,8 @@ put_done a before after n now b h = record {
   answered = one_call _ _ _ (record { told = h.2; faults = refl });
 }
 
-put_failed : (a : Attached) (before after : Option OnShelf) (m n : ℕ) (now : Option Attached) → (m ≤ n) × Rose m n → HasPutAway a before after now (Err fault.Failed) →
+put_failed : (a : Attached) (before after : Option OnShelf) (m n : ℕ) (now : Option Attached) → (m ≤ n) × Rose m n
+    → HasPutAway a before after now (Err fault.Failed) →
     Came (put_away a) None now (shelf_view before m) (shelf_view after n)
 put_failed a before after m n now counted h = record {
   reply = failed;
@@ -64,36 +70,57 @@ put_failed a before after m n now counted h = record {
   answered = one_call _ _ _ (record { told = h.1; faults = counted });
 }
 
-by_done : (access : Access) (a : Attached) (before after : Option OnShelf) (n : ℕ) (now : Option Attached) (b : Bool) → HasFinishedBy access a before after now (Ok b) →
+by_done : (access : Access) (a : Attached) (before after : Option OnShelf) (n : ℕ) (now : Option Attached) (b : Bool)
+    → HasFinishedBy access a before after now (Ok b) →
     Came (finished_by access a) (Some b) now (shelf_view before n) (shelf_view after n)
 by_done Read a before after n now b h =
-    record { reply = failed; done_so = ap Some (ap answer_in h.0); channel_so = h.1; answered = unasked before after n h.2 }
+    record {
+      reply = failed;
+      done_so = ap Some (ap answer_in h.0);
+      channel_so = h.1;
+      answered = unasked before after n h.2;
+    }
 by_done Write a before after n now b h = put_done a before after n now b h
 by_done Modify a before after n now b h = put_done a before after n now b h
 
-by_failed : (access : Access) (a : Attached) (before after : Option OnShelf) (m n : ℕ) (now : Option Attached) → (m ≤ n) × Rose m n →
-    HasFinishedBy access a before after now (Err fault.Failed) → Came (finished_by access a) None now (shelf_view before m) (shelf_view after n)
+by_failed : (access : Access) (a : Attached) (before after : Option OnShelf) (m n : ℕ) (now : Option Attached)
+    → (m ≤ n) × Rose m n →
+    HasFinishedBy access a before after now (Err fault.Failed)
+    → Came (finished_by access a) None now (shelf_view before m) (shelf_view after n)
 by_failed Read a before after m n now counted h = no_answer h.0
 by_failed Write a before after m n now counted h = put_failed a before after m n now counted h
 by_failed Modify a before after m n now counted h = put_failed a before after m n now counted h
 
 -- a finishing that was done or not
-finish_done : (c : Option Attached) (before after : Option OnShelf) (n : ℕ) (now : Option Attached) (b : Bool) → HasFinished c before after now (Ok b) →
+finish_done : (c : Option Attached) (before after : Option OnShelf) (n : ℕ) (now : Option Attached) (b : Bool)
+    → HasFinished c before after now (Ok b) →
     Came (finished c) (Some b) now (shelf_view before n) (shelf_view after n)
 finish_done None before after n now b h =
-    record { reply = failed; done_so = ap Some (ap answer_in h.0); channel_so = h.1; answered = unasked before after n h.2 }
+    record {
+      reply = failed;
+      done_so = ap Some (ap answer_in h.0);
+      channel_so = h.1;
+      answered = unasked before after n h.2;
+    }
 finish_done (Some a) before after n now b h = by_done a.access a before after n now b h
 
 -- a finishing in which the shelf failed
-finish_failed : (c : Option Attached) (before after : Option OnShelf) (m n : ℕ) (now : Option Attached) → (m ≤ n) × Rose m n → HasFinished c before after now (Err fault.Failed) →
+finish_failed : (c : Option Attached) (before after : Option OnShelf) (m n : ℕ) (now : Option Attached)
+    → (m ≤ n) × Rose m n → HasFinished c before after now (Err fault.Failed) →
     Came (finished c) None now (shelf_view before m) (shelf_view after n)
 finish_failed None before after m n now counted h = no_answer h.0
 finish_failed (Some a) before after m n now counted h = by_failed a.access a before after m n now counted h
 
-take_done : (name : List ℕ) (access : Access) (before after : Option OnShelf) (n : ℕ) (now : Option Attached) (b : Bool) → HasTaken name access before after now (Ok b) →
+take_done : (name : List ℕ) (access : Access) (before after : Option OnShelf) (n : ℕ) (now : Option Attached)
+    (b : Bool) → HasTaken name access before after now (Ok b) →
     Came (taken name access) (Some b) now (shelf_view before n) (shelf_view after n)
 take_done name Write before after n now b h =
-    record { reply = failed; done_so = ap Some (ap answer_in h.0); channel_so = h.1; answered = unasked before after n h.2 }
+    record {
+      reply = failed;
+      done_so = ap Some (ap answer_in h.0);
+      channel_so = h.1;
+      answered = unasked before after n h.2;
+    }
 take_done name Read before after n now b (got, read, is, there) = record {
   reply = fetched got;
   done_so = ap Some (there ∙ ap is_some is);
@@ -107,16 +134,28 @@ take_done name Modify before after n now b (got, read, is, there) = record {
   answered = one_call _ _ _ (record { told = read; faults = refl });
 }
 
-take_failed : (name : List ℕ) (access : Access) (before after : Option OnShelf) (m n : ℕ) (now : Option Attached) → (m ≤ n) × Rose m n → HasTaken name access before after now (Err fault.Failed) →
+take_failed : (name : List ℕ) (access : Access) (before after : Option OnShelf) (m n : ℕ) (now : Option Attached)
+    → (m ≤ n) × Rose m n → HasTaken name access before after now (Err fault.Failed) →
     Came (taken name access) None now (shelf_view before m) (shelf_view after n)
 take_failed name Write before after m n now counted h = no_answer h.0
 take_failed name Read before after m n now counted h =
-    record { reply = failed; done_so = refl; channel_so = h.0; answered = one_call _ _ _ (record { told = h.1; faults = counted }) }
+    record {
+      reply = failed;
+      done_so = refl;
+      channel_so = h.0;
+      answered = one_call _ _ _ (record { told = h.1; faults = counted });
+    }
 take_failed name Modify before after m n now counted h =
-    record { reply = failed; done_so = refl; channel_so = h.0; answered = one_call _ _ _ (record { told = h.1; faults = counted }) }
+    record {
+      reply = failed;
+      done_so = refl;
+      channel_so = h.0;
+      answered = one_call _ _ _ (record { told = h.1; faults = counted });
+    }
 
 -- calls, and then more of them
-both_answered : (first more : List Asked) (a b c : ShelfView) → HaveAnswered first a b → HaveAnswered more b c → HaveAnswered (first ++ more) a c
+both_answered : (first more : List Asked) (a b c : ShelfView) → HaveAnswered first a b → HaveAnswered more b c
+    → HaveAnswered (first ++ more) a c
 both_answered [] more a b c is next = subst (λ (v : ShelfView). HaveAnswered more v c) is next
 both_answered (x ∷ xs) more a b c (middle, was, rest) next = (middle, was, both_answered xs more middle b c rest next)
 
@@ -125,8 +164,10 @@ asked_of name access at first second c = served_by at (attaching name access c f
 
 module _ (name : List ℕ) (access : Access) (at : Spot) (old : Option Attached) where
   -- the finishing was done or not, and then the attaching came to this
-  attach_behind : (was : Bool) (left now : Option Attached) (came : Option Bool) (x y z : ShelfView) → Came (finished old) (Some was) left x y →
-      Came (taken name access) came now y z → WasServed (asked_of name access at) (option_map (goes_on at) came) old now x z
+  attach_behind : (was : Bool) (left now : Option Attached) (came : Option Bool) (x y z : ShelfView)
+      → Came (finished old) (Some was) left x y →
+      Came (taken name access) came now y z
+      → WasServed (asked_of name access at) (option_map (goes_on at) came) old now x z
   attach_behind was left now came x y z first second =
       let next : Attaching = taken name access second.reply in
       let before : Attaching = finished old first.reply in
@@ -137,11 +178,14 @@ module _ (name : List ℕ) (access : Access) (at : Spot) (old : Option Attached)
         second = second.reply;
         deed_so = ap (option_map (goes_on at)) (second.done_so ∙ ap (λ (o : Attaching). o.done) (sym is));
         channel_so = second.channel_so ∙ ap (λ (o : Attaching). o.channel) (sym is);
-        answered = subst (λ (o : Attaching). HaveAnswered o.calls x z) (sym is) (both_answered before.calls next.calls x y z first.answered second.answered);
+        answered =
+            subst (λ (o : Attaching). HaveAnswered o.calls x z) (sym is)
+            (both_answered before.calls next.calls x y z first.answered second.answered);
       }
 
   -- the finishing failed
-  attach_unfinished : (now : Option Attached) (x z : ShelfView) → Came (finished old) None now x z → WasServed (asked_of name access at) None old now x z
+  attach_unfinished : (now : Option Attached) (x z : ShelfView) → Came (finished old) None now x z
+      → WasServed (asked_of name access at) None old now x z
   attach_unfinished now x z first =
       let before : Attaching = finished old first.reply in
       let is : attaching name access old first.reply failed ≡ before =
@@ -154,37 +198,50 @@ module _ (name : List ℕ) (access : Access) (at : Spot) (old : Option Attached)
         answered = subst (λ (o : Attaching). HaveAnswered o.calls x z) (sym is) first.answered;
       }
 
-  by_answer : (before after : Option OnShelf) (m n : ℕ) (now : Option Attached) (b : Bool) → n ≡ m → HasAttached name access old before after now (Ok b) →
+  by_answer : (before after : Option OnShelf) (m n : ℕ) (now : Option Attached) (b : Bool) → n ≡ m
+      → HasAttached name access old before after now (Ok b) →
       WasServed (asked_of name access at) (Some (goes_on at b)) old now (shelf_view before m) (shelf_view after n)
   by_answer before after m n now b stands (unfinished e is h) = no_answer (sym is)
   by_answer before after m n now b stands (finished_first between left was first then_taken) =
       attach_behind was left now (Some b) (shelf_view before m) (shelf_view between m) (shelf_view after n)
       (finish_done old before between m left was first)
-      (subst (λ (k : ℕ). Came (taken name access) (Some b) now (shelf_view between m) (shelf_view after k)) (sym stands) (take_done name access between after m now b then_taken))
+      (subst (λ (k : ℕ). Came (taken name access) (Some b) now (shelf_view between m) (shelf_view after k))
+      (sym stands) (take_done name access between after m now b then_taken))
 
-  pub attach_served : (before after : Option OnShelf) (m n : ℕ) (now : Option Attached) (b : Bool) (d : Deed) → d ≡ goes_on at b → n ≡ m → HasAttached name access old before after now (Ok b) →
+  -- OPEN attached its file, or found none
+  pub attach_served : (before after : Option OnShelf) (m n : ℕ) (now : Option Attached) (b : Bool) (d : Deed)
+      → d ≡ goes_on at b → n ≡ m → HasAttached name access old before after now (Ok b) →
       WasServed (asked_of name access at) (Some d) old now (shelf_view before m) (shelf_view after n)
   attach_served before after m n now b d so stands h =
-      subst (λ (x : Deed). WasServed (asked_of name access at) (Some x) old now (shelf_view before m) (shelf_view after n)) (sym so) (by_answer before after m n now b stands h)
+      subst (λ (x : Deed). WasServed (asked_of name access at) (Some x) old now (shelf_view before m)
+      (shelf_view after n)) (sym so) (by_answer before after m n now b stands h)
 
-  by_fault : (before after : Option OnShelf) (m n : ℕ) (now : Option Attached) → (m ≤ n) × Rose m n → HasAttached name access old before after now (Err fault.Failed) →
+  by_fault : (before after : Option OnShelf) (m n : ℕ) (now : Option Attached) → (m ≤ n) × Rose m n
+      → HasAttached name access old before after now (Err fault.Failed) →
       WasServed (asked_of name access at) None old now (shelf_view before m) (shelf_view after n)
   by_fault before after m n now counted (unfinished e is h) =
       attach_unfinished now (shelf_view before m) (shelf_view after n)
-      (finish_failed old before after m n now counted (subst (λ (r : Result Bool ChannelFault). HasFinished old before after now r) (sym is) h))
+      (finish_failed old before after m n now counted
+      (subst (λ (r : Result Bool ChannelFault). HasFinished old before after now r) (sym is) h))
   by_fault before after m n now counted (finished_first between left was first then_taken) =
       attach_behind was left now None (shelf_view before m) (shelf_view between m) (shelf_view after n)
-      (finish_done old before between m left was first) (take_failed name access between after m n now counted then_taken)
+      (finish_done old before between m left was first)
+      (take_failed name access between after m n now counted then_taken)
 
-  pub attach_failed : (before after : Option OnShelf) (m n : ℕ) (now : Option Attached) (e : ChannelFault) → e ≡ fault.Failed → HasCause {A = Bool} m n (Err (of_shelf e)) →
-      HasAttached name access old before after now (Err e) → WasServed (asked_of name access at) None old now (shelf_view before m) (shelf_view after n)
+  -- the shelf failed while OPEN finished a file or asked for its own
+  pub attach_failed : (before after : Option OnShelf) (m n : ℕ) (now : Option Attached) (e : ChannelFault)
+      → e ≡ fault.Failed → HasCause {A = Bool} m n (Err (of_shelf e)) →
+      HasAttached name access old before after now (Err e)
+      → WasServed (asked_of name access at) None old now (shelf_view before m) (shelf_view after n)
   attach_failed before after m n now e is counted h =
-      by_fault before after m n now (subst (λ (f : ChannelFault). HasCause {A = Bool} m n (Err (of_shelf f))) is counted)
+      by_fault before after m n now
+      (subst (λ (f : ChannelFault). HasCause {A = Bool} m n (Err (of_shelf f))) is counted)
       (subst (λ (f : ChannelFault). HasAttached name access old before after now (Err f)) is h)
 
 -- ---- want of memory
 
-put_away_keeps : (a : Attached) (before after : Option OnShelf) (now : Option Attached) (r : Result Bool ChannelFault) → HasPutAway a before after now r → KeepsOthers before after
+put_away_keeps : (a : Attached) (before after : Option OnShelf) (now : Option Attached) (r : Result Bool ChannelFault)
+    → HasPutAway a before after now r → KeepsOthers before after
 put_away_keeps a before after now (Ok b) h = put_keeps a.name a.bytes before after _ h.2
 put_away_keeps a before after now (Err e) h = put_keeps a.name a.bytes before after _ h.1
 
@@ -193,25 +250,30 @@ same_keeps : (o p : Option OnShelf) → p ≡ o → KeepsOthers o p
 same_keeps None p is = is
 same_keeps (Some s) p is = (s, [], is, λ other apart. refl)
 
-by_keeps : (access : Access) (a : Attached) (before after : Option OnShelf) (now : Option Attached) (r : Result Bool ChannelFault) → HasFinishedBy access a before after now r → KeepsOthers before after
+by_keeps : (access : Access) (a : Attached) (before after : Option OnShelf) (now : Option Attached)
+    (r : Result Bool ChannelFault) → HasFinishedBy access a before after now r → KeepsOthers before after
 by_keeps Read a before after now r h = same_keeps before after h.2
 by_keeps Write a before after now r h = put_away_keeps a before after now r h
 by_keeps Modify a before after now r h = put_away_keeps a before after now r h
 
-finish_keeps : (c : Option Attached) (before after : Option OnShelf) (now : Option Attached) (r : Result Bool ChannelFault) → HasFinished c before after now r → KeepsOthers before after
+finish_keeps : (c : Option Attached) (before after : Option OnShelf) (now : Option Attached)
+    (r : Result Bool ChannelFault) → HasFinished c before after now r → KeepsOthers before after
 finish_keeps None before after now r h = same_keeps before after h.2
 finish_keeps (Some a) before after now r h = by_keeps a.access a before after now r h
 
-open_keeps : (name : List ℕ) (access : Access) (a b c : Option OnShelf) (now : Option Attached) (r : Result Bool ChannelFault) → KeepsOthers a b → HasOpened name access b c now r → KeepsOthers a c
+open_keeps : (name : List ℕ) (access : Access) (a b c : Option OnShelf) (now : Option Attached)
+    (r : Result Bool ChannelFault) → KeepsOthers a b → HasOpened name access b c now r → KeepsOthers a c
 open_keeps name access a b c now (Ok there) keeps (got, read, is, came) = read_behind _ name a b c _ keeps read
 open_keeps name access a b c now (Err e) keeps h = read_behind _ name a b c _ keeps h.1
 
-take_keeps : (name : List ℕ) (access : Access) (a b c : Option OnShelf) (now : Option Attached) (r : Result Bool ChannelFault) → KeepsOthers a b → HasTaken name access b c now r → KeepsOthers a c
+take_keeps : (name : List ℕ) (access : Access) (a b c : Option OnShelf) (now : Option Attached)
+    (r : Result Bool ChannelFault) → KeepsOthers a b → HasTaken name access b c now r → KeepsOthers a c
 take_keeps name Write a b c now r keeps h = subst (λ (o : Option OnShelf). KeepsOthers a o) (sym h.2) keeps
 take_keeps name Read a b c now r keeps h = open_keeps name Read a b c now r keeps h
 take_keeps name Modify a b c now r keeps h = open_keeps name Modify a b c now r keeps h
 
-attach_keeps : (name : List ℕ) (access : Access) (old : Option Attached) (before after : Option OnShelf) (now : Option Attached) (r : Result Bool ChannelFault) →
+attach_keeps : (name : List ℕ) (access : Access) (old : Option Attached) (before after : Option OnShelf)
+    (now : Option Attached) (r : Result Bool ChannelFault) →
     HasAttached name access old before after now r → KeepsOthers before after
 attach_keeps name access old before after now r (unfinished e is h) = finish_keeps old before after now (Err e) h
 attach_keeps name access old before after now r (finished_first between left was first then_taken) =
@@ -223,12 +285,16 @@ counted_later m n (Ok b) h = omega (arith, h)
 counted_later m n (Err shelf.Failed) h = h.0
 counted_later m n (Err shelf.Memory) h = omega (arith, h)
 
-pub attach_broken : (name : List ℕ) (access : Access) (old : Option Attached) (before after : Option OnShelf) (m n : ℕ) (now : Option Attached) (r : Result Bool ChannelFault) → HasCause m n (by_shelf r) →
+-- after a fault of attaching one file alone may have changed
+pub attach_broken : (name : List ℕ) (access : Access) (old : Option Attached) (before after : Option OnShelf) (m n : ℕ)
+    (now : Option Attached) (r : Result Bool ChannelFault) → HasCause m n (by_shelf r) →
     HasAttached name access old before after now r → HasBrokenOff (shelf_view before m) (shelf_view after n)
 attach_broken name access old before after m n now r cause h =
     record { told = attach_keeps name access old before after now r h; faults = counted_later m n (by_shelf r) cause }
 
-pub finish_broken : (old : Option Attached) (before after : Option OnShelf) (m n : ℕ) (now : Option Attached) (r : Result Bool ChannelFault) → HasCause m n (by_shelf r) →
+-- after a fault of finishing one file alone may have changed
+pub finish_broken : (old : Option Attached) (before after : Option OnShelf) (m n : ℕ) (now : Option Attached)
+    (r : Result Bool ChannelFault) → HasCause m n (by_shelf r) →
     HasFinished old before after now r → HasBrokenOff (shelf_view before m) (shelf_view after n)
 finish_broken old before after m n now r cause h =
     record { told = finish_keeps old before after now r h; faults = counted_later m n (by_shelf r) cause }

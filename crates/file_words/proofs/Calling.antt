@@ -1,7 +1,9 @@
 -- The calls of a word on a text file change one file alone.
 use Rattle.std.proofs.Common.{ℕ, ◌≤◌, List, [], ◌∷◌, Option, None, Some, Result, Ok, Err, subst, sym, arith}
 use Rattle.commands_file.proofs.Broken.{answered_keeps, none_broken}
-use Rattle.commands_file.specs.Calls.{asks, failed, fetched, fetches, gets, loaded, puts, removes, there, written, Asked, HasBrokenOff, HaveAnswered, IsTold, KeepsOthers, Reply, ShelfCall, ShelfView}
+use Rattle.commands_file.specs.Calls.{asks, failed, fetched, fetches, gets, loaded, puts, removes, there, written}
+use Rattle.commands_file.specs.Calls.{Asked, HasBrokenOff, HaveAnswered, IsTold, KeepsOthers, Reply, ShelfCall}
+use Rattle.commands_file.specs.Calls.{ShelfView}
 use Rattle.file_words.specs.Attaching.{attaching, finished, finished_by, put_away, taken, then_by, Attaching}
 use Rattle.file_words.specs.Serving.{served, served_word}
 use Rattle.macro_words.specs.declared.files.FileDeed.{FileDeed}
@@ -16,10 +18,13 @@ use Rattle.text_channel.specs.declared.attached.Access.TheVariants.{Read, Write,
 use Rattle.text_channel.specs.declared.attached.Attached.{Attached}
 
 -- what reads a file changes none
-pub read_behind : {A : Type 0} (told : Files → A) (name : List ℕ) (a b c : Option OnShelf) (result : Result A ShelfFault) →
+pub read_behind : {A : Type 0} (told : Files → A) (name : List ℕ) (a b c : Option OnShelf)
+    (result : Result A ShelfFault) →
     KeepsOthers a b → HasRead told name b c result → KeepsOthers a c
-read_behind {A = A} told name None b c result keeps h = subst (λ (o : Option OnShelf). HasRead told name o c result) keeps h
-read_behind {A = A} told name (Some s) b c result (t, other, is, same) h = by result (subst (λ (o : Option OnShelf). HasRead told name o c result) is h)
+read_behind {A = A} told name None b c result keeps h =
+    subst (λ (o : Option OnShelf). HasRead told name o c result) keeps h
+read_behind {A = A} told name (Some s) b c result (t, other, is, same) h =
+    by result (subst (λ (o : Option OnShelf). HasRead told name o c result) is h)
   where
     by : (r : Result A ShelfFault) → HasRead told name (Some t) c r → KeepsOthers (Some s) c
     by (Ok value) k = (_, other, k.1, same)
@@ -44,7 +49,8 @@ abbrev IsOneThenFetches : List Asked → Type 0
 IsOneThenFetches [] = Unit {0}
 IsOneThenFetches (a ∷ more) = AreFetches more
 
-fetch_keeps : (call : ShelfCall) (reply : Reply) (a b c : Option OnShelf) → IsFetch call → KeepsOthers a b → IsTold call reply b c → KeepsOthers a c
+fetch_keeps : (call : ShelfCall) (reply : Reply) (a b c : Option OnShelf) → IsFetch call → KeepsOthers a b
+    → IsTold call reply b c → KeepsOthers a c
 fetch_keeps (asks name) reply a b c is keeps h = absurd is
 fetch_keeps (gets name) reply a b c is keeps h = absurd is
 fetch_keeps (puts name bytes) reply a b c is keeps h = absurd is
@@ -55,7 +61,8 @@ fetch_keeps (fetches name) (loaded x) a b c is keeps h = absurd h
 fetch_keeps (fetches name) (fetched got) a b c is keeps h = read_behind _ name a b c _ keeps h
 fetch_keeps (fetches name) written a b c is keeps h = absurd h
 
-fetches_keep : (calls : List Asked) (a b c : ShelfView) → AreFetches calls → HasBrokenOff a b → HaveAnswered calls b c → HasBrokenOff a c
+fetches_keep : (calls : List Asked) (a b c : ShelfView) → AreFetches calls → HasBrokenOff a b → HaveAnswered calls b c
+    → HasBrokenOff a c
 fetches_keep [] a b c are broke same = subst (λ (v : ShelfView). HasBrokenOff a v) (sym same) broke
 fetches_keep (x ∷ xs) a b c are broke (middle, was, later) =
     let counted : b.faults ≤ middle.faults = (answered_keeps x b middle was).faults in
@@ -87,7 +94,8 @@ alone_first [] are = tt
 alone_first (x ∷ xs) are = are.1
 
 -- the calls of an attaching, by those of its finishing
-put_first : (a : Attached) (first : Reply) (next : Attaching) → AreFetches next.calls → IsOneThenFetches (then_by (put_away a first).done (put_away a first) next).calls
+put_first : (a : Attached) (first : Reply) (next : Attaching) → AreFetches next.calls
+    → IsOneThenFetches (then_by (put_away a first).done (put_away a first) next).calls
 put_first a written next are = are
 put_first a failed next are = tt
 put_first a (there b) next are = tt
@@ -100,9 +108,12 @@ by_first Read a first next are = alone_first next.calls are
 by_first Write a first next are = put_first a first next are
 by_first Modify a first next are = put_first a first next are
 
-attached_calls : (name : List ℕ) (access : Access) (c : Option Attached) (first second : Reply) → IsOneThenFetches (attaching name access c first second).calls
-attached_calls name access None first second = alone_first (taken name access second).calls (taken_fetches name access second)
-attached_calls name access (Some a) first second = by_first a.access a first (taken name access second) (taken_fetches name access second)
+attached_calls : (name : List ℕ) (access : Access) (c : Option Attached) (first second : Reply)
+    → IsOneThenFetches (attaching name access c first second).calls
+attached_calls name access None first second =
+    alone_first (taken name access second).calls (taken_fetches name access second)
+attached_calls name access (Some a) first second =
+    by_first a.access a first (taken name access second) (taken_fetches name access second)
 
 put_alone : (a : Attached) (first : Reply) → IsOneThenFetches (put_away a first).calls
 put_alone a written = tt
@@ -120,7 +131,8 @@ finished_calls : (c : Option Attached) (first : Reply) → IsOneThenFetches (fin
 finished_calls None first = tt
 finished_calls (Some a) first = by_alone a.access a first
 
-word_calls : (w : FileWord) (at : Spot) (c : Option Attached) (first second : Reply) → IsOneThenFetches (served w at first second c).calls
+word_calls : (w : FileWord) (at : Spot) (c : Option Attached) (first second : Reply)
+    → IsOneThenFetches (served w at first second c).calls
 word_calls (word.Open name access) at c first second = attached_calls name access c first second
 word_calls word.Close at c first second = finished_calls c first
 word_calls (word.Read count p) at c first second = tt
@@ -132,5 +144,7 @@ word_calls (word.Position p) at c first second = tt
 word_calls (word.SetPosition place) at c first second = tt
 
 -- behind a word no file but one may have changed
-pub served_keeps : (d : FileDeed) (c : Option Attached) (first second : Reply) (a b : ShelfView) → HaveAnswered (served_word d first second c).calls a b → HasBrokenOff a b
-served_keeps d c first second a b had = one_keeps (served d.word d.done first second c).calls a b (word_calls d.word d.done c first second) had
+pub served_keeps : (d : FileDeed) (c : Option Attached) (first second : Reply) (a b : ShelfView)
+    → HaveAnswered (served_word d first second c).calls a b → HasBrokenOff a b
+served_keeps d c first second a b had =
+    one_keeps (served d.word d.done first second c).calls a b (word_calls d.word d.done c first second) had

@@ -23,8 +23,8 @@ use Rattle.formula_text.specs.Words.{address_found, has_dollar, is_word_byte, na
 use Rattle.formula_text.specs.declared.fault.ParseFault.{ParseFault}
 use Rattle.formula_text.specs.declared.fault.ParseFault.TheVariants.{ArgCount, TooLong, UnknownName}
 use Rattle.formula_text.specs.declared.lexeme.Found.{Found}
-use Rattle.formula_text.specs.declared.lexeme.Kind.{Kind}
-use Rattle.formula_text.specs.declared.lexeme.Kind.TheVariants.{Num, Str, Cell, Span, Constant, Function, Infix, Not, Open, Close, Comma, Unclosed, Bad}
+use Rattle.formula_text.specs.declared.lexeme.LexemeKind.{LexemeKind}
+use Rattle.formula_text.specs.declared.lexeme.LexemeKind.TheVariants.{Num, Str, Cell, Span, Constant, Function, Infix, Not, Open, Close, Comma, Unclosed, Bad}
 use Rattle.formula_text.specs.declared.lexeme.Lexeme.{Lexeme}
 use Rattle.formula_text.specs.declared.parse.Bracket.{Bracket}
 use Rattle.formula_text.specs.declared.parse.Bracket.TheVariants.{Plain, Call}
@@ -32,7 +32,7 @@ use Rattle.formula_text.specs.declared.parse.Bracket.TheVariants.{Plain, Call}
 -- ---- parts
 
 -- a part is the same, unless it was one that may stand nowhere
-abbrev Stays : Kind → Kind → Type 0
+abbrev Stays : LexemeKind → LexemeKind → Type 0
 Stays (Bad f) k = Unit {0}
 Stays (Num v) k = k ≡ Num v
 Stays (Str t) k = k ≡ Str t
@@ -47,7 +47,7 @@ Stays Close k = k ≡ Close
 Stays Comma k = k ≡ Comma
 Stays Unclosed k = k ≡ Unclosed
 
-same_stays : (k : Kind) → Stays k k
+same_stays : (k : LexemeKind) → Stays k k
 same_stays (Bad f) = tt
 same_stays (Num v) = refl
 same_stays (Str t) = refl
@@ -117,25 +117,25 @@ close_same at (Call f n ∷ bs) a b same h =
     closed_if (takes (counts_of f) (n + 1)) (ArgCount at) (after (closing ∷ []) (a bs)) (after (closing ∷ []) (b bs)) (after_same (closing ∷ []) (a bs) (b bs) (same bs)) h
 
 module _ (at : ℕ) (bs : Brackets) (a b c d : Brackets → Verdict) (operand : SameBy a b) (operator : SameBy c d) where
-  operand_row_same : (k m : Kind) (e g : AtFunction → Brackets → Verdict) → SameByCall e g → Stays k m → Same (operand_row k at bs a c e) (operand_row m at bs b d g)
+  operand_row_same : (k m : LexemeKind) (e g : AtFunction → Brackets → Verdict) → SameByCall e g → Stays k m → Same (operand_row k at bs a c e) (operand_row m at bs b d g)
   operand_row_same (Bad f) m e g bracket stays h = absurd (false≢true h)
-  operand_row_same (Num v) m e g bracket stays h = ap (λ (k : Kind). operand_row k at bs b d g) stays ∙ after_same (number v ∷ []) (c bs) (d bs) (operator bs) h
-  operand_row_same (Str t) m e g bracket stays h = ap (λ (k : Kind). operand_row k at bs b d g) stays ∙ after_same (text t ∷ []) (c bs) (d bs) (operator bs) h
-  operand_row_same (Cell r) m e g bracket stays h = ap (λ (k : Kind). operand_row k at bs b d g) stays ∙ after_same (place r ∷ []) (c bs) (d bs) (operator bs) h
-  operand_row_same (Span x y) m e g bracket stays h = ap (λ (k : Kind). operand_row k at bs b d g) stays ∙ after_same (places x y ∷ []) (c bs) (d bs) (operator bs) h
-  operand_row_same (Constant f) m e g bracket stays h = ap (λ (k : Kind). operand_row k at bs b d g) stays ∙ after_same (constant f ∷ []) (c bs) (d bs) (operator bs) h
-  operand_row_same (Function f) m e g bracket stays h = ap (λ (k : Kind). operand_row k at bs b d g) stays ∙ after_same (called f ∷ []) (e f bs) (g f bs) (bracket f bs) h
-  operand_row_same (Infix op) m e g bracket stays h = ap (λ (k : Kind). operand_row k at bs b d g) stays ∙ front_same op at bs a b operand h
-  operand_row_same Not m e g bracket stays h = ap (λ (k : Kind). operand_row k at bs b d g) stays ∙ after_same (front_not ∷ []) (a bs) (b bs) (operand bs) h
-  operand_row_same Open m e g bracket stays h = ap (λ (k : Kind). operand_row k at bs b d g) stays ∙ after_same (opening ∷ []) (a (Plain ∷ bs)) (b (Plain ∷ bs)) (operand (Plain ∷ bs)) h
+  operand_row_same (Num v) m e g bracket stays h = ap (λ (k : LexemeKind). operand_row k at bs b d g) stays ∙ after_same (number v ∷ []) (c bs) (d bs) (operator bs) h
+  operand_row_same (Str t) m e g bracket stays h = ap (λ (k : LexemeKind). operand_row k at bs b d g) stays ∙ after_same (text t ∷ []) (c bs) (d bs) (operator bs) h
+  operand_row_same (Cell r) m e g bracket stays h = ap (λ (k : LexemeKind). operand_row k at bs b d g) stays ∙ after_same (place r ∷ []) (c bs) (d bs) (operator bs) h
+  operand_row_same (Span x y) m e g bracket stays h = ap (λ (k : LexemeKind). operand_row k at bs b d g) stays ∙ after_same (places x y ∷ []) (c bs) (d bs) (operator bs) h
+  operand_row_same (Constant f) m e g bracket stays h = ap (λ (k : LexemeKind). operand_row k at bs b d g) stays ∙ after_same (constant f ∷ []) (c bs) (d bs) (operator bs) h
+  operand_row_same (Function f) m e g bracket stays h = ap (λ (k : LexemeKind). operand_row k at bs b d g) stays ∙ after_same (called f ∷ []) (e f bs) (g f bs) (bracket f bs) h
+  operand_row_same (Infix op) m e g bracket stays h = ap (λ (k : LexemeKind). operand_row k at bs b d g) stays ∙ front_same op at bs a b operand h
+  operand_row_same Not m e g bracket stays h = ap (λ (k : LexemeKind). operand_row k at bs b d g) stays ∙ after_same (front_not ∷ []) (a bs) (b bs) (operand bs) h
+  operand_row_same Open m e g bracket stays h = ap (λ (k : LexemeKind). operand_row k at bs b d g) stays ∙ after_same (opening ∷ []) (a (Plain ∷ bs)) (b (Plain ∷ bs)) (operand (Plain ∷ bs)) h
   operand_row_same Close m e g bracket stays h = absurd (false≢true h)
   operand_row_same Comma m e g bracket stays h = absurd (false≢true h)
   operand_row_same Unclosed m e g bracket stays h = absurd (false≢true h)
 
-  operator_row_same : (k m : Kind) → Stays k m → Same (operator_row k at bs a c) (operator_row m at bs b d)
-  operator_row_same (Infix op) m stays h = ap (λ (k : Kind). operator_row k at bs b d) stays ∙ after_same (infix_op op ∷ []) (a bs) (b bs) (operand bs) h
-  operator_row_same Comma m stays h = ap (λ (k : Kind). operator_row k at bs b d) stays ∙ comma_same at bs a b operand h
-  operator_row_same Close m stays h = ap (λ (k : Kind). operator_row k at bs b d) stays ∙ close_same at bs c d operator h
+  operator_row_same : (k m : LexemeKind) → Stays k m → Same (operator_row k at bs a c) (operator_row m at bs b d)
+  operator_row_same (Infix op) m stays h = ap (λ (k : LexemeKind). operator_row k at bs b d) stays ∙ after_same (infix_op op ∷ []) (a bs) (b bs) (operand bs) h
+  operator_row_same Comma m stays h = ap (λ (k : LexemeKind). operator_row k at bs b d) stays ∙ comma_same at bs a b operand h
+  operator_row_same Close m stays h = ap (λ (k : LexemeKind). operator_row k at bs b d) stays ∙ close_same at bs c d operator h
   operator_row_same (Bad f) m stays h = absurd (false≢true h)
   operator_row_same (Num v) m stays h = absurd (false≢true h)
   operator_row_same (Str t) m stays h = absurd (false≢true h)
@@ -147,8 +147,8 @@ module _ (at : ℕ) (bs : Brackets) (a b c d : Brackets → Verdict) (operand : 
   operator_row_same Open m stays h = absurd (false≢true h)
   operator_row_same Unclosed m stays h = absurd (false≢true h)
 
-bracket_row_same : (at : ℕ) (v w : Verdict) → Same v w → (k m : Kind) → Stays k m → Same (bracket_row k at v) (bracket_row m at w)
-bracket_row_same at v w same Open m stays h = ap (λ (k : Kind). bracket_row k at w) stays ∙ same h
+bracket_row_same : (at : ℕ) (v w : Verdict) → Same v w → (k m : LexemeKind) → Stays k m → Same (bracket_row k at v) (bracket_row m at w)
+bracket_row_same at v w same Open m stays h = ap (λ (k : LexemeKind). bracket_row k at w) stays ∙ same h
 bracket_row_same at v w same (Infix op) m stays h = absurd (false≢true h)
 bracket_row_same at v w same Comma m stays h = absurd (false≢true h)
 bracket_row_same at v w same Close m stays h = absurd (false≢true h)
@@ -215,7 +215,7 @@ module _ (names : NameMap) (cell : Place) where
 
   kind_stays : (at : ℕ) (word : List ℕ) → Stays (name_kind no_names cell at word) (name_kind names cell at word)
   kind_stays at word =
-      subst (λ (k : Kind). Stays k (name_kind names cell at word)) (sym (ap (span_kind cell at (has_dollar word)) (none_named (without_dollar word)))) tt
+      subst (λ (k : LexemeKind). Stays k (name_kind names cell at word)) (sym (ap (span_kind cell at (has_dollar word)) (none_named (without_dollar word)))) tt
 
   by_address : (at : ℕ) (word : List ℕ) (len : ℕ) (behind : List ℕ) (o : Option Reference) → FoundStays (word_or_address no_names cell at word len behind o) (word_or_address names cell at word len behind o)
   by_address at word len behind None = (refl, kind_stays at word)

@@ -81,7 +81,7 @@ has_head Number = true
 has_head Label = true
 has_head Formula = true
 has_head Str = true
-has_head other = false
+has_head kind = false
 
 -- the byte of an order of recalculation
 abbrev pub order_byte : Order → ℕ

@@ -54,8 +54,9 @@ loop-place-preserved g c =
           scenarios_more shows tries (row_scenarios s c.args.down c.args.across g.values) n k c.args.bench.now
           c.loop-place.bench c.try_row.new.bench c.args.writes.now c.loop-place.writes c.try_row.new.writes
           c.loop-place.invariant.taken
-          (subst (λ (r : ℕ). HasTaken shows tries (row_scenarios s c.args.down c.args.across g.values r) c.loop-place.bench
-          c.loop-place.writes c.try_row.new.bench c.try_row.new.writes) row_is c.in_ok-try_row.ensures.taken);
+          (subst (λ (r : ℕ). HasTaken shows tries (row_scenarios s c.args.down c.args.across g.values r)
+          c.loop-place.bench c.loop-place.writes c.try_row.new.bench c.try_row.new.writes) row_is
+          c.in_ok-try_row.ensures.taken);
       same =
           same_both (shows c.args.bench.now) (shows c.loop-place.bench) (shows c.try_row.new.bench)
           c.loop-place.invariant.same c.try_row.ensures.same;

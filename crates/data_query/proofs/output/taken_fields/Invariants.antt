@@ -10,6 +10,6 @@ use Rattle.data_query.proofs.output.taken_fields.Given as goal
 abbrev pub invariant-loop-col : goal.invariant-loop-col
 invariant-loop-col g l =
     l.fields.items ++ taken_of
-    (λ col. output_field col (field_named (g.K.Look.sight l.look) l.input (at l.output.first.row col))) l.output.first.col
-    (width_of l.output) l.col
+    (λ col. output_field col (field_named (g.K.Look.sight l.look) l.input (at l.output.first.row col)))
+    l.output.first.col (width_of l.output) l.col
     ≡ taken_fields (g.K.Look.sight l.look) l.input l.output
