@@ -247,7 +247,7 @@ def example_told(name):
         first = EXAMPLES / f"{name}.files" / left.name
         state = "new" if not first.exists() else "as it was" if first.read_bytes() == left.read_bytes() else "changed"
         out.append(f"{left.name:<12} {left.stat().st_size:7d} bytes, {state}")
-        if left.suffix == ".PRN":
+        if left.suffix in (".PRN", ".TXT"):
             out += left.read_bytes().decode("latin-1").split("\n")[:-1]
     return out
 
