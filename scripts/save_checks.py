@@ -1,4 +1,5 @@
-"""Saves of the program where others save too, where rights, room or the stack are short, and where keys and screens don't wait.
+"""Saves of the program where others save too, where rights, room or the stack are short, and where keys and screens don't wait;
+and sums over whole columns, and words that are no text.
 What must come of them is told by the oracle.
 
 python3 -B scripts/save_checks.py PROGRAM
@@ -27,6 +28,8 @@ OWNER, GROUP = 4_321, 4_322
 # the bytes of a saved sheet without cells, and of a label beside its text
 BARE, LABEL = 82, 11
 WIDEST = 240
+# what sums over whole columns may add to the most memory of a run, in bytes
+MOST_OF_SUMS = 1_000_000
 
 
 # ---------------------------------------------------------------- sheets
@@ -353,8 +356,45 @@ def small_stacks(program):
     return faults
 
 
+def most_memory(program, keys):
+    """The most memory of a run with these keys, in bytes."""
+    with Room(program) as room:
+        room.write("keys", keys)
+        with open(room.path("keys"), "rb") as given:
+            ran = subprocess.Popen([program, "--show", "last"], stdin=given, stdout=subprocess.DEVNULL, cwd=room.folder)
+            _, ran.returncode, used = os.wait4(ran.pid, 0)
+        return used.ru_maxrss * 1024
+
+
+def sums_of_columns(program):
+    """Sixteen whole columns, which a formula adds up 115 times, take no memory that grows with their cells."""
+    full = b"1~/C~A1..P8192~/RNCX~A1..P8192~{GOTO}R1~"
+    bare, faults = most_memory(program, full + b"1~"), []
+    for function in (b"SUM", b"AVG", b"COUNT", b"MAX", b"MIN"):
+        added = most_memory(program, full + b"@" + function + b"(" + b",".join([b"X"] * 115) + b")~") - bare
+        faults += unless(added < MOST_OF_SUMS, f"115 @{function.decode()} add {added} bytes")
+    return faults
+
+
+def refused_words(program):
+    """A refused word is told byte for byte, also where it is no text, and of several the first."""
+    faults = []
+    for words, told in (
+        ([b"caf\xe9"], b"caf\xe9"),
+        ([b"\xff first", b"--second"], b"\xff first"),
+        ([b"--count", b"\xc3(", b"--strict=1"], b"\xc3("),
+        ([b"--steps", b"\x80", b"\xfe"], b"\x80"),
+        ([b"--count", b"--count", b"\xfe"], b"--count"),
+    ):
+        with Room(program) as room:
+            ran = room.run(b"5~", *words)
+            ended = (ran.returncode, ran.stdout, ran.stderr)
+            faults += unless(ended == (1, b"", b"1-2-3: bad word: " + told + b"\n"), f"{words}: {ended}")
+    return faults
+
+
 def main(words):
-    checks = [two_programs, too_large, rights, left_beside, not_waiting, file_sizes, small_stacks]
+    checks = [two_programs, too_large, rights, left_beside, not_waiting, file_sizes, small_stacks, sums_of_columns, refused_words]
     if os.geteuid() == 0:
         checks.append(rights_of_others)
     else:
