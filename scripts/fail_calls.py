@@ -49,9 +49,9 @@ class Calls:
         own_words = content(f"{example}.words").decode().split() if os.path.exists(f"{example}.words") else []
         self.words = own_words + words
         self.files = files_in(f"{example}.files") if os.path.exists(f"{example}.files") else {}
-        self.before = self.run("", 0)
+        self.before, self.between = self.run("", 0), None
 
-    def run(self, kind, number, tell=None):
+    def run(self, kind, number, tell=None, more=()):
         env = {"LD_PRELOAD": self.shim, "FAILING": kind, "FAIL_AT": str(number)}
         if tell:
             env["FAIL_TELL"] = tell
@@ -59,7 +59,7 @@ class Calls:
             for name, held in self.files.items():
                 with open(f"{room}/{name}", "wb") as it:
                     it.write(held)
-            ran = subprocess.run([self.program, *self.words], input=self.keys, capture_output=True, env=env, timeout=120, cwd=room)
+            ran = subprocess.run([self.program, *self.words, *more], input=self.keys, capture_output=True, env=env, timeout=120, cwd=room)
             return ran.returncode, page_lines(ran.stdout), ran.stderr, files_in(room)
 
     def count(self, kind):
@@ -69,9 +69,20 @@ class Calls:
             number, *absent = map(int, tell.read().split() or [0])
             return number, absent
 
+    def left_behind_steps(self):
+        """The files that a run without failures has left behind each of its steps."""
+        if self.between is None:
+            steps = len(self.before[1]) // 26
+            self.between = [self.run("", 0, more=["--steps", str(number)])[3] for number in range(1, steps + 1)]
+        return self.between
+
     def are_whole(self, left):
-        """Whether each file left is one of before or one of a run without failures."""
-        return all(held in (self.files.get(name), self.before[3].get(name)) for name, held in left.items())
+        """Whether each file left is one of before, or one that a run without failures has left behind some step."""
+        for name, held in left.items():
+            if held not in (self.files.get(name), self.before[3].get(name)):
+                if not any(held == files.get(name) for files in self.left_behind_steps()):
+                    return False
+        return True
 
     def file_fault(self, status, lines, notes, left):
         """Why a run in which a file's call failed did not end as it should."""
