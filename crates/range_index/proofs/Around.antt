@@ -8,7 +8,8 @@ use Rattle.std.proofs.lemmas.Bool.{cases_Bool, or_cases, or_left, false≢true, 
 use Rattle.std.proofs.lemmas.List.Folds.{list_any-append}
 use Rattle.grid_address.proofs.Places.{cells_total, same_place_itself}
 use Rattle.grid_address.specs.Place.{is_within, place_cmp, same_place, Extent, Place}
-use Rattle.range_index.specs.Hulls.{in_hull, IsAround}
+use Rattle.range_index.specs.Hulls.{in_hull}
+use Rattle.range_index.specs.inner.Around.{IsAround}
 use Rattle.range_index.specs.Owners.{hold, owners_of, spans_in, with_span, Owners}
 use Rattle.range_index.specs.declared.hull.Hull.{Hull}
 use Rattle.range_index.proofs.Listed.{owner_told}

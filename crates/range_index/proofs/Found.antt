@@ -16,10 +16,10 @@ use Rattle.std.proofs.lemmas.Map.Lookups.{CmpEqualImpliesEq, exact_unsigned}
 use Rattle.grid_address.proofs.Maps.{equal_of}
 use Rattle.grid_address.proofs.Places.{cells_exact}
 use Rattle.grid_address.specs.Place.{is_within, place_cmp, whole, Extent, Place}
-use Rattle.range_index.specs.Blocks.{block_at, size_of}
+use Rattle.range_index.specs.inner.Blocks.{block_at, size_of}
 use Rattle.range_index.specs.Owners.{hold, spans_in, Owners}
-use Rattle.range_index.specs.Powers.{powers_cmp, Powers}
-use Rattle.range_index.specs.Registered.{block_cmp, has_place, has_registration, has_size, is_registered, owned, registered, registration_cmp, AreAmong, AreFoundAt, AreFoundIn, AreFoundOrCome, AreFoundOrLeft, AreRegistered}
+use Rattle.range_index.specs.inner.Powers.{powers_cmp, Powers}
+use Rattle.range_index.specs.inner.Registered.{block_cmp, has_place, has_registration, has_size, is_registered, owned, registered, registration_cmp, AreAmong, AreFoundAt, AreFoundIn, AreFoundOrCome, AreFoundOrLeft, AreRegistered}
 use Rattle.range_index.specs.declared.block.Block.{Block}
 use Rattle.range_index.specs.declared.register.Registration.{Registration}
 use Rattle.range_index.proofs.Registrations.{block_total, then_parts}

@@ -13,8 +13,8 @@ use Rattle.grid_address.proofs.Maps.{equal_of, get_entries}
 use Rattle.grid_address.proofs.Places.{cells_exact, cells_total, same_place_is}
 use Rattle.grid_address.specs.Place.{place_cmp, same_place, Extent, Place}
 use Rattle.range_index.specs.Owners.{hold, spans_in, with_span, Owners}
-use Rattle.range_index.specs.Powers.{Powers}
-use Rattle.range_index.specs.Registered.{has_registration, is_registered, registered, AreRegistered, StaysRegistered}
+use Rattle.range_index.specs.inner.Powers.{Powers}
+use Rattle.range_index.specs.inner.Registered.{has_registration, is_registered, registered, AreRegistered, StaysRegistered}
 use Rattle.range_index.specs.declared.register.Registration.{Registration}
 
 pub none_registered : (es : List (Place × List Extent)) (sizes : List Powers) (rs : List Registration) → es ≡ [] → AreRegistered (from_entries es) sizes rs

@@ -16,7 +16,7 @@ use Rattle.grid_address.proofs.Maps as maps
 use Rattle.grid_address.proofs.Places.{cells_exact, cells_total, place_tied}
 use Rattle.grid_address.specs.Place.{place_cmp, same_place, Extent, Place}
 use Rattle.range_index.specs.Owners.{hold, owners_among, owners_of, spans_in, Owners}
-use Rattle.range_index.specs.Registered.{has_place, AreOwners}
+use Rattle.range_index.specs.inner.Registered.{has_place, AreOwners}
 
 pick : (x : Place) (xs : List Place) (b : Bool) → AllByRecursion (λ y. place_cmp x y ≡ Less) xs → IsStrictlySortedBy place_cmp xs → IsStrictlySortedBy place_cmp (cond b (x ∷ xs) xs)
 unfolding IsStrictlySortedBy

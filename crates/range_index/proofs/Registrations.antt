@@ -12,9 +12,9 @@ use Rattle.std.proofs.lemmas.Cmp.{on_total, then_total, tied_itself}
 use Rattle.grid_address.proofs.Maps.{equal_of}
 use Rattle.grid_address.proofs.Places.{cells_exact, cells_total, same_place_itself}
 use Rattle.grid_address.specs.Place.{is_within, place_cmp, same_place, whole, Extent, InSheet, Place}
-use Rattle.range_index.specs.Blocks.{are_one, size_of}
-use Rattle.range_index.specs.Powers.{powers_cmp, Powers}
-use Rattle.range_index.specs.Registered.{block_cmp, has_registration, has_size, is_registered, registered, registration_cmp, StaysRegistered}
+use Rattle.range_index.specs.inner.Blocks.{are_one, size_of}
+use Rattle.range_index.specs.inner.Powers.{powers_cmp, Powers}
+use Rattle.range_index.specs.inner.Registered.{block_cmp, has_registration, has_size, is_registered, registered, registration_cmp, StaysRegistered}
 use Rattle.range_index.specs.declared.register.Registration.{Registration}
 
 pub then_parts : (a b : Ordering) → ordering_then a b ≡ Equal → (a ≡ Equal) × (b ≡ Equal)

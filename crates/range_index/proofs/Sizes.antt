@@ -6,7 +6,7 @@ use Rattle.std.proofs.lemmas.Bool.Decides.{nat_tests}
 use Rattle.std.proofs.lemmas.Nat.{le-div, pow_pos, shr_below}
 use Rattle.std.proofs.Math.Nat.{div-mul-le_self}
 use Rattle.grid_address.specs.Place.{is_within, Extent, InSheet, Place}
-use Rattle.range_index.specs.Blocks.{are_one, block_at, power, power_from, size_of}
+use Rattle.range_index.specs.inner.Blocks.{are_one, block_at, power, power_from, size_of}
 
 power_step : (n p a b : ℕ) → nat_eq (a / 2 ^ p) (b / 2 ^ p) ≡ false → power_from (suc n) p a b ≡ power_from n (suc p) a b
 power_step n p a b h = ap (λ t. cond t p (power_from n (suc p) a b)) h

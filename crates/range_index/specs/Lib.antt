@@ -1,5 +1,3 @@
-pub mod Blocks
 pub mod Hulls
 pub mod Owners
-pub mod Powers
-pub mod Registered
+pub mod inner

@@ -1,7 +1,7 @@
 // Blocks of the sheet.
 ghost use Rattle.std.specs.Prelude.{◌≡◌, ◌<◌, true};
 ghost use Rattle.grid_address.specs.Place.{place_cmp};
-ghost use Rattle.range_index.specs.Blocks.{are_one, block_at, power, size_of};
+ghost use Rattle.range_index.specs.inner.Blocks.{are_one, block_at, power, size_of};
 
 use grid_address::{Cell, Span};
 use std::marker::Model;
@@ -15,7 +15,7 @@ pub struct Size {
 
 impl Model for Size {
     ghost use Rattle.std.specs.Prelude.{◌<◌};
-    ghost use Rattle.range_index.specs.Powers.{Powers};
+    ghost use Rattle.range_index.specs.inner.Powers.{Powers};
 
     ghost Value = { Powers };
 

@@ -29,9 +29,9 @@ pub struct RangeIndex {
 impl Model for RangeIndex {
     ghost use Rattle.std.specs.Coded.{codes};
     ghost use Rattle.std.specs.FinMap as map;
-    ghost use Rattle.range_index.specs.Hulls.{IsAround};
+    ghost use Rattle.range_index.specs.inner.Around.{IsAround};
     ghost use Rattle.range_index.specs.Owners.{Owners};
-    ghost use Rattle.range_index.specs.Registered.{AreRegistered};
+    ghost use Rattle.range_index.specs.inner.Registered.{AreRegistered};
 
     ghost Value = { Owners };
 

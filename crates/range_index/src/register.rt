@@ -3,7 +3,7 @@ ghost use Rattle.std.specs.Prelude.{◌≡◌, ◌⊎◌, true, false, OnOk, IfO
 ghost use Rattle.std.specs.FinMap as map;
 ghost use Rattle.grid_address.specs.Place.{place_cmp, same_place, Place};
 ghost use Rattle.range_index.specs.Owners.{hold, spans_in};
-ghost use Rattle.range_index.specs.Registered.{has_registration, is_registered, registered, registration_cmp, StaysRegistered};
+ghost use Rattle.range_index.specs.inner.Registered.{has_registration, is_registered, registered, registration_cmp, StaysRegistered};
 ghost use Rattle.range_index.specs.declared.register.Registration.{Registration};
 
 use crate::block::{Block, Size, block_at, size_of};

@@ -3,7 +3,7 @@ ghost use Rattle.std.specs.Prelude.{◌≡◌, ◌⊎◌, [], false, true, OnOk,
 ghost use Rattle.std.specs.FinMap as map;
 ghost use Rattle.grid_address.specs.Place.{place_cmp, whole, Place};
 ghost use Rattle.range_index.specs.Owners.{hold, owners_of, spans_in};
-ghost use Rattle.range_index.specs.Registered.{has_place, owned, registration_cmp, AreAmong, AreFoundAt, AreFoundIn, AreOwners, AreRegistered};
+ghost use Rattle.range_index.specs.inner.Registered.{has_place, owned, registration_cmp, AreAmong, AreFoundAt, AreFoundIn, AreOwners, AreRegistered};
 
 use crate::block::{Block, Size, block_at};
 use crate::owners::owns;

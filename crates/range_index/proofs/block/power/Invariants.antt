@@ -1,5 +1,5 @@
 use Rattle.std.proofs.Common.{◌≡◌, ◌-◌, ◌≤◌}
-use Rattle.range_index.specs.Blocks.{power, power_from}
+use Rattle.range_index.specs.inner.Blocks.{power, power_from}
 use Rattle.range_index.proofs.block.power.Given as goal
 
 abbrev pub invariant-loop-power : goal.invariant-loop-power

@@ -1,7 +1,7 @@
 use Rattle.std.specs.Prelude.{◌≡◌, true}
 use Rattle.std.proofs.Common.{subst}
 use Rattle.grid_address.specs.Place.{Extent}
-use Rattle.range_index.specs.Blocks.{are_one}
+use Rattle.range_index.specs.inner.Blocks.{are_one}
 use Rattle.range_index.proofs.Sizes.{one_block}
 use Rattle.range_index.proofs.block.size_of.Goals as goal
 

@@ -1,8 +1,8 @@
 use Rattle.std.specs.Prelude.{◌≡◌, true}
 use Rattle.std.proofs.Common.{sym, subst}
 use Rattle.range_index.proofs.Registrations.{entered, grows, stays}
-use Rattle.range_index.specs.Powers.{powers_cmp}
-use Rattle.range_index.specs.Registered.{has_registration, registration_cmp}
+use Rattle.range_index.specs.inner.Powers.{powers_cmp}
+use Rattle.range_index.specs.inner.Registered.{has_registration, registration_cmp}
 use Rattle.range_index.proofs.register.enter.Goals as goal
 
 pub returns-clause-done : goal.returns-clause-done

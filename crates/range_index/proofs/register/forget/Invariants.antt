@@ -1,6 +1,6 @@
 use Rattle.std.proofs.Common.{◌≡◌, true, false}
 use Rattle.grid_address.specs.Place.{same_place}
-use Rattle.range_index.specs.Registered.{has_registration}
+use Rattle.range_index.specs.inner.Registered.{has_registration}
 use Rattle.range_index.specs.declared.register.Registration.{Registration}
 use Rattle.range_index.proofs.register.forget.Given as goal
 

@@ -7,7 +7,7 @@ use Rattle.std.specs.declared.ops.Bound.TheVariants.{Included}
 use Rattle.std.proofs.Common.{rules, sym, subst, inl, inr, ◌∙◌, ap}
 use Rattle.grid_address.specs.Place.{whole, Place}
 use Rattle.range_index.specs.Owners.{hold, spans_in, Owners}
-use Rattle.range_index.specs.Registered.{owned, registration_cmp, AreFoundOrLeft}
+use Rattle.range_index.specs.inner.Registered.{owned, registration_cmp, AreFoundOrLeft}
 use Rattle.range_index.specs.declared.register.Registration.{Registration}
 use Rattle.range_index.proofs.Found.{all_left, one_found, one_passed}
 use Rattle.range_index.proofs.search.gather.Goals as goal

@@ -1,5 +1,5 @@
 use Rattle.std.specs.FinMap.{from_entries}
-use Rattle.range_index.specs.Registered.{AreAmong, AreFoundOrLeft, AreOwners}
+use Rattle.range_index.specs.inner.Registered.{AreAmong, AreFoundOrLeft, AreOwners}
 use Rattle.range_index.proofs.search.gather.Given as goal
 
 abbrev pub invariant-loop-registration : goal.invariant-loop-registration

@@ -2,8 +2,8 @@ use Rattle.std.specs.Prelude.{List, ◌∷◌}
 use Rattle.std.specs.FinMap.{from_entries}
 use Rattle.std.proofs.Common.{subst}
 use Rattle.range_index.specs.Owners.{Owners}
-use Rattle.range_index.specs.Powers.{Powers}
-use Rattle.range_index.specs.Registered.{AreFoundIn, AreFoundOrCome}
+use Rattle.range_index.specs.inner.Powers.{Powers}
+use Rattle.range_index.specs.inner.Registered.{AreFoundIn, AreFoundOrCome}
 use Rattle.range_index.specs.declared.block.Block.{Block}
 use Rattle.range_index.proofs.Found.{one_size}
 use Rattle.range_index.proofs.search.gather_all.Goals as goal

@@ -1,5 +1,5 @@
 use Rattle.std.specs.FinMap.{from_entries}
-use Rattle.range_index.specs.Registered.{AreFoundOrCome, AreOwners}
+use Rattle.range_index.specs.inner.Registered.{AreFoundOrCome, AreOwners}
 use Rattle.range_index.proofs.search.gather_all.Given as goal
 
 abbrev pub invariant-loop-size : goal.invariant-loop-size

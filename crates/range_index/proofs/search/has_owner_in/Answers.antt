@@ -7,7 +7,7 @@ use Rattle.std.specs.declared.ops.Bound.TheVariants.{Included}
 use Rattle.std.proofs.Common.{rules, sym, subst, ◌∙◌, ap}
 use Rattle.grid_address.specs.Place.{whole}
 use Rattle.range_index.specs.Owners.{Owners}
-use Rattle.range_index.specs.Registered.{owned, registration_cmp, AreFoundOrLeft}
+use Rattle.range_index.specs.inner.Registered.{owned, registration_cmp, AreFoundOrLeft}
 use Rattle.range_index.specs.declared.register.Registration.{Registration}
 use Rattle.range_index.proofs.Found.{all_left, none_left, one_passed}
 use Rattle.range_index.proofs.search.has_owner_in.Goals as goal

@@ -1,6 +1,6 @@
 use Rattle.std.specs.Prelude.{[]}
 use Rattle.std.specs.FinMap.{from_entries}
-use Rattle.range_index.specs.Registered.{AreFoundOrLeft}
+use Rattle.range_index.specs.inner.Registered.{AreFoundOrLeft}
 use Rattle.range_index.proofs.search.has_owner_in.Given as goal
 
 abbrev pub invariant-loop-registration : goal.invariant-loop-registration

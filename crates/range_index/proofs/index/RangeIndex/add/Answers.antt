@@ -1,8 +1,8 @@
 use Rattle.std.specs.FinMap.{from_entries}
 use Rattle.std.proofs.Common.{subst, sym}
-use Rattle.range_index.specs.Hulls.{IsAround}
+use Rattle.range_index.specs.inner.Around.{IsAround}
 use Rattle.range_index.specs.Owners.{Owners}
-use Rattle.range_index.specs.Registered.{AreRegistered}
+use Rattle.range_index.specs.inner.Registered.{AreRegistered}
 use Rattle.range_index.proofs.Around.{one_more, wider}
 use Rattle.range_index.proofs.Kept.{one_more_registered, stay_registered}
 use Rattle.range_index.proofs.index.RangeIndex.add.Goals as goal

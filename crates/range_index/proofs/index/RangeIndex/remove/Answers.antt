@@ -2,9 +2,9 @@ use Rattle.std.specs.FinMap.{from_entries, remove}
 use Rattle.std.proofs.Common.{ap, subst, sym, ◌∙◌}
 use Rattle.grid_address.proofs.Maps.{removed}
 use Rattle.grid_address.proofs.Places.{cells_exact, cells_total}
-use Rattle.range_index.specs.Hulls.{IsAround}
+use Rattle.range_index.specs.inner.Around.{IsAround}
 use Rattle.range_index.specs.Owners.{Owners}
-use Rattle.range_index.specs.Registered.{AreRegistered}
+use Rattle.range_index.specs.inner.Registered.{AreRegistered}
 use Rattle.range_index.proofs.Around.{rest}
 use Rattle.range_index.proofs.Kept.{rest_registered}
 use Rattle.range_index.proofs.index.RangeIndex.remove.Goals as goal

@@ -6,9 +6,9 @@ use Rattle.std.specs.BTreeMap.{is_at}
 use Rattle.std.specs.FinMap.{get}
 use Rattle.std.specs.List.{list_all, list_any}
 use Rattle.grid_address.specs.Place.{is_within, place_cmp, whole, Extent, Place}
-use Rattle.range_index.specs.Blocks.{are_one, block_at, size_of}
+use Rattle.range_index.specs.inner.Blocks.{are_one, block_at, size_of}
 use Rattle.range_index.specs.Owners.{hold, spans_in, Owners}
-use Rattle.range_index.specs.Powers.{powers_cmp, Powers}
+use Rattle.range_index.specs.inner.Powers.{powers_cmp, Powers}
 use Rattle.range_index.specs.declared.block.Block.{Block}
 use Rattle.range_index.specs.declared.register.Registration.{Registration}
 

@@ -1,7 +1,7 @@
 -- Blocks of the sheet: it is cut into blocks of equal size, for each size.
 use Rattle.std.specs.Prelude.{ℕ, zero, suc, ◌/◌, ◌^◌, Bool, cond, nat_eq, ◌&&◌}
 use Rattle.grid_address.specs.Place.{Extent, Place}
-use Rattle.range_index.specs.Powers.{Powers}
+use Rattle.range_index.specs.inner.Powers.{Powers}
 use Rattle.range_index.specs.declared.block.Block.{Block}
 
 -- the least power of two, from one on and within so many steps, that divides both numbers to the same number
