@@ -7,9 +7,9 @@ use Rattle.std.proofs.Common.{sym, ◌∙◌, ap, rules}
 use Rattle.grid_address.proofs.Maps.{in_order}
 use Rattle.grid_address.proofs.Places.{cells_total}
 use Rattle.grid_address.specs.Place.{place_cmp, InSheet, Place}
-use Rattle.sheet_store.specs.RowOrder.{entries_behind, NextHeld, NoneHeldBehind}
+use Rattle.sheet_store.specs.inner.RowOrder.{entries_behind, NextHeld, NoneHeldBehind}
 use Rattle.sheet_store.specs.Grid.{AreHeld, Cells}
-use Rattle.sheet_store.specs.Scan.{entries_from, left_from}
+use Rattle.sheet_store.specs.inner.Scan.{entries_from, left_from}
 use Rattle.sheet_store.specs.State.{CellState}
 use Rattle.sheet_store.proofs.Grids.{first_found, found_later}
 use Rattle.sheet_store.proofs.Scans.{behind, next_here, none_here}

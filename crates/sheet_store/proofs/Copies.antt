@@ -7,7 +7,7 @@ use Rattle.std.proofs.lemmas.Bool.{cases_Bool}
 use Rattle.grid_address.specs.Place.{place_cmp, Place}
 use Rattle.cell_numbers.specs.Filled.{cells_of, filled, AreOnce}
 use Rattle.cell_numbers.specs.declared.held.Held.{Held}
-use Rattle.sheet_store.specs.Copies.{inserted_all}
+use Rattle.sheet_store.specs.inner.Copies.{inserted_all}
 use Rattle.sheet_store.specs.Grid.{Cells}
 use Rattle.sheet_store.specs.State.{CellState}
 use Rattle.grid_address.proofs.Places.{cells_exact, cells_total}

@@ -14,7 +14,7 @@ use Rattle.std.proofs.lemmas.Cmp.{tied_itself}
 use Rattle.grid_address.proofs.Places.{cells_total}
 use Rattle.grid_address.specs.Place.{is_within, place_cmp, Extent, InSheet, Place}
 use Rattle.sheet_store.specs.Grid.{picked}
-use Rattle.sheet_store.specs.Scan.{entries_from, left_from, number_of, passed_at, places_left}
+use Rattle.sheet_store.specs.inner.Scan.{entries_from, left_from, number_of, passed_at, places_left}
 use Rattle.sheet_store.specs.State.{CellState}
 use Rattle.sheet_store.proofs.Held.{same_some, tied}
 

@@ -94,14 +94,6 @@ formatted (Some s) f = record s { format = f }
 abbrev pub set_format_of : Grid → Place → Format → Grid
 set_format_of g c f = put_state g c (formatted (map.get g.cells c) f)
 
--- the cell has no content
-abbrev pub IsBlankAt : Grid → Place → Type 0
-IsBlankAt g c = (f : Format) → formatted (map.get g.cells c) f ≡ blank_state f
-
--- the cell holds a number, a label or a formula
-abbrev pub HasContent : Grid → Place → Type 0
-HasContent g c = (s : CellState) × (map.get g.cells c ≡ Some s) × (is_blank s.content ≡ false)
-
 -- the cells among the entries that lie in the span and pass a test, in their order
 abbrev pub picked : (CellState → Bool) → Extent → List (Place × CellState) → List Place
 picked test p [] = []

@@ -4,8 +4,8 @@ ghost use Rattle.std.specs.Ordering.{is_le, is_lt};
 ghost use Rattle.std.specs.FinMap as map;
 ghost use Rattle.cell_numbers.specs.Numbers.{band_of};
 ghost use Rattle.grid_address.specs.Place.{place_cmp, InSheet, Place};
-ghost use Rattle.sheet_store.specs.RowOrder.{entries_behind, IsEdge, NextHeld, NoneHeldBehind};
-ghost use Rattle.sheet_store.specs.Scan.{left_from, number_of};
+ghost use Rattle.sheet_store.specs.inner.RowOrder.{entries_behind, IsEdge, NextHeld, NoneHeldBehind};
+ghost use Rattle.sheet_store.specs.inner.Scan.{left_from, number_of};
 
 use crate::{CellState, Store};
 use grid_address::{COLUMNS, Cell, LAST_COLUMN, LAST_ROW};
@@ -33,14 +33,14 @@ impl<'a> Model for Entries<'a> {
     ghost use Rattle.std.specs.Prelude.{List};
     ghost use Rattle.std.specs.FinMap as map;
     ghost use Rattle.grid_address.specs.Place.{Place};
-    ghost use Rattle.sheet_store.specs.Scan.{left_from};
+    ghost use Rattle.sheet_store.specs.inner.Scan.{left_from};
     ghost use Rattle.sheet_store.specs.State.{CellState};
 
     ghost Value = { List (Place × CellState) };
 
     ghost coded = { Prim.hlevel (codes, formula.the_row.coded) };
 
-    ghost use Rattle.sheet_store.specs.RowOrder.{IsEdge};
+    ghost use Rattle.sheet_store.specs.inner.RowOrder.{IsEdge};
 
     ghost view = { λ e. left_from e.from (map.entries e.store.now.cells) };
 

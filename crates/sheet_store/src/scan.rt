@@ -5,7 +5,7 @@ ghost use Rattle.std.specs.FinMap as map;
 ghost use Rattle.cell_numbers.specs.Filled.{cell_in, filled, item_in, with_item};
 ghost use Rattle.grid_address.specs.Place.{is_within, place_cmp, Place};
 ghost use Rattle.sheet_store.specs.Grid.{picked};
-ghost use Rattle.sheet_store.specs.Scan.{number_of, passed_at, wanted};
+ghost use Rattle.sheet_store.specs.inner.Scan.{number_of, passed_at, wanted};
 
 use crate::CellState;
 use cell_numbers::{CellMap, Held};

@@ -43,7 +43,7 @@ impl Model for CellState {
 
     ghost coded = { Prim.hlevel (codes, formula.the_row.coded) };
 
-    ghost use Rattle.sheet_store.specs.Kept.{state_kept};
+    ghost use Rattle.sheet_store.specs.inner.Kept.{state_kept};
 
     ghost view = { λ s. state_kept s.kept };
 }

@@ -5,8 +5,9 @@ ghost use Rattle.std.specs.FinMap as map;
 ghost use Rattle.cell_numbers.specs.Filled.{cell_in, filled, item_in, with_item};
 ghost use Rattle.grid_address.specs.Place.{is_within, place_cmp, InSheet, Place};
 ghost use Rattle.cell_numbers.specs.Numbers.{band_of};
-ghost use Rattle.sheet_store.specs.Copies.{inserted_all};
-ghost use Rattle.sheet_store.specs.Grid.{any_state, cells_within, clear_cell, formatted, formulas, formulas_within, further, holds_formula, is_hidden, last_among, last_used, picked, put_state, set_format_of, set_hidden_of, set_value_at, set_width_of, width_of, AreHeld, HasContent, HasFormula, IsBlankAt, IsSound};
+ghost use Rattle.sheet_store.specs.inner.Copies.{inserted_all};
+ghost use Rattle.sheet_store.specs.Grid.{any_state, cells_within, clear_cell, formatted, formulas, formulas_within, further, holds_formula, is_hidden, last_among, last_used, picked, put_state, set_format_of, set_hidden_of, set_value_at, set_width_of, width_of, AreHeld, HasFormula, IsSound};
+ghost use Rattle.sheet_store.specs.inner.Contents.{HasContent, IsBlankAt};
 
 use crate::CellState;
 use crate::entries::BAND;

@@ -1,7 +1,7 @@
 use Rattle.std.proofs.Common.{ap, sym, ◌∙◌}
 use Rattle.std.specs.FinMap.{entries}
 use Rattle.sheet_store.proofs.Behind.{left_here, left_over_none, left_past}
-use Rattle.sheet_store.specs.Scan.{left_from}
+use Rattle.sheet_store.specs.inner.Scan.{left_from}
 use Rattle.sheet_store.proofs.entries.first_from.Goals as goal
 
 pub returns-in-Some-get-clause-some : goal.returns-in-Some-get-clause-some

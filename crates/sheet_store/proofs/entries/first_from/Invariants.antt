@@ -1,7 +1,7 @@
 use Rattle.std.proofs.Common.{◌≡◌}
 use Rattle.std.specs.FinMap.{entries}
-use Rattle.sheet_store.specs.RowOrder.{IsEdge}
-use Rattle.sheet_store.specs.Scan.{left_from, places_left}
+use Rattle.sheet_store.specs.inner.RowOrder.{IsEdge}
+use Rattle.sheet_store.specs.inner.Scan.{left_from, places_left}
 use Rattle.sheet_store.proofs.entries.first_from.Given as goal
 
 abbrev pub invariant-loop-next : goal.invariant-loop-next

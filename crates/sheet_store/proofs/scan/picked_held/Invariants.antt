@@ -1,7 +1,7 @@
 use Rattle.std.proofs.Common.{◌≡◌, ◌++◌, drop}
 use Rattle.cell_numbers.specs.Filled.{filled}
 use Rattle.sheet_store.specs.Grid.{picked}
-use Rattle.sheet_store.specs.Scan.{wanted}
+use Rattle.sheet_store.specs.inner.Scan.{wanted}
 use Rattle.sheet_store.proofs.scan.picked_held.Given as goal
 
 abbrev pub invariant-loop-one : goal.invariant-loop-one

@@ -2,7 +2,7 @@ use Rattle.std.specs.Prelude.{List}
 use Rattle.std.specs.List.Sorted.{IsPermutation}
 use Rattle.std.proofs.Common.{◌∙◌, subst}
 use Rattle.grid_address.specs.Place.{Place}
-use Rattle.sheet_store.specs.Scan.{wanted}
+use Rattle.sheet_store.specs.inner.Scan.{wanted}
 use Rattle.sheet_store.proofs.RowOrder.{sorted_picked}
 use Rattle.sheet_store.proofs.scan.scan_held.Goals as goal
 

@@ -6,7 +6,7 @@ use Rattle.grid_address.proofs.Maps.{in_order}
 use Rattle.grid_address.proofs.Places.{cells_total}
 use Rattle.sheet_store.proofs.Scans.{first_within, scan_begins, scan_goes_on, scan_shrinks, within_from}
 use Rattle.sheet_store.specs.Grid.{picked}
-use Rattle.sheet_store.specs.Scan.{entries_from, left_from, passed_at, places_left, wanted}
+use Rattle.sheet_store.specs.inner.Scan.{entries_from, left_from, passed_at, places_left, wanted}
 use Rattle.sheet_store.proofs.scan.scan_places.Goals as goal
 
 pub next_place-from-requires : goal.next_place-from-requires

@@ -2,7 +2,7 @@ use Rattle.std.specs.Prelude.{◌≡◌, ◌++◌, true, IfSome}
 use Rattle.std.specs.FinMap.{entries}
 use Rattle.grid_address.specs.Place.{is_within}
 use Rattle.sheet_store.specs.Grid.{picked}
-use Rattle.sheet_store.specs.Scan.{left_from, places_left, wanted}
+use Rattle.sheet_store.specs.inner.Scan.{left_from, places_left, wanted}
 use Rattle.sheet_store.proofs.scan.scan_places.Given as goal
 
 abbrev pub invariant-loop-from : goal.invariant-loop-from

@@ -1,6 +1,6 @@
 use Rattle.std.proofs.Common.{ap, ◌∙◌}
 use Rattle.cell_numbers.specs.Filled.{filled}
-use Rattle.sheet_store.specs.Copies.{inserted_all}
+use Rattle.sheet_store.specs.inner.Copies.{inserted_all}
 use Rattle.sheet_store.proofs.Copies.{all_inserted}
 use Rattle.sheet_store.proofs.store.copy_cells.Goals as goal
 

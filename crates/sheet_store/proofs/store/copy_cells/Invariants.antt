@@ -1,6 +1,6 @@
 use Rattle.std.proofs.Common.{◌≡◌, drop}
 use Rattle.cell_numbers.specs.Filled.{filled}
-use Rattle.sheet_store.specs.Copies.{inserted_all}
+use Rattle.sheet_store.specs.inner.Copies.{inserted_all}
 use Rattle.sheet_store.proofs.store.copy_cells.Given as goal
 
 abbrev pub invariant-loop-held : goal.invariant-loop-held
