@@ -13,9 +13,9 @@ use Rattle.grid_address.proofs.Places.{cells_total, place_tied, same_place_is, s
 use Rattle.grid_address.specs.Place.{place_cmp, same_place, Place}
 use Rattle.depend_graph.specs.Network.{holds, is_formula, reads, IsSpread, Network, ReachesCell, ReachesOneOf}
 use Rattle.depend_graph.specs.Network.ReachesCell.{direct, through}
-use Rattle.depend_graph.specs.Backward.{all}
-use Rattle.depend_graph.specs.Within.{Within}
-use Rattle.depend_graph.specs.Within.Within.{reader, seed}
+use Rattle.depend_graph.specs.inner.Backward.{all}
+use Rattle.depend_graph.specs.inner.Within.{Within}
+use Rattle.depend_graph.specs.inner.Within.Within.{reader, seed}
 use Rattle.depend_graph.specs.declared.node.Node.{Node}
 
 in_keys : (es : List (Place × Node)) (d : Place) → is_some (lookup (is_at (place_cmp d)) es) ≡ true → has same_place (keys_of es) d ≡ true

@@ -13,8 +13,8 @@ use Rattle.grid_address.proofs.Maps.{equal_of, get_entries, get_lookup, in_order
 use Rattle.grid_address.proofs.Places.{cells_exact, cells_total, same_place_is, same_places}
 use Rattle.grid_address.specs.Place.{place_cmp, same_place, Extent, Place}
 use Rattle.range_index.specs.Owners.{Owners}
-use Rattle.depend_graph.specs.Banks.{spans_at, wide, AreOthersKept}
-use Rattle.depend_graph.specs.Slots.{filled, had, offer_in, offering, picked, placed, side, somes, turned, turned_to, with_some, without, AreRegistered, IsRegistered, Slots, Stands}
+use Rattle.depend_graph.specs.inner.Banks.{spans_at, wide, AreOthersKept}
+use Rattle.depend_graph.specs.inner.Slots.{filled, had, offer_in, offering, picked, placed, side, somes, turned, turned_to, with_some, without, AreRegistered, IsRegistered, Slots, Stands}
 use Rattle.depend_graph.specs.declared.slots.Part.TheVariants.{Formula, Offer}
 use Rattle.depend_graph.specs.declared.node.Node.{Node}
 use Rattle.depend_graph.specs.declared.slots.Slot.{Slot}

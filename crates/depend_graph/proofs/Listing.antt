@@ -13,9 +13,9 @@ use Rattle.grid_address.proofs.Places.{get_inserted, same_place_is, same_place_i
 use Rattle.grid_address.specs.Place.{is_within, place_cmp, same_place, Extent, Place}
 use Rattle.range_index.specs.Owners.{hold}
 use Rattle.depend_graph.proofs.Placed.{get_placed}
-use Rattle.depend_graph.specs.Banks.{is_one}
-use Rattle.depend_graph.specs.Lists.{items_in, list_at, AreInLists, AreKept, IsInLists, IsInListsOf, IsListed, Lists}
-use Rattle.depend_graph.specs.Slots.{filled, offering, placed, turned, turned_to, without, Slots}
+use Rattle.depend_graph.specs.inner.Banks.{is_one}
+use Rattle.depend_graph.specs.inner.Lists.{items_in, list_at, AreInLists, AreKept, IsInLists, IsInListsOf, IsListed, Lists}
+use Rattle.depend_graph.specs.inner.Slots.{filled, offering, placed, turned, turned_to, without, Slots}
 use Rattle.depend_graph.specs.declared.slots.Part.TheVariants.{Formula, Offer}
 use Rattle.depend_graph.specs.declared.node.Node.{Node}
 use Rattle.depend_graph.specs.declared.slots.Slot.{Slot}

@@ -11,7 +11,8 @@ use Rattle.grid_address.specs.Place.{is_within, same_place, Extent, InSheet, Pla
 use Rattle.range_index.specs.Hulls.{in_hull}
 use Rattle.range_index.specs.declared.hull.Hull.{Hull}
 use Rattle.depend_graph.specs.Network.{reads, Network}
-use Rattle.depend_graph.specs.InOrder.{is_volatile_at, AreMarked, GoesInOrder, StandsFirst}
+use Rattle.depend_graph.specs.InOrder.{is_volatile_at, GoesInOrder, StandsFirst}
+use Rattle.depend_graph.specs.inner.Marked.{AreMarked}
 
 pub whole_rest : (cells : List Place) (n : ℕ) → take (length cells - n) (drop n cells) ≡ drop n cells
 whole_rest cells n = take_all (length cells - n) (drop n cells) (let h = length-drop n cells in omega (arith, h))

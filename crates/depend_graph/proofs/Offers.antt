@@ -5,8 +5,8 @@ use Rattle.std.proofs.Common.{sym, ◌∙◌, ap, subst, OnErr, Result, Ok, Err}
 use Rattle.grid_address.proofs.Places.{same_place_itself}
 use Rattle.grid_address.specs.Place.{Place}
 use Rattle.range_index.specs.Owners.{Owners}
-use Rattle.depend_graph.specs.Banks.{spans_at, wide, AreOthersKept}
-use Rattle.depend_graph.specs.Slots.{filled, offering, placed, side, without, AreRegistered, Slots}
+use Rattle.depend_graph.specs.inner.Banks.{spans_at, wide, AreOthersKept}
+use Rattle.depend_graph.specs.inner.Slots.{filled, offering, placed, side, without, AreRegistered, Slots}
 use Rattle.depend_graph.specs.declared.slots.Part.TheVariants.{Offer}
 use Rattle.depend_graph.specs.declared.node.Node.{Node}
 use Rattle.depend_graph.specs.declared.slots.Slot.{Slot}

@@ -5,7 +5,7 @@ use Rattle.std.proofs.Common.{◌∙◌, ap, append-nil, inl, inr, sym}
 use Rattle.grid_address.proofs.Places.{get_inserted, get_removed, same_place_itself}
 use Rattle.grid_address.specs.Place.{Extent, Place}
 use Rattle.range_index.specs.Owners.{spans_in, with_span, Owners}
-use Rattle.depend_graph.specs.Banks.{is_one, wide, AreOthers, AreOthersKept}
+use Rattle.depend_graph.specs.inner.Banks.{is_one, wide, AreOthers, AreOthersKept}
 
 pub removed_others : (m : Owners) (c : Place) → AreOthers m (remove m c) c
 removed_others m c d h = ap (λ (s : Option (List Extent)). spans_in s) (get_removed m c d ∙ ap (λ b. cond b None (get m d)) h)

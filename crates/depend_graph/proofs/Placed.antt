@@ -5,7 +5,7 @@ use Rattle.std.proofs.Common.{sym, ◌∙◌, ap, inl, inr}
 use Rattle.std.proofs.lemmas.Bool.{cases_Bool, true≢false}
 use Rattle.grid_address.proofs.Places.{get_inserted, get_removed, same_place_is, same_places}
 use Rattle.grid_address.specs.Place.{place_cmp, same_place, Place}
-use Rattle.depend_graph.specs.Slots.{cleared, filled, had, other_in, placed, without}
+use Rattle.depend_graph.specs.inner.Slots.{cleared, filled, had, other_in, placed, without}
 use Rattle.depend_graph.specs.declared.node.Node.{Node}
 use Rattle.depend_graph.specs.declared.slots.Part.{Part}
 use Rattle.depend_graph.specs.declared.slots.Slot.{Slot}

@@ -8,10 +8,10 @@ use Rattle.cell_numbers.specs.Sets.{has}
 use Rattle.grid_address.specs.Place.{is_within, same_place, Extent, Place}
 use Rattle.range_index.proofs.Listed.{owner_told}
 use Rattle.range_index.specs.Owners.{hold, owners_of, Owners}
-use Rattle.depend_graph.specs.Banks.{is_one, spans_at, wide}
-use Rattle.depend_graph.specs.Lists.{list_at, AreInLists, IsInListsOf, Lists}
+use Rattle.depend_graph.specs.inner.Banks.{is_one, spans_at, wide}
+use Rattle.depend_graph.specs.inner.Lists.{list_at, AreInLists, IsInListsOf, Lists}
 use Rattle.depend_graph.specs.Network.{holds}
-use Rattle.depend_graph.specs.Slots.{had, node_in, AreRegistered, Slots, Stands}
+use Rattle.depend_graph.specs.inner.Slots.{had, node_in, AreRegistered, Slots, Stands}
 use Rattle.depend_graph.specs.declared.node.Node.{Node}
 use Rattle.depend_graph.specs.declared.slots.Slot.{Slot}
 

@@ -8,10 +8,10 @@ use Rattle.cell_numbers.specs.Numbers.{number_at}
 use Rattle.cell_numbers.specs.Sets.{has}
 use Rattle.grid_address.proofs.Places.{same_place_is, same_place_itself, same_place_laws}
 use Rattle.grid_address.specs.Place.{same_place, InSheet, Place}
-use Rattle.depend_graph.specs.Backward.{all, work_left, IsDeeper, IsSearched}
+use Rattle.depend_graph.specs.inner.Backward.{all, work_left, IsDeeper, IsSearched}
 use Rattle.depend_graph.specs.Network.{reads, Network}
-use Rattle.depend_graph.specs.Within.{Within}
-use Rattle.depend_graph.specs.Within.Within.{reader, seed}
+use Rattle.depend_graph.specs.inner.Within.{Within}
+use Rattle.depend_graph.specs.inner.Within.Within.{reader, seed}
 use Rattle.depend_graph.specs.declared.closure.Search.{Search}
 use Rattle.depend_graph.proofs.Growth.{reader_known, small}
 

@@ -9,8 +9,8 @@ use Rattle.grid_address.specs.Place.{same_place, Place}
 use Rattle.depend_graph.specs.InOrder.{is_volatile, is_volatile_at, GoesInOrder, StandsFirst}
 use Rattle.depend_graph.specs.Network.{dropped, holds, is_formula, reads, IsSpread, Network, ReachesCell}
 use Rattle.depend_graph.specs.Network.ReachesCell.{direct, through}
-use Rattle.depend_graph.specs.Slots.{Nodes}
-use Rattle.depend_graph.specs.Spreads.{is_of, list_of, IsKept, IsSpreadOf}
+use Rattle.depend_graph.specs.Network.{Nodes}
+use Rattle.depend_graph.specs.inner.Spreads.{is_of, list_of, IsKept, IsSpreadOf}
 use Rattle.depend_graph.specs.declared.node.Node.{Node}
 use Rattle.depend_graph.specs.declared.spread.Spread.{Spread}
 

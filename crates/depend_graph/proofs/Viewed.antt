@@ -5,8 +5,10 @@ use Rattle.std.proofs.Common.{sym, ◌∙◌, ap}
 use Rattle.std.proofs.lemmas.Bool.{true≢false}
 use Rattle.grid_address.proofs.Places.{get_inserted, get_removed, same_place_itself, same_places}
 use Rattle.grid_address.specs.Place.{same_place, Place}
-use Rattle.depend_graph.specs.Network.{accepted, dropped, network_of, offered, put, taken, withdrawn, Network}
-use Rattle.depend_graph.specs.Slots.{filled, had, node_in, offer_in, offering, picked, placed, turned, turned_to, without, Nodes, Slots}
+use Rattle.depend_graph.specs.Network.{accepted, dropped, offered, put, taken, withdrawn, Network}
+use Rattle.depend_graph.specs.inner.Readers.{network_of}
+use Rattle.depend_graph.specs.inner.Slots.{filled, had, node_in, offer_in, offering, picked, placed, turned, turned_to, without, Slots}
+use Rattle.depend_graph.specs.Network.{Nodes}
 use Rattle.depend_graph.specs.declared.slots.Part.TheVariants.{Formula, Offer}
 use Rattle.depend_graph.specs.declared.node.Node.{Node}
 use Rattle.depend_graph.specs.declared.slots.Slot.{Slot}

@@ -1,11 +1,8 @@
 -- Formulas in an order in which each comes after all of them that it reads.
 use Rattle.std.specs.Prelude.{◌≡◌, Bool, true, false, List, [], ◌∷◌, Option, None, Some}
 use Rattle.std.specs.FinMap.{get}
-use Rattle.cell_numbers.specs.Numbers.{number_at, Numbers}
 use Rattle.cell_numbers.specs.Sets.{has}
-use Rattle.grid_address.specs.Place.{same_place, InSheet, Place}
-use Rattle.range_index.specs.Hulls.{in_hull}
-use Rattle.range_index.specs.declared.hull.Hull.{Hull}
+use Rattle.grid_address.specs.Place.{same_place, Place}
 use Rattle.depend_graph.specs.Network.{reads, Network}
 use Rattle.depend_graph.specs.declared.node.Node.{Node}
 
@@ -33,8 +30,3 @@ module _ (volatile : Place → Bool) (reading : Place → Place → Bool) where
 -- the same of what a graph tells
 abbrev pub GoesInOrder : Network → List Place → Type 0
 GoesInOrder g cells = AreInOrder (is_volatile_at g) (reads g) cells
-
--- each of the cells lies on the sheet and in the hull, and is marked
-abbrev pub AreMarked : Numbers → Hull → List Place → Type 0
-AreMarked marked hull cells =
-    (d : Place) → has same_place cells d ≡ true → InSheet d × ((number_at marked d ≡ 1) × (in_hull hull d ≡ true))

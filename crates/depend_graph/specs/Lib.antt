@@ -1,8 +1,4 @@
-pub mod Backward
-pub mod Banks
 pub mod InOrder
-pub mod Lists
 pub mod Network
-pub mod Slots
-pub mod Spreads
-pub mod Within
+pub mod Sets
+pub mod inner

@@ -1,12 +1,14 @@
 -- Which formulas there are, what they read, and which of them reach a cell.
 use Rattle.std.specs.Prelude.{◌≡◌, ◌⊎◌, Bool, true, false, List, Option, None, Some, is_some}
-use Rattle.std.specs.FinMap as map
 use Rattle.std.specs.FinMap.{get, insert, remove, FinMap}
 use Rattle.cell_numbers.specs.Sets.{has}
 use Rattle.grid_address.specs.Place.{place_cmp, same_place, Place}
 use Rattle.range_index.specs.Owners.{hold}
-use Rattle.depend_graph.specs.Slots.{had, node_in, offer_in, picked, Nodes, Slots}
 use Rattle.depend_graph.specs.declared.node.Node.{Node}
+
+-- for each cell what its formula reads, and whether that is volatile
+abbrev pub Nodes : Type 0
+Nodes = FinMap place_cmp Node
 
 -- the formulas, and those that are offered to take their place
 pub record Network : Type 0 where
@@ -66,11 +68,3 @@ pub record ReachesOneOf (g : Network) (cells : List Place) (c : Place) : Type 0 
 pub record IsSpread (g : Network) (cells : List Place) (c : Place) : Type 0 where
   pub formula : is_formula g c ≡ true
   pub way : (has same_place cells c ≡ true) ⊎ ReachesOneOf g cells c
-
--- the network that slots tell
-abbrev pub network_of : Slots → Network
-network_of m = record { formulas = picked node_in m; offers = picked offer_in m }
-
--- d is one of the formulas, and reads c
-abbrev pub IsReaderAmong : Slots → Place → List Place → Place → Type 0
-IsReaderAmong m c formulas d = (has same_place formulas d ≡ true) × (holds (had node_in (get m d)) c ≡ true)

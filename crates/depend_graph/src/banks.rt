@@ -3,7 +3,7 @@ ghost use Rattle.std.specs.Prelude.{◌≡◌, ◌++◌, ◌∷◌, [], OnOk};
 ghost use Rattle.std.specs.FinMap as map;
 ghost use Rattle.std.specs.FinMap.{get};
 ghost use Rattle.range_index.specs.Owners.{spans_in};
-ghost use Rattle.depend_graph.specs.Banks.{spans_at, wide, AreOthers, AreOthersKept};
+ghost use Rattle.depend_graph.specs.inner.Banks.{spans_at, wide, AreOthers, AreOthersKept};
 
 use crate::lists::is_one;
 use grid_address::{Cell, Span, SpanList};

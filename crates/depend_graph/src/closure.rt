@@ -3,9 +3,9 @@ ghost use Rattle.std.specs.Prelude.{◌≡◌, ◌<◌, ◌^◌, ◌⊎◌, ◌�
 ghost use Rattle.cell_numbers.specs.Numbers.{number_at};
 ghost use Rattle.cell_numbers.specs.Sets.{has};
 ghost use Rattle.grid_address.specs.Place.{same_place, InSheet, Place};
-ghost use Rattle.depend_graph.specs.Backward.{work_left, IsDeeper, IsSearched};
+ghost use Rattle.depend_graph.specs.inner.Backward.{work_left, IsDeeper, IsSearched};
 ghost use Rattle.depend_graph.specs.Network.{is_formula, reads, IsSpread, Network};
-ghost use Rattle.depend_graph.specs.Within.{Within};
+ghost use Rattle.depend_graph.specs.inner.Within.{Within};
 
 use crate::Graph;
 use crate::marks::put_mark;

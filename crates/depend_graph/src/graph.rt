@@ -35,10 +35,11 @@ pub struct Graph {
 impl Model for Graph {
     ghost use Rattle.std.specs.Coded.{codes};
     ghost use Rattle.std.specs.FinMap as map;
-    ghost use Rattle.depend_graph.specs.Lists.{AreInLists};
-    ghost use Rattle.depend_graph.specs.Network.{network_of, Network};
-    ghost use Rattle.depend_graph.specs.Slots.{node_in, offer_in, picked, AreRegistered};
-    ghost use Rattle.depend_graph.specs.Spreads.{IsKept};
+    ghost use Rattle.depend_graph.specs.inner.Lists.{AreInLists};
+    ghost use Rattle.depend_graph.specs.Network.{Network};
+    ghost use Rattle.depend_graph.specs.inner.Readers.{network_of};
+    ghost use Rattle.depend_graph.specs.inner.Slots.{node_in, offer_in, picked, AreRegistered};
+    ghost use Rattle.depend_graph.specs.inner.Spreads.{IsKept};
 
     ghost Value = { Network };
 

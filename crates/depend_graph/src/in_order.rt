@@ -4,8 +4,9 @@ ghost use Rattle.cell_numbers.specs.Numbers.{number_at};
 ghost use Rattle.cell_numbers.specs.Sets.{has};
 ghost use Rattle.grid_address.specs.Place.{is_within, same_place, whole, Place};
 ghost use Rattle.range_index.specs.Owners.{hold};
-ghost use Rattle.depend_graph.specs.Banks.{is_one};
-ghost use Rattle.depend_graph.specs.InOrder.{is_volatile_at, AreMarked, GoesInOrder, StandsFirst};
+ghost use Rattle.depend_graph.specs.inner.Banks.{is_one};
+ghost use Rattle.depend_graph.specs.InOrder.{is_volatile_at, GoesInOrder, StandsFirst};
+ghost use Rattle.depend_graph.specs.inner.Marked.{AreMarked};
 ghost use Rattle.depend_graph.specs.Network.{reads};
 
 use crate::Graph;

@@ -3,8 +3,8 @@ ghost use Rattle.std.specs.Prelude.{◌≡◌, ◌≤◌, length, true, IfOk, On
 ghost use Rattle.std.specs.FinMap as map;
 ghost use Rattle.cell_numbers.specs.Sets.{has};
 ghost use Rattle.grid_address.specs.Place.{place_cmp, same_place, Place};
-ghost use Rattle.depend_graph.specs.Banks.{is_one};
-ghost use Rattle.depend_graph.specs.Lists.{list_at, AreKept, IsListed};
+ghost use Rattle.depend_graph.specs.inner.Banks.{is_one};
+ghost use Rattle.depend_graph.specs.inner.Lists.{list_at, AreKept, IsListed};
 
 use cell_numbers::CellMap;
 use grid_address::{Cell, Span};

@@ -4,9 +4,10 @@ ghost use Rattle.std.specs.FinMap as map;
 ghost use Rattle.cell_numbers.specs.Sets.{has};
 ghost use Rattle.grid_address.specs.Place.{same_place, Place};
 ghost use Rattle.range_index.specs.Owners.{owners_of};
-ghost use Rattle.depend_graph.specs.Lists.{list_at, AreInLists};
-ghost use Rattle.depend_graph.specs.Network.{holds, network_of, reads, IsReaderAmong};
-ghost use Rattle.depend_graph.specs.Slots.{had, node_in, AreRegistered};
+ghost use Rattle.depend_graph.specs.inner.Lists.{list_at, AreInLists};
+ghost use Rattle.depend_graph.specs.Network.{holds, reads};
+ghost use Rattle.depend_graph.specs.inner.Readers.{network_of, IsReaderAmong};
+ghost use Rattle.depend_graph.specs.inner.Slots.{had, node_in, AreRegistered};
 
 use crate::banks::Banks;
 use crate::lists::Lists;

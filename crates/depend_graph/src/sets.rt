@@ -2,7 +2,7 @@
 ghost use Rattle.std.specs.Prelude.{◌≡◌, ◌||◌, take, OnOk};
 ghost use Rattle.grid_address.specs.Place.{same_place, Place};
 ghost use Rattle.cell_numbers.specs.Sets.{has, insert_key};
-ghost use Rattle.depend_graph.specs.Within.{Extends};
+ghost use Rattle.depend_graph.specs.Sets.{Extends};
 
 use cell_numbers::CellSet;
 use grid_address::Cell;

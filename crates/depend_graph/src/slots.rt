@@ -1,7 +1,7 @@
 // The formula of each cell, with the one that it will have.
 ghost use Rattle.std.specs.Prelude.{◌≡◌, OnOk, OnErr, option_copied, Some, None, is_some};
 ghost use Rattle.std.specs.FinMap as map;
-ghost use Rattle.depend_graph.specs.Slots.{cleared, had, node_in, offer_in, offering, other_in, placed, side, turned, turned_to, without};
+ghost use Rattle.depend_graph.specs.inner.Slots.{cleared, had, node_in, offer_in, offering, other_in, placed, side, turned, turned_to, without};
 
 use crate::Node;
 use cell_numbers::CellMap;

@@ -1,6 +1,6 @@
 // What an edit of a cell makes dirty, kept for the next edit of the same cell.
 ghost use Rattle.std.specs.Prelude.{◌≡◌, IfOk, true};
-ghost use Rattle.depend_graph.specs.Spreads.{is_of, list_of, IsSpreadOf};
+ghost use Rattle.depend_graph.specs.inner.Spreads.{is_of, list_of, IsSpreadOf};
 
 use crate::Graph;
 use crate::closure::closure;

@@ -11,7 +11,7 @@ use Rattle.grid_address.specs.Place.{place_cmp, same_place, Place}
 use Rattle.formula_tree.specs.Spans.{is_volatile, spans_of}
 use Rattle.formula_tree.specs.Tree.{Tree}
 use Rattle.depend_graph.specs.Network.{put, Network}
-use Rattle.depend_graph.specs.Slots.{Nodes}
+use Rattle.depend_graph.specs.Network.{Nodes}
 use Rattle.cell_numbers.specs.Sets.{has}
 use Rattle.natural_order.specs.Walk.{Reaches}
 use Rattle.natural_order.specs.Walk.Reaches.{more, one}

@@ -7,7 +7,7 @@ use Rattle.std.proofs.lemmas.List.{append_assoc, take_more}
 use Rattle.std.proofs.lemmas.List.Folds.{list_any-append}
 use Rattle.grid_address.proofs.Places.{get_inserted, get_removed, same_place_is, same_place_itself}
 use Rattle.grid_address.specs.Place.{same_place, Place}
-use Rattle.depend_graph.specs.Within.{Extends}
+use Rattle.depend_graph.specs.Sets.{Extends}
 use Rattle.cell_numbers.specs.Sets.{has, insert_key}
 use Rattle.sheet_store.specs.Grid.{Cells}
 use Rattle.sheet_store.specs.State.{CellState}

@@ -2,7 +2,7 @@
 ghost use Rattle.std.specs.Prelude.{◌≡◌, ◌&&◌, ◌||◌, ◌⊎◌, [], cond, IfOk, OnErr, OnOk, None, Some, false, true};
 ghost use Rattle.std.specs.FinMap as map;
 ghost use Rattle.grid_address.specs.Place.{same_place, Place};
-ghost use Rattle.depend_graph.specs.Within.{Extends};
+ghost use Rattle.depend_graph.specs.Sets.{Extends};
 ghost use Rattle.cell_numbers.specs.Sets.{has};
 ghost use Rattle.natural_recalc.specs.Context.{formula_at};
 ghost use Rattle.natural_recalc.specs.Reading.{is_formula_at, node_of, Matches};

@@ -2,7 +2,7 @@ use Rattle.std.specs.Prelude.{◌≡◌, false}
 use Rattle.std.proofs.Common.{rules, subst, sym, ◌∙◌}
 use Rattle.range_index.specs.Owners.{Owners}
 use Rattle.depend_graph.proofs.Others.{more_others, wide_here}
-use Rattle.depend_graph.specs.Banks.{AreOthers}
+use Rattle.depend_graph.specs.inner.Banks.{AreOthers}
 use Rattle.depend_graph.proofs.banks.add_wide.Goals as goal
 
 pub returns-in_ok-add-clause-is : goal.returns-in_ok-add-clause-is

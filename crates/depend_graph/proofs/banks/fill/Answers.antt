@@ -5,7 +5,7 @@ use Rattle.std.proofs.lemmas.List.{take_more}
 use Rattle.grid_address.specs.Place.{Extent}
 use Rattle.range_index.specs.Owners.{spans_in, Owners}
 use Rattle.depend_graph.proofs.Others.{removed_none, removed_others, then_others, wide-append}
-use Rattle.depend_graph.specs.Banks.{wide, AreOthers}
+use Rattle.depend_graph.specs.inner.Banks.{wide, AreOthers}
 use Rattle.depend_graph.proofs.banks.fill.Goals as goal
 
 pub loop-span-init : goal.loop-span-init

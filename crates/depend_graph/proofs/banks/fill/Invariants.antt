@@ -1,7 +1,7 @@
 use Rattle.std.specs.Prelude.{◌≡◌, take}
 use Rattle.std.specs.FinMap.{get}
 use Rattle.range_index.specs.Owners.{spans_in}
-use Rattle.depend_graph.specs.Banks.{wide, AreOthers}
+use Rattle.depend_graph.specs.inner.Banks.{wide, AreOthers}
 use Rattle.depend_graph.proofs.banks.fill.Given as goal
 
 abbrev pub invariant-loop-span : goal.invariant-loop-span

@@ -1,4 +1,4 @@
-use Rattle.depend_graph.specs.Backward.{work_left, IsSearched}
+use Rattle.depend_graph.specs.inner.Backward.{work_left, IsSearched}
 use Rattle.depend_graph.proofs.closure.within.Given as goal
 
 abbrev pub invariant-steps : goal.invariant-steps

@@ -2,7 +2,8 @@ use Rattle.std.specs.Prelude.{ℕ, suc, ◌≡◌, ◌≤◌, ◌-◌, true, Lis
 use Rattle.std.proofs.Common.{arith, rules, subst, sym}
 use Rattle.grid_address.specs.Place.{Place}
 use Rattle.depend_graph.proofs.Marked.{goes_more, marked_more, whole_rest}
-use Rattle.depend_graph.specs.InOrder.{is_volatile_at, AreMarked, StandsFirst}
+use Rattle.depend_graph.specs.InOrder.{is_volatile_at, StandsFirst}
+use Rattle.depend_graph.specs.inner.Marked.{AreMarked}
 use Rattle.depend_graph.specs.Network.{reads}
 use Rattle.depend_graph.proofs.in_order.is_in_order.Goals as goal
 

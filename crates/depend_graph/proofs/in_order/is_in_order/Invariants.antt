@@ -1,5 +1,6 @@
 use Rattle.std.specs.Prelude.{◌≤◌, drop, length}
-use Rattle.depend_graph.specs.InOrder.{AreMarked, GoesInOrder}
+use Rattle.depend_graph.specs.InOrder.{GoesInOrder}
+use Rattle.depend_graph.specs.inner.Marked.{AreMarked}
 use Rattle.depend_graph.proofs.in_order.is_in_order.Given as goal
 
 abbrev pub invariant-back : goal.invariant-back

@@ -7,7 +7,7 @@ use Rattle.cell_numbers.specs.Sets.{has}
 use Rattle.grid_address.proofs.Places.{get_inserted}
 use Rattle.grid_address.specs.Place.{same_place, Place}
 use Rattle.depend_graph.proofs.Listing.{kept_inserted, list_inserted}
-use Rattle.depend_graph.specs.Lists.{items_in, list_at, AreKept, Lists}
+use Rattle.depend_graph.specs.inner.Lists.{items_in, list_at, AreKept, Lists}
 use Rattle.depend_graph.proofs.lists.add.Goals as goal
 
 pub returns-in-Some-clause-kept : goal.returns-in-Some-clause-kept

@@ -1,5 +1,5 @@
 use Rattle.std.specs.Prelude.{take}
-use Rattle.depend_graph.specs.Lists.{AreKept, IsListed}
+use Rattle.depend_graph.specs.inner.Lists.{AreKept, IsListed}
 use Rattle.depend_graph.proofs.lists.add_all.Given as goal
 
 abbrev pub invariant-loop-span : goal.invariant-loop-span

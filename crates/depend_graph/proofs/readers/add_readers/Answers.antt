@@ -3,8 +3,9 @@ use Rattle.std.specs.FinMap.{get}
 use Rattle.std.proofs.Common.{ap, sym, inl, inr, ◌∙◌}
 use Rattle.depend_graph.proofs.Kept.{get_picked}
 use Rattle.depend_graph.proofs.Readable.{found}
-use Rattle.depend_graph.specs.Network.{holds, network_of, reads}
-use Rattle.depend_graph.specs.Slots.{had, node_in, Slots}
+use Rattle.depend_graph.specs.Network.{holds, reads}
+use Rattle.depend_graph.specs.inner.Readers.{network_of}
+use Rattle.depend_graph.specs.inner.Slots.{had, node_in, Slots}
 use Rattle.depend_graph.specs.declared.node.Node.{Node}
 use Rattle.depend_graph.proofs.readers.add_readers.Goals as goal
 

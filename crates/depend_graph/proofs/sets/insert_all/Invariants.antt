@@ -1,7 +1,7 @@
 use Rattle.std.specs.Prelude.{◌≡◌, ◌||◌, take}
 use Rattle.cell_numbers.specs.Sets.{has}
 use Rattle.grid_address.specs.Place.{same_place, Place}
-use Rattle.depend_graph.specs.Within.{Extends}
+use Rattle.depend_graph.specs.Sets.{Extends}
 use Rattle.depend_graph.proofs.sets.insert_all.Given as goal
 
 abbrev pub invariant-loop-cell : goal.invariant-loop-cell

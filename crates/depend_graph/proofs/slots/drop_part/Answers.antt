@@ -2,7 +2,7 @@ use Rattle.std.specs.Prelude.{◌≡◌, Option, None, Some, is_some, true, fals
 use Rattle.std.specs.FinMap.{get}
 use Rattle.std.proofs.Common.{ap, sym, ◌∙◌}
 use Rattle.depend_graph.proofs.Placed.{part_cleared, part_out, placed_same}
-use Rattle.depend_graph.specs.Slots.{had, other_in, placed, without, Slots}
+use Rattle.depend_graph.specs.inner.Slots.{had, other_in, placed, without, Slots}
 use Rattle.depend_graph.specs.declared.slots.Slot.{Slot}
 use Rattle.depend_graph.proofs.slots.drop_part.Goals as goal
 

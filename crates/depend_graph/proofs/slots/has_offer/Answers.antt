@@ -1,6 +1,6 @@
 use Rattle.std.specs.Prelude.{Option, is_some}
 use Rattle.std.proofs.Common.{ap, ◌∙◌}
-use Rattle.depend_graph.specs.Slots.{had, offer_in}
+use Rattle.depend_graph.specs.inner.Slots.{had, offer_in}
 use Rattle.depend_graph.specs.declared.slots.Slot.{Slot}
 use Rattle.depend_graph.proofs.slots.has_offer.Goals as goal
 

@@ -1,6 +1,6 @@
 use Rattle.std.specs.Prelude.{Option, Some}
 use Rattle.std.proofs.Common.{ap, ◌∙◌}
-use Rattle.depend_graph.specs.Slots.{offering, placed}
+use Rattle.depend_graph.specs.inner.Slots.{offering, placed}
 use Rattle.depend_graph.specs.declared.slots.Slot.{Slot}
 use Rattle.depend_graph.proofs.slots.put_offer.Goals as goal
 

@@ -1,6 +1,6 @@
 use Rattle.std.specs.Prelude.{Option}
 use Rattle.std.proofs.Common.{ap}
-use Rattle.depend_graph.specs.Slots.{side}
+use Rattle.depend_graph.specs.inner.Slots.{side}
 use Rattle.depend_graph.specs.declared.slots.Slot.{Slot}
 use Rattle.depend_graph.proofs.slots.side.Goals as goal
 

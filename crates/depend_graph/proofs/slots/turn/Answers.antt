@@ -1,7 +1,7 @@
 use Rattle.std.specs.Prelude.{Option, None, Some}
 use Rattle.std.proofs.Common.{ap, sym, ◌∙◌}
 use Rattle.depend_graph.proofs.Placed.{placed_same}
-use Rattle.depend_graph.specs.Slots.{placed, turned}
+use Rattle.depend_graph.specs.inner.Slots.{placed, turned}
 use Rattle.depend_graph.specs.declared.slots.Slot.{Slot}
 use Rattle.depend_graph.proofs.slots.turn.Goals as goal
 

@@ -2,7 +2,7 @@ use Rattle.std.specs.Prelude.{List}
 use Rattle.std.specs.FinMap.{get}
 use Rattle.std.proofs.Common.{ap, subst, sym, ◌∙◌}
 use Rattle.grid_address.specs.Place.{Place}
-use Rattle.depend_graph.specs.Within.{Extends}
+use Rattle.depend_graph.specs.Sets.{Extends}
 use Rattle.sheet_edits.proofs.Listed.{extends_both, member_more, member_same}
 use Rattle.sheet_edits.specs.Spans.{gives_formula}
 use Rattle.sheet_edits.proofs.many.insert_given.Goals as goal

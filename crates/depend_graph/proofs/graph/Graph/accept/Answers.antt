@@ -3,9 +3,10 @@ use Rattle.depend_graph.proofs.Kept.{turned_registered}
 use Rattle.depend_graph.proofs.Listing.{turned_listed}
 use Rattle.depend_graph.proofs.Spreads.{none_kept}
 use Rattle.depend_graph.proofs.Viewed.{none_accepted, viewed_accepted}
-use Rattle.depend_graph.specs.Lists.{AreInLists}
-use Rattle.depend_graph.specs.Network.{accepted, network_of}
-use Rattle.depend_graph.specs.Slots.{AreRegistered, Slots}
+use Rattle.depend_graph.specs.inner.Lists.{AreInLists}
+use Rattle.depend_graph.specs.Network.{accepted}
+use Rattle.depend_graph.specs.inner.Readers.{network_of}
+use Rattle.depend_graph.specs.inner.Slots.{AreRegistered, Slots}
 use Rattle.depend_graph.proofs.graph.Graph.accept.Goals as goal
 
 pub invariant_of-self : goal.invariant_of-self

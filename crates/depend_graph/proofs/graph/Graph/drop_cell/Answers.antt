@@ -3,9 +3,10 @@ use Rattle.depend_graph.proofs.Kept.{unformed_registered}
 use Rattle.depend_graph.proofs.Listing.{unformed_listed}
 use Rattle.depend_graph.proofs.Spreads.{none_dropped, none_kept}
 use Rattle.depend_graph.proofs.Viewed.{viewed_dropped}
-use Rattle.depend_graph.specs.Lists.{AreInLists}
-use Rattle.depend_graph.specs.Network.{dropped, network_of}
-use Rattle.depend_graph.specs.Slots.{AreRegistered, Slots}
+use Rattle.depend_graph.specs.inner.Lists.{AreInLists}
+use Rattle.depend_graph.specs.Network.{dropped}
+use Rattle.depend_graph.specs.inner.Readers.{network_of}
+use Rattle.depend_graph.specs.inner.Slots.{AreRegistered, Slots}
 use Rattle.depend_graph.proofs.graph.Graph.drop_cell.Goals as goal
 
 pub invariant_of-self : goal.invariant_of-self

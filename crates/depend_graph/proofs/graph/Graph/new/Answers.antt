@@ -1,7 +1,7 @@
 use Rattle.depend_graph.proofs.Kept.{none_registered, picked_empty}
 use Rattle.depend_graph.proofs.Listing.{none_listed}
 use Rattle.depend_graph.proofs.Spreads.{none_kept}
-use Rattle.depend_graph.specs.Slots.{node_in, offer_in}
+use Rattle.depend_graph.specs.inner.Slots.{node_in, offer_in}
 use Rattle.depend_graph.proofs.graph.Graph.new.Goals as goal
 
 pub invariant_of-result : goal.invariant_of-result

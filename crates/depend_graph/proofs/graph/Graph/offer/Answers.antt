@@ -4,9 +4,10 @@ use Rattle.depend_graph.proofs.Listing.{listed_on, offering_listed}
 use Rattle.depend_graph.proofs.Offers.{on_err, refused, taken_up, unoffered}
 use Rattle.depend_graph.proofs.Spreads.{none_kept}
 use Rattle.depend_graph.proofs.Viewed.{offered_again, viewed_offered, viewed_withdrawn}
-use Rattle.depend_graph.specs.Lists.{AreInLists, IsListed}
-use Rattle.depend_graph.specs.Network.{network_of, offered, withdrawn, Network}
-use Rattle.depend_graph.specs.Slots.{AreRegistered, Slots}
+use Rattle.depend_graph.specs.inner.Lists.{AreInLists, IsListed}
+use Rattle.depend_graph.specs.Network.{offered, withdrawn, Network}
+use Rattle.depend_graph.specs.inner.Readers.{network_of}
+use Rattle.depend_graph.specs.inner.Slots.{AreRegistered, Slots}
 use Rattle.depend_graph.proofs.graph.Graph.offer.Goals as goal
 
 pub invariant_of-self : goal.invariant_of-self

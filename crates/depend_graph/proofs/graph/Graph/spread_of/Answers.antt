@@ -3,7 +3,7 @@ use Rattle.std.proofs.Common.{sym, subst, ◌∙◌}
 use Rattle.cell_numbers.specs.Sets.{has}
 use Rattle.grid_address.specs.Place.{same_place, Place}
 use Rattle.depend_graph.specs.Network.{IsSpread, Network}
-use Rattle.depend_graph.specs.Spreads.{list_of}
+use Rattle.depend_graph.specs.inner.Spreads.{list_of}
 use Rattle.depend_graph.proofs.Spreads.{kept_is}
 use Rattle.depend_graph.proofs.graph.Graph.spread_of.Goals as goal
 

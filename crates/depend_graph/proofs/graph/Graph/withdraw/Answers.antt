@@ -4,9 +4,10 @@ use Rattle.depend_graph.proofs.Kept.{unoffered_registered}
 use Rattle.depend_graph.proofs.Listing.{unoffered_listed}
 use Rattle.depend_graph.proofs.Spreads.{kept_along}
 use Rattle.depend_graph.proofs.Viewed.{viewed_withdrawn}
-use Rattle.depend_graph.specs.Lists.{AreInLists}
-use Rattle.depend_graph.specs.Network.{network_of, withdrawn, Network}
-use Rattle.depend_graph.specs.Slots.{AreRegistered, Slots}
+use Rattle.depend_graph.specs.inner.Lists.{AreInLists}
+use Rattle.depend_graph.specs.Network.{withdrawn, Network}
+use Rattle.depend_graph.specs.inner.Readers.{network_of}
+use Rattle.depend_graph.specs.inner.Slots.{AreRegistered, Slots}
 use Rattle.depend_graph.proofs.graph.Graph.withdraw.Goals as goal
 
 pub invariant_of-self : goal.invariant_of-self

@@ -6,8 +6,8 @@ use Rattle.std.specs.List.{filter}
 use Rattle.cell_numbers.specs.Sets.{has}
 use Rattle.grid_address.specs.Place.{place_cmp, same_place, Extent, Place}
 use Rattle.range_index.specs.Owners.{hold}
-use Rattle.depend_graph.specs.Banks.{is_one}
-use Rattle.depend_graph.specs.Slots.{Slots}
+use Rattle.depend_graph.specs.inner.Banks.{is_one}
+use Rattle.depend_graph.specs.inner.Slots.{Slots}
 use Rattle.depend_graph.specs.declared.node.Node.{Node}
 use Rattle.depend_graph.specs.declared.slots.Slot.{Slot}
 

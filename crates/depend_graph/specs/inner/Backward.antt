@@ -7,7 +7,7 @@ use Rattle.cell_numbers.specs.Numbers.{number_at}
 use Rattle.cell_numbers.specs.Sets.{has}
 use Rattle.grid_address.specs.Place.{same_place, InSheet, Place}
 use Rattle.depend_graph.specs.Network.{reads, Network}
-use Rattle.depend_graph.specs.Within.{Within}
+use Rattle.depend_graph.specs.inner.Within.{Within}
 use Rattle.depend_graph.specs.declared.closure.Search.{Search}
 
 -- every formula

@@ -3,7 +3,8 @@ use Rattle.std.specs.Prelude.{◌≡◌, Bool, false, not, List, [], ◌∷◌, 
 use Rattle.std.specs.FinMap.{entries, from_entries, get, insert, remove, FinMap}
 use Rattle.grid_address.specs.Place.{place_cmp, Extent, Place}
 use Rattle.range_index.specs.Owners.{Owners}
-use Rattle.depend_graph.specs.Banks.{spans_at, wide}
+use Rattle.depend_graph.specs.Network.{Nodes}
+use Rattle.depend_graph.specs.inner.Banks.{spans_at, wide}
 use Rattle.depend_graph.specs.declared.node.Node.{Node}
 use Rattle.depend_graph.specs.declared.slots.Part.{Part}
 use Rattle.depend_graph.specs.declared.slots.Part.TheVariants.{Formula, Offer}
@@ -12,10 +13,6 @@ use Rattle.depend_graph.specs.declared.slots.Slot.{Slot}
 -- all cells that have a formula or an offer, in one map
 abbrev pub Slots : Type 0
 Slots = FinMap place_cmp Slot
-
--- for each cell what its formula reads, and whether that is volatile
-abbrev pub Nodes : Type 0
-Nodes = FinMap place_cmp Node
 
 -- what is put at a place, or taken out there
 abbrev pub placed : {X : Type 0} → FinMap place_cmp X → Place → Option X → FinMap place_cmp X

@@ -1,5 +1,5 @@
 -- What is found from some cells on, going back over what formulas read.
-use Rattle.std.specs.Prelude.{◌≡◌, true, List, ◌++◌}
+use Rattle.std.specs.Prelude.{◌≡◌, true, List}
 use Rattle.cell_numbers.specs.Sets.{has}
 use Rattle.grid_address.specs.Place.{same_place, Place}
 use Rattle.depend_graph.specs.Network.{reads, Network}
@@ -8,8 +8,3 @@ use Rattle.depend_graph.specs.Network.{reads, Network}
 pub data Within (g : Network) (cells : List Place) : Place → Type 0 where
   seed : {c : Place} → has same_place cells c ≡ true → Within g cells c
   reader : {c d : Place} → Within g cells c → reads g d c ≡ true → Within g cells d
-
--- new has what old had, in the same places, and more
-pub record Extends (old new : List Place) : Type 0 where
-  pub more : List Place
-  pub is : new ≡ old ++ more
