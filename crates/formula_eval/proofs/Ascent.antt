@@ -9,7 +9,7 @@ use Rattle.std.proofs.lemmas.Int.{ints}
 use Rattle.grid_address.specs.Place.{height_of, is_within, same_place, Extent, Place}
 use Rattle.formula_tree.specs.declared.value.Value.{Value}
 use Rattle.formula_tree.specs.declared.value.Value.TheVariants as value
-use Rattle.formula_eval.specs.Kept.{IsColumn, IsRising, RisesTo}
+use Rattle.formula_eval.specs.inner.Kept.{IsColumn, IsRising, RisesTo}
 use Rattle.formula_eval.specs.Lookups.{firsts, line_cell, passes}
 use Rattle.formula_eval.proofs.Blocks.{place}
 use Rattle.formula_eval.proofs.Keeping.{other}

@@ -18,7 +18,7 @@ use Rattle.value_functions.specs.Values.{answer}
 use Rattle.formula_eval.specs.declared.argument.Argument.{Argument}
 use Rattle.formula_eval.specs.Lists.{items_in, items_of, list_value}
 use Rattle.formula_eval.specs.Lookups.{by_number, lookup_value, on_place, on_range, place_in, range_of}
-use Rattle.formula_eval.specs.Numbers.{ranged, IsCallNumber, IsNumber}
+use Rattle.formula_eval.specs.inner.Numbers.{ranged, IsCallNumber, IsNumber}
 use Rattle.formula_eval.specs.Outlook.{filled, Outlook, Sight}
 use Rattle.formula_eval.specs.Parts.{arguments_by, call_value, operand_of, value_by}
 use Rattle.formula_eval.specs.Scenes.{outlook_of}

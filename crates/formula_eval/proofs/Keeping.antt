@@ -7,10 +7,10 @@ use Rattle.grid_address.specs.Place.{height_of, is_within, same_place, width_of,
 use Rattle.formula_tree.specs.declared.value.Value.{Value}
 use Rattle.formula_eval.specs.declared.items.Item.{Item}
 use Rattle.formula_eval.specs.declared.kept.Running.{Running}
-use Rattle.formula_eval.specs.Kept.{IsRunning}
+use Rattle.formula_eval.specs.inner.Kept.{IsRunning}
 use Rattle.formula_eval.specs.Lists.{in_range, items_in}
 use Rattle.formula_eval.specs.Outlook.{block_cells, cells_of, row_cells}
-use Rattle.formula_eval.specs.Totals.{so_far, IsTotal}
+use Rattle.formula_eval.specs.inner.Totals.{so_far, IsTotal}
 use Rattle.formula_eval.proofs.Blocks.{place}
 use Rattle.formula_eval.proofs.Totalled.{items_append}
 

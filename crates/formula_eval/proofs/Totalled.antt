@@ -16,7 +16,7 @@ use Rattle.formula_eval.specs.declared.totals.Total.{Total}
 use Rattle.formula_eval.specs.Lists.{in_range, is_err, is_na, items_in, larger, list_row, list_value, size_of, smaller, told_by}
 use Rattle.formula_eval.specs.Outlook.{block_cells, cells_of, filled, row_cells}
 use Rattle.formula_eval.proofs.Blocks.{block_more, place, row_more}
-use Rattle.formula_eval.specs.Totals.{row_by, so_far, value_by, IsTotal}
+use Rattle.formula_eval.specs.inner.Totals.{row_by, so_far, value_by, IsTotal}
 
 -- blank cells have no items
 pub unfiltered : (values : Place → Value) (ps : List Place) → items_in values (filter (λ p. is_filled (values p)) ps) ≡ items_in values ps

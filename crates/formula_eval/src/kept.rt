@@ -3,11 +3,11 @@ ghost use Rattle.std.specs.Prelude.{◌≡◌, ◌≤◌, ◌<◌, IfSome, IsSom
 ghost use Rattle.grid_address.specs.Place.{height_of, is_within, same_place, width_of, Place};
 ghost use Rattle.formula_tree.specs.declared.value.Value.{Value};
 ghost use Rattle.formula_tree.specs.declared.value.Value.TheVariants as value;
-ghost use Rattle.formula_eval.specs.Kept.{AreFound, IsKept, IsRising, IsRunning};
+ghost use Rattle.formula_eval.specs.inner.Kept.{AreFound, IsKept, IsRising, IsRunning};
 ghost use Rattle.formula_eval.specs.Lists.{items_in, list_value};
 ghost use Rattle.formula_eval.specs.Lookups.{by_number};
 ghost use Rattle.formula_eval.specs.Outlook.{cells_of, filled, Sight};
-ghost use Rattle.formula_eval.specs.Totals.{so_far, IsTotal};
+ghost use Rattle.formula_eval.specs.inner.Totals.{so_far, IsTotal};
 
 use crate::look::Look;
 use crate::rising::{number_beside, rises};

@@ -4,7 +4,7 @@ ghost use Rattle.formula_tree.specs.Seen.{seen_value};
 ghost use Rattle.formula_eval.specs.declared.items.Item.{Item};
 ghost use Rattle.formula_eval.specs.Lists.{in_range, items_by, items_in, items_of, list_value};
 ghost use Rattle.formula_eval.specs.Outlook.{cells_of, filled, Sight};
-ghost use Rattle.formula_eval.specs.Totals.{IsTotal};
+ghost use Rattle.formula_eval.specs.inner.Totals.{IsTotal};
 
 use crate::argument::{Argument, Operand};
 use crate::items::{Item, alone, scalar};

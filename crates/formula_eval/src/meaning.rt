@@ -3,7 +3,7 @@ ghost use Rattle.std.specs.Prelude.{◌≡◌, ℕ, ◌+◌, ◌-◌, ◌^◌, �
 ghost use Rattle.formula_tree.specs.View.{listed, tree_of};
 ghost use Rattle.formula_eval.specs.Lists.{items_of, list_value};
 ghost use Rattle.formula_eval.specs.Calls.{chosen};
-ghost use Rattle.formula_eval.specs.Kept.{IsKept};
+ghost use Rattle.formula_eval.specs.inner.Kept.{IsKept};
 ghost use Rattle.formula_eval.specs.Mean.{mean};
 ghost use Rattle.formula_eval.specs.Parts.{arguments_by, call_value, filled_in, mean_within, operand_of, value_by};
 ghost use Rattle.value_functions.specs.Operators.{binary_value, denied, negated};

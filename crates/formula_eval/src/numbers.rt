@@ -2,8 +2,8 @@
 ghost use Rattle.std.specs.Prelude.{◌≡◌, map, IfSome};
 ghost use Rattle.formula_tree.specs.View.{listed, tree_of};
 ghost use Rattle.formula_tree.specs.declared.function.Function.TheVariants as function;
-ghost use Rattle.formula_eval.specs.Kept.{IsKept};
-ghost use Rattle.formula_eval.specs.Numbers.{ranged, IsCallNumber, IsNumber};
+ghost use Rattle.formula_eval.specs.inner.Kept.{IsKept};
+ghost use Rattle.formula_eval.specs.inner.Numbers.{ranged, IsCallNumber, IsNumber};
 ghost use Rattle.formula_eval.specs.Outlook.{Outlook, Sight};
 ghost use Rattle.formula_eval.specs.Parts.{arguments_by, Database};
 

@@ -5,7 +5,7 @@ ghost use Rattle.std.specs.List.{prefix_len};
 ghost use Rattle.grid_address.specs.Place.{height_of, width_of};
 ghost use Rattle.formula_tree.specs.Seen.{seen_value};
 ghost use Rattle.formula_tree.specs.declared.value.Value.TheVariants as value;
-ghost use Rattle.formula_eval.specs.Kept.{IsRising};
+ghost use Rattle.formula_eval.specs.inner.Kept.{IsRising};
 ghost use Rattle.formula_eval.specs.Lookups.{by_number, firsts, passes};
 ghost use Rattle.formula_eval.specs.Outlook.{Sight};
 

@@ -7,7 +7,7 @@ ghost use Rattle.formula_tree.specs.declared.value.Value.TheVariants as value;
 ghost use Rattle.formula_eval.specs.declared.items.Item.{Item};
 ghost use Rattle.formula_eval.specs.Lists.{in_range, is_err, is_na, items_in, list_value, size_of};
 ghost use Rattle.formula_eval.specs.Outlook.{row_cells, Sight};
-ghost use Rattle.formula_eval.specs.Totals.{row_by, so_far, value_by, IsTotal};
+ghost use Rattle.formula_eval.specs.inner.Totals.{row_by, so_far, value_by, IsTotal};
 
 use crate::items::{Item, larger, smaller};
 use crate::look::Look;

@@ -2,7 +2,7 @@
 ghost use Rattle.std.specs.Prelude.{◌≡◌, ◌*◌, Bool, length, OnErr, OnOk, true};
 ghost use Rattle.grid_address.specs.Place.{same_place, Place};
 ghost use Rattle.cell_numbers.specs.Sets.{has};
-ghost use Rattle.formula_eval.specs.Kept.{IsKept};
+ghost use Rattle.formula_eval.specs.inner.Kept.{IsKept};
 ghost use Rattle.natural_recalc.specs.Context.{context_of, value_at};
 ghost use Rattle.natural_recalc.specs.Passes.{evaluated, pass, passes, raised_by, IsSound, SameContents};
 ghost use Rattle.natural_recalc.specs.Reading.{is_formula_at};

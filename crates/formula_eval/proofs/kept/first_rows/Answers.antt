@@ -1,7 +1,7 @@
 use Rattle.std.proofs.Common.{sym, ap, subst, ◌∙◌, arith}
 use Rattle.std.specs.Prelude.{IfSome}
-use Rattle.formula_eval.specs.Kept.{IsRunning}
-use Rattle.formula_eval.specs.Totals.{so_far, IsTotal}
+use Rattle.formula_eval.specs.inner.Kept.{IsRunning}
+use Rattle.formula_eval.specs.inner.Totals.{so_far, IsTotal}
 use Rattle.formula_eval.proofs.Keeping.{goes_on}
 use Rattle.formula_eval.proofs.kept.first_rows.Goals as goal
 

@@ -3,7 +3,7 @@ use Rattle.std.proofs.lemmas.List.{take_all}
 use Rattle.formula_tree.specs.Seen.{seen_value}
 use Rattle.grid_address.specs.Place.{Place}
 use Rattle.formula_eval.specs.Lists.{items_in}
-use Rattle.formula_eval.specs.Totals.{IsTotal}
+use Rattle.formula_eval.specs.inner.Totals.{IsTotal}
 use Rattle.formula_eval.proofs.Gathered.{cell_next}
 use Rattle.formula_eval.proofs.lists.put_cells.Goals as goal
 

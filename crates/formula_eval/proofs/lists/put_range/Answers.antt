@@ -3,7 +3,7 @@ use Rattle.grid_address.specs.Place.{height_of}
 use Rattle.formula_eval.specs.declared.items.Item.{Item}
 use Rattle.formula_eval.specs.Lists.{items_in}
 use Rattle.formula_eval.specs.Outlook.{cells_of}
-use Rattle.formula_eval.specs.Totals.{so_far, IsTotal}
+use Rattle.formula_eval.specs.inner.Totals.{so_far, IsTotal}
 use Rattle.formula_eval.proofs.Totalled.{rows_put, unfiltered}
 use Rattle.formula_eval.proofs.lists.put_range.Goals as goal
 

@@ -1,7 +1,7 @@
 use Rattle.std.proofs.Common.{◌≤◌, ◌-◌, ◌++◌, List}
 use Rattle.grid_address.specs.Place.{height_of}
 use Rattle.formula_eval.specs.declared.items.Item.{Item}
-use Rattle.formula_eval.specs.Totals.{so_far, IsTotal}
+use Rattle.formula_eval.specs.inner.Totals.{so_far, IsTotal}
 use Rattle.formula_eval.proofs.lists.put_range.Given as goal
 
 abbrev pub invariant-loop-row : goal.invariant-loop-row

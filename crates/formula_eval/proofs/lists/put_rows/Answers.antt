@@ -3,7 +3,7 @@ use Rattle.std.proofs.lemmas.List.{append-nil}
 use Rattle.formula_eval.specs.declared.items.Item.{Item}
 use Rattle.formula_eval.specs.Lists.{items_in}
 use Rattle.formula_eval.specs.Outlook.{cells_of}
-use Rattle.formula_eval.specs.Totals.{IsTotal}
+use Rattle.formula_eval.specs.inner.Totals.{IsTotal}
 use Rattle.formula_eval.proofs.Totalled.{unfiltered, unused_none}
 use Rattle.formula_eval.proofs.lists.put_rows.Goals as goal
 

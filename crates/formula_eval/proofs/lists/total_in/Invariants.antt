@@ -1,5 +1,5 @@
 use Rattle.std.proofs.Common.{take}
-use Rattle.formula_eval.specs.Totals.{IsTotal}
+use Rattle.formula_eval.specs.inner.Totals.{IsTotal}
 use Rattle.formula_eval.proofs.lists.total_in.Given as goal
 
 abbrev pub invariant-loop-item : goal.invariant-loop-item

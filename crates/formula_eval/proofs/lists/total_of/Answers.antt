@@ -1,5 +1,5 @@
 use Rattle.std.proofs.Common.{subst}
-use Rattle.formula_eval.specs.Totals.{IsTotal}
+use Rattle.formula_eval.specs.inner.Totals.{IsTotal}
 use Rattle.formula_eval.proofs.Gathered.{next_argument}
 use Rattle.formula_eval.proofs.lists.total_of.Goals as goal
 

@@ -1,6 +1,6 @@
 use Rattle.std.proofs.Common.{take}
 use Rattle.formula_eval.specs.Lists.{items_of}
-use Rattle.formula_eval.specs.Totals.{IsTotal}
+use Rattle.formula_eval.specs.inner.Totals.{IsTotal}
 use Rattle.formula_eval.proofs.lists.total_of.Given as goal
 
 abbrev pub invariant-loop-argument : goal.invariant-loop-argument

@@ -1,6 +1,6 @@
 use Rattle.std.proofs.Common.{◌≡◌, ◌+◌, sym, ap, subst, ◌∙◌, arith}
 use Rattle.grid_address.specs.Place.{height_of}
-use Rattle.formula_eval.specs.Kept.{RisesTo}
+use Rattle.formula_eval.specs.inner.Kept.{RisesTo}
 use Rattle.formula_eval.proofs.Ascent.{above_more, rises_more}
 use Rattle.formula_eval.proofs.Totalled.{same_cell}
 use Rattle.formula_eval.proofs.rising.rises.Goals as goal

@@ -1,4 +1,4 @@
-use Rattle.formula_eval.specs.Kept.{RisesTo}
+use Rattle.formula_eval.specs.inner.Kept.{RisesTo}
 use Rattle.formula_eval.proofs.Ascent.{IsAbove}
 use Rattle.formula_eval.proofs.rising.rises.Given as goal
 

@@ -1,6 +1,6 @@
 use Rattle.std.proofs.Common.{◌≡◌, sym, ap, subst, arith}
 use Rattle.grid_address.specs.Place.{height_of}
-use Rattle.formula_eval.specs.Totals.{so_far, IsTotal}
+use Rattle.formula_eval.specs.inner.Totals.{so_far, IsTotal}
 use Rattle.formula_eval.proofs.Totalled.{unused_put}
 use Rattle.formula_eval.proofs.totals.add_rest.Goals as goal
 use Rattle.formula_eval.proofs.totals.add_rest.Goals.{else-not-is_unused-via-then-not-is_unused+else-not-add_rows, else-not-is_unused-via-else-not-is_unused}

@@ -1,6 +1,6 @@
 use Rattle.std.proofs.Common.{◌≤◌, ◌-◌}
 use Rattle.grid_address.specs.Place.{height_of}
-use Rattle.formula_eval.specs.Totals.{so_far, IsTotal}
+use Rattle.formula_eval.specs.inner.Totals.{so_far, IsTotal}
 use Rattle.formula_eval.proofs.totals.add_rest.Given as goal
 
 abbrev pub invariant-loop-row : goal.invariant-loop-row

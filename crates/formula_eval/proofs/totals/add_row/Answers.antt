@@ -2,7 +2,7 @@ use Rattle.std.proofs.Common.{◌≡◌, ◌+◌, ◌++◌, ap, subst, arith}
 use Rattle.grid_address.specs.Place.{width_of}
 use Rattle.formula_eval.specs.Lists.{items_in}
 use Rattle.formula_eval.specs.Outlook.{row_cells}
-use Rattle.formula_eval.specs.Totals.{IsTotal}
+use Rattle.formula_eval.specs.inner.Totals.{IsTotal}
 use Rattle.formula_eval.proofs.Totalled.{cell_put, none_put}
 use Rattle.formula_eval.proofs.totals.add_row.Goals as goal
 

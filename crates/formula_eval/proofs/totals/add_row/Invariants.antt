@@ -2,7 +2,7 @@ use Rattle.std.proofs.Common.{◌+◌, ◌++◌, List}
 use Rattle.formula_eval.specs.declared.items.Item.{Item}
 use Rattle.formula_eval.specs.Lists.{items_in}
 use Rattle.formula_eval.specs.Outlook.{row_cells}
-use Rattle.formula_eval.specs.Totals.{IsTotal}
+use Rattle.formula_eval.specs.inner.Totals.{IsTotal}
 use Rattle.formula_eval.proofs.totals.add_row.Given as goal
 
 abbrev pub invariant-loop-col : goal.invariant-loop-col

@@ -1,4 +1,4 @@
-use Rattle.formula_eval.specs.Totals.{so_far, IsTotal}
+use Rattle.formula_eval.specs.inner.Totals.{so_far, IsTotal}
 use Rattle.formula_eval.proofs.totals.add_rows.Given as goal
 
 abbrev pub invariant-loop-row : goal.invariant-loop-row

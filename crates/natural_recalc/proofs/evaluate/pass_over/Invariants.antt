@@ -1,6 +1,6 @@
 use Rattle.std.specs.Prelude.{◌≡◌, drop, Bool}
 use Rattle.grid_address.specs.Place.{Place}
-use Rattle.formula_eval.specs.Kept.{IsKept}
+use Rattle.formula_eval.specs.inner.Kept.{IsKept}
 use Rattle.natural_recalc.specs.Context.{context_of, value_at}
 use Rattle.natural_recalc.specs.Passes.{pass, raised_by, IsSound, SameContents}
 use Rattle.natural_recalc.specs.Reading.{is_formula_at}

@@ -1,7 +1,7 @@
 use Rattle.std.proofs.Common.{sym, subst}
 use Rattle.std.specs.Prelude.{IfSome}
 use Rattle.formula_eval.specs.declared.kept.Findings.{Findings}
-use Rattle.formula_eval.specs.Kept.{IsColumn, IsRunning}
+use Rattle.formula_eval.specs.inner.Kept.{IsColumn, IsRunning}
 use Rattle.formula_eval.proofs.kept.Findings.keep.Goals as goal
 use Rattle.formula_eval.proofs.kept.Findings.keep.Goals.{in-None, in_default}
 

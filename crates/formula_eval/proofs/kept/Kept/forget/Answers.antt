@@ -1,6 +1,6 @@
 use Rattle.std.proofs.Common.{sym, subst}
 use Rattle.std.specs.Prelude.{IfSome}
-use Rattle.formula_eval.specs.Kept.{AreFound}
+use Rattle.formula_eval.specs.inner.Kept.{AreFound}
 use Rattle.formula_eval.proofs.Ascent.{column_stays}
 use Rattle.formula_eval.proofs.Keeping.{running_stays}
 use Rattle.formula_eval.proofs.kept.Kept.forget.Goals as goal

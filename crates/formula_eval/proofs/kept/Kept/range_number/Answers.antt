@@ -1,6 +1,6 @@
 use Rattle.formula_eval.specs.Lists.{items_in}
 use Rattle.formula_eval.specs.Outlook.{cells_of}
-use Rattle.formula_eval.specs.Totals.{IsTotal}
+use Rattle.formula_eval.specs.inner.Totals.{IsTotal}
 use Rattle.formula_eval.proofs.Totalled.{found_by}
 use Rattle.formula_eval.proofs.kept.Kept.range_number.Goals as goal
 

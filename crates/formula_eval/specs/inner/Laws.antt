@@ -13,9 +13,9 @@ use Rattle.formula_tree.specs.Tree.{Tree, num, str, cell, span, group, neg, not,
 use Rattle.formula_tree.specs.declared.value.Value.{Value}
 use Rattle.formula_tree.specs.declared.value.Value.TheVariants as value
 use Rattle.formula_eval.specs.declared.argument.Argument.{Argument}
-use Rattle.formula_eval.specs.Agreement.{in_arguments, in_operand, same_of, within_itself}
+use Rattle.formula_eval.specs.inner.Agreement.{in_arguments, in_operand, same_of, within_itself}
 use Rattle.formula_eval.specs.Lists.{items_of, list_value}
-use Rattle.formula_eval.specs.Lookalike.{same_index, same_lookup}
+use Rattle.formula_eval.specs.inner.Lookalike.{same_index, same_lookup}
 use Rattle.formula_eval.specs.Lookups.{lookup_value}
 use Rattle.formula_eval.specs.Calls.{called, one_value, three_value, two_value}
 use Rattle.formula_eval.specs.Databases.{database_value}

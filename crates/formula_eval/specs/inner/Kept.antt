@@ -8,7 +8,7 @@ use Rattle.formula_eval.specs.declared.kept.Running.{Running}
 use Rattle.formula_eval.specs.Lists.{items_in}
 use Rattle.formula_eval.specs.Lookups.{line_cell, passes}
 use Rattle.formula_eval.specs.Outlook.{cells_of}
-use Rattle.formula_eval.specs.Totals.{IsTotal}
+use Rattle.formula_eval.specs.inner.Totals.{IsTotal}
 
 -- the total is that of the cells of the range
 abbrev pub IsRunning : (Place → Value) → Running → Type 0
