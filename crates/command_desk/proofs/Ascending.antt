@@ -9,7 +9,7 @@ use Rattle.grid_address.proofs.Places.{same_place_is, same_place_itself}
 use Rattle.grid_address.specs.Place.{place_cmp, same_place, Place}
 use Rattle.cell_numbers.specs.Sets.{has}
 use Rattle.natural_recalc.proofs.Filled.{Before}
-use Rattle.natural_recalc.specs.Laws.{Ascends}
+use Rattle.natural_recalc.specs.inner.Laws.{Ascends}
 
 module _ (p : Place → Bool) where
   -- none passes

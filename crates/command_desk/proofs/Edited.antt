@@ -20,7 +20,7 @@ use Rattle.work_sheet.specs.Editing.{shifted}
 use Rattle.work_sheet.specs.Seen.{of_worksheet, Sheet}
 use Rattle.work_sheet.specs.Sheets.{IsRefusedBy, Worksheet}
 use Rattle.command_desk.proofs.Ascending.{first_found, none_found}
-use Rattle.natural_recalc.specs.Laws.{Ascends}
+use Rattle.natural_recalc.specs.inner.Laws.{Ascends}
 use Rattle.command_desk.specs.Acting.{edited, error_of, first_protected, moved_by, refusal_of, refused}
 use Rattle.command_desk.specs.Acting.{unless_protected, unless_refused, written, Acted, HasActed, HasSettled}
 use Rattle.command_desk.specs.declared.ending.CommandEnd.{CommandEnd}

@@ -3,7 +3,7 @@ use Rattle.std.specs.Prelude.{◌++◌, List, [], ◌∷◌, flat_map, Option, N
 use Rattle.std.specs.FinMap as map
 use Rattle.std.specs.List.Sorted.{IsStrictlySortedBy}
 use Rattle.natural_recalc.proofs.Filled.{Before}
-use Rattle.natural_recalc.specs.Laws.{Ascends}
+use Rattle.natural_recalc.specs.inner.Laws.{Ascends}
 use Rattle.commands_range.specs.Commands.{relabelled, relabelled_cell, relabelled_content}
 use Rattle.formula_tree.specs.declared.value.Content.{Content}
 use Rattle.formula_tree.specs.declared.value.Content.TheVariants as content

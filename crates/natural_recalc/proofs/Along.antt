@@ -27,8 +27,9 @@ use Rattle.natural_recalc.proofs.Rest.{formulas_all, further, onto, onto-has, on
 use Rattle.natural_recalc.proofs.Valued.{told_valued, with_value}
 use Rattle.natural_recalc.specs.Context.{formula_at, outlook_at, value_at, value_of, Context}
 use Rattle.natural_recalc.specs.InOrder.{GoesInOrder}
-use Rattle.natural_recalc.specs.Laws.{has_formula}
-use Rattle.natural_recalc.specs.Passes.{evaluated, pass, passes, revalued, IsMeaning, IsPlain, IsRest, IsSound, IsWhatStays, Meaning, SameContents}
+use Rattle.natural_recalc.specs.inner.Laws.{has_formula}
+use Rattle.natural_recalc.specs.Passes.{evaluated, pass, passes, revalued, IsPlain, IsRest, IsSound, IsWhatStays, Meaning, SameContents}
+use Rattle.natural_recalc.specs.inner.Meanings.{IsMeaning}
 use Rattle.natural_recalc.specs.Reading.{is_formula_at, natural_order, pre, spans_at, spans_in, volatile_of}
 
 -- no formula

@@ -9,7 +9,7 @@ use Rattle.std.proofs.Common.{sym, subst}
 use Rattle.grid_address.specs.Place.{is_within, place_cmp, Extent, Place}
 use Rattle.sheet_store.specs.Grid.{formulas, is_formula, picked, Grid}
 use Rattle.sheet_store.specs.State.{CellState}
-use Rattle.natural_recalc.specs.Laws.{among_chosen, chosen, chosen_above, entries_ascend, picked_chosen, Ascends}
+use Rattle.natural_recalc.specs.inner.Laws.{among_chosen, chosen, chosen_above, entries_ascend, picked_chosen, Ascends}
 
 pub chosen_ascends : (p : Place × CellState → Bool) (es : List (Place × CellState)) → Ascends (keys_of es) → Ascends (chosen p es)
 unfolding IsStrictlySortedBy

@@ -18,7 +18,8 @@ use Rattle.sheet_store.specs.Grid.{set_value_at, Grid}
 use Rattle.natural_recalc.proofs.Members.{has_pre, pre_along}
 use Rattle.natural_recalc.proofs.Valued.{formula_blind, told_valued, value_valued, valued_same}
 use Rattle.natural_recalc.specs.Context.{formula_at, formula_of, outlook_at, value_at, Context}
-use Rattle.natural_recalc.specs.Passes.{evaluated, pass, revalued, IsMeaning, IsSound, Meaning}
+use Rattle.natural_recalc.specs.Passes.{evaluated, pass, revalued, IsSound, Meaning}
+use Rattle.natural_recalc.specs.inner.Meanings.{IsMeaning}
 use Rattle.natural_recalc.specs.Reading.{is_formula_at, pre, spans_in}
 
 pub read_formula : (g : Grid) (d c : Place) (t : Tree) → formula_at g d ≡ Some t → hold (spans_of t d) c ≡ true → is_formula_at g c ≡ true → has same_place (pre g d) c ≡ true

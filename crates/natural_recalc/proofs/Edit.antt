@@ -14,7 +14,8 @@ use Rattle.sheet_store.specs.Grid.{Grid}
 use Rattle.natural_recalc.proofs.First.{reads_formula}
 use Rattle.natural_recalc.proofs.Members.{has_pre, pre_of_read, read_of_pre}
 use Rattle.natural_recalc.specs.Context.{formula_at, formula_of, outlook_at, value_of, Context}
-use Rattle.natural_recalc.specs.Passes.{EditKeepsSound, IsMeaning, IsSpread, Meaning}
+use Rattle.natural_recalc.specs.Passes.{EditKeepsSound, IsSpread, Meaning}
+use Rattle.natural_recalc.specs.inner.Meanings.{IsMeaning}
 use Rattle.natural_recalc.specs.Reading.{is_formula_at, pre, reads_at, spans_at, spans_in}
 
 module _ (old new : Grid) (written dirty spread : Place → Bool) (s : IsSpread old new written dirty spread) where

@@ -20,8 +20,9 @@ use Rattle.natural_recalc.proofs.First.{filter_twice, rest_of, stays_along, stay
 use Rattle.natural_recalc.proofs.Members.{pre_along}
 use Rattle.natural_recalc.proofs.Rest.{formulas_all, further, settled_pass}
 use Rattle.natural_recalc.specs.Context.{formula_at, Context}
-use Rattle.natural_recalc.specs.Laws.{has_formula, Ascends}
-use Rattle.natural_recalc.specs.Passes.{IsPlain, IsRight, pass, passes, IsMeaning, IsSound, IsWhatStays, Meaning}
+use Rattle.natural_recalc.specs.inner.Laws.{has_formula, Ascends}
+use Rattle.natural_recalc.specs.Passes.{IsPlain, IsRight, pass, passes, IsSound, IsWhatStays, Meaning}
+use Rattle.natural_recalc.specs.inner.Meanings.{IsMeaning}
 use Rattle.natural_recalc.specs.Reading.{is_formula_at, natural_order, pre, StaysDirty}
 use Rattle.natural_recalc.specs.Reading.StaysDirty.{circle, reading, volatile}
 

@@ -20,7 +20,7 @@ use Rattle.cell_numbers.specs.Sets.{has}
 use Rattle.sheet_store.proofs.RowOrder.{same_members}
 use Rattle.sheet_store.specs.Grid.{any_state, cells_within, Grid}
 use Rattle.sheet_store.specs.State.{CellState}
-use Rattle.natural_recalc.specs.Laws.{has_picked, passes_at, Ascends}
+use Rattle.natural_recalc.specs.inner.Laws.{has_picked, passes_at, Ascends}
 use Rattle.natural_recalc.proofs.Ascending.{picked_ascends}
 use Rattle.natural_recalc.specs.Context.{value_at, value_of}
 

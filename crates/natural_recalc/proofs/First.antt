@@ -16,7 +16,7 @@ use Rattle.natural_order.specs.Walk.{order, IsExact, IsSplit, Precedes, Reaches,
 use Rattle.natural_order.specs.Walk.Reaches.{one, more}
 use Rattle.range_index.specs.Owners.{hold}
 use Rattle.sheet_store.specs.Grid.{formulas, Grid}
-use Rattle.natural_recalc.specs.Laws.{has_formula, has_in}
+use Rattle.natural_recalc.specs.inner.Laws.{has_formula, has_in}
 use Rattle.natural_recalc.proofs.Members.{pre_along, pre_formulas}
 use Rattle.natural_recalc.specs.Context.{formula_at, Context}
 use Rattle.natural_recalc.specs.Passes.{IsRest, IsSound, IsWhatStays, Meaning}

@@ -20,7 +20,8 @@ use Rattle.sheet_store.specs.State.{CellState}
 use Rattle.natural_recalc.proofs.First.{reads_formula}
 use Rattle.natural_recalc.specs.Context.{formula_at, formula_in, formula_of, Context}
 use Rattle.natural_recalc.specs.Passes.{IsSound, Meaning}
-use Rattle.natural_recalc.specs.Reading.{is_formula_at, node_of, pre, with_formula, Matches}
+use Rattle.natural_recalc.specs.Reading.{is_formula_at, node_of, pre, Matches}
+use Rattle.natural_recalc.specs.inner.Graphs.{with_formula}
 
 start : (g : Grid) {c d : Place} → Reaches same_place (pre g) c d → is_formula_at g c ≡ true
 start g {c} {d} (one m) = reads_formula g c d m

@@ -11,7 +11,8 @@ use Rattle.natural_order.specs.Walk.{order}
 use Rattle.sheet_store.specs.Grid.{formulas, Grid}
 use Rattle.natural_recalc.proofs.First.{walked_dirty}
 use Rattle.natural_recalc.specs.Context.{formula_at}
-use Rattle.natural_recalc.specs.Reading.{formulas_in, node_of, spans_at, spans_in, spans_told, Matches}
+use Rattle.natural_recalc.specs.Reading.{formulas_in, node_of, spans_at, spans_in, Matches}
+use Rattle.natural_recalc.specs.inner.Graphs.{spans_told}
 
 module _ (n : Network) (g : Grid) (m : Matches n g) where
   told : (c : Place) → spans_told (get n.formulas c) ≡ spans_at g c

@@ -13,7 +13,7 @@ use Rattle.natural_order.specs.Walk.{Precedes, Reaches}
 use Rattle.natural_order.specs.Walk.Reaches.{one, more}
 use Rattle.sheet_store.specs.Grid.{Grid}
 use Rattle.natural_recalc.specs.Context.{formula_at}
-use Rattle.natural_recalc.specs.Passes.{is_held, LeftSoFar}
+use Rattle.natural_recalc.specs.inner.Leaving.{is_held, LeftSoFar}
 use Rattle.natural_recalc.specs.Reading.{pre, volatile_of, StaysDirty}
 use Rattle.natural_recalc.specs.Reading.StaysDirty.{volatile, circle, reading}
 

@@ -11,7 +11,7 @@ use Rattle.sheet_store.specs.Grid.{formulas, formulas_within, holds_formula, Gri
 use Rattle.natural_recalc.proofs.Ascending.{formulas_ascend, picked_ascends}
 use Rattle.natural_recalc.specs.Context.{formula_at}
 use Rattle.natural_recalc.specs.Reading.{formulas_in, is_formula_at, pre, spans_at, spans_in}
-use Rattle.natural_recalc.specs.Laws.{has_formula, has_in, has_within}
+use Rattle.natural_recalc.specs.inner.Laws.{has_formula, has_in, has_within}
 
 module _ (a b : Grid) (same : formula_at a ≡ formula_at b) where
   pub formula_along : (c : Place) → is_formula_at a c ≡ is_formula_at b c

@@ -18,11 +18,12 @@ use Rattle.range_index.specs.Owners.{hold}
 use Rattle.sheet_store.specs.Grid.{formulas, Grid}
 use Rattle.sheet_store.specs.State.{CellState}
 use Rattle.natural_recalc.proofs.Cut.{formulas_stay, pass_is_cut, pre_stays, read_formula, revalued_same, sound_all, value_revalued}
-use Rattle.natural_recalc.specs.Laws.{has_formula}
+use Rattle.natural_recalc.specs.inner.Laws.{has_formula}
 use Rattle.natural_recalc.proofs.Members.{pre_formulas}
 use Rattle.natural_recalc.proofs.Valued.{get_valued, with_value}
 use Rattle.natural_recalc.specs.Context.{formula_at, formula_of, outlook_at, value_at, value_of, Context}
-use Rattle.natural_recalc.specs.Passes.{evaluated, pass, passes, revalued, IsMeaning, IsRest, IsSound, Meaning, RecalculationIsCut}
+use Rattle.natural_recalc.specs.Passes.{evaluated, pass, passes, revalued, IsRest, IsSound, Meaning, RecalculationIsCut}
+use Rattle.natural_recalc.specs.inner.Meanings.{IsMeaning}
 use Rattle.natural_recalc.specs.Reading.{is_formula_at, natural_order, pre}
 
 module _ (mean : Meaning) (ctx : Context) (rest : Place → Bool) (meaning : IsMeaning mean) where

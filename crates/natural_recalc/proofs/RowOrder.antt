@@ -9,7 +9,7 @@ use Rattle.sheet_store.proofs.RowOrder.{same_members}
 use Rattle.sheet_store.specs.Grid.{formulas, Grid}
 use Rattle.natural_recalc.proofs.Ascending.{formulas_ascend}
 use Rattle.natural_recalc.proofs.Filled.{has_filtered}
-use Rattle.natural_recalc.specs.Laws.{has_formula, Ascends}
+use Rattle.natural_recalc.specs.inner.Laws.{has_formula, Ascends}
 use Rattle.natural_recalc.specs.Reading.{is_formula_at}
 
 pub dirty_sorted : (g : Grid) (dirty : Place → Bool) (xs : List Place) → Ascends xs → ((c : Place) → has same_place xs c ≡ dirty c) → ((c : Place) → dirty c ≡ true → is_formula_at g c ≡ true) → xs ≡ filter dirty (formulas g)

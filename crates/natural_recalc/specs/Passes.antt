@@ -1,12 +1,11 @@
 -- Passes over formulas, and what holds of the dirty ones.
-use Rattle.std.specs.Prelude.{ℕ, zero, suc, ◌≡◌, ◌+◌, ◌-◌, ◌^◌, ◌⊎◌, ◌↔◌, ◌||◌, min, Bool, true, false, cond, nat_eq, Option, None, Some, List}
+use Rattle.std.specs.Prelude.{ℕ, zero, suc, ◌≡◌, ◌+◌, ◌-◌, ◌^◌, ◌⊎◌, ◌↔◌, min, Bool, true, false, cond, nat_eq, Option, None, Some, List}
 use Rattle.std.specs.FinMap as map
-use Rattle.std.specs.List.{filter, fold, list_any}
+use Rattle.std.specs.List.{filter, fold}
 use Rattle.grid_address.specs.Place.{same_place, Place}
 use Rattle.formula_tree.specs.Spans.{is_volatile}
 use Rattle.formula_tree.specs.Tree.{Tree}
 use Rattle.formula_tree.specs.declared.value.Value.{Value}
-use Rattle.formula_eval.specs.Mean.{Reads}
 use Rattle.formula_eval.specs.Outlook.{Outlook}
 use Rattle.depend_graph.specs.Network.{ReachesCell}
 use Rattle.cell_numbers.specs.Sets.{has}
@@ -15,16 +14,11 @@ use Rattle.sheet_store.specs.Grid.{set_value_at, Grid}
 use Rattle.sheet_store.specs.declared.order.Order.{Order}
 use Rattle.sheet_store.specs.declared.order.Order.TheVariants as orders
 use Rattle.natural_recalc.specs.Context.{content_of, format_of, formula_at, outlook_at, value_at, Context}
-use Rattle.natural_recalc.specs.Reading.{is_formula_at, natural_order, pre, reads_at, volatile_of, StaysDirty}
+use Rattle.natural_recalc.specs.Reading.{is_formula_at, natural_order, pre, reads_at, StaysDirty}
 
 -- what a formula in a cell is worth in an outlook
 abbrev pub Meaning : Type 0
 Meaning = Tree → Place → Outlook → Value
-
--- a meaning that hangs on the values that are read alone, where the formula isn't volatile
-pub record IsMeaning (mean : Meaning) : Type 0 where
-  pub reads : (t : Tree) (at : Place) (w u : Outlook) → is_volatile t ≡ false →
-      ((c : Place) → Reads t at c → w.sight.values c ≡ u.sight.values c) → mean t at w ≡ mean t at u
 
 -- the value of a cell becomes what its formula is worth now; a cell without one stays as it is
 abbrev pub revalued : Meaning → Context → Grid → Place → Option Tree → Grid
@@ -112,14 +106,3 @@ abbrev pub RecalculationIsCut : Meaning → Context → Type 0
 RecalculationIsCut mean x = (g : Grid) (dirty rest : Place → Bool) → IsSound mean x g dirty → IsRest g rest → (n : ℕ)
     → passes mean x (suc n) (natural_order g).done g
     ≡ passes mean x n (filter rest (natural_order g).done) (pass mean x (filter dirty (natural_order g).done) g)
-
--- whether a cell keeps its place in the set: it is volatile, or reads one that is in it
-abbrev pub is_held : Grid → (Place → Bool) → Place → Bool
-is_held g dirty c = volatile_of (formula_at g c) || list_any dirty (pre g c)
-
--- the set now, where the cells seen have been tried
-pub record LeftSoFar (g : Grid) (old : Place → Bool) (seen : List Place) (now : Place → Bool) : Type 0 where
-  pub within : (c : Place) → now c ≡ true → old c ≡ true
-  pub later : (c : Place) → old c ≡ true → has same_place seen c ≡ false → now c ≡ true
-  pub earned : (c : Place) → has same_place seen c ≡ true → now c ≡ true → StaysDirty g c
-  pub all : (c : Place) → StaysDirty g c → now c ≡ true

@@ -7,7 +7,7 @@ use Rattle.grid_address.specs.Limits.{COLUMNS}
 use Rattle.grid_address.specs.Place.{same_place, Extent, Place}
 use Rattle.formula_tree.specs.Spans.{is_volatile, spans_of}
 use Rattle.formula_tree.specs.Tree.{Tree}
-use Rattle.depend_graph.specs.Network.{put, Network}
+use Rattle.depend_graph.specs.Network.{Network}
 use Rattle.depend_graph.specs.declared.node.Node.{Node}
 use Rattle.natural_order.specs.Machine.{fuel}
 use Rattle.cell_numbers.specs.Sets.{has}
@@ -54,19 +54,9 @@ abbrev pub node_of : Option Tree → Place → Option Node
 node_of None c = None
 node_of (Some t) c = Some (record { reads = spans_of t c; volatile = is_volatile t })
 
--- what a graph tells that a formula reads
-abbrev pub spans_told : Option Node → List Extent
-spans_told None = []
-spans_told (Some n) = n.reads
-
 -- the graph holds the formulas of the grid, each with what it reads
 abbrev pub Matches : Network → Grid → Type 0
 Matches n g = (c : Place) → map.get n.formulas c ≡ node_of (formula_at g c) c
-
--- the graph with the formula of a cell, where the cell holds one
-abbrev pub with_formula : Option Node → Network → Place → Network
-with_formula None n c = n
-with_formula (Some x) n c = put n c x
 
 -- those of a column, of as many columns, from one on
 abbrev pub of_columns : ℕ → ℕ → List Place → List Place

@@ -4,7 +4,8 @@ ghost use Rattle.std.specs.List.{filter};
 ghost use Rattle.grid_address.specs.Place.{same_place, Place};
 ghost use Rattle.cell_numbers.specs.Sets.{has};
 ghost use Rattle.natural_order.specs.Walk.{Precedes};
-ghost use Rattle.natural_recalc.specs.Passes.{is_held, IsWhatStays};
+ghost use Rattle.natural_recalc.specs.Passes.{IsWhatStays};
+ghost use Rattle.natural_recalc.specs.inner.Leaving.{is_held};
 ghost use Rattle.natural_recalc.specs.Reading.{pre, Matches, StaysDirty};
 
 use crate::reads::any_dirty;

@@ -5,8 +5,9 @@ ghost use Rattle.std.specs.List.{filter, list_any};
 ghost use Rattle.grid_address.specs.Place.{same_place, Place};
 ghost use Rattle.cell_numbers.specs.Sets.{has};
 ghost use Rattle.sheet_store.specs.Grid.{formulas, formulas_within};
-ghost use Rattle.natural_recalc.specs.Laws.{told_formulas};
-ghost use Rattle.natural_recalc.specs.Reading.{formulas_in, spans_told};
+ghost use Rattle.natural_recalc.specs.inner.Laws.{told_formulas};
+ghost use Rattle.natural_recalc.specs.Reading.{formulas_in};
+ghost use Rattle.natural_recalc.specs.inner.Graphs.{spans_told};
 
 use cell_numbers::CellSet;
 use depend_graph::Graph;

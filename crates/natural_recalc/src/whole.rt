@@ -5,7 +5,8 @@ ghost use Rattle.grid_address.specs.Place.{same_place, Place};
 ghost use Rattle.cell_numbers.specs.Sets.{has};
 ghost use Rattle.natural_recalc.specs.Context.{formula_at, Context};
 ghost use Rattle.natural_recalc.specs.Passes.{IsSound, Meaning};
-ghost use Rattle.natural_recalc.specs.Reading.{is_formula_at, node_of, with_formula, Matches};
+ghost use Rattle.natural_recalc.specs.Reading.{is_formula_at, node_of, Matches};
+ghost use Rattle.natural_recalc.specs.inner.Graphs.{with_formula};
 
 use cell_numbers::CellSet;
 use depend_graph::{Graph, insert_all};

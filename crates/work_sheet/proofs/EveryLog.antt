@@ -15,7 +15,7 @@ use Rattle.natural_order.specs.Walk.Reaches.{one, more}
 use Rattle.natural_recalc.proofs.First.{reads_formula, stays_formula}
 use Rattle.natural_recalc.proofs.Members.{pre_of_read, read_of_pre}
 use Rattle.natural_recalc.specs.Context.{formula_at}
-use Rattle.natural_recalc.specs.Laws.{has_formula}
+use Rattle.natural_recalc.specs.inner.Laws.{has_formula}
 use Rattle.natural_recalc.specs.Passes.{raised_by, IsDirtyAfter, IsWhatStays}
 use Rattle.natural_recalc.specs.Reading.{is_formula_at, pre, reads_at, spans_at, spans_in, volatile_of, StaysDirty}
 use Rattle.natural_recalc.specs.Reading.StaysDirty.{circle, reading, volatile}

@@ -19,7 +19,8 @@ use Rattle.natural_recalc.proofs.Edit.{edit_keeps_sound}
 use Rattle.natural_recalc.proofs.First.{reads_formula}
 use Rattle.natural_recalc.proofs.Members.{pre_along}
 use Rattle.natural_recalc.specs.Context.{formula_at, formula_of, outlook_at, value_of, Context}
-use Rattle.natural_recalc.specs.Passes.{evaluated, IsDirtyAfter, IsMeaning, IsSound, IsSpread, Meaning, SameContents}
+use Rattle.natural_recalc.specs.Passes.{evaluated, IsDirtyAfter, IsSound, IsSpread, Meaning, SameContents}
+use Rattle.natural_recalc.specs.inner.Meanings.{IsMeaning}
 use Rattle.natural_recalc.specs.Reading.{is_formula_at, node_of, pre, Matches}
 use Rattle.sheet_edits.proofs.Beside.{beside}
 use Rattle.sheet_edits.proofs.Reaching.{reaching_formula}

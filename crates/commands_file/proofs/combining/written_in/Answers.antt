@@ -1,6 +1,6 @@
 use Rattle.std.specs.Prelude.{◌≡◌, refl, List}
 use Rattle.std.proofs.Common.{ap, subst, sym, ◌∙◌}
-use Rattle.natural_recalc.specs.Laws.{Ascends}
+use Rattle.natural_recalc.specs.inner.Laws.{Ascends}
 use Rattle.command_desk.proofs.Edited.{if_ok, edit_acted}
 use Rattle.command_desk.specs.Acting.{HasActed}
 use Rattle.commands_file.proofs.Placing.{combined_ascend}

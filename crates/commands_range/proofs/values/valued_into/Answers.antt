@@ -1,7 +1,7 @@
 use Rattle.std.specs.Prelude.{refl, ◌≡◌, List}
 use Rattle.std.proofs.Common.{ap, subst, sym, ◌∙◌}
 use Rattle.natural_recalc.proofs.Filled.{span_ascends}
-use Rattle.natural_recalc.specs.Laws.{Ascends}
+use Rattle.natural_recalc.specs.inner.Laws.{Ascends}
 use Rattle.command_desk.proofs.Edited.{if_ok, edit_acted}
 use Rattle.command_desk.specs.Acting.{written, HasActed}
 use Rattle.commands_range.proofs.Valued.{written_are}

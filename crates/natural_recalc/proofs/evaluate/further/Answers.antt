@@ -8,7 +8,8 @@ use Rattle.natural_recalc.proofs.Contents.{same_itself, same_on}
 use Rattle.natural_recalc.proofs.Counts.{one_more_turn, raised_more}
 use Rattle.natural_recalc.proofs.Rest.{formulas_all}
 use Rattle.natural_recalc.specs.Context.{context_of, Context}
-use Rattle.natural_recalc.specs.Passes.{passes, raised_by, IsMeaning, Meaning}
+use Rattle.natural_recalc.specs.Passes.{passes, raised_by, Meaning}
+use Rattle.natural_recalc.specs.inner.Meanings.{IsMeaning}
 use Rattle.natural_recalc.specs.Reading.{is_formula_at}
 use Rattle.natural_recalc.proofs.evaluate.further.Goals as goal
 

@@ -8,7 +8,8 @@ use Rattle.natural_recalc.proofs.Contents.{same_evaluated, same_itself, same_on}
 use Rattle.natural_recalc.proofs.Counts.{raised_more}
 use Rattle.natural_recalc.proofs.Cut.{formulas_stay, pass_step, sound_all}
 use Rattle.natural_recalc.specs.Context.{context_of, value_at, Context}
-use Rattle.natural_recalc.specs.Passes.{evaluated, pass, raised_by, IsMeaning, IsSound, Meaning, SameContents}
+use Rattle.natural_recalc.specs.Passes.{evaluated, pass, raised_by, IsSound, Meaning, SameContents}
+use Rattle.natural_recalc.specs.inner.Meanings.{IsMeaning}
 use Rattle.natural_recalc.specs.Reading.{is_formula_at}
 use Rattle.natural_recalc.proofs.evaluate.pass_over.Goals as goal
 

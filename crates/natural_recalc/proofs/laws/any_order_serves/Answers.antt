@@ -1,5 +1,5 @@
 use Rattle.natural_recalc.proofs.Along.{not_circular, same_pass}
-use Rattle.natural_recalc.specs.Passes.{IsMeaning}
+use Rattle.natural_recalc.specs.inner.Meanings.{IsMeaning}
 use Rattle.natural_recalc.proofs.laws.any_order_serves.Goals as goal
 
 pub returns : goal.returns

@@ -5,7 +5,7 @@ use Rattle.cell_numbers.specs.Sets.{has}
 use Rattle.natural_order.specs.Walk.{Reaches}
 use Rattle.sheet_store.specs.Grid.{Grid}
 use Rattle.grid_address.specs.Place.{same_place, Place}
-use Rattle.natural_recalc.specs.Passes.{LeftSoFar}
+use Rattle.natural_recalc.specs.inner.Leaving.{LeftSoFar}
 use Rattle.natural_recalc.specs.Reading.{pre}
 use Rattle.natural_recalc.proofs.Held.{precedes_at, held, left_kept, left_removed}
 use Rattle.natural_recalc.proofs.leave.leave.Goals as goal

@@ -1,7 +1,7 @@
 use Rattle.std.specs.Prelude.{take}
 use Rattle.grid_address.specs.Place.{same_place}
 use Rattle.cell_numbers.specs.Sets.{has}
-use Rattle.natural_recalc.specs.Passes.{LeftSoFar}
+use Rattle.natural_recalc.specs.inner.Leaving.{LeftSoFar}
 use Rattle.natural_recalc.proofs.leave.leave.Given as goal
 
 abbrev pub invariant-loop-cell : goal.invariant-loop-cell

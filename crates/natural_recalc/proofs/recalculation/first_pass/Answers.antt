@@ -6,7 +6,8 @@ use Rattle.sheet_store.specs.Grid.{Grid}
 use Rattle.natural_recalc.proofs.Cut.{pass_is_cut}
 use Rattle.natural_recalc.proofs.First.{as_many, split_of}
 use Rattle.natural_recalc.specs.Context.{context_of, Context}
-use Rattle.natural_recalc.specs.Passes.{pass, raised_by, IsMeaning, Meaning}
+use Rattle.natural_recalc.specs.Passes.{pass, raised_by, Meaning}
+use Rattle.natural_recalc.specs.inner.Meanings.{IsMeaning}
 use Rattle.natural_recalc.specs.Reading.{natural_order}
 use Rattle.natural_recalc.proofs.recalculation.first_pass.Goals as goal
 

@@ -5,7 +5,8 @@ use Rattle.cell_numbers.specs.Sets.{has}
 use Rattle.sheet_store.specs.Grid.{Grid}
 use Rattle.natural_recalc.proofs.Along.{not_circular, sound_after, stays_after, values}
 use Rattle.natural_recalc.specs.Context.{context_of, Context}
-use Rattle.natural_recalc.specs.Passes.{pass, IsMeaning, IsSound, IsWhatStays, Meaning}
+use Rattle.natural_recalc.specs.Passes.{pass, IsSound, IsWhatStays, Meaning}
+use Rattle.natural_recalc.specs.inner.Meanings.{IsMeaning}
 use Rattle.natural_recalc.proofs.recalculation.recalc_in_order.Goals as goal
 
 pub returns-in_err-pass_over-clause-circular : goal.returns-in_err-pass_over-clause-circular

@@ -8,7 +8,8 @@ use Rattle.sheet_store.specs.Grid.{Grid}
 use Rattle.natural_recalc.proofs.Rest.{further}
 use Rattle.natural_recalc.proofs.Ends.{as_many_dirty}
 use Rattle.natural_recalc.specs.Context.{context_of, Context}
-use Rattle.natural_recalc.specs.Passes.{passes, raised_by, IsMeaning, Meaning}
+use Rattle.natural_recalc.specs.Passes.{passes, raised_by, Meaning}
+use Rattle.natural_recalc.specs.inner.Meanings.{IsMeaning}
 use Rattle.natural_recalc.specs.Reading.{plain_order}
 use Rattle.natural_recalc.proofs.recalculation.recalc_plain.Goals as goal
 

@@ -8,7 +8,8 @@ use Rattle.natural_recalc.proofs.Contents.{matches_on}
 use Rattle.natural_recalc.proofs.Counts.{raised_more}
 use Rattle.natural_recalc.proofs.Ends.{all1, as_many_rest, formulas_rest, order1, sound_end, stays_end, values}
 use Rattle.natural_recalc.specs.Context.{context_of, Context}
-use Rattle.natural_recalc.specs.Passes.{raised_by, IsMeaning, IsWhatStays, Meaning}
+use Rattle.natural_recalc.specs.Passes.{raised_by, IsWhatStays, Meaning}
+use Rattle.natural_recalc.specs.inner.Meanings.{IsMeaning}
 use Rattle.natural_recalc.specs.Reading.{pre}
 use Rattle.natural_recalc.proofs.recalculation.recalc_walked.Goals as goal
 

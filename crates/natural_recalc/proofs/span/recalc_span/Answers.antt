@@ -7,7 +7,8 @@ use Rattle.cell_numbers.specs.Sets.{has}
 use Rattle.sheet_store.specs.Grid.{Grid}
 use Rattle.natural_recalc.proofs.Cut.{pass_is_cut}
 use Rattle.natural_recalc.specs.Context.{context_of, Context}
-use Rattle.natural_recalc.specs.Passes.{pass, raised_by, IsMeaning, Meaning}
+use Rattle.natural_recalc.specs.Passes.{pass, raised_by, Meaning}
+use Rattle.natural_recalc.specs.inner.Meanings.{IsMeaning}
 use Rattle.natural_recalc.specs.Spans.{span_order}
 use Rattle.natural_recalc.proofs.span.recalc_span.Goals as goal
 

@@ -2,7 +2,7 @@ use Rattle.std.specs.Prelude.{◌≡◌, ◌||◌, List}
 use Rattle.std.proofs.Common.{ap, ◌∙◌}
 use Rattle.grid_address.specs.Place.{same_place, Place}
 use Rattle.cell_numbers.specs.Sets.{has}
-use Rattle.natural_recalc.specs.Laws.{has_formula}
+use Rattle.natural_recalc.specs.inner.Laws.{has_formula}
 use Rattle.natural_recalc.specs.Reading.{is_formula_at}
 use Rattle.natural_recalc.proofs.Fresh.{sound_whole}
 use Rattle.natural_recalc.proofs.whole.all_dirty.Goals as goal

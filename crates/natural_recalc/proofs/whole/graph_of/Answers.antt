@@ -1,7 +1,7 @@
 use Rattle.std.proofs.Common.{ap, ◌∙◌}
 use Rattle.grid_address.specs.Place.{same_place}
 use Rattle.cell_numbers.specs.Sets.{has}
-use Rattle.natural_recalc.specs.Laws.{has_formula}
+use Rattle.natural_recalc.specs.inner.Laws.{has_formula}
 use Rattle.natural_recalc.proofs.Fresh.{graph_whole}
 use Rattle.natural_recalc.proofs.whole.graph_of.Goals as goal
 

@@ -1,5 +1,6 @@
 use Rattle.natural_recalc.specs.Context.{context_of}
-use Rattle.natural_recalc.specs.Passes.{IsMeaning, Meaning}
+use Rattle.natural_recalc.specs.Passes.{Meaning}
+use Rattle.natural_recalc.specs.inner.Meanings.{IsMeaning}
 use Rattle.work_sheet.proofs.Held.{kept_same}
 use Rattle.work_sheet.proofs.sheet.SheetOf.calc.Goals as goal
 

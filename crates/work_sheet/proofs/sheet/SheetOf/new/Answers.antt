@@ -1,5 +1,6 @@
 use Rattle.std.proofs.Common.{false}
-use Rattle.natural_recalc.specs.Passes.{IsMeaning, Meaning}
+use Rattle.natural_recalc.specs.Passes.{Meaning}
+use Rattle.natural_recalc.specs.inner.Meanings.{IsMeaning}
 use Rattle.work_sheet.proofs.Held.{kept_empty}
 use Rattle.work_sheet.proofs.sheet.SheetOf.new.Goals as goal
 

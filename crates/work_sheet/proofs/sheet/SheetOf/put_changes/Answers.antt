@@ -2,7 +2,8 @@ use Rattle.std.specs.FinMap.{get}
 use Rattle.std.proofs.Common.{ap, ◌∙◌}
 use Rattle.grid_address.specs.Place.{same_place}
 use Rattle.cell_numbers.specs.Sets.{has}
-use Rattle.natural_recalc.specs.Passes.{IsMeaning, Meaning}
+use Rattle.natural_recalc.specs.Passes.{Meaning}
+use Rattle.natural_recalc.specs.inner.Meanings.{IsMeaning}
 use Rattle.work_sheet.proofs.Held.{kept_changed}
 use Rattle.sheet_edits.specs.Spans.{changed}
 use Rattle.work_sheet.proofs.sheet.SheetOf.put_changes.Goals as goal

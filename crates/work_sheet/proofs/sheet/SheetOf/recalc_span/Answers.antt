@@ -1,7 +1,8 @@
 use Rattle.std.specs.Prelude.{refl}
 use Rattle.natural_recalc.proofs.Contents.{matches_on}
 use Rattle.natural_recalc.specs.Context.{context_of}
-use Rattle.natural_recalc.specs.Passes.{IsMeaning, Meaning}
+use Rattle.natural_recalc.specs.Passes.{Meaning}
+use Rattle.natural_recalc.specs.inner.Meanings.{IsMeaning}
 use Rattle.work_sheet.proofs.Held.{kept_same}
 use Rattle.work_sheet.proofs.sheet.SheetOf.recalc_span.Goals as goal
 

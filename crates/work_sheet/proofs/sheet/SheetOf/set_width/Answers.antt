@@ -1,4 +1,5 @@
-use Rattle.natural_recalc.specs.Passes.{IsMeaning, Meaning}
+use Rattle.natural_recalc.specs.Passes.{Meaning}
+use Rattle.natural_recalc.specs.inner.Meanings.{IsMeaning}
 use Rattle.std.proofs.Common.{ap}
 use Rattle.sheet_store.specs.Grid.{Grid}
 use Rattle.work_sheet.proofs.Held.{kept_beside}
