@@ -12,7 +12,8 @@ use Rattle.grid_address.specs.Place.{place_cmp, same_place, Place}
 use Rattle.macro_words.specs.declared.running.Change.{Change}
 use Rattle.cell_numbers.specs.Sets.{has}
 use Rattle.sheet_edits.proofs.Spanned.{first_more}
-use Rattle.sheet_edits.specs.Spans.{IsAnswered, IsFirstMarked, IsFirstOf, IsFirstProtected, NoneProtected}
+use Rattle.sheet_edits.specs.Spans.{IsAnswered, IsFirstProtected, NoneProtected}
+use Rattle.sheet_edits.specs.inner.Marks.{IsFirstMarked, IsFirstOf}
 use Rattle.sheet_store.specs.Grid.{Grid}
 use Rattle.sheet_store.specs.declared.writes.SheetFault.{SheetFault}
 use Rattle.sheet_store.specs.declared.writes.SheetFault.TheVariants as fault

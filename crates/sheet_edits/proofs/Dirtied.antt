@@ -16,7 +16,8 @@ use Rattle.sheet_store.specs.State.{CellState}
 use Rattle.natural_recalc.specs.Context.{formula_at, formula_in}
 use Rattle.natural_recalc.specs.Reading.{is_formula_at, node_of, Matches}
 use Rattle.sheet_edits.proofs.Reaching.{accepted_told, dropped_told, formula_beside, formula_here, formula_in_is, matches_written, reaching_formula, to_new, to_old}
-use Rattle.sheet_edits.specs.Edits.{just, kept_at, settled, AreDirtied, IsDirtied, WithReached}
+use Rattle.sheet_edits.specs.Edits.{just, AreDirtied, IsDirtied}
+use Rattle.sheet_edits.specs.inner.Settling.{kept_at, settled, WithReached}
 
 only_one : (c cell : Place) → has same_place (cell ∷ []) c ≡ true → same_place c cell ≡ true
 only_one c cell m = elim (or_cases (same_place c cell) false m) [ inl h ↦ h | inr h ↦ absurd (false≢true h) ]

@@ -12,7 +12,8 @@ use Rattle.cell_numbers.specs.Sets.{has, insert_key}
 use Rattle.sheet_store.specs.Grid.{Cells}
 use Rattle.sheet_store.specs.State.{CellState}
 use Rattle.sheet_edits.proofs.Dirtied.{inserted_members}
-use Rattle.sheet_edits.specs.Spans.{given_at, AreGiven}
+use Rattle.sheet_edits.specs.Spans.{AreGiven}
+use Rattle.sheet_edits.specs.inner.Putting.{given_at}
 
 pub both : (a b : Bool) → (a ≡ true → b ≡ true) → (b ≡ true → a ≡ true) → a ≡ b
 both true b h k = sym (h refl)

@@ -21,8 +21,10 @@ use Rattle.depend_graph.proofs.Spreads.{spread_along}
 use Rattle.sheet_edits.proofs.Dirtied.{dirtied}
 use Rattle.sheet_edits.proofs.Listed.{is_among, more_seen, seen_beside}
 use Rattle.sheet_edits.proofs.Reaching.{formula_in_is}
-use Rattle.sheet_edits.specs.Edits.{settled, AreDirtied, WithReached}
-use Rattle.sheet_edits.specs.Spans.{changed, gives_formula, kept_of, node_given, put_given, ArePut, Becomes, HaveRoom, IsGrown, IsOffered}
+use Rattle.sheet_edits.specs.Edits.{AreDirtied}
+use Rattle.sheet_edits.specs.inner.Settling.{settled, WithReached}
+use Rattle.sheet_edits.specs.Spans.{changed, kept_of, Becomes}
+use Rattle.sheet_edits.specs.inner.Putting.{gives_formula, node_given, put_given, ArePut, HaveRoom, IsGrown, IsOffered}
 
 -- a grid by its three parts
 pub same_grid : (g h : Grid) → ((c : Place) → get g.cells c ≡ get h.cells c) → g.widths ≡ h.widths → g.hidden ≡ h.hidden → g ≡ h

@@ -12,7 +12,9 @@ use Rattle.grid_address.specs.Place.{height_of, is_within, place_cmp, same_place
 use Rattle.cell_numbers.specs.Sets.{has}
 use Rattle.sheet_store.specs.Grid.{Cells, Grid}
 use Rattle.sheet_edits.proofs.Listed.{both}
-use Rattle.sheet_edits.specs.Spans.{before, in_columns, in_rows, is_marked, sooner, sooner_of, IsFirstMarked, IsFirstOf}
+use Rattle.sheet_edits.specs.Spans.{before, is_marked, sooner, sooner_of}
+use Rattle.sheet_edits.specs.inner.Lines.{in_columns, in_rows}
+use Rattle.sheet_edits.specs.inner.Marks.{IsFirstMarked, IsFirstOf}
 
 -- one more row or column
 one_more : (f n r : ℕ) → (nat_le f r && nat_lt r (f + (n + 1))) ≡ ((nat_le f r && nat_lt r (f + n)) || nat_eq r (f + n))

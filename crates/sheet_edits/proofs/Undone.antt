@@ -10,7 +10,7 @@ use Rattle.sheet_store.specs.State.{CellState}
 use Rattle.natural_recalc.specs.Reading.{is_formula_at}
 use Rattle.sheet_edits.proofs.Beside.{beside}
 use Rattle.sheet_edits.proofs.Reaching.{formula_here, formula_in_is}
-use Rattle.sheet_edits.specs.Edits.{put_back}
+use Rattle.sheet_edits.specs.inner.Undoing.{put_back}
 
 module _ (g : Grid) (cell : Place) (s : CellState) where
   pub is_there : is_kept s ≡ true → get (put_state g cell s).cells cell ≡ None → ⊥

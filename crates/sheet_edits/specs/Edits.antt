@@ -1,5 +1,5 @@
 -- Edits of a cell, and which formulas they make dirty.
-use Rattle.std.specs.Prelude.{ℕ, false, cond, not, ◌≡◌, ◌⊎◌, ◌↔◌, Bool, true, ◌&&◌, pos, Option, None, Some, List}
+use Rattle.std.specs.Prelude.{false, not, ◌≡◌, ◌⊎◌, ◌↔◌, Bool, true, ◌&&◌, pos}
 use Rattle.std.specs.FinMap as map
 use Rattle.grid_address.specs.Formats.{has_protection}
 use Rattle.grid_address.specs.Place.{same_place, Place}
@@ -7,10 +7,9 @@ use Rattle.formula_tree.specs.declared.value.Content.{Content}
 use Rattle.formula_tree.specs.declared.value.Content.TheVariants as content
 use Rattle.formula_tree.specs.declared.value.Value.{Value}
 use Rattle.formula_tree.specs.declared.value.Value.TheVariants as value
-use Rattle.depend_graph.specs.Network.{accepted, dropped, IsSpread, Network, ReachesCell}
-use Rattle.cell_numbers.specs.Sets.{has}
+use Rattle.depend_graph.specs.Network.{ReachesCell}
 use Rattle.sheet_store.specs.Choices.{Choices}
-use Rattle.sheet_store.specs.Grid.{clear_cell, is_formula, is_kept, put_state, Grid, IsSound}
+use Rattle.sheet_store.specs.Grid.{is_formula, put_state, Grid}
 use Rattle.sheet_store.specs.State.{CellState}
 use Rattle.natural_recalc.specs.Context.{format_of, Context}
 use Rattle.natural_recalc.specs.Passes.{evaluated, Meaning}
@@ -53,31 +52,6 @@ pub record IsDirtied (new : Grid) (old written : Place → Bool) (c : Place) : T
 abbrev pub AreDirtied : Grid → (Place → Bool) → (Place → Bool) → (Place → Bool) → Type 0
 AreDirtied new old written now = (c : Place) → (now c ≡ true) ↔ IsDirtied new old written c
 
--- the set has what it had, the cells that are given a formula, and what the graph tells of the written cells
-abbrev pub WithReached : Network → List Place → (Place → Bool) → List Place → List Place → Type 0
-WithReached n cells given old new = (c : Place) →
-    (has same_place new c ≡ true) ↔ ((has same_place old c ≡ true) ⊎ ((given c ≡ true) ⊎ IsSpread n cells c))
-
--- the graph takes the formula that is offered, or drops the one that is there
-abbrev pub settled : Bool → Network → Place → Network
-settled true n cell = accepted n cell
-settled false n cell = dropped n cell
-
--- a cell without a formula leaves the set
-abbrev pub kept_at : Bool → Place → Place → Bool → Bool
-kept_at true cell c b = b
-kept_at false cell c b = cond (same_place cell c) false b
-
--- a state that a store has
-pub record IsOldState (s : CellState) : Type 0 where
-  pub sound : IsSound s
-  pub kept : is_kept s ≡ true
-
--- the cell has what it had
-abbrev pub put_back : Grid → Place → Option CellState → Grid
-put_back g c None = clear_cell g c
-put_back g c (Some s) = record g { cells = map.insert g.cells c s }
-
 -- in Manual mode a formula that a line spells is evaluated once
 abbrev pub is_evaluated : Choices → Content → Bool
 is_evaluated s x = not s.automatic && is_formula x
@@ -86,8 +60,3 @@ is_evaluated s x = not s.automatic && is_formula x
 abbrev pub entered : Meaning → Context → Bool → Grid → Place → Content → Grid
 entered mean x true g c content = evaluated mean x (written g c content) c
 entered mean x false g c content = written g c content
-
--- how often an entry evaluates its formula
-abbrev pub evaluations : Bool → ℕ
-evaluations true = 1
-evaluations false = 0

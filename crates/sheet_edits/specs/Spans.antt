@@ -1,5 +1,5 @@
 -- Edits of many cells: what each cell holds afterwards.
-use Rattle.std.specs.Prelude.{ℕ, ◌≡◌, ◌<◌, ◌⊎◌, ◌+◌, ◌-◌, ◌*◌, ◌/◌, ◌%◌, Bool, false, true, cond, ◌&&◌, nat_eq, nat_le, nat_lt, List, [], ◌∷◌, map, Option, None, Some, Result, Ok, Err}
+use Rattle.std.specs.Prelude.{ℕ, ◌≡◌, ◌<◌, ◌+◌, ◌-◌, ◌*◌, ◌/◌, ◌%◌, Bool, false, true, cond, ◌&&◌, nat_eq, nat_le, List, [], ◌∷◌, map, Option, None, Some, Result, Ok, Err}
 use Rattle.std.specs.FinMap as cells
 use Rattle.std.specs.declared.cmp.Ordering.{Ordering}
 use Rattle.std.specs.declared.cmp.Ordering.TheVariants.{Equal, Greater, Less}
@@ -7,13 +7,10 @@ use Rattle.grid_address.specs.Formats.{default_format, has_protection, protected
 use Rattle.grid_address.specs.Limits.{COLUMNS, ROWS}
 use Rattle.grid_address.specs.Place.{height_of, place_cmp, same_place, width_of, Extent, Place}
 use Rattle.grid_address.specs.declared.format.Format.{Format}
-use Rattle.depend_graph.specs.Network.{Network}
-use Rattle.depend_graph.specs.declared.node.Node.{Node}
 use Rattle.cell_numbers.specs.Sets.{has}
-use Rattle.natural_recalc.specs.Context.{format_of, formula_at, formula_in}
-use Rattle.natural_recalc.specs.Reading.{node_of}
+use Rattle.natural_recalc.specs.Context.{format_of}
 use Rattle.sheet_store.specs.Choices.{Choices}
-use Rattle.sheet_store.specs.Grid.{blank_state, formatted, is_formula, is_kept, put_state, Cells, Grid, IsSound}
+use Rattle.sheet_store.specs.Grid.{blank_state, formatted, is_kept, put_state, Cells, Grid, IsSound}
 use Rattle.sheet_store.specs.State.{CellState}
 use Rattle.sheet_store.specs.declared.writes.SheetFault.{SheetFault}
 use Rattle.sheet_store.specs.declared.writes.SheetFault.TheVariants as faults
@@ -30,11 +27,6 @@ kept_of s = cond (is_kept s) (Some s) None
 abbrev pub changed : Option CellState → Option CellState → Option CellState
 changed None held = held
 changed (Some s) held = kept_of s
-
--- the grid with a state put, or without one
-abbrev pub put_given : Grid → Place → Option CellState → Grid
-put_given g c None = g
-put_given g c (Some s) = put_state g c s
 
 -- each cell of the new grid holds what is told of it, and the columns are as before
 pub record Becomes (old : Grid) (held : Place → Option CellState) (new : Grid) : Type 0 where
@@ -139,61 +131,13 @@ IsAnswered s g written (Err (faults.PushedOff c)) = ⊥
 IsAnswered s g written (Err (faults.OutOfSheet p)) = ⊥
 IsAnswered s g written (Err faults.Memory) = Unit {0}
 
--- a change gives a formula
-abbrev pub gives_formula : Option CellState → Bool
-gives_formula None = false
-gives_formula (Some s) = is_formula s.content
-
--- what is offered to the graph for a change
-abbrev pub node_given : Option CellState → Place → Option Node
-node_given None c = None
-node_given (Some s) c = node_of (formula_in s.content) c
-
 -- a state that a cell is given is one that a store may have
 abbrev pub AreSound : Cells → Type 0
 AreSound changes = (c : Place) (s : CellState) → cells.get changes c ≡ Some s → IsSound s
 
--- every cell that is given a state that is kept is there
-abbrev pub HaveRoom : Cells → (Place → Bool) → Grid → Type 0
-HaveRoom changes written g = (c : Place) (s : CellState) → written c ≡ true → cells.get changes c ≡ Some s →
-    is_kept s ≡ true → cells.get g.cells c ≡ None → ⊥
-
--- some cells were added that weren't there
-pub record IsGrown (grown : List Place) (old new : Grid) : Type 0 where
-  pub absent : (c : Place) → has same_place grown c ≡ true → cells.get old.cells c ≡ None
-  pub others : (c : Place) → has same_place grown c ≡ false → cells.get new.cells c ≡ cells.get old.cells c
-  pub widths : new.widths ≡ old.widths
-  pub hidden : new.hidden ≡ old.hidden
-
--- some of the given states were put, and with those that are left each cell becomes what it was to become
-pub record ArePut (given : Cells) (old : Grid) (left : Cells) (new : Grid) : Type 0 where
-  pub among : (c : Place) (s : CellState) → cells.get left c ≡ Some s → cells.get given c ≡ Some s
-  pub held : (c : Place) →
-      changed (cells.get left c) (cells.get new.cells c) ≡ changed (cells.get given c) (cells.get old.cells c)
-  pub widths : new.widths ≡ old.widths
-  pub hidden : new.hidden ≡ old.hidden
-
--- the graph holds or is offered what the cell's formula reads
-pub record IsOffered (n : Network) (g : Grid) (c : Place) : Type 0 where
-  pub offer : (cells.get n.offers c ≡ None) ⊎ (cells.get n.offers c ≡ node_of (formula_at g c) c)
-  pub some : (cells.get n.formulas c ≡ node_of (formula_at g c) c) ⊎ (cells.get n.offers c ≡ node_of (formula_at g c) c)
-
--- a cell is given a state, or keeps what it is given
-abbrev pub given_at : Cells → Place → Option CellState → Cells
-given_at m c None = m
-given_at m c (Some s) = cells.insert m c s
-
 -- the cells of a list are given what is told of them, and no other cell is
 abbrev pub AreGiven : Cells → (Place → Bool) → (Place → Option CellState) → Type 0
 AreGiven changes written told = (c : Place) → cells.get changes c ≡ cond (written c) (told c) None
-
--- as many columns, from one on
-abbrev pub in_columns : ℕ → ℕ → Place → Bool
-in_columns first count c = nat_le first c.col && nat_lt c.col (first + count)
-
--- as many rows, from one on
-abbrev pub in_rows : ℕ → ℕ → Place → Bool
-in_rows first count c = nat_le first c.row && nat_lt c.row (first + count)
 
 -- the mark is set in the cell's format
 abbrev pub is_marked : Grid → Place → Bool
@@ -213,21 +157,6 @@ sooner_of (Some d) c = before (place_cmp d c) (Some d) (Some c)
 -- the first marked cell so far, and one more cell
 abbrev pub sooner : Grid → Option Place → Place → Option Place
 sooner g first c = cond (is_marked g c) (sooner_of first c) first
-
--- c is one of the cells, is marked, and none of the cells before it is
-pub record IsFirstMarked (g : Grid) (among : Place → Bool) (c : Place) : Type 0 where
-  pub here : among c ≡ true
-  pub marked : is_marked g c ≡ true
-  pub first : (d : Place) → among d ≡ true → is_marked g d ≡ true → place_cmp d c ≡ Less → ⊥
-
--- none of the cells is marked
-abbrev pub NoneMarked : Grid → (Place → Bool) → Type 0
-NoneMarked g among = (c : Place) → among c ≡ true → is_marked g c ≡ false
-
--- the first marked one of the cells, or none where none is
-abbrev pub IsFirstOf : Grid → (Place → Bool) → Option Place → Type 0
-IsFirstOf g among None = NoneMarked g among
-IsFirstOf g among (Some c) = IsFirstMarked g among c
 
 -- what a change makes of a format byte
 abbrev pub rule_of : FormatChange → ℕ → ℕ

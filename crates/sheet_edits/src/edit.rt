@@ -8,7 +8,8 @@ ghost use Rattle.cell_numbers.specs.Sets.{has};
 ghost use Rattle.natural_recalc.specs.Context.{formula_in};
 ghost use Rattle.natural_recalc.specs.Reading.{is_formula_at, node_of, Matches};
 ghost use Rattle.sheet_store.specs.Grid.{is_formula, is_kept, put_state, IsSound};
-ghost use Rattle.sheet_edits.specs.Edits.{just, kept_at, settled, AreDirtied, WithReached};
+ghost use Rattle.sheet_edits.specs.Edits.{just, AreDirtied};
+ghost use Rattle.sheet_edits.specs.inner.Settling.{kept_at, settled, WithReached};
 
 use cell_numbers::CellSet;
 use depend_graph::{Graph, Node, cut_back, insert, insert_all};

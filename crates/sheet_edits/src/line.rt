@@ -8,7 +8,8 @@ ghost use Rattle.natural_recalc.specs.Context.{context_of};
 ghost use Rattle.natural_recalc.specs.Passes.{evaluated, raised_by};
 ghost use Rattle.natural_recalc.specs.Reading.{is_formula_at, Matches};
 ghost use Rattle.sheet_store.specs.Grid.{is_formula, is_kept, put_state, IsSound};
-ghost use Rattle.sheet_edits.specs.Edits.{just, put_back, AreDirtied, IsOldState};
+ghost use Rattle.sheet_edits.specs.Edits.{just, AreDirtied};
+ghost use Rattle.sheet_edits.specs.inner.Undoing.{put_back, IsOldState};
 
 use crate::edit::{prepare, settle};
 use cell_numbers::CellSet;

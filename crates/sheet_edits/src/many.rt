@@ -8,8 +8,10 @@ ghost use Rattle.natural_recalc.specs.Context.{formula_at};
 ghost use Rattle.natural_recalc.specs.Reading.{is_formula_at, node_of, Matches};
 ghost use Rattle.sheet_store.specs.Grid.{is_formula, is_kept, put_state, IsSound};
 ghost use Rattle.sheet_store.specs.State.{CellState};
-ghost use Rattle.sheet_edits.specs.Edits.{just, AreDirtied, WithReached};
-ghost use Rattle.sheet_edits.specs.Spans.{changed, gives_formula, node_given, put_given, ArePut, AreSound, Becomes, HaveRoom, IsGrown, IsOffered};
+ghost use Rattle.sheet_edits.specs.Edits.{just, AreDirtied};
+ghost use Rattle.sheet_edits.specs.inner.Settling.{WithReached};
+ghost use Rattle.sheet_edits.specs.Spans.{changed, AreSound, Becomes};
+ghost use Rattle.sheet_edits.specs.inner.Putting.{gives_formula, node_given, put_given, ArePut, HaveRoom, IsGrown, IsOffered};
 
 use crate::changes::Changes;
 use crate::edit::{node_of, offer, settle};

@@ -6,7 +6,10 @@ ghost use Rattle.cell_numbers.specs.Sets.{has};
 ghost use Rattle.natural_recalc.specs.Context.{format_of};
 ghost use Rattle.sheet_store.specs.Grid.{AreHeld};
 ghost use Rattle.sheet_store.specs.Choices.{Choices};
-ghost use Rattle.sheet_edits.specs.Spans.{blanked, block_at, copied_state, given_at, in_columns, in_rows, reformatted_state, repeated, rule_of, sooner, source_of, target_of, AreGiven, AreSound, HasCode, IsFirstMarked, IsFirstProtected, NoneMarked, NoneProtected};
+ghost use Rattle.sheet_edits.specs.Spans.{blanked, block_at, copied_state, reformatted_state, repeated, rule_of, sooner, source_of, target_of, AreGiven, AreSound, HasCode, IsFirstProtected, NoneProtected};
+ghost use Rattle.sheet_edits.specs.inner.Lines.{in_columns, in_rows};
+ghost use Rattle.sheet_edits.specs.inner.Marks.{IsFirstMarked, NoneMarked};
+ghost use Rattle.sheet_edits.specs.inner.Putting.{given_at};
 
 use crate::changes::Changes;
 use crate::states::{first_state, is_marked};

@@ -10,7 +10,8 @@ use Rattle.cell_numbers.specs.Sets.{has}
 use Rattle.natural_recalc.specs.Context.{context_of}
 use Rattle.natural_recalc.specs.Passes.{raised_by, IsDirtyAfter, Meaning}
 use Rattle.natural_recalc.specs.Reading.{is_formula_at, order_in}
-use Rattle.sheet_edits.specs.Edits.{entered, evaluations, is_evaluated, just, written, AreDirtied}
+use Rattle.sheet_edits.specs.Edits.{entered, is_evaluated, just, written, AreDirtied}
+use Rattle.sheet_edits.specs.inner.Undoing.{evaluations}
 use Rattle.sheet_edits.specs.Spans.{changed, reformatted_state, AreGiven, Becomes}
 use Rattle.sheet_store.specs.Grid.{Cells, Grid}
 use Rattle.sheet_store.specs.declared.order.Order.{Order}

@@ -7,7 +7,8 @@ use Rattle.grid_address.specs.Place.{same_place, Extent, Place}
 use Rattle.cell_numbers.specs.Sets.{has}
 use Rattle.natural_recalc.specs.Passes.{raised_by, IsDirtyAfter}
 use Rattle.sheet_edits.proofs.Listed.{both}
-use Rattle.sheet_edits.specs.Edits.{evaluations, AreDirtied, IsDirtied}
+use Rattle.sheet_edits.specs.Edits.{AreDirtied, IsDirtied}
+use Rattle.sheet_edits.specs.inner.Undoing.{evaluations}
 use Rattle.sheet_store.specs.Grid.{formulas_within, Grid}
 use Rattle.sheet_store.specs.declared.order.Order.{Order}
 use Rattle.sheet_store.specs.declared.order.Order.TheVariants as orders

@@ -4,7 +4,8 @@ use Rattle.grid_address.specs.Place.{same_place, Place}
 use Rattle.depend_graph.specs.Network.{IsSpread}
 use Rattle.cell_numbers.specs.Sets.{has}
 use Rattle.sheet_edits.proofs.Dirtied.{with_reached}
-use Rattle.sheet_edits.specs.Edits.{just, WithReached}
+use Rattle.sheet_edits.specs.Edits.{just}
+use Rattle.sheet_edits.specs.inner.Settling.{WithReached}
 use Rattle.sheet_edits.proofs.edit.prepare.Goals as goal
 
 pub returns-clause-dirty : goal.returns-clause-dirty

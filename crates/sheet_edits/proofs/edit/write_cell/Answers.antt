@@ -6,7 +6,8 @@ use Rattle.cell_numbers.specs.Sets.{has}
 use Rattle.natural_recalc.specs.Reading.{Matches}
 use Rattle.sheet_store.specs.Grid.{Grid}
 use Rattle.sheet_edits.proofs.Dirtied.{dirtied_settled, matches_settled}
-use Rattle.sheet_edits.specs.Edits.{just, settled, AreDirtied}
+use Rattle.sheet_edits.specs.Edits.{just, AreDirtied}
+use Rattle.sheet_edits.specs.inner.Settling.{settled}
 use Rattle.sheet_edits.proofs.edit.write_cell.Goals as goal
 
 pub returns-in-Ok-clause-dirty : goal.returns-in-Ok-clause-dirty

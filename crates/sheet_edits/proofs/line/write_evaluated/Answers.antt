@@ -8,7 +8,7 @@ use Rattle.natural_recalc.specs.Reading.{is_formula_at, Matches}
 use Rattle.sheet_store.specs.Grid.{put_state, Grid}
 use Rattle.sheet_edits.proofs.Dirtied.{dirtied_settled, matches_settled}
 use Rattle.sheet_edits.proofs.Undone.{back_is, formula_there, is_there}
-use Rattle.sheet_edits.specs.Edits.{put_back}
+use Rattle.sheet_edits.specs.inner.Undoing.{put_back}
 use Rattle.sheet_edits.proofs.line.write_evaluated.Goals as goal
 
 pub evaluate_at-requires : goal.evaluate_at-requires

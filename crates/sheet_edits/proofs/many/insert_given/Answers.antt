@@ -4,7 +4,7 @@ use Rattle.std.proofs.Common.{ap, subst, sym, ◌∙◌}
 use Rattle.grid_address.specs.Place.{Place}
 use Rattle.depend_graph.specs.Sets.{Extends}
 use Rattle.sheet_edits.proofs.Listed.{extends_both, member_more, member_same}
-use Rattle.sheet_edits.specs.Spans.{gives_formula}
+use Rattle.sheet_edits.specs.inner.Putting.{gives_formula}
 use Rattle.sheet_edits.proofs.many.insert_given.Goals as goal
 use Rattle.sheet_edits.proofs.many.insert_given.Goals.{then-is_given+in_ok-insert, else-is_given}
 

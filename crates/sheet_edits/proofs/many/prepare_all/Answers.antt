@@ -4,7 +4,7 @@ use Rattle.std.proofs.Common.{ap, ◌∙◌}
 use Rattle.grid_address.specs.Place.{same_place, Place}
 use Rattle.cell_numbers.specs.Sets.{has}
 use Rattle.sheet_edits.proofs.Overlaid.{reached_all}
-use Rattle.sheet_edits.specs.Spans.{gives_formula}
+use Rattle.sheet_edits.specs.inner.Putting.{gives_formula}
 use Rattle.sheet_edits.proofs.many.prepare_all.Goals as goal
 
 pub returns-clause-dirty : goal.returns-clause-dirty

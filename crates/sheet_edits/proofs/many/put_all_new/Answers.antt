@@ -5,7 +5,7 @@ use Rattle.grid_address.specs.Place.{same_place, Place}
 use Rattle.cell_numbers.specs.Sets.{has}
 use Rattle.sheet_store.specs.Grid.{Cells, Grid}
 use Rattle.sheet_edits.proofs.Overlaid.{putting_is, putting_new, putting_none, putting_same, Putting}
-use Rattle.sheet_edits.specs.Spans.{HaveRoom}
+use Rattle.sheet_edits.specs.inner.Putting.{HaveRoom}
 use Rattle.sheet_edits.proofs.many.put_all_new.Goals as goal
 use Rattle.sheet_edits.proofs.many.put_all_new.Goals.{then-is_new+in_ok-put_new, else-is_new}
 

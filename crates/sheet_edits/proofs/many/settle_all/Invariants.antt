@@ -4,7 +4,7 @@ use Rattle.grid_address.specs.Place.{same_place, Place}
 use Rattle.cell_numbers.specs.Sets.{has}
 use Rattle.natural_recalc.specs.Context.{formula_at}
 use Rattle.natural_recalc.specs.Reading.{is_formula_at, node_of}
-use Rattle.sheet_edits.specs.Spans.{IsOffered}
+use Rattle.sheet_edits.specs.inner.Putting.{IsOffered}
 use Rattle.sheet_edits.proofs.many.settle_all.Given as goal
 
 abbrev pub invariant-loop-cell : goal.invariant-loop-cell

@@ -3,7 +3,7 @@ use Rattle.std.specs.FinMap.{get}
 use Rattle.std.proofs.Common.{ap, subst, sym, ◌∙◌}
 use Rattle.depend_graph.specs.Network.{Network}
 use Rattle.sheet_edits.proofs.Overlaid.{settled_beside, settled_here, settled_offer, settled_offers}
-use Rattle.sheet_edits.specs.Edits.{settled}
+use Rattle.sheet_edits.specs.inner.Settling.{settled}
 use Rattle.sheet_edits.proofs.many.settle_at.Goals as goal
 
 pub returns-clause-here : goal.returns-clause-here

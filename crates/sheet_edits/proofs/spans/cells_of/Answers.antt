@@ -2,7 +2,7 @@ use Rattle.std.specs.Prelude.{◌&&◌}
 use Rattle.std.proofs.Common.{ap, ◌∙◌}
 use Rattle.grid_address.specs.Place.{height_of, Extent, Place}
 use Rattle.sheet_edits.proofs.Spanned.{all_rows, at_least_one}
-use Rattle.sheet_edits.specs.Spans.{in_columns, in_rows}
+use Rattle.sheet_edits.specs.inner.Lines.{in_columns, in_rows}
 use Rattle.sheet_edits.proofs.spans.cells_of.Goals as goal
 
 pub returns : goal.returns

@@ -4,7 +4,7 @@ use Rattle.grid_address.specs.Place.{same_place}
 use Rattle.cell_numbers.specs.Sets.{has}
 use Rattle.sheet_edits.proofs.Listed.{more_seen}
 use Rattle.sheet_edits.proofs.Spanned.{first_more}
-use Rattle.sheet_edits.specs.Spans.{IsFirstOf}
+use Rattle.sheet_edits.specs.inner.Marks.{IsFirstOf}
 use Rattle.sheet_edits.proofs.spans.first_marked.Goals as goal
 
 pub loop-cell-preserved : goal.loop-cell-preserved

@@ -1,7 +1,7 @@
 use Rattle.std.specs.Prelude.{◌≡◌, ◌&&◌, ◌||◌, nat_eq}
 use Rattle.grid_address.specs.Place.{same_place, Place}
 use Rattle.cell_numbers.specs.Sets.{has}
-use Rattle.sheet_edits.specs.Spans.{in_columns}
+use Rattle.sheet_edits.specs.inner.Lines.{in_columns}
 use Rattle.sheet_edits.proofs.spans.put_row.Given as goal
 
 abbrev pub invariant-loop-place : goal.invariant-loop-place

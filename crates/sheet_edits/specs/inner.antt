@@ -1,0 +1,6 @@
+-- How the code keeps its books; no definition beside this folder speaks of it.
+pub mod Lines
+pub mod Marks
+pub mod Putting
+pub mod Settling
+pub mod Undoing
