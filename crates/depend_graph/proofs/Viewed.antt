@@ -5,7 +5,7 @@ use Rattle.std.proofs.Common.{sym, ◌∙◌, ap}
 use Rattle.std.proofs.lemmas.Bool.{true≢false}
 use Rattle.grid_address.proofs.Places.{get_inserted, get_removed, same_place_itself, same_places}
 use Rattle.grid_address.specs.Place.{same_place, Place}
-use Rattle.depend_graph.specs.Network.{accepted, dropped, offered, put, taken, withdrawn, Network}
+use Rattle.depend_graph.specs.Network.{accepted, dropped, offered, put, promoted, withdrawn, Network}
 use Rattle.depend_graph.specs.inner.Readers.{network_of}
 use Rattle.depend_graph.specs.inner.Slots.{filled, had, node_in, offer_in, offering, picked, placed, turned, turned_to, without, Slots}
 use Rattle.depend_graph.specs.Network.{Nodes}
@@ -78,27 +78,27 @@ offered_again g c n = ap {B = Network} (λ (m : Nodes). record { formulas = g.fo
     twice true o = refl
     twice false o = refl
 
-turned_some : (m : Slots) (c : Place) (s : Slot) → get m c ≡ Some s → (o : Option Node) → had offer_in (get m c) ≡ o → s.offer ≡ o → is_some o ≡ true → network_of (placed m c (Some (turned_to o s))) ≡ taken o (network_of m) c
+turned_some : (m : Slots) (c : Place) (s : Slot) → get m c ≡ Some s → (o : Option Node) → had offer_in (get m c) ≡ o → s.offer ≡ o → is_some o ≡ true → network_of (placed m c (Some (turned_to o s))) ≡ promoted o (network_of m) c
 turned_some m c s e None has is some = absurd (true≢false (sym some))
 turned_some m c s e (Some n) has is some = both (picked_placed node_in m c (Some (turned_to (Some n) s))) (picked_placed offer_in m c (Some (turned_to (Some n) s)))
 
-turned_at : (m : Slots) (c : Place) (o : Option Slot) → get m c ≡ o → is_some (had offer_in o) ≡ true → network_of (placed m c (turned o)) ≡ taken (had offer_in o) (network_of m) c
+turned_at : (m : Slots) (c : Place) (o : Option Slot) → get m c ≡ o → is_some (had offer_in o) ≡ true → network_of (placed m c (turned o)) ≡ promoted (had offer_in o) (network_of m) c
 turned_at m c None e some = absurd (true≢false (sym some))
 turned_at m c (Some s) e some = turned_some m c s e s.offer (ap (λ (o : Option Slot). had offer_in o) e) refl some
 
 pub viewed_accepted : (m : Slots) (c : Place) → is_some (had offer_in (get m c)) ≡ true → network_of (placed m c (turned (get m c))) ≡ accepted (network_of m) c
-viewed_accepted m c some = turned_at m c (get m c) refl some ∙ ap (λ o. taken o (network_of m) c) (sym (get_picked offer_in m c))
+viewed_accepted m c some = turned_at m c (get m c) refl some ∙ ap (λ o. promoted o (network_of m) c) (sym (get_picked offer_in m c))
 
 pub none_accepted : (m : Slots) (c : Place) → is_some (had offer_in (get m c)) ≡ false → network_of m ≡ accepted (network_of m) c
-none_accepted m c none = sym (ap (λ o. taken o (network_of m) c) (get_picked offer_in m c) ∙ with (had offer_in (get m c)) none)
+none_accepted m c none = sym (ap (λ o. promoted o (network_of m) c) (get_picked offer_in m c) ∙ with (had offer_in (get m c)) none)
   where
-    with : (o : Option Node) → is_some o ≡ false → taken o (network_of m) c ≡ network_of m
+    with : (o : Option Node) → is_some o ≡ false → promoted o (network_of m) c ≡ network_of m
     with None h = refl
     with (Some n) h = absurd (true≢false h)
 
 -- to offer a formula and to accept it puts it
 pub set_is : (g : Network) (c : Place) (n : Node) → accepted (offered g c n) c ≡ put g c n
-set_is g c n = ap (λ o. taken o (offered g c n) c) (get_inserted g.offers c n c ∙ ap (λ b. cond b (Some n) (get g.offers c)) (same_place_itself c))
+set_is g c n = ap (λ o. promoted o (offered g c n) c) (get_inserted g.offers c n c ∙ ap (λ b. cond b (Some n) (get g.offers c)) (same_place_itself c))
     ∙ ap {B = Network} (λ (m : Nodes). record { formulas = insert g.formulas c n; offers = m }) (same_places _ _ (λ q.
     get_removed (insert g.offers c n) c q ∙ ap (cond (same_place q c) None) (get_inserted g.offers c n q) ∙ twice (same_place q c) (get g.offers q) ∙ sym (get_removed g.offers c q)))
   where

@@ -24,13 +24,13 @@ abbrev pub withdrawn : Network → Place → Network
 withdrawn g c = record g { offers = remove g.offers c }
 
 -- what waits at a cell, where something does, becomes its formula
-abbrev pub taken : Option Node → Network → Place → Network
-taken None g c = g
-taken (Some n) g c = record { formulas = insert g.formulas c n; offers = remove g.offers c }
+abbrev pub promoted : Option Node → Network → Place → Network
+promoted None g c = g
+promoted (Some n) g c = record { formulas = insert g.formulas c n; offers = remove g.offers c }
 
 -- the formula that is offered takes its place
 abbrev pub accepted : Network → Place → Network
-accepted g c = taken (get g.offers c) g c
+accepted g c = promoted (get g.offers c) g c
 
 -- a formula takes its place, and no offer is left
 abbrev pub put : Network → Place → Node → Network

@@ -10,7 +10,7 @@ use Rattle.formula_tree.specs.Tree.{Tree}
 use Rattle.formula_tree.specs.declared.value.Content.{Content}
 use Rattle.formula_tree.specs.declared.value.Content.TheVariants as content
 use Rattle.formula_tree.specs.declared.value.Value.{Value}
-use Rattle.depend_graph.specs.Network.{taken, IsSpread, Network}
+use Rattle.depend_graph.specs.Network.{promoted, IsSpread, Network}
 use Rattle.depend_graph.specs.declared.node.Node.{Node}
 use Rattle.cell_numbers.specs.Sets.{has}
 use Rattle.natural_recalc.specs.Context.{formula_at, formula_in, formula_of}
@@ -100,7 +100,7 @@ module _ (n : Network) (g : Grid) (c : Place) where
   pub settled_here : IsOffered n g c → get (settled (is_formula_at g c) n c).formulas c ≡ node_of (formula_at g c) c
   settled_here o = by (formula_at g c) refl
     where
-      taken_here : (t : Tree) → formula_at g c ≡ Some t → (a : Option Node) → get n.offers c ≡ a → get (taken a n c).formulas c ≡ node_of (Some t) c
+      taken_here : (t : Tree) → formula_at g c ≡ Some t → (a : Option Node) → get n.offers c ≡ a → get (promoted a n c).formulas c ≡ node_of (Some t) c
       taken_here t e None k = elim o.some [
         | inl f ↦ f ∙ ap (λ z. node_of z c) e
         | inr f ↦ absurd (none_not_some _ (sym k ∙ f ∙ ap (λ z. node_of z c) e))
@@ -115,7 +115,7 @@ module _ (n : Network) (g : Grid) (c : Place) where
       by (Some t) e = taken_here t e (get n.offers c) refl
 
 module _ (n : Network) (c : Place) where
-  taken_offer : (a : Option Node) → get n.offers c ≡ a → (get (taken a n c).offers c ≡ None) ⊎ (get (taken a n c).offers c ≡ get n.offers c)
+  taken_offer : (a : Option Node) → get n.offers c ≡ a → (get (promoted a n c).offers c ≡ None) ⊎ (get (promoted a n c).offers c ≡ get n.offers c)
   taken_offer None k = inr refl
   taken_offer (Some a) k = inl (get_removed n.offers c c ∙ ap (λ b. cond b None (get n.offers c)) (same_place_itself c))
 
@@ -124,7 +124,7 @@ module _ (n : Network) (c : Place) where
   settled_offer false = inr refl
 
   module _ (d : Place) (f : same_place d c ≡ false) where
-    taken_beside : (a : Option Node) → get (taken a n c).formulas d ≡ get n.formulas d
+    taken_beside : (a : Option Node) → get (promoted a n c).formulas d ≡ get n.formulas d
     taken_beside None = refl
     taken_beside (Some a) = get_inserted n.formulas c a d ∙ ap (λ b. cond b (Some a) (get n.formulas d)) f
 
@@ -132,7 +132,7 @@ module _ (n : Network) (c : Place) where
     settled_beside true = taken_beside (get n.offers c)
     settled_beside false = get_removed n.formulas c d ∙ ap (λ b. cond b None (get n.formulas d)) f
 
-    taken_offers : (a : Option Node) → get (taken a n c).offers d ≡ get n.offers d
+    taken_offers : (a : Option Node) → get (promoted a n c).offers d ≡ get n.offers d
     taken_offers None = refl
     taken_offers (Some a) = get_removed n.offers c d ∙ ap (λ b. cond b None (get n.offers d)) f
 

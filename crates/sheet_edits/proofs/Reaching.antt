@@ -107,7 +107,7 @@ module _ (g h : Grid) (written changed : Place → Bool) (sub : (c : Place) → 
 module _ (n : Network) (cell : Place) where
   pub accepted_told : (o : Option Tree) → is_some o ≡ true → get n.offers cell ≡ node_of o cell → (d : Place) → get (accepted n cell).formulas d ≡ cond (same_place d cell) (node_of o cell) (get n.formulas d)
   accepted_told None h e d = absurd (false≢true h)
-  accepted_told (Some t) h e d = ap (λ x. get (Rattle.depend_graph.specs.Network.taken x n cell).formulas d) e ∙ get_inserted n.formulas cell _ d
+  accepted_told (Some t) h e d = ap (λ x. get (Rattle.depend_graph.specs.Network.promoted x n cell).formulas d) e ∙ get_inserted n.formulas cell _ d
 
   pub dropped_told : (o : Option Tree) → is_some o ≡ false → (d : Place) → get (dropped n cell).formulas d ≡ cond (same_place d cell) (node_of o cell) (get n.formulas d)
   dropped_told None h d = get_removed n.formulas cell d
