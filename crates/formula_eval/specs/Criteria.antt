@@ -51,9 +51,7 @@ record_matches w input criterion row = list_any (row_holds w input criterion row
 abbrev pub asks_field : Option Content → Bool
 asks_field (Some (content.Number x)) = true
 asks_field (Some (content.Label p t)) = true
-asks_field (Some content.Blank) = false
-asks_field (Some (content.Formula f)) = false
-asks_field None = false
+asks_field _ = false
 
 -- the first header that names no field, above a condition that speaks of it
 abbrev pub is_missing : Sight → Extent → Extent → ℕ → Bool

@@ -53,10 +53,7 @@ by_column f w input criterion n =
 
 -- of an input, a column and a criterion
 abbrev pub database_value : Function → Outlook → List Argument → Value
-database_value f w [] = value.Err
-database_value f w (a ∷ []) = value.Err
-database_value f w (a ∷ b ∷ []) = value.Err
 database_value f w (a ∷ b ∷ c ∷ []) =
     on_range (range_of a.operand) (λ input. on_range (range_of c.operand) (λ criterion.
     by_column f w input criterion b.value))
-database_value f w (a ∷ b ∷ c ∷ d ∷ more) = value.Err
+database_value f w _ = value.Err

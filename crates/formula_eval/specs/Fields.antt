@@ -12,10 +12,7 @@ use Rattle.formula_eval.specs.Outlook.{Sight}
 -- the text of a label
 abbrev pub label_in : Option Content → Option (List ℕ)
 label_in (Some (content.Label p t)) = Some t
-label_in (Some content.Blank) = None
-label_in (Some (content.Number x)) = None
-label_in (Some (content.Formula f)) = None
-label_in None = None
+label_in _ = None
 
 -- there is one
 abbrev pub is_some : {X : Type 0} → Option X → Bool

@@ -64,10 +64,7 @@ passes x value.Na = false
 -- a label that is equal after folding
 abbrev pub is_label : List ℕ → Value → Bool
 is_label t (value.Str s) = is_eq (order_of_texts s t)
-is_label t value.Blank = false
-is_label t (value.Num y) = false
-is_label t value.Err = false
-is_label t value.Na = false
+is_label t _ = false
 
 -- the last line that was passed answers
 abbrev pub by_passed : (Place → Value) → Bool → Extent → ℕ → ℕ → Value

@@ -43,13 +43,7 @@ call_value d f w args = called f w args
 abbrev pub operand_of : Tree → Place → Operand
 operand_of (cell r) at = operand.Cell (resolve r at)
 operand_of (span a b) at = operand.Span (spanned (resolve a at) (resolve b at))
-operand_of (num v) at = operand.Other
-operand_of (str t) at = operand.Other
-operand_of (group a) at = operand.Other
-operand_of (neg a) at = operand.Other
-operand_of (not a) at = operand.Other
-operand_of (binary op a b) at = operand.Other
-operand_of (call f ts) at = operand.Other
+operand_of _ at = operand.Other
 
 -- the value of a part, which may be Blank, by what the functions of records answer
 abbrev mutual

@@ -10,15 +10,12 @@ use Rattle.formula_tree.specs.Tree.{Tree, num, str, cell, span, group, neg, not 
 -- how deep a tree is
 abbrev mutual
   pub depth : Tree → ℕ
-  depth (num v) = 1
-  depth (str t) = 1
-  depth (cell r) = 1
-  depth (span a b) = 1
   depth (group a) = 1 + depth a
   depth (neg a) = 1 + depth a
   depth (negation a) = 1 + depth a
   depth (binary op a b) = 1 + max (depth a) (depth b)
   depth (call f args) = 1 + greatest_depth args
+  depth _ = 1
 
   pub greatest_depth : Trees → ℕ
   greatest_depth no_trees = 0
@@ -44,38 +41,21 @@ level Join = 1
 -- the level of the operator at the top, or 8
 abbrev pub top : Tree → ℕ
 top (binary op a b) = level op
-top (num v) = 8
-top (str t) = 8
-top (cell r) = 8
-top (span a b) = 8
-top (group a) = 8
-top (neg a) = 8
-top (negation a) = 8
-top (call f ts) = 8
+top _ = 8
 
 -- the least level on the right edge, or 8: the operator, then its right operand and so on; brackets and calls end it
 abbrev pub lowest : Tree → ℕ
 lowest (neg a) = min (lowest a) 6
 lowest (negation a) = min (lowest a) 2
 lowest (binary op a b) = min (lowest b) (level op)
-lowest (num v) = 8
-lowest (str t) = 8
-lowest (cell r) = 8
-lowest (span a b) = 8
-lowest (group a) = 8
-lowest (call f ts) = 8
+lowest _ = 8
 
 -- whether no operator takes what an operator beside it should have
 abbrev pub is_bracketed : Tree → Bool
-is_bracketed (num v) = true
-is_bracketed (str t) = true
-is_bracketed (cell r) = true
-is_bracketed (span a b) = true
-is_bracketed (group a) = true
 is_bracketed (neg a) = nat_lt 6 (top a)
 is_bracketed (negation a) = nat_lt 2 (top a)
 is_bracketed (binary op a b) = nat_le (level op) (lowest a) && nat_lt (level op) (top b)
-is_bracketed (call f ts) = true
+is_bracketed _ = true
 
 -- how many arguments a call has
 abbrev pub count : Trees → ℕ
@@ -84,15 +64,8 @@ count (trees t ts) = 1 + count ts
 
 -- whether a call has a number of arguments that its function takes
 abbrev pub is_counted : Tree → Bool
-is_counted (num v) = true
-is_counted (str t) = true
-is_counted (cell r) = true
-is_counted (span a b) = true
-is_counted (group a) = true
-is_counted (neg a) = true
-is_counted (negation a) = true
-is_counted (binary op a b) = true
 is_counted (call f ts) = takes (counts_of f) (count ts)
+is_counted _ = true
 
 -- a number that needs no minus: a minus is an operator of the tree
 abbrev pub not_negative : ℤ → Bool
@@ -107,13 +80,7 @@ has_no_quote t = not (list_any (λ b. b == ascii.quote) t)
 abbrev pub is_plain : Tree → Bool
 is_plain (num v) = not_negative v
 is_plain (str t) = has_no_quote t
-is_plain (cell r) = true
-is_plain (span a b) = true
-is_plain (group a) = true
-is_plain (neg a) = true
-is_plain (negation a) = true
-is_plain (binary op a b) = true
-is_plain (call f ts) = true
+is_plain _ = true
 
 -- a node that fits what stands beside and below it
 abbrev pub is_fine : Tree → Bool
@@ -146,11 +113,8 @@ node_size (num v) = if is_short v then 3 else 9
 node_size (str t) = length t + 2
 node_size (cell r) = 5
 node_size (span a b) = 9
-node_size (group a) = 1
-node_size (neg a) = 1
-node_size (negation a) = 1
-node_size (binary op a b) = 1
 node_size (call f ts) = call_size f
+node_size _ = 1
 
 -- what the nodes take
 abbrev mutual

@@ -26,15 +26,12 @@ abbrev mutual
 -- whether a function whose value changes by itself is called
 abbrev mutual
   pub is_volatile : Tree → Bool
-  is_volatile (num v) = false
-  is_volatile (str t) = false
-  is_volatile (cell r) = false
-  is_volatile (span a b) = false
   is_volatile (group a) = is_volatile a
   is_volatile (neg a) = is_volatile a
   is_volatile (not a) = is_volatile a
   is_volatile (binary op a b) = is_volatile a || is_volatile b
   is_volatile (call f ts) = is_volatile_function f || any_volatile ts
+  is_volatile _ = false
 
   pub any_volatile : Trees → Bool
   any_volatile no_trees = false

@@ -7,10 +7,7 @@ use Rattle.formula_tree.specs.declared.value.Value.TheVariants.{Blank, Num, Str,
 -- all but a blank: an empty text and the errors are values too
 abbrev pub is_filled : Value → Bool
 is_filled Blank = false
-is_filled (Num x) = true
-is_filled (Str t) = true
-is_filled Err = true
-is_filled Na = true
+is_filled _ = true
 
 -- whether two values are one
 abbrev pub same_value : Value → Value → Bool

@@ -7,15 +7,9 @@ use Rattle.formula_tree.specs.declared.value.Value.TheVariants as value
 -- a number that is equal
 abbrev pub equals_number : ℤ → Value → Bool
 equals_number x (value.Num y) = int_eq x y
-equals_number x value.Blank = false
-equals_number x (value.Str t) = false
-equals_number x value.Err = false
-equals_number x value.Na = false
+equals_number x _ = false
 
 -- a number other than 0
 abbrev pub is_true : Value → Bool
 is_true (value.Num x) = not (nat_abs x == 0)
-is_true value.Blank = false
-is_true (value.Str t) = false
-is_true value.Err = false
-is_true value.Na = false
+is_true _ = false

@@ -25,41 +25,30 @@ order_of_texts a b = slice_cmp nat_cmp (map to_ascii_uppercase a) (map to_ascii_
 abbrev pub order_with_number : ℤ → Value → Ordering
 order_with_number x (value.Str t) = Less
 order_with_number x (value.Num y) = int_cmp x y
-order_with_number x value.Blank = int_cmp x (pos 0)
-order_with_number x value.Err = int_cmp x (pos 0)
-order_with_number x value.Na = int_cmp x (pos 0)
+order_with_number x _ = int_cmp x (pos 0)
 
 -- a text beside another value
 abbrev pub order_with_text : List ℕ → Value → Ordering
 order_with_text s (value.Str t) = order_of_texts s t
-order_with_text s (value.Num y) = Greater
-order_with_text s value.Blank = Greater
-order_with_text s value.Err = Greater
-order_with_text s value.Na = Greater
+order_with_text s _ = Greater
 
 -- how any two values stand to one another
 abbrev pub order : Value → Value → Ordering
 order (value.Str s) b = order_with_text s b
 order (value.Num x) b = order_with_number x b
-order value.Blank b = order_with_number (pos 0) b
-order value.Err b = order_with_number (pos 0) b
-order value.Na b = order_with_number (pos 0) b
+order _ b = order_with_number (pos 0) b
 
 -- a Blank joins as the empty text, and a number doesn't join
 abbrev pub joined_with : List ℕ → Value → Value
 joined_with s (value.Str t) = texted (s ++ t)
 joined_with s value.Blank = texted (s ++ [])
-joined_with s (value.Num y) = value.Err
-joined_with s value.Err = value.Err
-joined_with s value.Na = value.Err
+joined_with s _ = value.Err
 
 -- two texts, one behind the other
 abbrev pub joined : Value → Value → Value
 joined (value.Str s) b = joined_with s b
 joined value.Blank b = joined_with [] b
-joined (value.Num x) b = value.Err
-joined value.Err b = value.Err
-joined value.Na b = value.Err
+joined _ b = value.Err
 
 -- two numbers are wanted
 abbrev pub both_by : Option ℤ → Option ℤ → Option (ℤ × ℤ)
@@ -81,13 +70,7 @@ of_numbers Add x y = answer (within (x +ℤ y))
 of_numbers Sub x y = answer (within (x -ℤ y))
 of_numbers And x y = truth (not (is_zero x) && not (is_zero y))
 of_numbers Or x y = truth (not (is_zero x) || not (is_zero y))
-of_numbers Eq x y = value.Err
-of_numbers Ne x y = value.Err
-of_numbers Lt x y = value.Err
-of_numbers Gt x y = value.Err
-of_numbers Le x y = value.Err
-of_numbers Ge x y = value.Err
-of_numbers Join x y = value.Err
+of_numbers _ x y = value.Err
 
 -- ERR where one side is no number
 abbrev pub computed_by : Op → Option (ℤ × ℤ) → Value

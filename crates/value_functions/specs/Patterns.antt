@@ -19,10 +19,7 @@ is_like (p ∷ ps) (b ∷ bs) = p == ascii.star || ((p == ascii.question_mark ||
 -- only a text is like a pattern
 abbrev pub value_is_like : List ℕ → Value → Bool
 value_is_like pattern (value.Str t) = is_like pattern t
-value_is_like pattern value.Blank = false
-value_is_like pattern (value.Num x) = false
-value_is_like pattern value.Err = false
-value_is_like pattern value.Na = false
+value_is_like pattern _ = false
 
 -- a leading ~ negates
 abbrev pub is_negated : List ℕ → Bool

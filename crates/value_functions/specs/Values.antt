@@ -8,42 +8,28 @@ use Rattle.formula_tree.specs.declared.value.Value.TheVariants as value
 -- a value that can't be had
 abbrev pub is_err : Value → Bool
 is_err value.Err = true
-is_err value.Blank = false
-is_err (value.Num x) = false
-is_err (value.Str t) = false
-is_err value.Na = false
+is_err _ = false
 
 -- a value that isn't available
 abbrev pub is_na : Value → Bool
 is_na value.Na = true
-is_na value.Blank = false
-is_na (value.Num x) = false
-is_na (value.Str t) = false
-is_na value.Err = false
+is_na _ = false
 
 -- a label, or the text of a formula
 abbrev pub is_text : Value → Bool
 is_text (value.Str t) = true
-is_text value.Blank = false
-is_text (value.Num x) = false
-is_text value.Err = false
-is_text value.Na = false
+is_text _ = false
 
 -- Blank counts as 0
 abbrev pub number_in : Value → Option ℤ
 number_in value.Blank = Some (pos 0)
 number_in (value.Num x) = Some x
-number_in (value.Str t) = None
-number_in value.Err = None
-number_in value.Na = None
+number_in _ = None
 
 -- a text alone has one
 abbrev pub text_in : Value → Option (List ℕ)
 text_in (value.Str t) = Some t
-text_in value.Blank = None
-text_in (value.Num x) = None
-text_in value.Err = None
-text_in value.Na = None
+text_in _ = None
 
 -- a number, and ERR where there is none
 abbrev pub answer : Option ℤ → Value
