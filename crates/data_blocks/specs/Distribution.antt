@@ -17,10 +17,7 @@ use Rattle.data_blocks.specs.declared.fault.BlockFault.TheVariants as fault
 -- a value that is a number counts
 abbrev pub number_of : Value → List ℤ
 number_of (value.Num x) = x ∷ []
-number_of value.Blank = []
-number_of (value.Str t) = []
-number_of value.Err = []
-number_of value.Na = []
+number_of _ = []
 
 -- the numbers among the values of some cells
 abbrev pub numbers_in : (Place → Value) → List Place → List ℤ
@@ -29,10 +26,7 @@ numbers_in values cells = flat_map (λ p. number_of (values p)) cells
 -- a bin that is no number counts as 0
 abbrev pub bin_of : Value → ℤ
 bin_of (value.Num x) = x
-bin_of value.Blank = pos 0
-bin_of (value.Str t) = pos 0
-bin_of value.Err = pos 0
-bin_of value.Na = pos 0
+bin_of _ = pos 0
 
 -- above the bin before, if there is one
 abbrev pub is_above : Option ℤ → ℤ → Bool

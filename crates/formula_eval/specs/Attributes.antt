@@ -38,10 +38,8 @@ without_brackets (b ∷ bs) = take (length bs - 1) bs
 
 -- the prefix of a label; anything else has none
 abbrev pub prefix_in : Content → List ℕ
-prefix_in content.Blank = []
-prefix_in (content.Number x) = []
 prefix_in (content.Label prefix t) = prefix_byte prefix ∷ []
-prefix_in (content.Formula f) = []
+prefix_in _ = []
 
 -- the prefix of what may be in a cell
 abbrev pub prefix_of : Option Content → List ℕ
@@ -51,9 +49,8 @@ prefix_of (Some c) = prefix_in c
 -- blank, label or value
 abbrev pub type_in : Content → List ℕ
 type_in content.Blank = codes "b"
-type_in (content.Number x) = codes "v"
 type_in (content.Label prefix t) = codes "l"
-type_in (content.Formula f) = codes "v"
+type_in _ = codes "v"
 
 -- the type of what may be in a cell
 abbrev pub type_of : Option Content → List ℕ

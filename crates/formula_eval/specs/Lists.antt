@@ -61,14 +61,12 @@ items_of values (a ∷ more) = items_by values a.operand a.value ++ items_of val
 -- an item that can't be had
 abbrev pub is_err : Item → Bool
 is_err item.Err = true
-is_err item.Na = false
-is_err (item.Is x) = false
+is_err _ = false
 
 -- an item that isn't available
 abbrev pub is_na : Item → Bool
 is_na item.Na = true
-is_na item.Err = false
-is_na (item.Is x) = false
+is_na _ = false
 
 -- an item in a sum and beside others; ERR and NA stop the function before
 abbrev pub size_of : Item → ℤ

@@ -43,10 +43,8 @@ format_of (Some s) = s.format.0
 
 -- a content's formula, where it is one
 abbrev pub formula_in : Content → Option Tree
-formula_in content.Blank = None
-formula_in (content.Number x) = None
-formula_in (content.Label p t) = None
 formula_in (content.Formula f) = Some f
+formula_in _ = None
 
 -- the formula in what is held of a cell
 abbrev pub formula_of : Option CellState → Option Tree

@@ -146,8 +146,7 @@ is_marked g c = has_protection (format_of (cells.get g.cells c))
 -- the earlier of two cells that are so ordered
 abbrev pub before : Ordering → Option Place → Option Place → Option Place
 before Greater a b = b
-before Less a b = a
-before Equal a b = a
+before _ a b = a
 
 -- the first marked cell so far, and one more that is marked
 abbrev pub sooner_of : Option Place → Place → Option Place

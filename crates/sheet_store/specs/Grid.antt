@@ -24,16 +24,12 @@ pub record Grid : Type 0 where
 -- nothing is held, in whatever format
 abbrev pub is_blank : Content → Bool
 is_blank content.Blank = true
-is_blank (content.Number x) = false
-is_blank (content.Label p t) = false
-is_blank (content.Formula f) = false
+is_blank _ = false
 
 -- what is held has its value from a recalculation
 abbrev pub is_formula : Content → Bool
-is_formula content.Blank = false
-is_formula (content.Number x) = false
-is_formula (content.Label p t) = false
 is_formula (content.Formula f) = true
+is_formula _ = false
 
 -- a value that a content may have
 abbrev pub Fits : Content → Value → Type 0

@@ -30,10 +30,7 @@ format_in global own = if is_shown_as own default_format then global else own
 -- a label that goes on through its cell
 abbrev pub is_repeated : LabelPrefix → Bool
 is_repeated Repeat = true
-is_repeated Left = false
-is_repeated Right = false
-is_repeated Center = false
-is_repeated Unprinted = false
+is_repeated _ = false
 
 -- a label fills its cell; one that stands at the left and is longer is told whole
 abbrev pub label_text : LabelPrefix → List ℕ → ℕ → List ℕ

@@ -155,11 +155,8 @@ names_pieces names = map (λ e. name_piece (name_in e.0) e.1) (finite.entries na
 
 -- the text of a formula's value stands behind the formula
 abbrev pub text_pieces : Place → CellState → Value → List Piece
-text_pieces p s value.Blank = []
-text_pieces p s (value.Num v) = []
 text_pieces p s (value.Str t) = made kind.Str (head p s ++ (t ++ 0 ∷ [])) ∷ []
-text_pieces p s value.Err = []
-text_pieces p s value.Na = []
+text_pieces p s _ = []
 
 -- one record for a cell, and a second for a formula whose value is a text
 abbrev pub content_pieces : Place → CellState → Content → List Piece

@@ -75,8 +75,7 @@ one_reference None = faulty
 -- a range with its nine bytes
 abbrev pub two_references : Option Reference → Option Reference → Front
 two_references (Some a) (Some b) = whole (range a b) 9
-two_references (Some a) None = faulty
-two_references None b = faulty
+two_references _ _ = faulty
 
 -- four bytes of a reference
 abbrev pub reference_front : List ℕ → Front
@@ -146,10 +145,7 @@ front_of (code ∷ bytes) = front_by (kind_of code) code bytes
 -- how many bytes belong to a front
 abbrev pub size_of : Front → ℕ
 size_of (whole c n) = n
-size_of finish = 1
-size_of faulty = 1
-size_of (left_out f) = 1
-size_of too_large = 1
+size_of _ = 1
 
 -- a front and where it stands
 pub record Placed : Type 0 where

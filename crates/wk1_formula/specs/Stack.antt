@@ -39,9 +39,8 @@ over_one f (a ∷ stack) = Some (f a ∷ stack)
 
 -- the last two trees with an operator between them
 abbrev pub over_two : (Tree → Tree → Tree) → List Tree → Option (List Tree)
-over_two f [] = None
-over_two f (b ∷ []) = None
 over_two f (b ∷ a ∷ stack) = Some (f a b ∷ stack)
+over_two f _ = None
 
 -- a function takes its arguments from the stack
 abbrev pub called : Function → ℕ → List Tree → Option (List Tree)
@@ -72,9 +71,8 @@ ended at (Err tree.Memory) = Err (Bad at)
 
 -- at the 03 exactly one tree is left
 abbrev pub at_end : ℕ → List Tree → Result Tree CodeFault
-at_end at [] = Err (Bad at)
 at_end at (t ∷ []) = ended at (formula_of t)
-at_end at (t ∷ u ∷ stack) = Err (Bad at)
+at_end at _ = Err (Bad at)
 
 -- the rest of the codes, unless operands are lacking
 abbrev pub going_on : ℕ → (List Tree → Result Tree CodeFault) → Option (List Tree) → Result Tree CodeFault
