@@ -194,8 +194,12 @@ added_numbered {T} old new hs c x ok inside z h = subst (AreNumbered new) (sym (
     (number_last old new (cells_of hs) c ok inside z (λ d k. h d k ∙ ap (λ n. cond (same_place c d) (suc n) (number_at old d)) (sym (length-map hs cell_in))))
 
 -- the same numbers in another table
-pub same_table : (old new : Numbers) (cells : List Place) → ((d : Place) → number_at new d ≡ number_at old d) → AreNumbered old cells → AreNumbered new cells
-same_table old new cells h ok = record { inside = ok.inside; told = λ i c k. h c ∙ ok.told i c k; found = λ c i k e. ok.found c i k (sym (h c) ∙ e) }
+pub same_table : (old new : Numbers) (cells : List Place) → ((d : Place) → InSheet d → number_at new d ≡ number_at old d) → AreNumbered old cells → AreNumbered new cells
+same_table old new cells h ok = record {
+  inside = ok.inside;
+  told = λ i c k. h c (ok.inside i c k) ∙ ok.told i c k;
+  found = λ c i k e. ok.found c i k (sym (h c k) ∙ e);
+}
 
 -- a place as a number, row by row
 abbrev number_of : Place → ℕ

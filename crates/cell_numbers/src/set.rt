@@ -29,20 +29,27 @@ impl Model for CellSet {
     ghost invariant = { λ s. AreNumbered s.table s.cells.items };
 }
 
-// Adds a cell that has no number behind the others.
+// Adds a cell that has no number behind the others. It gets its number before it is added, and loses it again where there
+// is no memory, so that its page is looked up once.
 fn add(table: &mut PlaceTable, cells: &mut Vec<Cell>, cell: Cell) -> Result<(), AllocError>
-    requires { length cells.old.items < 2 ^ 32 - 1 }
+    requires few { length cells.old.items < 2 ^ 32 - 1 }
+    requires inside { InSheet cell }
+    requires fresh { number_at table.old cell ≡ 0 }
     ensures cells { OnOk result (cells.new.items ≡ cells.old.items ++ cell ∷ []) }
     ensures numbers { OnOk result ((d : Place) → InSheet d → number_at table.new d
         ≡ cond (same_place cell d) (suc (length cells.old.items)) (number_at table.old d)) }
     ensures err_cells { OnErr result (cells.new.items ≡ cells.old.items) }
-    ensures err_numbers { OnErr result ((d : Place) → number_at table.new d ≡ number_at table.old d) }
+    ensures err_numbers { OnErr result ((d : Place) → InSheet d → number_at table.new d ≡ number_at table.old d) }
 {
     table.make_room(cell)?;
-    let number = cells.len() as u32 + 1;
-    cells.push(cell)?;
-    table.set(cell, number);
-    Ok(())
+    table.set(cell, cells.len() as u32 + 1);
+    match cells.push(cell) {
+        Ok(()) => Ok(()),
+        Err(_) => {
+            table.set(cell, 0);
+            Err(AllocError)
+        }
+    }
 }
 
 impl CellSet {

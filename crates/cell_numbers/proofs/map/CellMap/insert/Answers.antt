@@ -26,7 +26,7 @@ returns-in-Some-clause-ok g c = put_in c.self.inside.table c.self.inside.held.it
 pub invariant_of-self-in_err-add-in-None : goal.invariant_of-self-in_err-add-in-None
 invariant_of-self-in_err-add-in-None g c =
     subst (λ (hs : List (Held g.row.T.Denot)). AreNumbered c.add.new.table (cells_of hs)) (sym c.in_err-add-in-None.ensures.err_held)
-    (same_table c.self.inside.table c.add.new.table (cells_of c.self.inside.held.items) c.in_err-add-in-None.ensures.err_numbers c.self.invariant)
+    (same_table c.self.inside.table c.add.new.table (cells_of c.self.inside.held.items) (λ d _. c.in_err-add-in-None.ensures.err_numbers d) c.self.invariant)
 
 pub returns-in_err-add-in-None-clause-absent : goal.returns-in_err-add-in-None-clause-absent
 returns-in_err-add-in-None-clause-absent g c =

@@ -6,8 +6,13 @@ use Rattle.cell_numbers.proofs.Filled.{few_places, number_last}
 use Rattle.cell_numbers.proofs.Sets.{no_number}
 use Rattle.cell_numbers.proofs.set.CellSet.insert.Goals as goal
 
-pub add-requires : goal.add-requires
-add-requires c = let most = few_places c.self.inside.table c.self.inside.cells.items c.self.invariant in omega (arith, most)
+pub add-requires-clause-few : goal.add-requires-clause-few
+add-requires-clause-few c = let most = few_places c.self.inside.table c.self.inside.cells.items c.self.invariant in omega (arith, most)
+
+pub add-requires-clause-fresh : goal.add-requires-clause-fresh
+add-requires-clause-fresh c =
+    let absent = ap (λ (s : Cells). has same_place s.keys c.args.cell) c.self.view_is ∙ sym c.contains.ensures ∙ c.if-contains.false in
+    no_number c.self.inside.table c.self.inside.cells.items c.self.invariant c.args.cell c.is_on_sheet.ensures absent
 
 pub invariant_of-self-2 : goal.invariant_of-self-2
 invariant_of-self-2 c =
