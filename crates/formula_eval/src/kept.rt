@@ -140,8 +140,20 @@ impl Kept {
         Kept { findings: None }
     }
 
-    /// Lets go what hangs on the value of a cell, which changes.
+    /// Lets go what hangs on the value of a cell, which changes. Where nothing is kept, that is a test alone.
     pub fn forget(&mut self, cell: Cell)
+        ensures { (values others : Place → Value) → IsKept self.old values →
+            ((c : Place) → same_place c cell ≡ false → others c ≡ values c) → IsKept self.new others }
+    {
+        match &self.findings {
+            Some(_) => self.let_go(cell),
+            None => {}
+        }
+    }
+
+    // The same, out of line: it takes much room on the stack.
+    #[inline(never)]
+    fn let_go(&mut self, cell: Cell)
         ensures { (values others : Place → Value) → IsKept self.old values →
             ((c : Place) → same_place c cell ≡ false → others c ≡ values c) → IsKept self.new others }
     {

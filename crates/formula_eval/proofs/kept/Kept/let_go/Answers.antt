@@ -3,7 +3,7 @@ use Rattle.std.specs.Prelude.{IfSome}
 use Rattle.formula_eval.specs.inner.Kept.{AreFound}
 use Rattle.formula_eval.proofs.Ascent.{column_stays}
 use Rattle.formula_eval.proofs.Keeping.{running_stays}
-use Rattle.formula_eval.proofs.kept.Kept.forget.Goals as goal
+use Rattle.formula_eval.proofs.kept.Kept.let_go.Goals as goal
 
 pub returns-then-not-hang_on : goal.returns-then-not-hang_on
 returns-then-not-hang_on c = λ values others is same.
