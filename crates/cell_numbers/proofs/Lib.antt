@@ -1,3 +1,4 @@
+pub mod Above
 pub mod Filled
 pub mod Tables
 pub mod Sets

@@ -1,5 +1,5 @@
 -- The number of a place, in pages of 256 rows and 4 columns.
-use Rattle.std.specs.Prelude.{ℕ, zero, suc, ◌≡◌, ◌+◌, ◌*◌, ◌/◌, ◌%◌, ◌<◌, ◌≤◌, ◌⊎◌, List, [], ◌∷◌, length, get_or}
+use Rattle.std.specs.Prelude.{ℕ, zero, suc, ◌≡◌, ◌+◌, ◌-◌, ◌*◌, ◌/◌, ◌%◌, ◌<◌, ◌≤◌, ◌⊎◌, List, [], ◌∷◌, length, map, get_or}
 use Rattle.grid_address.specs.Place.{Place}
 
 -- for each page of the sheet which one of the pages with room it is, the first with 1, and 0 where it has none; and the
@@ -32,6 +32,10 @@ number_in numbers (suc k) p = get_or numbers (k * 1024 + p) 0
 -- the number of a place, 0 where it has none
 abbrev pub number_at : Numbers → Place → ℕ
 number_at t c = number_in t.numbers (head_of t c) (place_of c)
+
+-- the numbers above one of them, counted from there; those up to it are none
+abbrev pub above : ℕ → Numbers → Numbers
+above gone t = record { heads = t.heads; numbers = map (λ n. n - gone) t.numbers }
 
 -- a number of the place can be set
 abbrev pub HasRoom : Numbers → Place → Type 0

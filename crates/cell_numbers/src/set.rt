@@ -1,48 +1,72 @@
 // Sets of cells.
-ghost use Rattle.std.specs.Prelude.{◌≡◌, ◌<◌, ◌++◌, ◌∷◌, [], ◌-◌, ◌^◌, suc, cond, length, take, false, OnOk, OnErr, IfOk};
+ghost use Rattle.std.specs.Prelude.{◌≡◌, ◌<◌, ◌+◌, ◌++◌, ◌∷◌, [], ◌-◌, ◌^◌, ◌⊎◌, suc, cond, length, take, false, IfNone, IfSome, OnOk, OnErr, IfOk};
 ghost use Rattle.std.specs.List.{IsDistinct};
 ghost use Rattle.grid_address.specs.Place.{same_place, InSheet, Place};
-ghost use Rattle.cell_numbers.specs.Numbers.{number_at};
+ghost use Rattle.cell_numbers.specs.Numbers.{above, number_at};
 ghost use Rattle.cell_numbers.specs.Sets.{has, insert_key};
 
 use crate::PlaceTable;
-use crate::map::index_of;
 use grid_address::Cell;
 use std::alloc::{AllocError, Global};
 use std::marker::Model;
 
-/// A set of cells, in the order in which they came in. A cell is found by its number, which is its place in the order.
+/// Up to which number all cells may be taken out at once: further ones fit a number of 32 bits.
+const MOST_GONE: u32 = 2_145_386_496;
+
+/// A set of cells, in the order in which they came in. A cell is found by its number, which tells its place in the
+/// order. The first one's is one above those that are gone, which cells that were taken out still have.
 #[derive(Drop)]
 pub struct CellSet {
     table: PlaceTable,
     cells: Vec<Cell>,
+    gone: u32,
 }
 
 impl Model for CellSet {
+    ghost use Rattle.std.specs.Prelude.{◌≤◌, ◌^◌};
     ghost use Rattle.cell_numbers.specs.Filled.{AreNumbered};
+    ghost use Rattle.cell_numbers.specs.Numbers.{above};
     ghost use Rattle.cell_numbers.specs.Sets.{Cells};
 
     ghost Value = { Cells };
 
     ghost view = { λ s. record { keys = s.cells.items } };
 
-    ghost invariant = { λ s. AreNumbered s.table s.cells.items };
+    ghost invariant = { λ s. (s.gone ≤ 2 ^ 31) × AreNumbered (above s.gone s.table) s.cells.items };
 }
 
-// Adds a cell that has no number behind the others. It gets its number before it is added, and loses it again where there
-// is no memory, so that its page is looked up once.
-fn add(table: &mut PlaceTable, cells: &mut Vec<Cell>, cell: Cell) -> Result<(), AllocError>
-    requires few { length cells.old.items < 2 ^ 32 - 1 }
+// Where a cell stands in the order, if its number is above those that are gone.
+fn place_in_order(table: &PlaceTable, gone: u32, cell: Cell) -> Option<usize>
+    ensures none { IfNone result (number_at (above gone table.now) cell ≡ 0) }
+    ensures some { IfSome result (λ i. number_at (above gone table.now) cell ≡ suc i) }
+{
+    let number = table.number_at(cell);
+    if number <= gone {
+        return None;
+    }
+    Some((number - gone) as usize - 1)
+}
+
+// Adds a cell that has no number behind the others. It gets its number before it is added, and loses it again where
+// there is no memory, so that its page is looked up once.
+fn add(
+    table: &mut PlaceTable,
+    gone: u32,
+    cells: &mut Vec<Cell>,
+    cell: Cell,
+) -> Result<(), AllocError>
+    requires few { gone + length cells.old.items < 2 ^ 32 - 1 }
     requires inside { InSheet cell }
-    requires fresh { number_at table.old cell ≡ 0 }
+    requires fresh { number_at (above gone table.old) cell ≡ 0 }
     ensures cells { OnOk result (cells.new.items ≡ cells.old.items ++ cell ∷ []) }
-    ensures numbers { OnOk result ((d : Place) → InSheet d → number_at table.new d
-        ≡ cond (same_place cell d) (suc (length cells.old.items)) (number_at table.old d)) }
+    ensures numbers { OnOk result ((d : Place) → InSheet d → number_at (above gone table.new) d
+        ≡ cond (same_place cell d) (suc (length cells.old.items)) (number_at (above gone table.old) d)) }
     ensures err_cells { OnErr result (cells.new.items ≡ cells.old.items) }
-    ensures err_numbers { OnErr result ((d : Place) → InSheet d → number_at table.new d ≡ number_at table.old d) }
+    ensures err_numbers { OnErr result ((d : Place) → InSheet d →
+        number_at (above gone table.new) d ≡ number_at (above gone table.old) d) }
 {
     table.make_room(cell)?;
-    table.set(cell, cells.len() as u32 + 1);
+    table.set(cell, gone + cells.len() as u32 + 1);
     match cells.push(cell) {
         Ok(()) => Ok(()),
         Err(_) => {
@@ -60,6 +84,7 @@ impl CellSet {
         CellSet {
             table: PlaceTable::new(alloc),
             cells: Vec::new(alloc),
+            gone: 0,
         }
     }
 
@@ -96,7 +121,7 @@ impl CellSet {
         ensures { result ≡ has same_place self.now.keys cell }
     {
         cell.is_on_sheet();
-        match index_of(&self.table, cell) {
+        match place_in_order(&self.table, self.gone, cell) {
             Some(_) => true,
             None => false,
         }
@@ -111,7 +136,7 @@ impl CellSet {
         if self.contains(cell) {
             return Ok(());
         }
-        add(&mut self.table, &mut self.cells, cell)?;
+        add(&mut self.table, self.gone, &mut self.cells, cell)?;
         Ok(())
     }
 
@@ -121,12 +146,12 @@ impl CellSet {
             has same_place self.new.keys d ≡ cond (same_place cell d) false (has same_place self.old.keys d) }
     {
         cell.is_on_sheet();
-        let Some(at) = index_of(&self.table, cell) else {
+        let Some(at) = place_in_order(&self.table, self.gone, cell) else {
             return;
         };
         if let Some(last) = self.cells.pop() {
             last.is_on_sheet();
-            self.table.set(last, at as u32 + 1);
+            self.table.set(last, self.gone + at as u32 + 1);
             self.table.set(cell, 0);
             if at < self.cells.len() {
                 self.cells[at] = last;
@@ -144,10 +169,23 @@ impl CellSet {
         }
     }
 
-    /// Takes out all cells but the first ones, so many. It takes no memory.
+    // Takes all cells out at once: their numbers are gone. Where too many are, all cells stay.
+    fn let_all_go(&mut self)
+        ensures { (self.new.keys ≡ []) ⊎ (self.new.keys ≡ self.old.keys) }
+    {
+        if self.gone < MOST_GONE {
+            self.gone += self.cells.len() as u32;
+            self.cells.clear();
+        }
+    }
+
+    /// Takes out all cells but the first ones, so many. It takes no memory, and next to no time where it takes out all.
     pub fn truncate(&mut self, count: usize)
         ensures { self.new.keys ≡ take count self.old.keys }
     {
+        if count == 0 {
+            self.let_all_go();
+        }
         while self.len() > count {
             self.pop();
         }

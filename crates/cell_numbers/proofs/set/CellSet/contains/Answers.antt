@@ -1,4 +1,5 @@
 use Rattle.std.proofs.Common.{ap, sym, ◌∙◌}
+use Rattle.cell_numbers.specs.Numbers.{above}
 use Rattle.cell_numbers.specs.Sets.{has, Cells}
 use Rattle.grid_address.specs.Place.{same_place}
 use Rattle.cell_numbers.proofs.Sets.{member, no_member}
@@ -6,10 +7,10 @@ use Rattle.cell_numbers.proofs.set.CellSet.contains.Goals as goal
 
 pub returns-in-Some : goal.returns-in-Some
 returns-in-Some c =
-    sym (member c.self.inside.table c.self.inside.cells.items c.self.invariant c.args.cell _ c.is_on_sheet.ensures c.in-Some.ensures.some)
+    sym (member (above c.self.inside.gone c.self.inside.table) c.self.inside.cells.items c.self.invariant.1 c.args.cell _ c.is_on_sheet.ensures c.in-Some.ensures.some)
     ∙ ap (λ (s : Cells). has same_place s.keys c.args.cell) c.self.view_is
 
 pub returns-in-None : goal.returns-in-None
 returns-in-None c =
-    sym (no_member c.self.inside.table c.self.inside.cells.items c.self.invariant c.args.cell c.in-None.ensures.none)
+    sym (no_member (above c.self.inside.gone c.self.inside.table) c.self.inside.cells.items c.self.invariant.1 c.args.cell c.in-None.ensures.none)
     ∙ ap (λ (s : Cells). has same_place s.keys c.args.cell) c.self.view_is
