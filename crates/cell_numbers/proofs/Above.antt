@@ -22,27 +22,42 @@ pub above_at : (gone : ℕ) (t : Numbers) (d : Place) → number_at (above gone 
 above_at gone t d = in_above t.numbers gone (head_of t d) (place_of d)
 
 -- it stays where the table's own stays
-pub above_same : (gone : ℕ) (old new : Numbers) (d : Place) → number_at new d ≡ number_at old d → number_at (above gone new) d ≡ number_at (above gone old) d
+pub above_same : (gone : ℕ) (old new : Numbers) (d : Place) → number_at new d ≡ number_at old d
+    → number_at (above gone new) d ≡ number_at (above gone old) d
 above_same gone old new d h = above_at gone new d ∙ ap (λ n. n - gone) h ∙ sym (above_at gone old d)
 
--- where one number is set, there one is set
-pub above_set : (gone n k : ℕ) (old new : Numbers) (c : Place) → n - gone ≡ k → ((d : Place) → InSheet d → number_at new d ≡ cond (same_place c d) n (number_at old d))
-    → (d : Place) → InSheet d → number_at (above gone new) d ≡ cond (same_place c d) k (number_at (above gone old) d)
-above_set gone n k old new c e h d inside = above_at gone new d ∙ ap (λ m. m - gone) (h d inside) ∙ elim (cases_Bool (same_place c d)) [
-  | inl t ↦ ap (λ b. cond b n (number_at old d) - gone) t ∙ e ∙ sym (ap (λ b. cond b k (number_at (above gone old) d)) t)
-  | inr f ↦ ap (λ b. cond b n (number_at old d) - gone) f ∙ sym (above_at gone old d) ∙ sym (ap (λ b. cond b k (number_at (above gone old) d)) f)
-]
+-- one number of a table is set
+abbrev pub IsSet : Numbers → Numbers → Place → ℕ → Type 0
+IsSet old new c n = (d : Place) → InSheet d → number_at new d ≡ cond (same_place c d) n (number_at old d)
+
+-- where one number is set, one is set there
+pub above_set : (gone n k : ℕ) (old new : Numbers) (c : Place) → n - gone ≡ k → IsSet old new c n
+    → IsSet (above gone old) (above gone new) c k
+above_set gone n k old new c e h d inside =
+    let was = number_at old d in
+    let there = number_at (above gone old) d in
+    above_at gone new d ∙ ap (λ m. m - gone) (h d inside) ∙ elim (cases_Bool (same_place c d)) [
+      | inl t ↦ ap (λ b. cond b n was - gone) t ∙ e ∙ sym (ap (λ b. cond b k there) t)
+      | inr f ↦ ap (λ b. cond b n was - gone) f ∙ sym (above_at gone old d) ∙ sym (ap (λ b. cond b k there) f)
+    ]
 
 -- where a place without a number there gets one and loses it again, all places have what they had
-pub back : (gone n : ℕ) (old mid new : Numbers) (c : Place) → number_at (above gone old) c ≡ 0 → ((d : Place) → InSheet d → number_at mid d ≡ cond (same_place c d) n (number_at old d))
-    → ((d : Place) → InSheet d → number_at new d ≡ cond (same_place c d) 0 (number_at mid d)) → (d : Place) → InSheet d → number_at (above gone new) d ≡ number_at (above gone old) d
-back gone n old mid new c fresh put taken d inside = above_set gone 0 0 mid new c (omega arith) taken d inside ∙ elim (cases_Bool (same_place c d)) [
-  | inl t ↦ ap (λ b. cond b 0 (number_at (above gone mid) d)) t ∙ sym (ap (number_at (above gone old)) (sym (same_place_is c d t)) ∙ fresh)
-  | inr f ↦ ap (λ b. cond b 0 (number_at (above gone mid) d)) f ∙ above_same gone old mid d (put d inside ∙ ap (λ b. cond b n (number_at old d)) f)
-]
+pub back : (gone n : ℕ) (old mid new : Numbers) (c : Place) → number_at (above gone old) c ≡ 0 → IsSet old mid c n
+    → IsSet mid new c 0 → (d : Place) → InSheet d → number_at (above gone new) d ≡ number_at (above gone old) d
+back gone n old mid new c fresh put taken d inside =
+    let there = number_at (above gone mid) d in
+    above_set gone 0 0 mid new c (omega arith) taken d inside ∙ elim (cases_Bool (same_place c d)) [
+      | inl t ↦
+          ap (λ b. cond b 0 there) t
+          ∙ sym (ap (number_at (above gone old)) (sym (same_place_is c d t)) ∙ fresh)
+      | inr f ↦
+          ap (λ b. cond b 0 there) f
+          ∙ above_same gone old mid d (put d inside ∙ ap (λ b. cond b n (number_at old d)) f)
+    ]
 
 -- no cell has a number above those of all cells of a set
-pub all_gone : (gone k : ℕ) (t : Numbers) (cells : List Place) → AreNumbered (above gone t) cells → k ≡ length cells → AreNumbered (above (gone + k) t) []
+pub all_gone : (gone k : ℕ) (t : Numbers) (cells : List Place) → AreNumbered (above gone t) cells → k ≡ length cells
+    → AreNumbered (above (gone + k) t) []
 all_gone gone k t cells ok long = record {
   inside = λ i c e. absurd (no_some e);
   told = λ i c e. absurd (no_some e);
