@@ -59,9 +59,8 @@ names_of m = map item_name (items m)
 
 -- the names of the next level; an action has none
 abbrev pub names_below : Option Item → List (List ℕ)
-names_below None = []
-names_below (Some (item.Action a)) = []
 names_below (Some (item.Menu m)) = names_of m
+names_below _ = []
 
 -- the items, of which the highlighted one is marked, and below them what it leads to
 abbrev pub panel : MenuRoom → Panel

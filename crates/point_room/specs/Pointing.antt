@@ -60,17 +60,15 @@ steered k g pointer p = moved_corner (arrow_of k) g p
 
 -- a $ stands before the column
 abbrev pub fixes_column : Signs → Bool
-fixes_column signs.None = false
 fixes_column signs.Both = true
-fixes_column signs.Row = false
 fixes_column signs.Column = true
+fixes_column _ = false
 
 -- a $ stands before the row
 abbrev pub fixes_row : Signs → Bool
-fixes_row signs.None = false
 fixes_row signs.Both = true
 fixes_row signs.Row = true
-fixes_row signs.Column = false
+fixes_row _ = false
 
 -- the sign of what is fixed
 abbrev pub sign_if : Bool → List ℕ

@@ -98,10 +98,9 @@ line_answering false e = answering.Typing e
 
 -- what a key comes to, where the line has taken it
 abbrev pub typed_by : LineEvent → Sheet → AnsweredCommand → Bool → Entry → Turn
-typed_by line.Going s c kept e = asking c (line_answering kept e)
-typed_by line.LineFull s c kept e = asking c (line_answering kept e)
 typed_by line.GivenUp s c kept e = turn.Become room.Ready
 typed_by line.Finished s c kept e = answered s c e.text
+typed_by _ s c kept e = asking c (line_answering kept e)
 
 -- an answer is typed as in EDIT, where UP, DOWN, PGUP and PGDN are passed over
 abbrev pub press_line : Key → Sheet → AnsweredCommand → Bool → Entry → Turn
@@ -153,10 +152,8 @@ press_by (answering.Choosing h) k s c = press_choosing k c h
 
 -- one of two items is chosen, and a letter takes none of them
 abbrev pub lacks_item_by : Answering → ℕ → AnsweredCommand → Bool
-lacks_item_by (answering.Pointing p) b c = false
-lacks_item_by (answering.Typing e) b c = false
-lacks_item_by (answering.Kept e) b c = false
 lacks_item_by (answering.Choosing h) b c = not (is_some (item_for b c))
+lacks_item_by _ b c = false
 
 -- a letter takes no item of a choice
 abbrev pub lacks_item : ℕ → PromptRoom → Bool

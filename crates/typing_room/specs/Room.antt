@@ -67,10 +67,9 @@ finished_by (Some w) e = finished_line e.text w e
 
 -- what a key in EDIT comes to, where the line has taken it
 abbrev pub edited : LineEvent → Option Way → TypingRoom → Turn
-edited line.Going way r = turn.Become (room.Typing r)
-edited line.LineFull way r = turn.Become (room.Typing r)
 edited line.GivenUp way r = turn.Become room.Ready
 edited line.Finished way r = finished_by way r.line
+edited _ way r = turn.Become (room.Typing r)
 
 -- what a key comes to, by the mode
 abbrev pub press_by : TypingMode → Key → Grid → Place → TypingRoom → Turn
