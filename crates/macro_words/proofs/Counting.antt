@@ -1,18 +1,18 @@
 -- The items of a menu, counted and looked through one by one.
 use Rattle.std.proofs.Common.{◌≡◌, ℕ, suc, ◌+◌, Bool, true, false, None, Some, ap, ◌∙◌}
-use Rattle.std.specs.Prelude.{if◌then◌else◌}
+use Rattle.std.specs.Prelude.{is_some, if◌then◌else◌}
 use Rattle.formula_eval.specs.Outlook.{Sight}
 use Rattle.grid_address.specs.Place.{Place}
-use Rattle.macro_words.specs.Items.{begins_with, chosen_from, is_text, item_text, items_from}
+use Rattle.macro_words.specs.Items.{begins_with, chosen_from, item_text, items_from}
 
 module _ (s : Sight) (first : Place) where
   -- an item stands at a place, and is counted
-  pub one_item : (n more k : ℕ) → more ≡ suc k → is_text (item_text s first n) ≡ true → items_from s first n more ≡ items_from s first (n + 1) k
+  pub one_item : (n more k : ℕ) → more ≡ suc k → is_some (item_text s first n) ≡ true → items_from s first n more ≡ items_from s first (n + 1) k
   unfolding items_from
   one_item n more k left is = ap (items_from s first n) left ∙ ap (λ (b : Bool). if b then items_from s first (n + 1) k else n) is
 
   -- none stands there
-  pub no_item : (n more k : ℕ) → more ≡ suc k → is_text (item_text s first n) ≡ false → items_from s first n more ≡ n
+  pub no_item : (n more k : ℕ) → more ≡ suc k → is_some (item_text s first n) ≡ false → items_from s first n more ≡ n
   unfolding items_from
   no_item n more k left is = ap (items_from s first n) left ∙ ap (λ (b : Bool). if b then items_from s first (n + 1) k else n) is
 

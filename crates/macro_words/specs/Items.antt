@@ -1,9 +1,8 @@
 -- The items of a macro's menu: labels side by side in cells, as they now stand.
 use Rattle.std.specs.Char.{to_ascii_uppercase}
-use Rattle.std.specs.Prelude.{ℕ, zero, suc, ◌+◌, ◌==◌, nat_lt, min, Bool, true, false, List, [], ◌∷◌, Option, None, Some, if◌then◌else◌}
+use Rattle.std.specs.Prelude.{ℕ, zero, suc, ◌+◌, ◌==◌, nat_lt, min, Bool, false, List, ◌∷◌, Option, None, Some, if◌then◌else◌, is_some}
+use Rattle.formula_eval.specs.Fields.{label_in}
 use Rattle.formula_eval.specs.Outlook.{Sight}
-use Rattle.formula_tree.specs.declared.value.Content.{Content}
-use Rattle.formula_tree.specs.declared.value.Content.TheVariants as content
 use Rattle.grid_address.specs.Place.{Place}
 use Rattle.grid_address.specs.Limits.{COLUMNS, LAST_COLUMN}
 use Rattle.macro_words.specs.declared.waiting.MacroMenu.{MacroMenu}
@@ -12,27 +11,14 @@ use Rattle.macro_words.specs.declared.waiting.MacroMenu.{MacroMenu}
 abbrev pub beside : ℕ → Place → Place
 beside n c = record { row = c.row; col = min LAST_COLUMN (c.col + n) }
 
--- the text of a label, without its prefix
-abbrev pub label_text : Option Content → Option (List ℕ)
-label_text None = None
-label_text (Some content.Blank) = None
-label_text (Some (content.Number x)) = None
-label_text (Some (content.Label prefix text)) = Some text
-label_text (Some (content.Formula t)) = None
-
 -- the text of the item so many columns behind the first one; none where no label stands there
 abbrev pub item_text : Sight → Place → ℕ → Option (List ℕ)
-item_text s first n = if nat_lt (first.col + n) COLUMNS then label_text (s.contents (beside n first)) else None
-
--- whether there is a text
-abbrev pub is_text : Option (List ℕ) → Bool
-is_text None = false
-is_text (Some text) = true
+item_text s first n = if nat_lt (first.col + n) COLUMNS then label_in (s.contents (beside n first)) else None
 
 -- the first place from one on, among so many, at which no item stands
 unfoldable pub items_from : Sight → Place → ℕ → ℕ → ℕ
 items_from s first n zero = n
-items_from s first n (suc more) = if is_text (item_text s first n) then items_from s first (n + 1) more else n
+items_from s first n (suc more) = if is_some (item_text s first n) then items_from s first (n + 1) more else n
 
 -- a menu has so many items at most
 abbrev pub most_items : ℕ
@@ -44,9 +30,8 @@ items_at s first = items_from s first 0 most_items
 
 -- whether a text begins with a byte, in letters of either case
 abbrev pub begins_with : ℕ → Option (List ℕ) → Bool
-begins_with b None = false
-begins_with b (Some []) = false
 begins_with b (Some (t ∷ text)) = to_ascii_uppercase t == to_ascii_uppercase b
+begins_with b _ = false
 
 -- the first item from a place on, among so many, that begins with a byte
 unfoldable pub chosen_from : Sight → Place → ℕ → ℕ → ℕ → Option ℕ

@@ -58,12 +58,8 @@ one_key_row c k = puts_value c (value.Str (key_text k)) move.Stay
 
 -- a number, and else ERR
 abbrev pub number_or_err : Option Value → Value
-number_or_err None = value.Err
-number_or_err (Some value.Blank) = value.Err
 number_or_err (Some (value.Num n)) = value.Num n
-number_or_err (Some (value.Str t)) = value.Err
-number_or_err (Some value.Err) = value.Err
-number_or_err (Some value.Na) = value.Err
+number_or_err _ = value.Err
 
 -- what a line is put into its cell as; a number is read in the macro's cell
 abbrev pub line_value : Outlook → Place → Wanted → List ℕ → Value

@@ -41,7 +41,6 @@ entering f s r = going s (record r { frames = r.frames ++ f ∷ [] })
 
 -- the macro behind a move; none where it stops
 abbrev pub moved : Move → Running → Option Running
-moved move.Stay r = Some r
 moved (move.Go s) r = Some (going s r)
 moved (move.Call word s) r = Some (entering (frame.Call word r.position.spot) s r)
 moved (move.Begin l) r = Some (entering (frame.Loop l) (start_of l.routine) r)
@@ -52,8 +51,7 @@ moved (move.Handle h) r = Some (record r { handler = Some h })
 moved (move.Wait x) r = Some (record r { waiting = x })
 moved (move.Pause s n) r = Some (record r { position = at_spot s; waiting = waiting.Time n })
 moved (move.Switch x) r = Some (record r { switches = x })
-moved (move.Indicate t) r = Some r
-moved (move.Files d) r = Some r
+moved _ r = Some r
 
 -- all is on
 abbrev pub all_on : Switches

@@ -1,5 +1,5 @@
 -- What each word of a macro does: a row for each (Release 2 manual).
-use Rattle.std.specs.Prelude.{ℕ, zero, ℤ, pos, ◌+◌, ◌&&◌, nat_le, nat_lt, Bool, true, false, List, [], ◌∷◌, codes, length, get_or, min, Option, None, Some, Result, Ok, Err, if◌then◌else◌}
+use Rattle.std.specs.Prelude.{ℕ, zero, ℤ, pos, ◌+◌, ◌&&◌, nat_le, nat_lt, Bool, true, false, List, [], ◌∷◌, codes, length, get_or, min, Option, None, Some, option_map, Result, Ok, Err, if◌then◌else◌, option_and_then}
 use Rattle.std.specs.Int.RustNames.{int_lt}
 use Rattle.std.specs.Str.{str_eq_ignore_ascii_case}
 use Rattle.at_functions.specs.Numbers.{count_of}
@@ -153,10 +153,7 @@ is_past n bound step = if int_lt (pos 0) step then int_lt bound n else int_lt n 
 -- a loop goes on where its count is a number that isn't past the bound, and else behind its word
 abbrev pub round : Loop → Value → Move
 round l (value.Num n) = if is_past n l.bound l.step then move.Leave l.behind else move.Go (start_of l.routine)
-round l value.Blank = move.Leave l.behind
-round l (value.Str t) = move.Leave l.behind
-round l value.Err = move.Leave l.behind
-round l value.Na = move.Leave l.behind
+round l _ = move.Leave l.behind
 
 -- the step is added to the count as by +
 abbrev pub next_count : Outlook → Loop → Value
@@ -203,8 +200,7 @@ for_row w r at args =
 -- FORBREAK: the innermost frame is a loop, which is left
 abbrev pub broken : Option Frame → Row
 broken (Some (frame.Loop l)) = moves (move.Leave l.behind)
-broken (Some (frame.Call word back)) = bad
-broken None = bad
+broken _ = bad
 
 -- a cell for the message may be given
 abbrev pub message_row : Outlook → List (List ℕ) → Place → Row
@@ -266,7 +262,7 @@ call_of (frame.Call word back) = Some word
 call_of (frame.Loop l) = None
 
 -- the first that is there
-abbrev pub or_else : Option Spot → Option Spot → Option Spot
+abbrev pub or_else : {A : Type 0} → Option A → Option A → Option A
 or_else (Some x) other = Some x
 or_else None other = other
 
@@ -275,32 +271,22 @@ abbrev pub present_call : List Frame → Option Spot
 present_call [] = None
 present_call (f ∷ fs) = or_else (present_call fs) (call_of f)
 
--- where there is such a name
-abbrev pub if_named : Option Extent → List (List ℕ) → Option (List (List ℕ))
-if_named None args = None
-if_named (Some s) args = Some args
-
 -- a word is a call of a name that there is
 abbrev pub given_in : NameMap → List ℕ → MacroWord → Option (List (List ℕ))
 given_in names text (word.Call name args) =
-    if_named (named_span names (part text name)) (arguments_of (ends_quoted false (part text name)) text args)
+    option_map (λ s. arguments_of (ends_quoted false (part text name)) text args) (named_span names (part text name))
 given_in names text _ = None
-
--- a cell without a text holds no call
-abbrev pub given_by : NameMap → ℕ → Option (List ℕ) → Option (List (List ℕ))
-given_by names offset None = None
-given_by names offset (Some text) = given_in names text (unit_at text offset).0
 
 -- the arguments of the call whose word stands at a place, as its text now stands
 abbrev pub given_at : Outlook → Option Spot → Option (List (List ℕ))
 given_at w None = None
-given_at w (Some s) = given_by w.sight.names s.offset (macro_text w.sight s.cell)
+given_at w (Some s) =
+    option_and_then (λ text. given_in w.sight.names text (unit_at text s.offset).0) (macro_text w.sight s.cell)
 
 -- a value for a cell, where both are there
 abbrev pub entered : Option Place → Option Value → Option Write
-entered None v = None
-entered (Some c) None = None
 entered (Some c) (Some v) = Some (written c (as_content v))
+entered _ _ = None
 
 -- without :string, which may stand behind a place
 abbrev pub plain_target : List ℕ → List ℕ
@@ -315,16 +301,14 @@ defined w at target given =
 
 -- one write more, where all can be made
 abbrev pub in_front : Option Write → Option (List Write) → Option (List Write)
-in_front None ws = None
-in_front (Some e) None = None
 in_front (Some e) (Some ws) = Some (e ∷ ws)
+in_front _ _ = None
 
 -- as many cells as arguments
 abbrev pub defined_all : Outlook → Place → List (List ℕ) → List (List ℕ) → Option (List Write)
 defined_all w at [] [] = Some []
-defined_all w at [] (g ∷ gs) = None
-defined_all w at (t ∷ ts) [] = None
 defined_all w at (t ∷ ts) (g ∷ gs) = in_front (defined w at t g) (defined_all w at ts gs)
+defined_all w at _ _ = None
 
 -- DEFINE
 abbrev pub define_row : Outlook → Running → Spot → List (List ℕ) → Row
@@ -370,10 +354,7 @@ menu_row w caller args = on_place w (arg args 0) (λ c. offers c (items_at w.sig
 -- a number is below another; what is no number never is
 abbrev pub is_before : Value → ℤ → Bool
 is_before (value.Num now) n = int_lt now n
-is_before value.Blank n = false
-is_before (value.Str t) n = false
-is_before value.Err n = false
-is_before value.Na n = false
+is_before _ n = false
 
 -- the number of the word that is waited at
 abbrev pub number_kept : Waiting → Option ℤ
@@ -427,14 +408,10 @@ most_passes = 50
 abbrev pub passes_left_out : List (List ℕ) → ℕ
 passes_left_out args = if nat_lt 1 (length args) then most_passes else 1
 
--- a condition that is a formula
-abbrev pub condition_of : Option Tree → Option (Option Tree)
-condition_of None = None
-condition_of (Some t) = Some (Some t)
-
 -- a condition may be left out; one that is given is a formula
 abbrev pub condition_in : Outlook → Spot → List (List ℕ) → Option (Option Tree)
-condition_in w at args = if nat_lt 1 (length args) then condition_of (formula_in w at.cell (arg args 1)) else Some None
+condition_in w at args =
+    if nat_lt 1 (length args) then option_map (λ t. Some t) (formula_in w at.cell (arg args 1)) else Some None
 
 -- the formulas of a range are evaluated
 abbrev pub sweeps : Sweep → Row
@@ -449,14 +426,9 @@ recalc_row w at by_columns args =
 
 -- ---- text files
 
--- the first name that there is
-abbrev pub first_name : Option (List ℕ) → Option (List ℕ) → Option (List ℕ)
-first_name None other = other
-first_name (Some name) other = Some name
-
 -- the text file that a text names: .TXT is added where no extension stands, and .TXT and .PRN may stand
 abbrev pub text_file : List ℕ → Option (List ℕ)
-text_file text = first_name (file_name Txt text) (file_name Prn text)
+text_file text = or_else (file_name Txt text) (file_name Prn text)
 
 -- R, W or M, in either case, tells what may be done with a file
 abbrev pub access_of : List ℕ → Option Access
@@ -513,12 +485,8 @@ abbrev pub counts : Command → ℕ × ℕ
 counts command.Branch = (1, 1)
 counts command.Dispatch = (1, 1)
 counts command.Define = (1, MAX_LEN)
-counts command.Return = (0, 0)
-counts command.Restart = (0, 0)
-counts command.Quit = (0, 0)
 counts command.If = (1, 1)
 counts command.For = (5, 5)
-counts command.ForBreak = (0, 0)
 counts command.Let = (2, 2)
 counts command.Put = (4, 4)
 counts command.Blank = (1, 1)
@@ -572,12 +540,6 @@ command_row w global r at command.Wait args = wait_row w r at args
 command_row w global r at command.Interact args = awaits waiting.Enter
 command_row w global r at command.Beep args = moves move.Stay
 command_row w global r at command.Indicate args = indicate_row w at args
-command_row w global r at command.PanelOn args = switch_row r command.PanelOn
-command_row w global r at command.PanelOff args = switch_row r command.PanelOff
-command_row w global r at command.WindowsOn args = switch_row r command.WindowsOn
-command_row w global r at command.WindowsOff args = switch_row r command.WindowsOff
-command_row w global r at command.BreakOn args = switch_row r command.BreakOn
-command_row w global r at command.BreakOff args = switch_row r command.BreakOff
 command_row w global r at command.Open args = open_row w at args
 command_row w global r at command.Close args = asks at asked.Close
 command_row w global r at command.Read args = read_row w at args
@@ -587,6 +549,7 @@ command_row w global r at command.WriteLn args = write_line_row w at args
 command_row w global r at command.FileSize args = size_row w at args
 command_row w global r at command.GetPos args = position_row w at args
 command_row w global r at command.SetPos args = set_position_row w at args
+command_row w global r at c args = switch_row r c
 
 -- within the fewest and the most
 abbrev pub is_taken : ℕ × ℕ → ℕ → Bool

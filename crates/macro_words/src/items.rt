@@ -1,5 +1,6 @@
 // The items of a macro's menu.
 ghost use Rattle.std.specs.Prelude.{◌≡◌, ◌≤◌, IfNone, IfSome, None, Some};
+ghost use Rattle.formula_eval.specs.Fields.{label_in};
 ghost use Rattle.macro_words.specs.Items as spec;
 
 use crate::MacroMenu;
@@ -23,8 +24,8 @@ pub fn beside(count: usize, cell: Cell) -> Cell
 
 // The text of a label in a cell.
 fn label_text<K: Look>(look: &K, cell: Cell) -> Option<&Text>
-    ensures some { IfSome result (λ t. spec.label_text ((K.sight look.now).contents cell) ≡ Some t.now) }
-    ensures none { IfNone result (spec.label_text ((K.sight look.now).contents cell) ≡ None) }
+    ensures some { IfSome result (λ t. label_in ((K.sight look.now).contents cell) ≡ Some t.now) }
+    ensures none { IfNone result (label_in ((K.sight look.now).contents cell) ≡ None) }
 {
     match look.content(cell) {
         Some(ContentRef::Label(_, text)) => Some(text),

@@ -1,5 +1,6 @@
+use Rattle.std.specs.Prelude.{is_some}
 use Rattle.std.proofs.Common.{◌≡◌, ℕ, suc, ◌+◌, ◌-◌, false, true, refl, sym, ap, ◌∙◌, arith}
-use Rattle.macro_words.specs.Items.{is_text, item_text}
+use Rattle.macro_words.specs.Items.{item_text}
 use Rattle.macro_words.proofs.Counting.{last_item, no_item, one_item}
 use Rattle.macro_words.proofs.items.items_at.Goals as goal
 
@@ -11,7 +12,7 @@ returns-in-None g c =
     let s = g.K.Look.sight c.args.look.now in
     let n : ℕ = c.loop-place.place in
     let left : 8 - n ≡ suc (8 - (n + 1)) = omega (arith, c.loop-place-test.true) in
-    let none : is_text (item_text s c.args.first n) ≡ false = ap is_text c.in-None.ensures.none in
+    let none : is_some (item_text s c.args.first n) ≡ false = ap is_some c.in-None.ensures.none in
     sym (no_item s c.args.first n (8 - n) (8 - (n + 1)) left none) ∙ c.loop-place.invariant.counted
 
 pub loop-place-preserved : goal.loop-place-preserved
@@ -19,7 +20,7 @@ loop-place-preserved g c =
     let s = g.K.Look.sight c.args.look.now in
     let n : ℕ = c.loop-place.place in
     let left : 8 - n ≡ suc (8 - (n + 1)) = omega (arith, c.loop-place-test.true) in
-    let is : is_text (item_text s c.args.first n) ≡ true = ap is_text c.in-Some.ensures.some in
+    let is : is_some (item_text s c.args.first n) ≡ true = ap is_some c.in-Some.ensures.some in
     record {
       within = omega (arith, c.loop-place-test.true);
       counted = sym (one_item s c.args.first n (8 - n) (8 - (n + 1)) left is) ∙ c.loop-place.invariant.counted;
