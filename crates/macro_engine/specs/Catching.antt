@@ -44,10 +44,9 @@ gone_on r h = going (start_of h.place) (record r { handler = None })
 
 -- an error, by the place for it; without one the macro stops
 abbrev pub caught_by : Scene → List ℕ → Option Running → Option Handler → Sheet → Caught
-caught_by scene message None h s = record { running = None; done = quiet s }
-caught_by scene message (Some r) None s = record { running = None; done = quiet s }
 caught_by scene message (Some r) (Some h) s =
     record { running = Some (gone_on r h); done = told scene message h.message s }
+caught_by scene message _ _ s = record { running = None; done = quiet s }
 
 -- A macro that runs meets an error with this message: it goes on at its place for errors, or stops.
 abbrev pub caught : Scene → List ℕ → Option Running → Sheet → Caught

@@ -1,9 +1,9 @@
 -- What a word's change leaves of the sheet.
-use Rattle.std.specs.Prelude.{ℕ, zero, suc, Bool, false, List, [], ◌∷◌, Option, None, Some, if◌then◌else◌}
+use Rattle.std.specs.Option.{option_map_or}
+use Rattle.std.specs.Prelude.{ℕ, zero, suc, Bool, false, List, [], ◌∷◌, Option, None, if◌then◌else◌}
 use Rattle.formula_eval.specs.Mean.{mean}
 use Rattle.formula_eval.specs.Outlook.{Outlook}
 use Rattle.formula_eval.specs.declared.look.Scene.{Scene}
-use Rattle.formula_tree.specs.declared.value.Value.{Value}
 use Rattle.grid_address.specs.Place.{Place}
 use Rattle.macro_text.specs.Arguments.{meaning_of}
 use Rattle.macro_words.specs.Rows.{is_true}
@@ -23,14 +23,9 @@ use Rattle.work_sheet.specs.Spans.{span_recalculated}
 abbrev pub outlook_in : Scene → Sheet → Outlook
 outlook_in scene s = outlook_at (context_in scene s) s.grid
 
--- a value is a number other than 0; without a value it is not
-abbrev pub is_number_told : Option Value → Bool
-is_number_told None = false
-is_number_told (Some v) = is_true v
-
 -- whether the condition of a recalculation is a number other than 0; one that isn't given never is
 abbrev pub is_met : Scene → Sweep → Sheet → Bool
-is_met scene sweep s = is_number_told (meaning_of (outlook_in scene s) sweep.at sweep.until)
+is_met scene sweep s = option_map_or is_true (meaning_of (outlook_in scene s) sweep.at sweep.until) false
 
 -- So many passes over the formulas of a span, but none behind the first one after which the condition is met.
 unfoldable pub swept_within : ℕ → Scene → Sweep → Sheet → Done
@@ -48,10 +43,9 @@ changed scene (change.Recalculate sweep) s = swept_within sweep.most scene sweep
 
 -- the cells that a change writes
 abbrev pub changed_cells : Change → List Place
-changed_cells change.Nothing = []
 changed_cells (change.Write ws) = written_cells ws
 changed_cells (change.Erase span) = cells_of span
-changed_cells (change.Recalculate sweep) = []
+changed_cells _ = []
 
 -- the first in row order of some cells that are marked
 abbrev pub first_marked : Grid → List Place → Option Place

@@ -17,10 +17,7 @@ use Rattle.macro_engine.specs.declared.steps.StepEnd.TheVariants.{Works}
 abbrev pub is_for_key : Waiting → Bool
 is_for_key waiting.Nothing = false
 is_for_key (waiting.Time n) = false
-is_for_key (waiting.OneKey c) = true
-is_for_key (waiting.Line q) = true
-is_for_key (waiting.Item m) = true
-is_for_key waiting.Enter = true
+is_for_key _ = true
 
 -- a macro runs that waits for a key
 abbrev pub awaits_key : Option Running → Bool
@@ -37,10 +34,8 @@ is_handed_on k = true
 abbrev pub is_own : Key → Waiting → Bool
 is_own k waiting.Nothing = false
 is_own k (waiting.Time n) = false
-is_own k (waiting.OneKey c) = true
-is_own k (waiting.Line q) = true
-is_own k (waiting.Item m) = true
 is_own k waiting.Enter = not (is_handed_on k)
+is_own k _ = true
 
 -- whether a macro runs that takes the key itself
 abbrev pub takes_key : Key → Option Running → Bool

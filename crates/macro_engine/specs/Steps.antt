@@ -1,9 +1,9 @@
 -- One step of a macro: its next unit, carried out over the sheet.
-use Rattle.std.specs.Prelude.{◌≡◌, ℕ, Bool, true, false, [], ◌∷◌, Option, None, Some, Ok, Err}
+use Rattle.std.specs.Prelude.{◌≡◌, ℕ, Bool, true, false, [], ◌∷◌, Option, None, Some, Ok, Err, option_map}
 use Rattle.ascii_bytes.specs.Ascii as ascii
 use Rattle.formula_eval.specs.declared.look.Scene.{Scene}
 use Rattle.formula_text.specs.Words.{named_span}
-use Rattle.grid_address.specs.Place.{Extent, Place}
+use Rattle.grid_address.specs.Place.{Place}
 use Rattle.macro_text.specs.Units.{next_unit, Next}
 use Rattle.macro_text.specs.declared.position.Position.{Position}
 use Rattle.macro_text.specs.declared.unit.MacroFault.{MacroFault}
@@ -119,11 +119,6 @@ pub record HasStepped (x : MacroStep) (came : StepEnd) (now : Option Running) (v
 
 -- ---- the beginning of a macro
 
--- the first cell of a span, if there is one
-abbrev pub first_of : Option Extent → Option Place
-first_of None = None
-first_of (Some span) = Some span.first
-
 -- the macro of a letter begins at the first cell of the name that is a backslash and the letter
 abbrev pub macro_named : NameMap → ℕ → Option Place
-macro_named names letter = first_of (named_span names (ascii.backslash ∷ letter ∷ []))
+macro_named names letter = option_map (λ span. span.first) (named_span names (ascii.backslash ∷ letter ∷ []))
