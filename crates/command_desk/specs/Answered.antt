@@ -1,5 +1,5 @@
 -- What the answers of a command mean.
-use Rattle.std.specs.Prelude.{ℕ, ◌≤◌, ℤ, Bool, List, [], Option, None, Some, Result, Ok, Err, slice_get}
+use Rattle.std.specs.Prelude.{ℕ, ◌≤◌, ℤ, Bool, List, [], Option, Some, Result, Ok, Err, slice_get, unwrap_or}
 use Rattle.desk_answers.specs.Readings.{decimal_answer, order_answer, span_answer, whole_answer}
 use Rattle.desk_errors.specs.declared.error.CommandError.{CommandError}
 use Rattle.desk_errors.specs.declared.error.CommandError.TheVariants as error
@@ -10,14 +10,9 @@ use Rattle.menu_tree.specs.declared.menu.Ask.{Ask}
 use Rattle.menu_tree.specs.declared.menu.Ask.TheVariants as ask
 use Rattle.range_names.specs.Names.{NameMap}
 
--- an answer, or the empty line where none was given
-abbrev pub line_of : Option (List ℕ) → List ℕ
-line_of None = []
-line_of (Some line) = line
-
--- the answer at a place
+-- the answer at a place, or the empty line where none was given
 abbrev pub line_at : List (List ℕ) → ℕ → List ℕ
-line_at answers place = line_of (slice_get answers place)
+line_at answers place = unwrap_or (slice_get answers place) []
 
 -- the answer at a place as a span
 abbrev pub span_at : NameMap → List (List ℕ) → ℕ → Result Extent CommandError

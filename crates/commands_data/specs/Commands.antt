@@ -71,8 +71,7 @@ sorted_by range keys scene s =
 -- a sort needs a range and a first key
 abbrev pub sorted_with : Option Extent → Option SortKey → Option SortKey → Scene → Sheet → Acted
 sorted_with (Some range) (Some first) second scene s = sorted_by range (keys_of first second) scene s
-sorted_with (Some range) None second scene s = refused error.SortMissing s
-sorted_with None first second scene s = refused error.SortMissing s
+sorted_with _ _ second scene s = refused error.SortMissing s
 
 -- the kept range is sorted by the kept keys
 abbrev pub sorted : DeskRanges → Scene → Sheet → Acted
@@ -91,9 +90,7 @@ extracted_into unique input criterion output scene s =
 abbrev pub extracted : Bool → Option Extent → Option Extent → Option Extent → Scene → Sheet → Acted
 extracted unique (Some input) (Some criterion) (Some output) scene s =
     extracted_into unique input criterion output scene s
-extracted unique (Some input) (Some criterion) None scene s = refused error.QueryRangeMissing s
-extracted unique (Some input) None output scene s = refused error.QueryRangeMissing s
-extracted unique None criterion output scene s = refused error.QueryRangeMissing s
+extracted unique _ _ _ scene s = refused error.QueryRangeMissing s
 
 -- the records that match are taken out of the input
 abbrev pub deleted_from : Extent → Extent → Scene → Sheet → Acted
@@ -102,8 +99,7 @@ deleted_from input criterion scene s = made query_error (deletion (outlook_in sc
 -- the input and the criterion are needed
 abbrev pub deleted : Option Extent → Option Extent → Scene → Sheet → Acted
 deleted (Some input) (Some criterion) scene s = deleted_from input criterion scene s
-deleted (Some input) None scene s = refused error.QueryRangeMissing s
-deleted None criterion scene s = refused error.QueryRangeMissing s
+deleted _ _ scene s = refused error.QueryRangeMissing s
 
 -- a query over the kept ranges
 abbrev pub queried : LastQuery → DeskRanges → Scene → Sheet → Acted

@@ -4,7 +4,7 @@ use Rattle.command_desk.specs.Acting.{DeskActed}
 use Rattle.command_desk.specs.Desks.{Desk}
 use Rattle.command_desk.specs.OnDesk.{left, refused}
 use Rattle.command_desk.specs.declared.ending.CommandEnd.{CommandEnd}
-use Rattle.command_desk.specs.declared.ending.CommandEnd.TheVariants.{Finished, Quits, Refused}
+use Rattle.command_desk.specs.declared.ending.CommandEnd.TheVariants.{Finished}
 use Rattle.commands_data.specs.declared.keeping.KeySetting.{KeySetting}
 use Rattle.commands_data.specs.declared.keeping.KeySetting.TheVariants as key
 use Rattle.commands_data.specs.declared.keeping.RangeSetting.{RangeSetting}
@@ -38,8 +38,7 @@ without_query r = record r { input = None; criterion = None; output = None }
 -- a query that was carried out is the last one
 abbrev pub with_last : LastQuery → CommandEnd → DeskRanges → DeskRanges
 with_last q Finished r = record r { last_query = q }
-with_last q Quits r = r
-with_last q (Refused e) r = r
+with_last q _ r = r
 
 -- other settings are kept, and the sheet stays
 abbrev pub kept : (DeskRanges → DeskRanges) → Desk → DeskActed

@@ -7,7 +7,7 @@ use Rattle.command_desk.specs.Answered.{cell_at, span_at}
 use Rattle.command_desk.specs.Desks.{Desk}
 use Rattle.command_desk.specs.OnDesk as on_the_desk
 use Rattle.command_desk.specs.declared.ending.CommandEnd.{CommandEnd}
-use Rattle.command_desk.specs.declared.ending.CommandEnd.TheVariants.{Finished, Quits, Refused}
+use Rattle.command_desk.specs.declared.ending.CommandEnd.TheVariants.{Finished}
 use Rattle.data_blocks.specs.declared.ranges.DeskRanges.{DeskRanges}
 use Rattle.data_blocks.specs.declared.ranges.LastTable.{LastTable}
 use Rattle.data_blocks.specs.declared.ranges.LastTable.TheVariants as table
@@ -71,8 +71,7 @@ with_last t r = record r { last_table = t }
 -- a table that was made is the last one
 abbrev pub ranges_after : CommandEnd → LastTable → DeskRanges → DeskRanges
 ranges_after Finished t r = with_last t r
-ranges_after Quits t r = r
-ranges_after (Refused e) t r = r
+ranges_after _ t r = r
 
 -- a table that was made on a desk is kept there
 abbrev pub keeping : LastTable → DeskActed → DeskActed

@@ -1,12 +1,12 @@
 -- What Combine makes of a sheet: cells of a file are written from the pointer on.
-use Rattle.std.specs.Prelude.{◌+◌, ℤ, ◌+ℤ◌, ◌-ℤ◌, pos, Bool, true, false, not, ◌&&◌, nat_lt, List, [], ◌∷◌, flat_map, Option, None, Some, is_some, if◌then◌else◌}
+use Rattle.std.specs.Prelude.{◌+◌, ℤ, ◌+ℤ◌, ◌-ℤ◌, pos, Bool, true, false, not, ◌&&◌, nat_lt, List, [], ◌∷◌, flat_map, Option, None, Some, is_some, if◌then◌else◌, unwrap_or}
 use Rattle.std.specs.FinMap as map
 use Rattle.std.specs.List.{list_any}
 use Rattle.block_writes.specs.Writing.{as_content, written}
 use Rattle.command_desk.specs.Acting as acting
 use Rattle.command_desk.specs.Acting.{refused, Acted}
 use Rattle.commands_file.specs.declared.combining.Combining.{Combining}
-use Rattle.commands_file.specs.declared.combining.Combining.TheVariants.{Copy, Add, Subtract}
+use Rattle.commands_file.specs.declared.combining.Combining.TheVariants.{Copy, Subtract}
 use Rattle.desk_errors.specs.declared.error.CommandError.TheVariants as error
 use Rattle.fixed_value.specs.Numbers.{within}
 use Rattle.formula_eval.specs.declared.look.Scene.{Scene}
@@ -35,8 +35,7 @@ is_number v = false
 -- whether a file's cell is taken: all that are filled, or those whose value is a number
 abbrev pub is_taken : Combining → CellState → Bool
 is_taken Copy s = not (is_blank s.content)
-is_taken Add s = is_number s.value
-is_taken Subtract s = is_number s.value
+is_taken _ s = is_number s.value
 
 -- as far from the pointer as a cell is from A1
 abbrev pub from_pointer : Place → Place → Place
@@ -56,8 +55,7 @@ leaves_sheet k pointer e = is_taken k e.1 && not (is_some (placed pointer e.0))
 abbrev pub number_in : Content → Option ℤ
 number_in content.Blank = Some (pos 0)
 number_in (content.Number x) = Some x
-number_in (content.Label p t) = None
-number_in (content.Formula f) = None
+number_in _ = None
 
 -- the number that a cell holds
 abbrev pub number_held : Option CellState → Option ℤ
@@ -97,14 +95,10 @@ write_of k g pointer e = if is_taken k e.1 then write_placed k g (placed pointer
 abbrev pub combined_writes : Combining → Grid → Grid → Place → List Write
 combined_writes k file g pointer = flat_map (write_of k g pointer) (map.entries file.cells)
 
--- the last corner of a span from A1 on; A1 where there is none
-abbrev pub corner_or : Option Place → Place
-corner_or None = record { row = 0; col = 0 }
-corner_or (Some p) = p
-
--- from A1 to the last used column and row
+-- from A1 to the last used column and row; A1 alone where no cell is used
 abbrev pub used_span : Grid → Extent
-used_span g = record { first = record { row = 0; col = 0 }; last = corner_or (last_used g) }
+used_span g =
+    record { first = record { row = 0; col = 0 }; last = unwrap_or (last_used g) (record { row = 0; col = 0 }) }
 
 -- writes are made, where no protected cell refuses it
 abbrev pub made : List Write → Scene → Sheet → Acted

@@ -53,12 +53,11 @@ act print.Go answers scene d reply = printed d.print.range scene d reply
 act print.Header answers scene d reply = without_call (kept (with_text Header (line_at answers 0)) d)
 act print.Footer answers scene d reply = without_call (kept (with_text Footer (line_at answers 0)) d)
 act print.PageLength answers scene d reply = without_call (number_kept Length answers d)
-act print.LeaveOptions answers scene d reply = without_call (left d)
 act print.MarginLeft answers scene d reply = without_call (number_kept Left answers d)
 act print.MarginRight answers scene d reply = without_call (number_kept Right answers d)
 act print.MarginTop answers scene d reply = without_call (number_kept Top answers d)
 act print.MarginBottom answers scene d reply = without_call (number_kept Bottom answers d)
-act print.LeaveMargins answers scene d reply = without_call (left d)
+act _ answers scene d reply = without_call (left d)
 
 -- The file that is kept for reports holds the report of the range, where the shelf tells its files.
 abbrev pub HoldsReport : Scene → Desk → Option OnShelf → Type 0

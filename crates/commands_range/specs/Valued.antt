@@ -2,13 +2,13 @@
 use Rattle.std.specs.Prelude.{ℕ, ◌+◌, ◌-◌, List, map, Option, None, Some}
 use Rattle.block_writes.specs.Writing.{at, value_copied}
 use Rattle.command_desk.specs.Acting.{refused, written, Acted}
+use Rattle.command_desk.specs.Writing.{sight_in}
 use Rattle.commands_range.specs.declared.values.Layout.{Layout}
 use Rattle.commands_range.specs.declared.values.Layout.TheVariants as layout
 use Rattle.desk_errors.specs.declared.error.CommandError.TheVariants as error
 use Rattle.formula_eval.specs.Outlook.{cells_of, Sight}
 use Rattle.formula_eval.specs.declared.look.Scene.{Scene}
 use Rattle.grid_address.specs.Place.{height_of, width_of, Extent, Place}
-use Rattle.natural_recalc.specs.Context.{sight_of}
 use Rattle.sheet_edits.specs.Spans.{block_at}
 use Rattle.sheet_store.specs.declared.writes.Write.{Write}
 use Rattle.work_sheet.specs.Editing.{all_written}
@@ -48,10 +48,6 @@ value_of l from target sight c = value_copied sight (source_of l from target c) 
 -- what is written into the span, in row order; all of it is read before
 abbrev pub values_of : Layout → Extent → Extent → Sight → List Write
 values_of l from target sight = map (value_of l from target sight) (cells_of target)
-
--- what a sheet tells
-abbrev pub sight_in : Sheet → Sight
-sight_in s = sight_of s.names s.settings s.grid
 
 -- the values are written into the span
 abbrev pub valued_into : Layout → Extent → Extent → Scene → Sheet → Acted

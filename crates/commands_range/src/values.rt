@@ -1,7 +1,8 @@
 // The values of a span as the contents of others.
 ghost use Rattle.std.specs.Prelude.{◌≡◌, ◌≤◌, ◌<◌, ◌+◌, ◌++◌, ◌∷◌, [], IfOk, IfSome, OnOk, map};
 ghost use Rattle.commands_range.specs.Commands.{valued};
-ghost use Rattle.commands_range.specs.Valued.{cols_in, inside, rows_in, sight_in, source_at, target_of};
+ghost use Rattle.command_desk.specs.Writing.{sight_in};
+ghost use Rattle.commands_range.specs.Valued.{cols_in, inside, rows_in, source_at, target_of};
 ghost use Rattle.commands_range.specs.Valued.{value_of, valued_from, valued_into, values_of};
 ghost use Rattle.commands_range.specs.Works.{HasActedOn};
 ghost use Rattle.formula_eval.specs.Outlook.{row_cells};

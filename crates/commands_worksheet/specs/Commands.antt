@@ -39,18 +39,18 @@ changed_by (Err e) change = Err e
 abbrev pub numbered : WorksheetAction → List (List ℕ) → (ℕ → Choices) → Result Choices CommandError
 numbered a answers change = changed_by (whole_at (action.Worksheet a) answers 0) change
 
+-- the settings once the decimals of the sheet's format are given
+abbrev pub with_decimals : WorksheetAction → List (List ℕ) → (ℕ → FormatChoice) → Choices → Result Choices CommandError
+with_decimals a answers f s = numbered a answers (λ n. with_format (f n) s)
+
 -- the settings after a command that changes nothing else; any other command leaves them
 abbrev pub settings_after : WorksheetAction → List (List ℕ) → Choices → Result Choices CommandError
 settings_after worksheet.GlobalWidth answers s = numbered worksheet.GlobalWidth answers (λ n. record s { width = n })
-settings_after worksheet.GlobalFixed answers s =
-    numbered worksheet.GlobalFixed answers (λ n. with_format (choice.Fixed n) s)
-settings_after worksheet.GlobalCurrency answers s =
-    numbered worksheet.GlobalCurrency answers (λ n. with_format (choice.Currency n) s)
-settings_after worksheet.GlobalComma answers s =
-    numbered worksheet.GlobalComma answers (λ n. with_format (choice.Comma n) s)
+settings_after worksheet.GlobalFixed answers s = with_decimals worksheet.GlobalFixed answers choice.Fixed s
+settings_after worksheet.GlobalCurrency answers s = with_decimals worksheet.GlobalCurrency answers choice.Currency s
+settings_after worksheet.GlobalComma answers s = with_decimals worksheet.GlobalComma answers choice.Comma s
 settings_after worksheet.GlobalGeneral answers s = Ok (with_format choice.General s)
-settings_after worksheet.GlobalPercent answers s =
-    numbered worksheet.GlobalPercent answers (λ n. with_format (choice.Percent n) s)
+settings_after worksheet.GlobalPercent answers s = with_decimals worksheet.GlobalPercent answers choice.Percent s
 settings_after worksheet.GlobalText answers s = Ok (with_format choice.Text s)
 settings_after worksheet.GlobalHidden answers s = Ok (with_format choice.Hidden s)
 settings_after worksheet.GlobalDate1 answers s = Ok (with_format choice.Date1 s)

@@ -30,8 +30,7 @@ put_away a r = by_call (puts a.name a.bytes) r None (Some a)
 -- a file that was opened to be read is let go
 abbrev pub finished_by : Access → Attached → Reply → Attaching
 finished_by Read a reply = without_call true None
-finished_by Write a reply = put_away a reply
-finished_by Modify a reply = put_away a reply
+finished_by _ a reply = put_away a reply
 
 -- a file is finished; nothing is done where none is attached
 abbrev pub finished : Option Attached → Reply → Attaching

@@ -5,7 +5,8 @@ use Rattle.natural_recalc.specs.inner.Laws.{Ascends}
 use Rattle.command_desk.proofs.Edited.{if_ok, edit_acted}
 use Rattle.command_desk.specs.Acting.{written, HasActed}
 use Rattle.commands_range.proofs.Valued.{written_are}
-use Rattle.commands_range.specs.Valued.{sight_in, values_of}
+use Rattle.command_desk.specs.Writing.{sight_in}
+use Rattle.commands_range.specs.Valued.{values_of}
 use Rattle.grid_address.specs.Place.{same_place, Place}
 use Rattle.cell_numbers.specs.Sets.{has}
 use Rattle.sheet_edits.specs.Spans.{written_cells}

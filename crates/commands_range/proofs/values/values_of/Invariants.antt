@@ -1,5 +1,6 @@
 use Rattle.std.specs.Prelude.{◌≡◌, map}
-use Rattle.commands_range.specs.Valued.{sight_in, value_of}
+use Rattle.command_desk.specs.Writing.{sight_in}
+use Rattle.commands_range.specs.Valued.{value_of}
 use Rattle.formula_eval.specs.Outlook.{block_cells}
 use Rattle.grid_address.specs.Place.{height_of, width_of}
 use Rattle.work_sheet.specs.Seen.{of_worksheet}
