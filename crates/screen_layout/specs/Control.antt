@@ -69,13 +69,8 @@ typed_line p = drop (length (with_space p.prompt) + p.cursor - LAST_COLUMN) (wit
 
 -- a menu stands in the panel's second and third line
 abbrev pub is_menu : Mode → Bool
-is_menu Ready = false
-is_menu Label = false
-is_menu Value = false
-is_menu Edit = false
-is_menu Point = false
 is_menu Menu = true
-is_menu Error = false
+is_menu _ = false
 
 -- the menu's items, or the line that is typed
 abbrev pub entry_line : Panel → List ℕ

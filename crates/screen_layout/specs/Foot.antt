@@ -1,12 +1,12 @@
 -- The last line: the moment or a message, and the indicators.
-use Rattle.std.specs.Prelude.{ℕ, ◌*◌, ◌/◌, ◌%◌, pos, Bool, true, false, not, ◌&&◌, List, [], ◌∷◌, ◌++◌, take, Option, Some, None, codes}
+use Rattle.std.specs.Prelude.{ℕ, ◌*◌, ◌/◌, ◌%◌, pos, Bool, true, false, not, ◌&&◌, List, [], ◌++◌, take, Option, Some, None, codes}
 use Rattle.cell_format.specs.Numbers.{shown_number, two_digits}
 use Rattle.grid_address.specs.Formats.{date_format}
 use Rattle.screen_layout.specs.Lines.{filled}
 use Rattle.screen_layout.specs.Places.{CALC_COLUMN, CIRC_COLUMN, CMD_COLUMN, END_COLUMN}
 use Rattle.work_sheet.specs.Seen.{Sheet}
 use Rattle.control_panel.specs.declared.panel.Mode.{Mode}
-use Rattle.control_panel.specs.declared.panel.Mode.TheVariants.{Ready, Label, Value, Edit, Point, Menu, Error}
+use Rattle.control_panel.specs.declared.panel.Mode.TheVariants.{Error}
 use Rattle.control_panel.specs.declared.panel.Panel.{Panel}
 
 -- the day, the hour and the minute, as 01-Jun-87 14:05; nothing where the clock has no day
@@ -18,13 +18,8 @@ moment_text (Some day) second =
 
 -- in ERROR the message
 abbrev pub first_part : Mode → List ℕ → Option ℕ → ℕ → List ℕ
-first_part Ready message day second = moment_text day second
-first_part Label message day second = moment_text day second
-first_part Value message day second = moment_text day second
-first_part Edit message day second = moment_text day second
-first_part Point message day second = moment_text day second
-first_part Menu message day second = moment_text day second
 first_part Error message day second = message
+first_part _ message day second = moment_text day second
 
 -- a word from a column on, where it is to be told
 abbrev pub marked : Bool → ℕ → List ℕ → List ℕ → List ℕ

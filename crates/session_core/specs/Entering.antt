@@ -18,14 +18,12 @@ use Rattle.work_sheet.specs.Seen.{Sheet}
 -- the place of a fault; the end where the text ends too early or is too long
 abbrev pub fault_place : ParseFault → List ℕ → ℕ
 fault_place (parse.Unexpected at) line = at
-fault_place parse.Ended line = length line
 fault_place (parse.UnknownFunction at) line = at
 fault_place (parse.FunctionOutside at) line = at
 fault_place (parse.ArgCount at) line = at
 fault_place (parse.BadNumber at) line = at
 fault_place (parse.UnknownName at) line = at
-fault_place parse.TooLong line = length line
-fault_place parse.Memory line = length line
+fault_place _ line = length line
 
 -- a formula, or the place of the fault
 abbrev pub formula_meant : Result Tree ParseFault → List ℕ → Meant

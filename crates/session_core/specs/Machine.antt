@@ -1,6 +1,7 @@
 -- The session as a machine over one map of cells, in which every formula is evaluated at each recalculation.
-use Rattle.std.specs.Prelude.{◌≡◌, ℕ, Bool, true, false, is_some, not, ◌||◌, Option, None, Some, List, [], ◌++◌}
-use Rattle.command_desk.specs.Desks.{fresh_desk, on_sheet, Desk}
+use Rattle.std.specs.Prelude.{◌≡◌, ℕ, Bool, false, is_some, not, ◌||◌, Option, None, List, [], ◌++◌}
+use Rattle.cell_pointer.specs.Moves.{home}
+use Rattle.command_desk.specs.Desks.{on_sheet, Desk}
 use Rattle.commands_file.specs.Calls.{Asked, HaveAnswered, Reply, ShelfView}
 use Rattle.formula_eval.specs.declared.look.Scene.{Scene}
 use Rattle.grid_address.specs.Place.{Place}
@@ -50,10 +51,6 @@ pub record SessionView : Type 0 where
   pub work : Work
   pub spent : Bool
 
--- the cell A1
-abbrev pub home : Place
-home = record { row = 0; col = 0 }
-
 -- nothing stands still
 abbrev pub unfrozen : FrozenAreas
 unfrozen = record { panel = None; windows = None }
@@ -73,10 +70,6 @@ begun_with d = record {
   day = None;
   second = 0;
 }
-
--- the state of a fresh session
-abbrev pub start : State
-start = begun_with fresh_desk
 
 -- a session that begins with a desk, and with the work that was done on it
 abbrev pub begun : Desk → Work → SessionView

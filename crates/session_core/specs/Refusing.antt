@@ -19,12 +19,9 @@ unless false b = refusal.Nothing
 
 -- what is refused of a letter: it takes no item of a menu or of a choice
 abbrev pub letter_refused : ℕ → Room → Refusal
-letter_refused b room.Ready = refusal.Nothing
-letter_refused b (room.Typing r) = refusal.Nothing
-letter_refused b (room.Pointing r) = refusal.Nothing
 letter_refused b (room.Menu r) = unless (menu.lacks_item b r) b
 letter_refused b (room.Asking r) = unless (prompt.lacks_item b r) b
-letter_refused b (room.Failed message) = refusal.Nothing
+letter_refused b _ = refusal.Nothing
 
 -- what is refused of a key that is typed in a room
 abbrev pub key_refused : Key → Room → Refusal
@@ -51,16 +48,12 @@ told_beside (refusal.Letter b) line = Some (letter_told b)
 
 -- a refusal where no line is typed
 abbrev pub told_alone : Refusal → Option (List ℕ)
-told_alone refusal.Nothing = None
-told_alone refusal.Line = None
 told_alone (refusal.Letter b) = Some (letter_told b)
+told_alone _ = None
 
 -- What a step refused, by what the session does behind it: in ERROR the message that is told, the finished line that
 -- has a fault, or the letter that takes no item; none where it refused nothing.
 abbrev pub told_by : Refusal → Room → Option (List ℕ)
 told_by x (room.Failed message) = Some message
 told_by x (room.Typing r) = told_beside x r.line
-told_by x room.Ready = told_alone x
-told_by x (room.Pointing r) = told_alone x
-told_by x (room.Menu r) = told_alone x
-told_by x (room.Asking r) = told_alone x
+told_by x _ = told_alone x

@@ -16,11 +16,7 @@ refused s = told_by s.refusal s.room
 -- READY
 abbrev pub is_ready : Room → Bool
 is_ready room.Ready = true
-is_ready (room.Typing r) = false
-is_ready (room.Pointing r) = false
-is_ready (room.Menu r) = false
-is_ready (room.Asking r) = false
-is_ready (room.Failed message) = false
+is_ready _ = false
 
 -- nothing is left undone: the session is in READY, and no macro is at work
 abbrev pub is_at_rest : State → Bool

@@ -1,10 +1,10 @@
 -- What is shown of a macro that waits.
-use Rattle.std.specs.Prelude.{ℕ, ◌+◌, nat_lt, Bool, true, false, List, [], map, take, Option, None, Some, if◌then◌else◌}
+use Rattle.std.specs.Prelude.{ℕ, ◌+◌, nat_lt, Bool, true, false, List, [], map, take, Option, None, Some, if◌then◌else◌, unwrap_or}
 use Rattle.std.specs.List.{range_with_len}
+use Rattle.command_desk.specs.Writing.{sight_in}
 use Rattle.control_panel.specs.Panels.{line_panel, plain_panel}
 use Rattle.control_panel.specs.declared.panel.Mode.TheVariants as mode
 use Rattle.control_panel.specs.declared.panel.Panel.{Panel}
-use Rattle.formula_eval.specs.Outlook.{Sight}
 use Rattle.grid_address.specs.Place.{Place}
 use Rattle.grid_address.specs.Limits.{ROWS}
 use Rattle.lics_text.specs.Limits.{MAX_LEN}
@@ -16,21 +16,11 @@ use Rattle.macro_words.specs.declared.waiting.Question.{Question}
 use Rattle.macro_words.specs.declared.waiting.Waiting.{Waiting}
 use Rattle.macro_words.specs.declared.waiting.Waiting.TheVariants as waiting
 use Rattle.menu_room.specs.Ring.{items_line}
-use Rattle.natural_recalc.specs.Context.{sight_of}
 use Rattle.work_sheet.specs.Seen.{Sheet}
-
--- what is seen of a sheet
-abbrev pub seen : Sheet → Sight
-seen s = sight_of s.names s.settings s.grid
-
--- a text, or nothing
-abbrev pub text_or_nothing : Option (List ℕ) → List ℕ
-text_or_nothing None = []
-text_or_nothing (Some text) = text
 
 -- the text of an item of a menu; nothing where none stands there
 abbrev pub item_of : Sheet → MacroMenu → ℕ → List ℕ
-item_of s m n = text_or_nothing (item_text (seen s) m.first n)
+item_of s m n = unwrap_or (item_text (sight_in s) m.first n) []
 
 -- the texts of a menu's items
 abbrev pub items_of : Sheet → MacroMenu → List (List ℕ)
@@ -39,7 +29,7 @@ items_of s m = map (item_of s m) (range_with_len 0 m.count)
 -- the text of the cell below one; below the last row there is none
 abbrev pub text_below : Sheet → Place → List ℕ
 text_below s c =
-    if nat_lt (c.row + 1) ROWS then text_or_nothing (macro_text (seen s) (record { row = c.row + 1; col = c.col }))
+    if nat_lt (c.row + 1) ROWS then unwrap_or (macro_text (sight_in s) (record { row = c.row + 1; col = c.col })) []
     else []
 
 -- a menu: its items, of which the highlighted one is marked, and the text below that
@@ -55,12 +45,9 @@ question_panel q = line_panel mode.Edit q.prompt q.line.text q.line.cursor
 
 -- what is shown of what a macro waits for, or else what the session shows
 abbrev pub panel_by : Sheet → Waiting → Panel → Panel
-panel_by s waiting.Nothing p = p
-panel_by s (waiting.Time n) p = p
-panel_by s (waiting.OneKey c) p = p
 panel_by s (waiting.Line q) p = question_panel q
 panel_by s (waiting.Item m) p = menu_panel s m
-panel_by s waiting.Enter p = p
+panel_by s _ p = p
 
 -- what is shown of a macro that waits, or else what the session shows
 abbrev pub waiting_panel : Sheet → Option Running → Panel → Panel
