@@ -15,7 +15,7 @@ use Rattle.sheet_store.specs.Grid.{Grid}
 use Rattle.work_sheet.specs.Sheets.{value_told}
 use Rattle.work_sheet.specs.Work.{Work}
 use Rattle.sheet_run.specs.declared.drive.Ending.{Ending}
-use Rattle.sheet_run.specs.declared.drive.Ending.TheVariants.{KeysEnded, Undone, Quit, Refused, BadWord, KeysFailed, Stopped, NoMemory}
+use Rattle.sheet_run.specs.declared.drive.Ending.TheVariants.{Undone, Refused, BadWord, KeysFailed, Stopped, NoMemory}
 use Rattle.sheet_run.specs.declared.opening.NotRead.{NotRead}
 use Rattle.sheet_run.specs.declared.opening.NotRead.TheVariants.{NoSuchFile, Faulty, DiskError}
 use Rattle.sheet_run.specs.declared.options.Options.{Options}
@@ -77,9 +77,8 @@ file_note name why = note (name ++ codes ": " ++ reason why)
 
 -- the status where the start file isn't read
 abbrev pub file_status : NotRead → ℕ
-file_status NoSuchFile = 2
-file_status (Faulty f) = 2
 file_status DiskError = 6
+file_status _ = 2
 
 -- how many formulas were evaluated, where the words ask for it
 abbrev pub count_of : Options → Work → Option ℕ
@@ -92,12 +91,11 @@ count_note (Some n) = note (codes "evaluations " ++ decimal n)
 
 -- a value as a note tells it: a number with the places that it needs, a text as its bytes
 abbrev pub told_value : Option Value → List ℕ
-told_value None = []
-told_value (Some value.Blank) = []
 told_value (Some (value.Num n)) = short n 6
 told_value (Some (value.Str text)) = text
 told_value (Some value.Err) = codes "ERR"
 told_value (Some value.Na) = codes "NA"
+told_value _ = []
 
 -- the cell with the sum of all rows of a generated sheet
 abbrev pub sum_cell : ℕ → Place
@@ -122,8 +120,7 @@ generated_notes rows g = row_count_note rows ++ sum_note rows g
 -- they are told where the sheet was generated
 abbrev pub rows_notes : Start → State → List ℕ
 rows_notes (given.Rows rows) s = generated_notes rows (sheet_of s).grid
-rows_notes given.Fresh s = []
-rows_notes (given.File name) s = []
+rows_notes _ s = []
 
 -- the notes on the session, for which the words ask: those on a generated sheet, and the count of evaluations
 abbrev pub session_notes : Options → State → Work → List ℕ
@@ -143,36 +140,28 @@ stop_note count at why = note (codes "step " ++ decimal count ++ codes " at byte
 
 -- The note of an ending that leaves a session in this state; the flag says whether a display failed.
 abbrev pub ending_note : ℕ → State → Bool → Ending → List ℕ
-ending_note limit s moved KeysEnded = display_note moved
 ending_note limit s moved (Undone count at) = stop_note count at (codes "ended in " ++ left_in s)
-ending_note limit s moved Quit = display_note moved
 ending_note limit s moved (Refused count at) = stop_note count at (unwrap_or (refused s) [])
 ending_note limit s moved (BadWord at) = note (codes "bad key word at byte " ++ decimal at)
 ending_note limit s moved KeysFailed = note (codes "keys failed")
 ending_note limit s moved Stopped = note (codes "stopped after " ++ decimal limit ++ codes " steps")
 ending_note limit s moved NoMemory = memory_note
+ending_note limit s moved _ = display_note moved
 
 -- the status of an ending; the flag says whether a display failed
 abbrev pub ending_status : Bool → Ending → ℕ
-ending_status moved KeysEnded = display_status moved
 ending_status moved (Undone count at) = 10
-ending_status moved Quit = display_status moved
 ending_status moved (Refused count at) = 10
 ending_status moved (BadWord at) = 4
 ending_status moved KeysFailed = 5
 ending_status moved Stopped = 3
 ending_status moved NoMemory = 9
+ending_status moved _ = display_status moved
 
 -- an ending that leaves a session that goes on
 abbrev pub LeavesSession : Ending → Type 0
-LeavesSession KeysEnded = Unit {0}
-LeavesSession (Undone count at) = Unit {0}
-LeavesSession Quit = Unit {0}
-LeavesSession (Refused count at) = Unit {0}
-LeavesSession (BadWord at) = Unit {0}
-LeavesSession KeysFailed = Unit {0}
-LeavesSession Stopped = Unit {0}
 LeavesSession NoMemory = ⊥
+LeavesSession _ = Unit {0}
 
 -- where the notes tell their bytes, this text was added
 abbrev pub AddsText : List ℕ → Option (List ℕ) → Option (List ℕ) → Type 0

@@ -58,9 +58,8 @@ asked_for name reply = record { call = gets name; reply = reply } ∷ []
 
 -- the calls of the shelf, with their answers: a start file is asked for once, and its sheet is the answer
 abbrev pub calls_from : StartSheet → List Asked
-calls_from fresh = []
 calls_from (of_file name saved) = asked_for name (loaded_as (Some (Ok saved)))
-calls_from (of_rows rows saved) = []
+calls_from _ = []
 
 -- What a run begins with: the sheet is recalculated in both modes, at the first reading of the clock.
 abbrev pub opening : StartSheet → Moment → Outcome
@@ -80,11 +79,10 @@ answer_of DiskError = failed
 -- Memory ran out before the sheet was there. The shelf was not asked, or it gave the bytes of the start file; no file
 -- is changed.
 abbrev pub BreaksOff : Start → ShelfView → ShelfView → Type 0
-BreaksOff given.Fresh before now = now ≡ before
 BreaksOff (given.File name) before now = (now ≡ before)
     ⊎ ((bytes : List ℕ) × HasRead (file_in name) name before.told now.told (Ok (Some bytes))
     × (now.faults ≡ before.faults))
-BreaksOff (given.Rows rows) before now = now ≡ before
+BreaksOff _ before now = now ≡ before
 
 -- a desk was made, with the sheet that the words ask for, for which the shelf was asked so
 pub record HasBegun (asked : Start) (desk : declared.Desk) (before now : ShelfView) : Type 0 where

@@ -65,45 +65,28 @@ option_text Steps = codes "--steps"
 option_text Show = codes "--show"
 option_text Gen = codes "--gen"
 
--- a file's name takes its place, and a value that is none is refused
-abbrev pub file_taken : Options → Option (List ℕ) → List ℕ → Result Options (List ℕ)
-file_taken o None value = Err value
-file_taken o (Some name) value = Ok (record o { start = given.File name })
+-- what a value spells takes its place, and a value that spells nothing is refused
+abbrev pub unless_refused : {A : Type 0} → List ℕ → Option A → (A → Options) → Result Options (List ℕ)
+unless_refused value None change = Err value
+unless_refused value (Some a) change = Ok (change a)
 
--- a number of rows takes its place, and a value that is none is refused
-abbrev pub rows_taken : Options → Option ℕ → List ℕ → Result Options (List ℕ)
-rows_taken o None value = Err value
-rows_taken o (Some rows) value = Ok (record o { start = given.Rows rows })
-
--- a limit takes its place, and a value that is none is refused
-abbrev pub steps_taken : Options → Option ℕ → List ℕ → Result Options (List ℕ)
-steps_taken o None value = Err value
-steps_taken o (Some n) value = Ok (record o { steps = Some n })
-
--- a kind takes its place, and a value that names none is refused
-abbrev pub show_taken : Options → Option DisplayKind → List ℕ → Result Options (List ℕ)
-show_taken o None value = Err value
-show_taken o (Some kind) value = Ok (record o { show = Some kind })
-
--- a value takes its option's place, or is refused alone
+-- a value takes its option's place: a file's name, a limit, a kind of display, or a number of rows
 abbrev pub on_value : Options → Wanted → List ℕ → Result Options (List ℕ)
-on_value o File value = file_taken o (file_of value) value
-on_value o Steps value = steps_taken o (steps_of value) value
-on_value o Show value = show_taken o (kind_of value) value
-on_value o Gen value = rows_taken o (rows_of value) value
+on_value o File value = unless_refused value (file_of value) (λ name. record o { start = given.File name })
+on_value o Steps value = unless_refused value (steps_of value) (λ n. record o { steps = Some n })
+on_value o Show value = unless_refused value (kind_of value) (λ kind. record o { show = Some kind })
+on_value o Gen value = unless_refused value (rows_of value) (λ rows. record o { start = given.Rows rows })
 
 -- the words name what the run begins with
 abbrev pub is_named : Start → Bool
 is_named given.Fresh = false
-is_named (given.File name) = true
-is_named (given.Rows rows) = true
+is_named _ = true
 
 -- the option was given before, or one that excludes it: a start file and a sheet that is made exclude each other
 abbrev pub is_given : Options → Wanted → Bool
-is_given o File = is_named o.start
 is_given o Steps = is_some o.steps
 is_given o Show = is_some o.show
-is_given o Gen = is_named o.start
+is_given o _ = is_named o.start
 
 -- no value is wanted behind the word
 abbrev pub complete : Result Options (List ℕ) → Result (Options × Option Wanted) (List ℕ)
