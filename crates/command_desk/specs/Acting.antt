@@ -106,11 +106,8 @@ pub record DeskActed : Type 0 where
 
 -- a command that works on the worksheet alone
 abbrev pub on_desk : (Sheet → Acted) → Desk → DeskActed
-on_desk act d = record {
-  end = (act d.sheet).end;
-  desk = on_sheet d (act d.sheet).done.sheet;
-  log = (act d.sheet).done.log;
-}
+on_desk act d =
+    record { end = (act d.sheet).end; desk = on_sheet d (act d.sheet).done.sheet; log = (act d.sheet).done.log }
 
 -- A command that came to this end made of a desk another, and of a count of evaluations another.
 pub record HasActedOn (a : DeskActed) (came : CommandEnd) (v w : declared.Desk) (m n : ℕ) : Type 0 where

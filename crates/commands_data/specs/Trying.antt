@@ -69,5 +69,4 @@ table_one scene span input s = tabled scene (input ∷ []) (scenarios_one span i
 
 -- table 2 over a span
 abbrev pub table_two : Scene → Extent → Place → Place → Sheet → Done
-table_two scene span down across s =
-    tabled scene (down ∷ across ∷ []) (scenarios_two span down across (value_in s)) s
+table_two scene span down across s = tabled scene (down ∷ across ∷ []) (scenarios_two span down across (value_in s)) s

@@ -128,8 +128,7 @@ module _ (answers : List (List ℕ)) (scene : Scene) (s : Sheet) where
 
   -- a span is moved to a cell
   abbrev pub moved : Acted
-  moved = with_span answers s 0 (λ from.
-      given (cell_at s.names answers 1) (λ to. moved_by (Block from to) scene s) s)
+  moved = with_span answers s 0 (λ from. given (cell_at s.names answers 1) (λ to. moved_by (Block from to) scene s) s)
 
   -- the values of a span are written, laid out from a cell on
   abbrev pub valued : Layout → Acted

@@ -56,5 +56,4 @@ then_by (Some done) first next = record next { calls = first.calls ++ next.calls
 
 -- What is attached is finished first, by the shelf's first answer, and then a file is attached, by its second.
 abbrev pub attaching : List ℕ → Access → Option Attached → Reply → Reply → Attaching
-attaching name access c first second =
-    then_by (finished c first).done (finished c first) (taken name access second)
+attaching name access c first second = then_by (finished c first).done (finished c first) (taken name access second)

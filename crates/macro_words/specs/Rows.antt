@@ -368,8 +368,7 @@ kept_or_read w at args None = number_of w at.cell (arg args 0)
 
 -- the macro stays at the word while @NOW is below the number, and then goes on behind it
 abbrev pub pauses : Outlook → Running → Spot → ℤ → Row
-pauses w r at n =
-    moves (if is_before (now_value w.day w.second) n then move.Pause at n else move.Go r.position.spot)
+pauses w r at n = moves (if is_before (now_value w.day w.second) n then move.Pause at n else move.Go r.position.spot)
 
 -- WAIT
 abbrev pub wait_row : Outlook → Running → Spot → List (List ℕ) → Row

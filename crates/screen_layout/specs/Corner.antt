@@ -30,7 +30,5 @@ first_column s first pointer =
 
 -- the cell at the top left, by the one before
 abbrev pub corner_for : Sheet → Place → Place
-corner_for s corner = record {
-  row = first_row corner.row s.settings.pointer.row;
-  col = first_column s corner.col s.settings.pointer.col;
-}
+corner_for s corner =
+    record { row = first_row corner.row s.settings.pointer.row; col = first_column s corner.col s.settings.pointer.col }

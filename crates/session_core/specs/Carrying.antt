@@ -117,8 +117,7 @@ left_by (Refused e) a scene s = failed e scene s
 
 -- the desk that a command leaves, what happened in its worksheet, and the calls that it made
 abbrev pub done_by : FileActed → State → Outcome
-done_by d s =
-    record { state = record s { desk = d.acted.desk }; log = d.acted.log; ends = false; calls = d.calls }
+done_by d s = record { state = record s { desk = d.acted.desk }; log = d.acted.log; ends = false; calls = d.calls }
 
 -- the session goes on as the command ended, over the desk that it leaves
 abbrev pub behind : FileActed → Action → Scene → State → Outcome

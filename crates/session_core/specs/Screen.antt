@@ -14,11 +14,7 @@ shown_panel s = waiting_panel (sheet_of s) s.running (room_panel s.room)
 
 -- the same with END's mark, whether a macro runs, and the text in the mode's place
 abbrev pub panel_of : State → Panel
-panel_of s = record (shown_panel s) {
-  end = s.end;
-  running = is_running s;
-  indicate = s.indicate;
-}
+panel_of s = record (shown_panel s) { end = s.end; running = is_running s; indicate = s.indicate }
 
 -- the screen as it is painted from nothing
 abbrev pub painted_screen : State → List (List ℕ)

@@ -42,8 +42,7 @@ steps_of v = if is_number v && nat_le (number_of v) 10000000 then Some (number_o
 
 -- how many rows are to be made, 1 to 8000
 unfoldable pub rows_of : List ℕ → Option ℕ
-rows_of v =
-    if is_number v && nat_le 1 (number_of v) && nat_le (number_of v) 8000 then Some (number_of v) else None
+rows_of v = if is_number v && nat_le 1 (number_of v) && nat_le (number_of v) 8000 then Some (number_of v) else None
 
 -- the kind of display that a word names
 abbrev pub kind_of : List ℕ → Option DisplayKind
@@ -112,8 +111,7 @@ option_joined w = if has_front w (codes "--file=") then Some (File, 7)
 -- an option that was not given before takes its value, which begins there
 abbrev pub joined : Options → List ℕ → Option (Wanted × ℕ) → Result (Options × Option Wanted) (List ℕ)
 joined o w None = Err w
-joined o w (Some (wanted, from)) =
-    if is_given o wanted then Err w else complete (on_value o wanted (drop from w))
+joined o w (Some (wanted, from)) = if is_given o wanted then Err w else complete (on_value o wanted (drop from w))
 
 -- a word with its value behind `=`
 abbrev pub on_joined : Options → List ℕ → Result (Options × Option Wanted) (List ℕ)
