@@ -148,6 +148,16 @@ dirty_case true false o f = refl
 dirty_case false true o f = refl
 dirty_case false false o f = refl
 
+-- one more cell for which what is told of it is offered
+pub offers_more : (cells : List Place) (i : ℕ) (x : Place) → x ≡ get_or cells i x → i < length cells →
+    (told : Place → Option Node) (n m : Network) → ((c : Place) → same_place c x ≡ false → get m.offers c ≡ get n.offers c) →
+    get m.offers x ≡ told x → ((c : Place) → has same_place (take i cells) c ≡ true → get n.offers c ≡ told c) →
+    (c : Place) → has same_place (take (i + 1) cells) c ≡ true → get m.offers c ≡ told c
+offers_more cells i x is lt told n m others here done c t = elim (cases_Bool (same_place c x)) [
+  | inl e ↦ subst (λ y. get m.offers y ≡ told y) (sym (same_place_is c x e)) here
+  | inr f ↦ others c f ∙ done c (sym (seen_beside cells i x is lt c f) ∙ t)
+]
+
 -- one more cell that is settled
 module _ (cells : List Place) (i : ℕ) (x : Place) (is : x ≡ get_or cells i x) (lt : i < length cells) (g : Grid) (n m : Network)
     (here : get m.formulas x ≡ node_of (formula_at g x) x) (offer : (get m.offers x ≡ None) ⊎ (get m.offers x ≡ get n.offers x))
