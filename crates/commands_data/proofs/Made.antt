@@ -1,7 +1,7 @@
 -- An answer whose only fault is want of memory.
 use Rattle.std.specs.Prelude.{◌≡◌, IfErr, IfOk, List, Result, Ok, Err}
 use Rattle.std.proofs.Common.{ap, inl, sym}
-use Rattle.commands_data.specs.Made.{IsAnswer}
+use Rattle.commands_data.specs.inner.Made.{IsAnswer}
 use Rattle.sheet_store.specs.declared.writes.Write.{Write}
 
 -- its writes are told

@@ -1,5 +1,5 @@
 -- What a command writes, and its refusal.
-use Rattle.std.specs.Prelude.{◌≡◌, ◌⊎◌, List, Result, Ok, Err}
+use Rattle.std.specs.Prelude.{List, Result, Ok, Err}
 use Rattle.command_desk.specs.Acting.{refused, Acted}
 use Rattle.command_desk.specs.Writing.{all_made}
 pub use Rattle.commands_data.specs.TableCommands.{block_error}
@@ -22,8 +22,3 @@ query_error query.Memory = error.Memory
 abbrev pub made : {F : Type 0} → (F → CommandError) → Result (List Write) F → Scene → Sheet → Acted
 made error_of (Ok writes) scene s = all_made writes scene s
 made error_of (Err f) scene s = refused (error_of f) s
-
--- an answer is what is told, or want of memory
-abbrev pub IsAnswer : {F : Type 0} → F → Result (List Write) F → Result (List Write) F → Type 0
-IsAnswer memory told (Ok writes) = told ≡ Ok writes
-IsAnswer memory told (Err f) = (f ≡ memory) ⊎ (told ≡ Err f)

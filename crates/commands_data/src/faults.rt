@@ -1,7 +1,8 @@
 // What a command writes, and its refusal.
 ghost use Rattle.std.specs.Prelude.{◌≡◌, IfOk, List, OnOk, Result};
 ghost use Rattle.command_desk.specs.Acting.{HasActedBy};
-ghost use Rattle.commands_data.specs.Made.{block_error, made, query_error, IsAnswer};
+ghost use Rattle.commands_data.specs.Made.{block_error, made, query_error};
+ghost use Rattle.commands_data.specs.inner.Made.{IsAnswer};
 ghost use Rattle.sheet_store.specs.declared.writes.Write.{Write};
 
 use command_desk::{CommandEnd, make_writes, sheet_error};

@@ -2,7 +2,7 @@
 ghost use Rattle.std.specs.Prelude.{IfOk};
 ghost use Rattle.command_desk.specs.Acting.{HasActed};
 ghost use Rattle.commands_range.specs.Commands.{act, erased, erased_span};
-ghost use Rattle.commands_range.specs.Works.{HasActedOn};
+ghost use Rattle.commands_range.specs.inner.Works.{HasActedOn};
 ghost use Rattle.work_sheet.specs.Seen.{of_worksheet};
 
 use crate::formats::{decimals_of, formatted, marked};

@@ -2,7 +2,7 @@
 ghost use Rattle.std.specs.Prelude.{IfOk};
 ghost use Rattle.command_desk.specs.Acting.{HasActedBy};
 ghost use Rattle.commands_range.specs.Commands.{copied, copied_onto};
-ghost use Rattle.commands_range.specs.Works.{HasActedOn};
+ghost use Rattle.commands_range.specs.inner.Works.{HasActedOn};
 ghost use Rattle.sheet_edits.specs.Spans.{target_of};
 
 use crate::work::Work;

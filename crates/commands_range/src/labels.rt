@@ -2,7 +2,7 @@
 ghost use Rattle.std.specs.Prelude.{◌≡◌, ◌++◌, IfOk, OnOk, flat_map};
 ghost use Rattle.std.specs.FinMap as map;
 ghost use Rattle.commands_range.specs.Commands.{labelled, labelled_span, relabelled, relabelled_cell};
-ghost use Rattle.commands_range.specs.Works.{HasActedOn};
+ghost use Rattle.commands_range.specs.inner.Works.{HasActedOn};
 
 use crate::work::Work;
 use command_desk::{CommandEnd, settled, span_at};

@@ -2,7 +2,7 @@
 ghost use Rattle.std.specs.Prelude.{IfOk};
 ghost use Rattle.command_desk.specs.Acting.{moved_by, HasActedBy};
 ghost use Rattle.commands_range.specs.Commands.{moved};
-ghost use Rattle.commands_range.specs.Works.{HasActedOn};
+ghost use Rattle.commands_range.specs.inner.Works.{HasActedOn};
 ghost use Rattle.sheet_shifts.specs.declared.shift.Shift.TheVariants.{Block};
 
 use crate::work::Work;

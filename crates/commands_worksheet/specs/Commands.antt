@@ -1,5 +1,5 @@
 -- The commands below Worksheet.
-use Rattle.std.specs.Prelude.{ℕ, ◌≤◌, Bool, true, false, List, [], ◌∷◌, Option, None, Some, Result, Ok, Err}
+use Rattle.std.specs.Prelude.{ℕ, Bool, true, false, List, [], ◌∷◌, Option, None, Some, Result, Ok, Err}
 use Rattle.std.specs.List.{range_with_len}
 use Rattle.command_desk.specs.Acting.{edited, finished, given, moved_by, Acted}
 use Rattle.command_desk.specs.Answered.{span_at, whole_at}
@@ -21,7 +21,6 @@ use Rattle.sheet_shifts.specs.declared.shift.Shift.TheVariants.{Lines}
 use Rattle.sheet_store.specs.Choices.{Choices}
 use Rattle.sheet_store.specs.Grid.{set_hidden_of, Grid}
 use Rattle.sheet_store.specs.declared.order.Order.TheVariants as order
-use Rattle.sheet_store.specs.Limits.{MOST_WIDTH}
 use Rattle.work_sheet.specs.Doing.{quiet, Done}
 use Rattle.work_sheet.specs.Editing.{reordered, restored, with_settings, with_width}
 use Rattle.work_sheet.specs.Seen.{fresh_sheet, Sheet}
@@ -86,10 +85,6 @@ hidden_in hidden span s = quiet (record s { grid = all_hidden (columns_of span) 
 -- hiding, and showing
 abbrev pub hides : Bool → List (List ℕ) → Sheet → Acted
 hides hidden answers s = given (span_at s.names answers 0) (λ span. finished (hidden_in hidden span s)) s
-
--- a width of a column
-abbrev pub IsWidth : ℕ → Type 0
-IsWidth n = (1 ≤ n) × (n ≤ MOST_WIDTH)
 
 -- the pointer's column has a width of its own, or none
 abbrev pub widened : Option ℕ → Sheet → Acted

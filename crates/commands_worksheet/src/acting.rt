@@ -1,7 +1,7 @@
 // What each command below Worksheet does.
 ghost use Rattle.std.specs.Prelude.{IfOk};
 ghost use Rattle.command_desk.specs.Acting.{finished, HasActedBy};
-ghost use Rattle.commands_worksheet.specs.Acts.{HasOnlyActed};
+ghost use Rattle.commands_worksheet.specs.inner.Acts.{HasOnlyActed};
 ghost use Rattle.commands_worksheet.specs.Commands.{act, erased, sets};
 ghost use Rattle.work_sheet.specs.Editing.{reordered};
 

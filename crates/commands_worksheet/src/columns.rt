@@ -1,7 +1,8 @@
 // The commands on columns.
 ghost use Rattle.std.specs.Option.{ForSome};
-ghost use Rattle.commands_worksheet.specs.Acts.{HasOnlyActed};
-ghost use Rattle.commands_worksheet.specs.Commands.{hidden_in, hides, widened, widens, IsWidth};
+ghost use Rattle.commands_worksheet.specs.inner.Acts.{HasOnlyActed};
+ghost use Rattle.commands_worksheet.specs.Commands.{hidden_in, hides, widened, widens};
+ghost use Rattle.commands_worksheet.specs.inner.Widths.{IsWidth};
 ghost use Rattle.work_sheet.specs.Did.{DidEdit};
 
 use command_desk::{CommandEnd, span_at, whole_at};

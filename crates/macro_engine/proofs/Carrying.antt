@@ -22,7 +22,7 @@ use Rattle.work_sheet.specs.Did.{work_of, Did, DidEdit}
 use Rattle.work_sheet.specs.Doing.{and_then, quiet, settled, Done}
 use Rattle.work_sheet.specs.Seen.{of_worksheet, Sheet}
 use Rattle.work_sheet.specs.Sheets.{Worksheet}
-use Rattle.macro_engine.specs.Carried.{HasCarried, HasSettled}
+use Rattle.macro_engine.specs.inner.Carried.{HasCarried, HasSettled}
 use Rattle.macro_engine.specs.Changes.{changed, changed_cells, first_marked, first_protected}
 
 -- where an answer is Ok, what follows of what is told of it

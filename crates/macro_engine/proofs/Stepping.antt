@@ -19,7 +19,7 @@ use Rattle.macro_words.specs.declared.running.Move.TheVariants as move
 use Rattle.macro_words.specs.declared.running.Running.{Running}
 use Rattle.work_sheet.specs.Seen.{of_worksheet, Sheet}
 use Rattle.work_sheet.specs.Sheets.{Worksheet}
-use Rattle.macro_engine.specs.Carried.{HasCarried}
+use Rattle.macro_engine.specs.inner.Carried.{HasCarried}
 use Rattle.macro_engine.specs.Changes.{changed, changed_cells, first_protected, outlook_in}
 use Rattle.macro_engine.specs.Keys.{key_step, rested}
 use Rattle.macro_engine.specs.Steps.{cell_of, deed_step, ended, format_in, leaves_sheet, macro_step, placed, row_step, unit_step, unless_protected, worked, HasStepped, MacroStep}

@@ -1,5 +1,5 @@
-pub mod Carried
 pub mod Catching
 pub mod Changes
 pub mod Keys
 pub mod Steps
+pub mod inner

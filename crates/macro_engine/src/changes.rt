@@ -5,7 +5,7 @@ ghost use Rattle.macro_words.specs.declared.running.Change.TheVariants as change
 ghost use Rattle.work_sheet.specs.Did.{Did};
 ghost use Rattle.work_sheet.specs.Doing.{settled};
 ghost use Rattle.work_sheet.specs.Seen.{of_worksheet};
-ghost use Rattle.macro_engine.specs.Carried.{HasCarried, HasSettled, WasRefused};
+ghost use Rattle.macro_engine.specs.inner.Carried.{HasCarried, HasSettled, WasRefused};
 
 use crate::sweeping::sweep_span;
 use formula_eval::{Scene, Tally};
