@@ -17,14 +17,14 @@ const TWO_DECIMALS: Format = Format(0x02);
 
 /// Numbers in steps of one, and how they are shown.
 #[derive(Clone, Copy)]
-pub struct Kind {
+pub struct NumberKind {
     millionths: i64,
     format: Format,
     width: u8,
 }
 
 /// The numbers that a word names. With `hidden` nothing is written: that is the work around a number.
-pub fn kind_of(word: &str) -> Option<Kind> {
+pub fn kind_of(word: &str) -> Option<NumberKind> {
     let (millionths, format, width) = match word {
         "tenths" => (37_100_000, Format::GENERAL, WIDTH),
         "whole" => (0, Format::GENERAL, WIDTH),
@@ -33,7 +33,7 @@ pub fn kind_of(word: &str) -> Option<Kind> {
         "hidden" => (37_100_000, Format::HIDDEN, 0),
         _ => return None,
     };
-    Some(Kind {
+    Some(NumberKind {
         millionths,
         format,
         width,
@@ -53,7 +53,7 @@ fn last_byte(value: Fixed, format: Format, width: u8) -> u64
 }
 
 /// The sum of the last bytes of 10,000 numbers in their cells.
-pub fn shown_sum(kind: Kind) -> u64 {
+pub fn shown_sum(kind: NumberKind) -> u64 {
     let mut sum: u64 = 0;
     let mut millionths = kind.millionths;
     let width = kind.width.min(WIDTH);

@@ -23,7 +23,7 @@ use Rattle.work_sheet.specs.Doing.{and_then, quiet, settled, Done}
 use Rattle.work_sheet.specs.Seen.{of_worksheet, Sheet}
 use Rattle.work_sheet.specs.Sheets.{Worksheet}
 use Rattle.macro_engine.specs.inner.Carried.{HasCarried, HasSettled}
-use Rattle.macro_engine.specs.Changes.{changed, changed_cells, first_marked, first_protected}
+use Rattle.macro_engine.specs.Changes.{changed, changed_cells, first_marked, refused_cell}
 
 -- where an answer is Ok, what follows of what is told of it
 pub if_ok : {A E : Type 0} (r : Result A E) {P Q : A → Type 0} → ((x : A) → P x → Q x) → IfOk r P → IfOk r Q
@@ -61,7 +61,7 @@ module _ (v : Worksheet) (cells : List Place) (among : Place → Bool) (same : (
   none_marked (Some d) h t i = absurd (false≢true (sym (h d (sym (same d) ∙ i.here)) ∙ (λ j. t j && i.marked j)))
 
   -- no cell is protected
-  pub none_is : NoneProtected v.settings v.grid among → first_protected (of_worksheet v) cells ≡ None
+  pub none_is : NoneProtected v.settings v.grid among → refused_cell (of_worksheet v) cells ≡ None
   none_is h = by v.settings.protection refl
     where
       by : (b : Bool) → v.settings.protection ≡ b → (if b then first_marked v.grid cells else None) ≡ None
@@ -73,7 +73,7 @@ module _ (v : Worksheet) (cells : List Place) (among : Place → Bool) (same : (
   some_marked (Some d) c p i = ap Some (one_first v.grid (has same_place cells) d c i p)
 
   -- a cell is the first one that is protected
-  pub first_is : (c : Place) → IsFirstProtected v.settings v.grid among c → first_protected (of_worksheet v) cells ≡ Some c
+  pub first_is : (c : Place) → IsFirstProtected v.settings v.grid among c → refused_cell (of_worksheet v) cells ≡ Some c
   first_is c h =
       let parts = and_parts _ _ h.protected in
       let marked : IsFirstMarked v.grid (has same_place cells) c = record {
@@ -90,11 +90,11 @@ module _ (change : Change) (cells : List Place) (among : Place → Bool) (same :
   pub edit_carried : (answer : Result (Unit {0}) SheetFault) (cell : Option Place) → IsAnswered v.settings v.grid among answer →
       OnOk answer (DidEdit edit v mid) → OnErr answer (mid ≡ v) → HasSettled answer scene cell mid w m n → HasCarried change scene cell v w m n
   edit_carried (Ok x) cell answered did kept settles = subst (λ (o : Option Place). HasCarried change scene o v w m n) (sym settles.0) (record {
-    first = sym (ap (first_protected (of_worksheet v)) listed ∙ none_is v cells among same answered);
+    first = sym (ap (refused_cell (of_worksheet v)) listed ∙ none_is v cells among same answered);
     did = subst (λ (d : Done). Did d v w m n) (sym made) (did_both (edit (of_worksheet v)) (settled mean scene) v mid w m m n (did m) settles.1);
   })
   edit_carried (Err (fault.Protected c)) cell answered did kept settles = subst (λ (o : Option Place). HasCarried change scene o v w m n) (sym settles.0) (record {
-    first = sym (ap (first_protected (of_worksheet v)) listed ∙ first_is v cells among same c answered);
+    first = sym (ap (refused_cell (of_worksheet v)) listed ∙ first_is v cells among same c answered);
     did = left v w m n (settles.1 ∙ kept) settles.2;
   })
   edit_carried (Err (fault.PushedOff c)) cell answered did kept settles = absurd answered

@@ -20,7 +20,7 @@ use Rattle.macro_words.specs.declared.running.Running.{Running}
 use Rattle.work_sheet.specs.Seen.{of_worksheet, Sheet}
 use Rattle.work_sheet.specs.Sheets.{Worksheet}
 use Rattle.macro_engine.specs.inner.Carried.{HasCarried}
-use Rattle.macro_engine.specs.Changes.{changed, changed_cells, first_protected, outlook_in}
+use Rattle.macro_engine.specs.Changes.{changed, changed_cells, refused_cell, outlook_in}
 use Rattle.macro_engine.specs.Keys.{key_step, rested}
 use Rattle.macro_engine.specs.Steps.{cell_of, deed_step, ended, format_in, leaves_sheet, macro_step, placed, row_step, unit_step, unless_protected, worked, HasStepped, MacroStep}
 use Rattle.macro_engine.specs.declared.steps.StepEnd.{StepEnd}
@@ -70,7 +70,7 @@ unless_leaves None scene r d s h = ended_leaves d.after d.change scene s h
 unless_leaves (Some c) scene r d s h = refl
 
 row_leaves : (row : Row) (scene : Scene) (r : Running) (c : Place) (s : Sheet) → leaves_sheet (row_step scene r c row s).end ≡ true → (row_step scene r c row s).done.sheet ≡ s
-row_leaves (Ok d) scene r c s h = unless_leaves (first_protected s (changed_cells d.change)) scene r d s h
+row_leaves (Ok d) scene r c s h = unless_leaves (refused_cell s (changed_cells d.change)) scene r d s h
 row_leaves (Err f) scene r c s h = refl
 
 unit_leaves : (u : Unit) (scene : Scene) (r : Running) (s : Sheet) → leaves_sheet (unit_step scene r u s).end ≡ true → (unit_step scene r u s).done.sheet ≡ s

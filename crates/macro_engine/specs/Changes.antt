@@ -53,5 +53,5 @@ first_marked g [] = None
 first_marked g (c ∷ cs) = sooner g (first_marked g cs) c
 
 -- the first in row order of some cells that are protected: the marked ones, where protection is on
-abbrev pub first_protected : Sheet → List Place → Option Place
-first_protected s cells = if s.settings.protection then first_marked s.grid cells else None
+abbrev pub refused_cell : Sheet → List Place → Option Place
+refused_cell s cells = if s.settings.protection then first_marked s.grid cells else None

@@ -22,7 +22,7 @@ use Rattle.work_sheet.specs.Did.{Did}
 use Rattle.work_sheet.specs.Doing.{quiet, Done}
 use Rattle.work_sheet.specs.Seen.{Sheet}
 use Rattle.work_sheet.specs.Sheets.{Worksheet}
-use Rattle.macro_engine.specs.Changes.{changed, changed_cells, first_protected, outlook_in}
+use Rattle.macro_engine.specs.Changes.{changed, changed_cells, refused_cell, outlook_in}
 use Rattle.macro_engine.specs.declared.steps.StepEnd.{StepEnd}
 use Rattle.macro_engine.specs.declared.steps.StepEnd.TheVariants.{Faulty, Files, Indicates, Moves, Refused, Types, Works}
 
@@ -58,7 +58,7 @@ ended x _ = worked x
 
 -- a word changes the sheet, and moves the macro
 abbrev pub deed_step : Scene → Running → Deed → Sheet → MacroStep
-deed_step scene r d s = unless_protected (first_protected s (changed_cells d.change))
+deed_step scene r d s = unless_protected (refused_cell s (changed_cells d.change))
     (record { end = ended d.change d.after; running = moved d.after r; done = changed scene d.change s }) r s
 
 -- what the word in a cell does, or its fault

@@ -27,25 +27,25 @@ abbrev pub menu_or_ready : Option Menu → Room
 menu_or_ready None = room.Ready
 menu_or_ready (Some m) = opened m
 
--- an item that is taken opens its menu, or its command begins to ask
-abbrev pub taken : Item → Turn
-taken (item.Menu m) = turn.Become (opened m)
-taken (item.Action a) = turn.Ask (record { action = a; answers = [] })
+-- an item opens its menu, or its command begins to ask
+abbrev pub turn_by_item : Item → Turn
+turn_by_item (item.Menu m) = turn.Become (opened m)
+turn_by_item (item.Action a) = turn.Ask (record { action = a; answers = [] })
 
 -- where there is no such item, the key is passed over
-abbrev pub taken_or : Option Item → MenuRoom → Turn
-taken_or None r = turn.Become (room.Menu r)
-taken_or (Some i) r = taken i
+abbrev pub turn_by_choice : Option Item → MenuRoom → Turn
+turn_by_choice None r = turn.Become (room.Menu r)
+turn_by_choice (Some i) r = turn_by_item i
 
 -- where a key leaves the highlight
 abbrev pub highlight_after : Key → MenuRoom → ℕ
 highlight_after k r = highlighted k (length (items r.menu)) r.highlight
 
--- Enter takes the highlighted item, a byte the first that begins with it, ESC goes up one level, and any other key
+-- Enter chooses the highlighted item, a byte the first that begins with it, ESC goes up one level, and any other key
 -- moves the highlight or is passed over
 abbrev pub press : Key → MenuRoom → Turn
-press key.Enter r = taken_or (slice_get (items r.menu) r.highlight) r
-press (key.Byte b) r = taken_or (chosen (items r.menu) b) r
+press key.Enter r = turn_by_choice (slice_get (items r.menu) r.highlight) r
+press (key.Byte b) r = turn_by_choice (chosen (items r.menu) b) r
 press key.Esc r = turn.Become (menu_or_ready (parent r.menu))
 press k r = turn.Become (room.Menu (record r { highlight = highlight_after k r }))
 

@@ -1,7 +1,7 @@
 // What a key comes to in MENU, and what is shown there.
 ghost use Rattle.std.specs.Prelude.{◌≡◌, map, slice_get};
 ghost use Rattle.menu_room.specs.Room.{highlight_after, lacks_item, menu_or_ready, names_below, opened, panel, press};
-ghost use Rattle.menu_room.specs.Room.{taken, taken_or};
+ghost use Rattle.menu_room.specs.Room.{turn_by_item, turn_by_choice};
 ghost use Rattle.menu_tree.specs.Tree.{item_name};
 
 use crate::lines::{items_line, listed};
@@ -36,9 +36,9 @@ fn item_at(items: &[Item], place: usize) -> Option<Item>
     items.get(place).copied()
 }
 
-// What an item that is taken comes to.
-fn taken(alloc: Global, item: Item) -> Turn
-    ensures { result ≡ taken item }
+// What an item comes to.
+fn turn_by_item(alloc: Global, item: Item) -> Turn
+    ensures { result ≡ turn_by_item item }
 {
     match item {
         Item::Menu(menu) => Turn::Become(opened(menu)),
@@ -50,11 +50,11 @@ fn taken(alloc: Global, item: Item) -> Turn
 }
 
 // Where there is no such item, the key is passed over.
-fn taken_or(alloc: Global, item: Option<Item>, room: MenuRoom) -> Turn
-    ensures { result ≡ taken_or item room }
+fn turn_by_choice(alloc: Global, item: Option<Item>, room: MenuRoom) -> Turn
+    ensures { result ≡ turn_by_choice item room }
 {
     match item {
-        Some(item) => taken(alloc, item),
+        Some(item) => turn_by_item(alloc, item),
         None => Turn::Become(Room::Menu(room)),
     }
 }
@@ -67,8 +67,8 @@ pub fn press(alloc: Global, key: Key, room: MenuRoom) -> Turn
 {
     let items = items(room.menu);
     match key {
-        Key::Enter => taken_or(alloc, item_at(items, room.highlight), room),
-        Key::Byte(byte) => taken_or(alloc, choose(items, byte.get()), room),
+        Key::Enter => turn_by_choice(alloc, item_at(items, room.highlight), room),
+        Key::Byte(byte) => turn_by_choice(alloc, choose(items, byte.get()), room),
         Key::Esc => Turn::Become(menu_or_ready(parent(room.menu))),
         _ => Turn::Become(Room::Menu(MenuRoom {
             highlight: highlighted(&key, items.len(), room.highlight),

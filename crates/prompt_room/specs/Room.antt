@@ -37,13 +37,13 @@ refusal_by None names text place = None
 refusal_by (Some k) names text place = refusal_of k names text place
 
 -- a refused answer ends the command with its error, and after any other the command has one answer more
-abbrev pub answered_by : Option CommandError → AnsweredCommand → List ℕ → Turn
-answered_by (Some e) c text = turn.Fail e
-answered_by None c text = turn.Ask (record c { answers = c.answers ++ text ∷ [] })
+abbrev pub with_answer_by : Option CommandError → AnsweredCommand → List ℕ → Turn
+with_answer_by (Some e) c text = turn.Fail e
+with_answer_by None c text = turn.Ask (record c { answers = c.answers ++ text ∷ [] })
 
 -- the present prompt has got its answer
-abbrev pub answered : Sheet → AnsweredCommand → List ℕ → Turn
-answered s c text = answered_by (refusal_by (next_ask c) s.names text (length c.answers)) c text
+abbrev pub with_answer : Sheet → AnsweredCommand → List ℕ → Turn
+with_answer s c text = with_answer_by (refusal_by (next_ask c) s.names text (length c.answers)) c text
 
 -- a range, a cell and a name can be given by a name
 abbrev pub takes_names : Option Ask → Bool
@@ -86,7 +86,7 @@ typed_byte b s c p =
 
 -- Enter takes the span
 abbrev pub press_pointing : Key → Sheet → AnsweredCommand → Pointed → Turn
-press_pointing key.Enter s c p = answered s c (answer_text p)
+press_pointing key.Enter s c p = with_answer s c (answer_text p)
 press_pointing (key.Byte b) s c p = typed_byte b s c p
 press_pointing key.Name s c p = named s c [] (answering.Pointing p)
 press_pointing k s c p = steered_prompt k s c p
@@ -99,7 +99,7 @@ line_answering false e = answering.Typing e
 -- what a key comes to, where the line has taken it
 abbrev pub typed_by : LineEvent → Sheet → AnsweredCommand → Bool → Entry → Turn
 typed_by line.GivenUp s c kept e = turn.Become room.Ready
-typed_by line.Finished s c kept e = answered s c e.text
+typed_by line.Finished s c kept e = with_answer s c e.text
 typed_by _ s c kept e = asking c (line_answering kept e)
 
 -- an answer is typed as in EDIT, where UP, DOWN, PGUP and PGDN are passed over

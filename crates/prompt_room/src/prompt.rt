@@ -5,7 +5,7 @@ ghost use Rattle.lics_text.specs.Bytes.{IsText};
 ghost use Rattle.menu_tree.specs.Tree.{begins};
 ghost use Rattle.desk_answers.specs.Readings.{fault_in, refusal_of};
 ghost use Rattle.prompt_room.specs.Opening.{next_ask};
-ghost use Rattle.prompt_room.specs.Room.{answered, asking, choice_names, decided, decided_or, lacks_item, line_answering};
+ghost use Rattle.prompt_room.specs.Room.{with_answer, asking, choice_names, decided, decided_or, lacks_item, line_answering};
 ghost use Rattle.prompt_room.specs.Room.{name_behind, name_line, press, press_choosing, press_kept, press_line};
 ghost use Rattle.prompt_room.specs.Room.{press_pointing, refusal_by, shown, steered_prompt, takes_names, typed_by};
 ghost use Rattle.prompt_room.specs.Room.{typed_byte};
@@ -44,9 +44,9 @@ fn test(ask: Option<Ask>, names: &Names, line: &[u8], place: usize) -> Result<()
 }
 
 // The command has one answer more, or is refused it.
-fn answered(line: &[u8], sheet: &Sheet, mut command: AnsweredCommand) -> Result<Turn, Memory>
+fn with_answer(line: &[u8], sheet: &Sheet, mut command: AnsweredCommand) -> Result<Turn, Memory>
     requires { IsText line.now }
-    ensures { IfOk result (λ t. t ≡ answered (of_worksheet sheet.now) command line.now) }
+    ensures { IfOk result (λ t. t ≡ with_answer (of_worksheet sheet.now) command line.now) }
 {
     let place = command.answers.len();
     match test(next_ask(&command), sheet.names(), line, place) {
@@ -138,7 +138,7 @@ fn press_pointing(
     ensures { IfOk result (λ t. t ≡ press_pointing key (of_worksheet sheet.now) command pointed) }
 {
     match key {
-        Key::Enter => answered(answer_text(&pointed).bytes(), sheet, command),
+        Key::Enter => with_answer(answer_text(&pointed).bytes(), sheet, command),
         Key::Byte(byte) => Ok(typed_byte(byte, sheet, command, pointed)),
         Key::Name => {
             let name = name_line(next_ask(&command), sheet.names(), b"");
@@ -172,7 +172,7 @@ fn typed_by(
     match event {
         LineEvent::Going | LineEvent::LineFull => Ok(asking(command, line_answering(kept, line))),
         LineEvent::GivenUp => Ok(Turn::Become(Room::Ready)),
-        LineEvent::Finished => answered(line.text(), sheet, command),
+        LineEvent::Finished => with_answer(line.text(), sheet, command),
     }
 }
 

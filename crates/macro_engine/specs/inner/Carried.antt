@@ -10,7 +10,7 @@ use Rattle.work_sheet.specs.Did.{Did}
 use Rattle.work_sheet.specs.Doing.{quiet, settled, Done}
 use Rattle.work_sheet.specs.Seen.{of_worksheet, Sheet}
 use Rattle.work_sheet.specs.Sheets.{Worksheet}
-use Rattle.macro_engine.specs.Changes.{changed, changed_cells, first_protected}
+use Rattle.macro_engine.specs.Changes.{changed, changed_cells, refused_cell}
 
 -- the sheet is changed, or it stays for a protected cell
 abbrev pub changed_unless : Option Place → Scene → Change → Sheet → Done
@@ -19,7 +19,7 @@ changed_unless (Some c) scene change s = quiet s
 
 -- A change was carried out, or the first protected one of its cells was met.
 pub record HasCarried (change : Change) (scene : Scene) (cell : Option Place) (v w : Worksheet) (m n : ℕ) : Type 0 where
-  pub first : cell ≡ first_protected (of_worksheet v) (changed_cells change)
+  pub first : cell ≡ refused_cell (of_worksheet v) (changed_cells change)
   pub did : Did (changed_unless cell scene change (of_worksheet v)) v w m n
 
 -- an edit was refused for a protected cell
