@@ -4,8 +4,8 @@ import sys
 from counted import TOP
 
 sys.path.insert(0, TOP)
-from oracle import wk1
-from oracle.edits import Desk
+from oracle.model import wk1
+from oracle.make.edits import Desk
 
 
 def make(folder, rows):

@@ -248,6 +248,7 @@ def rest(found, sources):
 
 
 def main():
+    """Prints the definitions that a call's clauses reach, in the order in which one reads them."""
     words = [it for it in sys.argv[1:] if it.startswith("--")]
     calls = [it for it in sys.argv[1:] if not it.startswith("--")] or [TOP_CALL]
     if set(words) - {"--text", "--count", "--rest"} or len(words) > 1 or any("::" not in it for it in calls):

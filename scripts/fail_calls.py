@@ -32,11 +32,13 @@ def page_lines(out):
 
 
 def content(path):
+    """The bytes of a file."""
     with open(path, "rb") as it:
         return it.read()
 
 
 def files_in(folder):
+    """What a folder holds, by name."""
     return {name: content(f"{folder}/{name}") for name in sorted(os.listdir(folder))}
 
 
@@ -52,6 +54,7 @@ class Calls:
         self.before, self.between = self.run("", 0), None
 
     def run(self, kind, number, tell=None, more=()):
+        """Runs the example with a call of a kind failing."""
         env = {"LD_PRELOAD": self.shim, "FAILING": kind, "FAIL_AT": str(number)}
         if tell:
             env["FAIL_TELL"] = tell
@@ -116,6 +119,7 @@ class Calls:
 
 
 def tried(calls, kind, name, pool):
+    """Fails the calls of a kind in turn and tells what went wrong; whether nothing did."""
     count, absent = calls.count(kind)
     if not count and kind == "file":
         return True
@@ -131,6 +135,7 @@ def tried(calls, kind, name, pool):
 
 
 def main(words):
+    """Fails the calls of each kind of each example in turn; 1 where one went wrong."""
     program, kinds = words[0], words[1:]
     is_well = True
     with tempfile.TemporaryDirectory() as room, concurrent.futures.ThreadPoolExecutor(os.cpu_count()) as pool:

@@ -75,6 +75,7 @@ def rows_in(page):
 
 
 def table(rows):
+    """The table of docs/TESTING.md."""
     lines = ["| Crate | Proof | Tests | Edits | Sum |", "|---|---:|---:|---:|---:|"]
     row = lambda name, of: "| " + " | ".join([name, *(str(of[it]) for it in KINDS), str(sum(of.values()))]) + " |"
     for crate in sorted(rows, key=lambda it: (-sum(rows[it].values()), it)):
@@ -84,6 +85,7 @@ def table(rows):
 
 
 def crates():
+    """The crates of crates.txt."""
     with open("crates.txt", encoding="utf-8") as it:
         return {line.split(":")[0].split()[0] for line in it if ":" in line and not line.startswith("#")}
 
@@ -110,6 +112,7 @@ def used_by_children():
 
 
 def main(words):
+    """Puts what a gate's log tells into the table."""
     used, known = {}, {}
     ran = None if words else subprocess.Popen(["taskset", "--cpu-list", "0", "rt", "ci", "--anew"])
     gate = int(words[0]) if words else ran.pid

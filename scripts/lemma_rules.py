@@ -38,6 +38,7 @@ class Proofs:
         return lemma.is_public and bool(self.named[module_of(lemma.file), lemma.name] - {lemma.file})
 
     def unnamed(self):
+        """The lemmas that nothing names."""
         return [it for it in self.lemmas if not self.is_named(it)]
 
     def repeated(self):
@@ -168,4 +169,5 @@ def tell(texts):
 
 
 def by_crate(counts):
+    """Counts by crate, in a line."""
     return ", ".join(f"{crate} {many}" for crate, many in sorted(counts.items()))

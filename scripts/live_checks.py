@@ -8,7 +8,7 @@ from pty_terminal import Seat
 from terminal_keys import first_key
 
 sys.path.append(TOP)
-from oracle.cli import run
+from oracle.model.cli import run
 
 LIVE = os.path.join(TOP, "scripts/live")
 # what a terminal sends, and its keys

@@ -23,6 +23,7 @@ def with_cited(line, named):
 
 
 def main():
+    """Writes what each crate stands on into the map."""
     with open(MAP, encoding="utf-8") as it:
         old = it.read()
     named = named_by_crates()

@@ -30,10 +30,12 @@ class Folder:
         self.room.cleanup()
 
     def write(self, name, held):
+        """Writes a file into the folder."""
         with open(os.path.join(self.path, name), "wb") as it:
             it.write(held)
 
     def run(self, keys, **around):
+        """Runs the program in the folder with the library loaded before."""
         around["LD_PRELOAD"] = self.shim
         return subprocess.run([self.program, "--show", "ansi"], input=keys, capture_output=True, env=around, timeout=60, cwd=self.path)
 
@@ -99,6 +101,7 @@ def swapped(program, shim):
 
 
 def main(words):
+    """Checks the calls of saves, and saves whose names change; 1 where one is not as it must be."""
     bad = 0
     with tempfile.TemporaryDirectory() as room:
         shim = f"{room}/failing.so"

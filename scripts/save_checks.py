@@ -18,7 +18,8 @@ import time
 
 sys.path.insert(0, os.getcwd())
 
-from oracle import host, wk1
+from oracle.model import wk1
+from oracle.tests import host
 
 ROUNDS = 100
 SIZES = (100, 400, 1_000, 10_000, 60_000, 100, 300_000, 2_000, 30_000, 500)
@@ -35,10 +36,12 @@ MOST_OF_SUMS = 1_000_000
 # ---------------------------------------------------------------- sheets
 
 def record(kind, body=b""):
+    """A record of a worksheet file."""
     return kind.to_bytes(2, "little") + len(body).to_bytes(2, "little") + body
 
 
 def label(at, text):
+    """The record of a label in a cell."""
     return record(0x0F, b"\xff" + (at % 256).to_bytes(2, "little") + (at // 256).to_bytes(2, "little") + b"'" + text + b"\0")
 
 
@@ -82,26 +85,32 @@ class Room:
         shutil.rmtree(self.folder)
 
     def path(self, name):
+        """The path of a file in the folder."""
         return os.path.join(self.folder, name)
 
     def write(self, name, held, rights=0o644, owner=-1, group=-1):
+        """Writes a file with these rights and owners."""
         with open(self.path(name), "wb") as file:
             file.write(held)
         os.chown(self.path(name), owner, group)
         os.chmod(self.path(name), rights)
 
     def read(self, name):
+        """The bytes of a file in the folder."""
         with open(self.path(name), "rb") as file:
             return file.read()
 
     def names(self):
+        """The names in the folder."""
         return sorted(os.listdir(self.folder))
 
     def run(self, keys, *words, **more):
+        """Runs the program in the folder."""
         return subprocess.run([self.program, *words], input=keys, capture_output=True, cwd=self.folder, timeout=300, **more)
 
 
 def unless(is_so, why):
+    """A fault, where it isn't so."""
     return [] if is_so else [why]
 
 
@@ -148,6 +157,7 @@ def one_round(program, number, kept):
 
 
 def two_programs(program):
+    """Two programs save under one name while others read it."""
     kept = {}
     return [why for number in range(ROUNDS) for why in one_round(program, number, kept)]
 
@@ -197,12 +207,14 @@ def after_save(program, rights, owner=-1, group=-1, who=None):
 
 
 def of_new_name(program, umask):
+    """The rights of a new file under this umask."""
     with Room(program) as room:
         room.run(b"5~/FSX~", umask=umask)
         return oct(os.stat(room.path("X.WK1")).st_mode & 0o7777)
 
 
 def rights(program):
+    """A save keeps the rights, owner and group of the file whose place it takes."""
     own, group = os.geteuid(), os.getegid()
     faults = []
     for old, new in ((0o644, 0o644), (0o640, 0o640), (0o600, 0o600), (0o755, 0o755), (0o4755, 0o755), (0o2770, 0o770), (0o1666, 0o666)):
@@ -262,6 +274,7 @@ def left_beside(program):
 # ---------------------------------------------------------------- keys and screens that don't wait
 
 def slowly(file, held):
+    """Writes bytes into a pipe one by one, until nobody reads any more."""
     try:
         for at in range(len(held)):
             os.write(file, held[at:at + 1])
@@ -304,6 +317,7 @@ def without_moments(pages):
 # ---------------------------------------------------------------- limits of the system
 
 def limited(which, most):
+    """What sets a limit of the host before a program starts."""
     def set_limits():
         signal.signal(signal.SIGXFSZ, signal.SIG_DFL)
         resource.setrlimit(which, (most, most))
@@ -394,6 +408,7 @@ def refused_words(program):
 
 
 def main(words):
+    """Runs all checks; 1 where one fails."""
     checks = [two_programs, too_large, rights, left_beside, not_waiting, file_sizes, small_stacks, sums_of_columns, refused_words]
     if os.geteuid() == 0:
         checks.append(rights_of_others)

@@ -15,8 +15,8 @@ from pages import TOP
 import live_checks
 
 sys.path.append(TOP)
-from oracle.cli import run
-from oracle.listing import told
+from oracle.model.cli import run
+from oracle.model.listing import told
 
 TOP = pathlib.Path(TOP)
 EXAMPLES = TOP / "examples"

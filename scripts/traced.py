@@ -17,7 +17,7 @@ from laid_out import read_list
 from pages import PAGE_BYTES, TOP, Page, program
 
 sys.path.append(TOP)
-from oracle.keys import KeyReader
+from oracle.model.keys import KeyReader
 
 USE = "trace: scripts/trace FILE [words], or scripts/trace FILE --byte N"
 MOST_SHOWN = 60

@@ -1,0 +1,1 @@
+"""Random and worked cases, and what is stored of them."""

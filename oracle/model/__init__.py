@@ -1,0 +1,1 @@
+"""The rules: what a run shows, notes, counts and leaves."""

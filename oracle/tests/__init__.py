@@ -1,0 +1,1 @@
+"""Checks of the model by itself, and of the program by the model."""
