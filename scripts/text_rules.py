@@ -6,6 +6,8 @@ import sys
 
 import definitions
 import lemma_rules
+import prose_rules
+import python_rules
 
 TOP_FILES = {".gitignore", "1-2-3", "1-2-3-list", "CHANGELOG.md", "HANDLES", "Makefile", "README.md", "VERSION", "crates.txt"}
 TOP_FOLDERS = {".ci", "bench", "crates", "docs", "examples", "man", "oracle", "release", "scripts"}
@@ -24,9 +26,11 @@ class Rules:
         self.faults = []
 
     def fault(self, text):
+        """Notes a fault."""
         self.faults.append(text)
 
     def all(self):
+        """Looks at all files by all rules."""
         self.places()
         for name in self.files:
             try:
@@ -304,9 +308,12 @@ def texts_of(files):
 
 
 def main():
+    """Prints the faults; 1 where there are any."""
     files = [it for it in subprocess.run(["git", "ls-files"], capture_output=True, text=True).stdout.split("\n") if it]
     rules = Rules(files)
     rules.all()
+    prose_rules.check(files, rules.fault)
+    python_rules.check(files, rules.fault)
     texts = texts_of(files)
     lemma_rules.check(texts, rules.fault)
     if "--lemmas" in sys.argv[1:]:
