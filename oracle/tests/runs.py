@@ -16,7 +16,7 @@ import sys
 import tempfile
 
 from ..make.cases import worked
-from ..make.pool import prepare, processes
+from ..make.pool import processes
 from ..make.runs import Run, expected, kind_of, read_run, without_moments
 from ..make.typist import Typist
 from .checks import ended, parser
