@@ -5,7 +5,7 @@ MOST_WORDS = 35
 PAGE = re.compile(r"(docs|examples|oracle)/[\w.]+\.md$|[A-Z]+\.md$")
 ITEM = re.compile(r"\s*([-*]|\d+\.) ")
 # Behind a sentence stands a space and what begins the next one.
-BETWEEN = re.compile(r"(?<=[.!?])[)\"'*]*\s+(?=[A-Z`(\[*{./0-9])")
+BETWEEN = re.compile(r"(?<=[.!?])[)\"'*]*\s+(?=[A-Z`(\[*{./0-9\"'])")
 
 
 def is_prose(line):
