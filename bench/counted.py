@@ -1,5 +1,5 @@
-"""What the commands of bench/ share: the instructions of the program's runs, counted by callgrind. Counts are of the program
-and the C library, and don't depend on the load of the machine."""
+"""What the commands of bench/ share: the instructions of the program's runs, counted by callgrind. Counts are of the
+program and the C library, and don't depend on the load of the machine."""
 import os
 import re
 import subprocess

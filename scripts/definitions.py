@@ -1,15 +1,15 @@
-"""What one reads to know what the program promises: the definitions that the clauses of `run` reach, file by file, each file
-before those that it stands on.
+"""What one reads to know what the program promises: the definitions that the clauses of `run` reach, file by file, each
+file before those that it stands on.
 
-    scripts/reading_list            the files with the names of their definitions and their lines, and the types of the code
+    scripts/reading_list            the files with the names of their definitions and their lines, and the code's types
     scripts/reading_list --text     the definitions themselves
     scripts/reading_list --count    how many they are
     scripts/reading_list --rest     the definitions that these clauses don't reach: those of other calls and of proofs
     scripts/reading_list CRATE::CALL ..      the same from other calls' clauses on
 
-Lines are counted of the definitions, and beside them those that say above one or within it what it means. A type of the code
-that a definition names stands in the list by its file, and counts nothing. A word that a definition binds hides one that is
-brought in under the same name, in the whole definition.
+Lines are counted of the definitions, and beside them those that say above one or within it what it means. A type of the
+code that a definition names stands in the list by its file, and counts nothing. A word that a definition binds hides
+one that is brought in under the same name, in the whole definition.
 """
 import collections
 import glob
@@ -230,7 +230,8 @@ def told(found, order, sources, texts):
     for module in order:
         source = sources[module]
         these = [it for it in source.definitions if (module, it.names[0]) in found]
-        print(f"{source.path}: {counted(these)[0]} lines" + ("" if texts else ": " + ", ".join(name for it in these for name in it.names)))
+        print(f"{source.path}: {counted(these)[0]} lines" + ("" if texts else ": "
+                                                             + ", ".join(name for it in these for name in it.names)))
         if texts:
             print("".join("\n" + "\n".join(it.lines) + "\n" for it in these))
 
@@ -269,7 +270,8 @@ def main():
             print(f"crates/{crate}/src/{'/'.join(place.split('.')[:-1])}.rt: the type {place.split('.')[-1]}")
     lines, meanings = counted([sources[module].by_name[name] for module, name in found])
     files = len({module for module, _ in found})
-    print(f"{lines} lines of definitions in {files} files, {meanings} more of what they mean, and {len(types)} types of the code")
+    print(f"{lines} lines of definitions in {files} files, {meanings} more of what they mean, "
+          f"and {len(types)} types of the code")
     return 0
 
 

@@ -62,7 +62,8 @@ class Calls:
             for name, held in self.files.items():
                 with open(f"{room}/{name}", "wb") as it:
                     it.write(held)
-            ran = subprocess.run([self.program, *self.words, *more], input=self.keys, capture_output=True, env=env, timeout=120, cwd=room)
+            ran = subprocess.run([self.program, *self.words, *more], input=self.keys, capture_output=True, env=env,
+                                 timeout=120, cwd=room)
             return ran.returncode, page_lines(ran.stdout), ran.stderr, files_in(room)
 
     def count(self, kind):
@@ -96,7 +97,8 @@ class Calls:
         other = next((at for at, (line, old) in enumerate(zip(lines, self.before[1])) if line != old), 0) // 26
         # a macro that goes on has caught it
         if not any(line.startswith(b"Disk error") or b"CMD" in line for line in lines[26 * other + 24:26 * other + 25]):
-            return f"status {status}, notes {notes!r}, and the first other screen tells no disk error, and no macro goes on"
+            return (f"status {status}, notes {notes!r}, and the first other screen tells no disk error, "
+                    "and no macro goes on")
         return None
 
     def fault(self, kind, number):
@@ -128,7 +130,8 @@ def tried(calls, kind, name, pool):
     faults = ["as before" if number in absent and why == AS_IF_NONE else why for number, why in enumerate(faults, 1)]
     bad = [(number, why) for number, why in enumerate(faults, 1) if why and why != "as before"]
     same = faults.count("as before")
-    print(f"{name}: {kind}: {count} calls failed in turn: {count - same - len(bad)} runs told it, {same} ended as before, {len(bad)} are wrong")
+    print(f"{name}: {kind}: {count} calls failed in turn: {count - same - len(bad)} runs told it, "
+          f"{same} ended as before, {len(bad)} are wrong")
     for number, why in bad[:3]:
         print(f"  call {number}: {why}")
     return not bad

@@ -52,7 +52,8 @@ def chain(pid, gate, found):
 
 
 def look(gate, known, used):
-    """Notes what each process below the gate has used, for the work of the nearest one above that has words of its own."""
+    """Notes what each process below the gate has used, for the work of the nearest one above that has words of its
+    own."""
     found = processes()
     for pid in found:
         for above in chain(pid, gate, found):
@@ -130,7 +131,8 @@ def main(words):
         rows.setdefault(crate, dict.fromkeys(KINDS, 0)).update({kind: round(seconds) for kind, seconds in of.items()})
     listed = crates()
     with open(PAGE, "w", encoding="utf-8") as it:
-        it.write(page[:start] + table({crate: without_past_work(crate, of) for crate, of in rows.items() if crate in listed}) + page[end:])
+        it.write(page[:start] + table({crate: without_past_work(crate, of) for crate, of in rows.items()
+                                       if crate in listed}) + page[end:])
     print(f"gate: {sum(seconds for _, seconds in used.values()) / 60:.1f} minutes of one processor were seen")
     if ran is None:
         return 0

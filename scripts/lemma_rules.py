@@ -11,7 +11,8 @@ UNMENDED = frozenset("""
     wk1_file wk1_formula wk1_records work_sheet
 """.split())
 WORD = re.compile(r'[^\s(){},;."@«»]+')
-SIGNATURE = re.compile(r'^( *)((?:pub |abbrev |unfoldable |pattern )*)([^\s(){},;:.@"|=→≡×∙⊎]+)(?: \{[^}]*\})? :(?: |$)')
+SIGNATURE = re.compile(r'^( *)((?:pub |abbrev |unfoldable |pattern )*)'
+                       r'([^\s(){},;:.@"|=→≡×∙⊎]+)(?: \{[^}]*\})? :(?: |$)')
 FUNCTION = re.compile(r" *pub (?:const )?fn (\w+)")
 # What a goal, an invariant or a measure is called is the toolchain's choice.
 GIVEN = re.compile(r"(invariant|measure)[-_]")
@@ -24,7 +25,8 @@ class Proofs:
     def __init__(self, texts):
         self.texts = texts
         self.words = {file: words_of(text.split("\n")) for file, text in texts.items() if "/proofs/" in file}
-        self.lemmas = [it for file in texts if "/proofs/" in file and file.endswith(".antt") for it in lemmas_of(file, texts[file])]
+        self.lemmas = [it for file in texts if "/proofs/" in file and file.endswith(".antt")
+                       for it in lemmas_of(file, texts[file])]
         self.named = collections.defaultdict(set)
         for file, text in texts.items():
             for path in paths_in(file, text):
@@ -62,7 +64,8 @@ def module_of(file):
 
 def words_of(lines):
     """How often each word stands in lines, but for comments."""
-    return collections.Counter(word for line in lines if not line.lstrip().startswith("--") for word in WORD.findall(line))
+    return collections.Counter(word for line in lines if not line.lstrip().startswith("--")
+                               for word in WORD.findall(line))
 
 
 def lemmas_of(file, text):
@@ -83,7 +86,8 @@ def lemmas_of(file, text):
 
 
 def lemma_at(file, lines, at, head):
-    """The lemma whose signature begins at a line: it ends before the next line that stands no deeper and isn't its own."""
+    """The lemma whose signature begins at a line: it ends before the next line that stands no deeper and isn't its
+    own."""
     indent, name = len(head[1]), head[3]
     end = at + 1
     while end < len(lines):
@@ -124,7 +128,8 @@ def with_numbered_names(statement):
 
 
 def unnamed_functions(texts):
-    """The public functions that no code names, but for those whose contract is a law: they stand in a crate for its sake."""
+    """The public functions that no code names, but for those whose contract is a law: they stand in a crate for its
+    sake."""
     code = {file: re.sub(r"//[^\n]*", "", text) for file, text in texts.items() if file.endswith(".rt")}
     words = collections.Counter(word for text in code.values() for word in re.findall(r"\b\w+\b", text))
     for file, text in code.items():
@@ -142,7 +147,8 @@ def check(texts, fault):
                 if len(line) > MOST_COLUMNS:
                     fault(f"{file}:{number}: {len(line)} columns")
     proofs = Proofs(texts)
-    for lemmas, what in ((proofs.unnamed(), "nothing names it"), (proofs.without_meaning(), "it has no line of meaning")):
+    for lemmas, what in ((proofs.unnamed(), "nothing names it"),
+                         (proofs.without_meaning(), "it has no line of meaning")):
         for lemma in lemmas:
             if lemma.file.split("/")[1] not in UNMENDED:
                 fault(f"{lemma.file}:{lemma.line + 1}: {lemma.name}: {what}")
@@ -163,7 +169,8 @@ def tell(texts):
     told = collections.Counter(it.file.split("/")[1] for it in proofs.without_meaning())
     print(f"{sum(told.values())} public lemmas have no line of meaning: {by_crate(told)}")
     wide = collections.Counter(
-        file.split("/")[1] for file, text in texts.items() if "/proofs/" in file for line in text.split("\n") if len(line) > MOST_COLUMNS
+        file.split("/")[1] for file, text in texts.items() if "/proofs/" in file for line in text.split("\n")
+        if len(line) > MOST_COLUMNS
     )
     print(f"{sum(wide.values())} lines of proofs are wide: {by_crate(wide)}")
 

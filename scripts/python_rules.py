@@ -1,9 +1,9 @@
-"""The rules of the Python code: functions are short and told, and the packages of the oracle stand on those below them alone.
-`scripts/check_text` says what breaks one."""
+"""The rules of the Python code: functions are short and told, and the packages of the oracle stand on those below them
+alone. `scripts/check_text` says what breaks one."""
 import ast
 import re
 
-MOST_LINES = 40
+MOST_LINES, MOST_COLUMNS, MOST_IN_FILE = 40, 120, 800
 # Each package of the oracle, and the packages that it may stand on.
 BELOW = {"model": {"model"}, "make": {"model", "make"}, "tests": {"model", "make", "tests"}}
 
@@ -20,7 +20,8 @@ def functions_of(tree):
 
 
 def check_functions(name, tree, fault):
-    """A function has at most 40 lines, and its line of meaning, but for those of Python's own names and those in others."""
+    """A function has at most 40 lines, and its line of meaning, but for those of Python's own names and those in
+    others."""
     if not ast.get_docstring(tree):
         fault(f"{name}: the module has no line of meaning")
     for node, is_inner in functions_of(tree):
@@ -29,6 +30,16 @@ def check_functions(name, tree, fault):
             fault(f"{name}:{node.lineno}: {node.name} has {lines} lines")
         if not is_inner and not node.name.startswith("__") and node.name != "_" and not ast.get_docstring(node):
             fault(f"{name}:{node.lineno}: {node.name} has no line of meaning")
+
+
+def check_lines(name, text, fault):
+    """A file has at most 800 lines, each of at most 120 columns."""
+    lines = text.decode().split("\n")
+    if len(lines) > MOST_IN_FILE:
+        fault(f"{name}: {len(lines)} lines")
+    for number, line in enumerate(lines, 1):
+        if len(line) > MOST_COLUMNS:
+            fault(f"{name}:{number}: {len(line)} columns")
 
 
 def imports_of(name, tree):
@@ -44,12 +55,13 @@ def imports_of(name, tree):
 
 
 def check_packages(imported, fault):
-    """A module of the oracle imports from its own package and those below it, and no two import each other in a circle."""
+    """A module of the oracle imports from its own package and those below it, and no two import each other in a
+    circle."""
     for name, others in imported.items():
         package = name.split("/")[1]
         for number, other in others:
             if package in BELOW and other.split("/")[1] not in BELOW[package]:
-                fault(f"{name}:{number}: {package} stands on {'/'.join(sorted(BELOW[package]))} alone, and takes {other}")
+                fault(f"{name}:{number}: {package} stands on {' '.join(sorted(BELOW[package]))}, and takes {other}")
     left = {name: {other for _, other in others if other in imported} for name, others in imported.items()}
     while True:
         ready = {name for name, others in left.items() if not others}
@@ -72,6 +84,7 @@ def check(files, fault):
             continue
         tree = ast.parse(text)
         check_functions(name, tree, fault)
+        check_lines(name, text, fault)
         if name.startswith("oracle/"):
             imported[name] = list(imports_of(name, tree))
     check_packages(imported, fault)

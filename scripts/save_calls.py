@@ -1,5 +1,5 @@
-"""Looks at the program's calls on files in a save, and changes what a name leads to between the look for it and its opening, by
-scripts/failing.c."""
+"""Looks at the program's calls on files in a save, and changes what a name leads to between the look for it and its
+opening, by scripts/failing.c."""
 import os
 import subprocess
 import sys
@@ -37,7 +37,8 @@ class Folder:
     def run(self, keys, **around):
         """Runs the program in the folder with the library loaded before."""
         around["LD_PRELOAD"] = self.shim
-        return subprocess.run([self.program, "--show", "ansi"], input=keys, capture_output=True, env=around, timeout=60, cwd=self.path)
+        return subprocess.run([self.program, "--show", "ansi"], input=keys, capture_output=True, env=around, timeout=60,
+                              cwd=self.path)
 
     def calls(self, keys):
         """The calls from the making of a file on."""
@@ -77,7 +78,8 @@ def order(program, shim):
 def swapped(program, shim):
     """What comes under a name between the look and the opening is neither read nor written, nor waited for."""
     faults = []
-    for what, keys in (("link", b"/FRX~"), ("link", b"5~/FSX~R"), ("link", b"/FEX~Y"), ("pipe", b"5~/FSX~R"), ("pipe", b"/FEX~Y")):
+    for what, keys in (("link", b"/FRX~"), ("link", b"5~/FSX~R"), ("link", b"/FEX~Y"), ("pipe", b"5~/FSX~R"),
+                       ("pipe", b"/FEX~Y")):
         with Folder(program, shim) as folder:
             other = os.path.join(folder.path, "X.WK1.other")
             if what == "link":

@@ -1,10 +1,11 @@
-"""Saves of the program where others save too, where rights, room or the stack are short, and where keys and screens don't wait;
-and sums over whole columns, and words that are no text.
+"""Saves of the program where others save too, where rights, room or the stack are short, and where keys and screens
+don't wait; and sums over whole columns, and words that are no text.
 What must come of them is told by the oracle.
 
 python3 -B scripts/save_checks.py PROGRAM
 
-It runs at the top of the repository. What only the system's administrator can set up is left out for anyone else, and told."""
+It runs at the top of the repository. What only the system's administrator can set up is left out for anyone else, and
+told."""
 import fcntl
 import os
 import resource
@@ -42,7 +43,8 @@ def record(kind, body=b""):
 
 def label(at, text):
     """The record of a label in a cell."""
-    return record(0x0F, b"\xff" + (at % 256).to_bytes(2, "little") + (at // 256).to_bytes(2, "little") + b"'" + text + b"\0")
+    return record(0x0F, b"\xff" + (at % 256).to_bytes(2, "little") + (at // 256).to_bytes(2, "little") + b"'" + text
+                  + b"\0")
 
 
 def worksheet(size, byte):
@@ -64,7 +66,8 @@ def saved(file):
 
 def formula(code):
     """A worksheet's file with a formula of this code in A1, in the format Text."""
-    return record(0x00, b"\x06\x04") + record(0x10, b"\xf5" + bytes(12) + len(code).to_bytes(2, "little") + code) + record(0x01)
+    return record(0x00, b"\x06\x04") + record(0x10, b"\xf5" + bytes(12) + len(code).to_bytes(2, "little")
+                                              + code) + record(0x01)
 
 
 # ---------------------------------------------------------------- runs
@@ -106,7 +109,8 @@ class Room:
 
     def run(self, keys, *words, **more):
         """Runs the program in the folder."""
-        return subprocess.run([self.program, *words], input=keys, capture_output=True, cwd=self.folder, timeout=300, **more)
+        return subprocess.run([self.program, *words], input=keys, capture_output=True, cwd=self.folder, timeout=300,
+                              **more)
 
 
 def unless(is_so, why):
@@ -136,8 +140,10 @@ def one_round(program, number, kept):
     keys = b"/FSX~R" * (3 if number in LARGE else 20)
     with Room(program, A=first, B=second, X=old) as room:
         faults, is_over = [], threading.Event()
-        readers = [threading.Thread(target=look, args=(room, (old, first_saved, second_saved), faults, is_over)) for _ in range(2)]
-        savers = [subprocess.Popen([program, "--file", name, "--show", "ansi"], stdin=subprocess.PIPE, stdout=subprocess.PIPE,
+        readers = [threading.Thread(target=look, args=(room, (old, first_saved, second_saved), faults, is_over))
+                   for _ in range(2)]
+        savers = [subprocess.Popen([program, "--file", name, "--show", "ansi"], stdin=subprocess.PIPE,
+                                   stdout=subprocess.PIPE,
                                    stderr=subprocess.PIPE, cwd=room.folder) for name in "AB"]
         for reader in readers:
             reader.start()
@@ -147,7 +153,8 @@ def one_round(program, number, kept):
         for saver in savers:
             out, notes = saver.stdout.read(), saver.stderr.read()
             if saver.wait() or notes or b"Disk error" in out:
-                faults.append(f"a saver ended with {saver.returncode} and {notes!r}, and shows {b'Disk error' in out and 'a disk error'}")
+                shown = b"Disk error" in out and "a disk error"
+                faults.append(f"a saver ended with {saver.returncode} and {notes!r}, and shows {shown}")
         is_over.set()
         for reader in readers:
             reader.join()
@@ -168,21 +175,24 @@ def too_large(program):
     """A file of the most bytes is saved; with one more cell Save and Xtract are refused, and no file changes."""
     file = worksheet(MOST_BYTES, b"x")
     with Room(program, BIG=file) as room:
-        ran = room.run(b"/FSOUT~{GOTO}IV8192~y~/FS~R~/FXFTWO~A1.IV8192~~/FXVTWO~A1.IV8192~~", "--file", "BIG", "--show", "pages")
+        ran = room.run(b"/FSOUT~{GOTO}IV8192~y~/FS~R~/FXFTWO~A1.IV8192~~/FXVTWO~A1.IV8192~~", "--file", "BIG", "--show",
+                       "pages")
         faults = unless(ran.returncode == 0 and not ran.stderr, f"status {ran.returncode}, {ran.stderr!r}")
         count = ran.stdout.count(b"Worksheet too large")
         faults += unless(count == 3, f"it tells {count} times that the worksheet is too large")
         faults += unless(room.names() == ["BIG.WK1", "OUT.WK1"], f"there is left {room.names()}")
         if "OUT.WK1" in room.names():
             out = room.read("OUT.WK1")
-            faults += unless(len(out) == MOST_BYTES and out == saved_of_labels(file), "the file of the most bytes isn't what is to be saved")
+            faults += unless(len(out) == MOST_BYTES and out == saved_of_labels(file),
+                             "the file of the most bytes isn't what is to be saved")
         again = room.run(b"{ESC}", "--file", "OUT", "--show", "last")
         faults += unless(again.returncode == 0, f"what was saved isn't read: {again.stderr!r}")
     return faults
 
 
 def saved_of_labels(file):
-    """What is saved of a sheet of labels alone: its cells as they stand in the file, behind what is saved of any sheet."""
+    """What is saved of a sheet of labels alone: its cells as they stand in the file, behind what is saved of any
+    sheet."""
     cells = file[6:-4]
     count = (len(cells) + WIDEST + LABEL - 1) // (WIDEST + LABEL)
     front = bytearray(saved(worksheet(BARE, b""))[:-4])
@@ -217,7 +227,8 @@ def rights(program):
     """A save keeps the rights, owner and group of the file whose place it takes."""
     own, group = os.geteuid(), os.getegid()
     faults = []
-    for old, new in ((0o644, 0o644), (0o640, 0o640), (0o600, 0o600), (0o755, 0o755), (0o4755, 0o755), (0o2770, 0o770), (0o1666, 0o666)):
+    for old, new in ((0o644, 0o644), (0o640, 0o640), (0o600, 0o600), (0o755, 0o755), (0o4755, 0o755), (0o2770, 0o770),
+                     (0o1666, 0o666)):
         got = after_save(program, old)
         faults += unless(got == (oct(new), own, group, True), f"a file of the rights {old:o} becomes {got}")
     got = after_save(program, 0o444)
@@ -252,7 +263,8 @@ def rights_of_others(program):
     ):
         got = after_save(program, old, owner, group, who)
         wanted = (oct(wanted[0]), *wanted[1:])
-        faults += unless(got == wanted, f"a file of the rights {old:o}, of {owner} and {group}, becomes {got}, not {wanted}")
+        faults += unless(got == wanted,
+                         f"a file of the rights {old:o}, of {owner} and {group}, becomes {got}, not {wanted}")
     return faults
 
 
@@ -265,7 +277,8 @@ def left_beside(program):
         for name, held in left.items():
             room.write(name, held, 0o600)
         ran = room.run(b"5~/FSX~/FS~R", "--show", "ansi")
-        faults = unless(ran.returncode == 0 and b"Disk error" not in ran.stdout, f"status {ran.returncode}, or a disk error")
+        faults = unless(ran.returncode == 0 and b"Disk error" not in ran.stdout,
+                        f"status {ran.returncode}, or a disk error")
         faults += unless(room.names() == ["X.WK1", *left], f"there is left {room.names()}")
         faults += [f"{name} isn't as it was" for name, held in left.items() if room.read(name) != held]
     return faults
@@ -332,11 +345,14 @@ def file_sizes(program):
             with Room(program) as room:
                 if held:
                     room.write(name, held)
-                ran = room.run(b"5~/FSX~" + (b"R" if held else b""), "--show", "ansi", preexec_fn=limited(resource.RLIMIT_FSIZE, most))
+                ran = room.run(b"5~/FSX~" + (b"R" if held else b""), "--show", "ansi",
+                               preexec_fn=limited(resource.RLIMIT_FSIZE, most))
                 told = b"Disk error" in ran.stdout
-                faults += unless(ran.returncode == 0 and told != is_saved, f"limit {most}: status {ran.returncode}, told: {told}")
+                faults += unless(ran.returncode == 0 and told != is_saved,
+                                 f"limit {most}: status {ran.returncode}, told: {told}")
                 left = {it: room.read(it) for it in room.names()}
-                faults += unless(is_saved or left == ({name: held} if held else {}), f"limit {most}: there is left {sorted(left)}")
+                faults += unless(is_saved or left == ({name: held} if held else {}),
+                                 f"limit {most}: there is left {sorted(left)}")
     return faults
 
 
@@ -360,7 +376,8 @@ def small_stacks(program):
         with Room(program, DEEP=files["DEEP.WK1"].data) as room:
             ran = room.run(keys, "--file", "DEEP", preexec_fn=limited(resource.RLIMIT_STACK, 1 << 20))
             same = without_moments(ran.stdout) == without_moments(wanted.screens)
-            faults += unless((ran.returncode, ran.stderr) == (wanted.status, wanted.notes), f"{kind}: {ran.returncode}, {ran.stderr!r}")
+            faults += unless((ran.returncode, ran.stderr) == (wanted.status, wanted.notes),
+                             f"{kind}: {ran.returncode}, {ran.stderr!r}")
             faults += unless(same, f"{kind}: the screens differ")
     for most in (1 << 16, 1 << 18, (1 << 20) - 4096):
         with Room(program) as room:
@@ -409,7 +426,8 @@ def refused_words(program):
 
 def main(words):
     """Runs all checks; 1 where one fails."""
-    checks = [two_programs, too_large, rights, left_beside, not_waiting, file_sizes, small_stacks, sums_of_columns, refused_words]
+    checks = [two_programs, too_large, rights, left_beside, not_waiting, file_sizes, small_stacks, sums_of_columns,
+              refused_words]
     if os.geteuid() == 0:
         checks.append(rights_of_others)
     else:
@@ -424,7 +442,8 @@ def main(words):
             faults = check(program)
             for why in faults[:5]:
                 print(f"saves: {check.__name__}: {why}"[:400])
-            print(f"saves: {check.__name__.replace('_', ' ')}: {len(faults)} faults in {time.monotonic() - began:.0f} s")
+            took = time.monotonic() - began
+            print(f"saves: {check.__name__.replace('_', ' ')}: {len(faults)} faults in {took:.0f} s")
             bad += len(faults)
     return 1 if bad else 0
 

@@ -9,7 +9,8 @@ import lemma_rules
 import prose_rules
 import python_rules
 
-TOP_FILES = {".gitignore", "1-2-3", "1-2-3-list", "CHANGELOG.md", "HANDLES", "Makefile", "README.md", "VERSION", "crates.txt"}
+TOP_FILES = {".gitignore", "1-2-3", "1-2-3-list", "CHANGELOG.md", "HANDLES", "Makefile", "README.md", "VERSION",
+             "crates.txt"}
 TOP_FOLDERS = {".ci", "bench", "crates", "docs", "examples", "man", "oracle", "release", "scripts"}
 CRATE_PARTS = {"src", "specs", "proofs", "must-fail", "wrong-bodies", "data", "stdin", "stdout", "args", "status"}
 PRODUCTS = re.compile(r"(^|/)(out|__pycache__)/|\.(o|a|so|rlib|oantt|stamp|pyc)$")
@@ -55,7 +56,8 @@ class Rules:
         self.theorems()
 
     def own_numbers(self, name, lines):
-        """A definition takes no number from the code: two constants of the code that change places change no meaning."""
+        """A definition takes no number from the code: two constants of the code that change places change no
+        meaning."""
         for number, line in enumerate(lines, 1):
             if re.match(r"\s*(ghost )?use .*\bTheConstants\b", line):
                 self.fault(f"{name}:{number}: a definition takes a constant of the code")
@@ -113,7 +115,8 @@ class Rules:
                 continue
             above = at - 1
             attributes = []
-            while above >= 0 and not lines[above].lstrip().startswith("//") and re.search(r"\]$|^ *#\[|^ *\)", lines[above]):
+            while above >= 0 and not lines[above].lstrip().startswith("//") and re.search(r"\]$|^ *#\[|^ *\)",
+                                                                                          lines[above]):
                 attributes.append(lines[above].strip())
                 above -= 1
             if "#[test]" in attributes or lines[max(above, 0)].lstrip().startswith("//"):
@@ -131,7 +134,8 @@ class Rules:
         """The last row and the longest text have names, in code and in definitions."""
         for at, line in enumerate(lines):
             code = re.split("//|--", line)[0]
-            if re.search(r"(?<![\w.])(8191|8192|240)(u8|u16|u32|usize|i64)?(?![\w.])", code) and not re.match(r" *(pub(\(\w+\))? )?const |[A-Z_]+ = ", code):
+            if re.search(r"(?<![\w.])(8191|8192|240)(u8|u16|u32|usize|i64)?(?![\w.])",
+                         code) and not re.match(r" *(pub(\(\w+\))? )?const |[A-Z_]+ = ", code):
                 self.fault(f"{name}:{at + 1}: a number that has a name: {line.strip()[:90]}")
 
     def columns(self, name, lines):
@@ -142,10 +146,12 @@ class Rules:
 
     def edits(self):
         """The gate tries a few wrong bodies of each crate, and the others stand beside them."""
-        count = collections.Counter(name.split("/")[1] for name in self.files if re.match(r"crates/\w+/must-fail/.*\.edit$", name))
+        count = collections.Counter(name.split("/")[1] for name in self.files
+                                    if re.match(r"crates/\w+/must-fail/.*\.edit$", name))
         for crate, many in sorted(count.items()):
             if many > MOST_EDITS:
-                self.fault(f"crates/{crate}/must-fail: {many} edits; the gate tries {MOST_EDITS}, and wrong-bodies/ keeps the others")
+                self.fault(f"crates/{crate}/must-fail: {many} edits; the gate tries {MOST_EDITS}, "
+                           "and wrong-bodies/ keeps the others")
         for name in self.files:
             if re.match(r"crates/\w+/(must-fail|wrong-bodies)/.*\.edit$", name):
                 self.edit(name, "/".join(name.split("/")[:2]))
@@ -176,14 +182,17 @@ class Rules:
         named = crates_named(self.fault)
         folders = {name.split("/")[1] for name in self.files if name.startswith("crates/")}
         for crate in sorted(folders ^ set(named)):
-            self.fault(f"{crate}: {'crates.txt does not name it' if crate in folders else 'crates.txt names it, and there is no such folder'}")
+            self.fault(f"{crate}: " + ("crates.txt does not name it" if crate in folders
+                                       else "crates.txt names it, and there is no such folder"))
         rows = rows_of_map(self.fault)
         for crate in sorted(set(named) ^ set(rows)):
-            self.fault(f"{crate}: {'docs/ARCHITECTURE.md has no row for it' if crate in named else 'docs/ARCHITECTURE.md has a row for it, and crates.txt none'}")
+            self.fault(f"{crate}: " + ("docs/ARCHITECTURE.md has no row for it" if crate in named
+                                       else "docs/ARCHITECTURE.md has a row for it, and crates.txt none"))
         for crate in sorted(set(named) & set(rows)):
             section, cited = named[crate]
             if rows[crate] != (section, cited):
-                self.fault(f"{crate}: docs/ARCHITECTURE.md says {rows[crate][0]}: {' '.join(sorted(rows[crate][1]))}; crates.txt says {section}: {' '.join(sorted(cited))}")
+                self.fault(f"{crate}: docs/ARCHITECTURE.md says {rows[crate][0]}: {' '.join(sorted(rows[crate][1]))}; "
+                           f"crates.txt says {section}: {' '.join(sorted(cited))}")
             for kind in ("check", "test", "time"):
                 if re.search(rf"_{kind}s?$|_rows$|_timing$", crate):
                     self.fault(f"{crate}: checking programs are check_*, test crates test_*, timing programs time_*")
@@ -224,7 +233,8 @@ class Rules:
                         self.fault(f"docs/THEOREMS.md:{number}: there is no file {word} of {crate}'s definitions")
 
     def length_of_definitions(self, text):
-        """docs/THEOREMS.md tells how much one reads, to a fiftieth: the lines and files that scripts/reading_list counts."""
+        """docs/THEOREMS.md tells how much one reads, to a fiftieth: the lines and files that scripts/reading_list
+        counts."""
         told = re.search(r"some ([\d,]+) lines in (\d+) files, with ([\d,]+) more", text)
         if not told:
             self.fault("docs/THEOREMS.md: it doesn't tell how many lines of definitions there are to read")
@@ -232,7 +242,8 @@ class Rules:
         lines, meanings, files = definitions.length()
         for number, now in zip(told.groups(), (lines, files, meanings)):
             if abs(int(number.replace(",", "")) - now) * 50 > now:
-                self.fault(f"docs/THEOREMS.md: tells {number} of the definitions to read where scripts/reading_list counts {now}")
+                self.fault(f"docs/THEOREMS.md: tells {number} of the definitions to read "
+                           f"where scripts/reading_list counts {now}")
 
 
 def crates_named(fault):

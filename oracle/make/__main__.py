@@ -1,7 +1,7 @@
 """The data of check_calls: each line that it answers, and below it the lines of the answer that is wanted.
 
-python3 -B -m oracle.make [SEED]. A line that begins a case stands behind `>`, a further one of the case behind `+`, and an answer's line
-behind `=`. The data of each part stand one behind another, each behind a line `#` with its name."""
+python3 -B -m oracle.make [SEED]. A line that begins a case stands behind `>`, a further one of the case behind `+`, and
+an answer's line behind `=`. The data of each part stand one behind another, each behind a line `#` with its name."""
 import random
 import sys
 
@@ -10,7 +10,8 @@ from . import check_channel, check_outside, check_reports, check_undo
 from .cases import SEED
 
 # the parts: their data and answers, and how a line begins that makes anything anew
-PARTS = {'reports': (check_reports, (b'=',)), 'channel': (check_channel, (b'n ',)), 'outside': (check_outside, (b'keys', b'notes', b'display')),
+PARTS = {'reports': (check_reports, (b'=',)), 'channel': (check_channel, (b'n ',)),
+         'outside': (check_outside, (b'keys', b'notes', b'display')),
          'undo': (check_undo, (b':',))}
 
 

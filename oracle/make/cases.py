@@ -12,8 +12,8 @@ SEED = 1987
 HERE = os.path.dirname(os.path.dirname(os.path.abspath(__file__)))
 OPERATORS = [b'^', b'*', b'/', b'+', b'-', b'=', b'<>', b'<', b'>', b'<=', b'>=', b'#AND#', b'#OR#', b'&']
 TEXT_BYTES = bytes(range(32, 127)) + bytes([128, 163, 200, 225, 255])
-WORDS = [b'FIG', b'c2', b'type', b'address', b'12:30', b'a b  c', b'1-Jun-87', b' 7 ', b'', b'Tax', b'width', b'B4', b'?',
-         b'7.5']
+WORDS = [b'FIG', b'c2', b'type', b'address', b'12:30', b'a b  c', b'1-Jun-87', b' 7 ', b'', b'Tax', b'width', b'B4',
+         b'?', b'7.5']
 
 
 def worked(name):
@@ -30,7 +30,8 @@ def decimal(r):
         lambda: b'.%d' % r.randrange(1, 10 ** r.randrange(1, 9)),
         lambda: b'%d.' % r.randrange(100000),
         lambda: b'0' * r.randrange(1, 4) + b'%d.%d' % (r.randrange(1000), r.randrange(1000)),
-        lambda: r.choice([b'0', b'1', b'0.0000005', b'0.00000049', b'999999999.999999', b'1000000000', b'127', b'8191']),
+        lambda: r.choice([b'0', b'1', b'0.0000005', b'0.00000049', b'999999999.999999', b'1000000000', b'127',
+                          b'8191']),
     ])()
 
 
@@ -47,8 +48,8 @@ def any_double(r):
         r.randrange(-10 ** 9, 10 ** 9), r.randrange(-10 ** 15, 10 ** 15)]))
     odd = r.randrange(24)
     if odd == 0:
-        bits = r.choice([fixed.ERR_BITS, fixed.NA_BITS, fixed.ERR_BITS + 1, fixed.NA_BITS + 1, 0x7FF8 << 48, 0xFFF8 << 48,
-                         1 << 63, 1, (1 << 63) + 1])
+        bits = r.choice([fixed.ERR_BITS, fixed.NA_BITS, fixed.ERR_BITS + 1, fixed.NA_BITS + 1, 0x7FF8 << 48,
+                         0xFFF8 << 48, 1 << 63, 1, (1 << 63) + 1])
     elif odd == 1:
         # the largest number, what is nearest to it and beyond
         bits = fixed.to_double_bits(999_999_999_999_999) + r.choice([0, 1, 2, 3, 4, 5]) + r.choice([0, 1 << 63])
@@ -136,13 +137,15 @@ class Texts:
 
 # the places of arguments that are spans
 RANGED = {b'SUM': (0,), b'AVG': (0,), b'COUNT': (0,), b'MIN': (0,), b'MAX': (0,), b'VLOOKUP': (1,), b'HLOOKUP': (1,),
-          b'INDEX': (0,), b'COLS': (0,), b'ROWS': (0,), b'CELL': (1,), b'DSUM': (0, 2), b'DAVG': (0, 2), b'DCOUNT': (0, 2),
+          b'INDEX': (0,), b'COLS': (0,), b'ROWS': (0,), b'CELL': (1,), b'DSUM': (0, 2), b'DAVG': (0, 2),
+          b'DCOUNT': (0, 2),
           b'DMIN': (0, 2), b'DMAX': (0, 2)}
 
 
 # the places of arguments that are texts
 WORDED = {b'LENGTH': (0,), b'VALUE': (0,), b'MID': (0,), b'LEFT': (0,), b'RIGHT': (0,), b'CODE': (0,), b'FIND': (0, 1),
-          b'REPEAT': (0,), b'REPLACE': (0, 3), b'UPPER': (0,), b'LOWER': (0,), b'PROPER': (0,), b'TRIM': (0,), b'CLEAN': (0,),
+          b'REPEAT': (0,), b'REPLACE': (0, 3), b'UPPER': (0,), b'LOWER': (0,), b'PROPER': (0,), b'TRIM': (0,),
+          b'CLEAN': (0,),
           b'EXACT': (0, 1), b'DATEVALUE': (0,), b'TIMEVALUE': (0,), b'@': (0,), b'CELL': (0,), b'CELLPOINTER': (0,)}
 
 
@@ -192,7 +195,8 @@ def any_case(r, word):
 SPAN_NAMES = [b'TAX', b'NET_PAY', b'q2', b'Z9', b'TOTAL OF ALL', b'AREA']
 
 FAR_CELLS = [b'IV1', b'IU2', b'A8192', b'B8191', b'C8189', b'IV8192']
-FAR_SPANS = [b'IU1..IV2', b'IV8192', b'A8190..C8192', b'IT8191..IV8192', b'A4..A8192', b'C1..IV1', b'B2..IV3', b'A1..B8192']
+FAR_SPANS = [b'IU1..IV2', b'IV8192', b'A8190..C8192', b'IT8191..IV8192', b'A4..A8192', b'C1..IV1', b'B2..IV3',
+             b'A1..B8192']
 
 
 def records_of_column(r):
@@ -203,7 +207,8 @@ def records_of_column(r):
 
 
 class Sheets:
-    """Lines of small sheets: edits around A1 to C4, which are made as they come, so that formulas are entered with names that are there."""
+    """Lines of small sheets: edits around A1 to C4, which are made as they come, so that formulas are entered with
+    names that are there."""
 
     def __init__(self, r):
         self.r = r
@@ -234,7 +239,8 @@ class Sheets:
                 lambda: b'@IF(' + texts.cell() + b'>' + texts.cell() + b',' + texts.cell() + b',4)',
                 lambda: r.choice([b'@INT(@NOW)', b'@@("B4")', b'@CELL("width",' + texts.cell() + b')', b'@NA', b'1/0']),
                 lambda: b'@CELL("contents",' + texts.span() + b')', lambda: records_of_column(r),
-                lambda: r.choice([b'@SUM(', b'@COUNT(', b'@ROWS(']) + r.choice([b'', b'$']) + r.choice(SPAN_NAMES) + b')'])()
+                lambda: r.choice([b'@SUM(', b'@COUNT(', b'@ROWS(']) + r.choice([b'', b'$']) + r.choice(SPAN_NAMES)
+                + b')'])()
             is_plain = text[:1] in (b'', b"'", b'"', b'^', b'\\', b'|') or isinstance(fixed.read_decimal(text), int)
             if is_plain or is_read(text, read_cell(cell), self.desk.sheet.names):
                 return text
@@ -245,7 +251,8 @@ class Sheets:
         return r.choice([self.cell, self.cell, self.span, lambda: r.choice(FAR_CELLS + FAR_SPANS)])()
 
     def shift(self):
-        """A move, or lines inserted or deleted: some far away, and some that leave the sheet or push cells out of it."""
+        """A move, or lines inserted or deleted: some far away, and some that leave the sheet or push cells out of
+        it."""
         r = self.r
         from_span = self.span() if r.randrange(6) else r.choice(FAR_SPANS)
         to = self.cell() if r.randrange(6) else r.choice(FAR_CELLS)
@@ -328,9 +335,11 @@ class Blocks:
         number = lambda: r.choice([b'0', b'1', b'2', b'3', b'-1', b'1.5', b'0.000001', b'-999999999.999999'])
         if plain and r.randrange(4):
             return number()
-        label = lambda: bytes([r.choice(b"'\"^\\|")]) + r.choice([b'fig', b'Fig', b'FIG', b'fi', b'', b'b', b'B', b'1', b'\xe9'])
+        label = lambda: bytes([r.choice(b"'\"^\\|")]) + r.choice([b'fig', b'Fig', b'FIG', b'fi', b'', b'b', b'B', b'1',
+                                                                  b'\xe9'])
         near = lambda: cell_text(self.place())
-        formula = lambda: r.choice([b'@NA', b'@ERR', b'1/0', b'+"fig"', b'+"Fig"', b'+' + near(), b'+$' + near() + b'*2',
+        formula = lambda: r.choice([b'@NA', b'@ERR', b'1/0', b'+"fig"', b'+"Fig"', b'+' + near(), b'+$' + near()
+                                    + b'*2',
                                     b'@SUM(' + span_text((self.place(), self.place())) + b')'])
         return r.choice([number, number, label, label, formula, lambda: b''])()
 
@@ -354,7 +363,8 @@ class Blocks:
         last = min(first[0] + r.randrange(3), 255), min(first[1] + r.randrange(6), 8191)
         number = lambda: r.choice([b'%d' % r.randrange(-4, 9), b'%.1f' % r.uniform(-3, 3), b'999999999.999997',
                                    b'-999999999.999998', b'0'])
-        step = lambda: r.choice([b'1', b'1', b'2', b'-1', b'0.5', b'-0.1', b'0', b'-0', b'0.0000001', b'0.000001', b'600000000'])
+        step = lambda: r.choice([b'1', b'1', b'2', b'-1', b'0.5', b'-0.1', b'0', b'-0', b'0.0000001', b'0.000001',
+                                 b'600000000'])
         stop = lambda: r.choice([number(), b'8191', b'8191', b'-8191', b'999999999.999999', b'-999999999.999999'])
         return b'f' + b' '.join([span_text((first, last)), number(), step(), stop()])
 
@@ -370,7 +380,8 @@ class Blocks:
         r = self.r
         bins = self.span() if r.randrange(2) else (self.place(),) * 2
         if r.randrange(8) == 0:
-            bins = r.choice([((255, 0), (255, 2)), ((254, 8190), (254, 8191)), ((254, 8189), (255, 8190)), ((3, 0), (5, 2))])
+            bins = r.choice([((255, 0), (255, 2)), ((254, 8190), (254, 8191)), ((254, 8189), (255, 8190)),
+                             ((3, 0), (5, 2))])
         return b'd' + span_text(self.span()) + b' ' + span_text(bins)
 
     def asked(self, count):
@@ -393,8 +404,10 @@ class Queries:
         """A fresh sheet with records and a criterion."""
         r = self.r
         self.names = r.sample(self.NAMES, 4)
-        self.input = self.range(r.choice([(0, 0), (0, 0), (2, 3), (0, 8184)]), r.randrange(1, 5), r.choice([1, 2, *range(3, 9)] * 2 + [7]))
-        self.criterion = self.range(r.choice([(6, 0), (6, 0), (6, 3), (6, 8189)]), r.randrange(1, 4), r.choice([1, 2, 2, 2, 3, 3]))
+        self.input = self.range(r.choice([(0, 0), (0, 0), (2, 3), (0, 8184)]), r.randrange(1, 5),
+                                r.choice([1, 2, *range(3, 9)] * 2 + [7]))
+        self.criterion = self.range(r.choice([(6, 0), (6, 0), (6, 3), (6, 8189)]), r.randrange(1, 4),
+                                    r.choice([1, 2, 2, 2, 3, 3]))
         writes = [self.put(cell, self.header(i)) for i, cell in enumerate(self.row(self.input, 0))]
         for line in range(1, height_of(self.input)):
             writes += [self.put(cell, self.value()) for cell in self.row(self.input, line)]
@@ -428,7 +441,8 @@ class Queries:
     def value(self):
         """A field's value."""
         r = self.r
-        return r.choice([lambda: b'%d' % r.randrange(4), lambda: b"'" + r.choice([b'fig', b'Fig', b'fi', b'figs', b'', b'b']),
+        return r.choice([lambda: b'%d' % r.randrange(4), lambda: b"'"
+                         + r.choice([b'fig', b'Fig', b'fi', b'figs', b'', b'b']),
                          lambda: r.choice([b'', b'@NA', b'@ERR', b'+"fig"', b'1.5', b'+' + self.near()])])()
 
     def near(self):
@@ -436,17 +450,19 @@ class Queries:
         r = self.r
         first, last = self.input
         cell = r.randrange(first[0], last[0] + 1), min(first[1] + r.choice([1, 1, 1, 0, 2]), 8191)
-        return r.choice([b'', b'', b'', b'$']) + col_text(cell[0]) + r.choice([b'', b'', b'', b'$']) + b'%d' % (cell[1] + 1)
+        return r.choice([b'', b'', b'', b'$']) + col_text(cell[0]) + r.choice([b'', b'', b'',
+                                                                               b'$']) + b'%d' % (cell[1] + 1)
 
     def condition(self):
         """A condition of a criterion."""
         r = self.r
         number = lambda: b'%d' % r.randrange(4)
-        pattern = lambda: b"'" + r.choice([b'fig', b'f*', b'?i?', b'~fig', b'~f*', b'~', b'', b'*', b'fig?', b'~*', b'x*y', b'FI*z'])
+        pattern = lambda: b"'" + r.choice([b'fig', b'f*', b'?i?', b'~fig', b'~f*', b'~', b'', b'*', b'fig?', b'~*',
+                                           b'x*y', b'FI*z'])
         formula = lambda: r.choice([
             b'+' + self.near() + r.choice([b'>', b'<', b'=', b'<>']) + r.choice([number(), self.near(), b'"fig"']),
-            b'@ISSTRING(' + self.near() + b')', b'@SUM(' + self.near() + b'..' + self.near() + b')>3', b'+"1"', b'1', b'@NA',
-            b'+' + self.near(), b'@CELL("row",' + self.near() + b')>3'])
+            b'@ISSTRING(' + self.near() + b')', b'@SUM(' + self.near() + b'..' + self.near() + b')>3', b'+"1"', b'1',
+            b'@NA', b'+' + self.near(), b'@CELL("row",' + self.near() + b')>3'])
         return r.choice([lambda: b'', lambda: b'', number, pattern, pattern, formula, formula])()
 
     def asked(self, count):
@@ -466,7 +482,8 @@ class Extractions(Queries):
         """A fresh sheet with records, a criterion and an output."""
         r = self.r
         lines = super().sheet()
-        first = r.choice([(10, 0), (10, 0), (10, 0), (10, 3), (10, 8180), (10, 8186), (10, 8190), (10, 8191), (254, 0), self.input[0]])
+        first = r.choice([(10, 0), (10, 0), (10, 0), (10, 3), (10, 8180), (10, 8186), (10, 8190), (10, 8191), (254, 0),
+                          self.input[0]])
         rows = r.choice([1 if first[1] >= 8180 else 5, 2, 3, 4, 5, 7, 8, 9])
         self.output = self.range(first, r.randrange(1, 5), rows)
         lines[1] += b''.join(b'\t' + self.put(cell, self.taken()) for cell in self.row(self.output, 0)
@@ -479,7 +496,8 @@ class Extractions(Queries):
 
     def value(self):
         """One of few values; the same text as a label of each alignment, in other letters, and as a formula's value."""
-        return self.r.choice([b'1', b'1', b'2', b"'fig", b"'fig", b'^fig', b"'Fig", b'+"fig"', b'', b"'", b'@NA', b'@ERR', b'1.000001'])
+        return self.r.choice([b'1', b'1', b'2', b"'fig", b"'fig", b'^fig', b"'Fig", b'+"fig"', b'', b"'", b'@NA',
+                              b'@ERR', b'1.000001'])
 
     def condition(self):
         """Mostly one that all records or many of them meet."""
@@ -489,7 +507,8 @@ class Extractions(Queries):
     def taken(self):
         """A header of an output: a field's name, nothing, what is no label, or seldom a label that is no field."""
         r = self.r
-        return r.choice([b'', b'1', b'+"N"']) if r.randrange(6) == 0 else b"'nobody" if r.randrange(40) == 0 else self.header()
+        return r.choice([b'', b'1',
+                         b'+"N"']) if r.randrange(6) == 0 else b"'nobody" if r.randrange(40) == 0 else self.header()
 
     def asked(self, count):
         """So many of each, a fresh sheet for each two."""
@@ -502,12 +521,15 @@ class Extractions(Queries):
 
 
 class Macros:
-    """Small sheets whose cells hold macros that write their own cells, those of others, and cells that text formulas read."""
+    """Small sheets whose cells hold macros that write their own cells, those of others, and cells that text formulas
+    read."""
 
-    TARGETS = [b'A1', b'A2', b'B1', b'B2', b'C3', b'D1', b'D2', b'E1', b'F1', b'COUNT', b'SUB', b'CODE', b'A8192', b'd1', b'iv8192']
-    NAMES = [(b'D2..D3', b'SUB'), (b'E1', b'CODE'), (b'A1', b'COUNT'), (b'D1', b'AGAIN'), (b'B1..C3', b'TABLE'), (b'F1', b'NET PAY')]
-    BROKEN = [b'{', b'}', b'{SUB', b'/XI1', b'{NOWORD}', b'{NET PAY}', b'{GET A1}', b'{BEEP}', b'{?}', b'{MENUCALL A1}', b'/XMA1~',
-              b'{PANELOFF}', b'{WAIT 1}', b'{LOOK A1}', b'{READ 3,A1}', b'{"}']
+    TARGETS = [b'A1', b'A2', b'B1', b'B2', b'C3', b'D1', b'D2', b'E1', b'F1', b'COUNT', b'SUB', b'CODE', b'A8192',
+               b'd1', b'iv8192']
+    NAMES = [(b'D2..D3', b'SUB'), (b'E1', b'CODE'), (b'A1', b'COUNT'), (b'D1', b'AGAIN'), (b'B1..C3', b'TABLE'),
+             (b'F1', b'NET PAY')]
+    BROKEN = [b'{', b'}', b'{SUB', b'/XI1', b'{NOWORD}', b'{NET PAY}', b'{GET A1}', b'{BEEP}', b'{?}', b'{MENUCALL A1}',
+              b'/XMA1~', b'{PANELOFF}', b'{WAIT 1}', b'{LOOK A1}', b'{READ 3,A1}', b'{"}']
 
     def __init__(self, r):
         self.r = r
@@ -516,27 +538,30 @@ class Macros:
     def target(self):
         """A place, seldom none."""
         r = self.r
-        return r.choice([b'$A$1', b' A1', b'NOWHERE', b'A1..B2', b'', b'1', b'A8193']) if r.randrange(25) == 0 else r.choice(self.TARGETS)
+        return r.choice([b'$A$1', b' A1', b'NOWHERE', b'A1..B2', b'', b'1',
+                         b'A8193']) if r.randrange(25) == 0 else r.choice(self.TARGETS)
 
     def range(self):
         """A range, seldom none."""
         r = self.r
-        return r.choice([b'TABLE', b'B1..C3', b'C3.B1', b'A1', b'D1..D3', b'SUB', b'A1..B2', b'E1..E2', b'A8191..A8192', self.target()])
+        return r.choice([b'TABLE', b'B1..C3', b'C3.B1', b'A1', b'D1..D3', b'SUB', b'A1..B2', b'E1..E2', b'A8191..A8192',
+                         self.target()])
 
     def number(self):
         """A number by an expression, seldom none."""
         r = self.r
         if r.randrange(12) == 0:
             return r.choice([b'@ERR', b'@NA', b'"x"', b'', b'1,', b'A1..B2', b'1 2', b'@SUM(', b'CODE', b'E1'])
-        return r.choice([b'%d' % r.randrange(5), b'%d' % r.randrange(-3, 10), b'A1', b'COUNT', b'A1+1', b'@SUM(A1,B1)', b'B2', b'1.9', b'-0.5',
-                         b'@COUNT(A1..B2)', b'@IF(A1<3,1,0)', b'9999999'])
+        return r.choice([b'%d' % r.randrange(5), b'%d' % r.randrange(-3, 10), b'A1', b'COUNT', b'A1+1', b'@SUM(A1,B1)',
+                         b'B2', b'1.9', b'-0.5', b'@COUNT(A1..B2)', b'@IF(A1<3,1,0)', b'9999999'])
 
     def value(self):
         """What LET puts."""
         r = self.r
-        text = r.choice([self.number(), b'A1+1', b'COUNT*2', b'"{LET A1,2}"', b'{LET A1', b'some text', b'"a,b"', b'(A1,B1)', b'B1&"~"', b'',
-                         b'@REPEAT("x",A1)', b'"~"', b'7', self.texts.tree(1)])
-        return text + r.choice([b'', b'', b'', b':value', b':STRING', b':String', b':VALUE:string', b':string:value', b':strin'])
+        text = r.choice([self.number(), b'A1+1', b'COUNT*2', b'"{LET A1,2}"', b'{LET A1', b'some text', b'"a,b"',
+                         b'(A1,B1)', b'B1&"~"', b'', b'@REPEAT("x",A1)', b'"~"', b'7', self.texts.tree(1)])
+        return text + r.choice([b'', b'', b'', b':value', b':STRING', b':String', b':VALUE:string', b':string:value',
+                                b':strin'])
 
     def word(self):
         """A word, mostly whole."""
@@ -545,33 +570,46 @@ class Macros:
         if pick < 4:
             return b'{LET ' + self.target() + sep + self.value() + b'}'
         if pick < 6:
-            return b'{' + r.choice([b'DOWN', b'R', b'ESC', b'HOME', b'CALC']) + r.choice([b'', b'', b' ' + self.number(), b' ' + self.number()]) + b'}'
+            name = r.choice([b'DOWN', b'R', b'ESC', b'HOME', b'CALC'])
+            return b'{' + name + r.choice([b'', b'', b' ' + self.number(), b' ' + self.number()]) + b'}'
         if pick < 8:
             return r.choice([b'~', b'x', b'1', b'/', b'/WC', b'{~}', b'{{}', b'{}}', b'"', b' '])
         if pick < 10:
-            return r.choice([b'{SUB}', b'{AGAIN}', b'{CODE}', b'{SUB ' + sep.join([self.value() for _ in range(r.randrange(1, 4))]) + b'}',
+            return r.choice([b'{SUB}', b'{AGAIN}', b'{CODE}', b'{SUB '
+                             + sep.join([self.value() for _ in range(r.randrange(1, 4))]) + b'}',
                              b'{sub ' + self.number() + b'}', b'{TABLE}'])
         if pick < 12:
-            return b'{FOR ' + sep.join([self.target(), self.number(), self.number(), r.choice([b'1', b'1', b'2', b'-1', b'0.5', self.number()]),
+            return b'{FOR ' + sep.join([self.target(), self.number(), self.number(),
+                                        r.choice([b'1', b'1', b'2', b'-1', b'0.5', self.number()]),
                                         r.choice([b'SUB', b'E1', b'D2', b'D3', self.target()])]) + b'}'
         if pick < 15:
-            return b'{IF ' + r.choice([b'A1<3', b'A1=2', b'@TRUE', b'@FALSE', b'"a"', self.number(), self.texts.tree(1)]) + b'}'
+            return b'{IF ' + r.choice([b'A1<3', b'A1=2', b'@TRUE', b'@FALSE', b'"a"', self.number(),
+                                       self.texts.tree(1)]) + b'}'
+        return self.other_word(sep)
+
+    def other_word(self, sep):
+        """Any other word."""
+        r = self.r
         return r.choice([
             lambda: b'{BRANCH ' + self.target() + b'}', lambda: b'{DISPATCH ' + self.target() + b'}',
-            lambda: b'{RETURN}', lambda: b'{FORBREAK}', lambda: b'{RESTART}', lambda: b'{QUIT}', lambda: b'/XR', lambda: b'/xq',
-            lambda: b'/XI' + self.number() + b'~', lambda: b'/XG' + self.target() + b'~', lambda: b'/XC' + self.target() + b'~',
+            lambda: b'{RETURN}', lambda: b'{FORBREAK}', lambda: b'{RESTART}', lambda: b'{QUIT}', lambda: b'/XR',
+            lambda: b'/xq', lambda: b'/XI' + self.number() + b'~', lambda: b'/XG' + self.target() + b'~',
+            lambda: b'/XC' + self.target() + b'~',
             lambda: b'{BLANK ' + self.range() + b'}', lambda: b'{BLANK ' + self.range() + b'}',
             lambda: b'{PUT ' + sep.join([self.range(), self.number(), self.number(), self.value()]) + b'}',
-            lambda: b'{PUT TABLE' + sep + sep.join([r.choice([b'0', b'1', b'1.9', b'2']), r.choice([b'0', b'2', b'3', b'-0.5'])])
-            + sep + self.value() + b'}',
-            lambda: b'{CONTENTS ' + sep.join([self.target(), self.target(), b'%d' % r.randrange(242), b'%d' % r.randrange(-1, 258)][:r.randrange(1, 6)]) + b'}',
-            lambda: b'{CONTENTS ' + sep.join([self.target(), self.target(), b'%d' % r.randrange(1, 20),
-                                              r.choice([b'117', b'118', b'2', b'114', b'255', b'113'])][:r.randrange(2, 5)]) + b'}',
+            lambda: b'{PUT TABLE' + sep + sep.join([
+                r.choice([b'0', b'1', b'1.9', b'2']), r.choice([b'0', b'2', b'3', b'-0.5']), self.value()]) + b'}',
+            lambda: b'{CONTENTS ' + sep.join([self.target(), self.target(), b'%d' % r.randrange(242),
+                                              b'%d' % r.randrange(-1, 258)][:r.randrange(1, 6)]) + b'}',
+            lambda: b'{CONTENTS ' + sep.join([
+                self.target(), self.target(), b'%d' % r.randrange(1, 20),
+                r.choice([b'117', b'118', b'2', b'114', b'255', b'113'])][:r.randrange(2, 5)]) + b'}',
             lambda: b'{DEFINE ' + sep.join([self.target() + r.choice([b'', b':value', b':string', b':VALUE', b':val'])
                                             for _ in range(r.choice([1, 1, 2, 2, 3]))]) + b'}',
             lambda: b'{ONERROR ' + sep.join([self.target(), self.target(), b'A1'][:r.choice([1, 2, 2, 3])]) + b'}',
-            lambda: r.choice([b'{RECALC ', b'{RECALCCOL ']) + sep.join([self.range(), r.choice([b'A1>1', b'@TRUE', b'0', self.number()]),
-                                                                      r.choice([b'1', b'50', b'51', b'0', b'2.9', self.number()])][:r.randrange(1, 4)]) + b'}',
+            lambda: r.choice([b'{RECALC ', b'{RECALCCOL ']) + sep.join([
+                self.range(), r.choice([b'A1>1', b'@TRUE', b'0', self.number()]),
+                r.choice([b'1', b'50', b'51', b'0', b'2.9', self.number()])][:r.randrange(1, 4)]) + b'}',
             lambda: b'{' + r.choice([b'RETURN', b'QUIT', b'IF', b'LET', b'FOR', b'BLANK', b'PUT', b'DEFINE', b'BRANCH'])
             + r.choice([b'', b' ', b' ,', b' 1,2,3,4,5,6', b' A1']) + b'}',
             lambda: r.choice(self.BROKEN)])()
@@ -579,9 +617,11 @@ class Macros:
     def text(self):
         """A macro's text, sometimes by a formula."""
         r = self.r
-        text = b''.join(any_case(r, self.word()) if r.randrange(4) == 0 else self.word() for _ in range(r.choice([1, 2, 3, 4])))
+        text = b''.join(any_case(r, self.word()) if r.randrange(4) == 0 else self.word()
+                        for _ in range(r.choice([1, 2, 3, 4])))
         if r.randrange(8) == 0:
-            return r.choice([b'+E1&"{SUB}"', b'+"{LET A1,"&B1&"}"', b'@IF(A1>2,"{QUIT}","{LET A1,A1+1}")', b'+B1', b'@REPEAT("~",A1)'])
+            return r.choice([b'+E1&"{SUB}"', b'+"{LET A1,"&B1&"}"', b'@IF(A1>2,"{QUIT}","{LET A1,A1+1}")', b'+B1',
+                             b'@REPEAT("~",A1)'])
         return (r.choice([b"'", b"'", b"'", b'^', b'"', b'\\']) + text)[:240]
 
     def sheet(self):
@@ -589,7 +629,8 @@ class Macros:
         r = self.r
         out = [b':'] + [b'+' + span + b' ' + name for span, name in self.NAMES]
         cells = [(cell, self.text()) for cell in (b'D1', b'D2', b'D3', b'E1') if r.randrange(8)]
-        cells += [(cell, r.choice([b'%d' % r.randrange(4), b'%.2f' % r.uniform(-5, 5), b"'D1", b"'SUB", b"'E2", b'^word', b'+A1+1', b'@ERR', b'+"x"&"D3"',
+        cells += [(cell, r.choice([b'%d' % r.randrange(4), b'%.2f' % r.uniform(-5, 5), b"'D1", b"'SUB", b"'E2",
+                                   b'^word', b'+A1+1', b'@ERR', b'+"x"&"D3"',
                                    b'@NA', b'', b'"right', b'\\-=', b'31929']))
                   for cell in (b'A1', b'A2', b'B1', b'B2', b'C3', b'F1')]
         cells += [(cell, self.text()) for cell in (b'D4', b'E2', b'F2', b'D8192') if r.randrange(2)]
@@ -607,6 +648,7 @@ class Macros:
         out = []
         while count > 0:
             out += self.sheet()
-            out += [b'rD1 40', b'r' + self.r.choice([b'D2', b'D3', b'E1', b'E1', b'D2', b'D4', b'E2', b'D8192']) + b' 40']
+            out += [b'rD1 40', b'r' + self.r.choice([b'D2', b'D3', b'E1', b'E1', b'D2', b'D4', b'E2', b'D8192'])
+                    + b' 40']
             count -= 2
         return out

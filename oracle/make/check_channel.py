@@ -36,9 +36,11 @@ class Desk:
         return {b'p': lambda: self.put(words[0], bytes_of(words[1])),
                 b'd': lambda: self.put(words[0], b'x' * 2 ** int(words[1]) + bytes_of(words[2])),
                 b'a': lambda: channel.attach(file_name(words[0], 'TXT'), words[1].decode(), self.shelf),
-                b'f': lambda: channel.finish(self.shelf), b'r': lambda: channel.read(min(int(rest), MOST_READ)), b'l': channel.read_line,
+                b'f': lambda: channel.finish(self.shelf), b'r': lambda: channel.read(min(int(rest), MOST_READ)),
+                b'l': channel.read_line,
                 b'w': lambda: channel.write(bytes_of(rest)), b's': channel.size, b'c': channel.position,
-                b't': lambda: channel.set_position(int(rest)), b'g': lambda: self.shelf.get(file_name(words[0], 'TXT'))}[head]()
+                b't': lambda: channel.set_position(int(rest)),
+                b'g': lambda: self.shelf.get(file_name(words[0], 'TXT'))}[head]()
 
 
 def told(answer):
@@ -68,10 +70,11 @@ class Calls:
         self.desk = Desk([])
 
     def text(self):
-        """Bytes with ends of lines of both kinds, one below 32, and seldom a line that is longer than is read at once."""
+        """Bytes with ends of lines of both kinds, one below 32, and seldom a line that is longer than is read at
+        once."""
         r = self.r
-        part = lambda: r.choice([b'', b'ab', b'A\tB', b'\r', b'\n', b'\r\n', b'\n', b'\r\r\n-', b'x' * r.choice([5, 239, 240, 241, 480]),
-                                 bytes([r.randrange(256)])])
+        part = lambda: r.choice([b'', b'ab', b'A\tB', b'\r', b'\n', b'\r\n', b'\n', b'\r\r\n-',
+                                 b'x' * r.choice([5, 239, 240, 241, 480]), bytes([r.randrange(256)])])
         return b''.join(part() for _ in range(r.choice([0, 1, 2, 3, 5]))).hex().encode()
 
     def name(self):
@@ -93,8 +96,10 @@ class Calls:
         reading = [lambda: b'l', lambda: b'l', lambda: b'r %d' % r.choice([0, 1, 2, 5, 40, 239, 240])]
         writing = [lambda: b'w ' + self.text()] * 2
         telling = [lambda: b's', lambda: b'c', self.placing, self.placing]
-        other = [self.attaching, lambda: b'f', lambda: b'g ' + self.name(), lambda: b'p ' + self.name() + b' ' + self.text()]
-        of_access = {None: [self.attaching] * 3, 'R': reading * 4, 'W': writing * 3, 'M': (reading + writing) * 2}[access]
+        other = [self.attaching, lambda: b'f', lambda: b'g ' + self.name(), lambda: b'p ' + self.name() + b' '
+                 + self.text()]
+        of_access = {None: [self.attaching] * 3, 'R': reading * 4, 'W': writing * 3,
+                     'M': (reading + writing) * 2}[access]
         return r.choice(of_access + telling + other + (reading + writing if r.randrange(6) == 0 else []))()
 
     def calls(self, count):

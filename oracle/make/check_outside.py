@@ -1,5 +1,5 @@
-"""Calls of keys, notes and a display in memory: the data of this part of check_calls, and what it must answer. Its own text
-tells the lines."""
+"""Calls of keys, notes and a display in memory: the data of this part of check_calls, and what it must answer. Its own
+text tells the lines."""
 from ..model.outside import Failed, ListKeys, ListNotes, Recorder
 from .cases import worked
 
@@ -28,7 +28,8 @@ class Desk:
         if head == b'key':
             key = self.keys.next()
             return b'none\n' if key is None else b'%d\n' % key
-        {b'note': lambda: self.notes.write(bytes.fromhex(words[0].decode())), b'put': lambda: self.display.put(0, 0, b'A'),
+        {b'note': lambda: self.notes.write(bytes.fromhex(words[0].decode())),
+         b'put': lambda: self.display.put(0, 0, b'A'),
          b'done': self.display.done, b'close': self.display.close}[head]()
         return b'yes\n'
 
@@ -68,7 +69,8 @@ def notes(r):
 
 def displays(r):
     """A display, whose room comes to its end."""
-    return [b'display %d' % r.randrange(4) + numbers(r)] + [r.choice([b'put', b'done', b'done', b'close']) for _ in range(8)]
+    return [b'display %d' % r.randrange(4) + numbers(r)] + [r.choice([b'put', b'done', b'done', b'close'])
+                                                            for _ in range(8)]
 
 
 def data(r):

@@ -1,4 +1,5 @@
-"""Reports of small worksheets: the data of this part of check_calls, and what it must answer. Its own text tells the lines."""
+"""Reports of small worksheets: the data of this part of check_calls, and what it must answer. Its own text tells the
+lines."""
 from ..model import formula, report, wk1
 from ..model.address import cell_text, read_cell, read_span, span_text
 from ..model.dates import Moment
@@ -69,9 +70,10 @@ def answers(lines):
 # ---------------------------------------------------------------- the worksheets
 
 class Worksheet:
-    """A worksheet that is made by lines: `n WIDTH FORMAT` for a new one, `w COLUMN WIDTH` for a column's own width, `h COLUMN` to hide one,
-    `m NAME SPAN` for a name, and `c CELL FORMAT CONTENT` for a cell. A content is `b` for blank, `n MILLIONTHS`, `l PREFIX TEXT` or
-    `f TEXT VALUE`, where a value is `n MILLIONTHS`, `s TEXT`, `e` for ERR or `a` for NA."""
+    """A worksheet that is made by lines: `n WIDTH FORMAT` for a new one, `w COLUMN WIDTH` for a column's own width,
+    `h COLUMN` to hide one, `m NAME SPAN` for a name, and `c CELL FORMAT CONTENT` for a cell. A content is `b` for
+    blank, `n MILLIONTHS`, `l PREFIX TEXT` or `f TEXT VALUE`, where a value is `n MILLIONTHS`, `s TEXT`, `e` for
+    ERR or `a` for NA."""
 
     def __init__(self):
         self.clear(9, 113)
@@ -122,7 +124,8 @@ class Worksheet:
 
 def value_of(kind, held=b''):
     """A formula's value."""
-    return {b'n': lambda: num(int(held)), b's': lambda: string(bytes_of(held)), b'e': lambda: ERR, b'a': lambda: NA}[kind]()
+    return {b'n': lambda: num(int(held)), b's': lambda: string(bytes_of(held)), b'e': lambda: ERR,
+            b'a': lambda: NA}[kind]()
 
 
 class Reports:
@@ -140,9 +143,11 @@ class Reports:
         self.left, self.top = r.choice([(0, 0), (0, 0), (0, 7), (3, 8180), (250, 8180)])
         corner = self.left, self.top
         near = span_text((corner, (min(self.left + 2, 255), min(self.top + 3, 8191))))
-        out = [b'n %d %d' % (r.choice([9, 9, 9, 3, 1, 40, 155, 240]), r.choice([113, 113, 113, 2, 34, 114, 117, 118, 122])),
+        out = [b'n %d %d' % (r.choice([9, 9, 9, 3, 1, 40, 155, 240]),
+                             r.choice([113, 113, 113, 2, 34, 114, 117, 118, 122])),
                b'm %s %s' % (b'TOTAL'.hex().encode(), cell_text(corner)), b'm %s %s' % (b'RATES'.hex().encode(), near)]
-        out += [b'w %d %d' % (self.col(), r.choice([1, 2, 3, 12, 20, 72, 73, 200, 240])) for _ in range(r.choice([0, 0, 1, 2, 3]))]
+        out += [b'w %d %d' % (self.col(), r.choice([1, 2, 3, 12, 20, 72, 73, 200, 240]))
+                for _ in range(r.choice([0, 0, 1, 2, 3]))]
         out += [b'h %d' % self.col() for _ in range(r.choice([0, 0, 1, 2]))]
         cells = {(self.col(), min(self.top + r.randrange(12), 8191)) for _ in range(r.choice([0, 2, 6, 12, 16]))}
         return out + [b'c %s %d ' % (cell_text(cell), r.choice(self.CODES)) + self.content() for cell in sorted(cells)]
@@ -160,38 +165,45 @@ class Reports:
     def content(self):
         """What a cell holds: mostly a number, else a label or a formula."""
         r = self.r
-        number = lambda: r.choice([r.randrange(-9, 999) * 1000000, 500000, 1, 0, -1, r.randrange(-10 ** 15 + 1, 10 ** 15), 31929000000,
-                                   173467103265053])
+        number = lambda: r.choice([r.randrange(-9, 999) * 1000000, 500000, 1, 0, -1,
+                                   r.randrange(-10 ** 15 + 1, 10 ** 15), 31929000000, 173467103265053])
         label = lambda: b'l %d ' % r.choice(b"'\"^\\|") + self.text([0, 1, 2, 5, 12, 20, 30, 60, 240]).hex().encode()
-        value = lambda: r.choice([lambda: b'n %d' % number(), lambda: b's ' + self.text([0, 3, 9, 30]).hex().encode(), lambda: b'e', lambda: b'a'])()
+        value = lambda: r.choice([lambda: b'n %d' % number(), lambda: b's ' + self.text([0, 3, 9, 30]).hex().encode(),
+                                  lambda: b'e', lambda: b'a'])()
         spelled = lambda: b'f ' + r.choice(self.FORMULAS).hex().encode() + b' ' + value()
-        return r.choice([label, label, label, lambda: b'n %d' % number(), lambda: b'n %d' % number(), spelled, spelled, lambda: b'b'])()
+        return r.choice([label, label, label, lambda: b'n %d' % number(), lambda: b'n %d' % number(), spelled, spelled,
+                         lambda: b'b'])()
 
     def running(self):
         """A header or a footer."""
         r = self.r
         if r.randrange(3):
-            return r.choice([b'', b'', b'#', b'|#', b'@|Report|page #', b'|@', b'a|b|c|d', b'##|@@', b'|#|', self.text([1, 20, 240])])
+            return r.choice([b'', b'', b'#', b'|#', b'@|Report|page #', b'|@', b'a|b|c|d', b'##|@@', b'|#|',
+                             self.text([1, 20, 240])])
         return bytes(r.choice(b'ab |#@') for _ in range(r.choice([3, 30, 100, 240])))
 
     def asked(self, call):
-        """A report of a part of the worksheet, by its length and sum or whole: pages of few lines mostly, and seldom one too small."""
+        """A report of a part of the worksheet, by its length and sum or whole: pages of few lines mostly, and seldom
+        one too small."""
         r = self.r
         first = self.col(), min(self.top + r.randrange(4), 8191)
         last = min(first[0] + r.choice([0, 1, 4, 9, 14]), 255), min(first[1] + r.choice([0, 1, 5, 11, 30]), 8191)
         left = r.choice([0, 0, 4, 10, 76, 190])
         right = left + r.choice([-1, 0, 1, 9, 20, 38, 72, 72, 72, 50])
         top, bottom = r.choice([0, 0, 1, 2, 5, 10]), r.choice([0, 1, 2, 10])
-        length = r.choice([top + bottom + 6, top + bottom + 7, top + bottom + 7, top + bottom + 8, top + bottom + 12, 66, 66, 100])
+        length = r.choice([top + bottom + 6, top + bottom + 7, top + bottom + 7, top + bottom + 8, top + bottom + 12,
+                           66, 66, 100])
         day = r.choice([0, 1, 60, 31929, LAST_DAY])
         words = (day, left, min(max(right, 0), 240), top, bottom, max(10, length))
-        return call + b' ' + span_text((first, last)) + b''.join(b' %d' % word for word in words) + b''.join(b' ' + self.running().hex().encode() for _ in range(2))
+        out = call + b' ' + span_text((first, last)) + b''.join(b' %d' % word for word in words)
+        return out + b''.join(b' ' + self.running().hex().encode() for _ in range(2))
 
     def reports(self, count):
         """So many reports, each of a worksheet of its own, or some of one; one in forty is printed whole."""
         out = []
         for number in range(count):
-            out += (self.sheet() if not out or self.r.randrange(5) else []) + [self.asked(b'p' if number % 40 else b'q')]
+            out += (self.sheet() if not out or self.r.randrange(5)
+                    else []) + [self.asked(b'p' if number % 40 else b'q')]
         return out
 
 
@@ -200,7 +212,8 @@ MOST = [b'n 9 113', b'p A1..BL8192 0 0 1 28 29 64  ', b'p A1..BL8192 0 0 1 28 29
 
 
 def generated():
-    """Generated worksheets: in a format that shows numbers and values with two decimals, and in one that shows formulas."""
+    """Generated worksheets: in a format that shows numbers and values with two decimals, and in one that shows
+    formulas."""
     for rows in [1, 2, 3, 19, 100, 1000, 8000]:
         for code in (2, 117):
             yield b'n 20 %d' % code
@@ -209,6 +222,7 @@ def generated():
 
 
 def data(r):
-    """The worked lines, 1,000 reports of random worksheets, those at the most bytes, and those of generated worksheets."""
+    """The worked lines, 1,000 reports of random worksheets, those at the most bytes, and those of generated
+    worksheets."""
     lines = [*worked('reports').splitlines(), *Reports(r).reports(1000), *MOST, *generated()]
     return b''.join(line + b'\n' for line in Worksheet().told(lines))

@@ -1,5 +1,5 @@
-"""Undo: the data of this part of check_calls, and what it must answer. Its own text tells the lines; those of worked/undo and of `cases.Sheets` are told
-by them."""
+"""Undo: the data of this part of check_calls, and what it must answer. Its own text tells the lines; those of
+worked/undo and of `cases.Sheets` are told by them."""
 from ..model import wk1
 from ..model.address import cell_text, read_span, row_order
 from ..model.evaluate import Tally
@@ -44,7 +44,8 @@ class UndoDesk:
 
     def told(self):
         """How many states are kept, the count of evaluations, and the marks."""
-        return b'%d %d' % (len(self.history), self.tally.count) + b' CIRC' * self.sheet.circ + b' CALC' * self.sheet.stale + b'\n'
+        return b'%d %d' % (len(self.history),
+                           self.tally.count) + b' CIRC' * self.sheet.circ + b' CALC' * self.sheet.stale + b'\n'
 
 
 def answers(lines):
@@ -67,14 +68,16 @@ def file_of(saved):
 
 
 def changes(before, after):
-    """The lines that make a sheet out of another: its cells that change are written, and others are erased, where nothing else is new."""
+    """The lines that make a sheet out of another: its cells that change are written, and others are erased, where
+    nothing else is new."""
     rest = lambda saved: (shape(saved)[1:], saved.settings.pointer)
     if rest(before) != rest(after) or after.settings.protection:
         return [b'=' + file_of(after)]
     held = lambda saved, cell: cell in saved.cells and (saved.cells[cell].content, saved.cells[cell].format)
     written = {cell: state for cell, state in after.cells.items() if held(before, cell) != held(after, cell)}
     gone = sorted(cell for cell in before.cells if cell not in after.cells)
-    written.update({cell: State(('number', 0), num(0), DEFAULT_FORMAT) for cell in gone if before.cells[cell].format != DEFAULT_FORMAT})
+    written.update({cell: State(('number', 0), num(0), DEFAULT_FORMAT) for cell in gone
+                    if before.cells[cell].format != DEFAULT_FORMAT})
     return ([b'+' + file_of(Saved(written))] if written else []) + [b'-' + cell_text(cell) for cell in gone]
 
 
@@ -87,8 +90,8 @@ class Commands(Sheets):
         return [b':']
 
     def do(self, *lines):
-        """What the program is told of lines, each of which is done: a recalculation follows an edit in Automatic mode. Then it is asked for
-        the sheet."""
+        """What the program is told of lines, each of which is done: a recalculation follows an edit in Automatic mode.
+        Then it is asked for the sheet."""
         out = []
         for line in lines:
             told = [line]
@@ -107,7 +110,8 @@ class Commands(Sheets):
         return sum((self.fresh() if line == b':' else self.do(line) for line in worked('undo').splitlines()), [])
 
     def command(self):
-        """A command of up to two edits, one that changes the pointer or nothing, or one that is given up for the next."""
+        """A command of up to two edits, one that changes the pointer or nothing, or one that is given up for the
+        next."""
         r = self.r
         out = self.do(b'(')
         for _ in range(r.choice([0, 1, 1, 1, 1, 2])):
@@ -118,7 +122,8 @@ class Commands(Sheets):
         return out + self.do(b')') if r.randrange(16) else out
 
     def commands(self, count):
-        """So many commands with undos between them: a fresh sheet for each few, whose commands are undone at its end."""
+        """So many commands with undos between them: a fresh sheet for each few, whose commands are undone at its
+        end."""
         r, out = self.r, []
         while count:
             many = min(count, r.choice([1, 3, 6, 12, 26]))
@@ -132,12 +137,13 @@ class Commands(Sheets):
         return out
 
     def wide(self, formulas):
-        """The lines of 2,000 cells, row by row, numbers or by turns a number and a formula that adds one to it; and 20 commands that each enter a
-        number, all of which are undone."""
+        """The lines of 2,000 cells, row by row, numbers or by turns a number and a formula that adds one to it; and 20
+        commands that each enter a number, all of which are undone."""
         out = self.fresh()
         for row in range(40):
             texts = [b'%d' % (row * 50 + col + 1) for col in range(50)]
-            texts[1::2] = [b'+' + cell_text((col - 1, row)) + b'+1' for col in range(1, 50, 2)] if formulas else texts[1::2]
+            texts[1::2] = [b'+' + cell_text((col - 1, row)) + b'+1'
+                           for col in range(1, 50, 2)] if formulas else texts[1::2]
             out += self.do(b'x' + b'\t'.join(cell_text((col, row)) + b' - ' + text for col, text in enumerate(texts)))
         for command in range(20):
             out += self.do(b'(', b'=A%d %d' % (2 * command + 1, command + 2), b')')

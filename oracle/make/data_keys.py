@@ -6,12 +6,14 @@ from ..model.address import cell_text, col_text, height_of, read_cell, read_span
 from .cases import Blocks, Extractions, Queries
 from .edits import Desk
 
-NUMBERS = [b'0', b'1', b'2', b'-1', b'1.5', b'10', b'0.1', b'-0.000001', b'8191', b'-8191', b'999999999.999997', b'.5', b'+3', b'1.0000001']
+NUMBERS = [b'0', b'1', b'2', b'-1', b'1.5', b'10', b'0.1', b'-0.000001', b'8191', b'-8191', b'999999999.999997', b'.5',
+           b'+3', b'1.0000001']
 NO_NUMBERS = [b'', b'x', b'1/2', b'1000000000', b' 5', b'+', b'A1', b'1e3', b'5%', b'@NA']
 NO_ORDERS = [b'', b'x', b'AD', b'1', b' A', b'Ascending', b'~']
 ONE_ROW = 1
 # bins whose counts have no room, or only just
-AT_THE_EDGE = [((255, 0), (255, 2)), ((255, 4), (255, 4)), ((6, 8190), (6, 8191)), ((6, 8189), (6, 8190)), ((254, 0), (255, 1))]
+AT_THE_EDGE = [((255, 0), (255, 2)), ((255, 4), (255, 4)), ((6, 8190), (6, 8191)), ((6, 8189), (6, 8190)),
+               ((254, 0), (255, 1))]
 
 
 def file_of(lines):
@@ -90,9 +92,8 @@ class DataKeys:
         (a, b), (c, d) = span
         if self.r.randrange(10):
             return span
-        return self.r.choice([((a, b), (c, b)), ((a, b), (a, d)), ((a, b), (min(c + 1, 255), d)), ((a, min(b + 1, d)), (c, d)),
-                              ((a, b), (c, max(b, d - 1))),
-                              ((c, b), (c, d))])
+        return self.r.choice([((a, b), (c, b)), ((a, b), (a, d)), ((a, b), (min(c + 1, 255), d)),
+                              ((a, min(b + 1, d)), (c, d)), ((a, b), (c, max(b, d - 1))), ((c, b), (c, d))])
 
     # ------------------------------------------------------------ menus that come back
     def opened(self, path):
@@ -128,23 +129,24 @@ class DataKeys:
         r = self.r
         keys = b'{BREAK}'
         for cell in cells:
-            keys += self.menus.at(cell_text(cell)) + r.choice([b'', b'{DOWN}', b'{DOWN 2}', b'{RIGHT}', b'{DOWN}{RIGHT}'])
+            keys += self.menus.at(cell_text(cell)) + r.choice([b'', b'{DOWN}', b'{DOWN 2}', b'{RIGHT}',
+                                                               b'{DOWN}{RIGHT}'])
         return keys
 
     def changed(self, span):
         """A cell of a span that gets other contents."""
         r = self.r
         cell = r.randrange(span[0][0], span[1][0] + 1), r.randrange(span[0][1], span[1][1] + 1)
-        return self.menus.at(cell_text(cell)) + self.typist.typed(r.choice([b'0', b'1', b'2', b"'fig", b"'Fig", b'@NA', b'@ERR', b'+A1',
-                                                                            b"'f*"])) + b'~'
+        return self.menus.at(cell_text(cell)) + self.typist.typed(r.choice([b'0', b'1', b'2', b"'fig", b"'Fig", b'@NA',
+                                                                            b'@ERR', b'+A1', b"'f*"])) + b'~'
 
     # ------------------------------------------------------------ fill
     def filling(self):
         """Start, step and stop: some that belong together, and any."""
         r = self.r
-        together = [(b'1', b'1', b'8191'), (b'1', b'2', b'9'), (b'0', b'0.5', b'2.5'), (b'5', b'-1', b'0'), (b'3', b'-0.1', b'-8191'),
-                    (b'1', b'0', b'9'), (b'2', b'1', b'2'),
-                    (b'3', b'1', b'2'), (b'1', b'-1', b'2'), (b'999999999.999997', b'0.000001', b'999999999.999999'),
+        together = [(b'1', b'1', b'8191'), (b'1', b'2', b'9'), (b'0', b'0.5', b'2.5'), (b'5', b'-1', b'0'),
+                    (b'3', b'-0.1', b'-8191'), (b'1', b'0', b'9'), (b'2', b'1', b'2'), (b'3', b'1', b'2'),
+                    (b'1', b'-1', b'2'), (b'999999999.999997', b'0.000001', b'999999999.999999'),
                     (b'-1', b'-600000000', b'-999999999.999999')]
         return [self.decimal(number) for number in r.choice(together)]
 
@@ -153,7 +155,8 @@ class DataKeys:
         r = self.r
         first = r.choice([(0, 0), (1, 1), (2, 4), (254, 8188), (0, 8190)])
         span = first, (min(first[0] + r.randrange(3), 255), min(first[1] + r.randrange(5), 8191))
-        sheet = self.block() if r.randrange(3) == 0 else [b':', b'xC9 - @SUM(A1..C8)', b's' + r.choice([b'A', b'A', b'M'])]
+        sheet = self.block() if r.randrange(3) == 0 else [b':', b'xC9 - @SUM(A1..C8)', b's'
+                                                          + r.choice([b'A', b'A', b'M'])]
         keys = self.guarded([span, (span[0], span[0])], 5)
         for _ in range(r.randrange(1, 4)):
             keys += self.menus.done('d.fill', self.spelled(span), *self.filling()) + r.choice([b'', b'{ESC}', b'~'])
@@ -174,7 +177,8 @@ class DataKeys:
         """Three columns of six to nine rows, of which the first two hold values that often are alike or nearly so."""
         r = self.r
         self.block_span = (0, 0), (2, r.randrange(5, 9))
-        near = [b'@NA', b'@ERR', b"'fig", b"'Fig", b'"FIG', b"'b", b"'", b'1', b'2', b'-1', b'0', b'0.5', b'+"fig"', b'', b'-0.5', b'1']
+        near = [b'@NA', b'@ERR', b"'fig", b"'Fig", b'"FIG', b"'b", b"'", b'1', b'2', b'-1', b'0', b'0.5', b'+"fig"',
+                b'', b'-0.5', b'1']
         cells = []
         for row in range(self.block_span[1][1] + 1):
             code = r.choice([b'-', b'-', b'2', b'113', b'130'])
@@ -193,7 +197,8 @@ class DataKeys:
     def sorting(self, span):
         """Keys that set what a sort goes by, each seldom left out, in any order."""
         r = self.r
-        parts = [self.chosen('ds', 'ds.range', self.spelled(span)), self.chosen('ds', 'ds.primary', self.key(span), self.order()),
+        parts = [self.chosen('ds', 'ds.range', self.spelled(span)),
+                 self.chosen('ds', 'ds.primary', self.key(span), self.order()),
                  self.chosen('ds', 'ds.secondary', self.key(span), self.order()) if r.randrange(2) else b'']
         if r.randrange(12) == 0:
             parts.pop(r.randrange(2))
@@ -209,12 +214,15 @@ class DataKeys:
         keys = self.settings() + self.guarded([span, self.block_span], 8) + self.opened('ds') + self.sorting(span)
         keys += (self.left() + self.opened('ds') if r.randrange(6) == 0 else b'') + self.chosen('ds', 'ds.go')
         for _ in range(r.randrange(1, 5)):
-            anew = lambda: (self.chosen('ds', 'ds.reset') + self.opened('ds') + self.chosen('ds', 'ds.range', self.spelled(span))
+            anew = lambda: (self.chosen('ds', 'ds.reset') + self.opened('ds')
+                            + self.chosen('ds', 'ds.range', self.spelled(span))
                             + self.chosen('ds', 'ds.primary', self.key(span), self.order()))
             again = [lambda: self.chosen('ds', 'ds.primary', self.key(span), self.order()),
                      lambda: self.chosen('ds', 'ds.range', self.spelled(self.near(span))),
-                     anew, anew, anew, lambda: self.chosen('ds', 'ds.reset') + self.opened('ds'), lambda: self.sorting(self.near(span)), lambda: b'']
-            keys += b'{BREAK}' + self.changed(self.block_span) + self.opened('ds') + r.choice(again)() + self.chosen('ds', 'ds.go')
+                     anew, anew, anew, lambda: self.chosen('ds', 'ds.reset') + self.opened('ds'),
+                     lambda: self.sorting(self.near(span)), lambda: b'']
+            keys += b'{BREAK}' + self.changed(self.block_span) + self.opened('ds') + r.choice(again)()
+            keys += self.chosen('ds', 'ds.go')
         return lines, keys + self.seen(span[0], span[1])
 
     # ------------------------------------------------------------ distribution
@@ -258,9 +266,12 @@ class DataKeys:
         r = self.r
         delete = [after for _, after in menu.items('dq')].index('dqd')
         if r.randrange(20) == 0:
-            return r.choice([self.menus.taken('dq', delete) + r.choice([b'C', b'~', b'{ESC}q']), self.chosen('dq', 'dq.reset')])
-        return r.choice([lambda: self.chosen('dq', 'dq.extract'), lambda: self.chosen('dq', 'dq.extract'), lambda: self.chosen('dq', 'dq.unique'),
-                         lambda: self.chosen('dq', 'dq.unique'), lambda: self.menus.taken('dq', delete) + r.choice([b'D', b'd', b'{RIGHT}~'])])()
+            return r.choice([self.menus.taken('dq', delete) + r.choice([b'C', b'~', b'{ESC}q']),
+                             self.chosen('dq', 'dq.reset')])
+        return r.choice([lambda: self.chosen('dq', 'dq.extract'), lambda: self.chosen('dq', 'dq.extract'),
+                         lambda: self.chosen('dq', 'dq.unique'),
+                         lambda: self.chosen('dq', 'dq.unique'), lambda: self.menus.taken('dq', delete)
+                         + r.choice([b'D', b'd', b'{RIGHT}~'])])()
 
     def query(self):
         """Records that are queried, and again, by QUERY too, after changes of what they hold or are asked for."""
@@ -271,25 +282,31 @@ class DataKeys:
         free = (output[0], (output[1][0], 8191 if height_of(output) == ONE_ROW else output[1][1]))
         guard = self.guarded([of.input, output], 8) if height_of(free) < 50 else b''
         keys = self.settings() + guard + self.opened('dq') + ranges + self.taken() + b'{BREAK}'
-        change = [lambda: self.changed(of.input), lambda: self.changed(of.criterion), lambda: b'{CALC}', self.menus.shifted,
-                  lambda: self.opened('dq') + self.chosen('dq', 'dq.output', self.spelled(self.near(output))) + self.left(),
+        change = [lambda: self.changed(of.input), lambda: self.changed(of.criterion), lambda: b'{CALC}',
+                  self.menus.shifted,
+                  lambda: self.opened('dq') + self.chosen('dq', 'dq.output', self.spelled(self.near(output)))
+                  + self.left(),
                   lambda: self.opened('dq') + self.chosen('dq', 'dq.reset'),
                   lambda: self.opened('dq') + self.chosen('dq', 'dq.reset') + self.opened('dq') + ranges + self.left()]
-        again = [lambda: self.opened('dq') + self.taken(), lambda: self.opened('dq') + self.taken(), lambda: b'{QUERY}', lambda: b'{QUERY}',
-                 lambda: b'{query}', lambda: b'{QUERY 2}',
-                 lambda: b'{EDIT}{QUERY}{ESC 2}', lambda: b'/{QUERY}{ESC}']
+        again = [lambda: self.opened('dq') + self.taken(), lambda: self.opened('dq') + self.taken(), lambda: b'{QUERY}',
+                 lambda: b'{QUERY}', lambda: b'{query}', lambda: b'{QUERY 2}', lambda: b'{EDIT}{QUERY}{ESC 2}',
+                 lambda: b'/{QUERY}{ESC}']
         for _ in range(r.randrange(4)):
             keys += r.choice(change)() + r.choice(again)() + r.choice([b'{ESC}', b'{BREAK}'])
-        return lines, keys + self.seen(output[0], of.input[0], (output[0][0], min(output[0][1] + 3, 8191)), (of.input[0][0], of.input[1][1]))
+        return lines, keys + self.seen(output[0], of.input[0], (output[0][0], min(output[0][1] + 3, 8191)),
+                                       (of.input[0][0], of.input[1][1]))
 
     def few_records(self):
-        """Records of one or two fields of which many are alike, and an output that is as long as what is written, or nearly so."""
+        """Records of one or two fields of which many are alike, and an output that is as long as what is written, or
+        nearly so."""
         r = self.r
         last = r.randrange(4, 10)
-        values = r.choice([[b'1', b'2'], [b"'fig", b"'Fig", b'^fig'], [b'1', b"'1", b'', b'2'], [b'@NA', b'@ERR', b'+"1"', b"'1"]])
-        cells = [b"A1 - 'N", b"B1 - 'W", b"D1 - 'n", b'D2 - ' + r.choice([b'', b'', b"'~x", b'1', b"'f*", b'@TRUE']), b"F1 - 'N", b"G1 - 'w"]
-        cells += [col + b'%d ' % row + r.choice([b'- ', b'- ', b'2 ', b'130 ']) + r.choice(values) for col in (b'A', b'B') for row in range(2,
-                                                                                                                                            last + 1)]
+        values = r.choice([[b'1', b'2'], [b"'fig", b"'Fig", b'^fig'], [b'1', b"'1", b'', b'2'],
+                           [b'@NA', b'@ERR', b'+"1"', b"'1"]])
+        cells = [b"A1 - 'N", b"B1 - 'W", b"D1 - 'n", b'D2 - ' + r.choice([b'', b'', b"'~x", b'1', b"'f*", b'@TRUE']),
+                 b"F1 - 'N", b"G1 - 'w"]
+        cells += [col + b'%d ' % row + r.choice([b'- ', b'- ', b'2 ', b'130 ']) + r.choice(values)
+                  for col in (b'A', b'B') for row in range(2, last + 1)]
         sheet = [b':', b'x' + b'\t'.join(cell for cell in cells if not cell.endswith(b' '))]
         ends = lambda: r.choice([2, 3, 4, 5, last - 1, last, last + 1]) if r.randrange(5) else ONE_ROW
         output = lambda: self.chosen('dq', 'dq.output', r.choice([b'F1..F%d', b'F1..F%d', b'F1..G%d']) % ends())
@@ -307,13 +324,14 @@ class DataKeys:
     # ------------------------------------------------------------ tables
     def tried(self):
         """A value that a table tries."""
-        return self.r.choice([b'1', b'2', b'-3', b'0.5', b'10', b'7', b"'fig", b"'A1", b'', b'@NA', b'@ERR', b'+B1', b'+A2+1', b'+"x"'])
+        return self.r.choice([b'1', b'2', b'-3', b'0.5', b'10', b'7', b"'fig", b"'A1", b'', b'@NA', b'@ERR', b'+B1',
+                              b'+A2+1', b'+"x"'])
 
     def answer(self):
         """What a table asks for: formulas of its inputs, in circles and volatile ones too, or what is none."""
-        return self.r.choice([b'+A1*2', b'+A1+A2', b'+B1', b'@SUM(A1..B2)', b'+A1&"x"', b'@IF(A1>1,A2,@NA)', b'+C2+1', b'@@("A1")',
-                              b'@CELL("contents",A1)',
-                              b'@CELLPOINTER("row")+A1', b'5', b"'label", b'', b'+B2', b'1/A1', b'@COUNT(A1..A2)', b'+E2', b'+F2+A1'])
+        return self.r.choice([b'+A1*2', b'+A1+A2', b'+B1', b'@SUM(A1..B2)', b'+A1&"x"', b'@IF(A1>1,A2,@NA)', b'+C2+1',
+                              b'@@("A1")', b'@CELL("contents",A1)', b'@CELLPOINTER("row")+A1', b'5', b"'label", b'',
+                              b'+B2', b'1/A1', b'@COUNT(A1..A2)', b'+E2', b'+F2+A1'])
 
     def table_sheet(self, span, two):
         """The inputs and formulas of a table, and formulas that hang on the cells that it tries."""
@@ -325,9 +343,12 @@ class DataKeys:
         parts.append(put((left, top), self.answer()))
         parts += [put(read_cell(cell), text) for cell, text in [
             (b'A1', r.choice([b'4', b'', b"'old", b'+A2+1', b'@NA'])), (b'A2', r.choice([b'3', b'', b'+B2'])),
-            (b'B1', r.choice([b'+A1+A2', b'+A1*A1', b'+B1+A1', b'+C1+A1', b'9'])), (b'B2', r.choice([b'@SUM(A1..B1)', b'+A1-1', b'@@("B1")', b'2'])),
-            (b'C1', r.choice([b'+B1', b'+C1+1', b'', b'1'])), (b'C2', r.choice([b'+A2/A1', b'@MAX(A1..A2)', b'+B2&""']))]]
-        return [b':', b'x' + b'\t'.join(part for part in parts if not part.endswith(b' ')), b's' + r.choice([b'A', b'A', b'A', b'M'])]
+            (b'B1', r.choice([b'+A1+A2', b'+A1*A1', b'+B1+A1', b'+C1+A1', b'9'])),
+            (b'B2', r.choice([b'@SUM(A1..B1)', b'+A1-1', b'@@("B1")', b'2'])),
+            (b'C1', r.choice([b'+B1', b'+C1+1', b'', b'1'])),
+            (b'C2', r.choice([b'+A2/A1', b'@MAX(A1..A2)', b'+B2&""']))]]
+        return [b':', b'x' + b'\t'.join(part for part in parts if not part.endswith(b' ')), b's'
+                + r.choice([b'A', b'A', b'A', b'M'])]
 
     def table(self):
         """A table of one input or two, and again by TABLE after changes."""
@@ -346,8 +367,10 @@ class DataKeys:
         again = self.menus.done('dt.2' if two else 'dt.1', self.spelled(used), *inputs)
         keys += again
         for _ in range(r.randrange(4)):
-            keys += b'{ESC}' + r.choice([lambda: self.changed(span), lambda: self.changed(((0, 0), (1, 1))), lambda: b'{CALC}', self.menus.shifted,
-                                         lambda: self.menus.done('dt.reset'), lambda: b'{BREAK}' + self.menus.done('wgp.disable')])()
+            keys += b'{ESC}' + r.choice([lambda: self.changed(span), lambda: self.changed(((0, 0), (1, 1))),
+                                         lambda: b'{CALC}', self.menus.shifted,
+                                         lambda: self.menus.done('dt.reset'), lambda: b'{BREAK}'
+                                         + self.menus.done('wgp.disable')])()
             keys += r.choice([b'{TABLE}', b'{TABLE}', b'{table}', b'{TABLE 2}', b'5{TABLE}~', again])
         return lines, keys + r.choice([b'', b'{CALC}']) + self.seen(below[0], (0, 0), span[1], (1, 1))
 
@@ -357,9 +380,8 @@ class DataKeys:
         r = self.r
         of = Queries(r)
         lines = of.sheet()
-        call = lambda: (b'@' + r.choice([b'DSUM', b'DCOUNT', b'DMIN', b'DMAX', b'DAVG']) + b'(' + span_text(of.input) + b',' + r.choice([b'0', b'1',
-                                                                                                                                         b'2', b'A1',
-                                                                                                                                         b'9'])
+        call = lambda: (b'@' + r.choice([b'DSUM', b'DCOUNT', b'DMIN', b'DMAX', b'DAVG']) + b'(' + span_text(of.input)
+                        + b',' + r.choice([b'0', b'1', b'2', b'A1', b'9'])
                         + b',' + span_text(of.criterion) + b')')
         cells = [(10, 0), (11, 0), (10, 1)]
         lines.append(b'x' + b'\t'.join(cell_text(cell) + b' - ' + call() for cell in cells))
@@ -372,29 +394,36 @@ class DataKeys:
         """Commands whose answers are fine and that are then refused by several causes, of which one is told."""
         r = self.r
         done, opened, chosen = self.menus.done, self.opened, self.chosen
-        sheet = [b':', b"xA1 - 'N\tA2 - 1\tA3 - 2\tA4 - 3\tC1 - 'N\tC2 - +A2>1\tE1 - 'N\tE2 - 9\tB1 - 'X\tH8192 - 5\tG1 - 'NOBODY\tG2 - 1"]
+        sheet = [b':',
+                 b"xA1 - 'N\tA2 - 1\tA3 - 2\tA4 - 3\tC1 - 'N\tC2 - +A2>1\tE1 - 'N\tE2 - 9\t"
+                 b"B1 - 'X\tH8192 - 5\tG1 - 'NOBODY\tG2 - 1"]
         keys = self.guarded([((0, 0), (0, 3)), ((4, 0), (4, 1)), ((2, 0), (2, 1))], 2)
-        ranges = [(b'A1..A4', b'C1..C2', b'E1..E2'), (b'A1..A4', b'C1..C2', b'G1..G2'), (b'A1..A4', b'G1..G2', b'G1'), (b'A1', b'G1..G2', b'E1..E2'),
-                  (b'A1..B4', b'C1..C2', b'E1..E3'), (b'A2..A4', b'G1..G2', b'G1'), (b'A1..A4', b'C1..C1', b'E1..E2'),
-                  (b'A1..A4', b'C1..C2', b'E1..E9'),
+        ranges = [(b'A1..A4', b'C1..C2', b'E1..E2'), (b'A1..A4', b'C1..C2', b'G1..G2'), (b'A1..A4', b'G1..G2', b'G1'),
+                  (b'A1', b'G1..G2', b'E1..E2'), (b'A1..B4', b'C1..C2', b'E1..E3'), (b'A2..A4', b'G1..G2', b'G1'),
+                  (b'A1..A4', b'C1..C1', b'E1..E2'), (b'A1..A4', b'C1..C2', b'E1..E9'),
                   (b'A1..A4', b'C1..C2', b'A1..A4')]
-        query = lambda given: opened('dq') + b''.join(chosen('dq', action, span) for action,
-                                                      span in zip(['dq.input', 'dq.criterion', 'dq.output'], given))
-        part = [('dq', lambda: query(r.choice(ranges)) + self.taken()), ('dq', lambda: query(r.choice(ranges)[:2]) + self.taken()),
+        query = lambda given: opened('dq') + b''.join(
+            chosen('dq', *of) for of in zip(['dq.input', 'dq.criterion', 'dq.output'], given))
+        part = [('dq', lambda: query(r.choice(ranges)) + self.taken()),
+                ('dq', lambda: query(r.choice(ranges)[:2]) + self.taken()),
                 ('dq', lambda: b'{QUERY}'),
                 ('dt', lambda: b'{TABLE}'),
-                ('dt', lambda: done('dt.1', *r.choice([(b'A1..A3', b'A1'), (b'A1..C1', b'A1'), (b'A1..B3', b'B3'), (b'E1..F3', b'A2'),
-                                                       (b'B2', b'B2')]))),
-                ('dt', lambda: done('dt.2', *r.choice([(b'A1..B3', b'C1', b'A2'), (b'A1..B3', b'A2', b'B1'), (b'A1..A9', b'A1', b'A1'),
-                                                       (b'E1..F3', b'C2', b'A1')]))),
+                ('dt', lambda: done('dt.1', *r.choice([(b'A1..A3', b'A1'), (b'A1..C1', b'A1'), (b'A1..B3', b'B3'),
+                                                       (b'E1..F3', b'A2'), (b'B2', b'B2')]))),
+                ('dt', lambda: done('dt.2', *r.choice([(b'A1..B3', b'C1', b'A2'), (b'A1..B3', b'A2', b'B1'),
+                                                       (b'A1..A9', b'A1', b'A1'), (b'E1..F3', b'C2', b'A1')]))),
                 ('ds', lambda: opened('ds') + chosen('ds', 'ds.go')),
-                ('ds', lambda: opened('ds') + chosen('ds', 'ds.range', b'A1..B4') + chosen('ds', 'ds.primary', self.key(((0, 0), (2, 0))),
-                                                                                           b'A') + chosen('ds', 'ds.go')),
+                ('ds', lambda: opened('ds') + chosen('ds', 'ds.range', b'A1..B4')
+                 + chosen('ds', 'ds.primary', self.key(((0, 0), (2, 0))),
+                                                                                           b'A') + chosen('ds',
+                                                                                                          'ds.go')),
                 ('ds', lambda: opened('ds') + chosen('ds', 'ds.primary', b'A1', b'D') + chosen('ds', 'ds.go')),
-                ('ds', lambda: opened('ds') + chosen('ds', 'ds.reset')), ('dq', lambda: opened('dq') + chosen('dq', 'dq.reset')),
+                ('ds', lambda: opened('ds') + chosen('ds', 'ds.reset')),
+                ('dq', lambda: opened('dq') + chosen('dq', 'dq.reset')),
                 ('d.fill', lambda: done('d.fill', b'A1..A4', b'1', r.choice([b'0', b'0', b'1']), b'9')),
                 ('d.distribution', lambda: done('d.distribution', b'A2..A4',
-                                                r.choice([b'IV1..IV2', b'A8192', b'E8191..E8192', b'E1', b'E2..E2', b'IU1'])))]
+                                                r.choice([b'IV1..IV2', b'A8192', b'E8191..E8192', b'E1', b'E2..E2',
+                                                          b'IU1'])))]
         part = [made for path, made in part if self.is_there(path)] or [lambda: b'']
         for _ in range(r.randrange(3, 9)):
             keys += r.choice(part)() + r.choice([b'{ESC 3}', b'{BREAK}', b'~{BREAK}'])
@@ -406,7 +435,7 @@ class DataKeys:
 
     def scene(self):
         """Any of these whose menus are shown."""
-        many = [('d.fill', self.fill), ('ds', self.sort), ('ds', self.sort), *[('d.distribution', self.distribution)] * 2, *[('dq', self.query)] * 3,
-                *[('dq', self.few_records)] * 3,
-                *[('dt', self.table)] * 3, ('d', self.refused), ('d', self.refused)]
+        many = [('d.fill', self.fill), ('ds', self.sort), ('ds', self.sort),
+                *[('d.distribution', self.distribution)] * 2, *[('dq', self.query)] * 3,
+                *[('dq', self.few_records)] * 3, *[('dt', self.table)] * 3, ('d', self.refused), ('d', self.refused)]
         return self.r.choice([made for path, made in many if self.is_there(path)] + [self.functions])()

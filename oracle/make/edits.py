@@ -8,18 +8,20 @@ from ..model.values import C_BLANK
 
 # the pointer in C2, and noon and after on 1 June 1987
 SCENE = Scene((2, 1), Moment(31929, 50700))
-LINE_EDITS = {b'ir': Sheet.insert_rows, b'ic': Sheet.insert_columns, b'dr': Sheet.delete_rows, b'dc': Sheet.delete_columns}
+LINE_EDITS = {b'ir': Sheet.insert_rows, b'ic': Sheet.insert_columns, b'dr': Sheet.delete_rows,
+              b'dc': Sheet.delete_columns}
 
 
 class Desk:
-    """A sheet that lines tell. `=A1 TEXT` enters what the text spells, `eA1..B2` erases, `cA1..B2 C1..D2` copies, `fA1..B2 CODE` sets the
-    format code, `pA1..B2` protects and `uA1..B2` takes protection away. `xA1 CODE TEXT` makes a list of writes, which tabs part; the code is
-    a format byte, or `-` for the cell's own. `>A1..B2 C3` moves so that the first corner comes to the cell; `irA2..A3` and `icB1..C1` insert
-    rows and columns in front of a span, as many as it has, and `drA2..A3` and `dcB1..C1` delete its own. `+A1..B2 NAME` names a span and
-    `-NAME` takes a name away. `wB1 12` gives column B a width of its own, or takes it away at 0; `hB1` hides it and `vB1` shows it. `g113 9`
-    sets the sheet's format byte and width, or `g113` the byte alone, and `aB7` the pointer. `sLETTERS` changes settings letter by letter: A and
-    M are the modes Automatic and Manual, P and Q protection on and off, N, C and R the orders, and a digit the passes. `!` recalculates, and
-    so does each edit of contents in Automatic mode."""
+    """A sheet that lines tell. `=A1 TEXT` enters what the text spells, `eA1..B2` erases, `cA1..B2 C1..D2` copies,
+    `fA1..B2 CODE` sets the format code, `pA1..B2` protects and `uA1..B2` takes protection away. `xA1 CODE TEXT` makes a
+    list of writes, which tabs part; the code is a format byte, or `-` for the cell's own. `>A1..B2 C3` moves so that
+    the first corner comes to the cell; `irA2..A3` and `icB1..C1` insert rows and columns in front of a span, as many as
+    it has, and `drA2..A3` and `dcB1..C1` delete its own. `+A1..B2 NAME` names a span and `-NAME` takes a name away.
+    `wB1 12` gives column B a width of its own, or takes it away at 0; `hB1` hides it and `vB1` shows it. `g113 9` sets
+    the sheet's format byte and width, or `g113` the byte alone, and `aB7` the pointer. `sLETTERS` changes settings
+    letter by letter: A and M are the modes Automatic and Manual, P and Q protection on and off, N, C and R the orders,
+    and a digit the passes. `!` recalculates, and so does each edit of contents in Automatic mode."""
 
     def __init__(self, sheet=None):
         self.sheet = sheet or Sheet()
@@ -39,7 +41,8 @@ class Desk:
     def writes_of(self, text):
         """A list of writes, which tabs part."""
         parts = [part.split(b' ', 2) for part in text.split(b'\t')]
-        return [(read_cell(cell), self.content_of(read_cell(cell), held), None if code == b'-' else int(code)) for cell, code, held in parts]
+        return [(read_cell(cell), self.content_of(read_cell(cell), held), None if code == b'-' else int(code))
+                for cell, code, held in parts]
 
     def calc(self):
         """Recalculates."""
@@ -97,8 +100,10 @@ class Desk:
             return
         column = lambda: read_cell(first)[0]
         {b'!': self.calc, b's': lambda: self.set(rest), b'f': lambda: sheet.set_format(read_span(first), int(second)),
-         b'p': lambda: sheet.set_protected(read_span(rest), True), b'u': lambda: sheet.set_protected(read_span(rest), False),
+         b'p': lambda: sheet.set_protected(read_span(rest), True),
+         b'u': lambda: sheet.set_protected(read_span(rest), False),
          b'+': lambda: sheet.create_name(second, read_span(first)), b'-': lambda: sheet.delete_name(rest),
-         b'w': lambda: sheet.set_width(column(), int(second) or None), b'h': lambda: sheet.set_hidden(column(), column(), True),
+         b'w': lambda: sheet.set_width(column(), int(second) or None),
+         b'h': lambda: sheet.set_hidden(column(), column(), True),
          b'v': lambda: sheet.set_hidden(column(), column(), False), b'g': lambda: self.set_global(first, second),
          b'a': lambda: setattr(sheet.settings, 'pointer', read_cell(rest))}[head]()

@@ -2,8 +2,8 @@
 
 python3 -B -m oracle.make.examples [NAME..]
 
-Without a name all examples are made anew. A moment isn't stored; an example keeps all its screens where they are stored, and the last
-one elsewhere."""
+Without a name all examples are made anew. A moment isn't stored; an example keeps all its screens where they are
+stored, and the last one elsewhere."""
 import glob
 import os
 import sys

@@ -34,15 +34,16 @@ def bytes_of(word):
 class Desk:
     """A sheet and a file, as lines build them.
 
-    `:` begins a fresh sheet. `sA 50 ' 113 9 P N B7` sets the mode `A` or `M`, the passes, the label prefix, the format byte and the
-    width, protection as `P` or `N`, the order `N`, `C` or `R`, and the pointer. `wB1 12` gives column B a width of its own, `hB1` hides
-    it, and `mA1..B2 TAX` names a span. `cA1 255 TEXT` fills a cell in a format with what the text spells: a label where it begins with a
-    prefix, nothing where it is empty, and else a number. `vA2 255 n5000000 +A1*2` fills it with a formula and its value: `n` and
-    millionths, `s` and a text's bytes, `e` for ERR or `a` for NA. Bytes are pairs of hexadecimal digits, and `-` stands for none.
+    `:` begins a fresh sheet. `sA 50 ' 113 9 P N B7` sets the mode `A` or `M`, the passes, the label prefix, the format
+    byte and the width, protection as `P` or `N`, the order `N`, `C` or `R`, and the pointer. `wB1 12` gives column B a
+    width of its own, `hB1` hides it, and `mA1..B2 TAX` names a span. `cA1 255 TEXT` fills a cell in a format with what
+    the text spells: a label where it begins with a prefix, nothing where it is empty, and else a number. `vA2 255
+    n5000000 +A1*2` fills it with a formula and its value: `n` and millionths, `s` and a text's bytes, `e` for ERR or
+    `a` for NA. Bytes are pairs of hexadecimal digits, and `-` stands for none.
 
-    `f` asks for the sheet's file, which is at hand then, and `bBYTES` gives another one. `r` asks for the file at hand, `dAT COUNT BYTES`
-    for the same where so many bytes at a place are replaced by others, and `zCOUNT` where so many bytes of 0 stand behind it. A line
-    that begins with `#` says nothing."""
+    `f` asks for the sheet's file, which is at hand then, and `bBYTES` gives another one. `r` asks for the file at hand,
+    `dAT COUNT BYTES` for the same where so many bytes at a place are replaced by others, and `zCOUNT` where so many
+    bytes of 0 stand behind it. A line that begins with `#` says nothing."""
 
     def __init__(self):
         self.saved = Saved()
@@ -195,7 +196,8 @@ class Built:
     def cell(self, names):
         """A line of a cell."""
         r, place, code = self.r, self.place(), b'%d' % self.r.choice(FORMATS)
-        texts = Texts(r, 7, 8, self.columns is COLUMNS, [name for name in names if name.isalnum()], without=self.without)
+        texts = Texts(r, 7, 8, self.columns is COLUMNS, [name for name in names if name.isalnum()],
+                      without=self.without)
         while r.randrange(2):
             text = texts.tree(r.choice([1, 2, 3, 4]))
             if len(text) <= 240 and is_read(text, read_cell(place), names_of_lines(names)):
@@ -534,8 +536,8 @@ def file_for_runs(r):
 
 
 def at_the_most():
-    """A formula of the most bytes, and the same without a bracket and with a text of a byte more: the bracket that is put
-    has no room. Then a file of the most bytes and one of a byte more, and one that is nothing but too large."""
+    """A formula of the most bytes, and the same without a bracket and with a text of a byte more: the bracket that is
+    put has no room. Then a file of the most bytes and one of a byte more, and one that is nothing but too large."""
     text = lambda size: b'\x06' + b'x' * size + b'\0'
     sum_of = lambda count: bytes([0x50, count])
     bracketed, bare = b'\x04\x05\x03\0\x0b\x06', b'\x05\x03\0\x0b\x06x'
@@ -545,10 +547,9 @@ def at_the_most():
     body = b'\xff' + bytes(4) + bytes(VALUE) + wk1._u16s(len(code)) + code
     long = EMPTY[:-4] + wk1._record(wk1.FORMULA, body) + EMPTY[-4:]
     at = long.index(bracketed)
-    return [b'b' + long.hex().encode(), b'r',
-            b'd%d %d ' % (at, len(bare)) + bare.hex().encode(),
-            b'b' + EMPTY.hex().encode(), b'z%d' % (wk1.MOST - len(EMPTY)),
-            b'z%d' % (wk1.MOST - len(EMPTY) + 1), b'b-', b'z%d' % (wk1.MOST + 1)]
+    return [b'b' + long.hex().encode(), b'r', b'd%d %d ' % (at, len(bare)) + bare.hex().encode(),
+            b'b' + EMPTY.hex().encode(), b'z%d' % (wk1.MOST - len(EMPTY)), b'z%d' % (wk1.MOST - len(EMPTY) + 1), b'b-',
+            b'z%d' % (wk1.MOST + 1)]
 
 
 def of_many_cells():
@@ -557,7 +558,8 @@ def of_many_cells():
     for number in range(600):
         place = cell_text((number % 10, number // 10))
         out.append([b'c%s 255 %d' % (place, number * 50), b'c%s 255 %.6f' % (place, 65536 + number / 64),
-                    b"c%s 255 'order %07d is due" % (place, number), b'v%s 255 n%d000000 +$A$1+%d' % (place, number, number)][number % 4])
+                    b"c%s 255 'order %07d is due" % (place, number),
+                    b'v%s 255 n%d000000 +$A$1+%d' % (place, number, number)][number % 4])
     return out + [b'f']
 
 

@@ -4,37 +4,45 @@ Ranges that are formatted, protected, erased or copied hold at most some 2,000 c
 from ..model import menu
 from ..model.address import cell_text
 
-SPANS = [b'A1', b'B2', b'C3..C5', b'A1..C5', b'a1.b9', b'D2', b'C5..A1', b'B3..B3', b'E1..E20', b'A7..J7', b'IV8190..IV8192',
-         b'A8192', b'H1.H1', b'Z100', b'A1..AB60', b'C1..C12', b'B2..D4', b'A1..A2']
-NO_SPANS = [b'A0', b'IW1', b'NONAME', b'1+', b'A1..', b'', b'A$1', b'A8193', b'TAX RATE', b'B2..NONAME', b'$A$1', b'A1...B2',
-            b'=', b'SIXTEEN_LETTERS_', b'SIXTEEN_LETTERS_', b' A1', b' A1', b'A1 ']
-BESIDE_NUMBERS = [b'-1', b'', b'x', b'1e1', b'1/2', b'1000000000', b' 5', b'5 ', b'-0', b'0', b'99999999999999999999', b'+', b'.', b'5%']
+SPANS = [b'A1', b'B2', b'C3..C5', b'A1..C5', b'a1.b9', b'D2', b'C5..A1', b'B3..B3', b'E1..E20', b'A7..J7',
+         b'IV8190..IV8192', b'A8192', b'H1.H1', b'Z100', b'A1..AB60', b'C1..C12', b'B2..D4', b'A1..A2']
+NO_SPANS = [b'A0', b'IW1', b'NONAME', b'1+', b'A1..', b'', b'A$1', b'A8193', b'TAX RATE', b'B2..NONAME', b'$A$1',
+            b'A1...B2', b'=', b'SIXTEEN_LETTERS_', b'SIXTEEN_LETTERS_', b' A1', b' A1', b'A1 ']
+BESIDE_NUMBERS = [b'-1', b'', b'x', b'1e1', b'1/2', b'1000000000', b' 5', b'5 ', b'-0', b'0', b'99999999999999999999',
+                  b'+', b'.', b'5%']
 NOT_WHOLE = [b'2.5', b'0.5', b'1.5', b'12.25', b'3.000001']
-NUMBERS = [b'0', b'5', b'1234.5', b'-1234.567', b'0.000001', b'31929', b'999999999', b'-0.4', b'73051', b'0.5', b'60', b'12345678.9']
+NUMBERS = [b'0', b'5', b'1234.5', b'-1234.567', b'0.000001', b'31929', b'999999999', b'-0.4', b'73051', b'0.5', b'60',
+           b'12345678.9']
 LABELS = [b'Tax', b"'left", b'"right', b'^mid', b'\\-=', b'|not printed', b'a longer label than its column']
 REFERENCES = [b'A1', b'B2', b'C3', b'$A$1', b'$B2', b'C$3', b'D4', b'A8192', b'IV1', b'$IV$8192', b'B1']
-NAMES = [b'TOTAL', b'RATE', b'Rate', b'total', b'TAX_RATE', b'NET PAY', b'1', b'Q', b'IW1', b'A1', b'EXACTLY15LETTER', b'x.y', b'\\A', b'RATE2']
+NAMES = [b'TOTAL', b'RATE', b'Rate', b'total', b'TAX_RATE', b'NET PAY', b'1', b'Q', b'IW1', b'A1', b'EXACTLY15LETTER',
+         b'x.y', b'\\A', b'RATE2']
 NO_NAMES = [b'', b'SIXTEEN_LETTERS_', b' RATE', b' ', b'SIXTEENLETTERS 1']
 # formulas where these names may be there; where they aren't, the line goes to EDIT
-WITH_NAMES = [b'+RATE*2', b'@SUM(TOTAL)', b'$RATE+1', b'+$rate+$1', b'@COUNT(TOTAL)+@SUM($TAX_RATE)', b'@SUM(TOTAL,RATE)', b'+total&"x"', b'+A1+RATE',
+WITH_NAMES = [b'+RATE*2', b'@SUM(TOTAL)', b'$RATE+1', b'+$rate+$1', b'@COUNT(TOTAL)+@SUM($TAX_RATE)',
+              b'@SUM(TOTAL,RATE)', b'+total&"x"', b'+A1+RATE',
               b'@ROWS(TOTAL)*@COLS(q)', b'-IW1', b'+EXACTLY15LETTER', b'@MAX(A1..B3,Q)', b'+$Q*$RATE']
 FILES = [b'A', b'B', b'C', b'PAY-87_2']
 SPELLED = [b'%s', b'%s', b'%s', b'%s.WK1', b'%s.wk1', b'%s.Wk1']
 SPELLED_REPORTS = [b'%s', b'%s', b'%s', b'%s.PRN', b'%s.prn', b'%s.Prn']
 # headers and footers; none asks for the moment
-RUNNING = [b'', b'#', b'page #', b'Report|of|June', b'|#', b'||#', b'left|middle|right|more', b'#|#|#', b'a header that is longer than most pages are wide' * 2,
-           b'||a long text at the right', b'|x', b'###|##|#', b'  blanks  |  in  |  it  ', b'\x80\xe9|\xff', b'|', b'||']
-NO_FILE = [b'', b'TOO_LONG9', b'A.PRN', b'A.WK1', b'A B', b'../A', b'.WK1', b'A.WK1.WK1', b'A*', b'PAY/A', b'A.', b'C:A', b'~A']
+RUNNING = [b'', b'#', b'page #', b'Report|of|June', b'|#', b'||#', b'left|middle|right|more', b'#|#|#',
+           b'a header that is longer than most pages are wide' * 2, b'||a long text at the right', b'|x', b'###|##|#',
+           b'  blanks  |  in  |  it  ', b'\x80\xe9|\xff', b'|', b'||']
+NO_FILE = [b'', b'TOO_LONG9', b'A.PRN', b'A.WK1', b'A B', b'../A', b'.WK1', b'A.WK1.WK1', b'A*', b'PAY/A', b'A.',
+           b'C:A', b'~A']
 # what is typed where the name of the last save stands in the line; an empty text takes it
-OVER_KEPT = [b'', b'', b'', b'', b'{BS 4}', b'{BS 5}B', b'{LEFT 4}2', b'{HOME}B{DEL}', b'{ESC}', b'{LEFT}{BS 9}', b'{HOME}{DEL}X', b'{ESC}C', b'{END}']
+OVER_KEPT = [b'', b'', b'', b'', b'{BS 4}', b'{BS 5}B', b'{LEFT 4}2', b'{HOME}B{DEL}', b'{ESC}', b'{LEFT}{BS 9}',
+             b'{HOME}{DEL}X', b'{ESC}C', b'{END}']
 # how a choice is taken, and how it is given up
 TAKEN = {'replace': [b'R', b'r', b'{RIGHT}~', b'{LEFT}~', b'{END}~', b'/R', b'{RIGHT 3}~', b'{DOWN}r'],
          'confirm': [b'Y', b'y', b'{RIGHT}~', b'{LEFT}~', b'{END}~', b'zY']}
 GIVEN_UP = {'replace': [b'C', b'c', b'~', b'{ESC}', b'{BREAK}', b'{RIGHT 2}~', b'{HOME}~'],
             'confirm': [b'N', b'~', b'{ESC}', b'{BREAK}', b'{HOME}~']}
-# keys that a menu passes over; only where a menu is surely there also those that mean something in READY once they are built
-PASSED = [b'{UP}', b'{DOWN}', b'{PGUP}', b'{PGDN}', b'{EDIT}', b'{CALC}', b'{ABS}', b'{NAME}', b'{DEL}', b'{BS}', b'{GOTO}', b'{BIGLEFT}',
-          b'{BIGRIGHT}', b'{WINDOW}', b'{GRAPH}', b'z', b' ', b'5', b'/', b'.', b'[']
+# keys that a menu passes over; only where a menu is surely there also those that mean something in READY once they are
+# built
+PASSED = [b'{UP}', b'{DOWN}', b'{PGUP}', b'{PGDN}', b'{EDIT}', b'{CALC}', b'{ABS}', b'{NAME}', b'{DEL}', b'{BS}',
+          b'{GOTO}', b'{BIGLEFT}', b'{BIGRIGHT}', b'{WINDOW}', b'{GRAPH}', b'z', b' ', b'5', b'/', b'.', b'[']
 PASSED_SURELY = [b'{QUERY}', b'{TABLE}', b'{UNDO}', b'{ALT A}']
 EVERYWHERE = b'A1..IV1'
 
@@ -50,8 +58,10 @@ def ways(path='main', way=()):
 
 
 # how often a command is taken, where not twice
-WEIGHTS = {'copy': 10, 'r.erase': 4, 'wgp.enable': 1, 'wgr.manual': 1, 'wgr.automatic': 3, 'wgp.disable': 3, 'we.yes': 4, 'q.yes': 0,
-           'wc.hide': 1, 'wc.display': 4, 'wgf.hidden': 1, 'rf.hidden': 1, 'rn.create': 6, 'r.value': 5, 'r.transpose': 5}
+WEIGHTS = {'copy': 10, 'r.erase': 4, 'wgp.enable': 1, 'wgr.manual': 1, 'wgr.automatic': 3, 'wgp.disable': 3,
+           'we.yes': 4, 'q.yes': 0,
+           'wc.hide': 1, 'wc.display': 4, 'wgf.hidden': 1, 'rf.hidden': 1, 'rn.create': 6, 'r.value': 5,
+           'r.transpose': 5}
 
 
 class MenuKeys:
@@ -62,7 +72,8 @@ class MenuKeys:
         self.ways = list(ways())
         self.way_to = dict(self.ways)
         self.weights = [WEIGHTS.get(action, 2) for action, _ in self.ways]
-        # the names of files that may be there, and of reports; the last one typed, and which of the two it is among; and whether one was saved
+        # the names of files that may be there, and of reports; the last one typed, and which of the two it is among;
+        # and whether one was saved
         self.there, self.reports, self.is_kept = set(), set(), False
         self.named_last, self.among = b'', self.there
 
@@ -108,14 +119,17 @@ class MenuKeys:
         if r.randrange(12) == 0:
             keys += self.typist.line_keys()
         if r.randrange(6) == 0:
-            keys += r.choice([b'{UP}', b'{DOWN}', b'{NAME}', b'{PGUP}', b'{PGDN}', b'{ESC}B2', b'{ESC}', b'{CALC}', b'{ABS}', b'{GOTO}', b'{EDIT}'])
+            keys += r.choice([b'{UP}', b'{DOWN}', b'{NAME}', b'{PGUP}', b'{PGDN}', b'{ESC}B2', b'{ESC}', b'{CALC}',
+                              b'{ABS}', b'{GOTO}', b'{EDIT}'])
         return keys + r.choice([b'~'] * 24 + [b'{ESC}{ESC}', b'{BREAK}', b'{ESC}B2~', b'{ESC 3}{BREAK}'])
 
     def steered(self):
         """A range that is pointed at, not far from the pointer."""
         r = self.r
-        step = lambda: b'{' + r.choice([b'UP', b'DOWN', b'LEFT', b'RIGHT', b'D', b'R', b'DOWN', b'RIGHT']) + r.choice([b'}', b'}', b' 2}', b' 5}'])
-        part = lambda: step() if r.randrange(4) else r.choice([b'.', b'{ESC}', b'{BS}', b'{ABS}', b'{ESC}' + step() + b'.', b'{NAME}', b'{HOME}'])
+        step = lambda: b'{' + r.choice([b'UP', b'DOWN', b'LEFT', b'RIGHT', b'D', b'R', b'DOWN',
+                                        b'RIGHT']) + r.choice([b'}', b'}', b' 2}', b' 5}'])
+        part = lambda: step() if r.randrange(4) else r.choice([b'.', b'{ESC}', b'{BS}', b'{ABS}', b'{ESC}' + step()
+                                                               + b'.', b'{NAME}', b'{HOME}'])
         return b''.join(part() for _ in range(r.randrange(4)))
 
     def span(self):
@@ -141,13 +155,14 @@ class MenuKeys:
     def by_name(self):
         """A name that may be there: typed, or found by NAME."""
         r = self.r
-        return r.choice([lambda: self.typist.typed(r.choice(NAMES)), lambda: b'{NAME}' * r.randrange(1, 5), lambda: b'{NAME 2}{BS}',
-                         lambda: b'{NAME}{NAME}'])()
+        return r.choice([lambda: self.typist.typed(r.choice(NAMES)), lambda: b'{NAME}' * r.randrange(1, 5),
+                         lambda: b'{NAME 2}{BS}', lambda: b'{NAME}{NAME}'])()
 
     def asked_name(self):
         """A name to create, which may be there, or a text that is no name."""
         r = self.r
-        return self.by_name() if r.randrange(4) == 0 else self.typist.typed(r.choice(NO_NAMES if r.randrange(8) == 0 else NAMES))
+        return self.by_name() if r.randrange(4) == 0 else self.typist.typed(r.choice(NO_NAMES if r.randrange(8) == 0
+                                                                                     else NAMES))
 
     asked_old = asked_name
 
@@ -238,7 +253,8 @@ class MenuKeys:
     def looked(self, cells):
         """The pointer goes to some of the cells and beside them, so that the first line tells of them."""
         r = self.r
-        return b''.join(self.at(r.choice(cells)) + r.choice([b'', b'', b'{DOWN}', b'{RIGHT}', b'{UP}']) for _ in range(r.randrange(1, 4)))
+        return b''.join(self.at(r.choice(cells)) + r.choice([b'', b'', b'{DOWN}', b'{RIGHT}', b'{UP}'])
+                        for _ in range(r.randrange(1, 4)))
 
     def begun(self):
         """Mostly READY, and often without protection."""
@@ -248,8 +264,10 @@ class MenuKeys:
         """A short formula with references of every kind."""
         r = self.r
         ref = lambda: r.choice(REFERENCES)
-        return r.choice([lambda: b'+' + ref() + b'*2', lambda: b'@SUM(' + ref() + b'..' + ref() + b')', lambda: b'+' + ref() + b'+' + ref(),
-                         lambda: b'@COUNT(' + ref() + b'..' + ref() + b')&"n"', lambda: b'@IF(' + ref() + b'>1,' + ref() + b',@NA)',
+        return r.choice([lambda: b'+' + ref() + b'*2', lambda: b'@SUM(' + ref() + b'..' + ref() + b')', lambda: b'+'
+                         + ref() + b'+' + ref(),
+                         lambda: b'@COUNT(' + ref() + b'..' + ref() + b')&"n"', lambda: b'@IF(' + ref() + b'>1,' + ref()
+                         + b',@NA)',
                          lambda: b'+"long text beside "&@STRING(' + ref() + b',2)'])()
 
     def content(self):
@@ -279,7 +297,8 @@ class MenuKeys:
         for _ in range(r.randrange(1, 4)):
             keys += self.marked(r.choice([b'A1..C8', b'B2..B5', b'C3', b'A1..A2', b'b2.c4'])) + self.behind()
         if r.randrange(3) == 0:
-            keys += self.done(r.choice([action for action, _ in self.ways if action.startswith('wgf.') or action == 'wc.set']))
+            keys += self.done(r.choice([action for action, _ in self.ways if action.startswith('wgf.')
+                                        or action == 'wc.set']))
         return keys + self.looked([b'A1', b'B2', b'B3', b'C3', b'C8'])
 
     def copied(self):
@@ -287,8 +306,8 @@ class MenuKeys:
         r = self.r
         source = r.choice([b'A1', b'B2', b'D5', b'C3'])
         span = r.choice([source, source, b'A1..A3', b'A1..C1', b'B2..D5', source + b'.' + source])
-        to = r.choice([b'B3', b'A2..A9', b'B1..H1', b'B2..E6', b'A1', b'D5', b'E6..F7', b'C8..C8', b'IV8192', b'A8192', b'IU8191..IV8192', b'IV1',
-                       b'A8191..A8192', b'IV1..IV20', b'A8192..H8192'])
+        to = r.choice([b'B3', b'A2..A9', b'B1..H1', b'B2..E6', b'A1', b'D5', b'E6..F7', b'C8..C8', b'IV8192', b'A8192',
+                       b'IU8191..IV8192', b'IV1', b'A8191..A8192', b'IV1..IV20', b'A8192..H8192'])
         keys = self.begun() + self.at(source) + self.typist.typed(self.formula()) + b'~' + self.marked(span)
         keys += (self.marked(b'B3..E6') if r.randrange(3) == 0 else b'') + self.done('copy', span, to) + self.behind()
         return keys + self.looked([b'B3', b'A9', b'E6', b'C3', b'D5', b'F7', to.split(b'.')[0]])
@@ -297,28 +316,36 @@ class MenuKeys:
         """Contents with formats and marks, and what is left when they are erased."""
         r = self.r
         keys = self.begun() + self.column(b'B2') + self.marked(b'B2..B4') + self.marked(r.choice([b'B3', b'A1..B2']))
-        return keys + self.done('r.erase', r.choice([b'B2..B3', b'B2', b'A1..C4', b'B3..B9'])) + self.behind() + self.looked([b'B2', b'B3', b'B4', b'A1'])
+        return keys + self.done('r.erase', r.choice([b'B2..B3', b'B2', b'A1..C4',
+                                                     b'B3..B9'])) + self.behind() + self.looked([b'B2', b'B3', b'B4',
+                                                                                                 b'A1'])
 
     def guarded(self):
         """Protection, and what is written under it, also where only the first cells are free."""
         r = self.r
         free = r.choice([b'A1', b'B2', b'A1..A2', b'B2..C4', b'A1..B9'])
-        keys = self.begun() + (self.column(b'A1') if r.randrange(2) else b'') + self.done('r.unprotect', free) + self.done('wgp.enable')
+        keys = self.begun() + (self.column(b'A1') if r.randrange(2)
+                               else b'') + self.done('r.unprotect', free) + self.done('wgp.enable')
         span = lambda: r.choice([free, free, b'A1..B2', b'B2..C5', b'A1..A3', self.span()])
-        write = [lambda: self.at(r.choice([b'A1', b'B2', b'D9', b'C4'])) + self.content() + r.choice([b'~', b'{DOWN}', b'{UP}']),
+        write = [lambda: self.at(r.choice([b'A1', b'B2', b'D9', b'C4'])) + self.content()
+                 + r.choice([b'~', b'{DOWN}', b'{UP}']),
                  lambda: self.done('r.erase', span()), lambda: self.done('copy', span(), span()),
-                 lambda: self.done('copy', r.choice([b'A1..B2', b'B1..B2']), r.choice([b'IV8192', b'A8192', b'IV1', b'IV2..IV5'])),
+                 lambda: self.done('copy', r.choice([b'A1..B2', b'B1..B2']),
+                                   r.choice([b'IV8192', b'A8192', b'IV1', b'IV2..IV5'])),
                  lambda: self.done(r.choice(['rl.left', 'rl.right', 'rl.center']), span()), self.command,
                  lambda: self.done(r.choice(['r.protect', 'r.unprotect']), span()), self.typist.edited]
         for _ in range(r.randrange(1, 5)):
             keys += r.choice(write)() + r.choice([b'{ESC}', b'{ESC}', b'~', b'{BREAK}', b''])
-        return keys + (b'{BREAK}' + self.done('wgp.disable') if r.randrange(6) else b'') + self.looked([b'A1', b'B2', b'A3', b'C5'])
+        return keys + (b'{BREAK}' + self.done('wgp.disable') if r.randrange(6)
+                       else b'') + self.looked([b'A1', b'B2', b'A3', b'C5'])
 
     def labelled(self):
         """Labels, whose prefixes are changed."""
         r = self.r
-        keys = self.begun() + self.done(r.choice(['wgl.left', 'wgl.right', 'wgl.center'])) + self.column(b'B2') + self.behind()
-        return (keys + self.done(r.choice(['rl.left', 'rl.right', 'rl.center']), r.choice([b'B2..B6', b'A1..C5', b'B3'])) + self.behind()
+        keys = self.begun() + self.done(r.choice(['wgl.left', 'wgl.right',
+                                                  'wgl.center'])) + self.column(b'B2') + self.behind()
+        return (keys + self.done(r.choice(['rl.left', 'rl.right', 'rl.center']),
+                                 r.choice([b'B2..B6', b'A1..C5', b'B3'])) + self.behind()
                 + self.looked([b'B2', b'B3', b'B4']))
 
     def columns(self):
@@ -326,7 +353,8 @@ class MenuKeys:
         r = self.r
         hidden = r.choice([EVERYWHERE, b'B1', b'B1..C1', b'A1', b'IV1', b'A1..G9', b'D1..IV1', b'A1..IU1'])
         part = [lambda: self.done('wc.set'), lambda: self.done('wc.reset'), lambda: self.done('wc.hide', hidden),
-                lambda: self.done('wc.display', self.span()), lambda: self.done('wgc'), self.typist.moving, self.typist.arrow, self.typist.arrow,
+                lambda: self.done('wc.display', self.span()), lambda: self.done('wgc'), self.typist.moving,
+                self.typist.arrow, self.typist.arrow,
                 self.typist.end, self.typist.goto, lambda: self.content() + b'{RIGHT}', self.typist.pointed]
         keys = b''.join(r.choice(part)() + self.behind() for _ in range(r.randrange(2, 7)))
         return keys + (b'{BREAK}' + self.done('wc.display', EVERYWHERE) if r.randrange(4) else b'')
@@ -336,33 +364,45 @@ class MenuKeys:
         r = self.r
         span = lambda: r.choice([b'A1', b'B2..B5', b'A1..C3', b'B2', b'C4..B1', b'A1..A4', self.span()])
         create = lambda: self.done('rn.create', self.typist.typed(r.choice(NAMES)), span())
-        keys = self.begun() + self.column(r.choice([b'A1', b'B2'])) + b''.join(create() for _ in range(r.randrange(1, 4)))
+        keys = self.begun() + self.column(r.choice([b'A1', b'B2'])) + b''.join(create()
+                                                                               for _ in range(r.randrange(1, 4)))
         formula = lambda: self.at(r.choice([b'D1', b'D2', b'E5'])) + self.typist.typed(r.choice(WITH_NAMES)) + r.choice(
             [b'~', b'~', b'{DOWN}', b'{EDIT}~', b'{EDIT}{BS}~']) + r.choice([b'{ESC}{ESC}', b'{ESC}{ESC}', b'{BREAK}'])
-        part = [create, create, formula, formula, formula, lambda: self.done('rn.delete', self.typist.typed(r.choice(NAMES))) + b'{ESC}',
+        part = [create, create, formula, formula, formula,
+                lambda: self.done('rn.delete', self.typist.typed(r.choice(NAMES))) + b'{ESC}',
                 lambda: self.done('rn.delete'), lambda: self.done('rn.create'), lambda: self.done('rn.reset'),
-                lambda: b'{GOTO}' + self.by_name() + b'~{ESC 2}', lambda: self.done('copy', self.by_name(), r.choice([b'F1', b'D8'])),
-                lambda: self.done(r.choice(['r.value', 'r.transpose']), self.by_name(), r.choice([b'F1', b'TOTAL', b'B2'])),
-                lambda: self.format(self.by_name()), lambda: self.at(r.choice([b'D1', b'D2'])) + b'{EDIT}' + r.choice([b'~', b'+1~', b'{ESC 2}', b'{HOME}{DEL}~{ESC 2}']),
-                lambda: self.done('copy', b'D1..D2', b'E5'), lambda: self.at(r.choice([b'A1', b'B3'])) + self.content() + b'~']
+                lambda: b'{GOTO}' + self.by_name() + b'~{ESC 2}',
+                lambda: self.done('copy', self.by_name(), r.choice([b'F1', b'D8'])),
+                lambda: self.done(r.choice(['r.value', 'r.transpose']), self.by_name(),
+                                  r.choice([b'F1', b'TOTAL', b'B2'])),
+                lambda: self.format(self.by_name()), lambda: self.at(r.choice([b'D1', b'D2'])) + b'{EDIT}'
+                + r.choice([b'~', b'+1~', b'{ESC 2}', b'{HOME}{DEL}~{ESC 2}']),
+                lambda: self.done('copy', b'D1..D2', b'E5'), lambda: self.at(r.choice([b'A1', b'B3'])) + self.content()
+                + b'~']
         for _ in range(r.randrange(2, 8)):
             keys += r.choice(part)() + self.behind()
         return keys + self.looked([b'D1', b'D2', b'E5', b'F1', b'A1'])
 
     def valued(self):
-        """Values of all kinds with formats and marks, written elsewhere as they stand or turned: over themselves and past the sheet too."""
+        """Values of all kinds with formats and marks, written elsewhere as they stand or turned: over themselves and
+        past the sheet too."""
         r = self.r
         corner = r.choice([b'A1', b'B2'])
         keys = self.begun() + self.column(corner) + self.column(r.choice([b'B1', b'C2', b'A3']))
-        keys += r.choice([b'', self.at(b'B3') + r.choice([b'@ERR~', b'@NA~', b'+"text"&"s"~', b'+1/3~', b'+A1/0~', b'^mid~'])])
-        keys += self.marked(r.choice([b'A1..C5', b'B2..B4', b'A1'])) + (self.done('wgr.manual') if r.randrange(6) == 0 else b'')
+        keys += r.choice([b'', self.at(b'B3') + r.choice([b'@ERR~', b'@NA~', b'+"text"&"s"~', b'+1/3~', b'+A1/0~',
+                                                          b'^mid~'])])
+        keys += self.marked(r.choice([b'A1..C5', b'B2..B4', b'A1'])) + (self.done('wgr.manual') if r.randrange(6) == 0
+                                                                        else b'')
         guarded = r.randrange(5) == 0
         for _ in range(r.randrange(1, 4)):
             source = r.choice([b'A1..A4', b'B2..C5', b'A1..C1', b'A1', b'A1..C5', b'B3..B2', self.span()])
-            to = r.choice([b'E1', b'A1', b'B2', b'B1', b'A3', b'C3', b'D4', b'IV8192', b'A8192', b'IV1', b'IU8191', b'A8190', b'B3..C4'])
+            to = r.choice([b'E1', b'A1', b'B2', b'B1', b'A3', b'C3', b'D4', b'IV8192', b'A8192', b'IV1', b'IU8191',
+                           b'A8190', b'B3..C4'])
             keys += self.done(r.choice(['r.value', 'r.transpose']), source, to) + self.behind()
             if guarded:
-                keys += b'{BREAK}' + self.done('r.unprotect', r.choice([b'E1', b'E1..H4', b'A1..D4', b'D4..D8'])) + self.done('wgp.enable')
+                keys += b'{BREAK}' + self.done('r.unprotect',
+                                               r.choice([b'E1', b'E1..H4', b'A1..D4',
+                                                         b'D4..D8'])) + self.done('wgp.enable')
         keys += b'{BREAK}' + self.done('wgp.disable') if guarded and r.randrange(4) else b''
         return keys + self.looked([b'E1', b'E2', b'F1', b'A1', b'B2', b'C3', b'D4', b'B3'])
 
@@ -381,8 +421,10 @@ class MenuKeys:
         """A file that is combined at a cell, some of whose cells would stand past the sheet, or under protection."""
         r = self.r
         guarded = r.randrange(8) == 0
-        keys = self.done('r.unprotect', r.choice([b'A1..H20', b'A1', b'B2..D4'])) + self.done('wgp.enable') if guarded else b''
-        keys += self.at(r.choice([b'A1', b'A1', b'A1', b'B2', b'C3', b'D1', b'A8', b'IV1', b'A8192', b'IT8190', b'IU8189']))
+        keys = self.done('r.unprotect', r.choice([b'A1..H20', b'A1',
+                                                  b'B2..D4'])) + self.done('wgp.enable') if guarded else b''
+        keys += self.at(r.choice([b'A1', b'A1', b'A1', b'B2', b'C3', b'D1', b'A8', b'IV1', b'A8192', b'IT8190',
+                                  b'IU8189']))
         keys += self.done(r.choice(['fc.copy', 'fc.add', 'fc.subtract'])) + self.behind()
         return keys + (b'{BREAK}' + self.done('wgp.disable') if guarded else b'')
 
@@ -397,10 +439,11 @@ class MenuKeys:
         keys = self.begun() + self.column(r.choice([b'A1', b'B2'])) + self.column(r.choice([b'B1', b'C2', b'A3']))
         keys += self.marked(r.choice([b'A1..C5', b'B2..B4'])) + (b'' if self.there else b'{BREAK}' + self.saved())
         change = lambda: self.at(r.choice([b'A1', b'B2', b'B3', b'C3', b'D4'])) + self.content() + b'~'
-        setting = lambda: self.done(r.choice(['wgc', 'wc.set', 'wgf.text', 'wgl.right', 'wgr.manual', 'wgr.columnwise', 'wc.hide', 'rn.create', 'wgr.iteration']))
-        part = [self.saved, self.saved, self.combined, self.combined, self.combined, self.extracted, self.extracted, change, change, setting,
-                lambda: self.done('f.retrieve'), lambda: self.done('f.retrieve'), lambda: self.done('f.erase'), lambda: b'{CALC}',
-                lambda: self.done('we.yes')]
+        setting = lambda: self.done(r.choice(['wgc', 'wc.set', 'wgf.text', 'wgl.right', 'wgr.manual', 'wgr.columnwise',
+                                              'wc.hide', 'rn.create', 'wgr.iteration']))
+        part = [self.saved, self.saved, self.combined, self.combined, self.combined, self.extracted, self.extracted,
+                change, change, setting, lambda: self.done('f.retrieve'), lambda: self.done('f.retrieve'),
+                lambda: self.done('f.erase'), lambda: b'{CALC}', lambda: self.done('we.yes')]
         for _ in range(r.randrange(2, 7)):
             keys += r.choice(part)() + self.behind()
         return keys + self.looked([b'A1', b'A2', b'B2', b'B3', b'C3', b'D4'])
@@ -413,16 +456,22 @@ class MenuKeys:
         place = r.choice({'print': [0], 'po': [0, 1, 3], 'pm': [0, 1, 2, 3]}[path])
         action = menu.items(path)[place][1]
         out = b''.join(self.passed(*step[:1], False) + self.taken(*step) for step in way) + self.taken(path, place)
-        good = {'p.range': self.span(), 'po.length': b'%d' % r.choice([10, 11, 12, 15, 20, 66]), 'pm.left': b'%d' % r.choice([0, 1, 4, 10, 75]),
-                'pm.right': b'%d' % r.choice([1, 8, 20, 30, 76, 240]), 'pm.top': b'%d' % r.randrange(5), 'pm.bottom': b'%d' % r.randrange(5)}
+        good = {'p.range': self.span(), 'po.length': b'%d' % r.choice([10, 11, 12, 15, 20, 66]),
+                'pm.left': b'%d' % r.choice([0, 1, 4, 10, 75]),
+                'pm.right': b'%d' % r.choice([1, 8, 20, 30, 76, 240]), 'pm.top': b'%d' % r.randrange(5),
+                'pm.bottom': b'%d' % r.randrange(5)}
         out += good[action] + b'~' if action in good and r.randrange(6) else self.answer(menu.prompts(action)[0][1])
-        return out + b''.join(self.taken(up, len(menu.items(up)) - 1) if r.randrange(8) else b'{ESC}' for up, _ in [(path, 0), *reversed(way)][:len(way)])
+        return out + b''.join(self.taken(up, len(menu.items(up)) - 1) if r.randrange(8) else b'{ESC}'
+                              for up, _ in [(path, 0), *reversed(way)][:len(way)])
 
     def printed(self):
         """Reports of what stands near A1, with settings that are kept from one to the next."""
         r = self.r
-        keys = self.begun() + self.column(r.choice([b'A1', b'B2'])) + self.column(r.choice([b'B1', b'C2', b'A3', b'H1']))
-        keys += self.marked(r.choice([b'A1..C5', b'B2..B4'])) + self.done(r.choice(['wgc', 'wc.set', 'wc.hide', 'wgf.text', 'wc.reset'])) + b'{BREAK}'
+        keys = self.begun() + self.column(r.choice([b'A1',
+                                                    b'B2'])) + self.column(r.choice([b'B1', b'C2', b'A3', b'H1']))
+        keys += self.marked(r.choice([b'A1..C5', b'B2..B4'])) + self.done(r.choice(['wgc', 'wc.set', 'wc.hide',
+                                                                                    'wgf.text',
+                                                                                    'wc.reset'])) + b'{BREAK}'
         for _ in range(r.randrange(1, 4)):
             keys += b'{BREAK}' + self.way(self.way_to['p.file'])
             keys += self.answer(('F', 'PRN')) + self.asked_replace()
@@ -438,7 +487,8 @@ class MenuKeys:
         r = self.r
         if r.randrange(3) == 0:
             return self.done('move', self.span(), r.choice([b'B2', b'F1', b'A1', b'E3']))
-        return self.done(r.choice(['wi.row', 'wi.column', 'wd.row', 'wd.column']), r.choice([b'A1', b'B2', b'D1..E2', b'C3', b'F1']))
+        return self.done(r.choice(['wi.row', 'wi.column', 'wd.row', 'wd.column']),
+                         r.choice([b'A1', b'B2', b'D1..E2', b'C3', b'F1']))
 
     def order(self):
         """Keys that set an order of evaluation."""
@@ -452,8 +502,9 @@ class MenuKeys:
         """Orders, passes, circles, and Manual with CALC."""
         r = self.r
         part = [self.order, self.passes, lambda: self.done('wgr.manual'), lambda: self.done('wgr.automatic')]
-        circle = lambda: self.at(r.choice([b'A1', b'B1', b'A2', b'C3'])) + r.choice([b'+A1+1', b'+B1+1', b'+A2*2', b'@SUM(A1..B2)', b'5', b'+C3+B1',
-                                                                                    b'@CELLPOINTER("row")', b'@@("B1")']) + r.choice([b'~', b'{DOWN}', b'{RIGHT}'])
+        values = [b'+A1+1', b'+B1+1', b'+A2*2', b'@SUM(A1..B2)', b'5', b'+C3+B1', b'@CELLPOINTER("row")', b'@@("B1")']
+        circle = lambda: (self.at(r.choice([b'A1', b'B1', b'A2', b'C3'])) + r.choice(values)
+                          + r.choice([b'~', b'{DOWN}', b'{RIGHT}']))
         part += [circle, circle, circle, lambda: b'{CALC}', lambda: b'{CALC 3}', self.typist.entry]
         keys = self.begun() + b''.join(r.choice(part)() for _ in range(r.randrange(2, 8)))
         return keys + r.choice([b'', self.done('wgr.automatic'), b'{CALC}', self.done('wgr.iteration', b'1')])
@@ -461,20 +512,26 @@ class MenuKeys:
     def ordered(self):
         """Formulas whose values tell in which order and how often they were evaluated."""
         r = self.r
-        cells = [b'{GOTO}A2~+B1+1~', b'{GOTO}B1~+A1*2~', b'{GOTO}C1~+A3~', b'{GOTO}A3~+C1+B1~', b'{GOTO}C2~+C2+1~', b'{GOTO}B3~+A2+C2~']
+        cells = [b'{GOTO}A2~+B1+1~', b'{GOTO}B1~+A1*2~', b'{GOTO}C1~+A3~', b'{GOTO}A3~+C1+B1~', b'{GOTO}C2~+C2+1~',
+                 b'{GOTO}B3~+A2+C2~']
         r.shuffle(cells)
-        keys = self.begun() + self.order() + (self.passes() if r.randrange(2) else b'') + b''.join(cells[:r.randrange(3, 7)])
-        return keys + b'{GOTO}A1~%d~' % r.randrange(1, 9) + r.choice([b'', b'{CALC}', self.order() + b'{CALC}', self.passes() + b'{CALC}'])
+        keys = self.begun() + self.order() + (self.passes() if r.randrange(2)
+                                              else b'') + b''.join(cells[:r.randrange(3, 7)])
+        return keys + b'{GOTO}A1~%d~' % r.randrange(1, 9) + r.choice([b'', b'{CALC}', self.order() + b'{CALC}',
+                                                                      self.passes() + b'{CALC}'])
 
     def freshened(self):
         """Settings, and a fresh sheet, or not."""
         r = self.r
-        some = [lambda: self.done('wgc', b'%d' % r.randrange(3, 20)), lambda: self.done('wc.set', b'%d' % r.randrange(3, 20)),
-                lambda: self.done('wc.hide', b'B1..C1'), lambda: self.done(r.choice(['wgl.right', 'wgl.center', 'wgf.text', 'wgf.date1', 'wgr.manual'])),
-                lambda: self.done('wgp.enable'), self.order, self.passes, lambda: self.format(b'A1..B3'), lambda: self.column(b'B2')]
+        some = [lambda: self.done('wgc', b'%d' % r.randrange(3, 20)),
+                lambda: self.done('wc.set', b'%d' % r.randrange(3, 20)), lambda: self.done('wc.hide', b'B1..C1'),
+                lambda: self.done(r.choice(['wgl.right', 'wgl.center', 'wgf.text', 'wgf.date1', 'wgr.manual'])),
+                lambda: self.done('wgp.enable'), self.order, self.passes, lambda: self.format(b'A1..B3'),
+                lambda: self.column(b'B2')]
         keys = b'{BREAK}' + b''.join(r.choice(some)() for _ in range(r.randrange(1, 5)))
         keys += self.way(self.way_to['we.yes'][:-1]) + r.choice([b'y', b'y', b'{LEFT}~', b'Y', b'N', b'~', b'{ESC 3}'])
-        return keys + r.choice([b'', self.looked([b'A1', b'B2', b'C1']), self.content() + b'{RIGHT}', self.content() + b'{CALC}', b'+A1+1{CALC}~'])
+        return keys + r.choice([b'', self.looked([b'A1', b'B2', b'C1']), self.content() + b'{RIGHT}', self.content()
+                                + b'{CALC}', b'+A1+1{CALC}~'])
 
     def numbered(self):
         """Whole numbers at their bounds and beside them."""
@@ -485,19 +542,25 @@ class MenuKeys:
     def wandered(self):
         """Keys that come to this or that in the menus."""
         r = self.r
-        some = [b'%c' % byte for byte in b'wrcgflrcpehdsunmaiey,0123'] + [b'{RIGHT}', b'{LEFT}', b'{HOME}', b'{END}', b'{ESC}', b'{ESC 2}', b'~', b'~', b'/', b'q', b'{BREAK}/']
-        return b'/' + b''.join(r.choice(some) for _ in range(r.randrange(1, 9))) + r.choice([b'{BREAK}', b'{ESC 3}', b'{ESC 4}', b''])
+        some = [b'%c' % byte for byte in b'wrcgflrcpehdsunmaiey,0123'] + [b'{RIGHT}', b'{LEFT}', b'{HOME}', b'{END}',
+                                                                          b'{ESC}', b'{ESC 2}', b'~', b'~', b'/', b'q',
+                                                                          b'{BREAK}/']
+        return b'/' + b''.join(r.choice(some)
+                               for _ in range(r.randrange(1, 9))) + r.choice([b'{BREAK}', b'{ESC 3}', b'{ESC 4}', b''])
 
     def too_long(self):
         """A text past what a line holds, which isn't edited."""
         r = self.r
         label = b'x' * 240 + b'~{EDIT}'
-        formula = self.at(b'A1') + b'+A1' * r.choice([60, 79, 80]) + b'~' + self.done('copy', b'A1', b'Z100') + self.at(b'Z100') + b'{EDIT}'
+        formula = self.at(b'A1') + b'+A1' * r.choice([60, 79,
+                                                      80]) + b'~' + self.done('copy', b'A1',
+                                                                              b'Z100') + self.at(b'Z100') + b'{EDIT}'
         return r.choice([label, formula]) + r.choice([b'{ESC}', b'{BS}~', b'~', b'{ESC 3}'])
 
     def stayed(self):
         """Quit that isn't taken."""
-        return self.way(self.way_to['q.yes'][:1]) + self.r.choice([b'n', b'~', b'{ESC}{ESC}', b'{BREAK}', b'{LEFT 2}~', b'x{ESC 2}'])
+        return self.way(self.way_to['q.yes'][:1]) + self.r.choice([b'n', b'~', b'{ESC}{ESC}', b'{BREAK}', b'{LEFT 2}~',
+                                                                   b'x{ESC 2}'])
 
     def quit(self):
         """Quit that is taken, and mostly keys behind it."""
@@ -505,9 +568,10 @@ class MenuKeys:
 
     def scene(self):
         """Commands that belong together."""
-        return self.r.choice([self.copied, self.guarded, self.formatted, self.erased, self.labelled, self.columns, self.numbered, self.reckoned,
-                              self.ordered, self.freshened, self.named, self.named, self.valued, self.valued, self.filed, self.filed, self.filed,
-                              self.printed, self.printed])()
+        return self.r.choice([self.copied, self.guarded, self.formatted, self.erased, self.labelled, self.columns,
+                              self.numbered, self.reckoned, self.ordered, self.freshened, self.named, self.named,
+                              self.valued, self.valued, self.filed, self.filed, self.filed, self.printed,
+                              self.printed])()
 
     def part(self):
         """Keys of a command, or of a menu that is left."""

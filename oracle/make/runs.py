@@ -1,4 +1,5 @@
-"""Runs of the program: how a line spells one, and what the oracle tells of it. The moment on a screen's last line is left out."""
+"""Runs of the program: how a line spells one, and what the oracle tells of it. The moment on a screen's last line is
+left out."""
 import os
 import re
 import shlex
@@ -30,7 +31,8 @@ def kind_of(words):
 
 
 def without_moments(pages):
-    """Pages with blanks in the place of the moments; in ERROR, which a macro's text may hide, the message stands there."""
+    """Pages with blanks in the place of the moments; in ERROR, which a macro's text may hide, the message stands
+    there."""
     lines = pages.split(b'\n')
     for at in range(24, len(lines), 26):
         if MOMENT.match(lines[at]):
@@ -54,8 +56,8 @@ def expected(words, keys, folder):
 
 
 def spelled_bytes(text):
-    """Bytes in hexadecimal digits, in parts with a plus sign between them; a part may tell behind a star how often it stands there. None of
-    a folder."""
+    """Bytes in hexadecimal digits, in parts with a plus sign between them; a part may tell behind a star how often it
+    stands there. None of a folder."""
     if text == 'folder':
         return None
     out = b''

@@ -1,11 +1,12 @@
-"""Runs of the program whose outcome the oracle told once, and which are stored with a digest of it: what a run's status, screens without
-moments, notes and the files that it leaves come to. So they are compared without the oracle.
+"""Runs of the program whose outcome the oracle told once, and which are stored with a digest of it: what a run's
+status, screens without moments, notes and the files that it leaves come to. So they are compared without the oracle.
 
 python3 -B -m oracle.make.stored [--seed SEED] [NAME..] [--processes P]
     makes stored/NAME anew by the oracle, or all of them
 
-A line of stored/NAME is a digest and, as in worked/runs, the program's words, its keys and the files of its folder. MAKERS tells what makes
-the runs of each name: a call that takes the random numbers of the seed and the name, and yields them. No run may ask for the moment."""
+A line of stored/NAME is a digest and, as in worked/runs, the program's words, its keys and the files of its folder.
+MAKERS tells what makes the runs of each name: a call that takes the random numbers of the seed and the name, and yields
+them. No run may ask for the moment."""
 import argparse
 import hashlib
 import os
@@ -24,7 +25,8 @@ STORED = os.path.join(HERE, 'stored')
 # what makes the runs of each name
 MAKERS = {'base': stored_base.base, 'numbers': stored_numbers.numbers, 'formulas': stored_formulas.formulas,
           'values': stored_formulas.values, 'adjustments': stored_formulas.adjustments, 'files': stored_files.files,
-          'edits': stored_sheets.edits, 'screens': stored_sheets.screens, 'data': stored_data.data, 'macros': stored_data.macros,
+          'edits': stored_sheets.edits, 'screens': stored_sheets.screens, 'data': stored_data.data,
+          'macros': stored_data.macros,
           'rooms': stored_rooms.rooms, 'words': stored_words.words}
 # bytes that stand several times behind one another
 REPEATED = re.compile(rb'(.{1,300}?)\1{7,}', re.DOTALL)

@@ -1,8 +1,9 @@
-"""Stored runs of what cells, names, texts and formulas stand on. Their lines are told by letters, without a blank behind them:
+"""Stored runs of what cells, names, texts and formulas stand on. Their lines are told by letters, without a blank
+behind them:
 
     a TEXT               the name of a span, or the cell to go to
-    r CELL AT C R OTHER  the reference to the first cell that stands in the second, with the column or the row absolute for `$`, copied to
-                         the third
+    r CELL AT C R OTHER  the reference to the first cell that stands in the second, with the column or the row absolute
+                         for `$`, copied to the third
     l PREFIX WIDTH TEXT  a label and the width in which it is shown; no blank is behind the prefix
     f BYTE               the indicator of a format
     c BYTE               the function of a code
@@ -10,11 +11,11 @@
     y NUMBER             the date of this day, the second of a day's millionth, and the millionth of its second
     t TEXT               the text in upper, lower and proper case and trimmed, and with a byte behind it
     q FROM WHAT TEXT     where the one stands in the other, and which comes first; a tab is between the two
-    e WORDS              a formula's tree, operands first: numbers in millionths, `'` and a text, `long` for the longest, `cell` and
-                         `span` with their cells, operators, `neg`, `not`, `group`, and `call` with a code and a count; `many` and a
-                         count repeat a word
-    :                    a case of names begins: `+` makes one for a span, `-` deletes one, `?` finds its span, `@` prints a formula over
-                         a span, and `>` puts in the next one behind a text"""
+    e WORDS              a formula's tree, operands first: numbers in millionths, `'` and a text, `long` for the
+                         longest, `cell` and `span` with their cells, operators, `neg`, `not`, `group`, and `call`
+                         with a code and a count; `many` and a count repeat a word
+    :                    a case of names begins: `+` makes one for a span, `-` deletes one, `?` finds its span, `@`
+                         prints a formula over a span, and `>` puts in the next one behind a text"""
 from ..model import formula, wk1
 from ..model.address import cell_text, ordered, read_cell, read_span, ref_of, span_text
 from ..model.dates import LAST_DAY
@@ -28,7 +29,8 @@ from .stored_parts import (AS_LABEL, file_of, formula_file, goto, in_parts, name
                            saved_as, starting_with, typed)
 
 # names of which some are never written for their spans
-WORDS = [b'TOTAL', b'RENT_2', b'RENT', b'IW1', b'B', b'A0', b'A1', b'Z', b'Z9', b'1A', b'A B', b'_X', b'A.B', b'EXACTLY15LETTER']
+WORDS = [b'TOTAL', b'RENT_2', b'RENT', b'IW1', b'B', b'A0', b'A1', b'Z', b'Z9', b'1A', b'A B', b'_X', b'A.B',
+         b'EXACTLY15LETTER']
 # the cell in which the trees stand
 AT = (2, 4)
 FAR = b'{GOTO}Z7000~'
@@ -39,7 +41,8 @@ NOW, IS_NUMBER = CODE_OF[b'NOW'], CODE_OF[b'ISNUMBER']
 
 def any_cell(r):
     """A cell, often at an edge of the sheet or of its columns' letters."""
-    return r.choice([0, 25, 26, 51, 52, 255, r.randrange(256)]), r.choice([0, 8, 9, 98, 99, 998, 999, 8191, r.randrange(8192)])
+    return r.choice([0, 25, 26, 51, 52, 255, r.randrange(256)]), r.choice([0, 8, 9, 98, 99, 998, 999, 8191,
+                                                                           r.randrange(8192)])
 
 
 def address(r):
@@ -62,13 +65,15 @@ def placed_text(r):
     """A text, what is sought in it, and from where."""
     text = bytes(r.choice(b'aAb ') for _ in range(r.randrange(12)))
     at = r.randrange(len(text) + 1)
-    what = r.choice([text[at:at + r.randrange(4)], bytes(r.choice(b'aAb') for _ in range(r.randrange(4))), mixed(r, text)])
+    what = r.choice([text[at:at + r.randrange(4)], bytes(r.choice(b'aAb') for _ in range(r.randrange(4))),
+                     mixed(r, text)])
     return b'q%d %s\t%s' % (r.randrange(len(text) + 2), what, text)
 
 
 def any_leaf(r):
     """An operand as a line tells it."""
-    return r.choice([lambda: b'%d' % r.randrange(LIMIT), lambda: b'%d' % (r.randrange(9) * ONE), lambda: b"'" + b'ab'[:r.randrange(3)],
+    return r.choice([lambda: b'%d' % r.randrange(LIMIT), lambda: b'%d' % (r.randrange(9) * ONE), lambda: b"'"
+                     + b'ab'[:r.randrange(3)],
                      lambda: b'cell ' + cell_text(any_cell(r)),
                      lambda: b'span ' + cell_text(any_cell(r)) + b' ' + cell_text(any_cell(r)),
                      lambda: r.choice([b'-1', b"'a\"", b'long', b'0'])])()
@@ -95,7 +100,8 @@ def any_tree(r, depth):
 
 def deep_tree(r):
     """A tree about as deep as a formula's may be."""
-    return any_tree(r, r.choice([0, 0, 1])) + b' many %d ' % r.randrange(253, 258) + r.choice([b'group', b'neg', b'not'])
+    return any_tree(r, r.choice([0, 0, 1])) + b' many %d ' % r.randrange(253,
+                                                                         258) + r.choice([b'group', b'neg', b'not'])
 
 
 def long_tree(r):
@@ -108,7 +114,8 @@ def long_tree(r):
 
 def any_name(r):
     """A name, good or bad."""
-    return bytes(r.choice(r.choice([b'aAbB', b'12', b' _.$\x1f\xff~'])) for _ in range(r.choice([0, 1, 1, 2, 2, 3, 14, 15, 16])))
+    return bytes(r.choice(r.choice([b'aAbB', b'12', b' _.$\x1f\xff~']))
+                 for _ in range(r.choice([0, 1, 1, 2, 2, 3, 14, 15, 16])))
 
 
 def names_case(r):
@@ -118,7 +125,8 @@ def names_case(r):
     yield b':'
     for _ in range(16):
         name = mixed(r, r.choice(pool)) if r.randrange(8) else any_name(r)
-        yield r.choice([b'+' + r.choice(spans) + b' ' + name] * 4 + [b'-' + name, b'?' + name, b'@' + r.choice(spans), b'>' + name])
+        yield r.choice([b'+' + r.choice(spans) + b' ' + name] * 4
+                       + [b'-' + name, b'?' + name, b'@' + r.choice(spans), b'>' + name])
 
 
 def lines(r):
@@ -131,10 +139,12 @@ def lines(r):
         yield b'r%s %s %c %c %s' % (*cells[:2], r.choice(b'$-'), r.choice(b'$-'), cells[2])
         yield b'l%c%d %s' % (r.choice(b"'\"^\\|"), r.choice([0, 1, 2, 9, MAX, r.randrange(25)]), any_text(r, 24))
         yield b'd%d %d %d' % (r.randrange(1896, 2104), r.randrange(14), r.randrange(33))
-        yield b'y%d' % r.choice([r.randrange(LAST_DAY + 10), r.randrange(LAST_DAY + 10), r.randrange(ONE), r.randrange(1 << 32)])
+        yield b'y%d' % r.choice([r.randrange(LAST_DAY + 10), r.randrange(LAST_DAY + 10), r.randrange(ONE),
+                                 r.randrange(1 << 32)])
         yield b't' + any_text(r)
         yield placed_text(r)
-        yield b'e' + (long_tree(r) if row % 50 == 0 else deep_tree(r) if row % 10 == 0 else any_tree(r, r.choice([1, 2, 2, 3])))
+        yield b'e' + (long_tree(r) if row % 50 == 0 else deep_tree(r) if row % 10 == 0
+                      else any_tree(r, r.choice([1, 2, 2, 3])))
     for _ in range(200):
         yield from names_case(r)
 
@@ -150,7 +160,8 @@ def addresses(rest):
 
 
 def reference(rest):
-    """Keys that enter a reference in a cell, copy it to another and print it there, and count what stands between its cells."""
+    """Keys that enter a reference in a cell, copy it to another and print it there, and count what stands between its
+    cells."""
     target, at, col, row, other = rest.split(b' ')
     letters = target.rstrip(b'0123456789')
     text = b'+' + col.strip(b'-') + letters + row.strip(b'-') + target[len(letters):]
@@ -177,7 +188,8 @@ def is_text(text):
 
 
 def labels(rest):
-    """Runs of a macro that puts what labels show into cells, in their widths; a label that no file may hold has a file of its own."""
+    """Runs of a macro that puts what labels show into cells, in their widths; a label that no file may hold has a file
+    of its own."""
     every = [(text[0], *text[1:].split(b' ', 1)) for text in rest]
     for part in in_parts([label for label in every if is_text(label[2]) and label[1] != b'0'], 100):
         cells, names = {}, Names()
@@ -203,7 +215,8 @@ OF_TWO = [b'@FIND(A1,B1,C1)', b'+A1=B1', b'+A1<B1', b'+A1>B1', b'@EXACT(A1,B1)']
 
 
 def forms(rest):
-    """Runs of texts in their cases, trimmed and with a byte more; a text that no file may hold has a file of its own."""
+    """Runs of texts in their cases, trimmed and with a byte more; a text that no file may hold has a file of its
+    own."""
     for part in in_parts([text for text in rest if is_text(text)], 100):
         yield over(OF_TEXT, {(0, row): of_label(text) for row, text in enumerate(part)}, len(part))
     for text in rest:
@@ -218,21 +231,24 @@ def found(rest):
         for row, line in enumerate(part):
             start, _, both = line.partition(b' ')
             what, text = both.split(b'\t')
-            cells |= {(0, row): of_label(what), (1, row): of_label(text), (2, row): of_number(min(int(start) * ONE, LIMIT))}
+            cells |= {(0, row): of_label(what), (1, row): of_label(text),
+                      (2, row): of_number(min(int(start) * ONE, LIMIT))}
         yield over(OF_TWO, cells, len(part))
 
 
 # ---------------------------------------------------------------- dates
 
 OF_DATE = [b'@DATE(A1,B1,C1)']
-OF_DAY = [b'@YEAR(A1)', b'@MONTH(A1)', b'@DAY(A1)', b'@HOUR(B1)', b'@MINUTE(B1)', b'@SECOND(B1)', b'@TIME(@INT(C1/3600),@INT(@MOD(C1,3600)/60),@MOD(C1,60))']
+OF_DAY = [b'@YEAR(A1)', b'@MONTH(A1)', b'@DAY(A1)', b'@HOUR(B1)', b'@MINUTE(B1)', b'@SECOND(B1)',
+          b'@TIME(@INT(C1/3600),@INT(@MOD(C1,3600)/60),@MOD(C1,60))']
 
 
 def dates(rest):
     """Runs of dates of years, months and days."""
     for part in in_parts(rest, 150):
         words = [[int(word) for word in line.split(b' ')] for line in part]
-        cells = {(col, row): of_number((word - 1900 * (col == 0)) * ONE) for row, line in enumerate(words) for col, word in enumerate(line)}
+        cells = {(col, row): of_number((word - 1900 * (col == 0)) * ONE)
+                 for row, line in enumerate(words) for col, word in enumerate(line)}
         yield over(OF_DATE, cells, len(part))
 
 
@@ -299,14 +315,15 @@ def tree_of(words):
             count, word = int(next(words)), next(words)
         for _ in range(count):
             stack.append(momentless(('call', int(next(words)), take(int(next(words))))) if word == b'call'
-                         else ('cell', ref(False)) if word == b'cell' else ('span', ref(True), ref(False)) if word == b'span'
+                         else ('cell', ref(False)) if word == b'cell' else ('span', ref(True), ref(False))
+                         if word == b'span'
                          else of_word(word))
     return stack.pop()
 
 
 def touched(expr):
-    """Keys that enter a number in the first corner of each span that a tree reads, and elsewhere, so that the count of evaluations tells
-    what it reads and whether it is always evaluated."""
+    """Keys that enter a number in the first corner of each span that a tree reads, and elsewhere, so that the count of
+    evaluations tells what it reads and whether it is always evaluated."""
     corners = [first for first, _ in formula.reads(expr, AT)]
     return FAR + b'1~' + b''.join(goto(cell) + b'1~' for cell in corners[:8] if cell != AT)
 
@@ -323,8 +340,8 @@ def can_stand(expr):
 
 
 def trees(rest):
-    """Runs that begin with a formula of a tree's code: it is refused, or saved and printed, and evaluated as often as what it reads
-    changes."""
+    """Runs that begin with a formula of a tree's code: it is refused, or saved and printed, and evaluated as often as
+    what it reads changes."""
     for line in rest:
         expr = tree_of(line.split(b' '))
         if can_stand(expr):
@@ -367,7 +384,8 @@ def names(rest):
 
 # ---------------------------------------------------------------- all of it
 
-OF_LETTER = {b'a': addresses, b'r': references, b'l': labels, b'f': formats, b'c': codes, b'd': dates, b'y': days, b't': forms, b'q': found,
+OF_LETTER = {b'a': addresses, b'r': references, b'l': labels, b'f': formats, b'c': codes, b'd': dates, b'y': days,
+             b't': forms, b'q': found,
              b'e': trees}
 
 

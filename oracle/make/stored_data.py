@@ -1,5 +1,5 @@
-"""Stored runs of the commands below Data and of macros, over sheets in files: what the lines of worked/data and worked/macros tell, and those
-of `cases`."""
+"""Stored runs of the commands below Data and of macros, over sheets in files: what the lines of worked/data and
+worked/macros tell, and those of `cases`."""
 import functools
 import re
 
@@ -13,7 +13,8 @@ from .joined import Joined, joined
 NOW = re.compile(rb'@now', re.IGNORECASE)
 # where the records that match are extracted to
 BESIDE = (52, 0)
-# a macro that ends within so many steps is followed by those of other sheets, so many in a run, which takes so many steps
+# a macro that ends within so many steps is followed by those of other sheets, so many in a run, which takes so many
+# steps
 ENDING, MANY, MOST_STEPS = 200, 4, 1000
 
 
@@ -34,7 +35,8 @@ def asked_sheets(lines, asking):
 
 def sort_keys(span, *keys):
     """A sort by one or two keys."""
-    given = b''.join(item + key[1:] + b'~' + (b'D' if key[:1] == b'-' else b'A') + b'~' for item, key in zip((b'P', b'S'), keys))
+    given = b''.join(item + key[1:] + b'~' + (b'D' if key[:1] == b'-' else b'A') + b'~'
+                     for item, key in zip((b'P', b'S'), keys))
     return b'/DSR/DSD' + span + b'~' + given + b'G'
 
 
@@ -70,8 +72,8 @@ def asked_data(made, asked, to):
 
 
 def data(r):
-    """The worked lines, 500 fills, sorts and distributions of small sheets, 500 queries, and 400 extractions of all records and of
-    those that differ."""
+    """The worked lines, 500 fills, sorts and distributions of small sheets, 500 queries, and 400 extractions of all
+    records and of those that differ."""
     lines = worked('data').splitlines() + Blocks(r).asked(500) + Queries(r).asked(500) + Extractions(r).asked(400)
     return joined(functools.partial(asked_data, *sheet) for sheet in asked_sheets(lines, b'fsdmqreu'))
 
@@ -82,7 +84,8 @@ def macro_sheet(made, asked):
     """A sheet in a file whose macros have keys that start them, and these keys: the first macro first, and the last."""
     cells = [line[1:].split(b' ')[0] for line in asked]
     letters = [b'%c' % (65 + at) for at in range(len(cells))]
-    held = file_of([b'+' + cell + b' \\' + letter for cell, letter in zip(cells, letters)] + [NOW.sub(b'@ERR', line) for line in made])
+    held = file_of([b'+' + cell + b' \\' + letter for cell, letter in zip(cells, letters)]
+                   + [NOW.sub(b'@ERR', line) for line in made])
     starts = [b'{ALT ' + letter + b'}{BREAK}' for letter in letters]
     return held, [b''.join(starts)] + [b''.join(starts[::-1])] * (len(starts) > 1)
 
@@ -93,7 +96,8 @@ def has_end(held, keys):
 
 
 def macros(r):
-    """The worked lines, and 2,000 macros over small sheets: mostly several sheets in a run, which a macro without an end ends."""
+    """The worked lines, and 2,000 macros over small sheets: mostly several sheets in a run, which a macro without an
+    end ends."""
     to = Joined()
     for made, asked in asked_sheets(worked('macros').splitlines() + Macros(r).runs(2000), b'r'):
         held, orders = macro_sheet(made, asked)

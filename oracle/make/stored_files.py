@@ -1,4 +1,5 @@
-"""Stored runs over worksheet files: runs that begin with a file that is refused, and runs that retrieve files one after another."""
+"""Stored runs over worksheet files: runs that begin with a file that is refused, and runs that retrieve files one after
+another."""
 import string
 
 from ..model.address import row_order
@@ -19,8 +20,9 @@ def looked_at(r, saved):
 
 
 def taken_in(r, name, saved, is_open):
-    """Keys that retrieve a file and save its sheet again. Where it has formulas, the values that they had there are added to an empty sheet,
-    which is saved too. Now and then the sheet's first cells are saved alone, or all are copied into an empty sheet."""
+    """Keys that retrieve a file and save its sheet again. Where it has formulas, the values that they had there are
+    added to an empty sheet, which is saved too. Now and then the sheet's first cells are saved alone, or all are copied
+    into an empty sheet."""
     keys = (b'' if is_open else b'/FR%s~' % name) + looked_at(r, saved) + b'/FS%sR~' % name
     if r.randrange(8) == 0:
         keys += b'/FXF%sF~A1..D5~/FXV%sV~A1..D5~' % (name, name)

@@ -1,14 +1,15 @@
-"""Stored runs of formulas: what they are printed as, where their faults are, what they come to, and how moves, inserts and deletes change
-them.
+"""Stored runs of formulas: what they are printed as, where their faults are, what they come to, and how moves, inserts
+and deletes change them.
 
 A line of worked/formulas is the text of a formula.
 
-A line of worked/values and of worked/functions is a formula over a block of cells. `:` begins a block, whose next cell, row by row over the
-columns A to H, gets a number from `:N`, a label from `:L` with its prefix and its text, a formula from `:V`, and nothing from `:B`.
+A line of worked/values and of worked/functions is a formula over a block of cells. `:` begins a block, whose next cell,
+row by row over the columns A to H, gets a number from `:N`, a label from `:L` with its prefix and its text, a formula
+from `:V`, and nothing from `:B`.
 
-A line of worked/adjustments has a letter, a formula's cell, the span of an edit, the cell that its first corner moves to, a span that gets a
-name, and the formula's text. The letters are `M` for a move, `r` and `c` for rows and columns inserted in front of the span, as many as it
-has, and `R` and `C` for its rows and columns deleted."""
+A line of worked/adjustments has a letter, a formula's cell, the span of an edit, the cell that its first corner moves
+to, a span that gets a name, and the formula's text. The letters are `M` for a move, `r` and `c` for rows and columns
+inserted in front of the span, as many as it has, and `R` and `C` for its rows and columns deleted."""
 from ..model import formula
 from ..model.address import col_text, read_cell
 from ..model.fixed import read_decimal
@@ -29,13 +30,15 @@ FORMULA_NAMES = [(b'TOTAL', 'A1'), (b'rates', 'B3..D10'), (b'PRICES', 'B3..D10')
 
 
 def printed(text, at, names):
-    """Keys that leave a formula's text as it is printed in the pointer's cell as a label, or the faulty text with a mark."""
+    """Keys that leave a formula's text as it is printed in the pointer's cell as a label, or the faulty text with a
+    mark."""
     good = is_value(as_value(text), at, names)
     return entered(text, at, names) + (b'{EDIT}' + AS_LABEL if good else b'')
 
 
 def texts_of_formulas(r):
-    """5,000 texts, whole or broken, some with functions that are left out or names that nobody made, and the worked ones."""
+    """5,000 texts, whole or broken, some with functions that are left out or names that nobody made, and the worked
+    ones."""
     names = [name for name, _ in FORMULA_NAMES if name.isalnum() or b'_' in name] + [b'NOBODY', b'IW1', b'A9000']
     texts = Texts(r, 6, 8, True, names)
     for _ in range(5000):
@@ -47,8 +50,8 @@ def texts_of_formulas(r):
 
 
 def formulas(r):
-    """Runs of formula texts in a corner of the sheet, amid it and in its other corner: each text is typed there, and the label that it
-    is printed in is copied aside."""
+    """Runs of formula texts in a corner of the sheet, amid it and in its other corner: each text is typed there, and
+    the label that it is printed in is copied aside."""
     names = names_of(FORMULA_NAMES)
     texts = list(texts_of_formulas(r))
     for turn, at in enumerate(FORMULA_CELLS):
@@ -92,8 +95,10 @@ def criterion_formula(r):
 def records(r, texts):
     """The lines of a block with records in the columns A to D and conditions in E to H."""
     spoilt = r.randrange(4) == 0
-    value = lambda: r.choice([b':N%d' % r.randrange(-3, 9)] * 4 + [b':B', b":L'" + r.choice([b'AB', b'ab', b'abc', b'A', b'']),
-                                                                 b':V' + r.choice([b'@NA', b'@ERR'] if spoilt else [b'"ab"', b'1.5'])])
+    value = lambda: r.choice([b':N%d' % r.randrange(-3, 9)] * 4
+                             + [b':B', b":L'" + r.choice([b'AB', b'ab', b'abc', b'A', b'']),
+                                                                 b':V' + r.choice([b'@NA', b'@ERR'] if spoilt
+                                                                                  else [b'"ab"', b'1.5'])])
     out = []
     for col in range(8):
         name = r.choice(FIELDS) if col >= 4 or r.randrange(25) == 0 else FIELDS[col]
@@ -113,18 +118,21 @@ def records(r, texts):
 def record_formula(r, texts):
     """A function of records, mostly over the whole block of records and a few conditions."""
     first = r.choice([4, 4, 5, 6])
-    source = r.choice([b'A1..D%d' % r.choice([1, 2, 3, 4, 5, 6, 7, 8])] * 16 + [texts.span(), texts.cell(), b'RATES', b'(A1..D6)'])
-    number = r.choice([b'%d' % r.randrange(4)] * 20 + [b'-1', b'4', b'1.9', b'@NA', b'1/0', b'"x"', b'H9', texts.cell()])
+    source = r.choice([b'A1..D%d' % r.choice([1, 2, 3, 4, 5, 6, 7, 8])] * 16
+                      + [texts.span(), texts.cell(), b'RATES', b'(A1..D6)'])
+    number = r.choice([b'%d' % r.randrange(4)] * 20 + [b'-1', b'4', b'1.9', b'@NA', b'1/0', b'"x"', b'H9',
+                                                       texts.cell()])
     last = r.choice([first, first, first + 1])
     criterion = r.choice([col_text(first) + b'1..' + col_text(last) + b'%d' % r.choice([1, 2, 2, 2, 3, 4])] * 16
                          + [texts.span(), texts.cell(), b'5'])
-    call = r.choice([b'@DSUM', b'@DAVG', b'@DCOUNT', b'@DMIN', b'@DMAX']) + b'(' + b','.join([source, number, criterion]) + b')'
+    call = r.choice([b'@DSUM', b'@DAVG', b'@DCOUNT', b'@DMIN',
+                     b'@DMAX']) + b'(' + b','.join([source, number, criterion]) + b')'
     return call if r.randrange(5) else call + r.choice([b'+1', b'&"x"', b'*2'])
 
 
 def blocks(r):
-    """The lines of each block's cells and the formulas over it: the worked ones, and 500 blocks with formulas up to 20,000 beside those of
-    the bounds of functions."""
+    """The lines of each block's cells and the formulas over it: the worked ones, and 500 blocks with formulas up to
+    20,000 beside those of the bounds of functions."""
     head = list(worked_blocks())
     left = 20000 - sum(len(formulas) for _, formulas in head[:-1])
     yield from head
@@ -132,7 +140,8 @@ def blocks(r):
     for block in range(500, 0, -1):
         count = left // block
         left -= count
-        made = [record_formula(r, texts) if block % 5 == 0 else texts.tree(r.choice([1, 1, 2, 3])) for _ in range(count)]
+        made = [record_formula(r, texts) if block % 5 == 0 else texts.tree(r.choice([1, 1, 2, 3]))
+                for _ in range(count)]
         lines = records(r, texts) if block % 5 == 0 else [held(r, texts) for _ in range(r.randrange(8, 72))]
         yield lines, made
 
@@ -162,7 +171,8 @@ def state_of(line, at, code, names):
 
 
 def block_file(lines, names):
-    """The file of a block: the columns A to H, row by row, as many cells as there are lines, and each column in a width of its own."""
+    """The file of a block: the columns A to H, row by row, as many cells as there are lines, and each column in a width
+    of its own."""
     cells = {}
     for place, line in enumerate(lines):
         at = place % 8, place // 8

@@ -5,7 +5,8 @@
     a NUMBER NUMBER   the sum, difference, product, quotient and remainder
     p NUMBER NUMBER   the power
     o NUMBER PLACES   the number rounded to so many decimals
-    w NUMBER PLACES   the text with so many decimals; n: at most so many, as General shows them; h: of a hundred times the number
+    w NUMBER PLACES   the text with so many decimals; n: at most so many, as General shows them; h: of a hundred times
+                      the number
     t TEXT            the number that the text spells
     s NUMBER F WIDTH  what a cell of the format byte F and of that width shows"""
 from ..model import fixed
@@ -19,7 +20,8 @@ from .stored_parts import EMPTY, entered, file_of, in_parts, number_record, of_n
 ROWS, ROOM = 20, 76
 GENERAL, PERCENT = 0x71, 0x30
 # the formulas over the numbers in the columns A and B, which a line of each letter asks for
-OVER_TWO = {b'a': [b'+A1+B1', b'+A1-B1', b'+A1*B1', b'+A1/B1', b'@MOD(A1,B1)'], b'p': [b'+A1^B1'], b'o': [b'@ROUND(A1,B1)'],
+OVER_TWO = {b'a': [b'+A1+B1', b'+A1-B1', b'+A1*B1', b'+A1/B1', b'@MOD(A1,B1)'], b'p': [b'+A1^B1'],
+            b'o': [b'@ROUND(A1,B1)'],
             b'w': [b'@STRING(A1,B1)']}
 
 
@@ -31,8 +33,8 @@ def number(r):
 
 
 def calculations(r):
-    """400 lines of each letter: doubles, pairs of numbers, powers, numbers to be rounded and to be written, and decimals, some of
-    which are broken."""
+    """400 lines of each letter: doubles, pairs of numbers, powers, numbers to be rounded and to be written, and
+    decimals, some of which are broken."""
     for _ in range(400):
         yield b'r' + any_double(r)[::-1].hex().encode()
         yield b'a%d %d' % (number(r), number(r))
@@ -74,9 +76,11 @@ def is_held(bits):
 
 
 def doubles(texts):
-    """Runs that read numbers of these bits from files and save them: those that are refused have a file of their own."""
+    """Runs that read numbers of these bits from files and save them: those that are refused have a file of their
+    own."""
     every = [bytes.fromhex(text.decode())[::-1] for text in texts]
-    parts = [*in_parts([bits for bits in every if is_held(bits)], 150), *([bits] for bits in every if not is_held(bits))]
+    parts = [*in_parts([bits for bits in every if is_held(bits)], 150),
+             *([bits] for bits in every if not is_held(bits))]
     for part in parts:
         records = b''.join(number_record((0, row), bits) for row, bits in enumerate(part))
         yield Run(*starting_with(EMPTY[:-4] + records + EMPTY[-4:], saved_as(b'LAST')))
@@ -129,7 +133,8 @@ def decimals(texts):
 # ---------------------------------------------------------------- what cells show
 
 def shown_cells(lines):
-    """The numbers, formats and widths of cells that show what lines ask for: General shows as many decimals as there is room for."""
+    """The numbers, formats and widths of cells that show what lines ask for: General shows as many decimals as there is
+    room for."""
     yield from (whole_numbers(text) for text in lines[b's'])
     for value, places in map(whole_numbers, lines[b'n']):
         whole = fixed.plain(value).partition(b'.')[0]

@@ -29,7 +29,8 @@ def named(name, span):
 
 
 def as_value(text):
-    """A formula's text as it may be typed: it begins with a byte that begins a value, and has no more bytes than a line."""
+    """A formula's text as it may be typed: it begins with a byte that begins a value, and has no more bytes than a
+    line."""
     return (text if text and text[0] in VALUE_BEGINS else b'+' + text)[:LONGEST]
 
 
@@ -45,8 +46,8 @@ def is_value(text, at, names):
 
 
 def entered(text, at, names):
-    """Keys that enter a formula in a cell. What spells none becomes a label, with a mark at the place of its fault, or without the bytes
-    around it where there is no room for a mark."""
+    """Keys that enter a formula in a cell. What spells none becomes a label, with a mark at the place of its fault, or
+    without the bytes around it where there is no room for a mark."""
     text = as_value(text)
     if is_value(text, at, names):
         return typed(text) + b'~'

@@ -1,5 +1,5 @@
-"""Stored runs of edits and of screens. What the lines of worked/sheets and of `cases.Sheets` tell is typed: a list of writes stands in a
-file that is combined, and a formula of the moment in one whose value is the same at any."""
+"""Stored runs of edits and of screens. What the lines of worked/sheets and of `cases.Sheets` tell is typed: a list of
+writes stands in a file that is combined, and a formula of the moment in one whose value is the same at any."""
 import functools
 
 from ..model import wk1
@@ -58,11 +58,16 @@ class EditKeys:
         first, _, second = rest.partition(b' ')
         if line[:2] in LINES:
             return LINES[line[:2]] + line[2:] + b'~'
-        return {b'=': lambda: self.entered(first, second), b'e': lambda: b'/RE' + rest + b'~', b'c': lambda: b'/C' + first + b'~' + second + b'~',
-                b'>': lambda: b'/M' + first + b'~' + second + b'~', b'x': lambda: self.written(rest), b'f': lambda: format_keys(first, int(second)),
-                b'p': lambda: b'/RP' + rest + b'~', b'u': lambda: b'/RU' + rest + b'~', b's': lambda: self.set(rest.decode()),
-                b'+': lambda: b'/RNC' + typed(second) + b'~' + first + b'~', b'w': lambda: goto(read_cell(first)) + self.width(second),
-                b'h': lambda: b'/WCH' + rest + b'~', b'v': lambda: b'/WCD' + rest + b'~', b'!': lambda: b'{CALC}'}[head]()
+        return {b'=': lambda: self.entered(first, second), b'e': lambda: b'/RE' + rest + b'~', b'c': lambda: b'/C'
+                + first + b'~' + second + b'~',
+                b'>': lambda: b'/M' + first + b'~' + second + b'~', b'x': lambda: self.written(rest),
+                b'f': lambda: format_keys(first, int(second)),
+                b'p': lambda: b'/RP' + rest + b'~', b'u': lambda: b'/RU' + rest + b'~',
+                b's': lambda: self.set(rest.decode()),
+                b'+': lambda: b'/RNC' + typed(second) + b'~' + first + b'~', b'w': lambda: goto(read_cell(first))
+                + self.width(second),
+                b'h': lambda: b'/WCH' + rest + b'~', b'v': lambda: b'/WCD' + rest + b'~',
+                b'!': lambda: b'{CALC}'}[head]()
 
     def entered(self, cell, text):
         """An entry in a cell, or its erasing."""
@@ -76,7 +81,8 @@ class EditKeys:
 
     def set(self, letters):
         """The keys of settings, a letter each."""
-        return b''.join(SETTINGS[letter] if letter in SETTINGS else b'/WGRI' + letter.encode() + b'~' for letter in letters)
+        return b''.join(SETTINGS[letter] if letter in SETTINGS else b'/WGRI' + letter.encode() + b'~'
+                        for letter in letters)
 
     def written(self, rest):
         """Writes at once: a file that is combined, and behind it the cells that lose what they hold."""
@@ -122,12 +128,12 @@ def edits(r):
 
 # ---------------------------------------------------------------- screens
 
-MENUS = [b'/', b'/W', b'/WG', b'/WGF', b'/WGFD', b'/WGL', b'/WGR', b'/WGP', b'/WI', b'/WD', b'/WC', b'/WE', b'/R', b'/RF', b'/RFD', b'/RL', b'/RN',
-         b'/F', b'/FC', b'/FX', b'/D', b'/DT', b'/DS', b'/DQ', b'/DQD', b'/Q']
+MENUS = [b'/', b'/W', b'/WG', b'/WGF', b'/WGFD', b'/WGL', b'/WGR', b'/WGP', b'/WI', b'/WD', b'/WC', b'/WE', b'/R',
+         b'/RF', b'/RFD', b'/RL', b'/RN', b'/F', b'/FC', b'/FX', b'/D', b'/DT', b'/DS', b'/DQ', b'/DQD', b'/Q']
 PROMPTS = [b'/WGC', b'/WGFF', b'/WGRI', b'/WCS', b'/RNC', b'/RND', b'/FR', b'/FS', b'/FXF', b'/FE']
 POINTED = [b'/RE', b'/C', b'/M', b'/WIR', b'/WDC', b'/WCH', b'/RFG', b'/RP', b'/DF', b'{GOTO}']
-FAILING = [b'{QUERY}', b'{TABLE}', b'/RND~', b'/RNDNONE~', b'/WCS0~', b'/REA0~', b'/RENONE~', b'/FRNONE~', b'/FR*~', b'/DFA1~1~0~9~', b'/DSG',
-           b'/CA1.B2~IV8192~', b'/WIRA2.A8192~']
+FAILING = [b'{QUERY}', b'{TABLE}', b'/RND~', b'/RNDNONE~', b'/WCS0~', b'/REA0~', b'/RENONE~', b'/FRNONE~', b'/FR*~',
+           b'/DFA1~1~0~9~', b'/DSG', b'/CA1.B2~IV8192~', b'/WIRA2.A8192~']
 
 
 class Screens(Sheets):
@@ -185,20 +191,25 @@ class Screens(Sheets):
     def steps(self):
         """Keys that go through a line or a menu."""
         r = self.r
-        return r.choice([b'', b'', b'{HOME}', b'{END}', b'{LEFT}', b'{RIGHT}', b'{LEFT %d}' % r.choice([1, 12, 40]), b'{HOME}{RIGHT %d}' % r.choice([1, 12, 79])])
+        return r.choice([b'', b'', b'{HOME}', b'{END}', b'{LEFT}', b'{RIGHT}', b'{LEFT %d}' % r.choice([1, 12, 40]),
+                         b'{HOME}{RIGHT %d}' % r.choice([1, 12, 79])])
 
     def arrows(self):
         """Keys that steer a span: arrows and the full stop."""
         r = self.r
-        return b''.join(r.choice([b'{UP}', b'{DOWN}', b'{LEFT}', b'{RIGHT}', b'{DOWN 3}', b'.']) for _ in range(r.randrange(1, 4)))
+        return b''.join(r.choice([b'{UP}', b'{DOWN}', b'{LEFT}', b'{RIGHT}', b'{DOWN 3}', b'.'])
+                        for _ in range(r.randrange(1, 4)))
 
     def panel(self):
         """Keys that come to any mode, with texts of any length."""
         r = self.r
         return r.choice([
-            lambda: r.choice([b'', b'{END}']), lambda: r.choice([b"'", b'x', b'^', b'\\']) + self.any_bytes(), lambda: r.choice([b'1', b'+', b'@']) + self.any_bytes(),
-            lambda: r.choice([b"'", b'1']) + self.any_bytes() + b'{EDIT}' + self.steps(), lambda: r.choice(PROMPTS) + self.any_bytes() + self.steps(),
-            lambda: r.choice([b'+', b'@SUM(A1,', b'1' * r.choice([30, 77, 225]) + b'+']) + self.arrows(), lambda: r.choice(POINTED) + self.arrows(),
+            lambda: r.choice([b'', b'{END}']), lambda: r.choice([b"'", b'x', b'^', b'\\']) + self.any_bytes(),
+            lambda: r.choice([b'1', b'+', b'@']) + self.any_bytes(),
+            lambda: r.choice([b"'", b'1']) + self.any_bytes() + b'{EDIT}' + self.steps(), lambda: r.choice(PROMPTS)
+            + self.any_bytes() + self.steps(),
+            lambda: r.choice([b'+', b'@SUM(A1,', b'1' * r.choice([30, 77, 225]) + b'+']) + self.arrows(),
+            lambda: r.choice(POINTED) + self.arrows(),
             lambda: r.choice(MENUS) + self.steps(), lambda: r.choice(FAILING)])()
 
 

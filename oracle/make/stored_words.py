@@ -1,12 +1,13 @@
-"""Stored runs of words: key notation, and macros' texts. A line of worked/words is a text of key notation, in hexadecimal digits."""
+"""Stored runs of words: key notation, and macros' texts. A line of worked/words is a text of key notation, in
+hexadecimal digits."""
 from ..model.keys import COMMANDS, NAMES as KEYS, SLASH
 from ..model.names import Names
 from .cases import TEXT_BYTES, any_case, broken, worked
 from .runs import Run
 from .stored_parts import file_of, in_parts, of_label
 
-BAD_WORDS = [b'{UNDO 2}', b'{DOWN 0}', b'{DOWN 10000}', b'{DOWN  2}', b'{DWN}', b'}', b'{}', b'{ALTA}', b'{ALT  A}', b'{ALT @}',
-             b'{ALT [}']
+BAD_WORDS = [b'{UNDO 2}', b'{DOWN 0}', b'{DOWN 10000}', b'{DOWN  2}', b'{DWN}', b'}', b'{}', b'{ALTA}', b'{ALT  A}',
+             b'{ALT @}', b'{ALT [}']
 ARGUMENTS = [b'A1', b'"a}b"', b'@SUM(A1,B2)', b'3', b'N', b'"', b'(', b'', b'A1..B2']
 # the macros of a file: their letters, and the row from which on they stand
 LETTERS = b'ABCDEFGHIJKLMNOPQRSTUVWXYZ'
@@ -67,7 +68,8 @@ def macros(texts):
 
 def words(r):
     """The worked texts of key notation and 3,000 more, each by itself, and 3,000 macros' texts."""
-    for text in [bytes.fromhex(line.decode()) for line in worked('words').splitlines()] + [key_text(r) for _ in range(3000)]:
+    for text in [bytes.fromhex(line.decode())
+                 for line in worked('words').splitlines()] + [key_text(r) for _ in range(3000)]:
         yield Run(['--show', 'last'], text, {})
     for texts in in_parts([macro_text(r) for _ in range(3000)], len(LETTERS)):
         yield macros(texts)

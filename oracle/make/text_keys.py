@@ -11,14 +11,15 @@ COUNTS = [b'0', b'1', b'2', b'5', b'80', b'239', b'240', b'1.9', b'-0.5', b'A1',
 NO_COUNTS = [b'241', b'-1', b'"x"', b'@ERR', b'1+', b'']
 PLACES = [b'A1', b'A2', b'B1', b'C3', b'TABLE', b'COUNT', b'D2', b'E1', b'B2']
 NO_PLACES = [b'NONE', b'A1 ', b'$A$1', b'', b'5']
-TEXTS = [b'"ab"', b'"one,two"', b'one', b'+A1', b'+A2', b'+A2&"x"', b'@REPEAT("xy",120)', b'@STRING(A1,2)', b'5:string', b'A2:value', b'""',
-         b'@CHAR(10)', b'@CHAR(13)&"z"', b'B1']
+TEXTS = [b'"ab"', b'"one,two"', b'one', b'+A1', b'+A2', b'+A2&"x"', b'@REPEAT("xy",120)', b'@STRING(A1,2)', b'5:string',
+         b'A2:value', b'""', b'@CHAR(10)', b'@CHAR(13)&"z"', b'B1']
 NO_TEXTS = [b'5', b'+A1+1', b'@NA', b'1/0', b'A9']
 POSITIONS = [b'0', b'1', b'2', b'5', b'240', b'A1', b'1.9', b'-0.9', b'242', b'100000']
 
 
 def some_bytes(r):
-    """What a text file holds: lines of any bytes, some as long as a text may be or longer, with endings of every kind."""
+    """What a text file holds: lines of any bytes, some as long as a text may be or longer, with endings of every
+    kind."""
     out = b''
     for _ in range(r.choice([0, 1, 2, 3, 5])):
         size = r.choice(LENGTHS)
@@ -58,7 +59,8 @@ class TextFiles:
 
     def open(self, access=None):
         """An OPEN, of any access where none is given."""
-        return b'{OPEN ' + self.of(OPENED, NO_NAMES) + b',' + (access or self.of(ACCESSES, [b'X', b'', b'RW', b'"R"'])) + b'}'
+        return b'{OPEN ' + self.of(OPENED, NO_NAMES) + b',' + (access
+                                                               or self.of(ACCESSES, [b'X', b'', b'RW', b'"R"'])) + b'}'
 
     def place(self):
         """A place that a word writes into."""
@@ -68,9 +70,11 @@ class TextFiles:
         """Any word on text files."""
         r = self.r
         return r.choice([
-            self.open, lambda: b'{CLOSE}', lambda: b'{READLN ' + self.place() + b'}', lambda: b'{READLN ' + self.place() + b'}',
+            self.open, lambda: b'{CLOSE}', lambda: b'{READLN ' + self.place() + b'}', lambda: b'{READLN ' + self.place()
+            + b'}',
             lambda: b'{READ ' + self.of(COUNTS, NO_COUNTS) + b',' + self.place() + b'}',
-            lambda: b'{WRITE ' + self.of(TEXTS, NO_TEXTS) + b'}', lambda: b'{WRITELN ' + self.of(TEXTS, NO_TEXTS) + b'}',
+            lambda: b'{WRITE ' + self.of(TEXTS, NO_TEXTS) + b'}', lambda: b'{WRITELN ' + self.of(TEXTS, NO_TEXTS)
+            + b'}',
             lambda: b'{writeln ' + self.of(TEXTS, NO_TEXTS) + b'}', lambda: b'{FILESIZE ' + self.place() + b'}',
             lambda: b'{GETPOS ' + self.place() + b'}', lambda: b'{SETPOS ' + self.of(POSITIONS, NO_COUNTS) + b'}',
             lambda: r.choice([b'{LET A1,A1+1}', b'{LET A2,"t"}', b'{BLANK A2}', b'{CALC}', b'x~', b'{DOWN}'])])()
@@ -78,7 +82,8 @@ class TextFiles:
     def soup(self):
         """Words in cells one below another, each mostly behind the one that it goes on from."""
         r = self.r
-        cells = {b'D%d' % row: b''.join(self.word() for _ in range(r.choice([1, 1, 1, 2]))) for row in range(2, r.choice([5, 9, 12]))}
+        cells = {b'D%d' % row: b''.join(self.word() for _ in range(r.choice([1, 1, 1, 2])))
+                 for row in range(2, r.choice([5, 9, 12]))}
         cells[b'D1'] = r.choice([b'', b'', b'{ONERROR E1,A2}', b'{ONERROR D4}']) + self.open()
         cells[b'E1'] = r.choice([b'{LET C3,"caught"}', b'{CLOSE}', self.open(), b'{READLN A3}'])
         return cells
@@ -88,26 +93,33 @@ class TextFiles:
         r = self.r
         read = r.choice([b'{READLN A2}', b'{READ 80,A2}', b'{READ 240,A2}'])
         return {b'D1': b'{OPEN LOG,R}', b'D2': read + b'{LET C1,"end"}{BRANCH E3}', b'D3': b'{LET A1,A1+1}' + r.choice([
-                b'{PUT E1.E99,0,A1+20,+A2}', b'{LET B1,+B1&A2}', b'{GETPOS B2}']), b'D4': r.choice([b'{BRANCH D2}', b'{IF A1<5}{BRANCH D2}']),
-                b'E3': b'{OPEN ' + r.choice([b'B', b'LOG', b'A.PRN']) + b',' + r.choice([b'W', b'M']) + b'}{LET C2,"none"}',
-                b'E4': b'{WRITELN +A2}', b'E5': b'{WRITE @REPEAT("ab",A1)}', b'E6': r.choice([b'{CLOSE}', b'{OPEN A,R}', b'{FILESIZE B2}']),
+                b'{PUT E1.E99,0,A1+20,+A2}', b'{LET B1,+B1&A2}', b'{GETPOS B2}']),
+                b'D4': r.choice([b'{BRANCH D2}', b'{IF A1<5}{BRANCH D2}']),
+                b'E3': b'{OPEN ' + r.choice([b'B', b'LOG', b'A.PRN']) + b',' + r.choice([b'W', b'M'])
+                + b'}{LET C2,"none"}',
+                b'E4': b'{WRITELN +A2}', b'E5': b'{WRITE @REPEAT("ab",A1)}',
+                b'E6': r.choice([b'{CLOSE}', b'{OPEN A,R}', b'{FILESIZE B2}']),
                 b'E7': b'{LET C3,"behind"}'}
 
     def placed(self):
         """Writes over and past what the file holds, at positions that are told and set."""
         r = self.r
         return {b'D1': b'{OPEN ' + r.choice([b'A', b'LOG', b'B']) + b',M}{OPEN A,W}', b'D2': b'{FILESIZE A1}{LET A1,3}',
-                b'D3': b'{SETPOS ' + r.choice([b'A1', b'A1-1', b'1', b'0', b'A1+1']) + b'}', b'D4': b'{WRITE ' + r.choice(TEXTS) + b'}', b'D5': b'{GETPOS B1}',
-                b'D6': b'{SETPOS 0}', b'D7': b'{READLN A2}', b'D8': b'{WRITELN ' + r.choice(TEXTS) + b'}', b'D9': r.choice([b'{CLOSE}', b'', b'{OPEN B,R}']),
+                b'D3': b'{SETPOS ' + r.choice([b'A1', b'A1-1', b'1', b'0', b'A1+1']) + b'}', b'D4': b'{WRITE '
+                + r.choice(TEXTS) + b'}', b'D5': b'{GETPOS B1}',
+                b'D6': b'{SETPOS 0}', b'D7': b'{READLN A2}', b'D8': b'{WRITELN ' + r.choice(TEXTS) + b'}',
+                b'D9': r.choice([b'{CLOSE}', b'', b'{OPEN B,R}']),
                 b'D10': b'{CLOSE}{LET C3,"twice"}'}
 
     def held(self):
         """A file that stays attached behind its macro, which another one, or the run's end, finds."""
         r = self.r
-        return {b'D1': b'{OPEN LOG,' + r.choice(ACCESSES) + b'}', b'D2': self.word(), b'D3': r.choice([b'{QUIT}', b'', b'{NOWORD}', b'/QY', b'{BRANCH E1}']),
+        return {b'D1': b'{OPEN LOG,' + r.choice(ACCESSES) + b'}', b'D2': self.word(),
+                b'D3': r.choice([b'{QUIT}', b'', b'{NOWORD}', b'/QY', b'{BRANCH E1}']),
                 b'E1': self.word() + self.word(), b'E2': self.word(), b'E3': r.choice([b'{CLOSE}', self.word()])}
 
     def program(self):
         """A macro that opens a file and works on it."""
         r = self.r
-        return r.choice([self.soup, self.soup, self.soup, self.copied, self.copied, self.placed, self.placed, self.held])()
+        return r.choice([self.soup, self.soup, self.soup, self.copied, self.copied, self.placed, self.placed,
+                         self.held])()

@@ -1,5 +1,5 @@
-"""Random key lists, made of what the program has built, with the program's words before them and the folder in which they are typed.
-WITHOUT and the makers of Typist and MenuKeys grow with the program. No formula asks for the moment."""
+"""Random key lists, made of what the program has built, with the program's words before them and the folder in which
+they are typed. WITHOUT and the makers of Typist and MenuKeys grow with the program. No formula asks for the moment."""
 from ..model.keys import typed
 from ..model.names import Names
 from ..model.session import VALUE_BEGINS
@@ -16,20 +16,22 @@ NO_NAMES = Names()
 
 
 # words that are refused
-BAD_WORDS = [['--show'], ['--show', 'page'], ['--steps', '0'], ['--steps=10000001'], ['--count=1'], ['keys'], ['--count', '--count'],
-             ['--steps'], ['--show=last', '--show', 'last'], ['--steps='], ['--file'], ['--file='], ['--file', '-A'], ['--file=A.PRN'],
-             ['--file', 'TOO_LONG9'], ['--file=A', '--file', 'B'], ['--file', 'A/B'], ['--file', '../A'], ['-file', 'A'], ['A.WK1'],
-             ['--file', '--count'], ['--count', '--file=a b'], ['--gen'], ['--gen='], ['--gen=0'], ['--gen', '8001'], ['--gen=1', '--gen=2'],
-             ['--gen=3', '--file=A'], ['--file', 'A', '--gen', '3'], ['--strict=1'], ['--strict', '--count', '--strict'],
-             ['caf\udce9', 'keys'], ['--file', '\udcff'], ['--count', '--show=\udcc4x', 'keys'], ['first', '\udcff']]
+BAD_WORDS = [['--show'], ['--show', 'page'], ['--steps', '0'], ['--steps=10000001'], ['--count=1'], ['keys'],
+             ['--count', '--count'], ['--steps'], ['--show=last', '--show', 'last'], ['--steps='], ['--file'],
+             ['--file='], ['--file', '-A'], ['--file=A.PRN'], ['--file', 'TOO_LONG9'], ['--file=A', '--file', 'B'],
+             ['--file', 'A/B'], ['--file', '../A'], ['-file', 'A'], ['A.WK1'], ['--file', '--count'],
+             ['--count', '--file=a b'], ['--gen'], ['--gen='], ['--gen=0'], ['--gen', '8001'], ['--gen=1', '--gen=2'],
+             ['--gen=3', '--file=A'], ['--file', 'A', '--gen', '3'], ['--strict=1'],
+             ['--strict', '--count', '--strict'], ['caf\udce9', 'keys'], ['--file', '\udcff'],
+             ['--count', '--show=\udcc4x', 'keys'], ['first', '\udcff']]
 
 # files of sheets that were made for keys
 SHEETS = ['SHEET', *('SHEET%d' % number for number in range(2, 9))]
 
 
 class Typist:
-    """Makes key lists, the words before them and the folder in which they are typed: all sheets are of macros, or of those that wait, where
-    these alone are asked for."""
+    """Makes key lists, the words before them and the folder in which they are typed: all sheets are of macros, or of
+    those that wait, where these alone are asked for."""
 
     def __init__(self, r, macros_alone=False, waits_alone=False, strict=False):
         self.r, self.macros_alone, self.waits_alone, self.strict = r, macros_alone or waits_alone, waits_alone, strict
@@ -90,7 +92,8 @@ class Typist:
     def finish(self):
         """A key that finishes a line."""
         r = self.r
-        return r.choice([b'~', b'~', b'~', b'\n', b'{UP}', b'{DOWN}', b'{LEFT}', b'{RIGHT}', b'{PGDN}', b'{PGUP}', b'{HOME}', b'{BIGRIGHT}'])
+        return r.choice([b'~', b'~', b'~', b'\n', b'{UP}', b'{DOWN}', b'{LEFT}', b'{RIGHT}', b'{PGDN}', b'{PGUP}',
+                         b'{HOME}', b'{BIGRIGHT}'])
 
     def entry(self):
         """A line and the keys that finish it; an arrow behind an operator begins to point."""
@@ -106,13 +109,16 @@ class Typist:
     def end(self):
         """END, and mostly a key that it waits for."""
         r = self.r
-        return b'{END}' + r.choice([b'{UP}', b'{DOWN}', b'{LEFT}', b'{RIGHT}', b'{HOME}', b'{END}', b'{PGDN}', b'{DOWN}', b'{RIGHT}', b'x~', b'~'])
+        return b'{END}' + r.choice([b'{UP}', b'{DOWN}', b'{LEFT}', b'{RIGHT}', b'{HOME}', b'{END}', b'{PGDN}',
+                                    b'{DOWN}', b'{RIGHT}', b'x~', b'~'])
 
     def line_keys(self):
         """Keys that go through a line that is edited."""
         r = self.r
         names = [b'LEFT', b'RIGHT', b'BIGLEFT', b'BIGRIGHT', b'HOME', b'END', b'DEL', b'BS', b'EDIT', b'ABS']
-        part = lambda: b'{' + r.choice(names) + b'}' if r.randrange(3) else self.typed(r.choice([b'7', b'1', b'+A1', b'(', b')', b'x', b'*2', b"'"]))
+        part = lambda: b'{' + r.choice(names) + b'}' if r.randrange(3) else self.typed(r.choice([b'7', b'1', b'+A1',
+                                                                                                 b'(', b')', b'x',
+                                                                                                 b'*2', b"'"]))
         return b''.join(part() for _ in range(r.randrange(6)))
 
     def leaving(self):
@@ -132,7 +138,8 @@ class Typist:
         text = bytearray(self.value())
         for _ in range(r.randrange(1, 3)):
             at = r.randrange(len(text) + 1)
-            text[at:at + r.randrange(2)] = r.choice([b'', b')', b'(', b'+', b',', b'#', b'Q', b'9999999999', b'"', b'@', b'.'])
+            text[at:at + r.randrange(2)] = r.choice([b'', b')', b'(', b'+', b',', b'#', b'Q', b'9999999999', b'"', b'@',
+                                                     b'.'])
         text = bytes(text)
         if b'@NOW' in text.upper() or text[:1] not in (b'%c' % byte for byte in VALUE_BEGINS):
             return b'1+~{ESC}{ESC}'
@@ -141,7 +148,8 @@ class Typist:
     def pointing(self):
         """Keys that steer a reference."""
         r = self.r
-        part = lambda: r.choice([self.arrow, lambda: b'.', lambda: b'{ABS}', lambda: r.choice([b'{ESC}', b'{BS}', b'{HOME}', b'{NAME}'])])()
+        part = lambda: r.choice([self.arrow, lambda: b'.', lambda: b'{ABS}',
+                                 lambda: r.choice([b'{ESC}', b'{BS}', b'{HOME}', b'{NAME}'])])()
         return b''.join(part() for _ in range(r.randrange(1, 5)))
 
     def pointed(self):
@@ -157,20 +165,25 @@ class Typist:
     def goto(self):
         """GOTO with an answer that is typed or pointed at, good or not."""
         r = self.r
-        typed = lambda: self.typed(r.choice([b'A1', b'B7', b'C3', b'IV8192', b'J40', b'b2..c9', b'A1.B2', b'Z100', b'A0', b'IW1', b'NONAME', b'1+', b'A1..', b'', b'A$1', b'N0 NAME', b'A8193', b'TOTAL', b'rate', b'NET PAY']))
+        typed = lambda: self.typed(r.choice([b'A1', b'B7', b'C3', b'IV8192', b'J40', b'b2..c9', b'A1.B2', b'Z100',
+                                             b'A0', b'IW1', b'NONAME', b'1+', b'A1..', b'', b'A$1', b'N0 NAME',
+                                             b'A8193', b'TOTAL', b'rate', b'NET PAY']))
         answer = r.choice([typed, typed, typed, typed, self.pointing, self.pointing, self.menus.by_name])()
-        return b'{GOTO}' + answer + r.choice([b'~', b'~', b'~', b'{ESC}{ESC}', b'{BREAK}', b'{ESC}A3~']) + r.choice([b'', b'{ESC}', b'~'])
+        return b'{GOTO}' + answer + r.choice([b'~', b'~', b'~', b'{ESC}{ESC}', b'{BREAK}',
+                                              b'{ESC}A3~']) + r.choice([b'', b'{ESC}', b'~'])
 
     def other(self):
         """A key that recalculates, or is passed over somewhere."""
         r = self.r
-        return r.choice([b'{CALC}', b'{calc}', b'~', b'\n', b'{WINDOW}', b'{GRAPH}', b'{NAME}', b'{ABS}', b'{DEL}', b'{BS}', b'{ESC}', b'{BREAK}', b'{QUERY}', b'{TABLE}', b'{UNDO}'])
+        return r.choice([b'{CALC}', b'{calc}', b'~', b'\n', b'{WINDOW}', b'{GRAPH}', b'{NAME}', b'{ABS}', b'{DEL}',
+                         b'{BS}', b'{ESC}', b'{BREAK}', b'{QUERY}', b'{TABLE}', b'{UNDO}'])
 
     def part(self):
         """Keys of one kind."""
         if self.r.randrange(5) < 2:
             return self.menus.part()
-        many = [self.entry] * 4 + [self.arrow, self.moving, self.end, self.edited, self.faulty, self.pointed, self.goto, self.other]
+        many = [self.entry] * 4 + [self.arrow, self.moving, self.end, self.edited, self.faulty, self.pointed, self.goto,
+                                   self.other]
         return self.wrong() if self.r.randrange(60) == 0 else self.r.choice(many)()
 
     def wrong(self):
@@ -190,7 +203,8 @@ class Typist:
         return b'{BREAK}' + self.menus.done('f.retrieve', name.encode()) + keys
 
     def scenes(self):
-        """Keys of the commands below Data and of macros, over sheets of their own; a macro that may end the run comes last."""
+        """Keys of the commands below Data and of macros, over sheets of their own; a macro that may end the run comes
+        last."""
         r, out = self.r, b''
         macros = 2 if self.macros_alone else r.choice([0, 1, 1, 2])
         names = SHEETS[:r.choice([2, 2, 3, 4] if self.macros_alone else [2, 4, 5, 6, 8, 8])]
@@ -220,13 +234,15 @@ class Typist:
         if ending == 0:
             out += self.typed(self.value())
         elif ending == 1:
-            out += r.choice([b'{DO', b'{', b'A{DWN}~', b'}', b'{DOWN 0}', b'{DOWN 10000}~', b'\x07', b'{ALT 1}', b'5{ALT '])
+            out += r.choice([b'{DO', b'{', b'A{DWN}~', b'}', b'{DOWN 0}', b'{DOWN 10000}~', b'\x07', b'{ALT 1}',
+                             b'5{ALT '])
         return out
 
     def start(self):
         """The word for a start file: mostly one that is there."""
         r = self.r
-        name = self.opened.encode() if self.opened else r.choice(sorted(self.menus.there) if self.menus.there and r.randrange(8) else FILES)
+        name = self.opened.encode() if self.opened else r.choice(sorted(self.menus.there) if self.menus.there
+                                                                 and r.randrange(8) else FILES)
         spelled = (r.choice(SPELLED) % (name if r.randrange(3) else name.lower())).decode()
         return r.choice([['--file', spelled], ['--file=' + spelled]])
 

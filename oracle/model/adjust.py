@@ -1,5 +1,5 @@
-"""References after a move, or after rows or columns were inserted or deleted.  A change is ('InsertRows'|'InsertColumns'|'DeleteRows'|
-'DeleteColumns', first line, count)."""
+"""References after a move, or after rows or columns were inserted or deleted.  A change is
+('InsertRows'|'InsertColumns'|'DeleteRows'| 'DeleteColumns', first line, count)."""
 
 from .address import COLS, ROWS, height_of, in_span, ordered, ref_of, resolve, span_at, width_of
 from .values import ERR_EXPR

@@ -121,7 +121,8 @@ def table_one(span, cell, bench):
 
 
 def table_two(span, down, across, bench):
-    """A table of two inputs: the values of the first column and row are tried together, and the formula in the corner is noted."""
+    """A table of two inputs: the values of the first column and row are tried together, and the formula in the corner
+    is noted."""
     _test_table(span, [down, across])
     (c0, r0), (c1, r1) = span
     rows, cols = range(r0 + 1, r1 + 1), range(c0 + 1, c1 + 1)

@@ -1,8 +1,8 @@
 """What of the rules the program has built."""
 from . import macro, menu, session
 
-# What the program has not built as yet; a word goes when it is built. The menus don't show these paths and no letter takes
-# them, these keys are passed over, and these words are none in a macro.
+# What the program has not built as yet; a word goes when it is built. The menus don't show these paths and no letter
+# takes them, these keys are passed over, and these words are none in a macro.
 NOT_IN_MENUS = set()
 NOT_IN_KEYS = {'undo'}
 NOT_IN_MACROS = set()

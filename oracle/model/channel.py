@@ -56,7 +56,8 @@ class Channel:
         return clean(out)
 
     def read_line(self):
-        """The line at the place without its end, of which 240 bytes at most are taken; None where nothing can be read."""
+        """The line at the place without its end, of which 240 bytes at most are taken; None where nothing can be
+        read."""
         if self._unreadable():
             return None
         lf = self.data.find(b'\n', self.pos)

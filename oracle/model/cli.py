@@ -28,8 +28,8 @@ class BadWord(Exception):
 
 
 def read_words(words):
-    """--file NAME, --steps N, --show KIND, --count, --gen N, --strict, in any order, each at most once; a value in the next
-    word or after `=`.  BadWord holds the refused word, or the value alone where a value is refused."""
+    """--file NAME, --steps N, --show KIND, --count, --gen N, --strict, in any order, each at most once; a value in the
+    next word or after `=`.  BadWord holds the refused word, or the value alone where a value is refused."""
     out = {}
     i = 0
     while i < len(words):
@@ -143,8 +143,8 @@ def to_each(displays, failed, call):
 
 
 def drive(out, opts, keys, shelf, clock, show):
-    """The steps of a run: the status and the note with which they end. The limit is tested behind the reading of a key, and a screen is shown
-    after each step."""
+    """The steps of a run: the status and the note with which they end. The limit is tested behind the reading of a key,
+    and a screen is shown after each step."""
     session, feed, limit = out.session, KeyFeed(keys), opts.get('steps', 1_000_000)
     before, done = EMPTY_GRID, 'more'
     while done != 'quit':
@@ -197,7 +197,8 @@ def noted(lines, notes):
 
 
 def top_call(words, keys, shelf, clock, displays, failed, notes):
-    """One run: words, keys, screens and notes.  Changes the lists displays and failed; returns the outcome with status and the session."""
+    """One run: words, keys, screens and notes.  Changes the lists displays and failed; returns the outcome with status
+    and the session."""
     out, opts, before_failed = Outcome(), {}, len(failed)
     try:
         opts = read_words(words)
@@ -205,7 +206,8 @@ def top_call(words, keys, shelf, clock, displays, failed, notes):
         session = Session(Desk(opened(opts, shelf)))
         session.load(clock.read())
         out.session = session
-        status, note = drive(out, opts, keys, shelf, clock, lambda before, after: to_each(displays, failed, lambda d: send(before, after, d)))
+        show = lambda before, after: to_each(displays, failed, lambda d: send(before, after, d))
+        status, note = drive(out, opts, keys, shelf, clock, show)
         to_each(displays, failed, lambda d: d.close())
     except BadWord as e:
         status, note = 1, b'bad word: ' + e.word
@@ -346,7 +348,8 @@ def parser():
     p.add_argument('--as-program', action='store_true',
                    help='stdout gets exactly what the program writes for the kind of --show (pages, ansi, last)')
     p.add_argument('--state', help='a text dump of the last state goes to this file')
-    p.add_argument('--built', action='store_true', help='no more menus, keys and macro words than the program has built')
+    p.add_argument('--built', action='store_true',
+                   help='no more menus, keys and macro words than the program has built')
     return p
 
 

@@ -185,8 +185,9 @@ def act(action, answers, desk, shelf, scene, tally):
 
 
 class Deed:
-    """A command that is carried out: its action's name, whose part behind the point is its tail, the answers, and what it works on. Each
-    command of DEEDS, or of HEADS for all actions that begin alike, answers 'changed', 'looked' or 'quit'."""
+    """A command that is carried out: its action's name, whose part behind the point is its tail, the answers, and what
+    it works on. Each command of DEEDS, or of HEADS for all actions that begin alike, answers 'changed', 'looked' or
+    'quit'."""
 
     def __init__(self, action, answers, desk, shelf, scene, tally):
         self.action, self.answers, self.desk = action, answers, desk
@@ -233,7 +234,8 @@ class Deed:
 
     def sheet_format(self):
         """Worksheet Global Format."""
-        return self.set(format=FORMATS[self.tail] if self.tail in FORMATS else DETAILED[self.tail] | self.whole(0, 0, 15))
+        return self.set(format=FORMATS[self.tail] if self.tail in FORMATS else DETAILED[self.tail]
+                        | self.whole(0, 0, 15))
 
     def sheet_prefix(self):
         """Worksheet Global Label-Prefix."""
@@ -458,7 +460,8 @@ class Deed:
     def file_combine(self):
         """File Combine Copy, Add and Subtract: from the pointer on, what the file's cells hold or their numbers."""
         saved, (col, row) = self.saved_file(), self.sheet.settings.pointer
-        filled = [cell for cell in sorted(saved.cells, key=lambda cell: (cell[1], cell[0])) if is_combined(self.tail, saved.cells[cell])]
+        filled = [cell for cell in sorted(saved.cells, key=lambda cell: (cell[1], cell[0]))
+                  if is_combined(self.tail, saved.cells[cell])]
         if any(cell[0] + col > 255 or cell[1] + row > 8191 for cell in filled):
             raise CommandError(10)
         placed = (((cell[0] + col, cell[1] + row), saved.cells[cell]) for cell in filled)
@@ -483,17 +486,27 @@ def combined(kind, here, to, st):
 
 
 # what carries out the actions that begin so, and the others
-HEADS = {'wgf': Deed.sheet_format, 'wgl': Deed.sheet_prefix, 'wgr': Deed.sheet_recalculation, 'wgp': Deed.sheet_protection,
-         'wi': Deed.lines_change, 'wd': Deed.lines_change, 'rf': Deed.range_format, 'rl': Deed.range_prefix, 'fc': Deed.file_combine,
+HEADS = {'wgf': Deed.sheet_format, 'wgl': Deed.sheet_prefix, 'wgr': Deed.sheet_recalculation,
+         'wgp': Deed.sheet_protection,
+         'wi': Deed.lines_change, 'wd': Deed.lines_change, 'rf': Deed.range_format, 'rl': Deed.range_prefix,
+         'fc': Deed.file_combine,
          'fx': Deed.file_xtract, 'p': Deed.prints, 'po': Deed.prints, 'pm': Deed.prints}
-DEEDS = {'q.yes': Deed.quits, 'nothing': Deed.looks, 'wgc': Deed.sheet_width, 'wc.set': Deed.column_width, 'wc.reset': Deed.column_reset,
-         'wc.hide': Deed.columns_hide, 'wc.display': Deed.columns_hide, 'we.yes': Deed.sheet_erase, 'r.erase': Deed.range_erase,
-         'rn.create': Deed.name_create, 'rn.delete': Deed.name_delete, 'rn.reset': Deed.names_reset, 'r.protect': Deed.range_protect,
-         'r.unprotect': Deed.range_protect, 'r.value': Deed.range_value, 'r.transpose': Deed.range_transpose, 'copy': Deed.copy,
-         'move': Deed.move, 'f.retrieve': Deed.file_retrieve, 'f.save': Deed.file_save, 'f.erase': Deed.file_erase, 'd.fill': Deed.data_fill,
-         'd.distribution': Deed.data_distribution, 'dt.1': Deed.data_table, 'dt.2': Deed.data_table, 'dt.reset': Deed.table_reset,
-         'ds.range': Deed.sort_range, 'ds.primary': Deed.sort_key, 'ds.secondary': Deed.sort_key, 'ds.reset': Deed.sort_reset,
-         'ds.go': Deed.sort_go, 'dq.input': Deed.query_range, 'dq.criterion': Deed.query_range, 'dq.output': Deed.query_range,
+DEEDS = {'q.yes': Deed.quits, 'nothing': Deed.looks, 'wgc': Deed.sheet_width, 'wc.set': Deed.column_width,
+         'wc.reset': Deed.column_reset,
+         'wc.hide': Deed.columns_hide, 'wc.display': Deed.columns_hide, 'we.yes': Deed.sheet_erase,
+         'r.erase': Deed.range_erase,
+         'rn.create': Deed.name_create, 'rn.delete': Deed.name_delete, 'rn.reset': Deed.names_reset,
+         'r.protect': Deed.range_protect,
+         'r.unprotect': Deed.range_protect, 'r.value': Deed.range_value, 'r.transpose': Deed.range_transpose,
+         'copy': Deed.copy,
+         'move': Deed.move, 'f.retrieve': Deed.file_retrieve, 'f.save': Deed.file_save, 'f.erase': Deed.file_erase,
+         'd.fill': Deed.data_fill,
+         'd.distribution': Deed.data_distribution, 'dt.1': Deed.data_table, 'dt.2': Deed.data_table,
+         'dt.reset': Deed.table_reset,
+         'ds.range': Deed.sort_range, 'ds.primary': Deed.sort_key, 'ds.secondary': Deed.sort_key,
+         'ds.reset': Deed.sort_reset,
+         'ds.go': Deed.sort_go, 'dq.input': Deed.query_range, 'dq.criterion': Deed.query_range,
+         'dq.output': Deed.query_range,
          'dq.reset': Deed.query_reset, 'dq.extract': Deed.query, 'dq.unique': Deed.query, 'dq.delete': Deed.query}
 
 

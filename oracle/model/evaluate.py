@@ -370,12 +370,15 @@ class _Mean:
 
 # functions whose arguments aren't all values
 CALLS = {
-    0x1F: lambda mean, args: NA, 0x20: lambda mean, args: ERR, 0x33: lambda mean, args: FALSE, 0x34: lambda mean, args: TRUE,
+    0x1F: lambda mean, args: NA, 0x20: lambda mean, args: ERR,
+    0x33: lambda mean, args: FALSE, 0x34: lambda mean, args: TRUE,
     0x37: lambda mean, args: mean.now(), 0x30: _Mean.chosen, 0x3B: _Mean.if_then,
     0x31: lambda mean, args: truth(mean.of(args[0]) == NA), 0x32: lambda mean, args: truth(mean.of(args[0]) == ERR),
     # 0 for a text and 1 for all else
-    0x44: lambda mean, args: truth(mean.of(args[0])[0] != 'str'), 0x45: lambda mean, args: truth(mean.of(args[0])[0] == 'str'),
-    0x55: lambda mean, args: mean.lookup(False, args), 0x5A: lambda mean, args: mean.lookup(True, args), 0x62: lambda mean, args: mean.index(args),
+    0x44: lambda mean, args: truth(mean.of(args[0])[0] != 'str'),
+    0x45: lambda mean, args: truth(mean.of(args[0])[0] == 'str'),
+    0x55: lambda mean, args: mean.lookup(False, args), 0x5A: lambda mean, args: mean.lookup(True, args),
+    0x62: lambda mean, args: mean.index(args),
     0x63: lambda mean, args: mean.size_of(args[0], width_of), 0x64: lambda mean, args: mean.size_of(args[0], height_of),
     0x4F: lambda mean, args: mean.attribute(args[0], mean.scene.cursor), 0x6C: _Mean.attribute_of,
     0x73: lambda mean, args: mean.with_scalars(args, 't', mean.spelled),

@@ -1,4 +1,5 @@
-"""Numbers in whole millionths, which is this project's choice, and the doubles of worksheet files.  A number is an int of millionths."""
+"""Numbers in whole millionths, which is this project's choice, and the doubles of worksheet files.  A number is an int
+of millionths."""
 
 from fractions import Fraction
 

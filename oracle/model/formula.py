@@ -46,8 +46,7 @@ LEFT_OUT_NAMES = {name for name in LEFT_OUT.values() if name}
 COUNTED = (0x30, 0x50, 0x51, 0x52, 0x53, 0x54)  # the six with a free count of arguments
 
 # volatile functions
-VOLATILE = {CODE_OF[n] for n in (b'NOW', b'CELL', b'CELLPOINTER', b'@', b'DSUM', b'DAVG', b'DCOUNT',
-                                 b'DMIN', b'DMAX')}
+VOLATILE = {CODE_OF[n] for n in (b'NOW', b'CELL', b'CELLPOINTER', b'@', b'DSUM', b'DAVG', b'DCOUNT', b'DMIN', b'DMAX')}
 
 # levels of precedence, as in the manual's table
 LEVEL = {'^': 7, '*': 5, '/': 5, '+': 4, '-': 4, '=': 3, '<>': 3, '<': 3, '>': 3, '<=': 3, '>=': 3,
@@ -392,7 +391,8 @@ class _Scanner:
 
     def take(self, kind, payload, pos):
         """The token at a place; at one place the faults come in the order 3, 4, 7, 6, 5, 1."""
-        if not {'bracket': self.bracket, 'operand': self.operand, 'operator': self.operator}[self.state](kind, payload, pos):
+        if not {'bracket': self.bracket, 'operand': self.operand,
+                'operator': self.operator}[self.state](kind, payload, pos):
             raise ParseFault(1, pos)
 
     def bracket(self, kind, _payload, _pos):
@@ -447,7 +447,8 @@ class _Scanner:
 
 
 def scan(text, at, names):
-    """The token list of a text that spells a tree; raises the first fault otherwise. That it is past 240 bytes comes first."""
+    """The token list of a text that spells a tree; raises the first fault otherwise. That it is past 240 bytes comes
+    first."""
     text = bytes(text)
     if len(text) > 240:
         raise ParseFault(8)

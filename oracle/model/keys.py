@@ -153,8 +153,8 @@ SLASH = {ord('I'): (b'IF', 1), ord('G'): (b'BRANCH', 1), ord('C'): (b'/XC', 1), 
 
 
 def split_args(rest, quoted=False):
-    """Arguments are separated by `,` or `;` outside quotes and, this project's choice, outside round brackets.
-    None (no space after the word) is no argument. Quotes are counted from the `{`, so a call's name may have opened one."""
+    """Arguments are separated by `,` or `;` outside quotes and, this project's choice, outside round brackets. None (no
+    space after the word) is no argument. Quotes are counted from the `{`, so a call's name may have opened one."""
     if rest is None:
         return []
     out = [bytearray()]

@@ -1,7 +1,7 @@
 """A worksheet file as lines of text (this project's own): the settings, columns, names, and each cell in row order.
 
-Fields are parted by tabs, and empty ones at the end of a line are left out. `python3 -B -m oracle.model.listing < FILE.WK1` prints
-the lines, or tells the fault."""
+Fields are parted by tabs, and empty ones at the end of a line are left out. `python3 -B -m oracle.model.listing <
+FILE.WK1` prints the lines, or tells the fault."""
 import sys
 
 from . import fixed, wk1

@@ -246,7 +246,8 @@ class Engine:
     # ------------------------------------------------------------ waiting
     def answer(self, key, sheet, scene, tally):
         """A key for what the macro waits for."""
-        taker = {'passing': self.answer_passing, 'key': self.answer_key, 'line': self.answer_line, 'choice': self.answer_choice}[self.awaits]
+        taker = {'passing': self.answer_passing, 'key': self.answer_key, 'line': self.answer_line,
+                 'choice': self.answer_choice}[self.awaits]
         try:
             return taker(key, sheet, scene, tally)
         except SheetFault:
@@ -267,7 +268,8 @@ class Engine:
 
     def answer_line(self, key, sheet, scene, tally):
         """GETLABEL and GETNUMBER take keys into their line until it is finished."""
-        if key[0] in ('up', 'down', 'pgup', 'pgdn') or (key[0] == 'esc' and not self.line.text) or self.line.key(key) != 'finished':
+        if key[0] in ('up', 'down', 'pgup', 'pgdn') or (key[0] == 'esc'
+                                                        and not self.line.text) or self.line.key(key) != 'finished':
             return ('wants',)
         text = self.line.text
         self.awaits, self.line, self.prompt = None, None, b''

@@ -18,9 +18,9 @@ def label(text):
 
 
 class Command:
-    """A command word that is carried out: its name and arguments, where it stands, and what it works on. Each word of WORDS answers
-    ('wants',), ('stopped',), or nothing where the macro goes on; MacroFault, SheetFault and Failed stop it. Arguments are read in the order in
-    which their faults come."""
+    """A command word that is carried out: its name and arguments, where it stands, and what it works on. Each word of
+    WORDS answers ('wants',), ('stopped',), or nothing where the macro goes on; MacroFault, SheetFault and Failed stop
+    it. Arguments are read in the order in which their faults come."""
 
     def __init__(self, engine, unit, sheet, scene, tally, shelf):
         self.engine, self.sheet, self.scene, self.tally, self.shelf = engine, sheet, scene, tally, shelf
@@ -233,12 +233,14 @@ class Command:
         if number == 0:
             raise MacroFault(5)
         engine = self.engine
-        engine.menu, engine.call_choice, engine.word = [(col, row), number, 0], self.name == b'MENUCALL', (self.at, self.offset)
+        engine.menu, engine.call_choice, engine.word = [(col, row), number,
+                                                        0], self.name == b'MENUCALL', (self.at, self.offset)
         engine.awaits = 'choice'
         return ('wants',)
 
     def wait(self):
-        """WAIT: its number is read at the word's first step and kept; a step before that moment does nothing, and the word stays."""
+        """WAIT: its number is read at the word's first step and kept; a step before that moment does nothing, and the
+        word stays."""
         engine = self.engine
         if engine.wait is None:
             engine.wait = self.number(0)
@@ -283,7 +285,8 @@ class Command:
             self.engine.below(self.at[0], self.at[1] + 1)
 
     def put_answer(self, cell, call, content_of):
-        """Puts what a call of the channel answers; a protected target is refused with message 5 before the channel is touched."""
+        """Puts what a call of the channel answers; a protected target is refused with message 5 before the channel is
+        touched."""
         if is_protected(self.sheet, cell):
             raise SheetFault('Protected', cell)
         got = call()
@@ -321,7 +324,8 @@ class Command:
     def tell(self):
         """FILESIZE and GETPOS."""
         channel = self.engine.channel
-        self.put_answer(self.place(0), channel.size if self.name == b'FILESIZE' else channel.position, lambda got: ('number', got * 1_000_000))
+        self.put_answer(self.place(0), channel.size if self.name == b'FILESIZE' else channel.position,
+                        lambda got: ('number', got * 1_000_000))
 
     def set_position(self):
         """SETPOS: a negative number is M4."""
@@ -334,16 +338,22 @@ class Command:
 # how many arguments each word takes, and what serves it
 ANY = range(1, 241)
 WORDS = {
-    b'BRANCH': ((1,), Command.branch), b'DISPATCH': ((1,), Command.dispatch), b'/XC': ((1,), Command.call), b'DEFINE': (ANY, Command.define),
-    b'RETURN': ((0,), Command.returns), b'RESTART': ((0,), Command.restart), b'QUIT': ((0,), Command.quit), b'IF': ((1,), Command.if_true),
-    b'FOR': ((5,), Command.loop), b'FORBREAK': ((0,), Command.break_loop), b'ONERROR': ((1, 2), Command.on_error), b'LET': ((2,), Command.let),
+    b'BRANCH': ((1,), Command.branch), b'DISPATCH': ((1,), Command.dispatch), b'/XC': ((1,), Command.call),
+    b'DEFINE': (ANY, Command.define),
+    b'RETURN': ((0,), Command.returns), b'RESTART': ((0,), Command.restart), b'QUIT': ((0,), Command.quit),
+    b'IF': ((1,), Command.if_true),
+    b'FOR': ((5,), Command.loop), b'FORBREAK': ((0,), Command.break_loop), b'ONERROR': ((1, 2), Command.on_error),
+    b'LET': ((2,), Command.let),
     b'PUT': ((4,), Command.put_into), b'BLANK': ((1,), Command.blank), b'CONTENTS': ((2, 3, 4), Command.contents),
     b'RECALC': ((1, 2, 3), Command.recalc), b'RECALCCOL': ((1, 2, 3), Command.recalc), b'GET': ((1,), Command.get),
     b'GETLABEL': ((2,), Command.get_line), b'GETNUMBER': ((2,), Command.get_line), b'LOOK': ((1,), Command.look),
-    b'MENUBRANCH': ((1,), Command.menu), b'MENUCALL': ((1,), Command.menu), b'WAIT': ((1,), Command.wait), b'?': ((0,), Command.pass_keys),
+    b'MENUBRANCH': ((1,), Command.menu), b'MENUCALL': ((1,), Command.menu), b'WAIT': ((1,), Command.wait),
+    b'?': ((0,), Command.pass_keys),
     b'BEEP': ((0,), Command.nothing), b'INDICATE': ((0, 1), Command.indicate), b'PANELON': ((0,), Command.panel),
     b'PANELOFF': ((0,), Command.panel), b'WINDOWSON': ((0,), Command.windows), b'WINDOWSOFF': ((0,), Command.windows),
-    b'BREAKON': ((0,), Command.breaks), b'BREAKOFF': ((0,), Command.breaks), b'OPEN': ((2,), Command.open), b'CLOSE': ((0,), Command.close),
-    b'READ': ((2,), Command.read), b'READLN': ((1,), Command.read_line), b'WRITE': ((1,), Command.write), b'WRITELN': ((1,), Command.write),
+    b'BREAKON': ((0,), Command.breaks), b'BREAKOFF': ((0,), Command.breaks), b'OPEN': ((2,), Command.open),
+    b'CLOSE': ((0,), Command.close),
+    b'READ': ((2,), Command.read), b'READLN': ((1,), Command.read_line), b'WRITE': ((1,), Command.write),
+    b'WRITELN': ((1,), Command.write),
     b'FILESIZE': ((1,), Command.tell), b'GETPOS': ((1,), Command.tell), b'SETPOS': ((1,), Command.set_position),
 }

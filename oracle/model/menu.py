@@ -48,8 +48,7 @@ MENUS = {
     'print': [('Range', 'p.range'), ('Options', 'po'), ('Go', 'p.go'), ('Quit', 'nothing')],
     'po': [('Header', 'po.header'), ('Footer', 'po.footer'), ('Margins', 'pm'), ('Pg-Length', 'po.length'),
            ('Quit', 'po.quit')],
-    'pm': [('Left', 'pm.left'), ('Right', 'pm.right'), ('Top', 'pm.top'), ('Bottom', 'pm.bottom'),
-           ('Quit', 'pm.quit')],
+    'pm': [('Left', 'pm.left'), ('Right', 'pm.right'), ('Top', 'pm.top'), ('Bottom', 'pm.bottom'), ('Quit', 'pm.quit')],
     'd': [('Fill', 'd.fill'), ('Table', 'dt'), ('Sort', 'ds'), ('Query', 'dq'), ('Distribution', 'd.distribution')],
     'dt': [('1', 'dt.1'), ('2', 'dt.2'), ('Reset', 'dt.reset')],
     'ds': [('Data-Range', 'ds.range'), ('Primary-Key', 'ds.primary'), ('Secondary-Key', 'ds.secondary'),
@@ -84,8 +83,8 @@ DECIMALS = ('N', 0, 15)
 WORKSHEET, REPORT = ('F', 'WK1'), ('F', 'PRN')
 WITH_DECIMALS = ('fixed', 'currency', 'comma', 'percent')
 
-# the prompts of each action by their names: the name of table 1's second prompt, that of the bins and that of GOTO aren't given, and are this
-# project's choice
+# the prompts of each action by their names: the name of table 1's second prompt, that of the bins and that of GOTO
+# aren't given, and are this project's choice
 PROMPTS = {
     **{act: [(name, DECIMALS)] for name, act in MENUS['wgf.'] if act[4:] in WITH_DECIMALS},
     **{act: [(name, DECIMALS), ('Range', 'R')] if act[3:] in WITH_DECIMALS else [(name, 'R')]

@@ -182,8 +182,8 @@ class Writer:
 
 
 class HostDisplay(Recorder):
-    """A display that writes: pages at each frame or the last one when it is closed, or for each run that is put ESC [ line ; column H,
-    both from 1, and the bytes."""
+    """A display that writes: pages at each frame or the last one when it is closed, or for each run that is put ESC [
+    line ; column H, both from 1, and the bytes."""
 
     def __init__(self, kind, writer):
         super().__init__(kind)

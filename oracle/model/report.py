@@ -69,8 +69,8 @@ def row_line(saved, columns, widths, row):
 
 
 def bands_of(span, saved, width):
-    """The columns of a span that are shown, with the widths that their cells get, in bands of at most a width; a lone wide column's cells are
-    cut to it."""
+    """The columns of a span that are shown, with the widths that their cells get, in bands of at most a width; a lone
+    wide column's cells are cut to it."""
     bands, used = [], 0
     for col in range(span[0][0], span[1][0] + 1):
         if col in saved.hidden:
@@ -106,7 +106,8 @@ class Pages:
         cols, widths = [col for col, _ in band], [width for _, width in band]
         text = lambda text: running_line(text, self.width, self.page, self.now)
         self.put(*[b''] * self.set.top, text(self.set.header), b'', b'')
-        self.put(*(row_line(self.saved, cols, widths, row)[:self.width] for row in rows), *[b''] * (self.height - len(rows)))
+        self.put(*(row_line(self.saved, cols, widths, row)[:self.width] for row in rows),
+                 *[b''] * (self.height - len(rows)))
         self.put(b'', b'', text(self.set.footer), *[b''] * self.set.bottom)
         if len(self.out) > MOST:
             raise PrintFault('TooLong')

@@ -216,7 +216,8 @@ def filled(lines):
 def paint(session):
     """The whole screen of a session."""
     sheet, e = session.sheet, session.engine
-    lines = filled([pointer_line(sheet, mode_text(session)), *panel_lines(session), *sheet_lines(sheet, session.corner)])
+    lines = filled([pointer_line(sheet, mode_text(session)), *panel_lines(session),
+                    *sheet_lines(sheet, session.corner)])
     if session.frozen_panel is not None:     # PANELOFF keeps lines 0 to 2 as they were
         lines[0:3] = session.frozen_panel
     if session.frozen_windows is not None:   # WINDOWSOFF keeps lines 3 to 23

@@ -642,7 +642,8 @@ class Sheet:
                 self.cells[c].value = glance(self.cells[c].content[1], c, self, scene)
         if CHECK:
             for c in order:
-                assert shadow[c] == self.cells[c].value, ('the dirty formulas alone give another value', c, shadow[c], self.cells[c].value)
+                assert shadow[c] == self.cells[c].value, ('the dirty formulas alone give another value', c, shadow[c],
+                                                          self.cells[c].value)
         self.circ = circ
         self.dirty = after
         self.stale = False
@@ -672,7 +673,8 @@ class Sheet:
             if c not in self.dirty:
                 assert not any(d in self.dirty for d in graph.pre[c]), ('reads a dirty formula and is not dirty', c)
                 assert c not in graph.volatile and c not in circles, ('always dirty, and is not', c)
-                assert self.cells[c].value == glance(self.cells[c].content[1], c, self, scene), ('its value is old, and it is not dirty', c)
+                assert self.cells[c].value == glance(self.cells[c].content[1], c, self,
+                                                     scene), ('its value is old, and it is not dirty', c)
 
     def recalc_span(self, span, by_columns, scene, tally):
         """One pass over the span, by row order or by column and then by row; the work is the

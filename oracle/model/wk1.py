@@ -102,8 +102,8 @@ def _number(v):
 
 
 class _Codes:
-    """Reads a code into the tree of its formula, by a stack; `at` is where the present one begins. Each reader answers how many bytes it
-    took."""
+    """Reads a code into the tree of its formula, by a stack; `at` is where the present one begins. Each reader answers
+    how many bytes it took."""
 
     def __init__(self, code):
         self.code, self.at, self.stack = bytes(code), 0, []
@@ -230,7 +230,8 @@ class _Codes:
         return self.stack[0].expr
 
 
-READERS = {0x00: _Codes.double, 0x01: _Codes.cell, 0x02: _Codes.span, 0x04: _Codes.group, 0x05: _Codes.integer, 0x06: _Codes.string,
+READERS = {0x00: _Codes.double, 0x01: _Codes.cell, 0x02: _Codes.span, 0x04: _Codes.group, 0x05: _Codes.integer,
+           0x06: _Codes.string,
            0x08: _Codes.front, 0x16: _Codes.front, 0x17: _Codes.plus, **dict.fromkeys(BINARY, _Codes.binary),
            **dict.fromkeys(formula.FUNCTIONS, _Codes.function)}
 END_OF_CODE = 0x03
@@ -317,8 +318,8 @@ def _double(body):
 
 
 class _File:
-    """Reads the records of a file into a saved sheet. `body` is that of the present record; a cell's record begins with its format and its
-    place."""
+    """Reads the records of a file into a saved sheet. `body` is that of the present record; a cell's record begins with
+    its format and its place."""
 
     def __init__(self):
         self.saved = Saved()
@@ -459,8 +460,10 @@ class _File:
             self.saved.cells[self.cell].value = string(held)
 
 
-TAKERS = {CALCMODE: _File.mode, CALCORDER: _File.order, WINDOW1: _File.window, COLW1: _File.width, HIDVEC1: _File.hidden, NAME: _File.name,
-          PROTEC: _File.protection, LABELFMT: _File.prefix, CALCCOUNT: _File.passes, BLANK_R: _File.blank, INTEGER: _File.integer,
+TAKERS = {CALCMODE: _File.mode, CALCORDER: _File.order, WINDOW1: _File.window, COLW1: _File.width,
+          HIDVEC1: _File.hidden, NAME: _File.name,
+          PROTEC: _File.protection, LABELFMT: _File.prefix, CALCCOUNT: _File.passes, BLANK_R: _File.blank,
+          INTEGER: _File.integer,
           NUMBER: _File.real, LABEL: _File.label, FORMULA: _File.formula, STRING: _File.string}
 
 
@@ -485,7 +488,8 @@ def _u16s(*numbers):
     return b''.join(n.to_bytes(2, 'little') for n in numbers)
 
 
-# the bits of a formula's value where it is a text, which a STRING tells: what 1-2-3 saves, and readers take for a text to come
+# the bits of a formula's value where it is a text, which a STRING tells: what 1-2-3 saves, and readers take for a text
+# to come
 TEXT_BITS = 0x7FF0FFFFFFFFFFFF
 
 

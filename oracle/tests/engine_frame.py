@@ -1,4 +1,5 @@
-"""What the tests of the worksheet's half are made with: a sheet that lines are typed into, and faults that must come."""
+"""What the tests of the worksheet's half are made with: a sheet that lines are typed into, and faults that must
+come."""
 from ..model import fixed, formula, names, sheet
 from ..model.address import read_cell, read_span
 from ..model.dates import Moment

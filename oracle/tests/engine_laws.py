@@ -57,7 +57,9 @@ def test_print_read_round_trip():
     """A formula that is printed reads as itself."""
     r = random.Random(1)
     nm = names.Names()
-    nm.create(b'alpha', span('B2')); nm.create(b'BETA', span('A1..C6')); nm.create(b'A1', span('C6')); nm.create(b'a b', span('A1'))
+    nm.create(b'alpha', span('B2')); nm.create(b'BETA', span('A1..C6')); nm.create(b'A1',
+                                                                                   span('C6')); nm.create(b'a b',
+                                                                                                          span('A1'))
     done = 0
     for _ in range(6000):
         at = (r.choice([0, 1, 255]), r.choice([0, 3, 8191]))
@@ -76,9 +78,9 @@ def test_random_texts():
     """Every text is read or has one named fault; what was read prints and reads again; a fault at a
     place depends on no byte before which the text could go on."""
     r = random.Random(7)
-    pieces = [b'1', b'.5', b'1.', b'"a"', b'"', b'A1', b'$B$2', b'A1..B2', b'A1.', b'..', b'@SUM(', b'@ABS', b'(', b')', b',', b';',
-              b'@NOW', b'@@(', b'@PI', b'@X', b'#AND#', b'#NOT#', b'#', b'<', b'>', b'=', b'<>', b'+', b'-', b'*', b'&', b'^', b' ',
-              b'ONE', b'WIDE', b'NOPE', b'$', b'1000000000', b'%', b'E5', b'@IF(', b'@']
+    pieces = [b'1', b'.5', b'1.', b'"a"', b'"', b'A1', b'$B$2', b'A1..B2', b'A1.', b'..', b'@SUM(', b'@ABS', b'(', b')',
+              b',', b';', b'@NOW', b'@@(', b'@PI', b'@X', b'#AND#', b'#NOT#', b'#', b'<', b'>', b'=', b'<>', b'+', b'-',
+              b'*', b'&', b'^', b' ', b'ONE', b'WIDE', b'NOPE', b'$', b'1000000000', b'%', b'E5', b'@IF(', b'@']
     nm = names.Names(); nm.create(b'ONE', span('B2')); nm.create(b'WIDE', span('B2..C3'))
     good = 0
     for _ in range(30000):
@@ -108,7 +110,8 @@ def test_moves_keep_values():
         b = Bed()
         for _ in range(14):
             c = (r.randrange(4), r.randrange(4))
-            other = [(b'$' if r.random() < .3 else b'') + address.cell_text((r.randrange(4), r.randrange(4))) for _ in range(2)]
+            other = [(b'$' if r.random() < .3 else b'') + address.cell_text((r.randrange(4), r.randrange(4)))
+                     for _ in range(2)]
             line = r.choice([b'+%s*2+%s', b'@SUM(%s..%s)', b'7.5', b'lab', b'@CHOOSE(1,%s,%s)'])
             b.type(address.cell_text(c).decode(), line % tuple(other) if b'%' in line else line)
         b.s.create_name(b'N', span('A1..D4'))
@@ -170,13 +173,15 @@ def random_saved(r):
             if fmt != 0xFF:
                 s.cells[c] = State(C_BLANK, BLANK, fmt)
         elif k == 1:
-            v = r.choice([0, -32768 * MIL, -32769 * MIL, 32767 * MIL, r.randrange(-fixed.LIMIT, fixed.LIMIT + 1), r.randrange(-5 * MIL, 5 * MIL)])
+            v = r.choice([0, -32768 * MIL, -32769 * MIL, 32767 * MIL, r.randrange(-fixed.LIMIT, fixed.LIMIT + 1),
+                          r.randrange(-5 * MIL, 5 * MIL)])
             s.cells[c] = State(('number', v), num(v), fmt)
         elif k == 2:
             t = bytes(r.randrange(32, 256) for _ in range(r.choice([0, 1, 5, 240])))
             s.cells[c] = State(('label', r.choice(b"'\"^\\|"), t), string(t), fmt)
         else:
-            v = r.choice([ERR, NA, num(r.randrange(-fixed.LIMIT, fixed.LIMIT + 1)), string(b''), string(b"'x\xff"), num(0)])
+            v = r.choice([ERR, NA, num(r.randrange(-fixed.LIMIT, fixed.LIMIT + 1)), string(b''), string(b"'x\xff"),
+                          num(0)])
             s.cells[c] = State(('formula', random_expr(r, c, r.randrange(8))), v, fmt)
     for _ in range(r.randrange(3)):
         s.widths[r.randrange(256)] = r.randrange(1, 241)
@@ -204,8 +209,8 @@ def test_write_read_round_trip():
 
 
 def test_what_other_programs_read():
-    """A formula whose value is a text has the bits that 1-2-3 saves, with a STRING behind it; RANGE ends at the last column with a
-    width or a mark of its own, where that lies behind the last used one."""
+    """A formula whose value is a text has the bits that 1-2-3 saves, with a STRING behind it; RANGE ends at the last
+    column with a width or a mark of its own, where that lies behind the last used one."""
     name = b'\x06north\0\x03'
     head = b'\xff\x01\0\x02\0'
     formula_body = head + bytes(8) + bytes([len(name), 0]) + name
@@ -214,7 +219,8 @@ def test_what_other_programs_read():
         data = bytes.fromhex('000002000604') + bytes([kind, 0, len(body), 0]) + body + cell + bytes.fromhex('01000000')
         saved = wk1.write(wk1.read(data))
         assert saved[6:18] == bytes([6, 0, 8, 0, 0, 0, 0, 0, end, 0, 2, 0])
-        assert bytes.fromhex('ffffffffffff f07f') + bytes([len(name), 0]) + name + bytes.fromhex('33000b00ff01000200') + b'north\0' in saved
+        kept = bytes.fromhex('ffffffffffff f07f') + bytes([len(name), 0]) + name
+        assert kept + bytes.fromhex('33000b00ff01000200') + b'north\0' in saved
 
 
 def test_random_bytes_in_files():
@@ -238,7 +244,8 @@ def test_doubles():
     import struct  # only in this test: the host's doubles against the whole-number bits
     r = random.Random(5)
     for _ in range(3000):
-        v = r.choice([r.randrange(-fixed.LIMIT, fixed.LIMIT + 1), r.randrange(-10 ** 7, 10 ** 7), 0, 1, -1, fixed.LIMIT])
+        v = r.choice([r.randrange(-fixed.LIMIT, fixed.LIMIT + 1), r.randrange(-10 ** 7, 10 ** 7), 0, 1, -1,
+                      fixed.LIMIT])
         bits = fixed.to_double_bits(v)
         assert fixed.from_double_bits(bits) == v
         assert bits == struct.unpack('<Q', struct.pack('<d', v / 10 ** 6))[0] or v == 0
@@ -297,8 +304,10 @@ def reach_themselves(g):
 
 def typed_in(r, b, name, other):
     """A formula or another content is typed."""
-    many = [lambda: r.choice(['+%s+%s*2', '@SUM(%s..%s)', '@IF(%s>3,%s,1)', '@COUNT(%s,%s)&"x"']) % tuple(other[:2])] * 4
-    many += [lambda: r.choice(['@NOW', '@CELLPOINTER("row")', '@@("%s")' % other[0], '@CELL("contents",%s)' % other[0]])]
+    many = [lambda: r.choice(['+%s+%s*2', '@SUM(%s..%s)', '@IF(%s>3,%s,1)',
+                              '@COUNT(%s,%s)&"x"']) % tuple(other[:2])] * 4
+    many += [lambda: r.choice(['@NOW', '@CELLPOINTER("row")', '@@("%s")' % other[0],
+                               '@CELL("contents",%s)' % other[0]])]
     many += [lambda: r.choice(['5', 'lab', '-1.5'])] * 2
     b.type(name, r.choice(many)())
 
@@ -306,8 +315,10 @@ def typed_in(r, b, name, other):
 def changed_in(r, b, c, other):
     """A command changes the sheet, its order, or what is evaluated."""
     block = span(other[0] + '.' + other[1])
-    line = lambda: getattr(b.s, r.choice(['insert_rows', 'delete_rows', 'insert_columns', 'delete_columns']))(r.randrange(3), 1)
-    edit = r.choice([lambda: b.s.erase(block), lambda: b.s.copy_span(block, (c, c)), lambda: b.s.shift(block, c), line, None])
+    line = lambda: getattr(b.s, r.choice(['insert_rows', 'delete_rows', 'insert_columns',
+                                          'delete_columns']))(r.randrange(3), 1)
+    edit = r.choice([lambda: b.s.erase(block), lambda: b.s.copy_span(block, (c, c)), lambda: b.s.shift(block, c), line,
+                     None])
     if edit:
         edit()
         b.after()
@@ -325,7 +336,8 @@ def settled(r, b):
 
 
 def test_walk_against_recursion():
-    """The natural order by recursion, and what holds of dirty formulas over random edits (the checks of ORACLE_CHECK)."""
+    """The natural order by recursion, and what holds of dirty formulas over random edits (the checks of
+    ORACLE_CHECK)."""
     sheet.CHECK = True
     r = random.Random(6)
     for _ in range(150):

@@ -216,7 +216,8 @@ def test_refusals():
     refused('Protected', cell('D2'), b.s.shift, span('B2..C2'), cell('C2'))
     refused('Protected', cell('A1'), b.s.shift, span('A1'), cell('B2'))
     refused('Protected', cell('A2'), b.s.erase, span('A2..C3'))
-    refused('Protected', cell('D2'), b.s.write, [(cell('A3'), C_BLANK, None), (cell('D2'), C_BLANK, None), (cell('B2'), C_BLANK, None)])
+    refused('Protected', cell('D2'), b.s.write, [(cell('A3'), C_BLANK, None), (cell('D2'), C_BLANK, None),
+                                                 (cell('B2'), C_BLANK, None)])
     refused('Protected', (0, 5), b.s.insert_rows, 5, 1)
     refused('Protected', (5, 0), b.s.delete_columns, 5, 1)
     b.s.shift(span('B2..B3'), cell('C2'))
@@ -235,7 +236,8 @@ def test_reports():
     out = report.report(span('A1..C5'), set_, b.s.snapshot(), NOWHERE).split(b'\r\n')
     # two bands of at most 18, three pages of two rows in each; each page is 8 lines
     assert len(out) == 49 and out[0] == b' ' * 8 + b'1' and out[8] == b' ' * 8 + b'2'
-    assert out[3] == b' ' * 7 + b'1' and out[4] == b' ' * 7 + b'2' and out[24 + 3] == b'L1' and out[24] == b' ' * 8 + b'4'
+    assert out[3] == b' ' * 7 + b'1' and out[4] == b' ' * 7 + b'2'
+    assert out[24 + 3] == b'L1' and out[24] == b' ' * 8 + b'4'
     assert out[40 + 3] == b'L5' and out[40 + 4] == b''
 
 
@@ -401,37 +403,42 @@ def test_formulas_table():
     for line, want in (('2^3^2', N(64)), ('-2^2', N(-4)), ('#NOT#0#AND#1', N(1)), ('@SUM(A1..A3)', N(1)),
                        ('@AVG(A1..A3)', N('0.5')), ('@IF(@ISERR(1/0),7,8)', N(7)), ('+"a"="A"', N(1)),
                        ('@COUNT(A1..A3)', N(2)), ('@COUNT(A1,A2,A3)', N(3)), ('@SUM(A1,"x")', ERR),
-                       ('@SUM((A1..A3))', ERR), ('@SUM((A2))', ERR), ('@SUM((A1))', N(1)),
-                       ('@MIN(A3..A4)', ERR), ('@AVG(A3..A4)', ERR), ('@SUM(A3..A4)', N(0)), ('@COUNT(A3..A4)', N(0)),
-                       ('@ERR+@NA', ERR), ('@NA+@ERR', ERR), ('@NA+"a"', NA), ('A1..A3+1', ERR), ('+"a"+1', ERR),
+                       ('@SUM((A1..A3))', ERR), ('@SUM((A2))', ERR), ('@SUM((A1))', N(1)), ('@MIN(A3..A4)', ERR),
+                       ('@AVG(A3..A4)', ERR), ('@SUM(A3..A4)', N(0)), ('@COUNT(A3..A4)', N(0)), ('@ERR+@NA', ERR),
+                       ('@NA+@ERR', ERR), ('@NA+"a"', NA), ('A1..A3+1', ERR), ('+"a"+1', ERR),
                        ('+A3&"x"', string(b'x')), ('1&"x"', ERR), ('1<"a"', N(1)), ('A3="a"', N(0)), ('A3=0', N(1)),
                        ('@ISNA(@NA)', N(1)), ('@ISERR(@NA)', N(0)), ('@ISNUMBER(@ERR)', N(1)), ('@ISSTRING("")', N(1)),
                        ('@CHOOSE(1,@ERR,5)', N(5)), ('@CHOOSE(2,1,2)', ERR), ('@CHOOSE(-0.5,3,2)', N(3)),
                        ('@COLS(A1..C2)', N(3)), ('@ROWS((A1..C2))', ERR), ('@ROWS(A1)', N(1)),
-                       ('@INDEX(A1..A3,0,1)', string(b'lab')), ('@INDEX(A1..A3,1,0)', ERR),
-                       ('@@("a1")', N(1)), ('@@("zz")', ERR), ('@CELL("address",A2)', string(b'$A$2')),
-                       ('@CELL("TYPE",A2)', string(b'l')), ('@CELL("prefix",A2)', string(b"'")),
-                       ('@CELL("format",A2)', string(b'')), ('@CELL("width",A2)', N(9)), ('@CELL("protect",A2)', N(1)),
-                       ('@CELL("contents",A3)', N(0)), ('@CELL("x",A3)', ERR), ('@CELLPOINTER("row")', N(1)),
-                       ('2^-1', N('0.5')), ('0^0', N(1)), ('0^-1', ERR), ('2^0.5', ERR), ('1^1001', ERR),
-                       ('@MOD(-7,3)', N(-1)), ('@MOD(7,-3)', N(1)), ('@MOD(1,0)', ERR), ('@INT(-1.5)', N(-1)),
-                       ('@ROUND(1.25,1)', N('1.3')), ('@ROUND(-15,-1)', N(-20)), ('@ROUND(5,-16)', ERR),
-                       ('@MID("abcdef",1,3)', string(b'bcd')), ('@REPLACE("abc",1,1,"xy")', string(b'axyc')),
-                       ('@REPEAT("ab",2)', string(b'abab')), ('@STRING(2.5,0)', string(b'3')), ('@CHAR(65)', string(b'A')),
+                       ('@INDEX(A1..A3,0,1)', string(b'lab')), ('@INDEX(A1..A3,1,0)', ERR), ('@@("a1")', N(1)),
+                       ('@@("zz")', ERR), ('@CELL("address",A2)', string(b'$A$2')), ('@CELL("TYPE",A2)', string(b'l')),
+                       ('@CELL("prefix",A2)', string(b"'")), ('@CELL("format",A2)', string(b'')),
+                       ('@CELL("width",A2)', N(9)), ('@CELL("protect",A2)', N(1)), ('@CELL("contents",A3)', N(0)),
+                       ('@CELL("x",A3)', ERR), ('@CELLPOINTER("row")', N(1)), ('2^-1', N('0.5')), ('0^0', N(1)),
+                       ('0^-1', ERR), ('2^0.5', ERR), ('1^1001', ERR), ('@MOD(-7,3)', N(-1)), ('@MOD(7,-3)', N(1)),
+                       ('@MOD(1,0)', ERR), ('@INT(-1.5)', N(-1)), ('@ROUND(1.25,1)', N('1.3')),
+                       ('@ROUND(-15,-1)', N(-20)), ('@ROUND(5,-16)', ERR), ('@MID("abcdef",1,3)', string(b'bcd')),
+                       ('@REPLACE("abc",1,1,"xy")', string(b'axyc')), ('@REPEAT("ab",2)', string(b'abab')),
+                       ('@STRING(2.5,0)', string(b'3')), ('@CHAR(65)', string(b'A')),
                        ('@DATEVALUE("1-jun-87")', N(31929)), ('@DATEVALUE("6/1/87")', N(31929)),
                        ('@TIMEVALUE("12:00")', N('0.5')), ('@HOUR(0.5)', N(12)), ('@TIME(0,0,27)', N('0.000313')),
-                       ('@SECOND(@TIME(0,0,27))', N(27)), ('@HOUR(-1)', ERR), ('@YEAR(31929)', N(87)), ('@VALUE(" 1.5 ")', N('1.5')),
-                       ('@VALUE("")', N(0)), ('@LENGTH(A3)', ERR), ('@EXACT("a","A")', N(0)), ('@NOW', ERR),
-                       ('@FIND("b","abcb",2)', N(3)), ('@PROPER("ab cD")', string(b'Ab Cd')), ('@TRIM("  a  b ")', string(b'a b'))):
+                       ('@SECOND(@TIME(0,0,27))', N(27)), ('@HOUR(-1)', ERR), ('@YEAR(31929)', N(87)),
+                       ('@VALUE(" 1.5 ")', N('1.5')), ('@VALUE("")', N(0)), ('@LENGTH(A3)', ERR),
+                       ('@EXACT("a","A")', N(0)), ('@NOW', ERR), ('@FIND("b","abcb",2)', N(3)),
+                       ('@PROPER("ab cD")', string(b'Ab Cd')), ('@TRIM("  a  b ")', string(b'a b'))):
         assert value_of(line, b) == want, (line, value_of(line, b), want)
-    # lookups
+
+
+def test_lookups_table():
+    """Lookups in columns and rows, and the moment."""
     b = Bed()
     for i, (x, y) in enumerate((('1', '10'), ('lab', '20'), ('3', '30'), ('@ERR', '40'), ('0', '50')), 1):
         b.type('A%d' % i, x); b.type('B%d' % i, y)
     for line, want in (('@VLOOKUP(2,A1..B5,1)', N(20)), ('@VLOOKUP(9,A1..B5,1)', N(30)), ('@VLOOKUP(0,A1..B5,1)', ERR),
-                       ('@VLOOKUP("LAB",A1..B5,1)', N(20)), ('@VLOOKUP("LAB",A1..B5,0)', N(1)), ('@VLOOKUP("x",A1..B5,1)', ERR),
-                       ('@VLOOKUP(9,A1..B5,2)', ERR), ('@VLOOKUP(9,A1..B5,0)', N(3)), ('@HLOOKUP(1,A1..B2,1)', string(b'lab')),
-                       ('@VLOOKUP(@NA,5,1)', ERR), ('@VLOOKUP(@NA,A1..B2,1)', NA), ('@VLOOKUP(1,(A1),0)', ERR), ('@VLOOKUP(1,A1,0)', N(1))):
+                       ('@VLOOKUP("LAB",A1..B5,1)', N(20)), ('@VLOOKUP("LAB",A1..B5,0)', N(1)),
+                       ('@VLOOKUP("x",A1..B5,1)', ERR), ('@VLOOKUP(9,A1..B5,2)', ERR), ('@VLOOKUP(9,A1..B5,0)', N(3)),
+                       ('@HLOOKUP(1,A1..B2,1)', string(b'lab')), ('@VLOOKUP(@NA,5,1)', ERR),
+                       ('@VLOOKUP(@NA,A1..B2,1)', NA), ('@VLOOKUP(1,(A1),0)', ERR), ('@VLOOKUP(1,A1,0)', N(1))):
         assert value_of(line, b) == want, (line, value_of(line, b), want)
     day = Moment(31929, 43200)
     assert glance(formula.read(b'@NOW', (0, 0), NAMES), (0, 0), Sheet(), scene(now=day)) == N('31929.5')
@@ -503,7 +510,8 @@ def test_files_and_blocks():
     f = raises(query.QueryFault, query.select, span('A1.A4'), span('C1.C2'), b.s, b.sc())
     assert (f.kind, f.payload) == ('FieldAbsent', cell('C1'))
     assert raises(query.QueryFault, query.select, span('A2.A4'), span('C1.C2'), b.s, b.sc()).kind == 'NoFieldRow'
-    for p, t, want in ((b'a?c', b'ABC', True), (b'a*', b'a', True), (b'a?', b'a', False), (b'~a*', b'b', True), (b'', b'', True)):
+    for p, t, want in ((b'a?c', b'ABC', True), (b'a*', b'a', True), (b'a?', b'a', False), (b'~a*', b'b', True),
+                       (b'', b'', True)):
         assert label_condition(p, string(t)) == want
 
 
@@ -512,7 +520,8 @@ def test_owners_of_spans():
     owners = {cell('B2'): [span('A1..C9'), span('A1..A1')], cell('A2'): [span('A1..A1')]}
 
     def owners_of(c):
-        return sorted((o for o, spans in owners.items() if any(address.in_span(c, s) for s in spans)), key=address.row_order)
+        return sorted((o for o, spans in owners.items() if any(address.in_span(c, s) for s in spans)),
+                      key=address.row_order)
     assert owners_of(cell('A1')) == [cell('A2'), cell('B2')]
     del owners[cell('B2')]
     assert owners_of(cell('A1')) == [cell('A2')] and owners_of(cell('D1')) == []
@@ -551,7 +560,8 @@ def test_orders():
         data = wk1.write(s)
         assert bytes([3, 0, 1, 0, byte]) in data and wk1.read(data) == s
     # undo
-    b = Bed(); b.type('A1', '1'); b.type('B1', '+A1'); kept = b.s.keep(); b.type('A1', '2'); b.s.put_back(kept); b.calc()
+    b = Bed(); b.type('A1', '1'); b.type('B1', '+A1'); kept = b.s.keep(); b.type('A1',
+                                                                                 '2'); b.s.put_back(kept); b.calc()
     assert (b.v('A1'), b.v('B1'), b.t.count) == (N(1), N(1), 3)
 
 
@@ -561,7 +571,8 @@ def test_report_pages():
     out = report.report(span('A1'), report.PrintSettings(), b.s.snapshot(), NOWHERE)
     lines = out.split(b'\r\n')
     assert len(out) == 144 and len(lines) == 67 and lines[5] == b' ' * 11 + b'5'
-    assert raises(report.PrintFault, report.report, span('A1'), report.PrintSettings(length=10, top=10), b.s.snapshot(), NOWHERE).kind == 'PageTooSmall'
+    assert raises(report.PrintFault, report.report, span('A1'), report.PrintSettings(length=10, top=10), b.s.snapshot(),
+                  NOWHERE).kind == 'PageTooSmall'
     assert report.running_line(b'a|#|@', 20, 3, Moment(31929, 0)) == b'a        3 01-Jun-87'
     b.s.set_hidden(0, 0, True)
     assert report.report(span('A1'), report.PrintSettings(), b.s.snapshot(), NOWHERE) == b''
@@ -574,19 +585,23 @@ def test_parse_faults():
     """The faults of formula texts, with their places."""
     nm = names.Names(); nm.create(b'ONE', span('B2')); nm.create(b'WIDE', span('B2..C3'))
     for line, want in (('', (2, None)), ('+', (2, None)), ('1+', (2, None)), ('(1', (2, None)), ('"ab', (2, None)),
-                       ('@SUM', (2, None)), ('@SUM(', (2, None)), ('@FOO(1)', (3, 0)), ('@SQRT(1)', (4, 0)), ('@ABS(1,2)', (5, 8)),
-                       ('@IF(1,2)', (5, 7)), ('FOO', (7, 0)), ('1+FOO', (7, 2)), ('1+1000000000', (6, 2)), ('1E5', (1, 1)), ('1E+5', (7, 1)), ('1E99999', (7, 1)), ('5%', (1, 1)),
-                       ('1 2', (1, 2)), ('1)', (1, 1)), ('(1,2)', (1, 2)), ('@SUM 5', (1, 5)), ('1A1', (1, 1)), ('*1', (1, 0)), ('1##', (1, 1)),
-                       ('A1..', (1, 2)), ('A1...B2', (1, 2)), ('A1:B2', (1, 2)), ('A8193', (7, 0)), ('IW1', (7, 0)), ('A01', (7, 0)), ('$1', (7, 0)),
-                       ('@NOW()', (1, 4)), ('@', (1, 0)), ('1=<2', (1, 2)), ('.', (1, 0)), ('1..2', (1, 2)), ('"a"b"', (7, 3)),
-                       ('x' * 241, (8, None)), ('$A$1', None), ('A$1', None), ('A1.B2', None), ('+one', None), ('$ONE', None), ('WIDE', None),
-                       ('-+-1', None), ('2*#not#3', None), ('@sum(a1;b1)', None), ('@@("A1")', None), ('@ @', (1, 0)), ('1<>2', None), ('1< >2', (1, 3))):
+                       ('@SUM', (2, None)), ('@SUM(', (2, None)), ('@FOO(1)', (3, 0)), ('@SQRT(1)', (4, 0)),
+                       ('@ABS(1,2)', (5, 8)), ('@IF(1,2)', (5, 7)), ('FOO', (7, 0)), ('1+FOO', (7, 2)),
+                       ('1+1000000000', (6, 2)), ('1E5', (1, 1)), ('1E+5', (7, 1)), ('1E99999', (7, 1)), ('5%', (1, 1)),
+                       ('1 2', (1, 2)), ('1)', (1, 1)), ('(1,2)', (1, 2)), ('@SUM 5', (1, 5)), ('1A1', (1, 1)),
+                       ('*1', (1, 0)), ('1##', (1, 1)), ('A1..', (1, 2)), ('A1...B2', (1, 2)), ('A1:B2', (1, 2)),
+                       ('A8193', (7, 0)), ('IW1', (7, 0)), ('A01', (7, 0)), ('$1', (7, 0)), ('@NOW()', (1, 4)),
+                       ('@', (1, 0)), ('1=<2', (1, 2)), ('.', (1, 0)), ('1..2', (1, 2)), ('"a"b"', (7, 3)),
+                       ('x' * 241, (8, None)), ('$A$1', None), ('A$1', None), ('A1.B2', None), ('+one', None),
+                       ('$ONE', None), ('WIDE', None), ('-+-1', None), ('2*#not#3', None), ('@sum(a1;b1)', None),
+                       ('@@("A1")', None), ('@ @', (1, 0)), ('1<>2', None), ('1< >2', (1, 3))):
         assert fault_of(line, nm) == want, (line, fault_of(line, nm), want)
 
 
 def test_addresses():
     """How addresses are read, and where they fail."""
-    for t, at in (('', 0), ('1', 0), ('A', 1), ('A0', 1), ('A8193', 4), ('IW1', 1), ('JA1', 1), ('ABC1', 2), ('A1x', 2), ('AA', 2)):
+    for t, at in (('', 0), ('1', 0), ('A', 1), ('A0', 1), ('A8193', 4), ('IW1', 1), ('JA1', 1), ('ABC1', 2), ('A1x', 2),
+                  ('AA', 2)):
         assert raises(address.NotAnAddress, read_cell, t.encode()).at == at, t
     for t, at in (('A1.', 3), ('A1...B2', 4), ('A1..', 4), ('A1-', 2), ('A1.B', 4), ('A1.B0', 4)):
         assert raises(address.NotAnAddress, read_span, t.encode()).at == at, t

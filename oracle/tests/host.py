@@ -1,16 +1,18 @@
-"""Worked runs of the program on a host that fails or is odd: keys that can't be read to their end, screens and notes for which there is too
-little room, a stated clock, and names under which no plain file stands, or one that nobody may write. All that the program writes is
-compared with what the oracle tells, and so are the status and the files left with their rights.
+"""Worked runs of the program on a host that fails or is odd: keys that can't be read to their end, screens and notes
+for which there is too little room, a stated clock, and names under which no plain file stands, or one that nobody may
+write. All that the program writes is compared with what the oracle tells, and so are the status and the files left with
+their rights.
 
 python3 -B -m oracle.tests.host PROGRAM N [SEED] --clock CLOCK
 
-N random runs of macros that wait while a stated clock goes on come behind them.
-CLOCK is the library that scripts/clock.c makes. A line of worked/host has the program's words and its keys, as a bytes literal spells them,
-and then, each behind a tab, what is stated of the host:
+N random runs of macros that wait while a stated clock goes on come behind them. CLOCK is the library that
+scripts/clock.c makes. A line of worked/host has the program's words and its keys, as a bytes literal spells them, and
+then, each behind a tab, what is stated of the host:
+
     keys=fail           behind the keys a read fails
     screens=N, notes=N  there is room for so many bytes, and a write of more fails
-    clock=MOMENT,..     the moments that the clock tells, as 1987-06-01T14:05:00, or with *N behind it N times, of which the last is
-                        repeated; `none` is a failed reading, and so are all where no clock is stated
+    clock=MOMENT,..     the moments that the clock tells, as 1987-06-01T14:05:00, or with *N behind it N times, of which
+                        the last is repeated; `none` is a failed reading, and so are all where no clock is stated
     NAME=WHAT           what stands in the folder under a name, as `read_entry` reads it
     N NAME=WHAT         the same, from when the screens of the first N bytes of the keys are there"""
 import datetime
@@ -49,7 +51,8 @@ NEW_RIGHTS = 0o644
 
 
 class Entry(NamedTuple):
-    """What stands under a name: a plain file of so many bytes with its rights, of which these are the first, or `folder` or `link NAME`."""
+    """What stands under a name: a plain file of so many bytes with its rights, of which these are the first, or
+    `folder` or `link NAME`."""
     data: bytes
     size: int = 0
     rights: int = 0
@@ -57,8 +60,8 @@ class Entry(NamedTuple):
 
 
 class Host(NamedTuple):
-    """A run: words, keys, whether a read fails behind them, the room for screens and for notes, the clock's readings, the folder, and
-    what of it changes behind how many bytes of the keys."""
+    """A run: words, keys, whether a read fails behind them, the room for screens and for notes, the clock's readings,
+    the folder, and what of it changes behind how many bytes of the keys."""
     options: list
     keys: bytes
     keys_fail: bool
@@ -84,7 +87,8 @@ def plain(data, rights=NEW_RIGHTS):
 
 
 def read_entry(text):
-    """`folder`, `link NAME`, or a file: bytes as in worked/runs, or `size N` of zeros, and `rights N` in octal digits behind them."""
+    """`folder`, `link NAME`, or a file: bytes as in worked/runs, or `size N` of zeros, and `rights N` in octal digits
+    behind them."""
     text, _, rights = text.partition(' rights ')
     rights = int(rights or '%o' % NEW_RIGHTS, 8)
     if text == 'folder' or text.startswith('link '):
@@ -128,15 +132,18 @@ def read_host(line):
 
 # ---------------------------------------------------------------- random runs
 
-STARTS = ['1987-06-01T14:05:00', '1987-06-01T23:59:57', '2000-02-28T23:59:59', '1970-01-01T00:00:00', '2099-12-31T23:59:55', '2026-03-29T01:59:58']
+STARTS = ['1987-06-01T14:05:00', '1987-06-01T23:59:57', '2000-02-28T23:59:59', '1970-01-01T00:00:00',
+          '2099-12-31T23:59:55', '2026-03-29T01:59:58']
 NAMES = [b'+D1..D3 \\A', b'+E1 \\B']
 
 
 def some_readings(r):
-    """A clock's readings: from a start on it goes on by seconds, and at times stands, leaps, is set back or can't be read."""
+    """A clock's readings: from a start on it goes on by seconds, and at times stands, leaps, is set back or can't be
+    read."""
     moment, out = datetime.datetime.fromisoformat(r.choice(STARTS)), []
     for _ in range(r.choice([1, 10, 40, 120])):
-        moment += datetime.timedelta(seconds=r.choice([0, 0, 0, 0, 1, 1, 1, 2, 5]) if r.randrange(30) else r.choice([60, 3600, 86400, -1, -30, -86400]))
+        moment += datetime.timedelta(seconds=r.choice([0, 0, 0, 0, 1, 1, 1, 2, 5]) if r.randrange(30)
+                                     else r.choice([60, 3600, 86400, -1, -30, -86400]))
         out.append(None if r.randrange(40) == 0 else moment)
     return out
 
@@ -163,8 +170,8 @@ def spelled(host):
 # ---------------------------------------------------------------- the oracle's side
 
 class HostShelf:
-    """A folder as a shelf. A call fails where its name leads to no plain file, and a change where nobody may write the file; a file is
-    written beside, under a name that nothing in the folder has."""
+    """A folder as a shelf. A call fails where its name leads to no plain file, and a change where nobody may write the
+    file; a file is written beside, under a name that nothing in the folder has."""
 
     def __init__(self, folder):
         self.folder = dict(folder)
@@ -205,7 +212,8 @@ class HostShelf:
 
 
 class HostKeys(ListKeys):
-    """The keys of a run, which change what stands in the folder when they come so far, and keep how many screens there were then."""
+    """The keys of a run, which change what stands in the folder when they come so far, and keep how many screens there
+    were then."""
 
     def __init__(self, host, shelf, display):
         super().__init__(host.keys, [len(host.keys) + 1] if host.keys_fail else ())
@@ -220,10 +228,12 @@ class HostKeys(ListKeys):
 
 
 def moment_at(reading):
-    """The moment of a reading, without a day where the calendar hasn't it. A clock that is set before 1970 can't be read."""
+    """The moment of a reading, without a day where the calendar hasn't it. A clock that is set before 1970 can't be
+    read."""
     if reading is None or reading < EPOCH:
         return Moment(None, 0)
-    return Moment(day_of(reading.year, reading.month, reading.day), reading.hour * 3600 + reading.minute * 60 + reading.second)
+    return Moment(day_of(reading.year, reading.month, reading.day), reading.hour * 3600 + reading.minute * 60
+                  + reading.second)
 
 
 def expected(host):
@@ -321,7 +331,8 @@ def got(program, clock, host, screens):
     (shown, shown_from), (noted, noted_from) = sink(host.room.get('screens')), sink(host.room.get('notes'))
     source, keys = os.pipe()
     count, *changed = host.later or (len(host.keys),)
-    with tempfile.TemporaryDirectory() as folder, shown, noted, open(source, 'rb') as source, open(keys, 'wb', 0) as keys:
+    with tempfile.TemporaryDirectory() as folder, shown, noted, open(source,
+                                                                     'rb') as source, open(keys, 'wb', 0) as keys:
         for name, entry in host.folder.items():
             make_entry(os.path.join(folder, name), entry)
         keys.write(host.keys[:count])
@@ -348,7 +359,8 @@ def told(entry):
 def difference(wanted, found):
     """What differs of a run, or none."""
     if (wanted.status, wanted.notes) != (found.status, found.notes):
-        return f'the status is {found.status} and the notes {found.notes!r}, and {wanted.status} and {wanted.notes!r} are wanted'
+        return (f'the status is {found.status} and the notes {found.notes!r}, '
+                f'and {wanted.status} and {wanted.notes!r} are wanted')
     if wanted.screens != found.screens:
         at = len(os.path.commonprefix([wanted.screens, found.screens]))
         part = lambda screens: f'{len(screens)} bytes, with {screens[at:at + 60]!r} from byte {at} on'
@@ -375,10 +387,12 @@ def main(words):
     asked = asked.parse_args(words)
     prepare()
     first = worked('host').splitlines()
-    lines = first + [spelled(some_host(random.Random(f'{asked.seed} host {number}'))).encode() for number in range(asked.count)]
+    lines = first + [spelled(some_host(random.Random(f'{asked.seed} host {number}'))).encode()
+                     for number in range(asked.count)]
     with processes(asked.processes) as pool:
         found = list(pool.map(functools.partial(compared, asked.program, asked.clock), lines, chunksize=5))
-    return ended([why for why in found if why], f'host: {len(first)} worked runs and {asked.count} of seed {asked.seed}')
+    return ended([why for why in found if why],
+                 f'host: {len(first)} worked runs and {asked.count} of seed {asked.seed}')
 
 
 if __name__ == '__main__':

@@ -42,11 +42,13 @@ def odd_runs(program):
              ('the most bytes', ran(program, EMPTY + bytes(MOST - len(EMPTY))), told(EMPTY)),
              ('too many bytes', ran(program, EMPTY + bytes(MOST + 1 - len(EMPTY))), (b'', b'1-2-3-list: F11\n', 2))]
     with open('/dev/full', 'wb') as full:
-        cases.append(('a full output', ran(program, EMPTY, stdout=full), (None, b'1-2-3-list: output failed\n', NOT_WRITTEN)))
+        cases.append(('a full output', ran(program, EMPTY, stdout=full),
+                      (None, b'1-2-3-list: output failed\n', NOT_WRITTEN)))
     folder = os.open('/', os.O_RDONLY)
     done = subprocess.run([program], stdin=folder, capture_output=True, check=False)
     os.close(folder)
-    cases.append(('a folder', (done.stdout, done.stderr, done.returncode), (b'', b'1-2-3-list: input failed\n', NOT_READ)))
+    cases.append(('a folder', (done.stdout, done.stderr, done.returncode),
+                  (b'', b'1-2-3-list: input failed\n', NOT_READ)))
     return [f'{name}\n  found  {found}\n  wanted {wanted}' for name, found, wanted in cases if found != wanted]
 
 

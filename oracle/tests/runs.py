@@ -1,12 +1,13 @@
-"""Key lists through the built program and through the oracle: screens, notes, statuses, counts and the files left compared. First
-go the worked ones of worked/runs, each a line of the program's words and keys, as a bytes literal spells them, and files of its folder as
-NAME=BYTES, parted by tabs; then random ones.
+"""Key lists through the built program and through the oracle: screens, notes, statuses, counts and the files left
+compared. First go the worked ones of worked/runs, each a line of the program's words and keys, as a bytes literal
+spells them, and files of its folder as NAME=BYTES, parted by tabs; then random ones.
 
 python3 -B -m oracle.tests.runs PROGRAM N [SEED] [--macros | --waits] [--strict] [--random] [--processes P]
 
-With --macros each list types two to four sheets of macros, and none of data commands; with --waits all of them are macros that ask, wait and
-switch. With --strict each run is strict, and with --random the worked ones are left out. P processes share the lists, as many as the machine
-has processors where P isn't given. Each run has a folder of its own, which mostly holds a few files."""
+With --macros each list types two to four sheets of macros, and none of data commands; with --waits all of them are
+macros that ask, wait and switch. With --strict each run is strict, and with --random the worked ones are left out. P
+processes share the lists, as many as the machine has processors where P isn't given. Each run has a folder of its own,
+which mostly holds a few files."""
 import functools
 import os
 import random
@@ -83,7 +84,8 @@ def difference(wanted, found):
     if wanted[2] != found[2]:
         return f'the notes are {found[2]!r}, and {wanted[2]!r} is wanted'
     if wanted[1] != found[1]:
-        at = next((i for i, (a, b) in enumerate(zip(wanted[1], found[1])) if a != b), min(len(wanted[1]), len(found[1])))
+        at = next((i for i, (a, b) in enumerate(zip(wanted[1], found[1])) if a != b),
+                  min(len(wanted[1]), len(found[1])))
         line = lambda lines: lines[at] if at < len(lines) else b''
         return f'screen {at // 26 + 1}, line {at % 26} is {line(found[1])!r}, and {line(wanted[1])!r} is wanted'
     return files_differ(wanted[3], found[3])
@@ -91,7 +93,8 @@ def difference(wanted, found):
 
 def told(folder):
     """What a folder holds, in a line."""
-    return ' '.join(f'{name}={"folder" if held is None else held.hex()}' for name, held in sorted(folder.items())) or 'nothing'
+    spelled = (f'{name}={"folder" if held is None else held.hex()}' for name, held in sorted(folder.items()))
+    return ' '.join(spelled) or 'nothing'
 
 
 def why_differs(given, why):
@@ -136,7 +139,8 @@ def main(words):
         runs = first + list(pool.map(one, range(count), chunksize=5))
     screens, written = sum(run[0] for run in runs), sum(run[1] for run in runs)
     return ended([why for _, _, why in runs if why],
-                 f'runs: {len(first)} worked runs and {count} of seed {seed}, {screens} screens, {written} files written')
+f'runs: {len(first)} worked runs and {count} of seed {seed}, {screens} screens, '
+                 f'{written} files written')
 
 
 if __name__ == '__main__':

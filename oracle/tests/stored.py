@@ -1,7 +1,8 @@
 """The stored runs through the program, whose outcomes are compared with the digests that stand beside them.
 
 python3 -B -m oracle.tests.stored PROGRAM [NAME..] [--processes P]
-    runs what stored/NAME holds, or all of them. The oracle is asked for what differs alone: the first five are told with their keys"""
+    runs what stored/NAME holds, or all of them. The oracle is asked for what differs alone: the first five are told
+    with their keys"""
 import argparse
 import functools
 import os

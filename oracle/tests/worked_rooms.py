@@ -29,7 +29,8 @@ def macros_branch():
 
 def macros_call():
     """Calls, DEFINE, RETURN and RESTART."""
-    k = "{GOTO}F1~/RNCSUB~~" + macro([('D1', '{SUB 1+2,1+2}{LET A3,9}'), ('F1', '{DEFINE A1,A2:value}{RETURN}{LET A4,1}')])
+    k = "{GOTO}F1~/RNCSUB~~" + macro([('D1', '{SUB 1+2,1+2}{LET A3,9}'),
+                                      ('F1', '{DEFINE A1,A2:value}{RETURN}{LET A4,1}')])
     r = ok(k)
     eq(text(r, 'A1'), b"'1+2")
     want(r, 'A2', 3)
@@ -240,9 +241,11 @@ def sees_values(r, wanted, what):
 
 
 # what is seen of a run under each letter but `l`
-SEEN = {'m': lambda r, w, what: eq(mode(r), w.encode(), what), 'p': lambda r, w, what: eq(r.session.sheet.settings.pointer, c(w), what),
+SEEN = {'m': lambda r, w, what: eq(mode(r), w.encode(), what),
+        'p': lambda r, w, what: eq(r.session.sheet.settings.pointer, c(w), what),
         'k': lambda r, w, what: eq(len(r.frames), w, what), 's': lambda r, w, what: eq(r.steps, w, what),
-        'n': lambda r, w, what: eq(r.notes, b''.join(b'1-2-3: ' + x.encode() + b'\n' for x in w), what), 't': sees_texts, 'v': sees_values}
+        'n': lambda r, w, what: eq(r.notes, b''.join(b'1-2-3: ' + x.encode() + b'\n' for x in w), what),
+        't': sees_texts, 'v': sees_values}
 
 
 def sees(keys, words=(), files=None, clock=None, failing=None, status=0, **seen):
@@ -281,8 +284,9 @@ def macro_sees(cells, keys='', names=(), before='', first='D1', **seen):
 def _():
     for keys, at in [('{DOWN 01}', 6), ('{DOWN  1}', 6), ('{DOWN }', 6), ('{}x', 2), ('{~ 2}', 2), ('}', 0), ('{X}', 1),
                      ('{ALT}', 4), ('{ALT 1}', 5), ('{ALT A }', 6), ('{ALT AB}', 6), ('{ALT  A}', 5), ('{BREAK 2}', 6),
-                     ('{UNDO 1}', 5), ('{DO\nWN}', 3), ('A\t', 1), ('{DE}', 3), ('{DOWN', 5), ('{', 1), ('{D 10000}', 7),
-                     ('A{~', 3), ('{DOWN1}', 5), ('{ESCA}', 5), ('{BAC}', 4), ('{Q}', 2), ('{DOWN 3 }', 7), ('{\n}', 1)]:
+                     ('{UNDO 1}', 5), ('{DO\nWN}', 3), ('A\t', 1), ('{DE}', 3), ('{DOWN', 5), ('{', 1),
+                     ('{D 10000}', 7), ('A{~', 3), ('{DOWN1}', 5), ('{ESCA}', 5), ('{BAC}', 4), ('{Q}', 2),
+                     ('{DOWN 3 }', 7), ('{\n}', 1)]:
         sees(keys, b=at)
     sees('{D 9999}', p='A8192', k=9999)
     sees('\r\nA\n\n~\n', k=2, t={'A1': "'A"})
@@ -299,8 +303,8 @@ def _():
     for keys, at in [('{END}{DOWN}', 'A3'), ('{END}{DOWN}{END}{DOWN}', 'A5'), ('{END}{DOWN}' * 3, 'A6'),
                      ('{END}{DOWN}' * 4, 'A8192'), ('{END}{DOWN 2}', 'A4'), ('{PGDN}{END}{UP}', 'A6'),
                      ('{DOWN 3}{END}{UP}', 'A3'), ('{DOWN 3}{END}{DOWN}', 'A5'), ('{END}{RIGHT}', 'IV1'),
-                     ('{END}{END}{DOWN}', 'A2'), ('{END}{PGDN}', 'A21'), ('{END 3}{DOWN}', 'A3'), ('{END}{WINDOW}{DOWN}', 'A2'),
-                     ('{END}{BREAK}{DOWN}', 'A2'), ('{END}{HOME}', 'A6')]:
+                     ('{END}{END}{DOWN}', 'A2'), ('{END}{PGDN}', 'A21'), ('{END 3}{DOWN}', 'A3'),
+                     ('{END}{WINDOW}{DOWN}', 'A2'), ('{END}{BREAK}{DOWN}', 'A2'), ('{END}{HOME}', 'A6')]:
         sees(run_ + keys, p=at)
     sees('{GOTO}C5~/RFT~{HOME}{END}{HOME}', p='C5')     # a used cell
     sees('{GOTO}C1~/RFT~{HOME}{END}{RIGHT}', p='IV1')   # which isn't filled
@@ -317,15 +321,16 @@ def _():
 
 @row('entry and faults')
 def _():
-    for keys, line in [('1000000000~9', '91000000000'), ('+1*)~9', '+1*9)'), ('+A1A~9', '+9A1A'), ('@FOO(1)~9', '9@FOO(1)'),
+    for keys, line in [('1000000000~9', '91000000000'), ('+1*)~9', '+1*9)'), ('+A1A~9', '+9A1A'),
+                       ('@FOO(1)~9', '9@FOO(1)'),
                        ('+1/~9', '+1/9'), ('+1+1000000000~9', '+1+91000000000'), ('+@ABS(1,2)~9', '+@ABS(1,29)'),
                        ('+1){RIGHT}9', '+19)'), ('.~9', '9.'), ('5~{EDIT}{EDIT}{CALC}{NAME}{ABS}{GOTO}', '5'),
                        ('5~{EDIT}{ESC}', ''), ('+a1*b2~{EDIT}', '+A1*B2')]:
         sees(keys, m='EDIT', l1=line, p='A1')
-    for keys, t in [('ABC{EDIT}{LEFT}X~', "'ABXC"), ('{EDIT}/X~', "'/X"), ('5~{EDIT}{BS}~', '5'), ('5~{EDIT}{HOME} ~', "' 5"),
-                    ('/WGLC^~ABC~', '^ABC'), ("'~", "'"), ('1.2345675~', '1.234568'), ('-1.2345675~', '-1.234568'),
-                    ('ABCDEFGH~{EDIT}{BIGLEFT}X{BIGRIGHT}Y~', "'ABCXDEFGHY"), ('A{CALC}{GOTO}{QUERY}{ALT A}{UNDO}~', "'A"),
-                    ('ABC{BS 3}', '')]:
+    for keys, t in [('ABC{EDIT}{LEFT}X~', "'ABXC"), ('{EDIT}/X~', "'/X"), ('5~{EDIT}{BS}~', '5'),
+                    ('5~{EDIT}{HOME} ~', "' 5"), ('/WGLC^~ABC~', '^ABC'), ("'~", "'"), ('1.2345675~', '1.234568'),
+                    ('-1.2345675~', '-1.234568'), ('ABCDEFGH~{EDIT}{BIGLEFT}X{BIGRIGHT}Y~', "'ABCXDEFGHY"),
+                    ('A{CALC}{GOTO}{QUERY}{ALT A}{UNDO}~', "'A"), ('ABC{BS 3}', '')]:
         sees(keys, m='READY', t={'A1': t})
     sees('+{PGDN}', m='EDIT', p='A1')                   # no POINT, and the key doesn't move
     sees('5~{EDIT}{BS}{DOWN}', p='A2', v={'A1': 5})
@@ -353,17 +358,19 @@ def _():
 
 @row('answers')
 def _():
-    for keys, number in [('/REXYZ~', 4), ('/REA{BS}~', 1), ('/REABCDEFGHIJKLMNOP~', 1), ('/RE A1~', 1), ('/REA1...B2~', 4),
-                         ('/RE$A$1~', 4), ('/REA8193~', 4), ('/RE)~', 4), ('{GOTO}ZZZ~', 4), ('{GOTO}A{BS}~', 1),
-                         ('/WCS241~', 2), ('/WCS~', 2), ('/WCS 5~', 2), ('/WCS1.5~', 2), ('/RFF16~', 2), ('/WGRI51~', 2),
-                         ('/RNC~', 3), ('/RNC X~', 3), ('/RNCABCDEFGHIJKLMNOP~', 3), ('/RND~', 3), ('/RNDX~', 4),
-                         ('/FR~', 17), ('/FRABCDEFGHI~', 17), ('/FRA.PRN~', 17), ('/FR.WK1~', 17), ('/FR-X~', 6),
-                         ('/PFX.WK1~', 17), ('/DFA1~1000000000~', 2), ('/DSPA1~AA~', 2), ('/WCHXX~', 4), ('/PFX~OMT11~', 2)]:
+    for keys, number in [('/REXYZ~', 4), ('/REA{BS}~', 1), ('/REABCDEFGHIJKLMNOP~', 1), ('/RE A1~', 1),
+                         ('/REA1...B2~', 4), ('/RE$A$1~', 4), ('/REA8193~', 4), ('/RE)~', 4), ('{GOTO}ZZZ~', 4),
+                         ('{GOTO}A{BS}~', 1), ('/WCS241~', 2), ('/WCS~', 2), ('/WCS 5~', 2), ('/WCS1.5~', 2),
+                         ('/RFF16~', 2), ('/WGRI51~', 2), ('/RNC~', 3), ('/RNC X~', 3), ('/RNCABCDEFGHIJKLMNOP~', 3),
+                         ('/RND~', 3), ('/RNDX~', 4), ('/FR~', 17), ('/FRABCDEFGHI~', 17), ('/FRA.PRN~', 17),
+                         ('/FR.WK1~', 17), ('/FR-X~', 6), ('/PFX.WK1~', 17), ('/DFA1~1000000000~', 2),
+                         ('/DSPA1~AA~', 2), ('/WCHXX~', 4), ('/PFX~OMT11~', 2)]:
         sees(keys, e=number)
-    for keys, m_, line in [('{GOTO}B2~/RE', 'POINT', 'Erase B2..B2'), ('/REC', 'EDIT', 'Erase C'), ('/REC{ESC}', 'EDIT', 'Erase'),
-                           ('/REC{ESC}{ESC}', 'READY', ''), ('/RE{DOWN}{ESC}', 'POINT', 'Erase A1'),
-                           ('/REB2{UP}{DOWN}{PGUP}{PGDN}', 'EDIT', 'Erase B2'), ('5~/M~', 'POINT', 'To A1'),
-                           ('5~/C~', 'POINT', 'To A1..A1'), ('{GOTO}{ABS}', 'POINT', 'Goto $A$1'), ('/DFA1.A3~', 'EDIT', 'Start'),
+    for keys, m_, line in [('{GOTO}B2~/RE', 'POINT', 'Erase B2..B2'), ('/REC', 'EDIT', 'Erase C'),
+                           ('/REC{ESC}', 'EDIT', 'Erase'), ('/REC{ESC}{ESC}', 'READY', ''),
+                           ('/RE{DOWN}{ESC}', 'POINT', 'Erase A1'), ('/REB2{UP}{DOWN}{PGUP}{PGDN}', 'EDIT', 'Erase B2'),
+                           ('5~/M~', 'POINT', 'To A1'), ('5~/C~', 'POINT', 'To A1..A1'),
+                           ('{GOTO}{ABS}', 'POINT', 'Goto $A$1'), ('/DFA1.A3~', 'EDIT', 'Start'),
                            ('/DT2A1.B3~C1~', 'POINT', 'Across A1'), ('/RFF2~', 'POINT', 'Range A1..A1'),
                            ('5~/FSX~/FS', 'EDIT', 'Save X.WK1'), ('5~/FSX~/FSY', 'EDIT', 'Save Y'),
                            ('5~/FSX~/FS{LEFT}Z', 'EDIT', 'Save Z'), ('5~/FSX~/FSY~/FRX~/FS', 'EDIT', 'Save Y.WK1')]:
@@ -394,10 +401,12 @@ def _():
             ('/DS', ['Data-Range', 'Primary-Key', 'Secondary-Key', 'Reset', 'Quit', 'Go'], 0, ''),
             ('/PFX~{RIGHT}', ['Range', 'Options', 'Go', 'Quit'], 1, 'Header  Footer  Margins  Pg-Length  Quit'),
             ('/PFX~OML5~', ['Left', 'Right', 'Top', 'Bottom', 'Quit'], 0, ''),
-            ('/PFX~OML5~Q', ['Header', 'Footer', 'Margins', 'Pg-Length', 'Quit'], 0, ''), ('/PFX~{ESC}', ['File'], 0, ''),
+            ('/PFX~OML5~Q', ['Header', 'Footer', 'Margins', 'Pg-Length', 'Quit'], 0, ''),
+            ('/PFX~{ESC}', ['File'], 0, ''),
             ('5~/FSX~/FS~', ['Cancel', 'Replace'], 0, ''), ('/FEX~', ['No', 'Yes'], 0, '')]:
         sees(keys, m='MENU', l1=line(names, at), l2=below)
-    for keys in ['/{ESC}', '/Q~', '/WGF{BREAK}', '5~/FSX~/FS~{ESC}', '/FEX~N', '/DQDC', '/DSDA1~R', '/WEN', '/PFX~OML5~QQQ']:
+    for keys in ['/{ESC}', '/Q~', '/WGF{BREAK}', '5~/FSX~/FS~{ESC}', '/FEX~N', '/DQDC', '/DSDA1~R', '/WEN',
+                 '/PFX~OML5~QQQ']:
         sees(keys, m='READY', l1='')
     sees('/QYABC', k=3, m='READY')
 
@@ -411,7 +420,8 @@ def _():
                 ('/', '[Worksheet] Copy  Print  Quit', 'Global  Column  Erase'),
                 ('/W{END}{LEFT}', ' Global [Column] Erase', 'Set-Width  Reset-Width  Hide  Display'),
                 ('/RMFD{LEFT}{RIGHT}', '[Worksheet] Copy  Print  Quit', 'Global  Column  Erase'),
-                ('/WDI{HOME}', '[Global] Column  Erase', 'Format  Label-Prefix  Column-Width  Recalculation  Protection'),
+                ('/WDI{HOME}', '[Global] Column  Erase',
+                 'Format  Label-Prefix  Column-Width  Recalculation  Protection'),
                 ('/P{ESC}', '[Worksheet] Copy  Print  Quit', 'Global  Column  Erase')]:
             sees(keys, m='MENU', l1=line, l2=below)
     finally:
@@ -425,19 +435,18 @@ def _():
     for keys, number in [
             (on + '/CA1.B2~IV8192~', 10), ('/MA1.A2~A8192~', 10), (on + '/MA1~B1~', 5), (on + '/WIR~', 5),
             ('{GOTO}A8192~1{HOME}/WIRA1.A2~', 9), (on + '{GOTO}A8192~/WIR~', 5), (on + '/DFA1.A2~1~0~2~', 11),
-            (on + '/RUA1~/DFA1.A2~1~1~2~', 5), ('/DSG', 18), ('/DSDA1.B3~PA1~A~SC1~A~G', 20), (on + '/DSDA1.A3~PB1~A~G', 20),
-            ('/DQIA1~CC1~OE1~E', 14), ('/DQDD', 14), ('{QUERY}', 14), ('{TABLE}', 12), (on + '/DT1A1.A3~A1~', 12),
-            (on + '/DT1A1.B3~C1~', 5), ('/DT2A1.B3~C1~A2~', 13), (on + '/DDA1~A8192~', 10), ('/FCAX~', 6),
-            (two + on + '{GOTO}A8192~/FCCX~', 10), ('5~/FSX~' + on + '{GOTO}A8192~/FCCX~', 5), ('/PFX~G', 22),
-            ('/PFX~RA1~OML80~QQG', 23), ('5~/FSX~/FEX~Y/FRX~', 6),
+            (on + '/RUA1~/DFA1.A2~1~1~2~', 5), ('/DSG', 18), ('/DSDA1.B3~PA1~A~SC1~A~G', 20),
+            (on + '/DSDA1.A3~PB1~A~G', 20), ('/DQIA1~CC1~OE1~E', 14), ('/DQDD', 14), ('{QUERY}', 14), ('{TABLE}', 12),
+            (on + '/DT1A1.A3~A1~', 12), (on + '/DT1A1.B3~C1~', 5), ('/DT2A1.B3~C1~A2~', 13), (on + '/DDA1~A8192~', 10),
+            ('/FCAX~', 6), (two + on + '{GOTO}A8192~/FCCX~', 10), ('5~/FSX~' + on + '{GOTO}A8192~/FCCX~', 5),
+            ('/PFX~G', 22), ('/PFX~RA1~OML80~QQG', 23), ('5~/FSX~/FEX~Y/FRX~', 6),
             ("A~/RUA1~{DOWN}B~{HOME}" + on + '/RLRA1.A2~', 5)]:
         sees(keys, e=number)
     sees('A~/RUA1~{DOWN}5~{HOME}/WGPE/RLRA1.A2~', t={'A1': '"A'})       # the labels alone are written
     sees(on + '/RUA1~/DFA1.A2~1~1~1~', v={'A1': 1}, m='READY')
     sees('{GOTO}A8192~/RFT~{HOME}/WIR~', m='READY')                     # a format isn't filled
     for keys, calls, number in [('5~/FSX~', [1], 8), ('5~/FSX~', [2], 8), ('/FEX~Y', [1], 8), ('/FXFX~A1~', [1], 8),
-                                ('/PFX~', [1], 8),
-                                ('/PFX~RA1~G', [2], 8), ('/PFX~G', [2], 22), ('/FCCX~', [1], 8)]:
+                                ('/PFX~', [1], 8), ('/PFX~RA1~G', [2], 8), ('/PFX~G', [2], 22), ('/FCCX~', [1], 8)]:
         sees(keys, failing={'shelf': calls}, e=number)
     for keys, calc in [('/RLL~', 1), ('/RE~', 1), ('/DFA1.A2~1~-1~2~', 1), ('/WCS5~/RFT~/RNCX~~', 0), ('5~{CALC}', 0),
                        ('5~/WGRA/WGRM', 1), ('5~/FSX~/FRX~', 0), ('/FCCX~~', 0), ('/WIR~', 1)]:
@@ -446,14 +455,15 @@ def _():
 
 @row('macro faults and nesting')
 def _():
-    for word, fault_ in [('{DOWN 1/0}', 'M4'), ('{DOWN 1,2}', 'M4'), ('{BREAK}', 'M3'), ('{ALT A}', 'M3'), ('{UNDO}', 'M3'),
-                         ('{}', 'M3'), ('{BRANCH D3.D4}', 'M4'), ('{BRANCH $D$3}', 'M4'), ('{DISPATCH E1}', 'M5'),
-                         ('{FOR A1,"x",3,1,D3}', 'M4'), ('{LET A1}', 'M4'), ('{LET A1,2,3}', 'M4'), ('{PUT A1.C3,-1,0,7}', 'M4'),
-                         ('{CONTENTS A1,B1,0}', 'M4'), ('{CONTENTS A1,B1,9,256}', 'M4'), ('{GETLABEL 5,A1}', 'M4'),
-                         ('{MENUBRANCH B1}', 'M5'), ('{WAIT @ERR}', 'M4'), ('{INDICATE 5}', 'M4'), ('{BEEP 1}', 'M4'),
-                         ('/XI1', 'M3'), ('/XLName~A1', 'M3'), ('/XGZZZ~', 'M4'), ('{RECALC A1,0,0}', 'M4'),
-                         ('{OPEN LOG,X}', 'M4'),
-                         ('{OPEN LOG.WK1,W}', 'M4'), ('{READ 241,A1}', 'M4'), ('{SETPOS -1}', 'M4'), ('{WRITE 5}', 'M4')]:
+    for word, fault_ in [('{DOWN 1/0}', 'M4'), ('{DOWN 1,2}', 'M4'), ('{BREAK}', 'M3'), ('{ALT A}', 'M3'),
+                         ('{UNDO}', 'M3'), ('{}', 'M3'), ('{BRANCH D3.D4}', 'M4'), ('{BRANCH $D$3}', 'M4'),
+                         ('{DISPATCH E1}', 'M5'), ('{FOR A1,"x",3,1,D3}', 'M4'), ('{LET A1}', 'M4'),
+                         ('{LET A1,2,3}', 'M4'), ('{PUT A1.C3,-1,0,7}', 'M4'), ('{CONTENTS A1,B1,0}', 'M4'),
+                         ('{CONTENTS A1,B1,9,256}', 'M4'), ('{GETLABEL 5,A1}', 'M4'), ('{MENUBRANCH B1}', 'M5'),
+                         ('{WAIT @ERR}', 'M4'), ('{INDICATE 5}', 'M4'), ('{BEEP 1}', 'M4'), ('/XI1', 'M3'),
+                         ('/XLName~A1', 'M3'), ('/XGZZZ~', 'M4'), ('{RECALC A1,0,0}', 'M4'), ('{OPEN LOG,X}', 'M4'),
+                         ('{OPEN LOG.WK1,W}', 'M4'), ('{READ 241,A1}', 'M4'), ('{SETPOS -1}', 'M4'),
+                         ('{WRITE 5}', 'M4')]:
         macro_sees({'D1': word}, f=fault_ + ' at D1')
     macro_sees({'D1': 'ABC~', 'D2': '{ZZ}'}, f='M3 at D2', t={'A1': "'ABC"})
     sub = [('SUB', 'G1')]
@@ -463,7 +473,8 @@ def _():
     macro_sees({'D1': '{FOR A1,1,9,1,D3}', 'D3': '{SUB}', 'G1': '{FORBREAK}'}, names=sub, f='M4 at G1')
     macro_sees({'D1': '{LET A1,A1+1}{X}'}, names=[('X', 'D1')], f='M2 at D1', v={'A1': 32})
     macro_sees({'D1': '{LET A1,A1+1}{FOR B1,1,2,1,D1}'}, f='M2 at D1', v={'A1': 32})
-    macro_sees({'D1': '{LET A1,A1+1}{IF A1<32}{X}', 'D2': '{FOR B1,2,1,1,C1}{LET C9,1}{FOR B1,1,1,1,C1}'}, names=[('X', 'D1')],
+    macro_sees({'D1': '{LET A1,A1+1}{IF A1<32}{X}', 'D2': '{FOR B1,2,1,1,C1}{LET C9,1}{FOR B1,1,1,1,C1}'},
+               names=[('X', 'D1')],
                f='M2 at D2', v={'A1': 32, 'C9': 1})
     menu_ = {'D1': '{LET A1,A1+1}{MENUCALL F1}', 'F1': 'One', 'F3': '{BRANCH D1}'}
     macro_sees(menu_, keys='o' * 31, m='MENU', v={'A1': 32})
@@ -482,7 +493,8 @@ def macros_end():
     macro_sees({'D1': '{FOR A1,1,3,1,D3}', 'D3': '{LET A1,5}{LET A2,A2+1}'}, v={'A1': 6, 'A2': 1})
     macro_sees({'D1': '{FOR A1,1,A2,1,D3}', 'A2': '=2', 'D3': '{LET A2,9}{LET A3,A3+1}'}, v={'A1': 3, 'A3': 2})
     macro_sees({'D1': '{FOR A1,1,3,1,D3}{LET A5,9}', 'D3': '{RESTART}{LET A2,A2+1}'}, v={'A1': 1, 'A2': 1, 'A5': None})
-    macro_sees({'D1': '{ONERROR D3}{FOR A1,1,3,1,D5}', 'D5': '{IF A1=1}/FRNONE~', 'D3': '{LET B1,B1+7}'}, v={'A1': 4, 'B1': 7})
+    macro_sees({'D1': '{ONERROR D3}{FOR A1,1,3,1,D5}', 'D5': '{IF A1=1}/FRNONE~', 'D3': '{LET B1,B1+7}'},
+               v={'A1': 4, 'B1': 7})
     macro_sees({'D1': '{ONERROR D3,A2}{LET A1,1}', 'D3': 'X'}, before='/WGPE', m='LABEL', t={'A2': ''})
     macro_sees({'D1': '{ONERROR D3}/FRNONE~', 'D3': '/FRNONE~'}, e=6)
     macro_sees({'D1': '{ONERROR D3}{?}', 'D3': '{LET B1,9}'}, keys='{QUERY}', v={'B1': 9}, m='READY')
@@ -494,8 +506,9 @@ def macros_end():
 
 def macros_take():
     """What LET, GET and questions take."""
-    for e_, t in [('foo', "'foo"), ('5:string', "'5"), ('5:value', '5'), ('1/0', '@ERR'), ('B1', '0'), ('"a,b"', "'a,b"),
-                  ('foo bar:STRING', "'foo bar"), ('"x":string', '\'"x"'), (' foo ', "' foo "), ('1000000000', "'1000000000")]:
+    for e_, t in [('foo', "'foo"), ('5:string', "'5"), ('5:value', '5'), ('1/0', '@ERR'), ('B1', '0'),
+                  ('"a,b"', "'a,b"), ('foo bar:STRING', "'foo bar"), ('"x":string', '\'"x"'), (' foo ', "' foo "),
+                  ('1000000000', "'1000000000")]:
         macro_sees({'D1': '{LET A1,%s}' % e_}, t={'A1': t})
     for key, t in [('a', 'a'), ('~', '~'), ('{~}', '~'), ('{ALT x}', '{ALT X}'), ('{DELETE}', '{DEL}'), ('{u}', '{UP}'),
                    ('{BREAK}', None), ('{UNDO}b', 'b')]:
@@ -561,11 +574,13 @@ def _():
 
 @row('words, notes and displays')
 def _():
-    for words, bad in [(['--count=1'], '--count=1'), (['--file', '-X'], '-X'), (['--file'], '--file'), (['--steps='], ''),
+    for words, bad in [(['--count=1'], '--count=1'), (['--file', '-X'], '-X'), (['--file'], '--file'),
+                       (['--steps='], ''),
                        (['--steps', '01'], '01'), (['--steps', '10000001'], '10000001'), (['--show', 'page'],
                        'page'), (['--'], '--'),
                        (['--steps', '5', '--steps', '6'], '--steps'), (['--gen=3', '--file=X'], '--file=X'), ([''], ''),
-                       (['--file', '--count'], '--count'), (['--step', '5'], '--step'), (['--steps', '0', '--bad'], '0'),
+                       (['--file', '--count'], '--count'), (['--step', '5'], '--step'),
+                       (['--steps', '0', '--bad'], '0'),
                        (['--file', 'A.PRN'], 'A.PRN'), (['--steps', '+5'], '+5')]:
         sees('A', words=words, status=1, k=0, n=['bad word: ' + bad])
     sees('}', words=['--count', '--gen=1'], status=4, n=['rows 1', 'C1 111', 'evaluations 2', 'bad key word at byte 0'])
@@ -585,11 +600,11 @@ def _():
 
 @row('screens')
 def _():
-    for keys, line in [('X' * 100 + '~', 'X' * 72), ('"' + 'X' * 20 + '~', 'X' * 20), ('\\X~', 'X' * 9), ('^AB~', '   AB'),
-                       ('"AB~', '      AB'), ('+"' + 'Y' * 15 + '"~', 'Y' * 15), ('X' * 30 + "~{RIGHT}'~", 'X' * 9),
-                       ('X' * 30 + '~{RIGHT}/RFT~', 'X' * 30), ('{GOTO}B1~9~{HOME}' + 'X' * 30 + '~/WCHB1~', 'X' * 30),
-                       ('/RFH~' + 'X' * 30 + '~', ''), ('X' * 30 + '~{BIGRIGHT}', ''), ('/WCS100~\\AB~', 'AB' * 38),
-                       ('/WCS240~5~', '')]:
+    for keys, line in [('X' * 100 + '~', 'X' * 72), ('"' + 'X' * 20 + '~', 'X' * 20), ('\\X~', 'X' * 9),
+                       ('^AB~', '   AB'), ('"AB~', '      AB'), ('+"' + 'Y' * 15 + '"~', 'Y' * 15),
+                       ('X' * 30 + "~{RIGHT}'~", 'X' * 9), ('X' * 30 + '~{RIGHT}/RFT~', 'X' * 30),
+                       ('{GOTO}B1~9~{HOME}' + 'X' * 30 + '~/WCHB1~', 'X' * 30), ('/RFH~' + 'X' * 30 + '~', ''),
+                       ('X' * 30 + '~{BIGRIGHT}', ''), ('/WCS100~\\AB~', 'AB' * 38), ('/WCS240~5~', '')]:
         sees(keys, l4=('   1' + line).rstrip())
     sees('/RUA1~/RFF2~~/WCS15~/WGPE-5~', l0='A1: (F2) U [W15] -5')
     sees('/RFF2~~/WCS12~/WGPE', l0='A1: (F2) PR [W12]')
