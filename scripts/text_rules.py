@@ -8,6 +8,7 @@ import definitions
 import lemma_rules
 import prose_rules
 import python_rules
+import signature_rules
 
 TOP_FILES = {".gitignore", "1-2-3", "1-2-3-list", "CHANGELOG.md", "HANDLES", "Makefile", "README.md", "VERSION",
              "crates.txt"}
@@ -327,6 +328,7 @@ def main():
     python_rules.check(files, rules.fault)
     texts = texts_of(files)
     lemma_rules.check(texts, rules.fault)
+    signature_rules.check(texts, rules.fault)
     if "--lemmas" in sys.argv[1:]:
         lemma_rules.tell(texts)
     print("\n".join(rules.faults) if rules.faults else "text: fine")

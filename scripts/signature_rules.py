@@ -1,0 +1,63 @@
+"""The rule of signatures: a function takes at most six parameters. `scripts/check_text` says which take more, and which
+of those that may no longer do."""
+import re
+
+MOST_PARAMETERS = 6
+# The functions that aren't held to this yet, by crate; sheet_run's `run` keeps its signature.
+UNMENDED = {
+    "commands_data": "extract_into",
+    "commands_file": "act_named",
+    "commands_range": "push_value",
+    "data_blocks": "try_row try_cell try_rows",
+    "data_query": "push_records extracted_cells fields_extracted extract records_of",
+    "formula_eval": "row_holds chosen listed_value call_value binary_value items_of_records over_column by_column",
+    "macro_text": "word_turn",
+    "macro_words": "command_row counted_row word_row row",
+    "natural_recalc": "evaluate_next further first_pass recalc recalc_in_order recalc_walked recalc_natural"
+                      " recalc_plain recalc_span",
+    "sheet_edits": "write_evaluated",
+    "sheet_run": "run",
+}
+HEAD = re.compile(r"^ *(?:pub(?:\([a-z]+\))? )?(?:(?:const|unsafe|ghost) )*fn (\w+)", re.MULTILINE)
+OPENING, CLOSING = "([{<", ")]}>"
+
+
+def parameters(text, at):
+    """How many parameters the function has whose name ends here: the commas between the brackets, but those deeper."""
+    depth = count = 0
+    is_begun = has_text = False
+    while True:
+        byte = text[at]
+        is_arrow = byte == ">" and text[at - 1] in "-="
+        if byte in CLOSING and not is_arrow:
+            depth -= 1
+            if is_begun and depth == 0:
+                return count + has_text
+        elif is_begun and depth == 1 and byte == ",":
+            count, has_text = count + 1, False
+        elif is_begun and not byte.isspace():
+            has_text = True
+        if byte in OPENING:
+            is_begun = is_begun or byte == "(" and depth == 0
+            depth += 1
+        at += 1
+
+
+def check(texts, fault):
+    """Tells each function with more parameters, and each that is exempt and has no more."""
+    left = {(crate, name) for crate, names in UNMENDED.items() for name in names.split()}
+    seen = set()
+    for file, text in texts.items():
+        if not file.endswith(".rt"):
+            continue
+        code = re.sub(r"//[^\n]*", "", text)
+        for head in HEAD.finditer(code):
+            many = parameters(code, head.end())
+            if many <= MOST_PARAMETERS:
+                continue
+            own = file.split("/")[1], head[1]
+            seen.add(own)
+            if own not in left:
+                fault(f"{file}:{code.count(chr(10), 0, head.start()) + 1}: {head[1]} takes {many} parameters")
+    for crate, name in sorted(left - seen):
+        fault(f"scripts/signature_rules.py: {name} of {crate} takes no more than {MOST_PARAMETERS} parameters now")
