@@ -12,3 +12,10 @@ invariant_of-self g c =
     let meaning : IsMeaning mean = record { reads = g.met.E.Means.reads_alone } in
     kept_same mean meaning c.self.inside.graph c.self.inside.store c.recalc_span.new.store c.self.inside.dirty.keys c.self.inside.dirty.keys c.self.inside.settings.order (context_of c.self.inside.names c.self.inside.settings c.args.scene.now)
     c.recalc_span.ensures.contents (matches_on c.self.inside.graph c.self.inside.store c.recalc_span.new.store c.recalc_span.ensures.contents c.self.invariant.matches) c.recalc_span.ensures.sound refl c.self.invariant
+
+pub invariant_of-self-2 : goal.invariant_of-self-2
+invariant_of-self-2 g c =
+    let mean : Meaning = g.E.Means.meaning in
+    let meaning : IsMeaning mean = record { reads = g.met.E.Means.reads_alone } in
+    kept_same mean meaning c.self.inside.graph c.self.inside.store c.recalc_span.new.store c.self.inside.dirty.keys c.self.inside.dirty.keys c.self.inside.settings.order (context_of c.self.inside.names c.self.inside.settings c.args.scene.now)
+    c.recalc_span.ensures.contents (matches_on c.self.inside.graph c.self.inside.store c.recalc_span.new.store c.recalc_span.ensures.contents c.self.invariant.matches) c.recalc_span.ensures.sound refl c.self.invariant
