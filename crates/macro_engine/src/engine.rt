@@ -6,11 +6,12 @@ ghost use Rattle.macro_engine.specs.Catching.{HasCaught};
 ghost use Rattle.macro_engine.specs.Keys as keys;
 ghost use Rattle.macro_engine.specs.Steps as spec;
 ghost use Rattle.macro_engine.specs.Steps.{HasStepped};
+ghost use Rattle.macro_engine.specs.inner.Outcomes.{left_running};
 ghost use Rattle.macro_words.specs.Moves.{begun_at};
 ghost use Rattle.work_sheet.specs.Seen.{of_worksheet};
 
 use crate::catching::caught;
-use crate::steps::{StepEnd, deed_stepped, key_stepped, stepped};
+use crate::steps::{Outcome, StepEnd, deed_stepped, key_stepped, stepped};
 use formula_eval::{Scene, Tally};
 use grid_address::Cell;
 use key_words::{Key, Letter};
@@ -154,6 +155,15 @@ impl Engine {
         }
     }
 
+    // The macro stops behind a step, unless it goes on.
+    fn end_unless(&mut self, goes_on: bool)
+        ensures { self.new ≡ left_running goes_on self.old }
+    {
+        if !goes_on {
+            self.stop();
+        }
+    }
+
     /// One step of the macro that runs: its next unit, by the text as it now stands, is carried out. A key is typed by
     /// the caller, as by hand. In Automatic mode a recalculation follows a word that writes cells. A fault stops the
     /// macro and leaves the sheet as it was; its cell is that of the word at fault. Where a cell that is to be written
@@ -172,12 +182,19 @@ impl Engine {
             (λ end. HasStepped step end self.new sheet.old sheet.new tally.old.count tally.new.count) }
         ensures memory { OnErr result (self.new ≡ None) }
     {
-        let Some(running) = self.running.take() else {
+        let Some(running) = &mut self.running else {
             return Ok(StepEnd::Works);
         };
-        let (end, next) = stepped(running, &mut self.kept, sheet, scene, tally)?;
-        self.running = next;
-        Ok(end)
+        match stepped(running, &mut self.kept, sheet, scene, tally) {
+            Ok(Outcome { end, goes_on }) => {
+                self.end_unless(goes_on);
+                Ok(end)
+            }
+            Err(Memory) => {
+                self.stop();
+                Err(Memory)
+            }
+        }
     }
 
     /// A key that the macro takes which waits for one, by the sheet as it now stands: a row of the words that wait.
@@ -196,12 +213,19 @@ impl Engine {
             (λ end. HasStepped step end self.new sheet.old sheet.new tally.old.count tally.new.count) }
         ensures memory { OnErr result (self.new ≡ None) }
     {
-        let Some(running) = self.running.take() else {
+        let Some(running) = &mut self.running else {
             return Ok(StepEnd::Works);
         };
-        let (end, next) = key_stepped(running, key, sheet, scene, tally)?;
-        self.running = next;
-        Ok(end)
+        match key_stepped(running, key, sheet, scene, tally) {
+            Ok(Outcome { end, goes_on }) => {
+                self.end_unless(goes_on);
+                Ok(end)
+            }
+            Err(Memory) => {
+                self.stop();
+                Err(Memory)
+            }
+        }
     }
 
     /// The macro that runs does a deed, behind a step that asked for something of a text file: in Automatic mode a
@@ -220,13 +244,20 @@ impl Engine {
             IfOk result (λ end. HasStepped step end self.new sheet.old sheet.new tally.old.count tally.new.count) }
         ensures memory { OnErr result (self.new ≡ None) }
     {
-        let Some(running) = self.running.take() else {
+        let Some(running) = &mut self.running else {
             drop(deed);
             return Ok(StepEnd::Works);
         };
-        let (end, next) = deed_stepped(running, deed, sheet, scene, tally)?;
-        self.running = next;
-        Ok(end)
+        match deed_stepped(running, deed, sheet, scene, tally) {
+            Ok(Outcome { end, goes_on }) => {
+                self.end_unless(goes_on);
+                Ok(end)
+            }
+            Err(Memory) => {
+                self.stop();
+                Err(Memory)
+            }
+        }
     }
 
     /// Meets an error with this message. Where the macro has a place for errors, it goes on there, in its calls and

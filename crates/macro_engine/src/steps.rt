@@ -1,8 +1,11 @@
 // One step of a macro that runs.
-ghost use Rattle.std.specs.Prelude.{◌≡◌, IfOk, Some};
+ghost use Rattle.std.specs.Prelude.{◌≡◌, false, true, IfOk, Some};
 ghost use Rattle.macro_engine.specs.Keys as keys;
 ghost use Rattle.macro_engine.specs.Steps as spec;
 ghost use Rattle.macro_engine.specs.Steps.{HasStepped};
+ghost use Rattle.macro_engine.specs.inner.Outcomes.{left_running};
+ghost use Rattle.macro_engine.specs.declared.steps.StepEnd.TheVariants as end;
+ghost use Rattle.macro_text.specs.declared.unit.Unit.TheVariants as units;
 ghost use Rattle.macro_words.specs.Moves as moving;
 ghost use Rattle.work_sheet.specs.Seen.{of_worksheet};
 
@@ -11,7 +14,7 @@ use formula_eval::{Scene, Tally};
 use grid_address::Cell;
 use key_words::Key;
 use lics_text::{Memory, Text};
-use macro_text::{KeptWords, MacroFault, Position, Unit, next_unit};
+use macro_text::{KeptWords, MacroFault, Spot, Unit, next_unit};
 use macro_words::{Change, Deed, FileDeed, Move, Row, Running, Waiting, key_row, return_row, row};
 use std::mem;
 use work_sheet::Sheet;
@@ -49,18 +52,38 @@ impl StepEnd {
     }
 }
 
-// What a step comes to, and the macro behind it.
-type Stepped = (StepEnd, Option<Running>);
+/// What a step came to, and whether the macro goes on.
+#[derive(Drop)]
+pub struct Outcome {
+    pub end: StepEnd,
+    pub goes_on: bool,
+}
 
-// The macro that was moved, if it goes on.
-fn moved(mut running: Running, after: Move) -> Result<Option<Running>, Memory>
-    ensures { IfOk result (λ r. r ≡ moving.moved after running) }
+// A step came to this, and the macro goes on.
+fn going_on(end: StepEnd) -> Outcome
+    ensures { result ≡ record { end = end; goes_on = true } }
+{
+    Outcome { end, goes_on: true }
+}
+
+// A fault of the word in this cell stops the macro.
+fn faulty(fault: MacroFault, cell: Cell) -> Outcome
+    ensures { result ≡ record { end = end.Faulty fault cell; goes_on = false } }
+{
+    Outcome {
+        end: StepEnd::Faulty(fault, cell),
+        goes_on: false,
+    }
+}
+
+// Moves the macro; the answer tells whether it goes on.
+fn moved(running: &mut Running, after: Move) -> Result<bool, Memory>
+    ensures { IfOk result (λ goes_on. left_running goes_on (Some running.new) ≡ moving.moved after running.old) }
 {
     if running.make(after)? {
-        Ok(Some(running))
+        Ok(true)
     } else {
-        drop(running);
-        Ok(None)
+        Ok(false)
     }
 }
 
@@ -74,27 +97,35 @@ fn worked(change: &Change) -> StepEnd
     }
 }
 
-// What a word comes to that was carried out, and the macro behind it.
-fn done(running: Running, change: &Change, after: Move) -> Result<Stepped, Memory>
-    ensures { IfOk result (λ x. (x.0 ≡ spec.ended change.now after) × (x.1 ≡ moving.moved after running)) }
+// What a word comes to that was carried out, and whether the macro goes on, which it moves.
+fn done(running: &mut Running, change: &Change, after: Move) -> Result<Outcome, Memory>
+    ensures { IfOk result (λ x. (x.end ≡ spec.ended change.now after)
+        × (left_running x.goes_on (Some running.new) ≡ moving.moved after running.old)) }
 {
     match after {
-        Move::Indicate(text) => Ok((StepEnd::Indicates(text), Some(running))),
-        Move::Files(deed) => Ok((StepEnd::Files(deed), Some(running))),
-        _ => Ok((worked(change), moved(running, after)?)),
+        Move::Indicate(text) => Ok(going_on(StepEnd::Indicates(text))),
+        Move::Files(deed) => Ok(going_on(StepEnd::Files(deed))),
+        _ => {
+            let goes_on = moved(running, after)?;
+            Ok(Outcome {
+                end: worked(change),
+                goes_on,
+            })
+        }
     }
 }
 
-/// A deed of a macro that runs: what it comes to, and the macro behind it.
+/// A deed of a macro that runs: what it comes to, and whether the macro goes on, which it moves.
 pub fn deed_stepped(
-    running: Running,
+    running: &mut Running,
     deed: Deed,
     sheet: &mut Sheet,
     scene: &Scene,
     tally: &mut Tally,
-) -> Result<Stepped, Memory>
-    ensures { let step = spec.deed_step scene.entry.now running deed (of_worksheet sheet.old) in
-        IfOk result (λ x. HasStepped step x.0 x.1 sheet.old sheet.new tally.old.count tally.new.count) }
+) -> Result<Outcome, Memory>
+    ensures { let step = spec.deed_step scene.entry.now running.old deed (of_worksheet sheet.old) in
+        IfOk result (λ x. HasStepped step x.end (left_running x.goes_on (Some running.new))
+        sheet.old sheet.new tally.old.count tally.new.count) }
 {
     let Deed { change, after } = deed;
     let refused = carry_out(&change, sheet, scene, tally)?;
@@ -102,7 +133,7 @@ pub fn deed_stepped(
         Some(cell) => {
             drop(change);
             drop(after);
-            Ok((StepEnd::Refused(cell), Some(running)))
+            Ok(going_on(StepEnd::Refused(cell)))
         }
         None => {
             let stepped = done(running, &change, after);
@@ -114,22 +145,20 @@ pub fn deed_stepped(
 
 // The row of the word in a cell.
 fn row_stepped(
-    running: Running,
+    running: &mut Running,
     cell: Cell,
     row: Row,
     sheet: &mut Sheet,
     scene: &Scene,
     tally: &mut Tally,
-) -> Result<Stepped, Memory>
-    ensures { let step = spec.row_step scene.entry.now running cell row (of_worksheet sheet.old) in
-        IfOk result (λ x. HasStepped step x.0 x.1 sheet.old sheet.new tally.old.count tally.new.count) }
+) -> Result<Outcome, Memory>
+    ensures { let step = spec.row_step scene.entry.now running.old cell row (of_worksheet sheet.old) in
+        IfOk result (λ x. HasStepped step x.end (left_running x.goes_on (Some running.new))
+        sheet.old sheet.new tally.old.count tally.new.count) }
 {
     match row {
         Ok(deed) => deed_stepped(running, deed, sheet, scene, tally),
-        Err(fault) => {
-            drop(running);
-            Ok((StepEnd::Faulty(fault, cell), None))
-        }
+        Err(fault) => Ok(faulty(fault, cell)),
     }
 }
 
@@ -140,89 +169,95 @@ fn cell_of(running: &Running) -> Cell
     running.position.spot.cell
 }
 
+// The command, or the call, whose word stands at a place. The macro stands behind it already.
+fn command_stepped(
+    running: &mut Running,
+    at: &Spot,
+    kept: &mut KeptWords,
+    sheet: &mut Sheet,
+    scene: &Scene,
+    tally: &mut Tally,
+) -> Result<Outcome, Memory>
+    ensures { let step = spec.unit_step scene.entry.now running.old (units.Command at.now) (of_worksheet sheet.old) in
+        IfOk result (λ x. HasStepped step x.end (left_running x.goes_on (Some running.new))
+        sheet.old sheet.new tally.old.count tally.new.count) }
+{
+    let global = sheet.settings().format;
+    let row = row(sheet.alloc(), sheet, scene, global, running, kept, at)?;
+    row_stepped(running, at.cell, row, sheet, scene, tally)
+}
+
+// The return to the caller, or the macro's end.
+fn return_stepped(
+    running: &mut Running,
+    sheet: &mut Sheet,
+    scene: &Scene,
+    tally: &mut Tally,
+) -> Result<Outcome, Memory>
+    ensures { let step = spec.unit_step scene.entry.now running.old units.Return (of_worksheet sheet.old) in
+        IfOk result (λ x. HasStepped step x.end (left_running x.goes_on (Some running.new))
+        sheet.old sheet.new tally.old.count tally.new.count) }
+{
+    let cell = cell_of(running);
+    let row = return_row(sheet.alloc(), sheet, scene, running)?;
+    row_stepped(running, cell, row, sheet, scene, tally)
+}
+
 // A unit of the macro, which stands behind it already.
 fn unit_stepped(
-    running: Running,
+    running: &mut Running,
     unit: &Unit,
     kept: &mut KeptWords,
     sheet: &mut Sheet,
     scene: &Scene,
     tally: &mut Tally,
-) -> Result<Stepped, Memory>
-    ensures { let step = spec.unit_step scene.entry.now running unit.now (of_worksheet sheet.old) in
-        IfOk result (λ x. HasStepped step x.0 x.1 sheet.old sheet.new tally.old.count tally.new.count) }
+) -> Result<Outcome, Memory>
+    ensures { let step = spec.unit_step scene.entry.now running.old unit.now (of_worksheet sheet.old) in
+        IfOk result (λ x. HasStepped step x.end (left_running x.goes_on (Some running.new))
+        sheet.old sheet.new tally.old.count tally.new.count) }
 {
     match unit {
-        Unit::Key(key) => Ok((StepEnd::Types(*key), Some(running))),
-        Unit::Command(at) => {
-            let global = sheet.settings().format;
-            let row = row(sheet.alloc(), sheet, scene, global, &running, kept, at)?;
-            row_stepped(running, at.cell, row, sheet, scene, tally)
-        }
-        Unit::Down => Ok((StepEnd::Moves, Some(running))),
-        Unit::Return => {
-            let cell = cell_of(&running);
-            let row = return_row(sheet.alloc(), sheet, scene, &running)?;
-            row_stepped(running, cell, row, sheet, scene, tally)
-        }
-        Unit::Fault(fault) => {
-            let cell = cell_of(&running);
-            drop(running);
-            Ok((StepEnd::Faulty(*fault, cell), None))
-        }
+        Unit::Key(key) => Ok(going_on(StepEnd::Types(*key))),
+        Unit::Command(at) => command_stepped(running, at, kept, sheet, scene, tally),
+        Unit::Down => Ok(going_on(StepEnd::Moves)),
+        Unit::Return => return_stepped(running, sheet, scene, tally),
+        Unit::Fault(fault) => Ok(faulty(*fault, cell_of(running))),
     }
 }
 
-// The macro goes on at a position.
-fn placed(running: Running, position: Position) -> Running
-    ensures { result ≡ spec.placed running position }
-{
-    let Running {
-        position: _,
-        frames,
-        handler,
-        waiting,
-        switches,
-    } = running;
-    Running {
-        position,
-        frames,
-        handler,
-        waiting,
-        switches,
-    }
-}
-
-/// One step of a macro that runs: what it comes to, and the macro behind it.
+/// One step of a macro that runs, which it moves: what it comes to, and whether the macro goes on.
 #[tactic(auto, unfolding(crate::specs::Steps::macro_step))]
 pub fn stepped(
-    running: Running,
+    running: &mut Running,
     kept: &mut KeptWords,
     sheet: &mut Sheet,
     scene: &Scene,
     tally: &mut Tally,
-) -> Result<Stepped, Memory>
-    ensures { let step = spec.macro_step scene.entry.now (Some running) (of_worksheet sheet.old) in
-        IfOk result (λ x. HasStepped step x.0 x.1 sheet.old sheet.new tally.old.count tally.new.count) }
+) -> Result<Outcome, Memory>
+    ensures { let step = spec.macro_step scene.entry.now (Some running.old) (of_worksheet sheet.old) in
+        IfOk result (λ x. HasStepped step x.end (left_running x.goes_on (Some running.new))
+        sheet.old sheet.new tally.old.count tally.new.count) }
 {
     let (unit, position) = next_unit(sheet.alloc(), sheet, scene, kept, &running.position)?;
-    unit_stepped(placed(running, position), &unit, kept, sheet, scene, tally)
+    running.position = position;
+    unit_stepped(running, &unit, kept, sheet, scene, tally)
 }
 
-/// A key that a macro takes which waits: what it comes to, and the macro behind it.
+/// A key that a macro takes which waits, which it moves: what it comes to, and whether the macro goes on.
 #[tactic(auto, unfolding(crate::specs::Keys::key_step))]
 pub fn key_stepped(
-    mut running: Running,
+    running: &mut Running,
     key: Key,
     sheet: &mut Sheet,
     scene: &Scene,
     tally: &mut Tally,
-) -> Result<Stepped, Memory>
-    ensures { let step = keys.key_step scene.entry.now key (Some running) (of_worksheet sheet.old) in
-        IfOk result (λ x. HasStepped step x.0 x.1 sheet.old sheet.new tally.old.count tally.new.count) }
+) -> Result<Outcome, Memory>
+    ensures { let step = keys.key_step scene.entry.now key (Some running.old) (of_worksheet sheet.old) in
+        IfOk result (λ x. HasStepped step x.end (left_running x.goes_on (Some running.new))
+        sheet.old sheet.new tally.old.count tally.new.count) }
 {
     let waiting = mem::replace(&mut running.waiting, Waiting::Nothing);
-    let cell = cell_of(&running);
-    let row = key_row(sheet.alloc(), sheet, scene, &running, waiting, key)?;
+    let cell = cell_of(running);
+    let row = key_row(sheet.alloc(), sheet, scene, running, waiting, key)?;
     row_stepped(running, cell, row, sheet, scene, tally)
 }
