@@ -146,17 +146,37 @@ impl Machine {
         }
     }
 
+    // Paints lines of the screen with the panel of the macro's line or menu, or else of the room.
+    fn paint_shown(&self, lines: &LineSet, shown: &mut Screen)
+        requires { Unchanged lines.now shown.old (screen self.now.state) }
+        ensures { shown.new ≡ screen self.now.state }
+    {
+        self.paint_with(PanelView::of(&self.shown_panel()), lines, shown);
+    }
+
+    // Paints lines of the screen, of which there are some.
+    fn paint_some(&self, lines: &LineSet, shown: &mut Screen)
+        requires { Unchanged lines.now shown.old (screen self.now.state) }
+        ensures { shown.new ≡ screen self.now.state }
+    {
+        match self.plain_view() {
+            Some(view) => self.paint_with(view, lines, shown),
+            None => self.paint_shown(lines, shown),
+        }
+    }
+
     /// Paints the lines of a set over a screen that has the others in common with the session's.
     pub fn paint_lines(&self, lines: &LineSet, shown: &mut Screen)
         requires { Unchanged lines.now shown.old (screen self.now.state) }
         ensures { HasShown self.now.state shown.new }
     {
-        // It is called for its clause.
+        // Both are called for their clauses.
         self.frozen.is_printed();
-        match self.plain_view() {
-            Some(view) => self.paint_with(view, lines, shown),
-            None => self.paint_with(PanelView::of(&self.shown_panel()), lines, shown),
+        shown.is_whole();
+        if lines.next_from(0) > 24 {
+            return;
         }
+        self.paint_some(lines, shown);
     }
 
     /// The screen, painted from nothing.
