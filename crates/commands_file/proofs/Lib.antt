@@ -1,5 +1,6 @@
 pub mod Broken
 pub mod Ended
 pub mod Leaving
+pub mod OneAnswer
 pub mod Placing
 pub mod Sound

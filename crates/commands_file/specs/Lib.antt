@@ -1,3 +1,4 @@
+pub mod Alike
 pub mod Calls
 pub mod Combined
 pub mod Commands
