@@ -7,6 +7,10 @@ pub mod Few
 pub mod Held
 pub mod Kept
 pub mod Looking
+pub mod OneCommand
+pub mod OneOutcome
+pub mod OneResult
+pub mod OneServing
 pub mod Prefixed
 pub mod Reports
 pub mod Settled

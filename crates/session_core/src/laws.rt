@@ -1,13 +1,28 @@
 // What the definition of commands tells.
 ghost use Rattle.std.specs.Prelude.{◌≡◌, ℕ, false, List};
 ghost use Rattle.command_desk.specs.Desks.{Desk};
-ghost use Rattle.commands_file.specs.Calls.{Reply};
+ghost use Rattle.commands_file.specs.Alike.{HoldAlike};
+ghost use Rattle.commands_file.specs.Calls.{Reply, ShelfView};
 ghost use Rattle.formula_eval.specs.declared.look.Scene.{Scene};
 ghost use Rattle.menu_tree.specs.declared.menu.Action.{Action};
+ghost use Rattle.serial_date.specs.declared.moment.Moment.{Moment};
 ghost use Rattle.session_core.specs.Act.{act, is_print};
+ghost use Rattle.session_core.specs.Machine.{Replies, State};
+ghost use Rattle.session_core.specs.Step.{step};
+ghost use Rattle.session_core.specs.Unfailing.{WereAnswered};
+ghost use Rattle.session_core.specs.declared.event.Event.{Event};
 
 /// No command but those below Print changes what is kept for reports. Nothing is done here: the contract says it.
 pub fn only_print_changes_what_reports_need()
     ensures { (a : Action) (answers : List (List ℕ)) (scene : Scene) (d : Desk) (reply : Reply) → is_print a ≡ false →
         (act a answers scene d reply).acted.desk.print ≡ d.print }
+{}
+
+/// A step has one outcome, where no call of the shelf fails: a key or a macro's unit, the moment, the state, and the
+/// files that the shelf holds tell the next state, what happened in the sheet, whether the run ends, the calls that are
+/// made with their answers, and the files that these leave. Nothing is done here: the contract says it.
+pub fn a_step_has_one_outcome()
+    ensures { (event : Event) (now : Moment) (s : State) (one other : Replies) (a b c d : ShelfView) → HoldAlike a b →
+        WereAnswered (step event now one s).calls a c → WereAnswered (step event now other s).calls b d →
+        (step event now one s ≡ step event now other s) × HoldAlike c d }
 {}
