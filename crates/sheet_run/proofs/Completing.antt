@@ -64,7 +64,7 @@ any_length [] e = refl
 any_length (d ∷ ds) e = absurd (omega (arith, e))
 
 -- all keys of the words up to the last one are these, and those that are left of it
-into_all : (bytes : List ℕ) (keys : List Key) (key : Key) (left : ℕ) → (i : IntoLast bytes keys key left) → pressed (i.words ++ (key, i.done + left) ∷ []) ≡ keys ++ replicate left key
+pub into_all : (bytes : List ℕ) (keys : List Key) (key : Key) (left : ℕ) → (i : IntoLast bytes keys key left) → pressed (i.words ++ (key, i.done + left) ∷ []) ≡ keys ++ replicate left key
 into_all bytes keys key left i =
     pressed_more i.words key (i.done + left) ∙ ap (λ (l : List Key). pressed i.words ++ l) (sym (replicate-append-replicate i.done left key))
     ∙ sym (append_assoc (pressed i.words) (replicate i.done key) (replicate left key)) ∙ ap (λ (l : List Key). l ++ replicate left key) (sym i.keys_are)
@@ -215,7 +215,7 @@ rose_by : (reply : Reply) (a b : ℕ) → reply ≡ call_failed → IsCounted re
 rose_by reply a b is counted = (subst (λ (r : Reply). IsCounted r a b) is counted).1
 
 -- where it didn't rise, no call failed
-none_failed : (calls : List Asked) (a b : ShelfView) → HaveAnswered calls a b → (Rose a.faults b.faults → ⊥) → NoneFailed calls
+pub none_failed : (calls : List Asked) (a b : ShelfView) → HaveAnswered calls a b → (Rose a.faults b.faults → ⊥) → NoneFailed calls
 none_failed [] a b same fine = tt
 none_failed (k ∷ ks) a b (middle, was, later) fine = (
   λ is. fine (rose_later a.faults middle.faults b.faults (rose_by k.reply a.faults middle.faults is was.faults) (counts_on ks middle b later)),

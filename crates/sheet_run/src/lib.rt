@@ -5,6 +5,7 @@
 mod displays;
 mod drive;
 mod key_feed;
+mod laws;
 mod notes;
 mod opening;
 mod options;
@@ -12,5 +13,6 @@ mod outside;
 mod runs;
 mod words;
 
+pub use laws::a_run_has_one_outcome;
 pub use runs::{a_run_ends_well, run};
 pub use words::Words;
