@@ -19,3 +19,4 @@ pub mod Stepping
 pub mod Still
 pub mod TextFiles
 pub mod Touching
+pub mod TypedOn

@@ -14,3 +14,4 @@ pub mod Step
 pub mod Touches
 pub mod Unfailing
 pub mod Waiting
+pub mod inner

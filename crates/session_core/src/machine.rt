@@ -21,14 +21,15 @@ ghost use Rattle.work_sheet.specs.Did.{work_of};
 mod painting;
 mod refusing;
 mod text_files;
+mod typing;
 
 use crate::acting::act;
 use crate::entering::{Meant, meaning_of};
 use crate::event::Event;
 use crate::faults::fault_message;
 use crate::frozen::Frozen;
-use crate::pressing::turn_of;
-use crate::refusal::{Refusal, key_refused};
+use crate::pressing::is_line_typed;
+use crate::refusal::Refusal;
 use crate::rows::{ROWS, insert_cells, insert_row};
 use crate::touched::{Taken, Touched};
 use cell_pointer::{Way, moved};
@@ -55,7 +56,6 @@ use serial_date::Moment;
 use session_rooms::{AnsweredCommand, Answering, PromptRoom, Room, Turn, TypingMode, TypingRoom};
 use sheet_store::{Settings, SheetFault};
 use std::marker::Model;
-use std::mem;
 use text_channel::Channel;
 
 const HOME: Cell = Cell { row: 0, col: 0 };
@@ -544,12 +544,13 @@ impl Machine {
             IsMoved (sheet_of self.old.state) (sheet_of self.new.state) }
         ensures touched { IfOk result (λ t. HasTouched t.touched self.old.state self.new.state) }
     {
-        let end = self.end;
-        let room = mem::replace(&mut self.room, Room::Ready);
-        self.end = false;
-        self.refusal = key_refused(&key, &room);
-        let turn = turn_of(key, room, end, &self.desk)?;
-        self.carry(turn, now, shelf)
+        match key {
+            Key::Byte(byte) if is_line_typed(&self.room) => {
+                self.type_byte(byte);
+                Ok(UNTOUCHED)
+            }
+            _ => self.take_turn(key, now, shelf),
+        }
     }
 
     // A text stands in the mode's place.

@@ -3,13 +3,14 @@ ghost use Rattle.std.specs.Prelude.{◌≡◌, IfOk, IfSome, IsOk};
 ghost use Rattle.command_desk.specs.Desks.{of_desk};
 ghost use Rattle.screen_layout.specs.Views.{viewed};
 ghost use Rattle.session_core.specs.Glances.{plain_mode};
+ghost use Rattle.session_core.specs.inner.Typing.{is_line_typed, with_byte};
 ghost use Rattle.session_core.specs.Moving.{KeepsNoAnswer, TakesNoMemory};
 ghost use Rattle.session_core.specs.Pressing.{pressed, room_panel, turn_of};
 
 use command_desk::Desk;
 use control_panel::{Mode, Panel};
 use key_words::Key;
-use lics_text::Memory;
+use lics_text::{Memory, TextByte};
 use screen_layout::PanelView;
 use session_rooms::{Room, Turn};
 use typing_room::told_mode;
@@ -40,6 +41,30 @@ pub(crate) fn turn_of(key: Key, room: Room, end: bool, desk: &Desk) -> Result<Tu
     match key {
         Key::Break => Ok(Turn::Become(Room::Ready)),
         _ => pressed(room, key, end, desk),
+    }
+}
+
+/// Whether a line is typed into a cell.
+pub(crate) fn is_line_typed(room: &Room) -> bool
+    ensures { result ≡ is_line_typed room.now }
+{
+    match room {
+        Room::Typing(_) => true,
+        Room::Ready | Room::Pointing(_) | Room::Menu(_) | Room::Asking(_) | Room::Failed(_) => {
+            false
+        }
+    }
+}
+
+/// A byte goes into the line that is typed into a cell; any other room stays.
+pub(crate) fn type_byte(byte: TextByte, room: &mut Room)
+    ensures { room.new ≡ with_byte byte room.old }
+{
+    match room {
+        Room::Typing(room) => {
+            let _ = room.line.key(Key::Byte(byte));
+        }
+        Room::Ready | Room::Pointing(_) | Room::Menu(_) | Room::Asking(_) | Room::Failed(_) => {}
     }
 }
 

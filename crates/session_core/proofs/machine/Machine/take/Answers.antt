@@ -1,6 +1,9 @@
-use Rattle.commands_file.proofs.Broken.{none_broken, on_err}
+use Rattle.std.proofs.Common.{rules}
+use Rattle.session_core.proofs.TypedOn.{byte_over}
 use Rattle.session_core.proofs.machine.Machine.take.Goals as goal
 
--- no call was made of the shelf
-pub returns-in_err-turn-clause-memory : goal.returns-in_err-turn-clause-memory
-returns-in_err-turn-clause-memory g c = on_err _ (none_broken _ _)
+-- a byte goes into the line that is typed
+pub returns-in-Byte-clause-ok : goal.returns-in-Byte-clause-ok
+returns-in-Byte-clause-ok g c =
+    rw c.in-Byte.is (byte_over c.in-Byte.byte c.args.now.now c.args.self.now c.type_byte.new.self _ (search rules)
+    c.type_byte.ensures.state c.type_byte.ensures.work)

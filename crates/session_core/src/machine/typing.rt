@@ -1,0 +1,59 @@
+// How a key is taken.
+ghost use Rattle.std.specs.Prelude.{◌≡◌, false, IfOk, IsOk, OnErr};
+ghost use Rattle.commands_file.specs.Calls.{shelf_view, HasBrokenOff};
+ghost use Rattle.session_core.specs.Machine.{sheet_of, LeadsOver};
+ghost use Rattle.session_core.specs.Moving.{IsMoved, OnlyMovesByKey};
+ghost use Rattle.session_core.specs.Step.{taken};
+ghost use Rattle.session_core.specs.Touches.{HasTouched};
+ghost use Rattle.session_core.specs.inner.Typing.{typed_on};
+
+use super::Machine;
+use crate::pressing::{turn_of, type_byte};
+use crate::refusal::{Refusal, key_refused};
+use crate::touched::Taken;
+use key_words::Key;
+use lics_text::{Memory, TextByte};
+use outside_world::Shelf;
+use serial_date::Moment;
+use session_rooms::Room;
+use std::mem;
+
+impl Machine {
+    /// A byte goes into the line that is typed.
+    pub(super) fn type_byte(&mut self, byte: TextByte)
+        ensures state { self.new.state ≡ typed_on byte self.old.state }
+        ensures work { self.new.work ≡ self.old.work }
+        ensures sheet { IsMoved (sheet_of self.old.state) (sheet_of self.new.state) }
+    {
+        type_byte(byte, &mut self.room);
+        self.end = false;
+        self.refusal = Refusal::Nothing;
+    }
+
+    /// Takes a key as a turn of what the session is doing.
+    pub(super) fn take_turn<S: Shelf>(
+        &mut self,
+        key: Key,
+        now: &Moment,
+        shelf: &mut S,
+    ) -> Result<Taken, Memory>
+        ensures ok { IfOk result (λ t. LeadsOver (taken key) now.now t.ends self.old self.new
+            (shelf_view (S.holds shelf.old) (S.faults shelf.old))
+            (shelf_view (S.holds shelf.new) (S.faults shelf.new))) }
+        ensures memory { OnErr result (HasBrokenOff
+            (shelf_view (S.holds shelf.old) (S.faults shelf.old))
+            (shelf_view (S.holds shelf.new) (S.faults shelf.new))) }
+        ensures moves { OnlyMovesByKey key self.old.state → IsOk result }
+        ensures stays { OnlyMovesByKey key self.old.state → IfOk result (λ t. t.ends ≡ false) }
+        ensures sheet { OnlyMovesByKey key self.old.state →
+            IsMoved (sheet_of self.old.state) (sheet_of self.new.state) }
+        ensures touched { IfOk result (λ t. HasTouched t.touched self.old.state self.new.state) }
+    {
+        let end = self.end;
+        let room = mem::replace(&mut self.room, Room::Ready);
+        self.end = false;
+        self.refusal = key_refused(&key, &room);
+        let turn = turn_of(key, room, end, &self.desk)?;
+        self.carry(turn, now, shelf)
+    }
+}
