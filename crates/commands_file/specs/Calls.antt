@@ -1,5 +1,5 @@
 -- The calls that commands make of the shelf of files, and what it answers.
-use Rattle.std.specs.Prelude.{◌≡◌, ◌≤◌, ℕ, Bool, List, [], ◌∷◌, Option, None, Some, Result, Ok, Err}
+use Rattle.std.specs.Prelude.{◌≡◌, ◌≤◌, ◌⊎◌, ℕ, Bool, List, [], ◌∷◌, Option, None, Some, Result, Ok, Err}
 use Rattle.outside_world.specs.Causes.{Rose}
 use Rattle.outside_world.specs.Shelf.{file_in, has_file, HasPut, HasRead, HasRemoved, OnShelf}
 use Rattle.outside_world.specs.declared.faults.ShelfFault.TheVariants.{Failed}
@@ -70,14 +70,32 @@ abbrev pub HaveAnswered : List Asked → ShelfView → ShelfView → Type 0
 HaveAnswered [] before now = now ≡ before
 HaveAnswered (a ∷ later) before now = (middle : ShelfView) × HasAnswered a before middle × HaveAnswered later middle now
 
--- no file but one may have changed
-abbrev pub KeepsOthers : Option OnShelf → Option OnShelf → Type 0
-KeepsOthers None now = now ≡ None
-KeepsOthers (Some s) now =
-    (t : OnShelf) × (name : List ℕ) × (now ≡ Some t)
-    × ((other : List ℕ) → (other ≡ name → ⊥) → file_in other t.files ≡ file_in other s.files)
+-- the call writes the file of this name
+abbrev pub Writes : ShelfCall → List ℕ → Type 0
+Writes (puts file bytes) name = name ≡ file
+Writes call name = ⊥
 
--- memory ran out in a command: no file but the one that it writes or takes away may have changed
-pub record HasBrokenOff (before now : ShelfView) : Type 0 where
-  pub told : KeepsOthers before.told now.told
-  pub faults : before.faults ≤ now.faults
+-- no file has changed but one that the call writes
+abbrev pub KeepsUnwritten : ShelfCall → Option OnShelf → Option OnShelf → Type 0
+KeepsUnwritten call None now = now ≡ None
+KeepsUnwritten call (Some s) now =
+    (t : OnShelf) × (now ≡ Some t)
+    × ((name : List ℕ) → (Writes call name → ⊥) → file_in name t.files ≡ file_in name s.files)
+
+-- memory ran out in a call, or before it
+pub record IsUnfinished (call : ShelfCall) (before now : ShelfView) : Type 0 where
+  pub told : KeepsUnwritten call before.told now.told
+  pub faults : now.faults ≡ before.faults
+
+-- Memory ran out where these calls are made: the first of them were answered, one behind the other, and then it ran
+-- out in the next one or before it. No other call was made.
+abbrev pub HaveBrokenOff : List Asked → ShelfView → ShelfView → Type 0
+HaveBrokenOff [] before now = now ≡ before
+HaveBrokenOff (a ∷ later) before now =
+    IsUnfinished a.call before now
+    ⊎ ((middle : ShelfView) × HasAnswered a before middle × HaveBrokenOff later middle now)
+
+-- Memory ran out where the calls are made that hang on what the shelf answers, over some answers.
+pub record HasBrokenOver {A : Type 0} (calls : A → List Asked) (before now : ShelfView) : Type 0 where
+  pub answers : A
+  pub broke : HaveBrokenOff (calls answers) before now

@@ -6,7 +6,8 @@ use Rattle.command_desk.specs.Desks.{Desk}
 pub use Rattle.command_desk.specs.OnDesk.{finished, left, refused}
 use Rattle.command_desk.specs.declared.desk.Desk as declared
 use Rattle.command_desk.specs.declared.ending.CommandEnd.{CommandEnd}
-use Rattle.commands_file.specs.Calls.{asks, gets, loaded, puts, removes, there, written, Asked, HaveAnswered, Reply, ShelfCall, ShelfView}
+use Rattle.commands_file.specs.Calls.{asks, gets, loaded, puts, removes, there, written, Asked, HasBrokenOver}
+use Rattle.commands_file.specs.Calls.{HaveAnswered, Reply, ShelfCall, ShelfView}
 use Rattle.commands_file.specs.Combined.{combined}
 use Rattle.commands_file.specs.Extracted.{extracted}
 use Rattle.commands_file.specs.declared.combining.Combining.{Combining}
@@ -169,6 +170,10 @@ pub record HasActedOver (act : Reply → FileActed) (came : CommandEnd) (v w : d
   pub reply : Reply
   pub acted : HasActedOn (act reply).acted came v w m n
   pub answered : HaveAnswered (act reply).calls before now
+
+-- memory ran out in a command, which made of a shelf another
+abbrev pub HasBrokenIn : (Reply → FileActed) → ShelfView → ShelfView → Type 0
+HasBrokenIn act before now = HasBrokenOver (λ reply. (act reply).calls) before now
 
 -- what a look at the shelf comes to, and the calls that it made, with their answers
 pub record Looking : Type 0 where

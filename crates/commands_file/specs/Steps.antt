@@ -1,8 +1,9 @@
 -- The steps of commands: what one call came to, and what is known where memory ran out.
-use Rattle.std.specs.Prelude.{◌≡◌, ℕ, Bool, true, false, List, None, Some, Ok, Err}
+use Rattle.std.specs.Prelude.{◌≡◌, ◌⊎◌, ℕ, Bool, true, false, List, None, Some, Ok, Err}
 use Rattle.command_desk.specs.declared.ending.CommandEnd.{CommandEnd}
 use Rattle.command_desk.specs.declared.ending.CommandEnd.TheVariants.{Finished, Refused}
-use Rattle.commands_file.specs.Calls.{loaded, puts, there, written, HasAnswered, Reply, ShelfCall, ShelfView}
+use Rattle.commands_file.specs.Calls.{loaded, puts, there, written, HasAnswered, IsUnfinished, Reply, ShelfCall}
+use Rattle.commands_file.specs.Calls.{ShelfView}
 use Rattle.commands_file.specs.Commands.{fault_number, is_readable}
 use Rattle.commands_file.specs.declared.calling.Placed.{Placed}
 use Rattle.commands_file.specs.declared.calling.Placed.TheVariants as place
@@ -42,6 +43,11 @@ IsPlaced name bytes place.Written before now =
 IsPlaced name bytes place.Failed before now =
     (is_readable bytes ≡ true) × HasCalled (puts name bytes) is_written false before now
 IsPlaced name bytes place.TooLarge before now = (is_readable bytes ≡ false) × (now ≡ before)
+
+-- memory ran out before a worksheet's file was put, or in the call that puts it
+abbrev pub IsUnplaced : List ℕ → List ℕ → ShelfView → ShelfView → Type 0
+IsUnplaced name bytes before now =
+    (now ≡ before) ⊎ ((is_readable bytes ≡ true) × IsUnfinished (puts name bytes) before now)
 
 -- what the placing of a worksheet's file comes to
 abbrev pub end_of_placing : Placed → CommandEnd

@@ -2,11 +2,11 @@
 ghost use Rattle.std.specs.Prelude.{◌≡◌, ℕ, IfOk, OnErr, OnOk};
 ghost use Rattle.command_desk.specs.Answered.{span_at};
 ghost use Rattle.command_desk.specs.Desks.{of_desk};
-ghost use Rattle.commands_file.specs.Calls.{gets, shelf_view, HasBrokenOff};
+ghost use Rattle.commands_file.specs.Calls.{gets, shelf_view};
 ghost use Rattle.commands_file.specs.Commands.{act, act_named, by_call, combined_with, extracted_to, put_readable, retrieved};
-ghost use Rattle.commands_file.specs.Commands.{retrieved_sheet, saved_as, saved_of, HasActedOver};
+ghost use Rattle.commands_file.specs.Commands.{retrieved_sheet, saved_as, saved_of, HasActedOver, HasBrokenIn};
 ghost use Rattle.commands_file.specs.Extracted.{extracted};
-ghost use Rattle.commands_file.specs.Steps.{IsPlaced};
+ghost use Rattle.commands_file.specs.Steps.{IsPlaced, IsUnplaced};
 ghost use Rattle.wk1_file.specs.Saved.{file_bytes};
 ghost use Rattle.work_sheet.specs.Did.{Did};
 ghost use Rattle.work_sheet.specs.Seen.{of_worksheet};
@@ -55,7 +55,8 @@ fn retrieve<S: Shelf>(
         (λ reply. by_call (gets name.now) reply (retrieved scene.entry.now (of_desk desk.old))) end desk.old desk.new
         tally.old.count tally.new.count
         (shelf_view (S.holds shelf.old) (S.faults shelf.old)) (shelf_view (S.holds shelf.new) (S.faults shelf.new))) }
-    ensures memory { OnErr result (HasBrokenOff
+    ensures memory { OnErr result (HasBrokenIn
+        (λ reply. by_call (gets name.now) reply (retrieved scene.entry.now (of_desk desk.old)))
         (shelf_view (S.holds shelf.old) (S.faults shelf.old)) (shelf_view (S.holds shelf.new) (S.faults shelf.new))) }
 {
     let loaded = load(name, desk.sheet.alloc(), shelf)?;
@@ -81,7 +82,8 @@ fn combine_file<S: Shelf>(
         (λ reply. by_call (gets name.now) reply (combined_with kind scene.entry.now (of_desk desk.old))) end desk.old
         desk.new tally.old.count tally.new.count
         (shelf_view (S.holds shelf.old) (S.faults shelf.old)) (shelf_view (S.holds shelf.new) (S.faults shelf.new))) }
-    ensures memory { OnErr result (HasBrokenOff
+    ensures memory { OnErr result (HasBrokenIn
+        (λ reply. by_call (gets name.now) reply (combined_with kind scene.entry.now (of_desk desk.old)))
         (shelf_view (S.holds shelf.old) (S.faults shelf.old)) (shelf_view (S.holds shelf.new) (S.faults shelf.new))) }
 {
     let loaded = load(name, desk.sheet.alloc(), shelf)?;
@@ -98,7 +100,9 @@ fn save<S: Shelf>(name: FileName, desk: &mut Desk, shelf: &mut S) -> Result<Comm
         (saved_as name (of_desk desk.old)) (of_desk desk.old))
         end desk.old desk.new n n
         (shelf_view (S.holds shelf.old) (S.faults shelf.old)) (shelf_view (S.holds shelf.new) (S.faults shelf.new))) }
-    ensures memory { OnErr result (HasBrokenOff
+    ensures memory { OnErr result (HasBrokenIn (λ reply.
+        put_readable name (file_bytes (saved_of (of_worksheet desk.old.sheet))) reply
+        (saved_as name (of_desk desk.old)) (of_desk desk.old))
         (shelf_view (S.holds shelf.old) (S.faults shelf.old)) (shelf_view (S.holds shelf.new) (S.faults shelf.new))) }
 {
     let saved = desk.sheet.snapshot()?;
@@ -124,7 +128,8 @@ fn extract_span<S: Shelf>(
     ensures placed { IfOk result (λ placed. IsPlaced name.now
         (file_bytes (extracted kind span (of_worksheet sheet.now))) placed
         (shelf_view (S.holds shelf.old) (S.faults shelf.old)) (shelf_view (S.holds shelf.new) (S.faults shelf.new))) }
-    ensures memory { OnErr result (HasBrokenOff
+    ensures memory { OnErr result (IsUnplaced name.now
+        (file_bytes (extracted kind span (of_worksheet sheet.now)))
         (shelf_view (S.holds shelf.old) (S.faults shelf.old)) (shelf_view (S.holds shelf.new) (S.faults shelf.new))) }
 {
     let saved = extracted(kind, span, sheet)?;
@@ -143,7 +148,8 @@ fn extract<S: Shelf>(
         (extracted_to kind name.now (span_at desk.now.sheet.names answers.now 1) (of_desk desk.now)) end
         desk.now desk.now n n
         (shelf_view (S.holds shelf.old) (S.faults shelf.old)) (shelf_view (S.holds shelf.new) (S.faults shelf.new))) }
-    ensures memory { OnErr result (HasBrokenOff
+    ensures memory { OnErr result (HasBrokenIn
+        (extracted_to kind name.now (span_at desk.now.sheet.names answers.now 1) (of_desk desk.now))
         (shelf_view (S.holds shelf.old) (S.faults shelf.old)) (shelf_view (S.holds shelf.new) (S.faults shelf.new))) }
 {
     match span_at(desk.sheet.names(), answers, 1) {
@@ -169,7 +175,8 @@ fn act_named<S: Shelf>(
         (act_named action answers.now name scene.entry.now (of_desk desk.old)) end desk.old desk.new
         tally.old.count tally.new.count
         (shelf_view (S.holds shelf.old) (S.faults shelf.old)) (shelf_view (S.holds shelf.new) (S.faults shelf.new))) }
-    ensures memory { OnErr result (HasBrokenOff
+    ensures memory { OnErr result (HasBrokenIn
+        (act_named action answers.now name scene.entry.now (of_desk desk.old))
         (shelf_view (S.holds shelf.old) (S.faults shelf.old)) (shelf_view (S.holds shelf.new) (S.faults shelf.new))) }
 {
     match action {
@@ -207,8 +214,8 @@ fn act_named<S: Shelf>(
 /// worksheet file. Combine is then refused by `OutOfSheet`, with the span from A1 to the file's last used column and
 /// row, exactly where a cell that it takes would stand past the sheet, and by `Protected` with the first written cell
 /// in row order that is protected, where protection is on. A refused command leaves the desk as it was. After want of
-/// memory the sheet is open, but keeps what it keeps, and no file but the one that the command writes or takes away has
-/// changed.
+/// memory the sheet is open, but keeps what it keeps. Where the call was answered then, it left the shelf as its answer
+/// tells; else no file has changed but the one that a `put` was writing.
 pub fn act<S: Shelf>(
     action: FileAction,
     answers: &Answers,
@@ -220,7 +227,7 @@ pub fn act<S: Shelf>(
     ensures acted { IfOk result (λ end. HasActedOver (act action answers.now scene.entry.now (of_desk desk.old)) end
         desk.old desk.new tally.old.count tally.new.count
         (shelf_view (S.holds shelf.old) (S.faults shelf.old)) (shelf_view (S.holds shelf.new) (S.faults shelf.new))) }
-    ensures memory { OnErr result (HasBrokenOff
+    ensures memory { OnErr result (HasBrokenIn (act action answers.now scene.entry.now (of_desk desk.old))
         (shelf_view (S.holds shelf.old) (S.faults shelf.old)) (shelf_view (S.holds shelf.new) (S.faults shelf.new))) }
 {
     match FileName::of(line_at(answers, 0)) {

@@ -1,9 +1,10 @@
 // Files that are written and taken away.
 ghost use Rattle.std.specs.Prelude.{◌≡◌, IfOk, OnErr};
-ghost use Rattle.commands_file.specs.Calls.{puts, removes, shelf_view, HasBrokenOff};
+ghost use Rattle.commands_file.specs.Calls.{puts, removes, shelf_view, IsUnfinished};
 ghost use Rattle.commands_file.specs.Calls as reply;
 ghost use Rattle.commands_file.specs.Commands.{is_readable};
 ghost use Rattle.commands_file.specs.Steps.{end_of_placing, end_of_put, end_of_remove, is_written, HasCalled, IsPlaced};
+ghost use Rattle.commands_file.specs.Steps.{IsUnplaced};
 ghost use Rattle.wk1_file.specs.Saved.{file_bytes};
 
 use command_desk::CommandEnd;
@@ -25,7 +26,7 @@ fn bytes_of(alloc: Global, saved: &SavedSheet) -> Result<ByteBuffer, Memory>
 }
 
 /// Bytes are written as a file, in the place of one of that name; false tells that the call failed, and the shelf's
-/// count of faults rose in it.
+/// count of faults rose in it. After want of memory no other file has changed.
 pub fn put_bytes<S: Shelf>(
     name: &FileName,
     bytes: &ByteBuffer,
@@ -33,7 +34,7 @@ pub fn put_bytes<S: Shelf>(
 ) -> Result<bool, Memory>
     ensures put { IfOk result (λ done. HasCalled (puts name.now bytes.now) is_written done
         (shelf_view (S.holds shelf.old) (S.faults shelf.old)) (shelf_view (S.holds shelf.new) (S.faults shelf.new))) }
-    ensures memory { OnErr result (HasBrokenOff
+    ensures memory { OnErr result (IsUnfinished (puts name.now bytes.now)
         (shelf_view (S.holds shelf.old) (S.faults shelf.old)) (shelf_view (S.holds shelf.new) (S.faults shelf.new))) }
 {
     match shelf.put(name, bytes) {
@@ -65,7 +66,7 @@ fn is_readable(bytes: &ByteBuffer) -> bool
 fn place<S: Shelf>(name: &FileName, bytes: &ByteBuffer, shelf: &mut S) -> Result<Placed, Memory>
     ensures placed { IfOk result (λ placed. IsPlaced name.now bytes.now placed
         (shelf_view (S.holds shelf.old) (S.faults shelf.old)) (shelf_view (S.holds shelf.new) (S.faults shelf.new))) }
-    ensures memory { OnErr result (HasBrokenOff
+    ensures memory { OnErr result (IsUnplaced name.now bytes.now
         (shelf_view (S.holds shelf.old) (S.faults shelf.old)) (shelf_view (S.holds shelf.new) (S.faults shelf.new))) }
 {
     if !is_readable(bytes) {
@@ -87,7 +88,7 @@ pub(crate) fn put_sheet<S: Shelf>(
 ) -> Result<Placed, Memory>
     ensures placed { IfOk result (λ placed. IsPlaced name.now (file_bytes saved.now) placed
         (shelf_view (S.holds shelf.old) (S.faults shelf.old)) (shelf_view (S.holds shelf.new) (S.faults shelf.new))) }
-    ensures memory { OnErr result (HasBrokenOff
+    ensures memory { OnErr result (IsUnplaced name.now (file_bytes saved.now)
         (shelf_view (S.holds shelf.old) (S.faults shelf.old)) (shelf_view (S.holds shelf.new) (S.faults shelf.new))) }
 {
     let bytes = bytes_of(saved.store.alloc(), saved)?;
@@ -131,7 +132,7 @@ fn end_of_remove(there: bool) -> CommandEnd
 pub(crate) fn remove<S: Shelf>(name: &FileName, shelf: &mut S) -> Result<CommandEnd, Memory>
     ensures removed { IfOk result (λ end. HasCalled (removes name.now) end_of_remove end
         (shelf_view (S.holds shelf.old) (S.faults shelf.old)) (shelf_view (S.holds shelf.new) (S.faults shelf.new))) }
-    ensures memory { OnErr result (HasBrokenOff
+    ensures memory { OnErr result (IsUnfinished (removes name.now)
         (shelf_view (S.holds shelf.old) (S.faults shelf.old)) (shelf_view (S.holds shelf.new) (S.faults shelf.new))) }
 {
     match shelf.remove(name) {

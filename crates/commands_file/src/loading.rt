@@ -1,6 +1,6 @@
 // Files that are read.
 ghost use Rattle.std.specs.Prelude.{◌≡◌, IfOk, OnErr, Result, Some};
-ghost use Rattle.commands_file.specs.Calls.{gets, loaded, shelf_view, HasBrokenOff};
+ghost use Rattle.commands_file.specs.Calls.{gets, loaded, shelf_view, IsUnfinished};
 ghost use Rattle.commands_file.specs.Commands.{fault_number};
 ghost use Rattle.commands_file.specs.Steps.{loaded_as, HasCalled};
 ghost use Rattle.sheet_store.specs.declared.writes.SavedSheet.{SavedSheet};
@@ -72,7 +72,7 @@ pub(crate) fn load<S: Shelf>(
 ) -> Result<Loaded, Memory>
     ensures loaded { IfOk result (λ came. HasCalled (gets name.now) loaded_as came
         (shelf_view (S.holds shelf.old) (S.faults shelf.old)) (shelf_view (S.holds shelf.new) (S.faults shelf.new))) }
-    ensures memory { OnErr result (HasBrokenOff
+    ensures memory { OnErr result (IsUnfinished (gets name.now)
         (shelf_view (S.holds shelf.old) (S.faults shelf.old)) (shelf_view (S.holds shelf.new) (S.faults shelf.new))) }
 {
     match shelf.get(name) {

@@ -1,6 +1,6 @@
 // Whether a file is there.
 ghost use Rattle.std.specs.Prelude.{◌≡◌, IfOk, OnErr};
-ghost use Rattle.commands_file.specs.Calls.{shelf_view, HasBrokenOff};
+ghost use Rattle.commands_file.specs.Calls.{shelf_view, HasBrokenOver};
 ghost use Rattle.commands_file.specs.Commands.{kind_of, looked, HasLooked};
 
 use command_desk::line_at;
@@ -33,7 +33,7 @@ fn kind_of(action: Action) -> Ext
 pub fn look<S: Shelf>(action: Action, answers: &Answers, shelf: &mut S) -> Result<Looked, Memory>
     ensures looked { IfOk result (λ came. HasLooked (looked action answers.now) came
         (shelf_view (S.holds shelf.old) (S.faults shelf.old)) (shelf_view (S.holds shelf.new) (S.faults shelf.new))) }
-    ensures memory { OnErr result (HasBrokenOff
+    ensures memory { OnErr result (HasBrokenOver (λ reply. (looked action answers.now reply).calls)
         (shelf_view (S.holds shelf.old) (S.faults shelf.old)) (shelf_view (S.holds shelf.new) (S.faults shelf.new))) }
 {
     let Some(name) = FileName::with(line_at(answers, 0), kind_of(action)) else {

@@ -1,8 +1,8 @@
 // Which command below Print is carried out.
 ghost use Rattle.std.specs.Prelude.{◌≡◌, ℕ, IfOk, OnErr};
 ghost use Rattle.command_desk.specs.Desks.{of_desk};
-ghost use Rattle.commands_file.specs.Calls.{shelf_view, HasBrokenOff};
-ghost use Rattle.commands_file.specs.Commands.{HasActedOver};
+ghost use Rattle.commands_file.specs.Calls.{shelf_view};
+ghost use Rattle.commands_file.specs.Commands.{HasActedOver, HasBrokenIn};
 ghost use Rattle.commands_print.specs.Commands.{act, HoldsReport};
 
 use crate::keeping::{NumberSetting, TextSetting, keep_file, keep_number, keep_range, keep_text};
@@ -27,7 +27,7 @@ use session_rooms::Answers;
 /// is kept; `PageTooSmall` and `ReportTooLong`, with the causes of `report`; `InvalidFileName`, where no file is kept,
 /// to which the menus never come; and `DiskError`, exactly where the call failed, and the shelf's count of faults rose
 /// in it. A refused command leaves the desk as it was. After want of memory no file but the one that Go writes has
-/// changed.
+/// changed, and where another command than Go was carried out none.
 pub fn act<S: Shelf>(
     action: PrintAction,
     answers: &Answers,
@@ -40,7 +40,7 @@ pub fn act<S: Shelf>(
         (shelf_view (S.holds shelf.old) (S.faults shelf.old)) (shelf_view (S.holds shelf.new) (S.faults shelf.new))) }
     ensures report { IfOk result (λ end. end ≡ CommandEnd.Finished → action ≡ PrintAction.Go →
         HoldsReport scene.entry.now (of_desk desk.old) (S.holds shelf.new)) }
-    ensures memory { OnErr result (HasBrokenOff
+    ensures memory { OnErr result (HasBrokenIn (act action answers.now scene.entry.now (of_desk desk.old))
         (shelf_view (S.holds shelf.old) (S.faults shelf.old)) (shelf_view (S.holds shelf.new) (S.faults shelf.new))) }
 {
     match action {

@@ -1,8 +1,8 @@
 // Reports that are written.
 ghost use Rattle.std.specs.Prelude.{◌≡◌, ℕ, IfOk, OnErr};
 ghost use Rattle.command_desk.specs.Desks.{of_desk};
-ghost use Rattle.commands_file.specs.Calls.{shelf_view, HasBrokenOff};
-ghost use Rattle.commands_file.specs.Commands.{HasActedOver};
+ghost use Rattle.commands_file.specs.Calls.{shelf_view};
+ghost use Rattle.commands_file.specs.Commands.{HasActedOver, HasBrokenIn};
 ghost use Rattle.commands_print.specs.Commands.{printed, report_of, reported, written_to};
 ghost use Rattle.print_report.specs.Pages.{Gives};
 
@@ -41,7 +41,8 @@ fn write_report<S: Shelf>(
     ensures acted { IfOk result (λ end. (n : ℕ) → HasActedOver
         (written_to desk.now.print.file bytes.now (of_desk desk.now)) end desk.now desk.now n n
         (shelf_view (S.holds shelf.old) (S.faults shelf.old)) (shelf_view (S.holds shelf.new) (S.faults shelf.new))) }
-    ensures memory { OnErr result (HasBrokenOff
+    ensures memory { OnErr result (HasBrokenIn
+        (written_to desk.now.print.file bytes.now (of_desk desk.now))
         (shelf_view (S.holds shelf.old) (S.faults shelf.old)) (shelf_view (S.holds shelf.new) (S.faults shelf.new))) }
 {
     match &desk.print.file {
@@ -63,7 +64,8 @@ fn print_range<S: Shelf>(
     ensures acted { IfOk result (λ end. (n : ℕ) → HasActedOver
         (reported (report_of scene.entry.now (of_desk desk.now) range) (of_desk desk.now)) end desk.now desk.now n n
         (shelf_view (S.holds shelf.old) (S.faults shelf.old)) (shelf_view (S.holds shelf.new) (S.faults shelf.new))) }
-    ensures memory { OnErr result (HasBrokenOff
+    ensures memory { OnErr result (HasBrokenIn
+        (reported (report_of scene.entry.now (of_desk desk.now) range) (of_desk desk.now))
         (shelf_view (S.holds shelf.old) (S.faults shelf.old)) (shelf_view (S.holds shelf.new) (S.faults shelf.new))) }
 {
     match report_of(range, desk, scene) {
@@ -81,7 +83,8 @@ pub fn print<S: Shelf>(desk: &Desk, shelf: &mut S, scene: &Scene) -> Result<Comm
     ensures acted { IfOk result (λ end. (n : ℕ) → HasActedOver
         (printed desk.now.print.range scene.entry.now (of_desk desk.now)) end desk.now desk.now n n
         (shelf_view (S.holds shelf.old) (S.faults shelf.old)) (shelf_view (S.holds shelf.new) (S.faults shelf.new))) }
-    ensures memory { OnErr result (HasBrokenOff
+    ensures memory { OnErr result (HasBrokenIn
+        (printed desk.now.print.range scene.entry.now (of_desk desk.now))
         (shelf_view (S.holds shelf.old) (S.faults shelf.old)) (shelf_view (S.holds shelf.new) (S.faults shelf.new))) }
 {
     match desk.print.range {

@@ -1,21 +1,20 @@
 -- What a channel's attaching and finishing come to, over some answers of the shelf.
 use Rattle.std.proofs.Common.{◌≡◌, ℕ, ◌≤◌, Bool, true, false, List, [], ◌∷◌, ◌++◌, Option, None, Some, Result, Ok, Err}
-use Rattle.std.proofs.Common.{ap, refl, subst, sym, arith, ◌∙◌}
+use Rattle.std.proofs.Common.{ap, inl, refl, subst, sym, ◌∙◌}
 use Rattle.std.proofs.lemmas.Bool.{false≢true}
 use Rattle.std.specs.Prelude.{is_some, option_map}
-use Rattle.commands_file.proofs.Broken.{put_keeps}
-use Rattle.commands_file.specs.Calls.{failed, fetched, shelf_view, written, Asked, HasAnswered, HasBrokenOff}
-use Rattle.commands_file.specs.Calls.{HaveAnswered, KeepsOthers, Reply, ShelfView}
-use Rattle.file_words.proofs.Calling.{read_behind}
+use Rattle.commands_file.proofs.Broken.{broken_before, broken_behind, put_unfinished, read_unfinished}
+use Rattle.commands_file.specs.Calls.{failed, fetched, fetches, shelf_view, written, Asked, HasAnswered, HaveAnswered}
+use Rattle.commands_file.specs.Calls.{HaveBrokenOff, Reply, ShelfView}
 use Rattle.file_words.specs.Attaching.{attaching, finished, finished_by, put_away, taken, then_by, Attaching}
-use Rattle.file_words.specs.Serving.{goes_on, served_by, Served, WasServed}
+use Rattle.file_words.specs.Serving.{goes_on, served, served_by, HasBrokenWord, Served, WasServed}
 use Rattle.macro_text.specs.declared.position.Spot.{Spot}
+use Rattle.macro_words.specs.declared.files.FileWord.TheVariants as word
 use Rattle.macro_words.specs.declared.running.Deed.{Deed}
 use Rattle.outside_world.specs.Causes.{Rose}
-use Rattle.outside_world.specs.Shelf.{HasCause, OnShelf}
-use Rattle.outside_world.specs.declared.faults.ShelfFault.{ShelfFault}
+use Rattle.outside_world.specs.Shelf.{file_in, HasCause, OnShelf}
 use Rattle.outside_world.specs.declared.faults.ShelfFault.TheVariants as shelf
-use Rattle.text_channel.specs.Channels.{by_shelf, finished as finished_first, of_shelf, unfinished, HasAttached}
+use Rattle.text_channel.specs.Channels.{finished as finished_first, of_shelf, unfinished, HasAttached}
 use Rattle.text_channel.specs.Channels.{HasFinished, HasFinishedBy, HasOpened, HasPutAway, HasTaken}
 use Rattle.text_channel.specs.declared.attached.Access.{Access}
 use Rattle.text_channel.specs.declared.attached.Access.TheVariants.{Read, Write, Modify}
@@ -240,61 +239,87 @@ module _ (name : List ℕ) (access : Access) (at : Spot) (old : Option Attached)
 
 -- ---- want of memory
 
-put_away_keeps : (a : Attached) (before after : Option OnShelf) (now : Option Attached) (r : Result Bool ChannelFault)
-    → HasPutAway a before after now r → KeepsOthers before after
-put_away_keeps a before after now (Ok b) h = put_keeps a.name a.bytes before after _ h.2
-put_away_keeps a before after now (Err e) h = put_keeps a.name a.bytes before after _ h.1
+-- memory ran out where a file was put
+put_broken : (a : Attached) (before after : Option OnShelf) (m n : ℕ) (now : Option Attached) → n ≡ m
+    → HasPutAway a before after now (Err fault.Memory)
+    → HaveBrokenOff (put_away a failed).calls (shelf_view before m) (shelf_view after n)
+put_broken a before after m n now stands h =
+    inl (put_unfinished a.name a.bytes before after m n shelf.Memory refl h.1 stands)
 
--- nothing was asked
-same_keeps : (o p : Option OnShelf) → p ≡ o → KeepsOthers o p
-same_keeps None p is = is
-same_keeps (Some s) p is = (s, [], is, λ other apart. refl)
+by_broken : (access : Access) (a : Attached) (before after : Option OnShelf) (m n : ℕ) (now : Option Attached) → n ≡ m
+    → HasFinishedBy access a before after now (Err fault.Memory)
+    → HaveBrokenOff (finished_by access a failed).calls (shelf_view before m) (shelf_view after n)
+by_broken Read a before after m n now stands h = no_answer h.0
+by_broken Write a before after m n now stands h = put_broken a before after m n now stands h
+by_broken Modify a before after m n now stands h = put_broken a before after m n now stands h
 
-by_keeps : (access : Access) (a : Attached) (before after : Option OnShelf) (now : Option Attached)
-    (r : Result Bool ChannelFault) → HasFinishedBy access a before after now r → KeepsOthers before after
-by_keeps Read a before after now r h = same_keeps before after h.2
-by_keeps Write a before after now r h = put_away_keeps a before after now r h
-by_keeps Modify a before after now r h = put_away_keeps a before after now r h
+-- it ran out where a file was finished
+finishing_broken : (c : Option Attached) (before after : Option OnShelf) (m n : ℕ) (now : Option Attached) → n ≡ m
+    → HasFinished c before after now (Err fault.Memory)
+    → HaveBrokenOff (finished c failed).calls (shelf_view before m) (shelf_view after n)
+finishing_broken None before after m n now stands h = no_answer h.0
+finishing_broken (Some a) before after m n now stands h = by_broken a.access a before after m n now stands h
 
-finish_keeps : (c : Option Attached) (before after : Option OnShelf) (now : Option Attached)
-    (r : Result Bool ChannelFault) → HasFinished c before after now r → KeepsOthers before after
-finish_keeps None before after now r h = same_keeps before after h.2
-finish_keeps (Some a) before after now r h = by_keeps a.access a before after now r h
+-- it ran out where a file was attached behind that
+taking_broken : (name : List ℕ) (access : Access) (before after : Option OnShelf) (m n : ℕ) (now : Option Attached)
+    → n ≡ m → HasTaken name access before after now (Err fault.Memory)
+    → HaveBrokenOff (taken name access failed).calls (shelf_view before m) (shelf_view after n)
+taking_broken name Write before after m n now stands h = no_answer h.0
+taking_broken name Read before after m n now stands h =
+    inl (read_unfinished (fetches name) (file_in name) name before after m n _ h.1 stands)
+taking_broken name Modify before after m n now stands h =
+    inl (read_unfinished (fetches name) (file_in name) name before after m n _ h.1 stands)
 
-open_keeps : (name : List ℕ) (access : Access) (a b c : Option OnShelf) (now : Option Attached)
-    (r : Result Bool ChannelFault) → KeepsOthers a b → HasOpened name access b c now r → KeepsOthers a c
-open_keeps name access a b c now (Ok there) keeps (got, read, is, came) = read_behind _ name a b c _ keeps read
-open_keeps name access a b c now (Err e) keeps h = read_behind _ name a b c _ keeps h.1
+then_broken : (done : Option Bool) (first next : Attaching) (a b : ShelfView) → HaveBrokenOff first.calls a b
+    → HaveBrokenOff (then_by done first next).calls a b
+then_broken None first next a b broke = broke
+then_broken (Some done) first next a b broke = broken_before first.calls next.calls a b broke
 
-take_keeps : (name : List ℕ) (access : Access) (a b c : Option OnShelf) (now : Option Attached)
-    (r : Result Bool ChannelFault) → KeepsOthers a b → HasTaken name access b c now r → KeepsOthers a c
-take_keeps name Write a b c now r keeps h = subst (λ (o : Option OnShelf). KeepsOthers a o) (sym h.2) keeps
-take_keeps name Read a b c now r keeps h = open_keeps name Read a b c now r keeps h
-take_keeps name Modify a b c now r keeps h = open_keeps name Modify a b c now r keeps h
+module _ (name : List ℕ) (access : Access) (at : Spot) (old : Option Attached) (before after : Option OnShelf)
+    (m n : ℕ) (now : Option Attached) (stands : n ≡ m) where
+  attaching_broken : HasAttached name access old before after now (Err fault.Memory)
+      → HasBrokenWord (asked_of name access at) old (shelf_view before m) (shelf_view after n)
+  attaching_broken (unfinished e is h) = record {
+    answers = (failed, failed);
+    broke =
+        then_broken (finished old failed).done (finished old failed) (taken name access failed) _ _
+        (finishing_broken old before after m n now stands
+        (subst (λ (r : Result Bool ChannelFault). HasFinished old before after now r) (sym is) h));
+  }
+  attaching_broken (finished_first between left was first then_taken) =
+      let came : Came (finished old) (Some was) left (shelf_view before m) (shelf_view between m) =
+      finish_done old before between m left was first in
+      let one : Attaching = finished old came.reply in
+      let next : Attaching = taken name access failed in
+      record {
+        answers = (came.reply, failed);
+        broke =
+            subst (λ (o : Option Bool). HaveBrokenOff (then_by o one next).calls (shelf_view before m)
+            (shelf_view after n)) came.done_so
+            (broken_behind one.calls next.calls _ (shelf_view between m) _ came.answered
+            (taking_broken name access between after m n now stands then_taken));
+      }
 
-attach_keeps : (name : List ℕ) (access : Access) (old : Option Attached) (before after : Option OnShelf)
-    (now : Option Attached) (r : Result Bool ChannelFault) →
-    HasAttached name access old before after now r → KeepsOthers before after
-attach_keeps name access old before after now r (unfinished e is h) = finish_keeps old before after now (Err e) h
-attach_keeps name access old before after now r (finished_first between left was first then_taken) =
-    take_keeps name access before between after now r (finish_keeps old before between left (Ok was) first) then_taken
+-- memory ran out in OPEN
+pub attach_broken : (name : List ℕ) (access : Access) (at : Spot) (old : Option Attached)
+    (before after : Option OnShelf) (m n : ℕ) (now : Option Attached) (e : ChannelFault)
+    → e ≡ fault.Memory → HasCause {A = Bool} m n (Err (of_shelf e))
+    → HasAttached name access old before after now (Err e)
+    → HasBrokenWord (asked_of name access at) old (shelf_view before m) (shelf_view after n)
+attach_broken name access at old before after m n now e is cause h =
+    attaching_broken name access at old before after m n now
+    (subst (λ (f : ChannelFault). HasCause {A = Bool} m n (Err (of_shelf f))) is cause)
+    (subst (λ (f : ChannelFault). HasAttached name access old before after now (Err f)) is h)
 
--- the count never falls
-counted_later : (m n : ℕ) (r : Result Bool ShelfFault) → HasCause m n r → m ≤ n
-counted_later m n (Ok b) h = omega (arith, h)
-counted_later m n (Err shelf.Failed) h = h.0
-counted_later m n (Err shelf.Memory) h = omega (arith, h)
-
--- after a fault of attaching one file alone may have changed
-pub attach_broken : (name : List ℕ) (access : Access) (old : Option Attached) (before after : Option OnShelf) (m n : ℕ)
-    (now : Option Attached) (r : Result Bool ChannelFault) → HasCause m n (by_shelf r) →
-    HasAttached name access old before after now r → HasBrokenOff (shelf_view before m) (shelf_view after n)
-attach_broken name access old before after m n now r cause h =
-    record { told = attach_keeps name access old before after now r h; faults = counted_later m n (by_shelf r) cause }
-
--- after a fault of finishing one file alone may have changed
-pub finish_broken : (old : Option Attached) (before after : Option OnShelf) (m n : ℕ) (now : Option Attached)
-    (r : Result Bool ChannelFault) → HasCause m n (by_shelf r) →
-    HasFinished old before after now r → HasBrokenOff (shelf_view before m) (shelf_view after n)
-finish_broken old before after m n now r cause h =
-    record { told = finish_keeps old before after now r h; faults = counted_later m n (by_shelf r) cause }
+-- it ran out in CLOSE
+pub finish_broken : (at : Spot) (old : Option Attached) (before after : Option OnShelf) (m n : ℕ)
+    (now : Option Attached) (e : ChannelFault) → e ≡ fault.Memory → HasCause {A = Bool} m n (Err (of_shelf e))
+    → HasFinished old before after now (Err e)
+    → HasBrokenWord (served word.Close at) old (shelf_view before m) (shelf_view after n)
+finish_broken at old before after m n now e is cause h = record {
+  answers = (failed, failed);
+  broke =
+      finishing_broken old before after m n now
+      (subst (λ (f : ChannelFault). HasCause {A = Bool} m n (Err (of_shelf f))) is cause)
+      (subst (λ (f : ChannelFault). HasFinished old before after now (Err f)) is h);
+}

@@ -1,2 +1,1 @@
-pub mod Calling
 mod Attached

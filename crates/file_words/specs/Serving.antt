@@ -2,7 +2,7 @@
 use Rattle.std.specs.Prelude.{◌≡◌, ℕ, ◌*◌, pos, min, option_map, Bool, true, false, List, [], ◌∷◌, ◌++◌, Option, None, Some}
 use Rattle.ascii_bytes.specs.Ascii as ascii
 use Rattle.block_writes.specs.Writing.{written as writing}
-use Rattle.commands_file.specs.Calls.{Asked, HaveAnswered, Reply, ShelfView}
+use Rattle.commands_file.specs.Calls.{Asked, HasBrokenOver, HaveAnswered, Reply, ShelfView}
 use Rattle.formula_tree.specs.declared.value.Content.{Content}
 use Rattle.formula_tree.specs.declared.value.Content.TheVariants as content
 use Rattle.grid_address.specs.Place.{Place}
@@ -84,7 +84,12 @@ pub record WasServed (serves : Reply → Reply → Option Attached → Served) (
   pub channel_so : now ≡ (serves first second old).channel
   pub answered : HaveAnswered (serves first second old).calls before after
 
--- the same of a deed that is told with its place
+-- memory ran out in a word, which made of a shelf another
+abbrev pub HasBrokenWord : (Reply → Reply → Option Attached → Served) → Option Attached → ShelfView → ShelfView → Type 0
+HasBrokenWord serves old before now =
+    HasBrokenOver (λ (replies : Reply × Reply). (serves replies.0 replies.1 old).calls) before now
+
+-- what a word does that is told with its place
 abbrev pub served_word : FileDeed → Reply → Reply → Option Attached → Served
 served_word d first second c = served d.word d.done first second c
 

@@ -1,8 +1,8 @@
 // Words carried out over the text file that is attached and the shelf.
 ghost use Rattle.std.specs.Prelude.{◌≡◌, ◌++◌, min, Some, IfOk, OnErr, OnOk};
-ghost use Rattle.commands_file.specs.Calls.{failed, shelf_view, HasBrokenOff};
+ghost use Rattle.commands_file.specs.Calls.{failed, shelf_view};
 ghost use Rattle.file_words.specs.Serving as spec;
-ghost use Rattle.file_words.specs.Serving.{WasServed};
+ghost use Rattle.file_words.specs.Serving.{HasBrokenWord, WasServed};
 ghost use Rattle.lics_text.specs.Limits.{MAX_LEN};
 ghost use Rattle.macro_words.specs.declared.files.FileWord.TheVariants as word;
 ghost use Rattle.text_channel.specs.Channels.{can_write, left_after, stood, written};
@@ -42,7 +42,7 @@ fn open<S: Shelf>(
     ensures served { let serves = spec.served (word.Open name access) done in
         IfOk result (λ deed. WasServed serves deed channel.old channel.new
         (shelf_view (S.holds shelf.old) (S.faults shelf.old)) (shelf_view (S.holds shelf.new) (S.faults shelf.new))) }
-    ensures memory { OnErr result (HasBrokenOff
+    ensures memory { OnErr result (HasBrokenWord (spec.served (word.Open name access) done) channel.old
         (shelf_view (S.holds shelf.old) (S.faults shelf.old)) (shelf_view (S.holds shelf.new) (S.faults shelf.new))) }
 {
     match channel.attach(alloc, name, access, shelf) {
@@ -57,7 +57,7 @@ fn close<S: Shelf>(done: Spot, channel: &mut Channel, shelf: &mut S) -> Result<O
     ensures served { let serves = spec.served word.Close done in
         IfOk result (λ deed. WasServed serves deed channel.old channel.new
         (shelf_view (S.holds shelf.old) (S.faults shelf.old)) (shelf_view (S.holds shelf.new) (S.faults shelf.new))) }
-    ensures memory { OnErr result (HasBrokenOff
+    ensures memory { OnErr result (HasBrokenWord (spec.served word.Close done) channel.old
         (shelf_view (S.holds shelf.old) (S.faults shelf.old)) (shelf_view (S.holds shelf.new) (S.faults shelf.new))) }
 {
     match channel.finish(shelf) {
@@ -135,8 +135,8 @@ fn set_position(place: u32, done: Spot, channel: &mut Channel) -> Deed
 /// None comes exactly where the shelf failed. OPEN puts the file that it finishes and then asks for its own, CLOSE puts
 /// its file, and no other call is made; a file that was only read isn't put. What isn't done, or given, leaves the
 /// macro where it stands: nothing is attached, the access doesn't allow it, nothing is left to read, or the file would
-/// be too long. After `Memory` no file but the one that was finished has changed. (Release 2 manual for the words; what
-/// goes on where is this project's choice.)
+/// be too long. After `Memory` no file but the one that OPEN or CLOSE was putting has changed, and by any other word
+/// none. (Release 2 manual for the words; what goes on where is this project's choice.)
 pub fn serve<S: Shelf>(
     alloc: Global,
     deed: FileDeed,
@@ -145,7 +145,7 @@ pub fn serve<S: Shelf>(
 ) -> Result<Option<Deed>, Memory>
     ensures served { IfOk result (λ done. WasServed (spec.served_word deed) done channel.old channel.new
         (shelf_view (S.holds shelf.old) (S.faults shelf.old)) (shelf_view (S.holds shelf.new) (S.faults shelf.new))) }
-    ensures memory { OnErr result (HasBrokenOff
+    ensures memory { OnErr result (HasBrokenWord (spec.served_word deed) channel.old
         (shelf_view (S.holds shelf.old) (S.faults shelf.old)) (shelf_view (S.holds shelf.new) (S.faults shelf.new))) }
 {
     let FileDeed { word, done } = deed;

@@ -3,19 +3,17 @@ use Rattle.std.proofs.Common.{◌≡◌, ℕ, Bool, List, [], ap, refl, sym, sub
 use Rattle.command_desk.specs.Desks.{of_desk, Desk}
 use Rattle.command_desk.specs.declared.desk.Desk as declared
 use Rattle.command_desk.specs.declared.ending.CommandEnd.{CommandEnd}
-use Rattle.commands_file.specs.Calls.{failed, Asked, HasBrokenOff, HaveAnswered, Reply, ShelfView}
+use Rattle.commands_file.specs.Calls.{failed, Asked, HaveAnswered, Reply, ShelfView}
 use Rattle.commands_file.specs.Commands.{FileActed, HasActedOver}
 use Rattle.formula_eval.specs.declared.look.Scene.{Scene}
 use Rattle.menu_tree.specs.declared.menu.Action.{Action}
 use Rattle.serial_date.specs.declared.moment.Moment.{Moment}
-use Rattle.session_core.specs.Act.{act}
 use Rattle.work_sheet.proofs.OneWork.{worked_both}
 use Rattle.work_sheet.specs.Did.{work_of}
 use Rattle.work_sheet.specs.Work.{HasWorked, Work}
 use Rattle.session_core.specs.Carrying.{behind, left_by}
 use Rattle.session_core.specs.Machine.{scene_at, Leads, LeadsOver, Outcome, State, Worked}
 use Rattle.session_core.proofs.Answered.{answered_then}
-use Rattle.session_core.proofs.Few.{few, few_keep}
 
 -- the state over the desk that a command leaves
 abbrev over_desk : State → Desk → State
@@ -65,8 +63,3 @@ acted_over acts action now told a mid b scene came v w m n x y scene_is desk_is 
     (subst (λ (c : Scene). Leads (left_by came action c mid.state) told mid b) scene_is leads)
     (subst (λ (c : Scene). (left_by came action c mid.state).calls ≡ []) scene_is none) here in
     record { replies = record { look = failed; act = by.reply }; leads = by.leads; answered = by.answered }
-
--- behind a command that acted no file but one may have changed
-pub acted_broken : (action : Action) (answers : List (List ℕ)) (scene : Scene) (came : CommandEnd) (v w : declared.Desk) (m n : ℕ) (x y : ShelfView) →
-    HasActedOver (act action answers scene (of_desk v)) came v w m n x y → HasBrokenOff x y
-acted_broken action answers scene came v w m n x y h = few_keep (act action answers scene (of_desk v) h.reply).calls x y (few action answers scene (of_desk v) h.reply) h.answered

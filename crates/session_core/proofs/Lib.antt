@@ -2,11 +2,10 @@ pub mod Acted
 pub mod Afresh
 pub mod Alone
 pub mod Answered
+pub mod Breaking
 pub mod Failing
-pub mod Few
 pub mod Held
 pub mod Kept
-pub mod Looking
 pub mod OneCommand
 pub mod OneOutcome
 pub mod OneResult

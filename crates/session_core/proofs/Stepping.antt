@@ -20,7 +20,7 @@ use Rattle.session_core.specs.Moving.{OnlyMovesByPress, OnlyMovesGiven}
 use Rattle.session_core.specs.Step.{answered, come_to, given, pressed_key, stepped, taken}
 
 -- the state over the sheet and the macro that a step leaves
-abbrev over_step : State → Sheet → Option Running → State
+abbrev pub over_step : State → Sheet → Option Running → State
 over_step s sheet r = with_sheet sheet (with_macro r s)
 
 -- the macro's step, made of the moment, the macro and the sheet, and what follows it

@@ -2,7 +2,7 @@
 use Rattle.std.specs.Prelude.{◌≡◌, ℕ, Bool, false, is_some, not, ◌||◌, Option, None, List, [], ◌++◌}
 use Rattle.cell_pointer.specs.Moves.{home}
 use Rattle.command_desk.specs.Desks.{on_sheet, Desk}
-use Rattle.commands_file.specs.Calls.{Asked, HaveAnswered, Reply, ShelfView}
+use Rattle.commands_file.specs.Calls.{Asked, HasBrokenOver, HaveAnswered, Reply, ShelfView}
 use Rattle.formula_eval.specs.declared.look.Scene.{Scene}
 use Rattle.grid_address.specs.Place.{Place}
 use Rattle.macro_engine.specs.Keys.{awaits_key}
@@ -176,6 +176,10 @@ pub record LeadsOver (act : Replies → Scene → State → Outcome) (now : Mome
   pub replies : Replies
   pub leads : Leads (act replies (scene_at a.state now) a.state) told a b
   pub answered : HaveAnswered (act replies (scene_at a.state now) a.state).calls before after
+
+-- memory ran out in an act, over this moment and where the pointer stands before
+abbrev pub BreaksOver : (Replies → Scene → State → Outcome) → Moment → State → ShelfView → ShelfView → Type 0
+BreaksOver act now s before after = HasBrokenOver (λ replies. (act replies (scene_at s now) s).calls) before after
 
 -- a session goes on to an outcome, with the work of what happened
 pub record Follows (o : Outcome) (a b : SessionView) : Type 0 where

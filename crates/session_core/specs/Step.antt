@@ -1,6 +1,6 @@
 -- One step of the session.
 use Rattle.std.specs.Prelude.{◌≡◌, ℕ, Bool, true, false, List, Option, None, Some, if◌then◌else◌}
-use Rattle.commands_file.specs.Calls.{HaveAnswered, ShelfView}
+use Rattle.commands_file.specs.Calls.{HasBrokenOver, HaveAnswered, ShelfView}
 use Rattle.desk_errors.specs.declared.error.CommandError.TheVariants as error
 use Rattle.formula_eval.specs.declared.look.Scene.{Scene}
 use Rattle.key_words.specs.declared.key.Key.{Key}
@@ -144,3 +144,7 @@ pub record HasTakenStep (event : Event) (now : Moment) (ending : Bool) (a b : Se
   pub follows : Follows (step event now replies a.state) a b
   pub ends : (step event now replies a.state).ends ≡ ending
   pub answered : HaveAnswered (step event now replies a.state).calls before after
+
+-- memory ran out in a step of the session, over some answers of the shelf
+abbrev pub HasBrokenStep : Event → Moment → State → ShelfView → ShelfView → Type 0
+HasBrokenStep event now s before after = HasBrokenOver (λ replies. (step event now replies s).calls) before after

@@ -2,8 +2,8 @@
 ghost use Rattle.std.specs.Prelude.{ℕ, IfOk, OnErr};
 ghost use Rattle.command_desk.specs.Acting.{HasActedBy};
 ghost use Rattle.command_desk.specs.Desks.{of_desk};
-ghost use Rattle.commands_file.specs.Calls.{shelf_view, HasBrokenOff};
-ghost use Rattle.commands_file.specs.Commands.{HasActedOver};
+ghost use Rattle.commands_file.specs.Calls.{shelf_view};
+ghost use Rattle.commands_file.specs.Commands.{HasActedOver, HasBrokenIn};
 ghost use Rattle.session_core.specs.Act.{act, act_common, gone_to};
 
 use command_desk::{CommandEnd, Desk, cell_at};
@@ -55,8 +55,8 @@ fn act_common(
 /// Carries a command out, once it has all its answers, with the recalculation that follows it and the one call of the
 /// shelf that a command of files makes, and Go of a report. A refused command leaves the desk as it was: its cause is
 /// the first that is found, in the order in which the areas tell them; `DiskError` comes exactly where the shelf
-/// failed. After want of memory the sheet is open, but keeps what it keeps, and no file but the command's own may have
-/// changed.
+/// failed. After want of memory the sheet is open, but keeps what it keeps, and no file has changed but by the
+/// command's own call.
 pub fn act<S: Shelf>(
     command: &AnsweredCommand,
     desk: &mut Desk,
@@ -67,7 +67,8 @@ pub fn act<S: Shelf>(
     ensures acted { let acts = act command.now.action command.now.answers scene.entry.now (of_desk desk.old) in
         IfOk result (λ end. HasActedOver acts end desk.old desk.new tally.old.count tally.new.count
         (shelf_view (S.holds shelf.old) (S.faults shelf.old)) (shelf_view (S.holds shelf.new) (S.faults shelf.new))) }
-    ensures memory { OnErr result (HasBrokenOff
+    ensures memory { let acts = act command.now.action command.now.answers scene.entry.now (of_desk desk.old) in
+        OnErr result (HasBrokenIn acts
         (shelf_view (S.holds shelf.old) (S.faults shelf.old)) (shelf_view (S.holds shelf.new) (S.faults shelf.new))) }
 {
     let answers = &command.answers;

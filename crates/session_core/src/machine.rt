@@ -1,7 +1,7 @@
 // The session's machine: where what a key comes to is carried out.
 ghost use Rattle.std.specs.Prelude.{◌≡◌, true, false, IfOk, IsOk, None, OnErr, OnOk};
 ghost use Rattle.command_desk.specs.Desks.{of_desk};
-ghost use Rattle.commands_file.specs.Calls.{shelf_view, HasBrokenOff};
+ghost use Rattle.commands_file.specs.Calls.{shelf_view};
 ghost use Rattle.entry_line.specs.Line.{placed};
 ghost use Rattle.macro_engine.specs.Keys.{broken_off};
 ghost use Rattle.screen_show.specs.Screen.{IsPrinted};
@@ -10,7 +10,7 @@ ghost use Rattle.session_core.specs.Carrying.{is_pointer_protected, looking, rec
 ghost use Rattle.session_core.specs.Frozen.{switches_of};
 ghost use Rattle.session_core.specs.Machine.{afresh, begun_with, in_room, pointer_of, pointing_at, scene_at, sheet_of};
 ghost use Rattle.session_core.specs.Machine.{wants_key, with_macro};
-ghost use Rattle.session_core.specs.Machine.{Leads, LeadsBy, LeadsOver};
+ghost use Rattle.session_core.specs.Machine.{BreaksOver, Leads, LeadsBy, LeadsOver};
 ghost use Rattle.session_core.specs.Moving.{IsMoved, OnlyMoves, OnlyMovesBy, OnlyMovesByKey};
 ghost use Rattle.session_core.specs.Moving.{OnlyMovesByPress, OnlyMovesGiven};
 ghost use Rattle.session_core.specs.Step.{answered, come_to, event_taken, framed, given, is_key};
@@ -289,7 +289,7 @@ impl Machine {
             self.old self.new
             (shelf_view (S.holds shelf.old) (S.faults shelf.old))
             (shelf_view (S.holds shelf.new) (S.faults shelf.new))) }
-        ensures memory { OnErr result (HasBrokenOff
+        ensures memory { OnErr result (BreaksOver (λ replies. acted command replies.act) now.now self.old.state
             (shelf_view (S.holds shelf.old) (S.faults shelf.old))
             (shelf_view (S.holds shelf.new) (S.faults shelf.new))) }
     {
@@ -308,7 +308,7 @@ impl Machine {
         ensures looked { IfOk result (λ ends. LeadsOver (looking command) now.now ends self.old self.new
             (shelf_view (S.holds shelf.old) (S.faults shelf.old))
             (shelf_view (S.holds shelf.new) (S.faults shelf.new))) }
-        ensures memory { OnErr result (HasBrokenOff
+        ensures memory { OnErr result (BreaksOver (looking command) now.now self.old.state
             (shelf_view (S.holds shelf.old) (S.faults shelf.old))
             (shelf_view (S.holds shelf.new) (S.faults shelf.new))) }
     {
@@ -337,7 +337,7 @@ impl Machine {
         ensures asked { IfOk result (λ ends. LeadsOver (asked command) now.now ends self.old self.new
             (shelf_view (S.holds shelf.old) (S.faults shelf.old))
             (shelf_view (S.holds shelf.new) (S.faults shelf.new))) }
-        ensures memory { OnErr result (HasBrokenOff
+        ensures memory { OnErr result (BreaksOver (asked command) now.now self.old.state
             (shelf_view (S.holds shelf.old) (S.faults shelf.old))
             (shelf_view (S.holds shelf.new) (S.faults shelf.new))) }
     {
@@ -478,7 +478,7 @@ impl Machine {
         ensures ok { IfOk result (λ t. LeadsOver (carried turn) now.now t.ends self.old self.new
             (shelf_view (S.holds shelf.old) (S.faults shelf.old))
             (shelf_view (S.holds shelf.new) (S.faults shelf.new))) }
-        ensures memory { OnErr result (HasBrokenOff
+        ensures memory { OnErr result (BreaksOver (carried turn) now.now self.old.state
             (shelf_view (S.holds shelf.old) (S.faults shelf.old))
             (shelf_view (S.holds shelf.new) (S.faults shelf.new))) }
         ensures moves { OnlyMoves turn self.old.state.running → IsOk result }
@@ -535,7 +535,7 @@ impl Machine {
         ensures ok { IfOk result (λ t. LeadsOver (taken key) now.now t.ends self.old self.new
             (shelf_view (S.holds shelf.old) (S.faults shelf.old))
             (shelf_view (S.holds shelf.new) (S.faults shelf.new))) }
-        ensures memory { OnErr result (HasBrokenOff
+        ensures memory { OnErr result (BreaksOver (taken key) now.now self.old.state
             (shelf_view (S.holds shelf.old) (S.faults shelf.old))
             (shelf_view (S.holds shelf.new) (S.faults shelf.new))) }
         ensures moves { OnlyMovesByKey key self.old.state → IsOk result }
@@ -574,7 +574,7 @@ impl Machine {
         ensures ok { IfOk result (λ t. LeadsOver (come_to end) now.now t.ends self.old self.new
             (shelf_view (S.holds shelf.old) (S.faults shelf.old))
             (shelf_view (S.holds shelf.new) (S.faults shelf.new))) }
-        ensures memory { OnErr result (HasBrokenOff
+        ensures memory { OnErr result (BreaksOver (come_to end) now.now self.old.state
             (shelf_view (S.holds shelf.old) (S.faults shelf.old))
             (shelf_view (S.holds shelf.new) (S.faults shelf.new))) }
         ensures touched { IfOk result (λ t. HasTouched t.touched self.old.state self.new.state) }
@@ -608,7 +608,7 @@ impl Machine {
         ensures ok { IfOk result (λ t. LeadsOver (event_taken Event.Unit) now.now t.ends self.old self.new
             (shelf_view (S.holds shelf.old) (S.faults shelf.old))
             (shelf_view (S.holds shelf.new) (S.faults shelf.new))) }
-        ensures memory { OnErr result (HasBrokenOff
+        ensures memory { OnErr result (BreaksOver (event_taken Event.Unit) now.now self.old.state
             (shelf_view (S.holds shelf.old) (S.faults shelf.old))
             (shelf_view (S.holds shelf.new) (S.faults shelf.new))) }
         ensures touched { IfOk result (λ t. HasTouched t.touched self.old.state self.new.state) }
@@ -627,7 +627,7 @@ impl Machine {
         ensures ok { IfOk result (λ t. LeadsOver (answered key) now.now t.ends self.old self.new
             (shelf_view (S.holds shelf.old) (S.faults shelf.old))
             (shelf_view (S.holds shelf.new) (S.faults shelf.new))) }
-        ensures memory { OnErr result (HasBrokenOff
+        ensures memory { OnErr result (BreaksOver (answered key) now.now self.old.state
             (shelf_view (S.holds shelf.old) (S.faults shelf.old))
             (shelf_view (S.holds shelf.new) (S.faults shelf.new))) }
         ensures touched { IfOk result (λ t. HasTouched t.touched self.old.state self.new.state) }
@@ -655,7 +655,7 @@ impl Machine {
         ensures ok { IfOk result (λ t. LeadsOver (pressed_key Key.Break) now.now t.ends self.old self.new
             (shelf_view (S.holds shelf.old) (S.faults shelf.old))
             (shelf_view (S.holds shelf.new) (S.faults shelf.new))) }
-        ensures memory { OnErr result (HasBrokenOff
+        ensures memory { OnErr result (BreaksOver (pressed_key Key.Break) now.now self.old.state
             (shelf_view (S.holds shelf.old) (S.faults shelf.old))
             (shelf_view (S.holds shelf.new) (S.faults shelf.new))) }
         ensures moves { IsOk result }
@@ -672,7 +672,7 @@ impl Machine {
         ensures ok { IfOk result (λ t. LeadsOver (given key) now.now t.ends self.old self.new
             (shelf_view (S.holds shelf.old) (S.faults shelf.old))
             (shelf_view (S.holds shelf.new) (S.faults shelf.new))) }
-        ensures memory { OnErr result (HasBrokenOff
+        ensures memory { OnErr result (BreaksOver (given key) now.now self.old.state
             (shelf_view (S.holds shelf.old) (S.faults shelf.old))
             (shelf_view (S.holds shelf.new) (S.faults shelf.new))) }
         ensures moves { OnlyMovesGiven key self.old.state → IsOk result }
@@ -693,7 +693,7 @@ impl Machine {
         ensures ok { IfOk result (λ t. LeadsOver (pressed_key key) now.now t.ends self.old self.new
             (shelf_view (S.holds shelf.old) (S.faults shelf.old))
             (shelf_view (S.holds shelf.new) (S.faults shelf.new))) }
-        ensures memory { OnErr result (HasBrokenOff
+        ensures memory { OnErr result (BreaksOver (pressed_key key) now.now self.old.state
             (shelf_view (S.holds shelf.old) (S.faults shelf.old))
             (shelf_view (S.holds shelf.new) (S.faults shelf.new))) }
         ensures moves { OnlyMovesByPress key self.old.state → IsOk result }
@@ -719,7 +719,7 @@ impl Machine {
         ensures ok { IfOk result (λ t. LeadsOver (event_taken event) now.now t.ends self.old self.new
             (shelf_view (S.holds shelf.old) (S.faults shelf.old))
             (shelf_view (S.holds shelf.new) (S.faults shelf.new))) }
-        ensures memory { OnErr result (HasBrokenOff
+        ensures memory { OnErr result (BreaksOver (event_taken event) now.now self.old.state
             (shelf_view (S.holds shelf.old) (S.faults shelf.old))
             (shelf_view (S.holds shelf.new) (S.faults shelf.new))) }
         ensures moves { OnlyMovesBy event self.old.state → IsOk result }

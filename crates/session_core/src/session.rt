@@ -2,7 +2,7 @@
 ghost use Rattle.std.specs.Prelude.{◌≡◌, ◌≤◌, [], OnErr, OnOk, false, is_some, length, true};
 ghost use Rattle.std.specs.Option.{unwrap_or};
 ghost use Rattle.command_desk.specs.Desks.{of_desk};
-ghost use Rattle.commands_file.specs.Calls.{shelf_view, HasBrokenOff};
+ghost use Rattle.commands_file.specs.Calls.{shelf_view};
 ghost use Rattle.screen_show.specs.Changes.{Unchanged};
 ghost use Rattle.screen_show.specs.Screen.{IsScreen, IsPrinted};
 ghost use Rattle.session_core.specs.Machine.{begun, sheet_of, wants_key, Follows};
@@ -10,7 +10,7 @@ ghost use Rattle.session_core.specs.Moving.{IsMoved, OnlyMovesBy};
 ghost use Rattle.session_core.specs.Refusing.{joined};
 ghost use Rattle.session_core.specs.Screen.{screen};
 ghost use Rattle.session_core.specs.Standing.{is_at_rest, left_in, refused};
-ghost use Rattle.session_core.specs.Step.{is_key, loaded, HasTakenStep};
+ghost use Rattle.session_core.specs.Step.{is_key, loaded, HasBrokenStep, HasTakenStep};
 ghost use Rattle.work_sheet.specs.Did.{work_of};
 
 use crate::glance::changed_lines;
@@ -112,12 +112,14 @@ impl Session {
         self.machine.desk()
     }
 
-    /// One step: a key exactly where the session wants one, and else the next unit of the macro that runs. `Quit`
-    /// comes exactly where the menu's Quit was confirmed (Release 2 manual). After `Memory` the session is spent. A
-    /// step that only moves the pointer, types, or is passed over, takes no memory and leaves all of the sheet but the
-    /// pointer. The shelf is called where a command of files has all its answers, or a report is printed, and once
-    /// before, where a command may replace a file. The set becomes the lines in which the screen may differ from the
-    /// one before.
+    /// One step: a key exactly where the session wants one, and else the next unit of the macro that runs. `Quit` comes
+    /// exactly where the menu's Quit was confirmed (Release 2 manual). After `Memory` the session is spent. A step that
+    /// only moves the pointer, types, or is passed over, takes no memory and leaves all of the sheet but the pointer.
+    /// The shelf is called where a command of files has all its answers, or a report is printed, and once before, where
+    /// a command may replace a file; a macro's words on text files call it too. Where memory runs out, the shelf is
+    /// left by those of the step's calls that were answered, and by a `put` that wasn't, if one was begun: no other
+    /// file has changed, and none where the step makes no call. The set becomes the lines in which the screen may
+    /// differ from the one before.
     pub fn step<S: Shelf>(
         &mut self,
         event: Event,
@@ -134,7 +136,7 @@ impl Session {
             (shelf_view (S.holds shelf.old) (S.faults shelf.old))
             (shelf_view (S.holds shelf.new) (S.faults shelf.new)) }
         ensures memory { result ≡ Stepped.Memory → self.new.spent ≡ true }
-        ensures broken { result ≡ Stepped.Memory → HasBrokenOff
+        ensures broken { result ≡ Stepped.Memory → HasBrokenStep event now.now self.old.state
             (shelf_view (S.holds shelf.old) (S.faults shelf.old))
             (shelf_view (S.holds shelf.new) (S.faults shelf.new)) }
         ensures moves { OnlyMovesBy event self.old.state → result ≡ Stepped.More }

@@ -1,7 +1,7 @@
 // Words on the text file that macros read and write.
 ghost use Rattle.std.specs.Prelude.{◌≡◌, false, IfOk, OnErr, OnOk};
-ghost use Rattle.commands_file.specs.Calls.{shelf_view, HasBrokenOff};
-ghost use Rattle.session_core.specs.Machine.{Leads, LeadsOver};
+ghost use Rattle.commands_file.specs.Calls.{shelf_view};
+ghost use Rattle.session_core.specs.Machine.{BreaksOver, Leads, LeadsOver};
 ghost use Rattle.session_core.specs.Step.{by_file, by_word, protected_target, served_as};
 ghost use Rattle.session_core.specs.Touches.{HasTouched};
 
@@ -56,7 +56,7 @@ impl Machine {
         ensures ok { OnOk result (LeadsOver (by_word deed) now.now false self.old self.new
             (shelf_view (S.holds shelf.old) (S.faults shelf.old))
             (shelf_view (S.holds shelf.new) (S.faults shelf.new))) }
-        ensures memory { OnErr result (HasBrokenOff
+        ensures memory { OnErr result (BreaksOver (by_word deed) now.now self.old.state
             (shelf_view (S.holds shelf.old) (S.faults shelf.old))
             (shelf_view (S.holds shelf.new) (S.faults shelf.new))) }
     {
@@ -77,7 +77,7 @@ impl Machine {
         ensures ok { IfOk result (λ t. LeadsOver (by_file deed) now.now t.ends self.old self.new
             (shelf_view (S.holds shelf.old) (S.faults shelf.old))
             (shelf_view (S.holds shelf.new) (S.faults shelf.new))) }
-        ensures memory { OnErr result (HasBrokenOff
+        ensures memory { OnErr result (BreaksOver (by_file deed) now.now self.old.state
             (shelf_view (S.holds shelf.old) (S.faults shelf.old))
             (shelf_view (S.holds shelf.new) (S.faults shelf.new))) }
         ensures touched { IfOk result (λ t. HasTouched t.touched self.old.state self.new.state) }

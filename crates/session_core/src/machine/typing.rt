@@ -1,7 +1,7 @@
 // How a key is taken.
 ghost use Rattle.std.specs.Prelude.{◌≡◌, false, IfOk, IsOk, OnErr};
-ghost use Rattle.commands_file.specs.Calls.{shelf_view, HasBrokenOff};
-ghost use Rattle.session_core.specs.Machine.{sheet_of, LeadsOver};
+ghost use Rattle.commands_file.specs.Calls.{shelf_view};
+ghost use Rattle.session_core.specs.Machine.{sheet_of, BreaksOver, LeadsOver};
 ghost use Rattle.session_core.specs.Moving.{IsMoved, OnlyMovesByKey};
 ghost use Rattle.session_core.specs.Step.{taken};
 ghost use Rattle.session_core.specs.Touches.{HasTouched};
@@ -40,7 +40,7 @@ impl Machine {
         ensures ok { IfOk result (λ t. LeadsOver (taken key) now.now t.ends self.old self.new
             (shelf_view (S.holds shelf.old) (S.faults shelf.old))
             (shelf_view (S.holds shelf.new) (S.faults shelf.new))) }
-        ensures memory { OnErr result (HasBrokenOff
+        ensures memory { OnErr result (BreaksOver (taken key) now.now self.old.state
             (shelf_view (S.holds shelf.old) (S.faults shelf.old))
             (shelf_view (S.holds shelf.new) (S.faults shelf.new))) }
         ensures moves { OnlyMovesByKey key self.old.state → IsOk result }

@@ -2,10 +2,11 @@ use Rattle.std.proofs.Common.{subst}
 use Rattle.command_desk.proofs.Edited.{if_ok}
 use Rattle.command_desk.specs.Acting.{on_desk}
 use Rattle.command_desk.specs.Desks.{of_desk}
-use Rattle.commands_file.proofs.Broken.{called_broken, on_err}
+use Rattle.commands_file.proofs.Broken.{called_in, on_err, unfinished_in}
 use Rattle.commands_file.proofs.Ended.{acted_on, made_over, refused_over}
 use Rattle.commands_file.specs.Calls.{gets, shelf_view}
 use Rattle.commands_file.specs.Combined.{combined}
+use Rattle.commands_file.specs.Commands.{combined_with}
 use Rattle.commands_file.specs.Steps.{loaded_as, HasCalled}
 use Rattle.commands_file.specs.declared.loading.Loaded.{Loaded}
 use Rattle.commands_file.proofs.acting.combine_file.Goals as goal
@@ -25,7 +26,10 @@ returns-in-Sheet-clause-acted g c =
     c.in_ok-loaded.ensures.loaded)) c.combine.ensures
 
 pub returns-in-Sheet-clause-memory : goal.returns-in-Sheet-clause-memory
-returns-in-Sheet-clause-memory g c = on_err c.combine.result (called_broken _ _ _ _ _ c.in_ok-loaded.ensures.loaded)
+returns-in-Sheet-clause-memory g c =
+    on_err c.combine.result
+    (called_in (gets c.args.name.now) (combined_with c.args.kind c.args.scene.now (of_desk c.args.desk.now)) _ _
+    loaded_as _ c.in_ok-loaded.ensures.loaded)
 
 pub returns-in-Refused-clause-acted : goal.returns-in-Refused-clause-acted
 returns-in-Refused-clause-acted g c =
@@ -36,3 +40,9 @@ returns-in-Refused-clause-acted g c =
     (shelf_view (g.S.Shelf.holds c.args.shelf.now) (g.S.Shelf.faults c.args.shelf.now))
     (shelf_view (g.S.Shelf.holds c.load.new.shelf) (g.S.Shelf.faults c.load.new.shelf))) c.in-Refused.is
     c.in_ok-loaded.ensures.loaded)
+
+-- memory ran out in the read
+pub returns-in_err-loaded-clause-memory : goal.returns-in_err-loaded-clause-memory
+returns-in_err-loaded-clause-memory g c =
+    on_err _ (unfinished_in (gets c.args.name.now)
+    (combined_with c.args.kind c.args.scene.now (of_desk c.args.desk.now)) _ _ c.in_err-loaded.ensures.memory)

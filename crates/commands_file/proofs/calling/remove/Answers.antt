@@ -1,10 +1,12 @@
+use Rattle.std.specs.Prelude.{Bool}
 use Rattle.commands_file.specs.Calls.{there}
-use Rattle.commands_file.proofs.Broken.{removed_broken}
+use Rattle.commands_file.proofs.Broken.{memory_stands, removed_unfinished}
 use Rattle.commands_file.proofs.calling.remove.Goals as goal
 
 pub returns-in-Err-Memory-clause-memory : goal.returns-in-Err-Memory-clause-memory
 returns-in-Err-Memory-clause-memory g c =
-    removed_broken c.args.name.now _ _ _ _ _ c.in-Err-Memory.ensures.held c.in-Err-Memory.ensures.cause
+    removed_unfinished c.args.name.now _ _ _ _ _ c.in-Err-Memory.field-0-is c.in-Err-Memory.ensures.held
+    (memory_stands Bool _ _ _ c.in-Err-Memory.field-0-is c.in-Err-Memory.ensures.cause)
 
 pub returns-in-Ok-clause-removed : goal.returns-in-Ok-clause-removed
 returns-in-Ok-clause-removed g c =

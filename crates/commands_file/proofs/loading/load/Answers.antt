@@ -1,8 +1,8 @@
 use Rattle.std.specs.Prelude.{◌≡◌, refl, List, None, Ok, Option, Some, ℕ}
 use Rattle.std.proofs.Common.{rules, subst}
 use Rattle.command_desk.proofs.Edited.{if_ok}
-use Rattle.commands_file.specs.Calls.{loaded}
-use Rattle.commands_file.proofs.Broken.{on_err, read_broken}
+use Rattle.commands_file.specs.Calls.{gets, loaded}
+use Rattle.commands_file.proofs.Broken.{memory_stands, on_err, read_unfinished}
 use Rattle.outside_world.specs.Shelf.{file_in, HasRead}
 use Rattle.wk1_file.specs.Files.{IsFile}
 use Rattle.commands_file.proofs.loading.load.Goals as goal
@@ -28,8 +28,8 @@ returns-in-Ok-Some-clause-loaded g c =
 
 pub returns-in-Ok-Some-clause-memory : goal.returns-in-Ok-Some-clause-memory
 returns-in-Ok-Some-clause-memory g c = on_err c.loaded_of.result
-    (read_broken (file_in c.args.name.now) c.args.name.now _ _ _ _ _ c.in-Ok-Some.ensures.held
-    c.in-Ok-Some.ensures.cause)
+    (read_unfinished (gets c.args.name.now) (file_in c.args.name.now) c.args.name.now _ _ _ _ _
+    c.in-Ok-Some.ensures.held c.in-Ok-Some.ensures.cause)
 
 pub returns-in-Ok-None-clause-loaded : goal.returns-in-Ok-None-clause-loaded
 returns-in-Ok-None-clause-loaded g c =
@@ -48,5 +48,6 @@ returns-in-Ok-None-clause-loaded g c =
 
 pub returns-in-Err-Memory-clause-memory : goal.returns-in-Err-Memory-clause-memory
 returns-in-Err-Memory-clause-memory g c =
-    read_broken (file_in c.args.name.now) c.args.name.now _ _ _ _ _ c.in-Err-Memory.ensures.held
-    c.in-Err-Memory.ensures.cause
+    read_unfinished (gets c.args.name.now) (file_in c.args.name.now) c.args.name.now _ _ _ _ _
+    c.in-Err-Memory.ensures.held
+    (memory_stands (Option (List ℕ)) _ _ _ c.in-Err-Memory.field-0-is c.in-Err-Memory.ensures.cause)

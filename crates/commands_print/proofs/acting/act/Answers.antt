@@ -1,5 +1,6 @@
 use Rattle.command_desk.proofs.Edited.{if_ok}
-use Rattle.commands_file.proofs.Broken.{none_broken, on_err}
+use Rattle.commands_file.proofs.Broken.{none_over, on_err}
+use Rattle.commands_file.specs.Calls.{failed}
 use Rattle.commands_print.proofs.Held.{printed_holds}
 use Rattle.commands_print.proofs.Written.{alone}
 use Rattle.commands_print.proofs.acting.act.Goals as goal
@@ -16,7 +17,7 @@ returns-in-Header-clause-acted g c =
     rw c.in-Header.is (if_ok c.keep_text.result (λ end acted n. alone _ _ _ _ _ _ _ (acted n)) c.keep_text.ensures)
 
 pub returns-in-Header-clause-memory : goal.returns-in-Header-clause-memory
-returns-in-Header-clause-memory g c = on_err c.keep_text.result (none_broken _ _)
+returns-in-Header-clause-memory g c = rw c.in-Header.is (on_err c.keep_text.result (none_over _ failed _))
 
 pub returns-in-Footer-clause-acted : goal.returns-in-Footer-clause-acted
 returns-in-Footer-clause-acted g c =
@@ -24,7 +25,7 @@ returns-in-Footer-clause-acted g c =
     c.keep_text-in-Footer.ensures)
 
 pub returns-in-Footer-clause-memory : goal.returns-in-Footer-clause-memory
-returns-in-Footer-clause-memory g c = on_err c.keep_text-in-Footer.result (none_broken _ _)
+returns-in-Footer-clause-memory g c = rw c.in-Footer.is (on_err c.keep_text-in-Footer.result (none_over _ failed _))
 
 pub returns-in-PageLength-clause-acted : goal.returns-in-PageLength-clause-acted
 returns-in-PageLength-clause-acted g c = rw c.in-PageLength.is (λ n. alone _ _ _ _ _ _ _ (c.keep_number.ensures n))

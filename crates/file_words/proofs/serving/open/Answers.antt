@@ -13,5 +13,6 @@ returns-in-Err-Failed-clause-served g c =
 
 pub returns-in-Err-Memory-clause-memory : goal.returns-in-Err-Memory-clause-memory
 returns-in-Err-Memory-clause-memory g c =
-    attach_broken c.args.name c.args.access c.args.channel.now _ _ _ _ _ _ c.in-Err-Memory.ensures.cause
+    attach_broken c.args.name c.args.access c.args.done c.args.channel.now _ _ _ _ _ c.in-Err-Memory.field-0
+    c.in-Err-Memory.field-0-is c.in-Err-Memory.ensures.cause
     c.in-Err-Memory.ensures.attached

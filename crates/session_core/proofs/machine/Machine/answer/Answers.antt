@@ -1,12 +1,14 @@
-use Rattle.std.proofs.Common.{◌≡◌, rules, sym, ◌∙◌}
-use Rattle.commands_file.proofs.Broken.{none_broken, on_err}
+use Rattle.std.proofs.Common.{◌≡◌, rules, false, sym, ◌∙◌}
+use Rattle.commands_file.proofs.Broken.{none_over, on_err}
 use Rattle.macro_engine.specs.Keys.{key_step}
+use Rattle.session_core.proofs.Alone.{no_replies}
 use Rattle.session_core.proofs.Stepping.{answered_over, ends_as, stepped_over, unmarked}
 use Rattle.session_core.proofs.Touching.{touches_behind}
 use Rattle.work_sheet.specs.Seen.{of_worksheet}
 use Rattle.session_core.specs.Machine.{sheet_of}
 use Rattle.session_core.specs.Step.{answered}
 use Rattle.macro_engine.proofs.Stepping.{key_leaves, stepped_leaves}
+use Rattle.session_core.proofs.Breaking.{stepped_breaks}
 use Rattle.session_core.proofs.machine.Machine.answer.Goals as goal
 
 -- what follows by the step's end leads on from the sheet and the macro that it leaves
@@ -28,4 +30,12 @@ returns-clause-touched g c =
 
 -- no call was made of the shelf
 pub returns-in_err-end-clause-memory : goal.returns-in_err-end-clause-memory
-returns-in_err-end-clause-memory g c = on_err _ (none_broken _ _)
+returns-in_err-end-clause-memory g c = on_err _ (none_over _ no_replies _)
+
+-- memory ran out in what follows by the step's end
+pub returns-in_err-taken-clause-memory : goal.returns-in_err-taken-clause-memory
+returns-in_err-taken-clause-memory g c =
+    on_err _ (stepped_breaks (λ scene. key_step scene c.args.key) c.args.now.now (record c.args.self.now.state { end = false }) _
+    c.scene-scene.result c.self.inside.engine c.answer.new.self _ c.self.inside.desk.sheet c.answer.new.sheet
+    c.self.inside.tally.count c.answer.new.tally.count _ _ c.scene-scene.ensures (search rules) (search rules)
+    (search rules) c.in_ok-end.ensures.step c.in_err-taken.ensures.memory)

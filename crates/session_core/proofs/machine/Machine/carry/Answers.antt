@@ -1,18 +1,18 @@
 use Rattle.std.proofs.Common.{rules, refl}
-use Rattle.commands_file.proofs.Broken.{none_broken, on_err}
+use Rattle.commands_file.proofs.Broken.{none_over, on_err}
 use Rattle.session_core.specs.Machine.{scene_at}
-use Rattle.session_core.proofs.Alone.{alone, finish_calls}
+use Rattle.session_core.proofs.Alone.{alone, finish_calls, no_replies}
 use Rattle.session_core.proofs.Failing.{failed_calls}
 use Rattle.session_core.proofs.machine.Machine.carry.Goals as goal
 
 -- no call was made of the shelf
 pub returns-in_err-touched-in-Finish-clause-memory : goal.returns-in_err-touched-in-Finish-clause-memory
-returns-in_err-touched-in-Finish-clause-memory g c = on_err _ (none_broken _ _)
+returns-in_err-touched-in-Finish-clause-memory g c = on_err _ (none_over _ no_replies _)
 
 pub returns-in_err-calculate-in-Recalculate-clause-memory :
     goal.returns-in_err-calculate-in-Recalculate-clause-memory
 returns-in_err-calculate-in-Recalculate-clause-memory g c =
-    on_err _ (none_broken _ _)
+    on_err _ (none_over _ no_replies _)
 
 pub returns-in-Become-clause-ok : goal.returns-in-Become-clause-ok
 returns-in-Become-clause-ok g c = rw c.in-Become.is (alone _ _ _ _ _ _ (search rules) refl)
@@ -43,4 +43,4 @@ returns-in_ok-touched-in-Fail-clause-ok g c =
     rw c.in-Fail.is (alone _ _ _ _ _ _ (search rules) (failed_calls c.in-Fail.error (scene_at c.args.self.now.state c.args.now.now) c.args.self.now.state))
 
 pub returns-in_err-touched-in-Fail-clause-memory : goal.returns-in_err-touched-in-Fail-clause-memory
-returns-in_err-touched-in-Fail-clause-memory g c = on_err _ (none_broken _ _)
+returns-in_err-touched-in-Fail-clause-memory g c = on_err _ (none_over _ no_replies _)

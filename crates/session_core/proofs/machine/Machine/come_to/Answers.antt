@@ -1,7 +1,7 @@
 use Rattle.std.proofs.Common.{rules, refl}
-use Rattle.commands_file.proofs.Broken.{none_broken, on_err}
+use Rattle.commands_file.proofs.Broken.{none_over, on_err}
 use Rattle.session_core.specs.Machine.{scene_at}
-use Rattle.session_core.proofs.Alone.{alone}
+use Rattle.session_core.proofs.Alone.{alone, no_replies}
 use Rattle.session_core.proofs.Failing.{failed_calls}
 use Rattle.session_core.proofs.machine.Machine.come_to.Goals as goal
 
@@ -23,4 +23,4 @@ returns-in_ok-touched-in-Refused-clause-ok g c =
 
 -- no call was made of the shelf
 pub returns-in_err-touched-in-Refused-clause-memory : goal.returns-in_err-touched-in-Refused-clause-memory
-returns-in_err-touched-in-Refused-clause-memory g c = on_err _ (none_broken _ _)
+returns-in_err-touched-in-Refused-clause-memory g c = on_err _ (none_over _ no_replies _)

@@ -1,10 +1,10 @@
 use Rattle.std.proofs.Common.{rules, refl, true, false}
-use Rattle.commands_file.proofs.Broken.{none_broken, on_err}
+use Rattle.commands_file.proofs.Broken.{err_map, none_broken, on_err}
 use Rattle.commands_file.specs.Calls.{failed}
 use Rattle.commands_file.specs.declared.looking.Looked.TheVariants.{There, Unknown}
-use Rattle.session_core.proofs.Alone.{err_map, looked_over, ok_map}
+use Rattle.session_core.proofs.Alone.{looked_over, ok_map}
+use Rattle.session_core.proofs.Breaking.{looked_breaks, looking_breaks}
 use Rattle.session_core.proofs.Failing.{failed_alone}
-use Rattle.session_core.proofs.Looking.{look_keeps}
 use Rattle.session_core.proofs.machine.Machine.look.Goals as goal
 
 pub returns-in-There-true-clause-looked : goal.returns-in-There-true-clause-looked
@@ -20,7 +20,10 @@ returns-in-There-false-clause-looked g c =
 pub returns-in-There-false-clause-memory : goal.returns-in-There-false-clause-memory
 returns-in-There-false-clause-memory g c =
     let h = c.in_ok-look.ensures.looked in
-    err_map c.act.result (look_keeps c.args.command.action c.args.command.answers h.reply _ _ _ h.answered) c.act.ensures.memory
+    err_map c.act.result
+    (λ b. looked_breaks c.args.command c.args.now.now c.args.self.now.state _ _ _ h.reply b.answers.act (There false)
+    (search rules) h.answered b.broke)
+    c.act.ensures.memory
 
 pub returns-in_ok-fail-in-Unknown-clause-looked : goal.returns-in_ok-fail-in-Unknown-clause-looked
 returns-in_ok-fail-in-Unknown-clause-looked g c =
@@ -30,4 +33,10 @@ returns-in_ok-fail-in-Unknown-clause-looked g c =
 pub returns-in_err-fail-in-Unknown-clause-memory : goal.returns-in_err-fail-in-Unknown-clause-memory
 returns-in_err-fail-in-Unknown-clause-memory g c =
     let h = c.in_ok-look.ensures.looked in
-    on_err _ (look_keeps c.args.command.action c.args.command.answers h.reply _ _ _ h.answered (none_broken _ _))
+    on_err _ (looked_breaks c.args.command c.args.now.now c.args.self.now.state _ _ _ h.reply failed
+    (Unknown c.in-Unknown.error) (search rules) h.answered (none_broken _ _))
+
+-- memory ran out in the look
+pub returns-in_err-look-clause-memory : goal.returns-in_err-look-clause-memory
+returns-in_err-look-clause-memory g c =
+    on_err _ (looking_breaks c.args.command c.args.now.now c.args.self.now.state _ _ c.in_err-look.ensures.memory)

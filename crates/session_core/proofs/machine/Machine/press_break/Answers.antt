@@ -1,7 +1,9 @@
 use Rattle.std.proofs.Common.{ap, subst, sym}
 use Rattle.session_core.specs.Machine.{sheet_of, State}
+use Rattle.commands_file.proofs.Broken.{err_map}
 use Rattle.session_core.proofs.Alone.{ok_map}
 use Rattle.session_core.proofs.Stepping.{broken_over}
+use Rattle.session_core.proofs.Breaking.{break_breaks}
 use Rattle.session_core.proofs.machine.Machine.press_break.Goals as goal
 
 -- BREAK is taken behind the macro that it stopped
@@ -10,3 +12,9 @@ returns-clause-ok g c =
     ok_map c.take.result
     (λ t l. broken_over c.args.now.now t.ends c.args.self.now c.break_off.new.self c.take.new.self _ _ c.break_off.ensures.state c.break_off.ensures.work l)
     c.take.ensures.ok
+
+-- memory ran out in it
+pub returns-clause-memory : goal.returns-clause-memory
+returns-clause-memory g c =
+    err_map c.take.result (break_breaks c.args.now.now c.args.self.now.state _ _ _ c.break_off.ensures.state)
+    c.take.ensures.memory

@@ -1,6 +1,6 @@
 use Rattle.std.proofs.Common.{rules}
 use Rattle.commands_file.proofs.Broken.{on_err}
-use Rattle.file_words.proofs.Calling.{served_keeps}
+use Rattle.session_core.proofs.Breaking.{served_broken, word_breaks}
 use Rattle.session_core.proofs.TextFiles.{on_ok_map, served_over}
 use Rattle.session_core.proofs.machine.Machine.serve.Goals as goal
 
@@ -12,8 +12,15 @@ returns-clause-ok g c =
     c.scene-scene.ensures (search rules) (search rules) (search rules) c.in_ok-served.ensures.served l)
     c.do_served.ensures
 
--- the word's calls were made
+-- memory ran out in the word
+pub returns-in_err-served-clause-memory : goal.returns-in_err-served-clause-memory
+returns-in_err-served-clause-memory g c =
+    on_err _ (word_breaks c.args.deed c.args.now.now c.args.self.now.state c.self.inside.channel _ _ (search rules)
+    c.in_err-served.ensures.memory)
+
+-- it ran out behind the word, whose calls were made
 pub returns-clause-memory : goal.returns-clause-memory
 returns-clause-memory g c =
-    let h = c.in_ok-served.ensures.served in
-    on_err c.do_served.result (served_keeps c.args.deed _ h.first h.second _ _ h.answered)
+    on_err c.do_served.result
+    (word_breaks c.args.deed c.args.now.now c.args.self.now.state c.self.inside.channel _ _ (search rules)
+    (served_broken c.args.deed _ c.self.inside.channel _ _ _ c.in_ok-served.ensures.served))

@@ -1,6 +1,17 @@
-use Rattle.commands_file.proofs.Broken.{none_broken, on_err}
+use Rattle.std.proofs.Common.{rules}
+use Rattle.commands_file.proofs.Broken.{err_map, none_over, on_err}
+use Rattle.session_core.proofs.Alone.{no_replies}
+use Rattle.session_core.proofs.Breaking.{taken_breaks}
 use Rattle.session_core.proofs.machine.Machine.take_turn.Goals as goal
 
 -- no call was made of the shelf
 pub returns-in_err-turn-clause-memory : goal.returns-in_err-turn-clause-memory
-returns-in_err-turn-clause-memory g c = on_err _ (none_broken _ _)
+returns-in_err-turn-clause-memory g c = on_err _ (none_over _ no_replies _)
+
+-- memory ran out in what the key came to
+pub returns-clause-memory : goal.returns-clause-memory
+returns-clause-memory g c =
+    err_map c.carry.result
+    (λ b. taken_breaks c.args.key c.in_ok-turn.turn c.args.now.now c.args.self.now.state _ _ _ (search rules)
+    (search rules) b)
+    c.carry.ensures.memory

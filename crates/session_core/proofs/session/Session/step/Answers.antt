@@ -10,6 +10,7 @@ use Rattle.work_sheet.specs.Doing.{with_pointer}
 use Rattle.session_core.proofs.Afresh.{moves_afresh}
 use Rattle.session_core.proofs.Held.{by_event}
 use Rattle.session_core.proofs.Kept.{lines_followed}
+use Rattle.session_core.proofs.Breaking.{event_breaks}
 use Rattle.session_core.proofs.session.Session.step.Goals as goal
 
 -- a line that isn't painted hangs on nothing that was touched, or stands still
@@ -70,3 +71,9 @@ returns-in-Ok-clause-sheet g c only =
     let moved : IsMoved (sheet_of b) (sheet_of mid) =
     c.in-Ok.ensures.sheet (subst (λ (u : State). OnlyMovesBy c.args.event u) (sym from) (moves_afresh c.args.event c.args.self.now.state only)) in
     (moved.0, ap (λ (u : State). sheet_of u) c.follow.ensures.state ∙ moved.1 ∙ ap (λ (u : State). with_pointer moved.0 (sheet_of u)) from)
+
+-- memory ran out in the step
+pub returns-in-Err-clause-broken : goal.returns-in-Err-clause-broken
+returns-in-Err-clause-broken g c is =
+    event_breaks c.args.event c.args.now.now c.args.self.now.state c.begin.new.self.state _ _
+    (c.begin.ensures.state ∙ ap (λ (r : SessionView). afresh r.state) c.self.view_is) c.in-Err.ensures.memory
