@@ -13,7 +13,8 @@ use Rattle.command_desk.specs.Desks.{Desk}
 use Rattle.commands_file.specs.Calls.{failed, puts, removes, shelf_view, Asked, HasBrokenOver, HaveAnswered}
 use Rattle.commands_file.specs.Calls.{HaveBrokenOff, IsUnfinished, KeepsUnwritten, Reply, ShelfCall, ShelfView}
 use Rattle.commands_file.specs.Commands.{by_call, put_readable, refused, without_call, HasBrokenIn}
-use Rattle.commands_file.specs.Steps.{HasCalled, IsUnplaced}
+use Rattle.commands_file.specs.Steps.{HasCalled}
+use Rattle.commands_file.specs.inner.Placing.{IsUnplaced}
 use Rattle.desk_errors.specs.declared.error.CommandError.TheVariants as error
 use Rattle.outside_world.specs.Shelf.{Files, file_in, held_as, HasCause, HasPut, HasRead, HasRemoved, OnShelf}
 use Rattle.outside_world.specs.declared.faults.ShelfFault.{ShelfFault}

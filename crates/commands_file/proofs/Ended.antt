@@ -12,8 +12,8 @@ use Rattle.commands_file.specs.Calls.{ShelfCall, ShelfView}
 use Rattle.commands_file.specs.Commands.{by_call, finished, is_readable, put_readable, recalculated_there, refused}
 use Rattle.commands_file.specs.Commands.{retrieved_sheet, saved_as, scene_in, with_file, without_call}
 use Rattle.commands_file.specs.Commands.{HasActedOver}
-use Rattle.commands_file.specs.Steps.{is_written, loaded_as, HasCalled}
-use Rattle.commands_file.specs.Steps.{IsPlaced}
+use Rattle.commands_file.specs.Steps.{is_written, HasCalled}
+use Rattle.commands_file.specs.inner.Placing.{loaded_as, IsPlaced}
 use Rattle.commands_file.specs.declared.calling.Placed.TheVariants as place
 use Rattle.commands_file.specs.declared.loading.Loaded.{Loaded}
 use Rattle.commands_file.specs.declared.loading.Loaded.TheVariants as load

@@ -1,5 +1,5 @@
 -- What Xtract saves of a sheet: the cells of a span, moved to A1.
-use Rattle.std.specs.Prelude.{cond, List, [], ◌∷◌, map}
+use Rattle.std.specs.Prelude.{List, [], ◌∷◌, map}
 use Rattle.std.specs.FinMap as finite
 use Rattle.std.specs.List.{filter}
 use Rattle.block_writes.specs.Writing.{as_content}
@@ -32,10 +32,6 @@ entries_of k span g es = map (entry_of k g) (filter (λ e. is_within span e.0) e
 abbrev pub with_entries : Grid → List Entry → Grid
 with_entries g [] = g
 with_entries g (e ∷ es) = with_entries (put_state g e.0 e.1) es
-
--- the grid with what is saved of a cell, where it lies in the span
-abbrev pub put_within : Extracting → Extent → Grid → Entry → Grid → Grid
-put_within k span g e into = cond (is_within span e.0) (put_state into e.0 (state_of k g e)) into
 
 -- what is saved of a span, where it stands; no column has a width of its own or is hidden
 abbrev pub part : Extracting → Extent → Grid → Grid

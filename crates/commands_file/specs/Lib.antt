@@ -4,3 +4,4 @@ pub mod Combined
 pub mod Commands
 pub mod Extracted
 pub mod Steps
+pub mod inner

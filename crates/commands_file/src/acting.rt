@@ -6,7 +6,7 @@ ghost use Rattle.commands_file.specs.Calls.{gets, shelf_view};
 ghost use Rattle.commands_file.specs.Commands.{act, act_named, by_call, combined_with, extracted_to, put_readable, retrieved};
 ghost use Rattle.commands_file.specs.Commands.{retrieved_sheet, saved_as, saved_of, HasActedOver, HasBrokenIn};
 ghost use Rattle.commands_file.specs.Extracted.{extracted};
-ghost use Rattle.commands_file.specs.Steps.{IsPlaced, IsUnplaced};
+ghost use Rattle.commands_file.specs.inner.Placing.{IsPlaced, IsUnplaced};
 ghost use Rattle.wk1_file.specs.Saved.{file_bytes};
 ghost use Rattle.work_sheet.specs.Did.{Did};
 ghost use Rattle.work_sheet.specs.Seen.{of_worksheet};

@@ -3,8 +3,8 @@ ghost use Rattle.std.specs.Prelude.{◌≡◌, IfOk, OnErr};
 ghost use Rattle.commands_file.specs.Calls.{puts, removes, shelf_view, IsUnfinished};
 ghost use Rattle.commands_file.specs.Calls as reply;
 ghost use Rattle.commands_file.specs.Commands.{is_readable};
-ghost use Rattle.commands_file.specs.Steps.{end_of_placing, end_of_put, end_of_remove, is_written, HasCalled, IsPlaced};
-ghost use Rattle.commands_file.specs.Steps.{IsUnplaced};
+ghost use Rattle.commands_file.specs.Steps.{end_of_put, is_written, HasCalled};
+ghost use Rattle.commands_file.specs.inner.Placing.{end_of_placing, end_of_remove, IsPlaced, IsUnplaced};
 ghost use Rattle.wk1_file.specs.Saved.{file_bytes};
 
 use command_desk::CommandEnd;

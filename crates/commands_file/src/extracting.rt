@@ -1,6 +1,7 @@
 // What is saved of a span.
 ghost use Rattle.std.specs.Prelude.{◌≡◌, IfOk, OnOk};
-ghost use Rattle.commands_file.specs.Extracted.{extracted, part, put_within, state_of};
+ghost use Rattle.commands_file.specs.Extracted.{extracted, part, state_of};
+ghost use Rattle.commands_file.specs.inner.Extracting.{put_within};
 ghost use Rattle.sheet_shifts.specs.Shifts.{grid_after};
 ghost use Rattle.sheet_shifts.specs.declared.shift.Shift.TheVariants.{Block};
 ghost use Rattle.sheet_store.specs.Grid.{IsSound};

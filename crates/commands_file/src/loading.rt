@@ -2,7 +2,8 @@
 ghost use Rattle.std.specs.Prelude.{◌≡◌, IfOk, OnErr, Result, Some};
 ghost use Rattle.commands_file.specs.Calls.{gets, loaded, shelf_view, IsUnfinished};
 ghost use Rattle.commands_file.specs.Commands.{fault_number};
-ghost use Rattle.commands_file.specs.Steps.{loaded_as, HasCalled};
+ghost use Rattle.commands_file.specs.Steps.{HasCalled};
+ghost use Rattle.commands_file.specs.inner.Placing.{loaded_as};
 ghost use Rattle.sheet_store.specs.declared.writes.SavedSheet.{SavedSheet};
 ghost use Rattle.wk1_file.specs.Files.{IsFile};
 ghost use Rattle.wk1_records.specs.declared.fault.Wk1Fault.{Wk1Fault};

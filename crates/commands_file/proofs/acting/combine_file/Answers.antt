@@ -7,7 +7,8 @@ use Rattle.commands_file.proofs.Ended.{acted_on, made_over, refused_over}
 use Rattle.commands_file.specs.Calls.{gets, shelf_view}
 use Rattle.commands_file.specs.Combined.{combined}
 use Rattle.commands_file.specs.Commands.{combined_with}
-use Rattle.commands_file.specs.Steps.{loaded_as, HasCalled}
+use Rattle.commands_file.specs.Steps.{HasCalled}
+use Rattle.commands_file.specs.inner.Placing.{loaded_as}
 use Rattle.commands_file.specs.declared.loading.Loaded.{Loaded}
 use Rattle.commands_file.proofs.acting.combine_file.Goals as goal
 

@@ -1,7 +1,7 @@
 use Rattle.std.specs.Prelude.{IfOk, OnErr, refl}
 use Rattle.std.proofs.Common.{inl, subst}
 use Rattle.commands_file.specs.Calls.{shelf_view}
-use Rattle.commands_file.specs.Steps.{IsPlaced, IsUnplaced}
+use Rattle.commands_file.specs.inner.Placing.{IsPlaced, IsUnplaced}
 use Rattle.commands_file.specs.declared.calling.Placed.{Placed}
 use Rattle.commands_file.proofs.Broken.{on_err}
 use Rattle.sheet_store.specs.declared.writes.SavedSheet.{SavedSheet}

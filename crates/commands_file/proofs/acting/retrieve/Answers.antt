@@ -5,7 +5,8 @@ use Rattle.commands_file.proofs.Broken.{called_in, on_err, unfinished_in}
 use Rattle.commands_file.proofs.Ended.{done_on, made_over, refused_over}
 use Rattle.commands_file.specs.Calls.{gets, shelf_view}
 use Rattle.commands_file.specs.Commands.{finished, retrieved, retrieved_sheet}
-use Rattle.commands_file.specs.Steps.{loaded_as, HasCalled}
+use Rattle.commands_file.specs.Steps.{HasCalled}
+use Rattle.commands_file.specs.inner.Placing.{loaded_as}
 use Rattle.commands_file.specs.declared.loading.Loaded.{Loaded}
 use Rattle.work_sheet.specs.Seen.{of_worksheet}
 use Rattle.commands_file.proofs.acting.retrieve.Goals as goal

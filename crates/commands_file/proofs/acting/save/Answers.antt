@@ -3,7 +3,7 @@ use Rattle.std.proofs.Common.{subst}
 use Rattle.commands_file.specs.Calls.{failed, shelf_view}
 use Rattle.command_desk.specs.Desks.{of_desk}
 use Rattle.commands_file.specs.Commands.{saved_as, saved_of}
-use Rattle.commands_file.specs.Steps.{IsPlaced, IsUnplaced}
+use Rattle.commands_file.specs.inner.Placing.{IsPlaced, IsUnplaced}
 use Rattle.commands_file.specs.declared.calling.Placed.{Placed}
 use Rattle.commands_file.proofs.Broken.{none_over, on_err, unplaced_in}
 use Rattle.commands_file.proofs.Ended.{large_over, saved_so, unsaved_so}
