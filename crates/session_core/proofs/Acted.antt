@@ -12,7 +12,8 @@ use Rattle.work_sheet.proofs.OneWork.{worked_both}
 use Rattle.work_sheet.specs.Did.{work_of}
 use Rattle.work_sheet.specs.Work.{HasWorked, Work}
 use Rattle.session_core.specs.Carrying.{behind, left_by}
-use Rattle.session_core.specs.Machine.{scene_at, Leads, LeadsOver, Outcome, State, Worked}
+use Rattle.session_core.specs.Machine.{scene_at, Outcome, State}
+use Rattle.session_core.specs.inner.Leading.{Leads, LeadsOver, Worked}
 use Rattle.session_core.proofs.Answered.{answered_then}
 
 -- the state over the desk that a command leaves

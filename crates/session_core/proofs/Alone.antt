@@ -10,7 +10,8 @@ use Rattle.formula_eval.specs.declared.look.Scene.{Scene}
 use Rattle.serial_date.specs.declared.moment.Moment.{Moment}
 use Rattle.session_core.specs.Carrying.{behind_calls, finished, finished_as, looked_as, looking}
 use Rattle.session_core.specs.Entering.{meaning_of}
-use Rattle.session_core.specs.Machine.{pointer_of, scene_at, sheet_of, Leads, LeadsOver, Outcome, Replies, State, Worked}
+use Rattle.session_core.specs.Machine.{pointer_of, scene_at, sheet_of, Outcome, Replies, State}
+use Rattle.session_core.specs.inner.Leading.{Leads, LeadsOver, Worked}
 use Rattle.session_core.specs.declared.entering.Meant.{Meant}
 use Rattle.session_core.specs.declared.entering.Meant.TheVariants.{Means, Faulty}
 use Rattle.session_rooms.specs.declared.answers.AnsweredCommand.{AnsweredCommand}

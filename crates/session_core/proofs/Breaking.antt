@@ -27,7 +27,8 @@ use Rattle.text_channel.specs.declared.attached.Attached.{Attached}
 use Rattle.work_sheet.specs.Seen.{of_worksheet, Sheet}
 use Rattle.work_sheet.specs.Sheets.{Worksheet}
 use Rattle.session_core.specs.Carrying.{behind, carried, looked_as, looking}
-use Rattle.session_core.specs.Machine.{afresh, scene_at, sheet_of, with_macro, BreaksOver, Outcome, Replies, State}
+use Rattle.session_core.specs.Machine.{afresh, scene_at, sheet_of, with_macro, Outcome, Replies, State}
+use Rattle.session_core.specs.inner.Leading.{BreaksOver}
 use Rattle.session_core.specs.Pressing.{turn_of}
 use Rattle.session_core.specs.Step.{answered, by_file, by_word, come_to, event_taken, given, on_file, pressed_key}
 use Rattle.session_core.specs.Step.{protected_target, taken, typed_into, HasBrokenStep}

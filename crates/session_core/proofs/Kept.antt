@@ -27,12 +27,13 @@ use Rattle.session_rooms.specs.declared.rooms.TypingMode.TheVariants.{Label, Val
 use Rattle.typing_room.specs.Room.{told_mode}
 use Rattle.work_sheet.specs.Seen.{Sheet}
 use Rattle.session_core.specs.Frozen.{frozen_after, frozen_by, held_at, line_over}
-use Rattle.session_core.specs.Glances.{glance_of, is_plain, marks_of, plain_mode, told_plainly, ArePlain, IsKept, KeepsLetters, KeepsPointer, KeepsRow, KeepsTyped, Stays}
+use Rattle.session_core.specs.inner.Glances.{glance_of, is_plain, marks_of, plain_mode, told_plainly, ArePlain, IsKept, KeepsLetters, KeepsPointer, KeepsRow, KeepsTyped, Stays}
 use Rattle.session_core.specs.Machine.{is_running, sheet_of, FrozenAreas, State}
 use Rattle.session_core.specs.Pressing.{room_panel}
 use Rattle.session_core.specs.Screen.{painted_screen, panel_of, screen}
-use Rattle.session_core.specs.Touches.{touches_row, Touches}
-use Rattle.session_core.specs.Waiting.{is_shown, panel_by, shows_waiting, waiting_panel}
+use Rattle.session_core.specs.inner.Touches.{touches_row, Touches}
+use Rattle.session_core.specs.Waiting.{panel_by, waiting_panel}
+use Rattle.session_core.specs.inner.Showing.{is_shown, shows_waiting}
 use Rattle.session_core.specs.declared.glance.Foot.{Foot}
 use Rattle.session_core.specs.declared.glance.Glance.{Glance}
 use Rattle.session_core.specs.declared.glance.Marks.{Marks}

@@ -5,7 +5,7 @@ use Rattle.std.proofs.lemmas.Bool.{and_from, and_parts, cases_Bool, eq-eqb, fals
 use Rattle.std.proofs.lemmas.Option.{get_or_from_slice_get}
 use Rattle.cell_numbers.specs.Sets.{has}
 use Rattle.grid_address.specs.Place.{same_place, Place}
-use Rattle.session_core.specs.Touches.{is_row_in}
+use Rattle.session_core.specs.inner.Touches.{is_row_in}
 
 -- a line that isn't in a set
 left_out : (lines : List Bool) (n : ℕ) → get_or lines n true ≡ false → slice_get lines n ≡ Some false

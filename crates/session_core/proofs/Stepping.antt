@@ -15,7 +15,8 @@ use Rattle.work_sheet.specs.Did.{work_of}
 use Rattle.work_sheet.specs.Seen.{of_worksheet, Sheet}
 use Rattle.work_sheet.specs.Sheets.{Worksheet}
 use Rattle.work_sheet.specs.Work.{HasWorked, Work}
-use Rattle.session_core.specs.Machine.{scene_at, sheet_of, with_macro, with_sheet, Leads, LeadsOver, Outcome, Replies, State, Worked}
+use Rattle.session_core.specs.Machine.{scene_at, sheet_of, with_macro, with_sheet, Outcome, Replies, State}
+use Rattle.session_core.specs.inner.Leading.{Leads, LeadsOver, Worked}
 use Rattle.session_core.specs.Moving.{OnlyMovesByPress, OnlyMovesGiven}
 use Rattle.session_core.specs.Step.{answered, come_to, given, pressed_key, stepped, taken}
 

@@ -8,8 +8,9 @@ use Rattle.std.proofs.lemmas.List.Elements.{All-map}
 use Rattle.std.proofs.lemmas.List.FromFn.{get_or-map-range_with_len, length-map-range_with_len}
 use Rattle.std.proofs.lemmas.Option.{slice_get-get_or}
 use Rattle.screen_show.specs.Screen.{put_in_line, put_in_screen, IsPrinted, IsScreen}
-use Rattle.session_core.specs.Frozen.{frozen_by, held_at, line_over, with_frozen, ArePrinted}
-use Rattle.session_core.specs.Glances.{Stays}
+use Rattle.session_core.specs.Frozen.{frozen_by, held_at, line_over, with_frozen}
+use Rattle.session_core.specs.inner.Still.{ArePrinted}
+use Rattle.session_core.specs.inner.Glances.{Stays}
 use Rattle.session_core.specs.Machine.{FrozenAreas}
 
 -- a whole line takes the place of another

@@ -16,7 +16,8 @@ use Rattle.work_sheet.specs.Did.{work_of}
 use Rattle.work_sheet.specs.Seen.{of_worksheet, Sheet}
 use Rattle.work_sheet.specs.Sheets.{Worksheet}
 use Rattle.work_sheet.specs.Work.{HasWorked, Work}
-use Rattle.session_core.specs.Machine.{scene_at, sheet_of, with_channel, with_macro, with_sheet, Leads, LeadsOver, State, Worked}
+use Rattle.session_core.specs.Machine.{scene_at, sheet_of, with_channel, with_macro, with_sheet, State}
+use Rattle.session_core.specs.inner.Leading.{Leads, LeadsOver, Worked}
 use Rattle.session_core.specs.Step.{by_file, by_word, on_file, protected_target, served_as}
 use Rattle.session_core.proofs.Answered.{answered_then}
 use Rattle.session_core.proofs.Failing.{failed_calls}

@@ -15,7 +15,7 @@ use Rattle.sheet_store.specs.Grid.{is_formula, Grid}
 use Rattle.work_sheet.specs.Doing.{context_in, put, quiet, recalculated, settled}
 use Rattle.work_sheet.specs.Seen.{Sheet}
 use Rattle.session_core.specs.Moving.{IsMoved}
-use Rattle.session_core.specs.Touches.{touches_row, IsSettled, Settles, Touches}
+use Rattle.session_core.specs.inner.Touches.{touches_row, IsSettled, Settles, Touches}
 use Rattle.session_core.specs.declared.touched.Touched.{Touched}
 use Rattle.session_core.specs.declared.touched.Touched.TheVariants as touched
 

@@ -11,7 +11,8 @@ use Rattle.commands_file.specs.Calls.{ShelfView}
 use Rattle.session_core.proofs.Alone.{alone, no_replies}
 use Rattle.serial_date.specs.declared.moment.Moment.{Moment}
 use Rattle.session_core.specs.Carrying.{carried}
-use Rattle.session_core.specs.Machine.{idle, quiet, scene_at, Leads, LeadsOver, Outcome, Replies, State, Worked}
+use Rattle.session_core.specs.Machine.{idle, quiet, scene_at, Outcome, Replies, State}
+use Rattle.session_core.specs.inner.Leading.{Leads, LeadsOver, Worked}
 use Rattle.session_core.specs.Pressing.{turn_of}
 use Rattle.session_core.specs.Refusing.{key_refused}
 use Rattle.session_core.specs.Step.{taken}

@@ -40,8 +40,7 @@ use Rattle.sheet_edits.specs.Edits.{is_protected}
 use Rattle.work_sheet.specs.Doing as doing
 use Rattle.session_core.specs.Entering.{meaning_of}
 use Rattle.session_core.specs.Faults.{fault_message}
-use Rattle.session_core.specs.Machine.{and_further, followed_by, in_room, pointer_of, pointing_at, quiet, sheet_of}
-use Rattle.session_core.specs.Machine.{is_running, with_done, with_macro, Outcome, Replies, State}
+use Rattle.session_core.specs.Machine.{and_further, followed_by, in_room, pointer_of, pointing_at, quiet, sheet_of, is_running, with_done, with_macro, Outcome, Replies, State}
 use Rattle.session_core.specs.declared.entering.Meant.{Meant}
 use Rattle.session_core.specs.declared.entering.Meant.TheVariants.{Means, Faulty}
 use Rattle.session_core.specs.declared.refusal.Refusal.TheVariants as refusal
@@ -76,14 +75,6 @@ is_pointer_protected s = is_protected (sheet_of s).settings (sheet_of s).grid (p
 -- all is recalculated
 abbrev pub recalculated : Scene → State → Outcome
 recalculated scene s = with_done (doing.recalculated mean scene (sheet_of s)) s
-
--- in Automatic mode all is recalculated
-abbrev pub settling : Scene → State → Outcome
-settling scene s = with_done (doing.settled mean scene (sheet_of s)) s
-
--- a content is written into the pointer's cell
-abbrev pub writing : Content → Scene → State → Outcome
-writing x scene s = with_done (doing.put mean scene (pointer_of s) x (sheet_of s)) s
 
 -- a content is entered into the pointer's cell, in Automatic mode all is recalculated, and then the pointer moves
 abbrev pub entered : Content → Way → Scene → State → Outcome

@@ -1,12 +1,10 @@
 -- What of the screen stands still, where a macro has switched the panel or the windows off.
-use Rattle.std.specs.Prelude.{ℕ, ⊤, nat_lt, Bool, true, false, List, [], get_or, is_some, map, Option, None, Some, if◌then◌else◌}
+use Rattle.std.specs.Prelude.{ℕ, nat_lt, Bool, true, false, List, [], get_or, map, Option, None, Some, if◌then◌else◌}
 use Rattle.std.specs.List.{range_with_len}
 use Rattle.macro_words.specs.Moves.{all_on}
 use Rattle.macro_words.specs.declared.running.Running.{Running}
 use Rattle.macro_words.specs.declared.waiting.Switches.{Switches}
-use Rattle.screen_show.specs.Screen.{IsPrinted}
 use Rattle.session_core.specs.Machine.{FrozenAreas}
-use Rattle.session_core.specs.declared.glance.Still.{Still}
 
 -- the screen as which a line stands still, if it does: lines 0 to 2 are the panel's, and 3 to 23 the windows'
 abbrev pub held_at : FrozenAreas → ℕ → Option (List (List ℕ))
@@ -20,10 +18,6 @@ line_over (Some held) lines n = get_or held n []
 -- a screen, but for the lines that stand still
 unfoldable pub with_frozen : FrozenAreas → List (List ℕ) → List (List ℕ)
 with_frozen f lines = map (λ n. line_over (held_at f n) lines n) (range_with_len 0 25)
-
--- which areas stand still
-abbrev pub still_of : FrozenAreas → Still
-still_of f = record { panel = is_some f.panel; windows = is_some f.windows }
 
 -- what a macro that runs has switched on; all is where none runs
 abbrev pub switches_of : Option Running → Switches
@@ -40,8 +34,3 @@ frozen_by false before (Some lines) = Some lines
 abbrev pub frozen_after : List (List ℕ) → Switches → FrozenAreas → FrozenAreas
 frozen_after before x f =
     record { panel = frozen_by x.panel before f.panel; windows = frozen_by x.windows before f.windows }
-
--- no byte of a screen that is held is below a space
-abbrev pub ArePrinted : Option (List (List ℕ)) → Type 0
-ArePrinted None = ⊤
-ArePrinted (Some lines) = IsPrinted lines

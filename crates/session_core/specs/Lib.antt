@@ -3,7 +3,6 @@ pub mod Carrying
 pub mod Entering
 pub mod Faults
 pub mod Frozen
-pub mod Glances
 pub mod Machine
 pub mod Moving
 pub mod Pressing
@@ -11,7 +10,6 @@ pub mod Refusing
 pub mod Screen
 pub mod Standing
 pub mod Step
-pub mod Touches
 pub mod Unfailing
 pub mod Waiting
 pub mod inner

@@ -2,7 +2,7 @@
 use Rattle.std.specs.Prelude.{◌≡◌, ℕ, Bool, false, is_some, not, ◌||◌, Option, None, List, [], ◌++◌}
 use Rattle.cell_pointer.specs.Moves.{home}
 use Rattle.command_desk.specs.Desks.{on_sheet, Desk}
-use Rattle.commands_file.specs.Calls.{Asked, HasBrokenOver, HaveAnswered, Reply, ShelfView}
+use Rattle.commands_file.specs.Calls.{Asked, Reply}
 use Rattle.formula_eval.specs.declared.look.Scene.{Scene}
 use Rattle.grid_address.specs.Place.{Place}
 use Rattle.macro_engine.specs.Keys.{awaits_key}
@@ -39,11 +39,6 @@ pub record State : Type 0 where
   pub refusal : Refusal
   pub day : Option ℕ
   pub second : ℕ
-
--- the machine's state, and the work that was done
-pub record Worked : Type 0 where
-  pub state : State
-  pub work : Work
 
 -- a session: the machine's state, the work that was done, and whether memory ran out
 pub record SessionView : Type 0 where
@@ -158,28 +153,6 @@ followed_by o next = record {
   ends = (next o.state).ends;
   calls = o.calls ++ (next o.state).calls;
 }
-
--- the machine goes on to an outcome, with the work of what happened, and is told whether the run ends
-pub record Leads (o : Outcome) (told : Bool) (a b : Worked) : Type 0 where
-  pub state : b.state ≡ o.state
-  pub work : HasWorked o.log a.work b.work
-  pub ends : told ≡ o.ends
-
--- it goes on to what an act makes of its state, over this moment and where the pointer stands before
-abbrev pub LeadsBy : (Scene → State → Outcome) → Moment → Bool → Worked → Worked → Type 0
-LeadsBy act now told a b = Leads (act (scene_at a.state now) a.state) told a b
-
--- It goes on to what an act makes of its state over some answers of the shelf, which are those that what the shelf
--- holds gives, and the calls leave the shelf so.
-pub record LeadsOver (act : Replies → Scene → State → Outcome) (now : Moment) (told : Bool) (a b : Worked)
-    (before after : ShelfView) : Type 0 where
-  pub replies : Replies
-  pub leads : Leads (act replies (scene_at a.state now) a.state) told a b
-  pub answered : HaveAnswered (act replies (scene_at a.state now) a.state).calls before after
-
--- memory ran out in an act, over this moment and where the pointer stands before
-abbrev pub BreaksOver : (Replies → Scene → State → Outcome) → Moment → State → ShelfView → ShelfView → Type 0
-BreaksOver act now s before after = HasBrokenOver (λ replies. (act replies (scene_at s now) s).calls) before after
 
 -- a session goes on to an outcome, with the work of what happened
 pub record Follows (o : Outcome) (a b : SessionView) : Type 0 where

@@ -1,8 +1,7 @@
 -- The screen of a state.
-use Rattle.std.specs.Prelude.{◌≡◌, ℕ, List}
+use Rattle.std.specs.Prelude.{ℕ, List}
 use Rattle.control_panel.specs.declared.panel.Panel.{Panel}
 use Rattle.screen_layout.specs.Screen.{screen as painted}
-use Rattle.screen_show.specs.Screen.{IsPrinted}
 use Rattle.session_core.specs.Frozen.{with_frozen}
 use Rattle.session_core.specs.Machine.{is_running, sheet_of, State}
 use Rattle.session_core.specs.Pressing.{room_panel}
@@ -23,8 +22,3 @@ painted_screen s = painted (sheet_of s) (panel_of s) s.corner s.day s.second
 -- the screen that a state shows
 abbrev pub screen : State → List (List ℕ)
 screen s = with_frozen s.frozen (painted_screen s)
-
--- what a session keeps is the screen that its state shows; no byte of it is below a space
-pub record HasShown (s : State) (lines : List (List ℕ)) : Type 0 where
-  pub shown : lines ≡ screen s
-  pub printed : IsPrinted (screen s)

@@ -1,5 +1,5 @@
 -- What is shown of a macro that waits.
-use Rattle.std.specs.Prelude.{ℕ, ◌+◌, nat_lt, Bool, true, false, List, [], map, take, Option, None, Some, if◌then◌else◌, unwrap_or}
+use Rattle.std.specs.Prelude.{ℕ, ◌+◌, nat_lt, List, [], map, take, Option, None, Some, if◌then◌else◌, unwrap_or}
 use Rattle.std.specs.List.{range_with_len}
 use Rattle.command_desk.specs.Writing.{sight_in}
 use Rattle.control_panel.specs.Panels.{line_panel, plain_panel}
@@ -53,17 +53,3 @@ panel_by s _ p = p
 abbrev pub waiting_panel : Sheet → Option Running → Panel → Panel
 waiting_panel s None p = p
 waiting_panel s (Some r) p = panel_by s r.waiting p
-
--- a line or a menu
-abbrev pub is_shown : Waiting → Bool
-is_shown waiting.Nothing = false
-is_shown (waiting.Time n) = false
-is_shown (waiting.OneKey c) = false
-is_shown (waiting.Line q) = true
-is_shown (waiting.Item m) = true
-is_shown waiting.Enter = false
-
--- a macro shows its own line or menu
-abbrev pub shows_waiting : Option Running → Bool
-shows_waiting None = false
-shows_waiting (Some r) = is_shown r.waiting

@@ -3,6 +3,7 @@ ghost use Rattle.std.specs.Prelude.{◌≡◌, option_copied};
 ghost use Rattle.screen_show.specs.Screen.{IsPrinted};
 ghost use Rattle.session_core.specs.Machine.{unfrozen};
 ghost use Rattle.session_core.specs.Frozen as spec;
+ghost use Rattle.session_core.specs.inner.Still.{ArePrinted, still_of};
 
 use crate::glance::Still;
 use macro_words::Switches;
@@ -19,7 +20,7 @@ pub struct Frozen {
 
 impl Model for Frozen {
     ghost use Rattle.session_core.specs.Machine.{FrozenAreas};
-    ghost use Rattle.session_core.specs.Frozen.{ArePrinted};
+    ghost use Rattle.session_core.specs.inner.Still.{ArePrinted};
 
     ghost Value = { FrozenAreas };
 
@@ -56,7 +57,7 @@ impl Frozen {
 
     /// Which areas stand still.
     pub fn still(&self) -> Still
-        ensures { result ≡ spec.still_of self.now }
+        ensures { result ≡ still_of self.now }
     {
         Still {
             panel: self.panel.is_some(),
@@ -79,7 +80,7 @@ impl Frozen {
 
     /// No byte of what is held is below a space. It does nothing, and is called for its clause.
     pub fn is_printed(&self)
-        ensures { spec.ArePrinted self.now.panel × spec.ArePrinted self.now.windows }
+        ensures { ArePrinted self.now.panel × ArePrinted self.now.windows }
     {
         let _panel = &self.panel;
     }

@@ -1,7 +1,7 @@
 // Which lines of the screen may be others after a step.
 ghost use Rattle.std.specs.Prelude.{◌≡◌, ◌≤◌, ◌<◌, ℕ, false, true, is_some, slice_get, Some};
 ghost use Rattle.control_panel.specs.declared.panel.Mode.TheVariants.{Ready};
-ghost use Rattle.session_core.specs.Glances.{IsKept, KeepsRow, Stays};
+ghost use Rattle.session_core.specs.inner.Glances.{IsKept, KeepsRow, Stays};
 
 use crate::rows::{FOOT, insert_rows};
 use crate::touched::Touched;

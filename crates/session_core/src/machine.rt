@@ -6,16 +6,17 @@ ghost use Rattle.entry_line.specs.Line.{placed};
 ghost use Rattle.macro_engine.specs.Keys.{broken_off};
 ghost use Rattle.screen_show.specs.Screen.{IsPrinted};
 ghost use Rattle.session_core.specs.Carrying.{acted, asked, carried, entered, failed, faulting, finished, going, left_by};
-ghost use Rattle.session_core.specs.Carrying.{is_pointer_protected, looking, recalculated, settling, started, told, writing};
+ghost use Rattle.session_core.specs.Carrying.{is_pointer_protected, looking, recalculated, started, told};
+ghost use Rattle.session_core.specs.inner.Settling.{settling, writing};
 ghost use Rattle.session_core.specs.Frozen.{switches_of};
 ghost use Rattle.session_core.specs.Machine.{afresh, begun_with, in_room, pointer_of, pointing_at, scene_at, sheet_of};
 ghost use Rattle.session_core.specs.Machine.{wants_key, with_macro};
-ghost use Rattle.session_core.specs.Machine.{BreaksOver, Leads, LeadsBy, LeadsOver};
+ghost use Rattle.session_core.specs.inner.Leading.{BreaksOver, Leads, LeadsBy, LeadsOver};
 ghost use Rattle.session_core.specs.Moving.{IsMoved, OnlyMoves, OnlyMovesBy, OnlyMovesByKey};
 ghost use Rattle.session_core.specs.Moving.{OnlyMovesByPress, OnlyMovesGiven};
 ghost use Rattle.session_core.specs.Step.{answered, come_to, event_taken, framed, given, is_key};
 ghost use Rattle.session_core.specs.Step.{loaded, pressed_key, taken};
-ghost use Rattle.session_core.specs.Touches.{touches_row, HasTouched, Settles};
+ghost use Rattle.session_core.specs.inner.Touches.{touches_row, HasTouched, Settles};
 ghost use Rattle.work_sheet.specs.Did.{work_of};
 
 mod painting;
@@ -81,7 +82,7 @@ impl Model for Machine {
     ghost use Rattle.formula_tree.specs.contracts.formula.Formula as formula;
     ghost use Rattle.std.specs.Coded.{codes};
     ghost use Rattle.std.specs.FinMap as map;
-    ghost use Rattle.session_core.specs.Machine.{Worked};
+    ghost use Rattle.session_core.specs.inner.Leading.{Worked};
     ghost use Rattle.command_desk.specs.Desks.{of_desk};
 
     ghost Value = { Worked };

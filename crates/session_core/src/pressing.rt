@@ -2,7 +2,7 @@
 ghost use Rattle.std.specs.Prelude.{◌≡◌, IfOk, IfSome, IsOk};
 ghost use Rattle.command_desk.specs.Desks.{of_desk};
 ghost use Rattle.screen_layout.specs.Views.{viewed};
-ghost use Rattle.session_core.specs.Glances.{plain_mode};
+ghost use Rattle.session_core.specs.inner.Glances.{plain_mode};
 ghost use Rattle.session_core.specs.inner.Typing.{is_line_typed, with_byte};
 ghost use Rattle.session_core.specs.Moving.{KeepsNoAnswer, TakesNoMemory};
 ghost use Rattle.session_core.specs.Pressing.{pressed, room_panel, turn_of};

@@ -39,7 +39,7 @@ impl Model for Session {
     ghost use Rattle.std.specs.FinMap as map;
     ghost use Rattle.std.specs.Prelude.{◌≡◌, false};
     ghost use Rattle.session_core.specs.Machine.{SessionView};
-    ghost use Rattle.session_core.specs.Screen.{HasShown};
+    ghost use Rattle.session_core.specs.inner.Showing.{HasShown};
 
     ghost Value = { SessionView };
 

@@ -3,6 +3,7 @@ ghost use Rattle.std.specs.Prelude.{◌≡◌, ◌≤◌, length, option_copied,
 ghost use Rattle.lics_text.specs.Bytes.{IsText};
 ghost use Rattle.menu_room.specs.Ring.{items_line};
 ghost use Rattle.session_core.specs.Waiting as spec;
+ghost use Rattle.session_core.specs.inner.Showing.{shows_waiting};
 ghost use Rattle.work_sheet.specs.Seen.{of_worksheet};
 
 use control_panel::{Mode, Panel};
@@ -94,7 +95,7 @@ pub(crate) fn waiting_panel(sheet: &Sheet, running: Option<&Running>, room: Pane
 
 /// Whether a macro shows its own line or menu.
 pub(crate) fn shows_waiting(running: Option<&Running>) -> bool
-    ensures { result ≡ spec.shows_waiting (option_copied running.entry) }
+    ensures { result ≡ shows_waiting (option_copied running.entry) }
 {
     match running {
         Some(running) => matches!(&running.waiting, Waiting::Line(_) | Waiting::Item(_)),

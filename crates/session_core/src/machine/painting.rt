@@ -2,8 +2,9 @@
 ghost use Rattle.std.specs.Prelude.{◌≡◌, ◌≤◌, IfSome, [], get_or, slice_set};
 ghost use Rattle.screen_layout.specs.Views.{viewed};
 ghost use Rattle.screen_show.specs.Changes.{Unchanged};
-ghost use Rattle.session_core.specs.Glances.{glance_of, is_plain, marks_of, minute_of, told_plainly};
-ghost use Rattle.session_core.specs.Screen.{panel_of, screen, shown_panel, HasShown};
+ghost use Rattle.session_core.specs.inner.Glances.{glance_of, is_plain, marks_of, minute_of, told_plainly};
+ghost use Rattle.session_core.specs.Screen.{panel_of, screen, shown_panel};
+ghost use Rattle.session_core.specs.inner.Showing.{HasShown};
 
 use super::Machine;
 use crate::glance::{Foot, Glance, Marks, Minute};

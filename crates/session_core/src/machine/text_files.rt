@@ -1,9 +1,9 @@
 // Words on the text file that macros read and write.
 ghost use Rattle.std.specs.Prelude.{◌≡◌, false, IfOk, OnErr, OnOk};
 ghost use Rattle.commands_file.specs.Calls.{shelf_view};
-ghost use Rattle.session_core.specs.Machine.{BreaksOver, Leads, LeadsOver};
+ghost use Rattle.session_core.specs.inner.Leading.{BreaksOver, Leads, LeadsOver};
 ghost use Rattle.session_core.specs.Step.{by_file, by_word, protected_target, served_as};
-ghost use Rattle.session_core.specs.Touches.{HasTouched};
+ghost use Rattle.session_core.specs.inner.Touches.{HasTouched};
 
 use crate::machine::{Machine, UNTOUCHED, WORKED};
 use crate::touched::Taken;

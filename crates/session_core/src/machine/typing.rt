@@ -1,10 +1,11 @@
 // How a key is taken.
 ghost use Rattle.std.specs.Prelude.{◌≡◌, false, IfOk, IsOk, OnErr};
 ghost use Rattle.commands_file.specs.Calls.{shelf_view};
-ghost use Rattle.session_core.specs.Machine.{sheet_of, BreaksOver, LeadsOver};
+ghost use Rattle.session_core.specs.Machine.{sheet_of};
+ghost use Rattle.session_core.specs.inner.Leading.{BreaksOver, LeadsOver};
 ghost use Rattle.session_core.specs.Moving.{IsMoved, OnlyMovesByKey};
 ghost use Rattle.session_core.specs.Step.{taken};
-ghost use Rattle.session_core.specs.Touches.{HasTouched};
+ghost use Rattle.session_core.specs.inner.Touches.{HasTouched};
 ghost use Rattle.session_core.specs.inner.Typing.{typed_on};
 
 use super::Machine;

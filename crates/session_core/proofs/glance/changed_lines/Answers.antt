@@ -1,6 +1,6 @@
 use Rattle.std.proofs.Common.{◌≡◌, false, true, ℕ, Bool, List, Some, subst}
 use Rattle.std.specs.Prelude.{slice_get}
-use Rattle.session_core.specs.Glances.{Stays}
+use Rattle.session_core.specs.inner.Glances.{Stays}
 use Rattle.session_core.proofs.glance.changed_lines.Goals as goal
 
 -- a line that is out of a set, by its number

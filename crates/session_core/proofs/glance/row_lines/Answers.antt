@@ -1,7 +1,7 @@
 use Rattle.std.proofs.Common.{◌≡◌, ◌+◌, ◌-◌, Bool, false, true, rules, subst, sym}
 use Rattle.std.proofs.lemmas.Bool.{true≢false}
-use Rattle.session_core.specs.Glances.{Stays}
-use Rattle.session_core.specs.Touches.{touches_row}
+use Rattle.session_core.specs.inner.Glances.{Stays}
+use Rattle.session_core.specs.inner.Touches.{touches_row}
 use Rattle.session_core.specs.declared.touched.Touched.{Touched}
 use Rattle.session_core.proofs.ShownRows.{row_out}
 use Rattle.session_core.proofs.glance.row_lines.Goals as goal

@@ -1,7 +1,7 @@
 use Rattle.std.proofs.Common.{◌≡◌, ℕ, true, ap, subst, ◌∙◌}
 use Rattle.grid_address.specs.Place.{Place}
 use Rattle.session_core.specs.Machine.{pointer_of, scene_at, sheet_of, State}
-use Rattle.session_core.specs.Touches.{touches_row, Settles}
+use Rattle.session_core.specs.inner.Touches.{touches_row, Settles}
 use Rattle.session_core.specs.declared.touched.Touched.{Touched}
 use Rattle.session_core.proofs.Touching.{entry_touches}
 use Rattle.session_core.proofs.machine.Machine.enter.Goals as goal

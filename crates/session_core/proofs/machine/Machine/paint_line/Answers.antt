@@ -6,7 +6,8 @@ use Rattle.screen_layout.proofs.Painted.{line_at}
 use Rattle.screen_layout.specs.Screen.{screen_line}
 use Rattle.screen_layout.specs.Views.{viewed}
 use Rattle.session_core.specs.Frozen.{held_at, line_over}
-use Rattle.session_core.specs.Machine.{sheet_of, State, Worked}
+use Rattle.session_core.specs.Machine.{sheet_of, State}
+use Rattle.session_core.specs.inner.Leading.{Worked}
 use Rattle.session_core.specs.Screen.{painted_screen, panel_of, screen}
 use Rattle.session_core.proofs.Still.{put_whole, shown_at}
 use Rattle.session_core.proofs.machine.Machine.paint_line.Goals as goal

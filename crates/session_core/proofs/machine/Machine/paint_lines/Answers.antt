@@ -2,8 +2,9 @@ use Rattle.std.proofs.Common.{arith, subst, ℕ}
 use Rattle.screen_layout.proofs.Painted.{printed}
 use Rattle.screen_show.proofs.LineSets.{copying_ends, copying_starts, Copying}
 use Rattle.screen_show.specs.Screen.{IsPrinted}
-use Rattle.session_core.specs.Frozen.{ArePrinted}
-use Rattle.session_core.specs.Machine.{State, Worked}
+use Rattle.session_core.specs.inner.Still.{ArePrinted}
+use Rattle.session_core.specs.Machine.{State}
+use Rattle.session_core.specs.inner.Leading.{Worked}
 use Rattle.session_core.specs.Screen.{painted_screen, panel_of, screen}
 use Rattle.session_core.proofs.Still.{frozen_printed, long}
 use Rattle.session_core.proofs.machine.Machine.paint_lines.Goals as goal

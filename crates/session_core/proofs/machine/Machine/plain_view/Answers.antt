@@ -2,7 +2,7 @@ use Rattle.std.proofs.Common.{◌≡◌, rules, false, sym, ◌∙◌}
 use Rattle.screen_layout.specs.Views.{viewed}
 use Rattle.session_core.specs.Machine.{sheet_of, State}
 use Rattle.session_core.specs.Pressing.{room_panel}
-use Rattle.session_core.specs.Waiting.{shows_waiting}
+use Rattle.session_core.specs.inner.Showing.{shows_waiting}
 use Rattle.session_core.proofs.Kept.{nothing_shown}
 use Rattle.session_core.proofs.machine.Machine.plain_view.Goals as goal
 

@@ -3,8 +3,9 @@ use Rattle.cell_numbers.specs.Sets.{has}
 use Rattle.grid_address.specs.Place.{same_place, Place}
 use Rattle.work_sheet.specs.Seen.{of_worksheet}
 use Rattle.work_sheet.specs.Sheets.{Worksheet}
-use Rattle.session_core.specs.Machine.{sheet_of, Worked}
-use Rattle.session_core.specs.Touches.{is_row_in, IsSettled}
+use Rattle.session_core.specs.Machine.{sheet_of}
+use Rattle.session_core.specs.inner.Leading.{Worked}
+use Rattle.session_core.specs.inner.Touches.{is_row_in, IsSettled}
 use Rattle.session_core.specs.declared.machine.Machine.TheInside.{Inside}
 use Rattle.session_core.proofs.Settled.{recalculated_alike}
 use Rattle.session_core.proofs.ShownRows.{cells_out, row_in}

@@ -3,7 +3,7 @@ use Rattle.screen_show.specs.Changes.{Unchanged}
 use Rattle.screen_show.specs.Screen.{IsPrinted}
 use Rattle.session_core.specs.Frozen.{switches_of}
 use Rattle.session_core.specs.Machine.{afresh, scene_at, sheet_of, SessionView, State}
-use Rattle.session_core.specs.Touches.{HasTouched}
+use Rattle.session_core.specs.inner.Touches.{HasTouched}
 use Rattle.session_core.specs.Moving.{IsMoved, OnlyMovesBy}
 use Rattle.session_core.specs.Screen.{screen}
 use Rattle.work_sheet.specs.Doing.{with_pointer}

@@ -7,10 +7,10 @@ use Rattle.screen_layout.specs.Foot.{wants_recalculation}
 use Rattle.session_rooms.specs.declared.rooms.Room.{Room}
 use Rattle.session_rooms.specs.declared.rooms.Room.TheVariants as room
 use Rattle.typing_room.specs.Room.{told_mode}
-use Rattle.session_core.specs.Frozen.{still_of}
+use Rattle.session_core.specs.inner.Still.{still_of}
 use Rattle.session_core.specs.Machine.{is_running, sheet_of, State}
-use Rattle.session_core.specs.Waiting.{shows_waiting}
-use Rattle.session_core.specs.Touches.{touches_row}
+use Rattle.session_core.specs.inner.Showing.{shows_waiting}
+use Rattle.session_core.specs.inner.Touches.{touches_row}
 use Rattle.session_core.specs.declared.glance.Glance.{Glance}
 use Rattle.session_core.specs.declared.glance.Marks.{Marks}
 use Rattle.session_core.specs.declared.glance.Minute.{Minute}

@@ -1,0 +1,27 @@
+-- When the machine shows what a macro waits for, and what it has shown.
+use Rattle.std.specs.Prelude.{◌≡◌, ℕ, List, Bool, true, false, Option, None, Some}
+use Rattle.screen_show.specs.Screen.{IsPrinted}
+use Rattle.session_core.specs.Machine.{State}
+use Rattle.session_core.specs.Screen.{screen}
+use Rattle.macro_words.specs.declared.running.Running.{Running}
+use Rattle.macro_words.specs.declared.waiting.Waiting.{Waiting}
+use Rattle.macro_words.specs.declared.waiting.Waiting.TheVariants as waiting
+
+-- what a session keeps is the screen that its state shows; no byte of it is below a space
+pub record HasShown (s : State) (lines : List (List ℕ)) : Type 0 where
+  pub shown : lines ≡ screen s
+  pub printed : IsPrinted (screen s)
+
+-- a line or a menu
+abbrev pub is_shown : Waiting → Bool
+is_shown waiting.Nothing = false
+is_shown (waiting.Time n) = false
+is_shown (waiting.OneKey c) = false
+is_shown (waiting.Line q) = true
+is_shown (waiting.Item m) = true
+is_shown waiting.Enter = false
+
+-- a macro shows its own line or menu
+abbrev pub shows_waiting : Option Running → Bool
+shows_waiting None = false
+shows_waiting (Some r) = is_shown r.waiting
