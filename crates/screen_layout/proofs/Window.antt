@@ -11,7 +11,7 @@ use Rattle.range_names.specs.Names.{NameMap}
 use Rattle.sheet_store.specs.Grid.{is_hidden, own_width, width_of}
 use Rattle.sheet_store.specs.State.{CellState}
 use Rattle.work_sheet.specs.Seen.{Sheet}
-use Rattle.screen_layout.specs.Alike.{AreAlike}
+use Rattle.screen_layout.specs.inner.Alike.{AreAlike}
 use Rattle.shown_cells.specs.Cells.{state_text}
 use Rattle.screen_layout.specs.Cells.{cell_text}
 use Rattle.screen_layout.specs.Columns.{beside, column_text, columns_from, columns_line, margin, shown_columns}

@@ -1,4 +1,3 @@
-pub mod Alike
 pub mod Cells
 pub mod Columns
 pub mod Control

@@ -14,7 +14,7 @@ use Rattle.macro_words.specs.declared.waiting.Waiting.{Waiting}
 use Rattle.macro_words.specs.declared.waiting.Waiting.TheVariants as waiting
 use Rattle.screen_layout.proofs.Painted.{line_at}
 use Rattle.screen_layout.proofs.Window.{letters_same, row_same}
-use Rattle.screen_layout.specs.Alike.{AreAlike}
+use Rattle.screen_layout.specs.inner.Alike.{AreAlike}
 use Rattle.screen_layout.specs.Control.{below_line, entry_line, mode_name, mode_text, pointer_line, pointer_text}
 use Rattle.screen_layout.specs.Foot.{first_part, foot_line, marked, moment_text}
 use Rattle.screen_layout.specs.Lines.{filled, shown_line}

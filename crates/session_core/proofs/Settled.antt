@@ -15,7 +15,7 @@ use Rattle.natural_recalc.proofs.Valued.{get_valued, with_value}
 use Rattle.natural_recalc.specs.Passes.{evaluated, pass, passes, revalued, IsRest, IsSound, Meaning, RecalculationIsCut, SameContents}
 use Rattle.natural_recalc.specs.Reading.{is_formula_at, natural_order, order_in, plain_order}
 use Rattle.natural_recalc.specs.Context.{formula_at, formula_of, outlook_at, Context}
-use Rattle.screen_layout.specs.Alike.{AreAlike}
+use Rattle.screen_layout.specs.inner.Alike.{AreAlike}
 use Rattle.sheet_store.specs.Grid.{Grid}
 use Rattle.sheet_store.specs.declared.order.Order.{Order}
 use Rattle.sheet_store.specs.declared.order.Order.TheVariants as orders

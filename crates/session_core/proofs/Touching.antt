@@ -8,7 +8,7 @@ use Rattle.formula_eval.specs.declared.look.Scene.{Scene}
 use Rattle.formula_tree.specs.declared.value.Content.{Content}
 use Rattle.grid_address.proofs.Places.{same_place_is}
 use Rattle.grid_address.specs.Place.{same_place, Place}
-use Rattle.screen_layout.specs.Alike.{AreAlike}
+use Rattle.screen_layout.specs.inner.Alike.{AreAlike}
 use Rattle.sheet_edits.proofs.Beside.{beside}
 use Rattle.sheet_edits.specs.Edits.{entered, written, written_state}
 use Rattle.sheet_store.specs.Grid.{is_formula, Grid}

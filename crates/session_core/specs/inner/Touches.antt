@@ -2,7 +2,7 @@
 use Rattle.std.specs.Prelude.{◌≡◌, ℕ, ◌+◌, ◌-◌, ◌&&◌, Bool, true, false, get_or, if◌then◌else◌, nat_le, nat_lt, List}
 use Rattle.formula_eval.specs.Mean.{mean}
 use Rattle.formula_eval.specs.declared.look.Scene.{Scene}
-use Rattle.screen_layout.specs.Alike.{AreAlike}
+use Rattle.screen_layout.specs.inner.Alike.{AreAlike}
 use Rattle.work_sheet.specs.Doing.{recalculated}
 use Rattle.work_sheet.specs.Seen.{Sheet}
 use Rattle.session_core.specs.Machine.{sheet_of, State}
