@@ -17,8 +17,9 @@ use Rattle.work_sheet.specs.Sheets.{Worksheet}
 use Rattle.work_sheet.specs.Work.{no_work, HasWorked, Work}
 use Rattle.sheet_gen.specs.Rows.{IsGenerated}
 use Rattle.lics_text.specs.declared.faults.Memory.{Memory as NoMemory}
-use Rattle.sheet_run.specs.Beginning.{or_memory, HasBegunOr, HasReadFile, HasReadSheet, IsDeskOf, IsGeneratedDesk, IsLoaded}
-use Rattle.sheet_run.specs.Opening.{fresh, of_file, of_rows, taken_over, HasBegun}
+use Rattle.sheet_run.specs.inner.Beginning.{or_memory, HasBegunOr, HasReadFile, HasReadSheet, IsDeskOf, IsGeneratedDesk, IsLoaded}
+use Rattle.sheet_run.specs.Opening.{fresh, of_file, of_rows, taken_over}
+use Rattle.sheet_run.specs.inner.Begun.{HasBegun}
 use Rattle.sheet_run.specs.declared.options.Start.{Start}
 use Rattle.sheet_run.specs.declared.options.Start.TheVariants as given
 use Rattle.sheet_run.specs.declared.opening.NotBegun.{NotBegun}

@@ -17,15 +17,18 @@ use Rattle.work_sheet.specs.Work.{no_work, HasWorked}
 use Rattle.screen_show.specs.Display.{View}
 use Rattle.screen_show.specs.declared.display.DisplayKind.{DisplayKind}
 use Rattle.sheet_run.specs.Displays.{HasClosed, HasFailed, Sent, Watched, same_kind, views_of}
-use Rattle.sheet_run.specs.Driving.{HasDriven, HasEnded, IsAfter, LeavesState}
-use Rattle.sheet_run.specs.Notes.{LeavesSession, Tells, Tried, ending_note, ending_status, file_note, file_status, memory_note, session_notes, ToldRefused}
-use Rattle.sheet_run.specs.Beginning.{HasBegunOr, IsLoaded}
-use Rattle.sheet_run.specs.Opening.{calls_from, desk_from, log_from, opening, HasBegun, HasOpened, IsAskedFor, StartSheet}
+use Rattle.sheet_run.specs.inner.Driving.{HasDriven, IsAfter, LeavesState}
+use Rattle.sheet_run.specs.Run.{HasEnded}
+use Rattle.sheet_run.specs.Notes.{LeavesSession, Tells, Tried, ending_note, ending_status, file_note, file_status, memory_note, session_notes}
+use Rattle.sheet_run.specs.inner.Telling.{ToldRefused}
+use Rattle.sheet_run.specs.inner.Beginning.{HasBegunOr, IsLoaded}
+use Rattle.sheet_run.specs.Opening.{calls_from, desk_from, log_from, opening, HasOpened, IsAskedFor, StartSheet}
+use Rattle.sheet_run.specs.inner.Begun.{HasBegun}
 use Rattle.sheet_run.specs.Options.{bounds_of, limit_of, shown_kind, words_read}
-use Rattle.sheet_run.specs.Passing.{HasClosedOne, Passed}
+use Rattle.sheet_run.specs.inner.Passing.{HasClosedOne, Passed}
 use Rattle.sheet_run.specs.Run.{after, happened, outside, screens, Outside, Step}
 use Rattle.sheet_run.specs.Status.{RunsWith, Surroundings, asked, finished, is_any, no_memory, no_note, no_sheet, not_read, refused, surroundings, IsRun}
-use Rattle.sheet_run.specs.OptionAnswers.{refused_text, IsFromFile}
+use Rattle.sheet_run.specs.inner.OptionAnswers.{refused_text, IsFromFile}
 use Rattle.sheet_run.specs.declared.options.Bounds.{Bounds}
 use Rattle.sheet_run.specs.declared.options.Refused.{Refused as RefusedPart}
 use Rattle.sheet_run.specs.declared.drive.Ending.{Ending}

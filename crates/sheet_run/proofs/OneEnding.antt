@@ -11,7 +11,8 @@ use Rattle.session_core.specs.Step.{is_key}
 use Rattle.session_core.specs.declared.event.Event.{Event}
 use Rattle.session_core.specs.declared.event.Event.TheVariants.{Key as KeyEvent, Unit as UnitEvent}
 use Rattle.sheet_run.specs.Displays.{Watched}
-use Rattle.sheet_run.specs.Driving.{rested_as, HasEnded}
+use Rattle.sheet_run.specs.inner.Driving.{rested_as}
+use Rattle.sheet_run.specs.Run.{HasEnded}
 use Rattle.sheet_run.specs.Notes.{LeavesSession}
 use Rattle.sheet_run.specs.Notation.{HasKeys, Spells, SpellsUpTo}
 use Rattle.sheet_run.specs.Run.{after, key_in, keys_of, leaves_undone, moments_of, outcome, EndAtLast, Fit, HasRun}

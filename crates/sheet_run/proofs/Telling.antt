@@ -7,7 +7,8 @@ use Rattle.outside_world.specs.Causes.{Rose}
 use Rattle.outside_world.specs.declared.faults.Failed.{Failed}
 use Rattle.grid_address.specs.Address.{decimal}
 use Rattle.session_core.specs.Machine.{State}
-use Rattle.sheet_run.specs.Notes.{AddsPart, AddsText, HasWritten, Tells, ending_note, ending_status, note}
+use Rattle.sheet_run.specs.Notes.{AddsPart, AddsText, Tells, ending_note, ending_status, note}
+use Rattle.sheet_run.specs.inner.Telling.{HasWritten}
 use Rattle.sheet_run.specs.declared.drive.Ending.{Ending}
 
 pub told_as : (text line : List ℕ) (found status_found : ℕ) (before now : Option (List ℕ)) (faults faults' status : ℕ) → text ≡ line → found ≡ status_found →

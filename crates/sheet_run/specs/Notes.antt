@@ -1,5 +1,5 @@
 -- The notes of a run.
-use Rattle.std.specs.Prelude.{◌≡◌, ℕ, ◌+◌, ◌-◌, ◌/◌, ◌%◌, ◌≤◌, ◌⊎◌, nat_lt, Bool, Result, Ok, Err, List, [], ◌∷◌, ◌++◌, length, take, Option, Some, None, codes, if◌then◌else◌}
+use Rattle.std.specs.Prelude.{◌≡◌, ℕ, ◌+◌, ◌-◌, ◌/◌, ◌%◌, ◌≤◌, ◌⊎◌, nat_lt, Bool, Err, List, [], ◌∷◌, ◌++◌, length, take, Option, Some, None, codes, if◌then◌else◌}
 use Rattle.std.specs.Option.{unwrap_or}
 use Rattle.ascii_bytes.specs.Ascii as ascii
 use Rattle.grid_address.specs.Address.{decimal}
@@ -8,7 +8,6 @@ use Rattle.formula_tree.specs.declared.value.Value.{Value}
 use Rattle.formula_tree.specs.declared.value.Value.TheVariants as value
 use Rattle.grid_address.specs.Place.{Place}
 use Rattle.outside_world.specs.Causes.{Rose}
-use Rattle.outside_world.specs.declared.faults.Failed.{Failed}
 use Rattle.session_core.specs.Machine.{sheet_of, State}
 use Rattle.session_core.specs.Standing.{left_in, refused}
 use Rattle.sheet_store.specs.Grid.{Grid}
@@ -182,13 +181,3 @@ Tried text before now faults faults' = (AddsText text before now × (faults' ≡
 abbrev pub Tells : List ℕ → ℕ → Option (List ℕ) → Option (List ℕ) → ℕ → ℕ → ℕ → Type 0
 Tells text found before now faults faults' status = ((status ≡ found) × AddsText text before now × (faults' ≡ faults))
     ⊎ ((status ≡ 8) × AddsPart text before now × Rose faults faults')
-
--- the text was written, or its write failed
-abbrev pub HasWritten : List ℕ → Option (List ℕ) → Option (List ℕ) → ℕ → ℕ → Result Unit Failed → Type 0
-HasWritten text before now faults faults' (Ok _) = AddsText text before now × (faults' ≡ faults)
-HasWritten text before now faults faults' (Err f) = AddsPart text before now × Rose faults faults'
-
--- a refused word was told, or there was no memory for its line
-abbrev pub ToldRefused : List ℕ → Option (List ℕ) → Option (List ℕ) → ℕ → ℕ → ℕ → Type 0
-ToldRefused word before now faults faults' status = Tells (refused_note word) 1 before now faults faults' status
-    ⊎ ((status ≡ 9) × Tried memory_note before now faults faults')

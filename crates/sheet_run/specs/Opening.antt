@@ -1,8 +1,7 @@
 -- How a run begins: the start file is asked for, where the words name one, or a sheet is generated, where they say of
 -- how many rows; that sheet, or a fresh one, is recalculated.
 use Rattle.std.specs.Prelude.{◌≡◌, ℕ, ⊤, ◌⊎◌, List, [], ◌∷◌, ◌++◌, Option, Some, None, Ok, Err, false}
-use Rattle.command_desk.specs.Desks.{fresh_desk, of_desk, on_sheet, Desk}
-use Rattle.command_desk.specs.declared.desk.Desk as declared
+use Rattle.command_desk.specs.Desks.{fresh_desk, on_sheet, Desk}
 use Rattle.commands_file.specs.Calls.{failed, gets, loaded as loaded_as, Asked, HaveAnswered, Reply, ShelfView}
 use Rattle.outside_world.specs.Clock.{TakesReading}
 use Rattle.outside_world.specs.Shelf.{file_in, HasRead}
@@ -11,11 +10,9 @@ use Rattle.session_core.specs.Machine.{begun_with, Outcome}
 use Rattle.session_core.specs.Step.{loaded}
 use Rattle.sheet_gen.specs.Rows.{IsGenerated}
 use Rattle.sheet_store.specs.declared.writes.SavedSheet.{SavedSheet}
-use Rattle.work_sheet.specs.Did.{work_of}
 use Rattle.work_sheet.specs.Doing.{Done, Happened}
 use Rattle.work_sheet.specs.Editing.{restored}
 use Rattle.work_sheet.specs.Seen.{fresh_sheet}
-use Rattle.work_sheet.specs.Work.{no_work, HasWorked}
 use Rattle.sheet_run.specs.Run.{Outside}
 use Rattle.sheet_run.specs.declared.opening.NotRead.{NotRead}
 use Rattle.sheet_run.specs.declared.opening.NotRead.TheVariants.{NoSuchFile, Faulty, DiskError}
@@ -83,14 +80,6 @@ BreaksOff (given.File name) before now = (now ≡ before)
     ⊎ ((bytes : List ℕ) × HasRead (file_in name) name before.told now.told (Ok (Some bytes))
     × (now.faults ≡ before.faults))
 BreaksOff _ before now = now ≡ before
-
--- a desk was made, with the sheet that the words ask for, for which the shelf was asked so
-pub record HasBegun (asked : Start) (desk : declared.Desk) (before now : ShelfView) : Type 0 where
-  pub start : StartSheet
-  pub named : IsAskedFor asked start
-  pub answered : HaveAnswered (calls_from start) before now
-  pub desk_is : of_desk desk ≡ desk_from start
-  pub worked : HasWorked (log_from start) no_work (work_of desk.sheet 0)
 
 -- the start file was asked for and read, if the words name one, and then the clock was read for the start
 pub record HasOpened (asked : Start) (start : StartSheet) (first : Moment) (before now : Outside) : Type 0 where

@@ -5,7 +5,7 @@ use Rattle.commands_file.specs.Calls.{HaveAnswered, ShelfView}
 use Rattle.serial_date.specs.declared.moment.Moment.{Moment}
 use Rattle.work_sheet.specs.Work.{no_work, HasWorked, Work}
 use Rattle.sheet_run.specs.Displays.{HasClosed, HasFailed, Passes, Watched, same_kind, views_of}
-use Rattle.sheet_run.specs.Driving.{HasEnded}
+use Rattle.sheet_run.specs.Run.{HasEnded}
 use Rattle.sheet_run.specs.Notes.{LeavesSession, Tells, Tried, ending_note, ending_status, file_note, file_status, memory_note, refused_note, session_notes}
 use Rattle.sheet_run.specs.Opening.{answer_of, asked_for, opening, BreaksOff, HasOpened, StartSheet}
 use Rattle.sheet_run.specs.Options.{bounds_of, limit_of, shown_kind, words_read}

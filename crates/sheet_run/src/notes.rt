@@ -10,7 +10,8 @@ ghost use Rattle.session_core.specs.Standing.{left_in, refused};
 ghost use Rattle.sheet_run.specs.Options.{limit_of};
 ghost use Rattle.formula_tree.specs.Seen.{seen_value};
 ghost use Rattle.wk1_records.specs.declared.fault.Wk1Fault.TheVariants as fault;
-ghost use Rattle.sheet_run.specs.Notes.{HasWritten, LeavesSession, Tells, ToldRefused, Tried};
+ghost use Rattle.sheet_run.specs.Notes.{LeavesSession, Tells, Tried};
+ghost use Rattle.sheet_run.specs.inner.Telling.{HasWritten, ToldRefused};
 
 use crate::drive::Ending;
 use crate::opening::NotRead;

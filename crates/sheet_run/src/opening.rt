@@ -1,8 +1,7 @@
 // The start of a run: a fresh sheet, that of the start file, or a generated one.
 ghost use Rattle.std.specs.Prelude.{◌≡◌, IfOk};
 ghost use Rattle.sheet_run.specs.Around.{shelf_of};
-ghost use Rattle.sheet_run.specs.Beginning.{or_memory, HasBegunOr, HasLoaded, HasReadFile, HasReadSheet};
-ghost use Rattle.sheet_run.specs.Beginning.{IsDeskOf, IsGeneratedDesk};
+ghost use Rattle.sheet_run.specs.inner.Beginning.{or_memory, HasBegunOr, HasLoaded, HasReadFile, HasReadSheet, IsDeskOf, IsGeneratedDesk};
 
 use crate::options::{RowCount, Start};
 use command_desk::Desk;

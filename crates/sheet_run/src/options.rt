@@ -4,7 +4,7 @@ ghost use Rattle.std.specs.Str.{bytes_eq};
 ghost use Rattle.sheet_run.specs.Options.{is_given, is_named, is_number, rows_of, steps_of, file_of, kind_of};
 ghost use Rattle.sheet_run.specs.Options.{on_joined, on_value, on_word, option_joined, option_named};
 ghost use Rattle.sheet_run.specs.Options.{bounds_of, complete, taken, limit_of, shown_kind, has_front};
-ghost use Rattle.sheet_run.specs.OptionAnswers.{HasValue, HasTaken, HasReadWords};
+ghost use Rattle.sheet_run.specs.inner.OptionAnswers.{HasValue, HasTaken, HasReadWords};
 
 use crate::Words;
 use fixed_value::{all_digits, capped_number};

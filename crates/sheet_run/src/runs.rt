@@ -2,9 +2,9 @@
 ghost use Rattle.std.specs.Prelude.{◌≡◌, ℕ, List};
 ghost use Rattle.sheet_run.specs.Around.{around};
 ghost use Rattle.sheet_run.specs.Completeness.{Answers, HasEndedWell, RanAsTold, MustEndWell};
-ghost use Rattle.sheet_run.specs.Lent.{told_with, IsSame};
+ghost use Rattle.sheet_run.specs.inner.Lent.{told_with, IsSame};
 ghost use Rattle.sheet_run.specs.Notes.{file_note, file_status, Tells};
-ghost use Rattle.sheet_run.specs.OptionAnswers.{refused_text, IsFromFile, IsPart};
+ghost use Rattle.sheet_run.specs.inner.OptionAnswers.{refused_text, IsFromFile, IsPart};
 ghost use Rattle.sheet_run.specs.declared.options.Start.TheVariants as given;
 ghost use Rattle.sheet_run.specs.Status.{IsRun, RunsWith, Surroundings};
 

@@ -12,7 +12,8 @@ use Rattle.sheet_gen.specs.Rows.{IsGenerated}
 use Rattle.sheet_store.specs.declared.writes.SavedSheet.{SavedSheet}
 use Rattle.work_sheet.specs.Did.{work_of}
 use Rattle.work_sheet.specs.Work.{no_work, HasWorked}
-use Rattle.sheet_run.specs.Opening.{answer_of, asked_for, taken_over, BreaksOff, HasBegun}
+use Rattle.sheet_run.specs.Opening.{answer_of, asked_for, taken_over, BreaksOff}
+use Rattle.sheet_run.specs.inner.Begun.{HasBegun}
 use Rattle.wk1_file.specs.Files.{IsFile}
 use Rattle.sheet_run.specs.declared.opening.NotBegun.{NotBegun}
 use Rattle.sheet_run.specs.declared.opening.NotBegun.TheVariants.{NotRead, Memory}
