@@ -6,7 +6,7 @@ use Rattle.std.specs.Prelude.{is_some, option_map}
 use Rattle.commands_file.proofs.Broken.{broken_before, broken_behind, put_unfinished, read_unfinished}
 use Rattle.commands_file.specs.Calls.{failed, fetched, fetches, shelf_view, written, Asked, HasAnswered, HaveAnswered}
 use Rattle.commands_file.specs.Calls.{HaveBrokenOff, Reply, ShelfView}
-use Rattle.file_words.specs.Attaching.{attaching, finished, finished_by, put_away, taken, then_by, Attaching}
+use Rattle.file_words.specs.Attaching.{attaching, finished, finished_by, put_away, opened_as, then_by, Attaching}
 use Rattle.file_words.specs.Serving.{goes_on, served, served_by, HasBrokenWord, Served, WasServed}
 use Rattle.macro_text.specs.declared.position.Spot.{Spot}
 use Rattle.macro_words.specs.declared.files.FileWord.TheVariants as word
@@ -112,7 +112,7 @@ finish_failed (Some a) before after m n now counted h = by_failed a.access a bef
 
 take_done : (name : List ℕ) (access : Access) (before after : Option OnShelf) (n : ℕ) (now : Option Attached)
     (b : Bool) → HasTaken name access before after now (Ok b) →
-    Came (taken name access) (Some b) now (shelf_view before n) (shelf_view after n)
+    Came (opened_as name access) (Some b) now (shelf_view before n) (shelf_view after n)
 take_done name Write before after n now b h =
     record {
       reply = failed;
@@ -135,7 +135,7 @@ take_done name Modify before after n now b (got, read, is, there) = record {
 
 take_failed : (name : List ℕ) (access : Access) (before after : Option OnShelf) (m n : ℕ) (now : Option Attached)
     → (m ≤ n) × Rose m n → HasTaken name access before after now (Err fault.Failed) →
-    Came (taken name access) None now (shelf_view before m) (shelf_view after n)
+    Came (opened_as name access) None now (shelf_view before m) (shelf_view after n)
 take_failed name Write before after m n now counted h = no_answer h.0
 take_failed name Read before after m n now counted h =
     record {
@@ -165,10 +165,10 @@ module _ (name : List ℕ) (access : Access) (at : Spot) (old : Option Attached)
   -- the finishing was done or not, and then the attaching came to this
   attach_behind : (was : Bool) (left now : Option Attached) (came : Option Bool) (x y z : ShelfView)
       → Came (finished old) (Some was) left x y →
-      Came (taken name access) came now y z
+      Came (opened_as name access) came now y z
       → WasServed (asked_of name access at) (option_map (goes_on at) came) old now x z
   attach_behind was left now came x y z first second =
-      let next : Attaching = taken name access second.reply in
+      let next : Attaching = opened_as name access second.reply in
       let before : Attaching = finished old first.reply in
       let is : attaching name access old first.reply second.reply ≡ record next { calls = before.calls ++ next.calls } =
       ap (λ (o : Option Bool). then_by o before next) (sym first.done_so) in
@@ -188,7 +188,7 @@ module _ (name : List ℕ) (access : Access) (at : Spot) (old : Option Attached)
   attach_unfinished now x z first =
       let before : Attaching = finished old first.reply in
       let is : attaching name access old first.reply failed ≡ before =
-      ap (λ (o : Option Bool). then_by o before (taken name access failed)) (sym first.done_so) in
+      ap (λ (o : Option Bool). then_by o before (opened_as name access failed)) (sym first.done_so) in
       record {
         first = first.reply;
         second = failed;
@@ -204,7 +204,7 @@ module _ (name : List ℕ) (access : Access) (at : Spot) (old : Option Attached)
   by_answer before after m n now b stands (finished_first between left was first then_taken) =
       attach_behind was left now (Some b) (shelf_view before m) (shelf_view between m) (shelf_view after n)
       (finish_done old before between m left was first)
-      (subst (λ (k : ℕ). Came (taken name access) (Some b) now (shelf_view between m) (shelf_view after k))
+      (subst (λ (k : ℕ). Came (opened_as name access) (Some b) now (shelf_view between m) (shelf_view after k))
       (sym stands) (take_done name access between after m now b then_taken))
 
   -- OPEN attached its file, or found none
@@ -263,7 +263,7 @@ finishing_broken (Some a) before after m n now stands h = by_broken a.access a b
 -- it ran out where a file was attached behind that
 taking_broken : (name : List ℕ) (access : Access) (before after : Option OnShelf) (m n : ℕ) (now : Option Attached)
     → n ≡ m → HasTaken name access before after now (Err fault.Memory)
-    → HaveBrokenOff (taken name access failed).calls (shelf_view before m) (shelf_view after n)
+    → HaveBrokenOff (opened_as name access failed).calls (shelf_view before m) (shelf_view after n)
 taking_broken name Write before after m n now stands h = no_answer h.0
 taking_broken name Read before after m n now stands h =
     inl (read_unfinished (fetches name) (file_in name) name before after m n _ h.1 stands)
@@ -282,7 +282,7 @@ module _ (name : List ℕ) (access : Access) (at : Spot) (old : Option Attached)
   attaching_broken (unfinished e is h) = record {
     answers = (failed, failed);
     broke =
-        then_broken (finished old failed).done (finished old failed) (taken name access failed) _ _
+        then_broken (finished old failed).done (finished old failed) (opened_as name access failed) _ _
         (finishing_broken old before after m n now stands
         (subst (λ (r : Result Bool ChannelFault). HasFinished old before after now r) (sym is) h));
   }
@@ -290,7 +290,7 @@ module _ (name : List ℕ) (access : Access) (at : Spot) (old : Option Attached)
       let came : Came (finished old) (Some was) left (shelf_view before m) (shelf_view between m) =
       finish_done old before between m left was first in
       let one : Attaching = finished old came.reply in
-      let next : Attaching = taken name access failed in
+      let next : Attaching = opened_as name access failed in
       record {
         answers = (came.reply, failed);
         broke =

@@ -44,10 +44,10 @@ fetched_as name access (fetched got) =
 fetched_as name access r = by_call (fetches name) r None None
 
 -- a file is attached where none is: with no bytes to be written, and else the shelf's
-abbrev pub taken : List ℕ → Access → Reply → Attaching
-taken name Read reply = fetched_as name Read reply
-taken name Write reply = without_call true (Some (attached name Write [] 0))
-taken name Modify reply = fetched_as name Modify reply
+abbrev pub opened_as : List ℕ → Access → Reply → Attaching
+opened_as name Read reply = fetched_as name Read reply
+opened_as name Write reply = without_call true (Some (attached name Write [] 0))
+opened_as name Modify reply = fetched_as name Modify reply
 
 -- one behind another, unless the shelf failed
 abbrev pub then_by : Option Bool → Attaching → Attaching → Attaching
@@ -56,4 +56,4 @@ then_by (Some done) first next = record next { calls = first.calls ++ next.calls
 
 -- What is attached is finished first, by the shelf's first answer, and then a file is attached, by its second.
 abbrev pub attaching : List ℕ → Access → Option Attached → Reply → Reply → Attaching
-attaching name access c first second = then_by (finished c first).done (finished c first) (taken name access second)
+attaching name access c first second = then_by (finished c first).done (finished c first) (opened_as name access second)
