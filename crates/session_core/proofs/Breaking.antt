@@ -30,8 +30,8 @@ use Rattle.session_core.specs.Carrying.{behind, carried, looked_as, looking}
 use Rattle.session_core.specs.Machine.{afresh, scene_at, sheet_of, with_macro, Outcome, Replies, State}
 use Rattle.session_core.specs.inner.Leading.{BreaksOver}
 use Rattle.session_core.specs.Pressing.{turn_of}
-use Rattle.session_core.specs.Step.{answered, by_file, by_word, come_to, event_taken, given, on_file, pressed_key}
-use Rattle.session_core.specs.Step.{protected_target, taken, typed_into, HasBrokenStep}
+use Rattle.session_core.specs.Step.{by_waiting_macro, by_file, by_word, come_to, event_taken, given, on_file, pressed_key}
+use Rattle.session_core.specs.Step.{protected_target, by_key, typed_into, HasBrokenStep}
 use Rattle.session_core.specs.declared.event.Event.{Event}
 use Rattle.session_core.proofs.Stepping.{over_step, over_steps, pressed_given}
 
@@ -105,21 +105,21 @@ stepped_breaks made now s t scene running new_running came v w m n x y scene_is 
 
 -- memory ran out where a key was given, by whether the macro takes it
 pub given_answered_breaks : (k : Key) (now : Moment) (s : State) (x y : ShelfView) → takes_key k s.running ≡ true
-    → BreaksOver (answered k) now s x y → BreaksOver (given k) now s x y
+    → BreaksOver (by_waiting_macro k) now s x y → BreaksOver (given k) now s x y
 given_answered_breaks k now s x y is broke = record {
   answers = broke.answers;
   broke =
-      subst (λ (b : Bool). HaveBrokenOff (if b then answered k broke.answers (scene_at s now) s
-      else taken k broke.answers (scene_at s now) s).calls x y) (sym is) broke.broke;
+      subst (λ (b : Bool). HaveBrokenOff (if b then by_waiting_macro k broke.answers (scene_at s now) s
+      else by_key k broke.answers (scene_at s now) s).calls x y) (sym is) broke.broke;
 }
 
 pub given_taken_breaks : (k : Key) (now : Moment) (s : State) (x y : ShelfView) → takes_key k s.running ≡ false
-    → BreaksOver (taken k) now s x y → BreaksOver (given k) now s x y
+    → BreaksOver (by_key k) now s x y → BreaksOver (given k) now s x y
 given_taken_breaks k now s x y is broke = record {
   answers = broke.answers;
   broke =
-      subst (λ (b : Bool). HaveBrokenOff (if b then answered k broke.answers (scene_at s now) s
-      else taken k broke.answers (scene_at s now) s).calls x y) (sym is) broke.broke;
+      subst (λ (b : Bool). HaveBrokenOff (if b then by_waiting_macro k broke.answers (scene_at s now) s
+      else by_key k broke.answers (scene_at s now) s).calls x y) (sym is) broke.broke;
 }
 
 -- any key but BREAK is the macro's or the session's
@@ -130,16 +130,16 @@ pressed_breaks k now s x y other broke =
 
 -- memory ran out where BREAK was taken
 pub break_breaks : (now : Moment) (s t : State) (x y : ShelfView) → t ≡ with_macro (broken_off s.running) s
-    → BreaksOver (taken key.Break) now t x y → BreaksOver (pressed_key key.Break) now s x y
+    → BreaksOver (by_key key.Break) now t x y → BreaksOver (pressed_key key.Break) now s x y
 break_breaks now s t x y is broke =
-    let there : BreaksOver (taken key.Break) now (with_macro (broken_off s.running) s) x y =
-    subst (λ (u : State). BreaksOver (taken key.Break) now u x y) is broke in
+    let there : BreaksOver (by_key key.Break) now (with_macro (broken_off s.running) s) x y =
+    subst (λ (u : State). BreaksOver (by_key key.Break) now u x y) is broke in
     record { answers = there.answers; broke = there.broke }
 
 -- memory ran out in what a key came to
 pub taken_breaks : (k : Key) (turn : Turn) (now : Moment) (s t : State) (x y : ShelfView)
     → turn ≡ turn_of k s.room s.end s.desk → t ≡ typed_into k s
-    → BreaksOver (carried turn) now t x y → BreaksOver (taken k) now s x y
+    → BreaksOver (carried turn) now t x y → BreaksOver (by_key k) now s x y
 taken_breaks k turn now s t x y turn_is is broke =
     let there : BreaksOver (carried (turn_of k s.room s.end s.desk)) now (typed_into k s) x y =
     subst (λ (u : State). BreaksOver (carried (turn_of k s.room s.end s.desk)) now u x y) is

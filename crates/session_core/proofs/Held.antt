@@ -37,7 +37,7 @@ use Rattle.session_core.specs.Carrying.{acted, asked, behind, carried, done_by, 
 use Rattle.session_core.specs.Entering.{meaning_of}
 use Rattle.session_core.specs.Machine.{and_further, is_running, pointer_of, sheet_of, with_channel, with_done, with_macro, FrozenAreas, Outcome, Replies, State}
 use Rattle.session_core.specs.Pressing.{turn_of}
-use Rattle.session_core.specs.Step.{answered, come_to, event_taken, given, on_file, pressed_key, protected_target, run_on, seen_from, served_as, stepped, taken, typed_into}
+use Rattle.session_core.specs.Step.{by_waiting_macro, come_to, event_taken, given, on_file, pressed_key, protected_target, run_on, seen_from, served_as, stepped, by_key, typed_into}
 use Rattle.session_core.specs.declared.entering.Meant.{Meant}
 use Rattle.session_core.specs.declared.entering.Meant.TheVariants.{Means, Faulty as Misread}
 use Rattle.session_core.specs.declared.event.Event.{Event}
@@ -102,7 +102,7 @@ by_turn (turn.Start letter) replies scene s = by_starting (is_running s) (macro_
 by_turn turn.Undo replies scene s = refl
 by_turn (turn.Fail e) replies scene s = by_failing e scene s
 
-by_taking : (k : Key) (replies : Replies) (scene : Scene) (s : State) → (taken k replies scene s).state.frozen ≡ s.frozen
+by_taking : (k : Key) (replies : Replies) (scene : Scene) (s : State) → (by_key k replies scene s).state.frozen ≡ s.frozen
 by_taking k replies scene s = by_turn (turn_of k s.room s.end s.desk) replies scene (typed_into k s)
 
 by_serving : (x : Option Deed) (scene : Scene) (s : State) → (served_as x scene s).state.frozen ≡ s.frozen
@@ -131,7 +131,7 @@ by_step x replies scene s =
 
 by_giving : (k : Key) (replies : Replies) (scene : Scene) (s : State) → (given k replies scene s).state.frozen ≡ s.frozen
 by_giving k replies scene s =
-    either (takes_key k s.running) (answered k replies scene s) (taken k replies scene s) s.frozen
+    either (takes_key k s.running) (by_waiting_macro k replies scene s) (by_key k replies scene s) s.frozen
     (by_step (key_step scene k s.running (sheet_of s)) replies scene (record s { end = false })) (by_taking k replies scene s)
 
 by_pressing : (k : Key) (replies : Replies) (scene : Scene) (s : State) → (pressed_key k replies scene s).state.frozen ≡ s.frozen

@@ -28,9 +28,9 @@ use Rattle.session_core.specs.Machine.{afresh, and_further, followed_by, pointer
 use Rattle.session_core.specs.Machine.{with_macro, Outcome, Replies, State}
 use Rattle.session_core.specs.Pressing.{turn_of}
 use Rattle.session_core.specs.Screen.{screen}
-use Rattle.session_core.specs.Step.{answered, behind_word, by_step, by_word, come_to, event_taken, framed}
+use Rattle.session_core.specs.Step.{by_waiting_macro, behind_word, by_step, by_word, come_to, event_taken, framed}
 use Rattle.session_core.specs.Step.{given, on_file, pressed_key, protected_target, seen_from, served_as, step}
-use Rattle.session_core.specs.Step.{stepped, taken, typed_into}
+use Rattle.session_core.specs.Step.{stepped, by_key, typed_into}
 use Rattle.session_core.specs.Unfailing.{WereAnswered}
 use Rattle.session_core.specs.declared.event.Event.{Event}
 use Rattle.session_core.specs.declared.event.Event.TheVariants.{Key as KeyEvent, Unit as UnitEvent}
@@ -86,7 +86,7 @@ carried_one (turn.Start letter) scene s = λ rs qs x y z u alike w w'. refl
 carried_one turn.Undo scene s = λ rs qs x y z u alike w w'. refl
 carried_one (turn.Fail e) scene s = λ rs qs x y z u alike w w'. refl
 
-taken_one : (k : Key) (scene : Scene) (s : State) → IsOne outcome_calls (λ (rs : Replies). taken k rs scene s)
+taken_one : (k : Key) (scene : Scene) (s : State) → IsOne outcome_calls (λ (rs : Replies). by_key k rs scene s)
 taken_one k scene s = carried_one (turn_of k s.room s.end s.desk) scene (typed_into k s)
 
 -- a word on a text file is carried out
@@ -126,7 +126,7 @@ either_one false f g one other = other
 
 given_one : (k : Key) (scene : Scene) (s : State) → IsOne outcome_calls (λ (rs : Replies). given k rs scene s)
 given_one k scene s =
-    either_one (takes_key k s.running) (λ (rs : Replies). answered k rs scene s) (λ (rs : Replies). taken k rs scene s)
+    either_one (takes_key k s.running) (λ (rs : Replies). by_waiting_macro k rs scene s) (λ (rs : Replies). by_key k rs scene s)
     (stepped_one (key_step scene k s.running (sheet_of s)) scene (record s { end = false })) (taken_one k scene s)
 
 pressed_one : (k : Key) (scene : Scene) (s : State) → IsOne outcome_calls (λ (rs : Replies). pressed_key k rs scene s)

@@ -2,7 +2,7 @@
 use Rattle.std.proofs.Common.{◌≡◌, ℕ, Bool, List, [], ◌∷◌, ◌++◌, Option, None, Some, refl, sym}
 use Rattle.std.proofs.lemmas.List.{append-nil}
 use Rattle.commands_file.specs.Calls.{failed, fetched, fetches, loaded, puts, there, written, Asked, Reply}
-use Rattle.file_words.specs.Attaching.{attaching, fetched_as, finished, finished_by, put_away, taken, then_by}
+use Rattle.file_words.specs.Attaching.{attaching, fetched_as, finished, finished_by, put_away, opened_as, then_by}
 use Rattle.file_words.specs.Attaching.{Attaching}
 use Rattle.file_words.specs.Serving.{served, served_by, Served}
 use Rattle.macro_text.specs.declared.position.Spot.{Spot}
@@ -55,7 +55,7 @@ fetched_one name access = by_one_call attaching_calls (fetched_as name access) (
     (fetched_calls name access)
 
 -- a file is attached
-taken_one : (name : List ℕ) (access : Access) → IsOne attaching_calls (taken name access)
+taken_one : (name : List ℕ) (access : Access) → IsOne attaching_calls (opened_as name access)
 taken_one name Read = fetched_one name Read
 taken_one name Write = λ r q x y z u alike w w'. refl
 taken_one name Modify = fetched_one name Modify
@@ -67,7 +67,7 @@ nothing = record { done = None; channel = None; calls = [] }
 -- what follows behind the finishing, by what it came to
 abbrev then_taken : Option Bool → List ℕ → Access → Reply → Attaching
 then_taken None name access r = nothing
-then_taken (Some done) name access r = taken name access r
+then_taken (Some done) name access r = opened_as name access r
 
 then_one : (done : Option Bool) (name : List ℕ) (access : Access) → IsOne attaching_calls (then_taken done name access)
 then_one None name access = λ r q x y z u alike w w'. refl
@@ -80,7 +80,7 @@ then_calls None first name access r = sym (append-nil first.calls)
 then_calls (Some done) first name access r = refl
 
 then_same : (done : Option Bool) (first : Attaching) (name : List ℕ) (access : Access) (r : Reply) →
-    then_by done first (taken name access r) ≡ then_by done first (then_taken done name access r)
+    then_by done first (opened_as name access r) ≡ then_by done first (then_taken done name access r)
 then_same None first name access r = refl
 then_same (Some done) first name access r = refl
 

@@ -18,7 +18,7 @@ use Rattle.work_sheet.specs.Work.{HasWorked, Work}
 use Rattle.session_core.specs.Machine.{scene_at, sheet_of, with_macro, with_sheet, Outcome, Replies, State}
 use Rattle.session_core.specs.inner.Leading.{Leads, LeadsOver, Worked}
 use Rattle.session_core.specs.Moving.{OnlyMovesByPress, OnlyMovesGiven}
-use Rattle.session_core.specs.Step.{answered, come_to, given, pressed_key, stepped, taken}
+use Rattle.session_core.specs.Step.{by_waiting_macro, come_to, given, pressed_key, stepped, by_key}
 
 -- the state over the sheet and the macro that a step leaves
 abbrev pub over_step : State → Sheet → Option Running → State
@@ -67,7 +67,7 @@ unmarked a = record { state = record a.state { end = false }; work = a.work }
 
 -- a key that the macro takes leads on as its step does
 pub answered_over : (k : Key) (now : Moment) (told : Bool) (a b : Worked) (x y : ShelfView) →
-    LeadsOver (over_steps (λ scene. key_step scene k)) now told (unmarked a) b x y → LeadsOver (answered k) now told a b x y
+    LeadsOver (over_steps (λ scene. key_step scene k)) now told (unmarked a) b x y → LeadsOver (by_waiting_macro k) now told a b x y
 answered_over k now told a b x y l = record {
   replies = l.replies;
   leads = record { state = l.leads.state; work = l.leads.work; ends = l.leads.ends };
@@ -76,11 +76,11 @@ answered_over k now told a b x y l = record {
 
 -- BREAK leads on behind the macro that it stops
 pub broken_over : (now : Moment) (told : Bool) (a mid b : Worked) (x y : ShelfView) → mid.state ≡ with_macro (broken_off a.state.running) a.state → mid.work ≡ a.work →
-    LeadsOver (taken key.Break) now told mid b x y → LeadsOver (pressed_key key.Break) now told a b x y
+    LeadsOver (by_key key.Break) now told mid b x y → LeadsOver (pressed_key key.Break) now told a b x y
 broken_over now told a mid b x y state_is work_is l =
     let behind : Worked = record { state = with_macro (broken_off a.state.running) a.state; work = a.work } in
     let is : mid ≡ behind = λ i. record { state = state_is i; work = work_is i } in
-    let there : LeadsOver (taken key.Break) now told behind b x y = subst (λ (w : Worked). LeadsOver (taken key.Break) now told w b x y) is l in
+    let there : LeadsOver (by_key key.Break) now told behind b x y = subst (λ (w : Worked). LeadsOver (by_key key.Break) now told w b x y) is l in
     record {
       replies = there.replies;
       leads = record { state = there.leads.state; work = there.leads.work; ends = there.leads.ends };
@@ -89,11 +89,11 @@ broken_over now told a mid b x y state_is work_is l =
 
 -- a key that the macro takes is answered
 pub given_answered : (k : Key) (now : Moment) (told : Bool) (a b : Worked) (x y : ShelfView) → takes_key k a.state.running ≡ true →
-    LeadsOver (answered k) now told a b x y → LeadsOver (given k) now told a b x y
+    LeadsOver (by_waiting_macro k) now told a b x y → LeadsOver (given k) now told a b x y
 given_answered k now told a b x y is l =
     let scene : Scene = scene_at a.state now in
-    let same : given k l.replies scene a.state ≡ answered k l.replies scene a.state =
-    ap (λ (t : Bool). if t then answered k l.replies scene a.state else taken k l.replies scene a.state) is in
+    let same : given k l.replies scene a.state ≡ by_waiting_macro k l.replies scene a.state =
+    ap (λ (t : Bool). if t then by_waiting_macro k l.replies scene a.state else by_key k l.replies scene a.state) is in
     record {
       replies = l.replies;
       leads = subst (λ (o : Outcome). Leads o told a b) (sym same) l.leads;
@@ -102,11 +102,11 @@ given_answered k now told a b x y is l =
 
 -- any other key is taken in the room
 pub given_taken : (k : Key) (now : Moment) (told : Bool) (a b : Worked) (x y : ShelfView) → takes_key k a.state.running ≡ false →
-    LeadsOver (taken k) now told a b x y → LeadsOver (given k) now told a b x y
+    LeadsOver (by_key k) now told a b x y → LeadsOver (given k) now told a b x y
 given_taken k now told a b x y is l =
     let scene : Scene = scene_at a.state now in
-    let same : given k l.replies scene a.state ≡ taken k l.replies scene a.state =
-    ap (λ (t : Bool). if t then answered k l.replies scene a.state else taken k l.replies scene a.state) is in
+    let same : given k l.replies scene a.state ≡ by_key k l.replies scene a.state =
+    ap (λ (t : Bool). if t then by_waiting_macro k l.replies scene a.state else by_key k l.replies scene a.state) is in
     record {
       replies = l.replies;
       leads = subst (λ (o : Outcome). Leads o told a b) (sym same) l.leads;

@@ -15,7 +15,7 @@ use Rattle.session_core.specs.Machine.{idle, quiet, scene_at, Outcome, Replies, 
 use Rattle.session_core.specs.inner.Leading.{Leads, LeadsOver, Worked}
 use Rattle.session_core.specs.Pressing.{turn_of}
 use Rattle.session_core.specs.Refusing.{key_refused}
-use Rattle.session_core.specs.Step.{taken}
+use Rattle.session_core.specs.Step.{by_key}
 use Rattle.session_core.specs.inner.Typing.{is_line_typed, typed_on, with_byte}
 use Rattle.session_core.specs.declared.refusal.Refusal.TheVariants as refusal
 use Rattle.session_rooms.specs.declared.rooms.Room.{Room}
@@ -57,17 +57,17 @@ byte_carried (room.Failed message) b replies scene s typed = absurd (false≢tru
 
 -- a byte that is taken while a line is typed goes into it, and that is all
 pub byte_taken : (b : ℕ) (replies : Replies) (scene : Scene) (s : State) → is_line_typed s.room ≡ true →
-    taken (key.Byte b) replies scene s ≡ quiet (typed_on b s)
+    by_key (key.Byte b) replies scene s ≡ quiet (typed_on b s)
 byte_taken b replies scene s typed = byte_carried s.room b replies scene s typed
 
 -- so it leads on to that, and makes no call of the shelf
 pub byte_over : (b : ℕ) (now : Moment) (before behind : Worked) (v : ShelfView) →
     is_line_typed before.state.room ≡ true → behind.state ≡ typed_on b before.state → behind.work ≡ before.work →
-    LeadsOver (taken (key.Byte b)) now false before behind v v
+    LeadsOver (by_key (key.Byte b)) now false before behind v v
 byte_over b now before behind v typed state_is work_is =
     let scene : Scene = scene_at before.state now in
-    let same : taken (key.Byte b) no_replies scene before.state ≡ quiet (typed_on b before.state) =
+    let same : by_key (key.Byte b) no_replies scene before.state ≡ quiet (typed_on b before.state) =
     byte_taken b no_replies scene before.state typed in
     let leads : Leads (quiet (typed_on b before.state)) false before behind = search rules in
-    alone (taken (key.Byte b)) now false before behind v
+    alone (by_key (key.Byte b)) now false before behind v
     (subst (λ (o : Outcome). Leads o false before behind) (sym same) leads) (ap (λ (o : Outcome). o.calls) same)

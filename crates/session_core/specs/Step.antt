@@ -32,8 +32,8 @@ abbrev pub typed_into : Key → State → State
 typed_into k s = record (idle s) { refusal = key_refused k s.room }
 
 -- What the key comes to is carried out in READY, without END's mark, whether it is pressed or a macro types it.
-abbrev pub taken : Key → Replies → Scene → State → Outcome
-taken k replies scene s = carried (turn_of k s.room s.end s.desk) replies scene (typed_into k s)
+abbrev pub by_key : Key → Replies → Scene → State → Outcome
+by_key k replies scene s = carried (turn_of k s.room s.end s.desk) replies scene (typed_into k s)
 
 -- seen from where the pointer now stands
 abbrev pub seen_from : Scene → State → Scene
@@ -73,7 +73,7 @@ by_file d replies scene s = on_file (protected_target (target_of d.word) s) d re
 -- What follows behind a macro's step, by what it came to: a key that the macro types is taken, a word on a text file is
 -- carried out, a fault stops the macro and is told, and a protected cell is an error.
 abbrev pub come_to : StepEnd → Replies → Scene → State → Outcome
-come_to (Types k) replies scene s = taken k replies scene s
+come_to (Types k) replies scene s = by_key k replies scene s
 come_to Moves replies scene s = quiet s
 come_to Works replies scene s = quiet s
 come_to (Indicates t) replies scene s = quiet (record s { indicate = t })
@@ -87,18 +87,18 @@ stepped x replies scene s =
     followed_by (by_step x s) (λ t. come_to x.end replies (seen_from scene t) t)
 
 -- the macro that waits takes the key, which takes END's mark away; what the session is doing stays
-abbrev pub answered : Key → Replies → Scene → State → Outcome
-answered k replies scene s =
+abbrev pub by_waiting_macro : Key → Replies → Scene → State → Outcome
+by_waiting_macro k replies scene s =
     stepped (key_step scene k s.running (sheet_of s)) replies scene (record s { end = false })
 
 -- a key is the macro's, where that waits for it, or else the session's
 abbrev pub given : Key → Replies → Scene → State → Outcome
 given k replies scene s =
-    if takes_key k s.running then answered k replies scene s else taken k replies scene s
+    if takes_key k s.running then by_waiting_macro k replies scene s else by_key k replies scene s
 
 -- a key is pressed: BREAK is the session's, and stops a macro that hasn't switched it off
 abbrev pub pressed_key : Key → Replies → Scene → State → Outcome
-pressed_key key.Break replies scene s = taken key.Break replies scene (with_macro (broken_off s.running) s)
+pressed_key key.Break replies scene s = by_key key.Break replies scene (with_macro (broken_off s.running) s)
 pressed_key k replies scene s = given k replies scene s
 
 -- the macro that runs makes its next step

@@ -14,8 +14,8 @@ ghost use Rattle.session_core.specs.Machine.{wants_key, with_macro};
 ghost use Rattle.session_core.specs.inner.Leading.{BreaksOver, Leads, LeadsBy, LeadsOver};
 ghost use Rattle.session_core.specs.Moving.{IsMoved, OnlyMoves, OnlyMovesBy, OnlyMovesByKey};
 ghost use Rattle.session_core.specs.Moving.{OnlyMovesByPress, OnlyMovesGiven};
-ghost use Rattle.session_core.specs.Step.{answered, come_to, event_taken, framed, given, is_key};
-ghost use Rattle.session_core.specs.Step.{loaded, pressed_key, taken};
+ghost use Rattle.session_core.specs.Step.{by_waiting_macro, come_to, event_taken, framed, given, is_key};
+ghost use Rattle.session_core.specs.Step.{loaded, pressed_key, by_key};
 ghost use Rattle.session_core.specs.inner.Touches.{touches_row, HasTouched, Settles};
 ghost use Rattle.work_sheet.specs.Did.{work_of};
 
@@ -533,10 +533,10 @@ impl Machine {
     /// Takes a key, pressed or typed by a macro, before the screen follows it. A key that only moves the pointer, types
     /// or is passed over takes no memory, leaves all of the sheet but the pointer, and doesn't end the run.
     pub fn take<S: Shelf>(&mut self, key: Key, now: &Moment, shelf: &mut S) -> Result<Taken, Memory>
-        ensures ok { IfOk result (λ t. LeadsOver (taken key) now.now t.ends self.old self.new
+        ensures ok { IfOk result (λ t. LeadsOver (by_key key) now.now t.ends self.old self.new
             (shelf_view (S.holds shelf.old) (S.faults shelf.old))
             (shelf_view (S.holds shelf.new) (S.faults shelf.new))) }
-        ensures memory { OnErr result (BreaksOver (taken key) now.now self.old.state
+        ensures memory { OnErr result (BreaksOver (by_key key) now.now self.old.state
             (shelf_view (S.holds shelf.old) (S.faults shelf.old))
             (shelf_view (S.holds shelf.new) (S.faults shelf.new))) }
         ensures moves { OnlyMovesByKey key self.old.state → IsOk result }
@@ -625,10 +625,10 @@ impl Machine {
 
     // The macro that waits takes a key; what the session is doing stays.
     fn answer<S: Shelf>(&mut self, key: Key, now: &Moment, shelf: &mut S) -> Result<Taken, Memory>
-        ensures ok { IfOk result (λ t. LeadsOver (answered key) now.now t.ends self.old self.new
+        ensures ok { IfOk result (λ t. LeadsOver (by_waiting_macro key) now.now t.ends self.old self.new
             (shelf_view (S.holds shelf.old) (S.faults shelf.old))
             (shelf_view (S.holds shelf.new) (S.faults shelf.new))) }
-        ensures memory { OnErr result (BreaksOver (answered key) now.now self.old.state
+        ensures memory { OnErr result (BreaksOver (by_waiting_macro key) now.now self.old.state
             (shelf_view (S.holds shelf.old) (S.faults shelf.old))
             (shelf_view (S.holds shelf.new) (S.faults shelf.new))) }
         ensures touched { IfOk result (λ t. HasTouched t.touched self.old.state self.new.state) }

@@ -4,7 +4,7 @@ ghost use Rattle.commands_file.specs.Calls.{shelf_view};
 ghost use Rattle.session_core.specs.Machine.{sheet_of};
 ghost use Rattle.session_core.specs.inner.Leading.{BreaksOver, LeadsOver};
 ghost use Rattle.session_core.specs.Moving.{IsMoved, OnlyMovesByKey};
-ghost use Rattle.session_core.specs.Step.{taken};
+ghost use Rattle.session_core.specs.Step.{by_key};
 ghost use Rattle.session_core.specs.inner.Touches.{HasTouched};
 ghost use Rattle.session_core.specs.inner.Typing.{typed_on};
 
@@ -38,10 +38,10 @@ impl Machine {
         now: &Moment,
         shelf: &mut S,
     ) -> Result<Taken, Memory>
-        ensures ok { IfOk result (λ t. LeadsOver (taken key) now.now t.ends self.old self.new
+        ensures ok { IfOk result (λ t. LeadsOver (by_key key) now.now t.ends self.old self.new
             (shelf_view (S.holds shelf.old) (S.faults shelf.old))
             (shelf_view (S.holds shelf.new) (S.faults shelf.new))) }
-        ensures memory { OnErr result (BreaksOver (taken key) now.now self.old.state
+        ensures memory { OnErr result (BreaksOver (by_key key) now.now self.old.state
             (shelf_view (S.holds shelf.old) (S.faults shelf.old))
             (shelf_view (S.holds shelf.new) (S.faults shelf.new))) }
         ensures moves { OnlyMovesByKey key self.old.state → IsOk result }

@@ -6,7 +6,7 @@ use Rattle.session_core.proofs.Stepping.{answered_over, ends_as, stepped_over, u
 use Rattle.session_core.proofs.Touching.{touches_behind}
 use Rattle.work_sheet.specs.Seen.{of_worksheet}
 use Rattle.session_core.specs.Machine.{sheet_of}
-use Rattle.session_core.specs.Step.{answered}
+use Rattle.session_core.specs.Step.{by_waiting_macro}
 use Rattle.macro_engine.proofs.Stepping.{key_leaves, stepped_leaves}
 use Rattle.session_core.proofs.Breaking.{stepped_breaks}
 use Rattle.session_core.proofs.machine.Machine.answer.Goals as goal
@@ -14,7 +14,7 @@ use Rattle.session_core.proofs.machine.Machine.answer.Goals as goal
 -- what follows by the step's end leads on from the sheet and the macro that it leaves
 pub returns-clause-ok : goal.returns-clause-ok
 returns-clause-ok g c =
-    ends_as (answered c.args.key) c.args.now.now _ _ c.args.self.now c.come_to.new.self _ _ c.behind.ensures.ends
+    ends_as (by_waiting_macro c.args.key) c.args.now.now _ _ c.args.self.now c.come_to.new.self _ _ c.behind.ensures.ends
     (answered_over c.args.key c.args.now.now _ c.args.self.now c.come_to.new.self _ _
     (stepped_over (λ scene. key_step scene c.args.key) c.args.now.now _ (unmarked c.args.self.now) _ c.come_to.new.self c.scene-scene.result c.self.inside.engine c.answer.new.self _
     c.self.inside.desk.sheet c.answer.new.sheet c.self.inside.tally.count c.answer.new.tally.count _ _
