@@ -24,7 +24,7 @@ use Rattle.sheet_run.specs.Completeness.{at_their_end, begins, by_quitting, any,
 use Rattle.sheet_run.specs.Displays.{Watched, views_of}
 use Rattle.sheet_run.specs.Run.{HasEnded}
 use Rattle.key_words.specs.Notation.{Begins, IsNoText, Spells as SpellsWords}
-use Rattle.sheet_run.specs.Notation.{pressed, HasKeys, IntoLast, Spells, SpellsInto, SpellsUpTo}
+use Rattle.sheet_run.specs.Notation.{pressed, HasKeys, IntoLast, SpellsKeys, SpellsInto, SpellsUpTo}
 use Rattle.sheet_run.specs.Notes.{LeavesSession, ending_status}
 use Rattle.sheet_run.specs.Opening.{answer_of, asked_for, fresh, of_file, of_rows, opening, HasOpened, StartSheet}
 use Rattle.sheet_run.specs.Options.{bounds_of, limit_of}
@@ -75,7 +75,7 @@ pressed_front all words more keys rest is begins =
     ap pressed is ∙ pressed-append words more ∙ ap (λ (l : List Key). l ++ pressed more) begins ∙ append_assoc keys rest (pressed more)
 
 -- bytes that begin others spell keys that begin theirs
-keys_begin : (bytes taken rest : List ℕ) (some all : List Key) → bytes ≡ taken ++ rest → SpellsUpTo taken some → Spells bytes all → (more : List Key) × (all ≡ some ++ more)
+keys_begin : (bytes taken rest : List ℕ) (some all : List Key) → bytes ≡ taken ++ rest → SpellsUpTo taken some → SpellsKeys bytes all → (more : List Key) × (all ≡ some ++ more)
 keys_begin bytes taken rest some all split (inl spelled) whole =
     let i = spelled.into in
     let words : List (Key × ℕ) = i.words ++ (spelled.key, i.done + spelled.left) ∷ [] in

@@ -14,7 +14,7 @@ use Rattle.sheet_run.specs.Displays.{Watched}
 use Rattle.sheet_run.specs.inner.Driving.{rested_as}
 use Rattle.sheet_run.specs.Run.{HasEnded}
 use Rattle.sheet_run.specs.Notes.{LeavesSession}
-use Rattle.sheet_run.specs.Notation.{HasKeys, Spells, SpellsUpTo}
+use Rattle.sheet_run.specs.Notation.{HasKeys, SpellsKeys, SpellsUpTo}
 use Rattle.sheet_run.specs.Run.{after, key_in, keys_of, leaves_undone, moments_of, outcome, EndAtLast, Fit, HasRun}
 use Rattle.sheet_run.specs.Run.{Outside, Step}
 use Rattle.sheet_run.specs.Taking.{AtEnd, Ended, TakesBytes}
@@ -43,7 +43,7 @@ pub data Ends (bounds : Bounds) (s : State) (steps : List Step) (taken rest : Li
   by_stop : (last : EndAtLast bounds.strict s steps) → SpellsUpTo taken (keys_of steps) →
       ending ≡ stop_ending (outcome (after s last.front) last.last).ends (length steps) (length taken) →
       Ends bounds s steps taken rest ending
-  by_rest : AllGo bounds.strict (outcomes s steps) → wants_key (after s steps) ≡ true → Spells taken (keys_of steps) →
+  by_rest : AllGo bounds.strict (outcomes s steps) → wants_key (after s steps) ≡ true → SpellsKeys taken (keys_of steps) →
       AtTheEnd taken rest → ending ≡ rested_as (leaves_undone bounds.strict (after s steps)) (length steps)
       (length taken) →
       Ends bounds s steps taken rest ending

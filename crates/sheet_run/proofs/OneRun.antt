@@ -12,7 +12,7 @@ use Rattle.session_core.specs.Machine.{State}
 use Rattle.session_core.specs.Unfailing.{NoneFailed}
 use Rattle.work_sheet.specs.Work.{no_work, HasWorked, Work}
 use Rattle.screen_show.specs.declared.display.DisplayKind.{DisplayKind}
-use Rattle.sheet_run.specs.Displays.{same_kind, views_of, HasClosed, HasFailed, Passes, Screen, Watched}
+use Rattle.sheet_run.specs.Displays.{same_kind, views_of, HasClosed, HasFailed, Partitions, Screen, Watched}
 use Rattle.sheet_run.specs.Notes.{count_note, ending_note, ending_status, file_note, file_status, refused_note}
 use Rattle.sheet_run.specs.Notes.{rows_notes, session_notes, AddsText, Tells}
 use Rattle.sheet_run.specs.Opening.{answer_of, asked_for, calls_from, opening, StartSheet}
@@ -232,7 +232,7 @@ from_halves o a b c d found found' text text' x y alike hx hy =
     ∙ ap (λ (z : Outside). z.displays) y.opened.now_is)) in
     let now_shown : map shown_on (views_of x.left_now) ≡ map shown_on (views_of y.left_now) =
     all_alike (screens s x.steps) x.left x.left_now x.out_now y.left y.left_now y.out_now x.closed
-    (subst (λ (l : List Screen). Passes (HasClosed l) (HasFailed l) y.left y.left_now y.out_now) (sym shows)
+    (subst (λ (l : List Screen). Partitions (HasClosed l) (HasFailed l) y.left y.left_now y.out_now) (sym shows)
     y.closed) hx.none_out_now hy.none_out_now shown in
     record {
       founds = one_found moved end.ending x.found_is y.found_is;

@@ -10,7 +10,7 @@ use Rattle.key_words.specs.declared.begun.Begun.{Begun}
 use Rattle.key_words.specs.declared.begun.Begun.TheVariants.{Nothing}
 use Rattle.key_words.specs.declared.key.Key.{Key}
 use Rattle.key_words.proofs.Scanning.{after_keys, scan, scan-append, scan_then, text_scanned, word_scanned, Keys, Scan}
-use Rattle.sheet_run.specs.Notation.{pressed, HasKeys, Spells, SpellsUpTo}
+use Rattle.sheet_run.specs.Notation.{pressed, HasKeys, SpellsKeys, SpellsUpTo}
 use Rattle.sheet_run.proofs.Completing.{into_all}
 use Rattle.sheet_run.proofs.Fronts.{shorter_begins}
 use Rattle.sheet_run.proofs.Pressed.{into_spelled, pressed-append}
@@ -59,7 +59,7 @@ give_all bytes keys (words, h, is) =
     }
 
 -- whole words are words
-pub has_spelled : (bytes : List ℕ) (keys : List Key) → Spells bytes keys → HasKeys bytes keys
+pub has_spelled : (bytes : List ℕ) (keys : List Key) → SpellsKeys bytes keys → HasKeys bytes keys
 has_spelled bytes keys (words, spelled, is) = (
   words,
   record {

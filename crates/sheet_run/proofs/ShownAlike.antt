@@ -6,7 +6,7 @@ use Rattle.std.specs.List.{filter}
 use Rattle.std.proofs.lemmas.Bool.{true≢false}
 use Rattle.screen_show.specs.Display.{raised, with_end, Shown, View}
 use Rattle.screen_show.specs.declared.display.DisplayKind.{DisplayKind}
-use Rattle.sheet_run.specs.Displays.{no_screen, one_more, watched, views_of, HasClosed, HasFailed, HasShown, Passes}
+use Rattle.sheet_run.specs.Displays.{no_screen, one_more, watched, views_of, HasClosed, HasFailed, HasShown, Partitions}
 use Rattle.sheet_run.specs.Displays.{Screen, Sent, ShowsAndCloses, Watched}
 use Rattle.sheet_run.specs.Displays.{kept as pass_kept, none as pass_none, taken_out as pass_out}
 use Rattle.sheet_run.specs.Outcome.{shown_on}
@@ -44,7 +44,7 @@ one_closed screens v v' w w' same a b =
 
 -- of alike displays of which none failed the closed ones are alike
 pub all_alike : (screens : List Screen) (ds ks fs ds' ks' fs' : List Watched) →
-    Passes (HasClosed screens) (HasFailed screens) ds ks fs → Passes (HasClosed screens) (HasFailed screens) ds' ks'
+    Partitions (HasClosed screens) (HasFailed screens) ds ks fs → Partitions (HasClosed screens) (HasFailed screens) ds' ks'
     fs' →
     fs ≡ [] → fs' ≡ [] → map shown_on (befores ds) ≡ map shown_on (befores ds') →
     map shown_on (views_of ks) ≡ map shown_on (views_of ks')
@@ -71,7 +71,7 @@ starts_before : (vs : List View) → befores (map (λ v. watched v v) vs) ≡ vs
 starts_before [] = refl
 starts_before (v ∷ vs) = ap (λ (l : List View). v ∷ l) (starts_before vs)
 
-pass_before : {Kept Failing : View → View → Type 0} (ds ks fs : List Watched) → Passes Kept Failing ds ks fs → fs ≡ [] →
+pass_before : {Kept Failing : View → View → Type 0} (ds ks fs : List Watched) → Partitions Kept Failing ds ks fs → fs ≡ [] →
     befores ks ≡ befores ds
 pass_before ds ks fs pass_none none = refl
 pass_before ds ks fs (pass_kept {d} had rest) none = ap (λ (l : List View). d.before ∷ l) (pass_before _ _ _ rest none)

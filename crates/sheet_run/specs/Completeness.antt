@@ -10,7 +10,7 @@ use Rattle.session_core.specs.Unfailing.{NoneFailed}
 use Rattle.sheet_gen.specs.Rows.{IsGenerated}
 use Rattle.sheet_store.specs.declared.writes.SavedSheet.{SavedSheet}
 use Rattle.wk1_file.specs.Files.{IsFile}
-use Rattle.sheet_run.specs.Notation.{Spells, SpellsInto, SpellsUpTo}
+use Rattle.sheet_run.specs.Notation.{SpellsKeys, SpellsInto, SpellsUpTo}
 use Rattle.sheet_run.specs.Opening.{of_file, of_rows, opening, fresh, StartSheet}
 use Rattle.sheet_run.specs.Options.{limit_of, words_read}
 use Rattle.sheet_run.specs.Run.{after, calls_of, keys_of, moments_of, EndAtLast, Fit, GoOn, Outside, Step}
@@ -78,7 +78,7 @@ QuitWithin answers before start limit keys =
 -- begin with words that give keys by which the run is quit within them, whatever comes behind.
 pub data EndWithin (answers : Answers) (before : Outside) (start : Beginning) (limit : ℕ) (bytes : List ℕ)
     : Type 0 where
-  at_their_end : (keys : List Key) → Spells bytes keys → RestWithin answers before start limit keys →
+  at_their_end : (keys : List Key) → SpellsKeys bytes keys → RestWithin answers before start limit keys →
       EndWithin answers before start limit bytes
   by_quitting : (front rest : List ℕ) (keys : List Key) → bytes ≡ front ++ rest → SpellsInto front keys →
       QuitWithin answers before start limit keys → EndWithin answers before start limit bytes
@@ -122,7 +122,7 @@ pub record ReadToEnd (start : Beginning) (before now : Outside) : Type 0 where
   pub took : TakesBytes before.bytes taken now.bytes
   pub first : Moment
   pub steps : List Step
-  pub spelled : Spells taken (keys_of steps)
+  pub spelled : SpellsKeys taken (keys_of steps)
   pub fit : Fit (begins start first) steps
   pub go_on : GoOn start.strict (begins start first) steps
   pub wanted : wants_key (after (begins start first) steps) ≡ true

@@ -130,9 +130,9 @@ on_word o w =
     else waiting o w (option_named w)
 
 -- what a word comes to, where a value is wanted or not
-abbrev pub taken : Options → Option Wanted → List ℕ → Result (Options × Option Wanted) (List ℕ)
-taken o None word = on_word o word
-taken o (Some wanted) value = complete (on_value o wanted value)
+abbrev pub read_word : Options → Option Wanted → List ℕ → Result (Options × Option Wanted) (List ℕ)
+read_word o None word = on_word o word
+read_word o (Some wanted) value = complete (on_value o wanted value)
 
 -- what comes behind a word, unless it is refused
 abbrev pub go_on : Result (Options × Option Wanted) (List ℕ) → (Options → Option Wanted → Result Options (List ℕ)) →
@@ -149,7 +149,7 @@ at_end o (Some wanted) = Err (option_text wanted)
 -- missing.
 abbrev pub read_on : Options → Option Wanted → List (List ℕ) → Result Options (List ℕ)
 read_on o wanted [] = at_end o wanted
-read_on o wanted (w ∷ ws) = go_on (taken o wanted w) (λ p next. read_on p next ws)
+read_on o wanted (w ∷ ws) = go_on (read_word o wanted w) (λ p next. read_on p next ws)
 
 -- what the words ask for, or the bytes that are refused
 abbrev pub words_read : List (List ℕ) → Result Options (List ℕ)

@@ -4,7 +4,7 @@ use Rattle.std.specs.List.{filter}
 use Rattle.commands_file.specs.Calls.{HaveAnswered, ShelfView}
 use Rattle.serial_date.specs.declared.moment.Moment.{Moment}
 use Rattle.work_sheet.specs.Work.{no_work, HasWorked, Work}
-use Rattle.sheet_run.specs.Displays.{HasClosed, HasFailed, Passes, Watched, same_kind, views_of}
+use Rattle.sheet_run.specs.Displays.{HasClosed, HasFailed, Partitions, Watched, same_kind, views_of}
 use Rattle.sheet_run.specs.Run.{HasEnded}
 use Rattle.sheet_run.specs.Notes.{LeavesSession, Tells, Tried, ending_note, ending_status, file_note, file_status, memory_note, refused_note, session_notes}
 use Rattle.sheet_run.specs.Opening.{answer_of, asked_for, opening, BreaksOff, HasOpened, StartSheet}
@@ -60,7 +60,7 @@ pub record HasFinished (options : Options) (before now : Outside) (found : ℕ) 
   pub worked : HasWorked ((opening start first).log ++ happened (opening start first).state steps) no_work work
   pub left_now : List Watched
   pub out_now : List Watched
-  pub closed : Passes (HasClosed (screens (opening start first).state steps))
+  pub closed : Partitions (HasClosed (screens (opening start first).state steps))
       (HasFailed (screens (opening start first).state steps)) left left_now out_now
   pub now_is : now ≡ closed_outside middle left_now out_now
   pub found_is : found ≡ ending_status (is_any (out ++ out_now)) ending

@@ -3,7 +3,7 @@ ghost use Rattle.std.specs.Prelude.{◌≡◌, ◌≤◌, ◌<◌, min, drop, le
 ghost use Rattle.std.specs.Str.{bytes_eq};
 ghost use Rattle.sheet_run.specs.Options.{is_given, is_named, is_number, rows_of, steps_of, file_of, kind_of};
 ghost use Rattle.sheet_run.specs.Options.{on_joined, on_value, on_word, option_joined, option_named};
-ghost use Rattle.sheet_run.specs.Options.{bounds_of, complete, taken, limit_of, shown_kind, has_front};
+ghost use Rattle.sheet_run.specs.Options.{bounds_of, complete, read_word, limit_of, shown_kind, has_front};
 ghost use Rattle.sheet_run.specs.inner.OptionAnswers.{HasValue, HasTaken, HasReadWords};
 
 use crate::Words;
@@ -361,7 +361,7 @@ fn take_word(
     wanted: Option<Wanted>,
     word: &[u8],
 ) -> Result<(Options, Option<Wanted>), usize>
-    ensures { HasTaken word.now (taken options wanted word.now) result }
+    ensures { HasTaken word.now (read_word options wanted word.now) result }
 {
     match wanted {
         None => on_word(options, word),
