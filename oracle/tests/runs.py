@@ -2,12 +2,12 @@
 compared. First go the worked ones of worked/runs, each a line of the program's words and keys, as a bytes literal
 spells them, and files of its folder as NAME=BYTES, parted by tabs; then random ones.
 
-python3 -B -m oracle.tests.runs PROGRAM N [SEED] [--macros | --waits] [--strict] [--random] [--processes P]
+python3 -B -m oracle.tests.runs PROGRAM N [SEED] [--macros | --waits] [--strict] [--undo] [--random] [--processes P]
 
 With --macros each list types two to four sheets of macros, and none of data commands; with --waits all of them are
-macros that ask, wait and switch. With --strict each run is strict, and with --random the worked ones are left out. P
-processes share the lists, as many as the machine has processors where P isn't given. Each run has a folder of its own,
-which mostly holds a few files."""
+macros that ask, wait and switch. With --strict each run is strict, with --undo UNDO stands between the keys of each
+list, and with --random the worked ones are left out. P processes share the lists, as many as the machine has processors
+where P isn't given. Each run has a folder of its own, which mostly holds a few files."""
 import functools
 import os
 import random
@@ -20,6 +20,7 @@ from ..make.cases import worked
 from ..make.pool import processes
 from ..make.runs import Run, expected, kind_of, read_run, without_moments
 from ..make.typist import Typist
+from ..make.undo_keys import with_undos
 from .checks import ended, parser
 
 
@@ -110,10 +111,12 @@ def run_differs(program, given):
     return screens, written, why and 'runs: ' + why_differs(given, why)
 
 
-def compared(program, seed, alone, strict, number):
+def compared(program, seed, alone, strict, undo, number):
     """A run of random keys; `alone` is `macros` or `waits` where the sheets are of these alone."""
     typist = Typist(random.Random(f'{seed} run {number}'), alone == 'macros', alone == 'waits', strict)
     keys, options = typist.keys(), typist.words()
+    if undo:
+        keys = with_undos(random.Random(f'{seed} undo {number}'), keys)
     return run_differs(program, Run(options, keys, typist.folder))
 
 
@@ -129,10 +132,11 @@ def main(words):
     kinds.add_argument('--macros', action='store_const', const='macros', dest='alone')
     kinds.add_argument('--waits', action='store_const', const='waits', dest='alone')
     asked.add_argument('--strict', action='store_true')
+    asked.add_argument('--undo', action='store_true')
     asked.add_argument('--random', action='store_true')
     asked = asked.parse_args(words)
     count, seed = asked.count, asked.seed
-    one = functools.partial(compared, asked.program, seed, asked.alone, asked.strict)
+    one = functools.partial(compared, asked.program, seed, asked.alone, asked.strict, asked.undo)
     lines = [] if asked.random else worked('runs').splitlines()
     with processes(asked.processes) as pool:
         first = list(pool.map(functools.partial(worked_run, asked.program), lines, chunksize=5))
