@@ -14,8 +14,8 @@ use Rattle.macro_text.specs.Texts.{macro_text, part}
 use Rattle.macro_text.specs.declared.position.Position.{Position}
 use Rattle.macro_text.specs.declared.position.Spot.{Spot}
 use Rattle.macro_text.specs.declared.unit.MacroFault.TheVariants as fault
-use Rattle.macro_text.specs.declared.unit.Turn.{Turn}
-use Rattle.macro_text.specs.declared.unit.Turn.TheVariants.{Now, Passed}
+use Rattle.macro_text.specs.declared.unit.WordOutcome.{WordOutcome}
+use Rattle.macro_text.specs.declared.unit.WordOutcome.TheVariants.{Now, Passed}
 use Rattle.macro_text.specs.declared.unit.Unit.{Unit}
 use Rattle.macro_text.specs.declared.unit.Unit.TheVariants as unit
 
@@ -64,43 +64,43 @@ is_left None typed = false
 is_left (Some n) typed = nat_lt typed n
 
 -- A repeated key is typed once more, or passed where it was typed as often as it is to be: a number, cut toward zero.
-abbrev pub repeated_turn : Key → Option ℤ → ℕ → Position → Turn
-repeated_turn k None end p = Now (unit.Fault fault.BadArgument) p
-repeated_turn k (Some n) end p =
+abbrev pub repeated_outcome : Key → Option ℤ → ℕ → Position → WordOutcome
+repeated_outcome k None end p = Now (unit.Fault fault.BadArgument) p
+repeated_outcome k (Some n) end p =
     if is_left (count_of n) p.typed then Now (unit.Key k) (record p { typed = p.typed + 1 }) else Passed (behind end p)
 
 -- the macro does this
-abbrev pub now : Next → Turn
+abbrev pub now : Next → WordOutcome
 now n = Now n.0 n.1
 
 -- a word that ends at this offset; the number of a repeated key is read anew each time
-abbrev pub word_turn : Outlook → List ℕ → MacroWord → ℕ → Position → Turn
-word_turn w text (word.Key k) end p = Now (unit.Key k) (behind end p)
-word_turn w text (word.Repeated k c) end p = repeated_turn k (number_of w p.spot.cell (part text c)) end p
-word_turn w text (word.Command c args) end p = now (carried end p)
-word_turn w text (word.Call name args) end p = now (call_unit (named_span w.sight.names (part text name)) end p)
-word_turn w text (word.PlaceCall c) end p = now (carried end p)
-word_turn w text word.End end p = now (down p)
-word_turn w text word.Bad end p = now (unknown p)
+abbrev pub word_outcome : Outlook → List ℕ → MacroWord → ℕ → Position → WordOutcome
+word_outcome w text (word.Key k) end p = Now (unit.Key k) (behind end p)
+word_outcome w text (word.Repeated k c) end p = repeated_outcome k (number_of w p.spot.cell (part text c)) end p
+word_outcome w text (word.Command c args) end p = now (carried end p)
+word_outcome w text (word.Call name args) end p = now (call_unit (named_span w.sight.names (part text name)) end p)
+word_outcome w text (word.PlaceCall c) end p = now (carried end p)
+word_outcome w text word.End end p = now (down p)
+word_outcome w text word.Bad end p = now (unknown p)
 
 -- a cell without a text ends the routine
-abbrev pub text_turn : Outlook → Option (List ℕ) → Position → Turn
-text_turn w None p = Now unit.Return p
-text_turn w (Some text) p = word_turn w text (unit_at text p.spot.offset).0 (unit_at text p.spot.offset).1 p
+abbrev pub text_outcome : Outlook → Option (List ℕ) → Position → WordOutcome
+text_outcome w None p = Now unit.Return p
+text_outcome w (Some text) p = word_outcome w text (unit_at text p.spot.offset).0 (unit_at text p.spot.offset).1 p
 
 -- the word at the place, as the text now stands
-unfoldable pub turn_at : Outlook → Position → Turn
-turn_at w p = text_turn w (macro_text w.sight p.spot.cell) p
+unfoldable pub outcome_at : Outlook → Position → WordOutcome
+outcome_at w p = text_outcome w (macro_text w.sight p.spot.cell) p
 
 -- what the macro does, or what it does behind a word that it passes
-abbrev pub go_on : Turn → (Position → Next) → Next
+abbrev pub go_on : WordOutcome → (Position → Next) → Next
 go_on (Now u p) rest = (u, p)
 go_on (Passed p) rest = rest p
 
 -- within so many words
 unfoldable pub unit_within : ℕ → Outlook → Position → Next
 unit_within zero w p = (unit.Return, p)
-unit_within (suc n) w p = go_on (turn_at w p) (unit_within n w)
+unit_within (suc n) w p = go_on (outcome_at w p) (unit_within n w)
 
 -- a text has at most 240 words, and an end
 abbrev pub most_words : ℕ

@@ -48,7 +48,7 @@ pub enum Unit {
 
 // What a word comes to: a unit and the place behind it, or it is passed.
 #[derive(Clone, Copy)]
-enum Turn {
+enum WordOutcome {
     Now(Unit, Position),
     Passed(Position),
 }
@@ -71,7 +71,7 @@ fn behind(end: usize, position: &Position) -> Position
 }
 
 // The cell below, where there is one.
-fn down(position: &Position) -> Turn
+fn down(position: &Position) -> WordOutcome
     ensures { result ≡ spec.now (spec.down position.now) }
 {
     let Cell { row, col } = position.spot.cell;
@@ -80,28 +80,28 @@ fn down(position: &Position) -> Turn
             cell: Cell { row: row + 1, col },
             offset: 0,
         };
-        Turn::Now(Unit::Down, at_spot(below))
+        WordOutcome::Now(Unit::Down, at_spot(below))
     } else {
-        Turn::Now(Unit::Return, *position)
+        WordOutcome::Now(Unit::Return, *position)
     }
 }
 
 // A word that is none.
-fn unknown(position: &Position) -> Turn
+fn unknown(position: &Position) -> WordOutcome
     ensures { result ≡ spec.now (spec.unknown position.now) }
 {
-    Turn::Now(Unit::Fault(MacroFault::UnknownWord), *position)
+    WordOutcome::Now(Unit::Fault(MacroFault::UnknownWord), *position)
 }
 
 // A command, or a call.
-fn carried(end: usize, position: &Position) -> Turn
+fn carried(end: usize, position: &Position) -> WordOutcome
     ensures { result ≡ spec.now (spec.carried end position.now) }
 {
-    Turn::Now(Unit::Command(position.spot), behind(end, position))
+    WordOutcome::Now(Unit::Command(position.spot), behind(end, position))
 }
 
 // A call of a name, where there is such a name.
-fn call_turn(names: &Names, name: &[u8], end: usize, position: &Position) -> Turn
+fn call_outcome(names: &Names, name: &[u8], end: usize, position: &Position) -> WordOutcome
     ensures { result ≡ spec.now (spec.call_unit (named_span names.now name.now) end position.now) }
 {
     match names.find(name) {
@@ -121,25 +121,25 @@ fn is_left(count: Option<u32>, typed: u32) -> bool
 }
 
 // A repeated key, once more or passed.
-fn repeated_turn(key: Key, number: Option<Fixed>, end: usize, position: &Position) -> Turn
-    ensures { result ≡ spec.repeated_turn key number end position.now }
+fn repeated_outcome(key: Key, number: Option<Fixed>, end: usize, position: &Position) -> WordOutcome
+    ensures { result ≡ spec.repeated_outcome key number end position.now }
 {
     let Some(number) = number else {
-        return Turn::Now(Unit::Fault(MacroFault::BadArgument), *position);
+        return WordOutcome::Now(Unit::Fault(MacroFault::BadArgument), *position);
     };
     if is_left(count_of(number), position.typed) {
         let next = Position {
             spot: position.spot,
             typed: position.typed + 1,
         };
-        Turn::Now(Unit::Key(key), next)
+        WordOutcome::Now(Unit::Key(key), next)
     } else {
-        Turn::Passed(behind(end, position))
+        WordOutcome::Passed(behind(end, position))
     }
 }
 
 // What a word comes to that ends at this offset.
-fn word_turn<K: Look>(
+fn word_outcome<K: Look>(
     alloc: Global,
     look: &K,
     scene: &Scene,
@@ -147,20 +147,20 @@ fn word_turn<K: Look>(
     text: &[u8],
     word: MacroWord,
     end: usize,
-) -> Result<Turn, Memory>
+) -> Result<WordOutcome, Memory>
     ensures { let outlook = outlook_of (K.sight look.now) scene.entry.now in
-        IfOk result (λ t. t ≡ spec.word_turn outlook text.now word end position.now) }
+        IfOk result (λ t. t ≡ spec.word_outcome outlook text.now word end position.now) }
 {
     match word {
-        MacroWord::Key(key) => Ok(Turn::Now(Unit::Key(key), behind(end, position))),
+        MacroWord::Key(key) => Ok(WordOutcome::Now(Unit::Key(key), behind(end, position))),
         MacroWord::Repeated(key, cut) => {
             let number = number_of(alloc, part(text, cut), position.spot.cell, look, scene)?;
-            Ok(repeated_turn(key, number, end, position))
+            Ok(repeated_outcome(key, number, end, position))
         }
         MacroWord::Command(_, _) => Ok(carried(end, position)),
         MacroWord::Call(name, _) => {
             let name = part(text, name);
-            Ok(call_turn(look.names(), name, end, position))
+            Ok(call_outcome(look.names(), name, end, position))
         }
         MacroWord::PlaceCall(_) => Ok(carried(end, position)),
         MacroWord::End => Ok(down(position)),
@@ -169,24 +169,24 @@ fn word_turn<K: Look>(
 }
 
 // What the word at a place comes to, by the text as it now stands.
-#[tactic(auto, unfolding(crate::specs::Units::turn_at))]
-fn turn_at<K: Look>(
+#[tactic(auto, unfolding(crate::specs::Units::outcome_at))]
+fn outcome_at<K: Look>(
     alloc: Global,
     look: &K,
     scene: &Scene,
     kept: &mut KeptWords,
     position: &Position,
-) -> Result<Turn, Memory>
+) -> Result<WordOutcome, Memory>
     ensures { let outlook = outlook_of (K.sight look.now) scene.entry.now in
-        IfOk result (λ t. t ≡ spec.turn_at outlook position.now) }
+        IfOk result (λ t. t ≡ spec.outcome_at outlook position.now) }
 {
     let Some(text) = macro_text(look, position.spot.cell) else {
-        return Ok(Turn::Now(Unit::Return, *position));
+        return Ok(WordOutcome::Now(Unit::Return, *position));
     };
     let bytes = text.bytes();
     let Spot { cell, offset } = position.spot;
     let (word, end) = kept.word_at(alloc, bytes, offset, cell)?;
-    word_turn(alloc, look, scene, position, bytes, word, end)
+    word_outcome(alloc, look, scene, position, bytes, word, end)
 }
 
 // A text has at most 240 words, and an end.
@@ -210,9 +210,9 @@ pub fn next_unit<K: Look>(
     let mut place = *position;
     for turn in 0..MOST_WORDS {
         let _ = turn;
-        match turn_at(alloc, look, scene, kept, &place)? {
-            Turn::Now(unit, next) => return Ok((unit, next)),
-            Turn::Passed(next) => place = next,
+        match outcome_at(alloc, look, scene, kept, &place)? {
+            WordOutcome::Now(unit, next) => return Ok((unit, next)),
+            WordOutcome::Passed(next) => place = next,
         }
     }
     Ok((Unit::Return, place))
