@@ -13,7 +13,7 @@ use Rattle.key_words.specs.declared.begun.Begun.TheVariants.{AltLetter}
 use Rattle.key_words.specs.declared.reader.KeyReader.{KeyReader}
 use Rattle.key_words.specs.Names.{looked_up}
 use Rattle.key_words.specs.Notation.{IsRepeat, first, later, SpellsWord, byte, tilde, mark, named, repeated, alone, alt}
-use Rattle.key_words.specs.Notation.{Spells, nothing, one_word, line_end, BeginsWord, HasKeys}
+use Rattle.key_words.specs.Notation.{SpellsWords, nothing, one_word, line_end, BeginsWord, HasKeys}
 use Rattle.key_words.specs.Reading.{HasRead, Holds}
 use Rattle.key_words.proofs.Scanning.{Keys}
 
@@ -108,7 +108,7 @@ last_two (x ∷ z ∷ xs) [] a b e = absurd (omega (arith, ap length e))
 last_two (x ∷ xs) (y ∷ ys) a b e = (let rest : xs ++ a ∷ [] ≡ ys ++ b ∷ [] = cc in last_two xs ys a b rest)
 
 -- the last word of a text is typed at least once
-pub last_positive : (bytes : List ℕ) (all front : Keys) (k : Key) (n : ℕ) → Spells bytes all
+pub last_positive : (bytes : List ℕ) (all front : Keys) (k : Key) (n : ℕ) → SpellsWords bytes all
     → all ≡ front ++ (k, n) ∷ [] → 1 ≤ n
 last_positive bytes all front k n nothing e = absurd (omega (arith, ap length e, length-append front ((k, n) ∷ [])))
 last_positive bytes all front k n (one_word {word} {keys = before} {k = k'} {n = n'} spelled last) e =

@@ -17,7 +17,7 @@ use Rattle.key_words.specs.declared.begun.Next.TheVariants.{Going, Ended, Refuse
 use Rattle.key_words.specs.declared.reader.KeyReader.{KeyReader}
 use Rattle.key_words.specs.Names.{longer, looked_up}
 use Rattle.key_words.specs.Notation.{is_mark, is_typed, IsRepeat, first, later, SpellsWord, byte, tilde, mark, named}
-use Rattle.key_words.specs.Notation.{repeated, alone, alt, Spells, one_word, line_end, Begins, IsNoText}
+use Rattle.key_words.specs.Notation.{repeated, alone, alt, SpellsWords, one_word, line_end, Begins, IsNoText}
 use Rattle.key_words.specs.Begun.{after, closed, lettered, spaced}
 use Rattle.key_words.specs.Reading.{HasRead, Holds}
 use Rattle.key_words.proofs.Tables.{folded_twice, letter_is}
@@ -261,7 +261,7 @@ module _ (bytes : List ℕ) (keys : Keys) (r : KeyReader) (b : ℕ) (read : HasR
 
 -- between words the bytes are whole words
 pub at_rest_spells : (bytes : List ℕ) (keys : Keys) (r : KeyReader) → r.begun ≡ Nothing → HasRead bytes keys r
-    → Spells bytes keys
+    → SpellsWords bytes keys
 at_rest_spells bytes keys r is read =
     let none : read.begun ≡ [] = subst (Holds read.begun) is read.holds in
     let same : bytes ≡ read.whole = read.split ∙ ap (λ (l : List ℕ). read.whole ++ l) none ∙ append-nil read.whole in
@@ -279,7 +279,8 @@ is_no_text bytes keys r apart read others spelled =
 -- a word that ends leaves the reader between words
 pub ended : (bytes : List ℕ) (keys : Keys) (r : KeyReader) (b : ℕ) (read : HasRead bytes keys r) (k : Key) (n : ℕ)
     → after r.begun b ≡ Ended k n →
-    HasRead (bytes ++ b ∷ []) (keys ++ (k, n) ∷ []) (moved r Nothing) × Spells (bytes ++ b ∷ []) (keys ++ (k, n) ∷ [])
+    HasRead (bytes ++ b ∷ []) (keys ++ (k, n) ∷ []) (moved r Nothing)
+    × SpellsWords (bytes ++ b ∷ []) (keys ++ (k, n) ∷ [])
 ended bytes keys r b read k n is =
     let now : HasRead (bytes ++ b ∷ []) (keys ++ (k, n) ∷ []) (moved r Nothing) = ends bytes keys r b read k n is in
     (now, at_rest_spells (bytes ++ b ∷ []) (keys ++ (k, n) ∷ []) (moved r Nothing) refl now)

@@ -17,7 +17,7 @@ use Rattle.key_words.specs.declared.begun.Next.{Next}
 use Rattle.key_words.specs.declared.begun.Next.TheVariants.{Going, Ended, Refused}
 use Rattle.key_words.specs.Names.{looked_up}
 use Rattle.key_words.specs.Notation.{is_mark, is_typed, IsRepeat, first, later, SpellsWord, byte, tilde, mark, named}
-use Rattle.key_words.specs.Notation.{repeated, alone, alt, Spells, nothing, one_word, line_end, Begins}
+use Rattle.key_words.specs.Notation.{repeated, alone, alt, SpellsWords, nothing, one_word, line_end, Begins}
 use Rattle.key_words.specs.Begun.{after, closed, lettered, spaced}
 use Rattle.key_words.specs.Reading.{Holds}
 use Rattle.key_words.proofs.Tables.{capitals_split, folded_twice, letter_apart, letter_goes_on, looked_up_proper}
@@ -238,7 +238,7 @@ line_end_scanned b (inl e) = rw e refl
 line_end_scanned b (inr e) = rw e refl
 
 -- a text is scanned to its keys
-pub text_scanned : (bytes : List ℕ) (keys : Keys) → Spells bytes keys → scan Nothing bytes ≡ Some (keys, Nothing)
+pub text_scanned : (bytes : List ℕ) (keys : Keys) → SpellsWords bytes keys → scan Nothing bytes ≡ Some (keys, Nothing)
 text_scanned bytes keys nothing = refl
 text_scanned bytes keys (one_word {bytes = front} {word} {keys = before} {k} {n} spelled last) =
     scan-append Nothing front word ∙ ap (λ (s : Scan). scan_then s word) (text_scanned front before spelled)
@@ -249,7 +249,7 @@ text_scanned bytes keys (line_end {bytes = front} {b} spelled is) =
     ∙ ap (λ (l : Keys). Some (l, Nothing)) (append-nil keys)
 
 -- a list of bytes spells one list of keys
-pub one_reading : (bytes : List ℕ) (xs ys : Keys) → Spells bytes xs → Spells bytes ys → xs ≡ ys
+pub one_reading : (bytes : List ℕ) (xs ys : Keys) → SpellsWords bytes xs → SpellsWords bytes ys → xs ≡ ys
 one_reading bytes xs ys p q =
     let both : ◌≡◌ {A = Scan} (Some (xs, Nothing)) (Some (ys, Nothing)) =
     sym (text_scanned bytes xs p) ∙ text_scanned bytes ys q in
@@ -272,7 +272,7 @@ keys_of_scan keys (Some s) all r e =
     (s.0, sym (ap (λ (p : Keys × Begun). p.0) pairs))
 
 -- the keys of a text begin with those of its front
-pub prefix_keys : (front rest : List ℕ) (keys all : Keys) → Spells front keys → Spells (front ++ rest) all
+pub prefix_keys : (front rest : List ℕ) (keys all : Keys) → SpellsWords front keys → SpellsWords (front ++ rest) all
     → (more : Keys) × (all ≡ keys ++ more)
 prefix_keys front rest keys all p q =
     let scanned : after_keys keys (scan Nothing rest) ≡ Some (all, Nothing) =

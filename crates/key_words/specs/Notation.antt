@@ -40,20 +40,20 @@ pub data SpellsWord : List ℕ → Key → ℕ → Type 0 where
       (key.Alt (to_ascii_uppercase b)) 1
 
 -- The bytes are words one after another. A carriage return or a line feed between words is passed over.
-pub data Spells : List ℕ → List (Key × ℕ) → Type 0 where
-  nothing : Spells [] []
-  one_word : {bytes word : List ℕ} {keys : List (Key × ℕ)} {k : Key} {n : ℕ} → Spells bytes keys → SpellsWord word k n →
-      Spells (bytes ++ word) (keys ++ (k, n) ∷ [])
-  line_end : {bytes : List ℕ} {keys : List (Key × ℕ)} {b : ℕ} → Spells bytes keys →
-      (b ≡ ascii.carriage_return) ⊎ (b ≡ ascii.line_feed) → Spells (bytes ++ b ∷ []) keys
+pub data SpellsWords : List ℕ → List (Key × ℕ) → Type 0 where
+  nothing : SpellsWords [] []
+  one_word : {bytes word : List ℕ} {keys : List (Key × ℕ)} {k : Key} {n : ℕ} → SpellsWords bytes keys →
+      SpellsWord word k n → SpellsWords (bytes ++ word) (keys ++ (k, n) ∷ [])
+  line_end : {bytes : List ℕ} {keys : List (Key × ℕ)} {b : ℕ} → SpellsWords bytes keys →
+      (b ≡ ascii.carriage_return) ⊎ (b ≡ ascii.line_feed) → SpellsWords (bytes ++ b ∷ []) keys
 
 -- some text of the notation begins with these bytes
 abbrev pub Begins : List ℕ → Type 0
-Begins bytes = (more : List ℕ) × (keys : List (Key × ℕ)) × Spells (bytes ++ more) keys
+Begins bytes = (more : List ℕ) × (keys : List (Key × ℕ)) × SpellsWords (bytes ++ more) keys
 
 -- the bytes are no text of the notation
 abbrev pub IsNoText : List ℕ → Type 0
-IsNoText bytes = (keys : List (Key × ℕ)) → Spells bytes keys → ⊥
+IsNoText bytes = (keys : List (Key × ℕ)) → SpellsWords bytes keys → ⊥
 
 -- a word begins with these bytes and does not end with them
 pub record BeginsWord (begun : List ℕ) : Type 0 where
@@ -68,5 +68,5 @@ pub record HasKeys (bytes : List ℕ) (keys : List (Key × ℕ)) : Type 0 where
   pub whole : List ℕ
   pub begun : List ℕ
   pub split : bytes ≡ whole ++ begun
-  pub spelled : Spells whole keys
+  pub spelled : SpellsWords whole keys
   pub begins : (begun ≡ []) ⊎ BeginsWord begun

@@ -11,7 +11,7 @@ use Rattle.key_words.specs.declared.reader.KeyReader.{KeyReader}
 use Rattle.key_words.specs.declared.reader.Fed.{Fed}
 use Rattle.key_words.specs.declared.reader.Fed.TheVariants.{Key, More, Bad}
 use Rattle.key_words.specs.Names.{looked_up}
-use Rattle.key_words.specs.Notation.{Begins, IsRepeat, Spells, is_mark}
+use Rattle.key_words.specs.Notation.{Begins, IsRepeat, SpellsWords, is_mark}
 
 -- a name begins with these letters, which are capitals
 abbrev pub BeginsName : List ℕ → Type 0
@@ -48,13 +48,13 @@ pub record HasRead (bytes : List ℕ) (keys : List (AnyKey × ℕ)) (r : KeyRead
   pub whole : List ℕ
   pub begun : List ℕ
   pub split : bytes ≡ whole ++ begun
-  pub spelled : Spells whole keys
+  pub spelled : SpellsWords whole keys
   pub holds : Holds begun r.begun
 
 -- What a byte came to behind these: one key more, with which a word ends; none yet; or no text of the notation goes on
 -- with it.
 abbrev pub Feeds : List ℕ → List (AnyKey × ℕ) → ℕ → Fed → KeyReader → Type 0
 Feeds bytes keys b (Key k n) now =
-    HasRead (bytes ++ b ∷ []) (keys ++ (k, n) ∷ []) now × Spells (bytes ++ b ∷ []) (keys ++ (k, n) ∷ [])
+    HasRead (bytes ++ b ∷ []) (keys ++ (k, n) ∷ []) now × SpellsWords (bytes ++ b ∷ []) (keys ++ (k, n) ∷ [])
 Feeds bytes keys b More now = HasRead (bytes ++ b ∷ []) keys now
 Feeds bytes keys b (Bad at) now = (at ≡ length bytes) × (Begins (bytes ++ b ∷ []) → ⊥)

@@ -2,7 +2,7 @@
 ghost use Rattle.std.specs.Prelude.{◌≡◌, ◌<◌, ◌+◌, ◌↔◌, ℕ, List, [], Some, None, false, true};
 ghost use Rattle.key_words.specs.declared.key.Key.{Key};
 ghost use Rattle.key_words.specs.declared.reader.Fed.TheVariants as Fed;
-ghost use Rattle.key_words.specs.Notation.{IsNoText, Spells};
+ghost use Rattle.key_words.specs.Notation.{IsNoText, SpellsWords};
 ghost use Rattle.key_words.specs.Reading.{Feeds, HasRead};
 
 use crate::Key;
@@ -81,7 +81,7 @@ impl KeyReader {
     /// Whether all bytes that were fed are words, which is so between words.
     pub fn at_rest(&self) -> bool
         ensures whole { (bytes : List ℕ) (keys : List (Key × ℕ)) →
-            HasRead bytes keys self.now → result ≡ true → Spells bytes keys }
+            HasRead bytes keys self.now → result ≡ true → SpellsWords bytes keys }
         ensures inside { (bytes : List ℕ) (keys : List (Key × ℕ)) →
             HasRead bytes keys self.now → result ≡ false → IsNoText bytes }
         ensures bad { (at : ℕ) → self.now.bad ≡ Some at → result ≡ false }
@@ -96,5 +96,5 @@ impl KeyReader {
 /// A list of bytes spells at most one list of keys.
 pub fn notation_reads_one_way()
     ensures { (bytes : List ℕ) (keys others : List (Key × ℕ)) →
-        Spells bytes keys → Spells bytes others → keys ≡ others }
+        SpellsWords bytes keys → SpellsWords bytes others → keys ≡ others }
 {}

@@ -23,7 +23,7 @@ use Rattle.wk1_records.specs.declared.fault.Wk1Fault.{Wk1Fault}
 use Rattle.sheet_run.specs.Completeness.{at_their_end, begins, by_quitting, any, by_rule, from_file, unfailing, with_none, Answers, AreGiven, Beginning, Count, EndWithin, EndsWell, HasEndedWell, MayMake, MustEndWell, Opens, QuitWithin, ReadWell}
 use Rattle.sheet_run.specs.Displays.{Watched, views_of}
 use Rattle.sheet_run.specs.Run.{HasEnded}
-use Rattle.key_words.specs.Notation.{Begins, IsNoText, Spells as SpellsWords}
+use Rattle.key_words.specs.Notation.{Begins, IsNoText, SpellsWords}
 use Rattle.sheet_run.specs.Notation.{pressed, HasKeys, IntoLast, SpellsKeys, SpellsInto, SpellsUpTo}
 use Rattle.sheet_run.specs.Notes.{LeavesSession, ending_status}
 use Rattle.sheet_run.specs.Opening.{answer_of, asked_for, fresh, of_file, of_rows, opening, HasOpened, StartSheet}

@@ -4,7 +4,7 @@ use Rattle.std.proofs.Common.{Some, None, refl, sym, ap, ◌∙◌, subst, arith
 use Rattle.std.proofs.lemmas.Bool.{cases_lt, true≢false}
 use Rattle.std.proofs.lemmas.List.{append-nil}
 use Rattle.outside_world.specs.Causes.{Rose}
-use Rattle.key_words.specs.Notation.{Begins, IsNoText, Spells as SpellsWords}
+use Rattle.key_words.specs.Notation.{Begins, IsNoText, SpellsWords}
 use Rattle.key_words.specs.declared.key.Key.{Key}
 use Rattle.session_core.specs.Machine.{wants_key, State}
 use Rattle.session_core.specs.Step.{is_key}

@@ -4,7 +4,7 @@ use Rattle.std.proofs.Common.{ap, ◌∙◌, subst, arith, ◌⊎◌, inl, inr, 
 use Rattle.std.specs.Prelude.{replicate}
 use Rattle.std.proofs.lemmas.Bool.{cases_lt, true≢false}
 use Rattle.std.proofs.lemmas.List.{append-nil, length-replicate}
-use Rattle.key_words.specs.Notation.{nothing, one_word, Begins, BeginsWord, HasKeys as HasWords, Spells as SpellsWords}
+use Rattle.key_words.specs.Notation.{nothing, one_word, Begins, BeginsWord, HasKeys as HasWords, SpellsWords}
 use Rattle.key_words.specs.Notation.{SpellsWord}
 use Rattle.key_words.specs.declared.begun.Begun.{Begun}
 use Rattle.key_words.specs.declared.begun.Begun.TheVariants.{Nothing}
