@@ -12,7 +12,7 @@ use std::alloc::Global;
 use std::io::Write;
 use std::mem::replace;
 use wk1_file::write;
-use work_sheet::Sheet;
+use work_sheet::Worksheet;
 
 // The pointer in C2, and noon and after on 1 June 1987.
 const SCENE: Scene = Scene {
@@ -26,7 +26,7 @@ const SCENE: Scene = Scene {
 /// A sheet, the count of its evaluations, and its history.
 #[derive(Drop)]
 pub struct UndoDesk {
-    sheet: Sheet,
+    sheet: Worksheet,
     tally: Tally,
     history: History,
 }
@@ -56,7 +56,7 @@ impl UndoDesk {
     /// A fresh sheet, and no state is kept.
     pub fn new(alloc: Global) -> UndoDesk {
         UndoDesk {
-            sheet: Sheet::new(alloc),
+            sheet: Worksheet::new(alloc),
             tally: Tally::new(),
             history: History::new(alloc),
         }
@@ -103,7 +103,7 @@ impl UndoDesk {
 
     // The sheet of a file takes the place of this one.
     fn restore(&mut self, saved: SavedSheet) -> Result<&'static [u8], Stop> {
-        let sheet = Sheet::restore(saved)?;
+        let sheet = Worksheet::restore(saved)?;
         drop(replace(&mut self.sheet, sheet));
         Ok(b"")
     }

@@ -7,13 +7,13 @@ use data_blocks::DeskRanges;
 use lics_text::Memory;
 use outside_world::FileName;
 use std::alloc::Global;
-use work_sheet::Sheet;
+use work_sheet::Worksheet;
 
 /// What commands work on: the worksheet, what the commands on data and those on reports keep, and the name of the file
 /// that was saved last.
 #[derive(Drop)]
 pub struct Desk {
-    pub sheet: Sheet,
+    pub sheet: Worksheet,
     pub ranges: DeskRanges,
     pub file_name: Option<FileName>,
     pub print: PrintDesk,
@@ -27,7 +27,7 @@ impl Desk {
     {
         let print = PrintDesk::new(alloc)?;
         Ok(Desk {
-            sheet: Sheet::new(alloc),
+            sheet: Worksheet::new(alloc),
             ranges: DeskRanges::new(),
             file_name: None,
             print,

@@ -9,7 +9,7 @@ use desk_errors::CommandError;
 use formula_eval::{Scene, Tally};
 use lics_text::Memory;
 use sheet_store::SheetFault;
-use work_sheet::Sheet;
+use work_sheet::Worksheet;
 
 /// What a command came to.
 #[derive(Clone, Copy)]
@@ -49,7 +49,7 @@ fn refusal(fault: SheetFault) -> Result<CommandEnd, Memory>
 /// What an edit of contents comes to, by its answer: where it was made, a recalculation follows in Automatic mode.
 pub fn settled(
     answer: Result<(), SheetFault>,
-    sheet: &mut Sheet,
+    sheet: &mut Worksheet,
     scene: &Scene,
     tally: &mut Tally,
 ) -> Result<CommandEnd, Memory>

@@ -7,13 +7,13 @@ use crate::ending::{CommandEnd, settled};
 use formula_eval::{Scene, Tally};
 use lics_text::Memory;
 use sheet_shifts::Shift;
-use work_sheet::Sheet;
+use work_sheet::Worksheet;
 
 /// Moves cells, after which all is recalculated in Automatic mode. It is refused by the fault of `Sheet::shift`, and
 /// then leaves the sheet as it was.
 pub fn move_cells(
     shift: &Shift,
-    sheet: &mut Sheet,
+    sheet: &mut Worksheet,
     scene: &Scene,
     tally: &mut Tally,
 ) -> Result<CommandEnd, Memory>

@@ -7,10 +7,10 @@ ghost use Rattle.work_sheet.specs.Seen.{of_worksheet};
 
 use formula_eval::{Scene, Tally};
 use lics_text::Memory;
-use work_sheet::Sheet;
+use work_sheet::Worksheet;
 
 /// In Automatic mode all is recalculated (Release 2 manual).
-pub fn settle(sheet: &mut Sheet, scene: &Scene, tally: &mut Tally) -> Result<(), Memory>
+pub fn settle(sheet: &mut Worksheet, scene: &Scene, tally: &mut Tally) -> Result<(), Memory>
     ensures { let done = settled mean scene.entry.now (of_worksheet sheet.old) in
         OnOk result (Did done sheet.old sheet.new tally.old.count tally.new.count) }
 {

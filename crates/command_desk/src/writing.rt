@@ -7,14 +7,14 @@ use crate::ending::{CommandEnd, settled};
 use formula_eval::{Scene, Tally};
 use lics_text::Memory;
 use sheet_store::Writes;
-use work_sheet::Sheet;
+use work_sheet::Worksheet;
 
 /// Makes a list of writes in their order, after which all is recalculated in Automatic mode. It is refused by
 /// `Protected` with the first written cell in row order that is protected, where protection is on, and then leaves the
 /// sheet as it was.
 pub fn make_writes(
     writes: &Writes,
-    sheet: &mut Sheet,
+    sheet: &mut Worksheet,
     scene: &Scene,
     tally: &mut Tally,
 ) -> Result<CommandEnd, Memory>

@@ -11,13 +11,13 @@ use formula_tree::{Value, ValueRef};
 use grid_address::Cell;
 use lics_text::Memory;
 use sheet_store::{SheetFault, Writes};
-use work_sheet::Sheet;
+use work_sheet::Worksheet;
 
 /// A worksheet on which inputs are tried, and the writes that put back what the cells of the inputs held before the
 /// first.
 #[derive(Drop)]
 pub struct TableBench<'a> {
-    pub sheet: &'a mut Sheet,
+    pub sheet: &'a mut Worksheet,
     pub tally: &'a mut Tally,
     pub scene: Scene,
     pub kept: &'a Writes,

@@ -9,13 +9,13 @@ use formula_eval::{Scene, Tally};
 use grid_address::Span;
 use lics_text::Memory;
 use session_rooms::Answers;
-use work_sheet::Sheet;
+use work_sheet::Worksheet;
 
 // How many of the values lie in each bin is written beside the bins.
 fn distribute_in(
     values: Span,
     bins: Span,
-    sheet: &mut Sheet,
+    sheet: &mut Worksheet,
     scene: &Scene,
     tally: &mut Tally,
 ) -> Result<CommandEnd, Memory>
@@ -30,7 +30,7 @@ fn distribute_in(
 /// errors of `span_at` for the first answer and then for the second, by `OutOfSheet` with the bins, and by `Protected`.
 pub fn distribute(
     answers: &Answers,
-    sheet: &mut Sheet,
+    sheet: &mut Worksheet,
     scene: &Scene,
     tally: &mut Tally,
 ) -> Result<CommandEnd, Memory>

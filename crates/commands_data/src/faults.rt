@@ -12,7 +12,7 @@ use desk_errors::CommandError;
 use formula_eval::{Scene, Tally};
 use lics_text::Memory;
 use sheet_store::Writes;
-use work_sheet::Sheet;
+use work_sheet::Worksheet;
 
 /// The error of a block's fault, but for want of memory.
 pub(crate) fn block_error(fault: BlockFault) -> Result<CommandError, Memory>
@@ -44,7 +44,7 @@ fn query_error(fault: QueryFault) -> Result<CommandError, Memory>
 /// Makes the writes of a block, or is refused by its fault.
 pub fn make_block(
     answer: Result<Writes, BlockFault>,
-    sheet: &mut Sheet,
+    sheet: &mut Worksheet,
     scene: &Scene,
     tally: &mut Tally,
 ) -> Result<CommandEnd, Memory>
@@ -64,7 +64,7 @@ pub fn make_block(
 /// Makes the writes of a query, or is refused by its fault.
 pub fn make_query(
     answer: Result<Writes, QueryFault>,
-    sheet: &mut Sheet,
+    sheet: &mut Worksheet,
     scene: &Scene,
     tally: &mut Tally,
 ) -> Result<CommandEnd, Memory>

@@ -13,7 +13,7 @@ use grid_address::Span;
 use lics_text::Memory;
 use range_names::Names;
 use session_rooms::Answers;
-use work_sheet::Sheet;
+use work_sheet::Worksheet;
 
 /// What a fill is asked for: its span, and the numbers from a start by a step up to a stop.
 #[derive(Clone, Copy)]
@@ -43,7 +43,7 @@ fn filling_at(names: &Names, answers: &Answers) -> Result<Filling, CommandError>
 // Numbers are written by steps.
 fn fill_by(
     filling: Filling,
-    sheet: &mut Sheet,
+    sheet: &mut Worksheet,
     scene: &Scene,
     tally: &mut Tally,
 ) -> Result<CommandEnd, Memory>
@@ -64,7 +64,7 @@ fn fill_by(
 /// is refused by the errors of `span_at` and `decimal_at`, the first answer first; by `ZeroStep`; and by `Protected`.
 pub fn fill(
     answers: &Answers,
-    sheet: &mut Sheet,
+    sheet: &mut Worksheet,
     scene: &Scene,
     tally: &mut Tally,
 ) -> Result<CommandEnd, Memory>

@@ -17,12 +17,12 @@ use desk_errors::CommandError;
 use formula_eval::{Scene, Tally};
 use grid_address::{Cell, Span};
 use lics_text::Memory;
-use work_sheet::Sheet;
+use work_sheet::Worksheet;
 
 // Why a table is refused: by its shape, or by a protected cell of those that it writes.
 fn refusal(
     shape: Option<BlockFault>,
-    sheet: &Sheet,
+    sheet: &Worksheet,
     span: Span,
     inputs: &[Cell],
 ) -> Result<Option<CommandError>, Memory>
@@ -45,7 +45,7 @@ fn refusal(
 fn make_one(
     span: Span,
     input: Cell,
-    sheet: &mut Sheet,
+    sheet: &mut Worksheet,
     scene: &Scene,
     tally: &mut Tally,
 ) -> Result<(), Memory>
@@ -71,7 +71,7 @@ fn make_two(
     span: Span,
     down: Cell,
     across: Cell,
-    sheet: &mut Sheet,
+    sheet: &mut Worksheet,
     scene: &Scene,
     tally: &mut Tally,
 ) -> Result<(), Memory>
@@ -96,7 +96,7 @@ fn make_two(
 fn one_made(
     span: Span,
     input: Cell,
-    sheet: &mut Sheet,
+    sheet: &mut Worksheet,
     scene: &Scene,
     tally: &mut Tally,
 ) -> Result<CommandEnd, Memory>
@@ -118,7 +118,7 @@ fn two_made(
     span: Span,
     down: Cell,
     across: Cell,
-    sheet: &mut Sheet,
+    sheet: &mut Worksheet,
     scene: &Scene,
     tally: &mut Tally,
 ) -> Result<CommandEnd, Memory>
@@ -138,7 +138,7 @@ fn two_made(
 /// Makes a table, or refuses it.
 pub fn make(
     table: &LastTable,
-    sheet: &mut Sheet,
+    sheet: &mut Worksheet,
     scene: &Scene,
     tally: &mut Tally,
 ) -> Result<CommandEnd, Memory>

@@ -11,17 +11,17 @@ ghost use Rattle.work_sheet.specs.Seen.{of_worksheet};
 use data_blocks::{cell_across, cell_down, columns_behind, rows_below};
 use grid_address::{Cell, Span};
 use sheet_edits::is_marked;
-use work_sheet::Sheet;
+use work_sheet::Worksheet;
 
 /// Whether protection is on, and a cell is marked.
-pub fn is_protected(sheet: &Sheet, cell: Cell) -> bool
+pub fn is_protected(sheet: &Worksheet, cell: Cell) -> bool
     ensures { result ≡ is_protected sheet.now.settings sheet.now.grid cell }
 {
     sheet.settings().protection && is_marked(sheet.cells(), cell)
 }
 
 // The first protected cell among some.
-fn protected_among(sheet: &Sheet, cells: &[Cell]) -> Option<Cell>
+fn protected_among(sheet: &Worksheet, cells: &[Cell]) -> Option<Cell>
     ensures { result ≡ first_protected cells.now (of_worksheet sheet.now) }
 {
     for cell in cells {
@@ -33,7 +33,7 @@ fn protected_among(sheet: &Sheet, cells: &[Cell]) -> Option<Cell>
 }
 
 // The first protected cell of a row that takes answers.
-fn protected_in_row(sheet: &Sheet, span: Span, row: u16) -> Option<Cell>
+fn protected_in_row(sheet: &Worksheet, span: Span, row: u16) -> Option<Cell>
     requires { row ≤ span.last.row }
     ensures { result ≡ first_protected (map (at row) (columns_behind span)) (of_worksheet sheet.now) }
 {
@@ -49,7 +49,7 @@ fn protected_in_row(sheet: &Sheet, span: Span, row: u16) -> Option<Cell>
 }
 
 // The first protected cell of those that take answers, in row order.
-fn protected_answer(sheet: &Sheet, span: Span) -> Option<Cell>
+fn protected_answer(sheet: &Worksheet, span: Span) -> Option<Cell>
     ensures { result ≡ first_protected (answer_cells span) (of_worksheet sheet.now) }
 {
     let count = rows_below(span);
@@ -64,7 +64,7 @@ fn protected_answer(sheet: &Sheet, span: Span) -> Option<Cell>
 
 /// The first protected cell of those that a table writes: its input cells as they are given, and then the cells that
 /// take answers, in row order.
-pub fn protected_of_table(sheet: &Sheet, span: Span, inputs: &[Cell]) -> Option<Cell>
+pub fn protected_of_table(sheet: &Worksheet, span: Span, inputs: &[Cell]) -> Option<Cell>
     ensures { result ≡ first_protected (changed_cells span inputs.now) (of_worksheet sheet.now) }
 {
     match protected_among(sheet, inputs) {

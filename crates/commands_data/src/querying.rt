@@ -11,7 +11,7 @@ use desk_errors::CommandError;
 use formula_eval::{Scene, Tally};
 use grid_address::Span;
 use lics_text::Memory;
-use work_sheet::Sheet;
+use work_sheet::Worksheet;
 
 // The records that match, or those of them that differ, are written into the output.
 fn extract_into(
@@ -19,7 +19,7 @@ fn extract_into(
     input: Span,
     criterion: Span,
     output: Span,
-    sheet: &mut Sheet,
+    sheet: &mut Worksheet,
     scene: &Scene,
     tally: &mut Tally,
 ) -> Result<CommandEnd, Memory>
@@ -35,7 +35,7 @@ fn extract_into(
 fn delete_from(
     input: Span,
     criterion: Span,
-    sheet: &mut Sheet,
+    sheet: &mut Worksheet,
     scene: &Scene,
     tally: &mut Tally,
 ) -> Result<CommandEnd, Memory>
@@ -50,7 +50,7 @@ fn delete_from(
 fn extract(
     unique: bool,
     ranges: &DeskRanges,
-    sheet: &mut Sheet,
+    sheet: &mut Worksheet,
     scene: &Scene,
     tally: &mut Tally,
 ) -> Result<CommandEnd, Memory>
@@ -68,7 +68,7 @@ fn extract(
 // Delete over the kept ranges.
 fn delete(
     ranges: &DeskRanges,
-    sheet: &mut Sheet,
+    sheet: &mut Worksheet,
     scene: &Scene,
     tally: &mut Tally,
 ) -> Result<CommandEnd, Memory>
@@ -85,7 +85,7 @@ fn delete(
 fn query(
     kind: LastQuery,
     ranges: &DeskRanges,
-    sheet: &mut Sheet,
+    sheet: &mut Worksheet,
     scene: &Scene,
     tally: &mut Tally,
 ) -> Result<CommandEnd, Memory>

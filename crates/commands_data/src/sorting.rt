@@ -11,7 +11,7 @@ use desk_errors::CommandError;
 use formula_eval::{Scene, Tally};
 use grid_address::Span;
 use lics_text::Memory;
-use work_sheet::Sheet;
+use work_sheet::Worksheet;
 
 // Whether a key's column isn't in a range.
 fn is_outside(range: Span, key: SortKey) -> bool
@@ -36,7 +36,7 @@ fn any_outside(range: Span, keys: &[SortKey]) -> bool
 fn sort_range(
     range: Span,
     keys: &[SortKey],
-    sheet: &mut Sheet,
+    sheet: &mut Worksheet,
     scene: &Scene,
     tally: &mut Tally,
 ) -> Result<CommandEnd, Memory>
@@ -51,7 +51,7 @@ fn sort_range(
 fn sort_by(
     range: Span,
     keys: &[SortKey],
-    sheet: &mut Sheet,
+    sheet: &mut Worksheet,
     scene: &Scene,
     tally: &mut Tally,
 ) -> Result<CommandEnd, Memory>
@@ -69,7 +69,7 @@ fn sort_by_keys(
     range: Span,
     first: SortKey,
     second: Option<SortKey>,
-    sheet: &mut Sheet,
+    sheet: &mut Worksheet,
     scene: &Scene,
     tally: &mut Tally,
 ) -> Result<CommandEnd, Memory>
@@ -86,7 +86,7 @@ fn sort_by_keys(
 /// `KeyOutside`, where a key's column isn't in the range; and by `Protected`.
 pub fn sort(
     ranges: &DeskRanges,
-    sheet: &mut Sheet,
+    sheet: &mut Worksheet,
     scene: &Scene,
     tally: &mut Tally,
 ) -> Result<CommandEnd, Memory>

@@ -16,10 +16,10 @@ use formula_tree::Content;
 use grid_address::Cell;
 use lics_text::Memory;
 use sheet_store::Writes;
-use work_sheet::Sheet;
+use work_sheet::Worksheet;
 
 /// What some cells hold, as writes that put it back.
-pub fn contents_of(sheet: &Sheet, cells: &[Cell]) -> Result<Writes, Memory>
+pub fn contents_of(sheet: &Worksheet, cells: &[Cell]) -> Result<Writes, Memory>
     ensures { IfOk result (λ w. w ≡ contents_of cells.now (of_worksheet sheet.now)) }
 {
     let mut writes = Writes::new(sheet.alloc());
@@ -34,7 +34,7 @@ pub fn contents_of(sheet: &Sheet, cells: &[Cell]) -> Result<Writes, Memory>
 pub fn enter_out(
     cell: Cell,
     content: Content,
-    sheet: &mut Sheet,
+    sheet: &mut Worksheet,
     scene: &Scene,
     tally: &mut Tally,
 ) -> Result<(), Memory>
@@ -53,7 +53,7 @@ pub fn enter_out(
 /// Makes the writes, and recalculates in either mode.
 pub fn write_out(
     writes: &Writes,
-    sheet: &mut Sheet,
+    sheet: &mut Worksheet,
     scene: &Scene,
     tally: &mut Tally,
 ) -> Result<(), Memory>

@@ -23,19 +23,19 @@ use menu_tree::FileAction;
 use outside_world::{FileName, Memory, Shelf};
 use session_rooms::Answers;
 use sheet_store::SavedSheet;
-use work_sheet::Sheet;
+use work_sheet::Worksheet;
 
 // A file's sheet takes the place of the sheet, and is recalculated, seen from where its pointer stands.
 fn replace(
     saved: SavedSheet,
-    sheet: &mut Sheet,
+    sheet: &mut Worksheet,
     scene: &Scene,
     tally: &mut Tally,
 ) -> Result<(), Memory>
     ensures { let done = retrieved_sheet saved scene.entry.now (of_worksheet sheet.old) in
         OnOk result (Did done sheet.old sheet.new tally.old.count tally.new.count) }
 {
-    *sheet = Sheet::restore(saved)?;
+    *sheet = Worksheet::restore(saved)?;
     let there = Scene {
         cursor: pointer_of(sheet),
         now: scene.now,
@@ -122,7 +122,7 @@ fn extract_span<S: Shelf>(
     kind: Extracting,
     name: &FileName,
     span: Span,
-    sheet: &Sheet,
+    sheet: &Worksheet,
     shelf: &mut S,
 ) -> Result<Placed, Memory>
     ensures placed { IfOk result (λ placed. IsPlaced name.now

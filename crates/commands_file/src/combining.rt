@@ -18,7 +18,7 @@ use grid_address::{Cell, ROWS, Span};
 use lics_text::Memory;
 use sheet_store::{CellState, Store, Write, Writes};
 use std::alloc::Global;
-use work_sheet::Sheet;
+use work_sheet::Worksheet;
 
 // How many columns the sheet has.
 const COLS: u16 = 256;
@@ -223,7 +223,7 @@ fn used_span(file: &Store) -> Span
 }
 
 /// Where the pointer of a sheet stands.
-pub(crate) fn pointer_of(sheet: &Sheet) -> Cell
+pub(crate) fn pointer_of(sheet: &Worksheet) -> Cell
     ensures { result ≡ sheet.now.settings.pointer }
 {
     sheet.settings().pointer
@@ -233,7 +233,7 @@ pub(crate) fn pointer_of(sheet: &Sheet) -> Cell
 fn written_in(
     kind: Combining,
     file: &Store,
-    sheet: &mut Sheet,
+    sheet: &mut Worksheet,
     scene: &Scene,
     tally: &mut Tally,
 ) -> Result<CommandEnd, Memory>
@@ -251,7 +251,7 @@ fn written_in(
 pub(crate) fn combine(
     kind: Combining,
     file: &Store,
-    sheet: &mut Sheet,
+    sheet: &mut Worksheet,
     scene: &Scene,
     tally: &mut Tally,
 ) -> Result<CommandEnd, Memory>

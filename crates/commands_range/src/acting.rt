@@ -16,7 +16,7 @@ use grid_address::Span;
 use lics_text::{LabelPrefix, Memory};
 use menu_tree::RangeAction;
 use session_rooms::Answers;
-use work_sheet::Sheet;
+use work_sheet::Worksheet;
 
 // The cells of a span become blank.
 fn erased_span(span: Span, work: &mut Work<'_>) -> Result<CommandEnd, Memory>
@@ -62,7 +62,7 @@ fn erased(answers: &Answers, work: &mut Work<'_>) -> Result<CommandEnd, Memory>
 pub fn act(
     action: RangeAction,
     answers: &Answers,
-    sheet: &mut Sheet,
+    sheet: &mut Worksheet,
     scene: &Scene,
     tally: &mut Tally,
 ) -> Result<CommandEnd, Memory>

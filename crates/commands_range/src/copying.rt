@@ -11,7 +11,7 @@ use formula_eval::{Scene, Tally};
 use grid_address::Span;
 use lics_text::Memory;
 use session_rooms::Answers;
-use work_sheet::Sheet;
+use work_sheet::Worksheet;
 
 // A span is copied onto another, where the copy lies in the sheet.
 fn copied_onto(from: Span, to: Span, work: &mut Work<'_>) -> Result<CommandEnd, Memory>
@@ -32,7 +32,7 @@ fn copied_onto(from: Span, to: Span, work: &mut Work<'_>) -> Result<CommandEnd, 
 /// too (this project's choice), and a cell of which the sheet holds nothing is protected.
 pub fn copy(
     answers: &Answers,
-    sheet: &mut Sheet,
+    sheet: &mut Worksheet,
     scene: &Scene,
     tally: &mut Tally,
 ) -> Result<CommandEnd, Memory>

@@ -13,7 +13,7 @@ use desk_errors::CommandError;
 use lics_text::Memory;
 use menu_tree::{Action, RangeAction};
 use session_rooms::Answers;
-use work_sheet::Sheet;
+use work_sheet::Worksheet;
 
 /// The decimals that the first answer is, for an action that asks for them, with the errors of `whole_at`.
 pub fn decimals_of(action: RangeAction, answers: &Answers) -> Result<u8, CommandError>
@@ -30,7 +30,7 @@ pub fn formatted(
     format: FormatChoice,
     place: usize,
     answers: &Answers,
-    sheet: &mut Sheet,
+    sheet: &mut Worksheet,
 ) -> Result<CommandEnd, Memory>
     requires { HasDecimals format }
     ensures { IfOk result (λ end. (n : ℕ) → HasActed (formatted answers.now (of_worksheet sheet.old) format place)
@@ -47,7 +47,7 @@ pub fn formatted(
 
 /// Sets the protection marks of the cells of the span that the first answer is, or takes them away; their formats stay.
 /// It is refused by the errors of `span_at` alone.
-pub fn marked(protected: bool, answers: &Answers, sheet: &mut Sheet) -> Result<CommandEnd, Memory>
+pub fn marked(protected: bool, answers: &Answers, sheet: &mut Worksheet) -> Result<CommandEnd, Memory>
     ensures { IfOk result (λ end. (n : ℕ) → HasActed (marked answers.now (of_worksheet sheet.old) protected)
         end sheet.old sheet.new n n) }
 {

@@ -12,7 +12,7 @@ use grid_address::{Cell, Span};
 use lics_text::Memory;
 use session_rooms::Answers;
 use sheet_shifts::Shift;
-use work_sheet::Sheet;
+use work_sheet::Worksheet;
 
 // A span is moved so that its first corner comes to a cell.
 fn move_to(from: Span, to: Cell, work: &mut Work<'_>) -> Result<CommandEnd, Memory>
@@ -31,7 +31,7 @@ fn move_to(from: Span, to: Cell, work: &mut Work<'_>) -> Result<CommandEnd, Memo
 /// first cell in row order of the source and the target that is protected, where protection is on.
 pub fn move_span(
     answers: &Answers,
-    sheet: &mut Sheet,
+    sheet: &mut Worksheet,
     scene: &Scene,
     tally: &mut Tally,
 ) -> Result<CommandEnd, Memory>

@@ -14,10 +14,10 @@ use grid_address::Span;
 use lics_text::Memory;
 use range_names::fault_of;
 use session_rooms::Answers;
-use work_sheet::Sheet;
+use work_sheet::Worksheet;
 
 // A span takes a name, which can be one.
-fn give_name(name: &[u8], span: Span, sheet: &mut Sheet) -> Result<(), Memory>
+fn give_name(name: &[u8], span: Span, sheet: &mut Worksheet) -> Result<(), Memory>
     requires { fault_of name.now ≡ None }
     ensures { OnOk result (DidEdit (with_name name.now span) sheet.old sheet.new) }
 {
@@ -28,7 +28,7 @@ fn give_name(name: &[u8], span: Span, sheet: &mut Sheet) -> Result<(), Memory>
 }
 
 // The span that the second answer is takes a name, which can be one.
-fn name_span(name: &[u8], answers: &Answers, sheet: &mut Sheet) -> Result<CommandEnd, Memory>
+fn name_span(name: &[u8], answers: &Answers, sheet: &mut Worksheet) -> Result<CommandEnd, Memory>
     requires { fault_of name.now ≡ None }
     ensures { IfOk result (λ end. (n : ℕ) → HasActed (span_named name.now answers.now (of_worksheet sheet.old))
         end sheet.old sheet.new n n) }
@@ -44,7 +44,7 @@ fn name_span(name: &[u8], answers: &Answers, sheet: &mut Sheet) -> Result<Comman
 
 /// Gives the span that the second answer is the name that the first one is; a name that is there moves. It is refused
 /// by `InvalidName` and then by the errors of `span_at`.
-pub fn create_name(answers: &Answers, sheet: &mut Sheet) -> Result<CommandEnd, Memory>
+pub fn create_name(answers: &Answers, sheet: &mut Worksheet) -> Result<CommandEnd, Memory>
     ensures { IfOk result (λ end. (n : ℕ) → HasActed (name_created answers.now (of_worksheet sheet.old))
         end sheet.old sheet.new n n) }
 {
@@ -56,7 +56,7 @@ pub fn create_name(answers: &Answers, sheet: &mut Sheet) -> Result<CommandEnd, M
 }
 
 // A name goes, where it is there.
-fn take_away(name: &[u8], sheet: &mut Sheet) -> CommandEnd
+fn take_away(name: &[u8], sheet: &mut Worksheet) -> CommandEnd
     requires valid { fault_of name.now ≡ None }
     requires short { length name.now ≤ 15 }
     ensures { (n : ℕ) → HasActed
@@ -73,7 +73,7 @@ fn take_away(name: &[u8], sheet: &mut Sheet) -> CommandEnd
 }
 
 /// Takes the name away that the text is. It is refused by `InvalidName`, or by `NameNotFound` where it isn't there.
-pub fn delete_name(name: &[u8], sheet: &mut Sheet) -> CommandEnd
+pub fn delete_name(name: &[u8], sheet: &mut Worksheet) -> CommandEnd
     ensures { (n : ℕ) → HasActed (name_deleted name.now (of_worksheet sheet.old)) result sheet.old sheet.new n n }
 {
     match fault_of(name) {
@@ -83,7 +83,7 @@ pub fn delete_name(name: &[u8], sheet: &mut Sheet) -> CommandEnd
 }
 
 /// Takes all names away.
-pub fn reset_names(sheet: &mut Sheet) -> CommandEnd
+pub fn reset_names(sheet: &mut Worksheet) -> CommandEnd
     ensures { (n : ℕ) → HasActed (names_reset (of_worksheet sheet.old)) result sheet.old sheet.new n n }
 {
     sheet.reset_names();

@@ -18,7 +18,7 @@ use grid_address::{COLUMNS, Cell, ROWS, Span};
 use lics_text::Memory;
 use session_rooms::Answers;
 use sheet_store::Writes;
-use work_sheet::Sheet;
+use work_sheet::Worksheet;
 
 /// How the values of a span are laid out where they are written.
 #[derive(Clone, Copy)]
@@ -84,7 +84,7 @@ fn source_at(layout: Layout, from: Span, down: u16, across: u16) -> Cell
 // Adds what is written so many rows and columns from the first cell of the written span.
 fn push_value(
     writes: &mut Writes,
-    sheet: &Sheet,
+    sheet: &Worksheet,
     layout: Layout,
     from: Span,
     target: Span,
@@ -104,7 +104,7 @@ fn push_value(
 // Adds what is written into a row of the written span, counted from its first.
 fn push_row(
     writes: &mut Writes,
-    sheet: &Sheet,
+    sheet: &Worksheet,
     layout: Layout,
     from: Span,
     target: Span,
@@ -124,7 +124,7 @@ fn push_row(
 }
 
 // What is written into the span, in row order.
-fn values_of(sheet: &Sheet, layout: Layout, from: Span, target: Span) -> Result<Writes, Memory>
+fn values_of(sheet: &Worksheet, layout: Layout, from: Span, target: Span) -> Result<Writes, Memory>
     requires height { height_of target ≡ rows_in layout from }
     requires width { width_of target ≡ cols_in layout from }
     ensures { IfOk result (λ writes. writes ≡ values_of layout from target (sight_in (of_worksheet sheet.now))) }

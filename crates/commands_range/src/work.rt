@@ -1,11 +1,11 @@
 // What commands work on.
 use formula_eval::{Scene, Tally};
-use work_sheet::Sheet;
+use work_sheet::Worksheet;
 
 /// A worksheet that is worked on at a scene, and the count of its evaluations.
 #[derive(Drop)]
 pub struct Work<'a> {
-    pub sheet: &'a mut Sheet,
+    pub sheet: &'a mut Worksheet,
     pub scene: &'a Scene,
     pub tally: &'a mut Tally,
 }

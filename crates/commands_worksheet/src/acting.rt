@@ -14,10 +14,10 @@ use lics_text::Memory;
 use menu_tree::WorksheetAction;
 use session_rooms::Answers;
 use sheet_store::Order;
-use work_sheet::Sheet;
+use work_sheet::Worksheet;
 
 // The settings are changed.
-fn set(action: WorksheetAction, answers: &Answers, sheet: &mut Sheet) -> CommandEnd
+fn set(action: WorksheetAction, answers: &Answers, sheet: &mut Worksheet) -> CommandEnd
     ensures { HasOnlyActed (sets action answers.now) result sheet.old sheet.new }
 {
     match settings_after(action, answers, *sheet.settings()) {
@@ -30,7 +30,7 @@ fn set(action: WorksheetAction, answers: &Answers, sheet: &mut Sheet) -> Command
 }
 
 // The order of recalculation becomes this one.
-fn reorder(order: Order, sheet: &mut Sheet) -> Result<CommandEnd, Memory>
+fn reorder(order: Order, sheet: &mut Worksheet) -> Result<CommandEnd, Memory>
     ensures { IfOk result (λ end. HasOnlyActed (λ s. finished (reordered order s)) end sheet.old sheet.new) }
 {
     sheet.set_order(order)?;
@@ -38,11 +38,11 @@ fn reorder(order: Order, sheet: &mut Sheet) -> Result<CommandEnd, Memory>
 }
 
 // A fresh sheet takes the place of this one.
-fn erase(sheet: &mut Sheet, scene: &Scene, tally: &mut Tally) -> Result<CommandEnd, Memory>
+fn erase(sheet: &mut Worksheet, scene: &Scene, tally: &mut Tally) -> Result<CommandEnd, Memory>
     ensures { IfOk result (λ end.
         HasActedBy (erased scene.entry.now) end sheet.old sheet.new tally.old.count tally.new.count) }
 {
-    *sheet = Sheet::new(sheet.alloc());
+    *sheet = Worksheet::new(sheet.alloc());
     settle(sheet, scene, tally)?;
     Ok(CommandEnd::Finished)
 }
@@ -71,7 +71,7 @@ fn erase(sheet: &mut Sheet, scene: &Scene, tally: &mut Tally) -> Result<CommandE
 pub fn act(
     action: WorksheetAction,
     answers: &Answers,
-    sheet: &mut Sheet,
+    sheet: &mut Worksheet,
     scene: &Scene,
     tally: &mut Tally,
 ) -> Result<CommandEnd, Memory>

@@ -9,10 +9,10 @@ use command_desk::{CommandEnd, span_at, whole_at};
 use grid_address::Span;
 use menu_tree::{Action, WorksheetAction};
 use session_rooms::Answers;
-use work_sheet::Sheet;
+use work_sheet::Worksheet;
 
 // The columns of a span are hidden, or shown.
-fn hide_columns(hidden: bool, span: Span, sheet: &mut Sheet)
+fn hide_columns(hidden: bool, span: Span, sheet: &mut Worksheet)
     ensures { DidEdit (hidden_in hidden span) sheet.old sheet.new }
 {
     let last = u16::from(span.last.col);
@@ -24,7 +24,7 @@ fn hide_columns(hidden: bool, span: Span, sheet: &mut Sheet)
 }
 
 /// Hides the columns of the span that is asked for, or shows them. The sheet is as it was where the answer is no span.
-pub fn hide(hidden: bool, answers: &Answers, sheet: &mut Sheet) -> CommandEnd
+pub fn hide(hidden: bool, answers: &Answers, sheet: &mut Worksheet) -> CommandEnd
     ensures { HasOnlyActed (hides hidden answers.now) result sheet.old sheet.new }
 {
     match span_at(sheet.names(), answers, 0) {
@@ -37,7 +37,7 @@ pub fn hide(hidden: bool, answers: &Answers, sheet: &mut Sheet) -> CommandEnd
 }
 
 /// The pointer's column takes a width of its own, 1 to 240, or none.
-pub fn widen(width: Option<u8>, sheet: &mut Sheet) -> CommandEnd
+pub fn widen(width: Option<u8>, sheet: &mut Worksheet) -> CommandEnd
     requires { ForSome width IsWidth }
     ensures { HasOnlyActed (widened width) result sheet.old sheet.new }
 {
@@ -48,7 +48,7 @@ pub fn widen(width: Option<u8>, sheet: &mut Sheet) -> CommandEnd
 
 /// The pointer's column takes the width that is asked for. The sheet is as it was where the answer is no number from 1
 /// to 240.
-pub fn set_width(answers: &Answers, sheet: &mut Sheet) -> CommandEnd
+pub fn set_width(answers: &Answers, sheet: &mut Worksheet) -> CommandEnd
     ensures { HasOnlyActed (widens answers.now) result sheet.old sheet.new }
 {
     match whole_at(Action::Worksheet(WorksheetAction::SetWidth), answers, 0) {

@@ -12,7 +12,7 @@ use lics_text::Memory;
 use ref_adjust::Change;
 use session_rooms::Answers;
 use sheet_shifts::Shift;
-use work_sheet::Sheet;
+use work_sheet::Worksheet;
 
 /// What becomes of the columns or the rows that a span has.
 #[derive(Clone, Copy)]
@@ -42,7 +42,7 @@ fn change_of(edit: LineEdit, span: Span) -> Change
 fn edit_span(
     edit: LineEdit,
     span: Span,
-    sheet: &mut Sheet,
+    sheet: &mut Worksheet,
     scene: &Scene,
     tally: &mut Tally,
 ) -> Result<CommandEnd, Memory>
@@ -58,7 +58,7 @@ fn edit_span(
 pub fn edit_lines(
     edit: LineEdit,
     answers: &Answers,
-    sheet: &mut Sheet,
+    sheet: &mut Worksheet,
     scene: &Scene,
     tally: &mut Tally,
 ) -> Result<CommandEnd, Memory>

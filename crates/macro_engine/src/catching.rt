@@ -17,13 +17,13 @@ use lics_text::{LabelPrefix, Memory, Text};
 use macro_text::Position;
 use macro_words::{Change, Frames, Running, Switches, Waiting, start_of};
 use sheet_store::Writes;
-use work_sheet::Sheet;
+use work_sheet::Worksheet;
 
 // The message is put into a cell, unless that is protected.
 fn put_message(
     message: &[u8],
     cell: Cell,
-    sheet: &mut Sheet,
+    sheet: &mut Worksheet,
     scene: &Scene,
     tally: &mut Tally,
 ) -> Result<(), Memory>
@@ -46,7 +46,7 @@ fn put_message(
 fn tell(
     message: &[u8],
     cell: Option<Cell>,
-    sheet: &mut Sheet,
+    sheet: &mut Worksheet,
     scene: &Scene,
     tally: &mut Tally,
 ) -> Result<(), Memory>
@@ -84,7 +84,7 @@ fn gone_on(frames: Frames, switches: Switches, place: Cell) -> Running
 pub fn caught(
     running: Running,
     message: &[u8],
-    sheet: &mut Sheet,
+    sheet: &mut Worksheet,
     scene: &Scene,
     tally: &mut Tally,
 ) -> Result<Option<Running>, Memory>

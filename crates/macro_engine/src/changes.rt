@@ -13,10 +13,10 @@ use grid_address::{Cell, Span};
 use lics_text::Memory;
 use macro_words::Change;
 use sheet_store::{SheetFault, Writes};
-use work_sheet::Sheet;
+use work_sheet::Worksheet;
 
 // In Automatic mode all is recalculated.
-fn settle(sheet: &mut Sheet, scene: &Scene, tally: &mut Tally) -> Result<(), Memory>
+fn settle(sheet: &mut Worksheet, scene: &Scene, tally: &mut Tally) -> Result<(), Memory>
     ensures { let done = settled mean scene.entry.now (of_worksheet sheet.old) in
         OnOk result (Did done sheet.old sheet.new tally.old.count tally.new.count) }
 {
@@ -41,7 +41,7 @@ fn refused(fault: SheetFault) -> Result<Option<Cell>, Memory>
 // What comes of an edit, by its answer: where it was made, a recalculation follows in Automatic mode.
 fn settled(
     answer: Result<(), SheetFault>,
-    sheet: &mut Sheet,
+    sheet: &mut Worksheet,
     scene: &Scene,
     tally: &mut Tally,
 ) -> Result<Option<Cell>, Memory>
@@ -60,7 +60,7 @@ fn settled(
 // Contents are written.
 fn write(
     writes: &Writes,
-    sheet: &mut Sheet,
+    sheet: &mut Worksheet,
     scene: &Scene,
     tally: &mut Tally,
 ) -> Result<Option<Cell>, Memory>
@@ -74,7 +74,7 @@ fn write(
 // A span is erased.
 fn erase(
     span: Span,
-    sheet: &mut Sheet,
+    sheet: &mut Worksheet,
     scene: &Scene,
     tally: &mut Tally,
 ) -> Result<Option<Cell>, Memory>
@@ -89,7 +89,7 @@ fn erase(
 /// are to be written are protected, nothing is changed, and the first of them in row order is the answer.
 pub fn carry_out(
     change: &Change,
-    sheet: &mut Sheet,
+    sheet: &mut Worksheet,
     scene: &Scene,
     tally: &mut Tally,
 ) -> Result<Option<Cell>, Memory>

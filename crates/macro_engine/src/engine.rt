@@ -21,7 +21,7 @@ use macro_words::{Deed, Running, Waiting};
 use range_names::Names;
 use std::alloc::Global;
 use std::marker::Model;
-use work_sheet::Sheet;
+use work_sheet::Worksheet;
 
 /// The cell at which the macro of a letter begins: the first cell of the name that is a backslash and the letter
 /// (Release 2 manual). None where there is no such name.
@@ -174,7 +174,7 @@ impl Engine {
     #[tactic(auto, unfolding(crate::specs::Steps::macro_step))]
     pub fn step(
         &mut self,
-        sheet: &mut Sheet,
+        sheet: &mut Worksheet,
         scene: &Scene,
         tally: &mut Tally,
     ) -> Result<StepEnd, Memory>
@@ -205,7 +205,7 @@ impl Engine {
     pub fn answer(
         &mut self,
         key: Key,
-        sheet: &mut Sheet,
+        sheet: &mut Worksheet,
         scene: &Scene,
         tally: &mut Tally,
     ) -> Result<StepEnd, Memory>
@@ -236,7 +236,7 @@ impl Engine {
     pub fn carry(
         &mut self,
         deed: Deed,
-        sheet: &mut Sheet,
+        sheet: &mut Worksheet,
         scene: &Scene,
         tally: &mut Tally,
     ) -> Result<StepEnd, Memory>
@@ -268,7 +268,7 @@ impl Engine {
     pub fn catch_error(
         &mut self,
         message: &[u8],
-        sheet: &mut Sheet,
+        sheet: &mut Worksheet,
         scene: &Scene,
         tally: &mut Tally,
     ) -> Result<(), Memory>

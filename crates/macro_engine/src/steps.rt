@@ -17,7 +17,7 @@ use lics_text::{Memory, Text};
 use macro_text::{KeptWords, MacroFault, Spot, Unit, next_unit};
 use macro_words::{Change, Deed, FileDeed, Move, Row, Running, Waiting, key_row, return_row, row};
 use std::mem;
-use work_sheet::Sheet;
+use work_sheet::Worksheet;
 
 /// What a step of a macro comes to.
 #[derive(Drop)]
@@ -119,7 +119,7 @@ fn done(running: &mut Running, change: &Change, after: Move) -> Result<Outcome, 
 pub fn deed_stepped(
     running: &mut Running,
     deed: Deed,
-    sheet: &mut Sheet,
+    sheet: &mut Worksheet,
     scene: &Scene,
     tally: &mut Tally,
 ) -> Result<Outcome, Memory>
@@ -148,7 +148,7 @@ fn row_stepped(
     running: &mut Running,
     cell: Cell,
     row: Row,
-    sheet: &mut Sheet,
+    sheet: &mut Worksheet,
     scene: &Scene,
     tally: &mut Tally,
 ) -> Result<Outcome, Memory>
@@ -174,7 +174,7 @@ fn command_stepped(
     running: &mut Running,
     at: &Spot,
     kept: &mut KeptWords,
-    sheet: &mut Sheet,
+    sheet: &mut Worksheet,
     scene: &Scene,
     tally: &mut Tally,
 ) -> Result<Outcome, Memory>
@@ -190,7 +190,7 @@ fn command_stepped(
 // The return to the caller, or the macro's end.
 fn return_stepped(
     running: &mut Running,
-    sheet: &mut Sheet,
+    sheet: &mut Worksheet,
     scene: &Scene,
     tally: &mut Tally,
 ) -> Result<Outcome, Memory>
@@ -208,7 +208,7 @@ fn unit_stepped(
     running: &mut Running,
     unit: &Unit,
     kept: &mut KeptWords,
-    sheet: &mut Sheet,
+    sheet: &mut Worksheet,
     scene: &Scene,
     tally: &mut Tally,
 ) -> Result<Outcome, Memory>
@@ -230,7 +230,7 @@ fn unit_stepped(
 pub fn stepped(
     running: &mut Running,
     kept: &mut KeptWords,
-    sheet: &mut Sheet,
+    sheet: &mut Worksheet,
     scene: &Scene,
     tally: &mut Tally,
 ) -> Result<Outcome, Memory>
@@ -248,7 +248,7 @@ pub fn stepped(
 pub fn key_stepped(
     running: &mut Running,
     key: Key,
-    sheet: &mut Sheet,
+    sheet: &mut Worksheet,
     scene: &Scene,
     tally: &mut Tally,
 ) -> Result<Outcome, Memory>

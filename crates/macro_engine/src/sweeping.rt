@@ -7,10 +7,10 @@ ghost use Rattle.work_sheet.specs.Seen.{of_worksheet};
 use formula_eval::{Scene, Tally, glance};
 use lics_text::Memory;
 use macro_words::{Sweep, is_true};
-use work_sheet::Sheet;
+use work_sheet::Worksheet;
 
 // Whether the condition is a number other than 0. It is glanced at, and no evaluation is counted.
-fn is_met(sweep: &Sweep, sheet: &Sheet, scene: &Scene) -> Result<bool, Memory>
+fn is_met(sweep: &Sweep, sheet: &Worksheet, scene: &Scene) -> Result<bool, Memory>
     ensures { IfOk result (λ b. b ≡ spec.is_met scene.entry.now sweep.now (of_worksheet sheet.now)) }
 {
     match &sweep.until {
@@ -25,7 +25,7 @@ fn is_met(sweep: &Sweep, sheet: &Sheet, scene: &Scene) -> Result<bool, Memory>
 /// Makes the passes over a span: as many as there may be, or up to the first one after which the condition is met.
 pub fn sweep_span(
     sweep: &Sweep,
-    sheet: &mut Sheet,
+    sheet: &mut Worksheet,
     scene: &Scene,
     tally: &mut Tally,
 ) -> Result<(), Memory>

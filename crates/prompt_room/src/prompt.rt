@@ -24,7 +24,7 @@ use menu_tree::Ask;
 use point_room::{answer_text, steer};
 use range_names::Names;
 use session_rooms::{AnsweredCommand, Answering, Pointed, PromptRoom, Room, Turn, line_of_byte};
-use work_sheet::Sheet;
+use work_sheet::Worksheet;
 
 // The command goes on asking.
 fn asking(command: AnsweredCommand, answering: Answering) -> Turn
@@ -44,7 +44,7 @@ fn test(ask: Option<Ask>, names: &Names, line: &[u8], place: usize) -> Result<()
 }
 
 // The command has one answer more, or is refused it.
-fn with_answer(line: &[u8], sheet: &Sheet, mut command: AnsweredCommand) -> Result<Turn, Memory>
+fn with_answer(line: &[u8], sheet: &Worksheet, mut command: AnsweredCommand) -> Result<Turn, Memory>
     requires { IsText line.now }
     ensures { IfOk result (λ t. t ≡ with_answer (of_worksheet sheet.now) command line.now) }
 {
@@ -103,14 +103,14 @@ fn shown(name: Option<EntryLine>, command: AnsweredCommand, answering: Answering
 }
 
 // Where the pointer stands.
-fn pointer_of(sheet: &Sheet) -> Cell
+fn pointer_of(sheet: &Worksheet) -> Cell
     ensures { result ≡ sheet.now.settings.pointer }
 {
     sheet.settings().pointer
 }
 
 // The span is pointed at further.
-fn steered(key: &Key, sheet: &Sheet, command: AnsweredCommand, pointed: Pointed) -> Turn
+fn steered(key: &Key, sheet: &Worksheet, command: AnsweredCommand, pointed: Pointed) -> Turn
     ensures { result ≡ steered_prompt key.now (of_worksheet sheet.now) command pointed }
 {
     let pointed = steer(key, sheet.cells(), pointer_of(sheet), pointed);
@@ -118,7 +118,7 @@ fn steered(key: &Key, sheet: &Sheet, command: AnsweredCommand, pointed: Pointed)
 }
 
 // A byte while a span is pointed at.
-fn typed_byte(byte: TextByte, sheet: &Sheet, command: AnsweredCommand, pointed: Pointed) -> Turn
+fn typed_byte(byte: TextByte, sheet: &Worksheet, command: AnsweredCommand, pointed: Pointed) -> Turn
     ensures { result ≡ typed_byte byte (of_worksheet sheet.now) command pointed }
 {
     if byte.get() == b'.' {
@@ -131,7 +131,7 @@ fn typed_byte(byte: TextByte, sheet: &Sheet, command: AnsweredCommand, pointed: 
 // The answer is pointed at.
 fn press_pointing(
     key: Key,
-    sheet: &Sheet,
+    sheet: &Worksheet,
     command: AnsweredCommand,
     pointed: Pointed,
 ) -> Result<Turn, Memory>
@@ -162,7 +162,7 @@ fn line_answering(kept: bool, line: EntryLine) -> Answering
 // What a key comes to, where the line has taken it.
 fn typed_by(
     event: LineEvent,
-    sheet: &Sheet,
+    sheet: &Worksheet,
     command: AnsweredCommand,
     kept: bool,
     line: EntryLine,
@@ -179,7 +179,7 @@ fn typed_by(
 // The answer is typed.
 fn press_line(
     key: Key,
-    sheet: &Sheet,
+    sheet: &Worksheet,
     command: AnsweredCommand,
     kept: bool,
     mut line: EntryLine,
@@ -204,7 +204,7 @@ fn press_line(
 // A file name is shown and kept.
 fn press_kept(
     key: Key,
-    sheet: &Sheet,
+    sheet: &Worksheet,
     command: AnsweredCommand,
     line: EntryLine,
 ) -> Result<Turn, Memory>
@@ -280,7 +280,7 @@ pub fn lacks_item(room: &PromptRoom, letter: u8) -> bool
 /// file name that is shown. Of two items the first does nothing, and the other goes on with the command (Release 2
 /// manual). An answer is tested where it is given, as `test_answer` says, and a refused one ends the command. An answer
 /// that is given takes memory.
-pub fn press(key: Key, sheet: &Sheet, room: PromptRoom) -> Result<Turn, Memory>
+pub fn press(key: Key, sheet: &Worksheet, room: PromptRoom) -> Result<Turn, Memory>
     ensures { IfOk result (λ t. t ≡ press key (of_worksheet sheet.now) room) }
 {
     let PromptRoom { command, answering } = room;

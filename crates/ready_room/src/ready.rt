@@ -19,7 +19,7 @@ use session_rooms::{
     line_of_byte,
 };
 use std::alloc::Global;
-use work_sheet::Sheet;
+use work_sheet::Worksheet;
 
 // The mode that a byte begins.
 fn begun_mode(byte: u8) -> TypingMode
@@ -62,14 +62,14 @@ fn edit_text(text: &[u8]) -> Turn
 }
 
 // Where the pointer stands.
-fn pointer_of(sheet: &Sheet) -> Cell
+fn pointer_of(sheet: &Worksheet) -> Cell
     ensures { result ≡ sheet.now.settings.pointer }
 {
     sheet.settings().pointer
 }
 
 // The pointer's cell is edited.
-fn edit(sheet: &Sheet) -> Turn
+fn edit(sheet: &Worksheet) -> Turn
     ensures { result ≡ editing (pointed_text (of_worksheet sheet.now)) }
 {
     let pointer = pointer_of(sheet);
@@ -141,7 +141,7 @@ fn query_again(last: LastQuery, alloc: Global) -> Turn
 /// again, CALC recalculates, and ALT starts its letter's macro. Any other key is passed over (Release 2 manual).
 /// `LineTooLong` comes exactly where the cell's text is no line's, and `QueryRangeMissing` where there was no query
 /// yet; where there was no table, the command that the key gives is refused. It takes no memory.
-pub fn press(key: Key, end: bool, sheet: &Sheet, ranges: &DeskRanges) -> Turn
+pub fn press(key: Key, end: bool, sheet: &Worksheet, ranges: &DeskRanges) -> Turn
     ensures { result ≡ press key end (of_worksheet sheet.now) ranges.now }
 {
     match key {

@@ -13,7 +13,7 @@ use grid_address::{Cell, Format};
 use lics_text::Line;
 use sheet_store::MOST_WIDTH;
 use shown_cells::{Fitting, Shown, put_fitting, shown_in};
-use work_sheet::Sheet;
+use work_sheet::Worksheet;
 
 /// Adds a text in a column's width, cut or filled; what doesn't fit the line is left out. The answer is what is left of
 /// the text.
@@ -100,7 +100,7 @@ fn add_shown<'a>(line: &mut PaintedLine, shown: &Shown<'a>, width: u8) -> &'a [u
 /// runs on into the next column.
 pub fn add_cell<'a>(
     line: &mut PaintedLine,
-    sheet: &'a Sheet,
+    sheet: &'a Worksheet,
     cell: Cell,
     width: u8,
     over: &'a [u8],

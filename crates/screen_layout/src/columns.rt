@@ -13,7 +13,7 @@ use grid_address::{Cell, ROWS, column_text, row_text};
 use lics_text::Line;
 use sheet_store::MOST_WIDTH;
 use shown_cells::put_blanks;
-use work_sheet::Sheet;
+use work_sheet::Worksheet;
 
 // Adds the letters of a column, with half of the free bytes on their left.
 #[tactic(auto, using(std::proofs::lemmas::List::take_min))]
@@ -35,7 +35,7 @@ fn add_head(line: &mut PaintedLine, col: u8, width: u8)
 // Adds a column's part of the line of letters, or of a row. The answer is what runs on into the next column.
 fn add_column<'a>(
     line: &mut PaintedLine,
-    sheet: &'a Sheet,
+    sheet: &'a Worksheet,
     row: Option<u16>,
     column: Column,
     over: &'a [u8],
@@ -76,7 +76,7 @@ fn margin_of(row: Option<u16>) -> PaintedLine
 }
 
 /// The line of letters, or a row below 8192, from a column on, with the shown columns beside each other.
-pub fn columns_line(sheet: &Sheet, row: Option<u16>, first: u8) -> [u8; 80]
+pub fn columns_line(sheet: &Worksheet, row: Option<u16>, first: u8) -> [u8; 80]
     requires { ForSome row (λ r. r < ROWS) }
     ensures { result ≡ shown_line (columns_line (of_worksheet sheet.now) row first) }
 {

@@ -17,7 +17,7 @@ use control_panel::Mode;
 use formula_eval::Look;
 use grid_address::{Cell, Format, cell_text, decimal_text};
 use lics_text::Line;
-use work_sheet::Sheet;
+use work_sheet::Worksheet;
 
 // The column before which what is told of the pointer's cell ends.
 const CONTENT_END: usize = 72;
@@ -99,7 +99,7 @@ fn put_width(width: Option<u8>, into: &mut Line)
 }
 
 // What is told of the pointer's cell before its content.
-fn put_front(sheet: &Sheet, into: &mut Line)
+fn put_front(sheet: &Worksheet, into: &mut Line)
     requires { into.old ≡ [] }
     ensures { into.new ≡ front_text (of_worksheet sheet.now) }
 {
@@ -115,14 +115,14 @@ fn put_front(sheet: &Sheet, into: &mut Line)
 }
 
 // The pointer's cell.
-fn pointer_of(sheet: &Sheet) -> Cell
+fn pointer_of(sheet: &Worksheet) -> Cell
     ensures { result ≡ sheet.now.settings.pointer }
 {
     sheet.settings().pointer
 }
 
 // What is told of the pointer's cell and its content, cut after column 71.
-fn pointer_part(sheet: &Sheet) -> PaintedLine
+fn pointer_part(sheet: &Worksheet) -> PaintedLine
     ensures text { result ≡ filled MODE_COLUMN (take CONTENT_END (pointer_text (of_worksheet sheet.now))) }
     ensures width { length result ≡ MODE_COLUMN }
 {
@@ -139,7 +139,7 @@ fn pointer_part(sheet: &Sheet) -> PaintedLine
 
 /// The pointer's address, what is told of its cell, its content and the mode.
 #[tactic(auto, using(crate::proofs::Cuts::mode_added))]
-pub fn pointer_line(sheet: &Sheet, panel: &PanelView) -> [u8; 80]
+pub fn pointer_line(sheet: &Worksheet, panel: &PanelView) -> [u8; 80]
     ensures { result ≡ shown_line (pointer_line (of_worksheet sheet.now) (viewed panel.now)) }
 {
     let mut line = pointer_part(sheet);

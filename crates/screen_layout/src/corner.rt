@@ -7,7 +7,7 @@ use crate::shown_columns::ROOM;
 use crate::widths::width_in;
 use grid_address::Cell;
 use sheet_store::MOST_WIDTH;
-use work_sheet::Sheet;
+use work_sheet::Worksheet;
 
 // The first of 20 shown rows, as near to the one before as lets the pointer's be among them.
 fn first_row(first: u16, pointer: u16) -> u16
@@ -22,7 +22,7 @@ fn first_row(first: u16, pointer: u16) -> u16
 
 // A column's width, and none where it is hidden.
 #[tactic(auto, using(crate::proofs::Nearing::wide_hidden, crate::proofs::Nearing::wide_seen))]
-fn shown_width(sheet: &Sheet, col: u8) -> u16
+fn shown_width(sheet: &Worksheet, col: u8) -> u16
     ensures width { result ≡ wide (of_worksheet sheet.now) 1 col }
     ensures most { result ≤ MOST_WIDTH }
 {
@@ -34,7 +34,7 @@ fn shown_width(sheet: &Sheet, col: u8) -> u16
 }
 
 // How wide the columns of this one to the last are together.
-fn wide(sheet: &Sheet, first: u8, last: u8) -> u16
+fn wide(sheet: &Worksheet, first: u8, last: u8) -> u16
     requires { first ≤ last }
     ensures width { result ≡ wide (of_worksheet sheet.now) (last - first + 1) first }
     ensures most { result ≤ MOST_WIDTH * (last - first + 1) }
@@ -47,7 +47,7 @@ fn wide(sheet: &Sheet, first: u8, last: u8) -> u16
 }
 
 // The first column from which on the pointer's is shown whole, or else the pointer's.
-fn nearest(sheet: &Sheet, first: u8, pointer: u8) -> u8
+fn nearest(sheet: &Worksheet, first: u8, pointer: u8) -> u8
     requires { first ≤ pointer }
     ensures column { result ≡ nearest (of_worksheet sheet.now) (pointer - first) first }
     ensures last { result ≤ pointer }
@@ -63,7 +63,7 @@ fn nearest(sheet: &Sheet, first: u8, pointer: u8) -> u8
 }
 
 // The first shown column, as near to the one before as lets the pointer's be shown whole.
-fn first_column(sheet: &Sheet, first: u8, pointer: u8) -> u8
+fn first_column(sheet: &Worksheet, first: u8, pointer: u8) -> u8
     ensures { result ≡ first_column (of_worksheet sheet.now) first pointer }
 {
     if sheet.is_hidden(pointer) {
@@ -77,7 +77,7 @@ fn first_column(sheet: &Sheet, first: u8, pointer: u8) -> u8
 
 /// The cell at the top left of the screen after a step: it moves as little as lets the pointer's cell be shown. (This
 /// project's choice.)
-pub fn corner_for(sheet: &Sheet, corner: Cell) -> Cell
+pub fn corner_for(sheet: &Worksheet, corner: Cell) -> Cell
     ensures { result ≡ corner_for (of_worksheet sheet.now) corner }
 {
     let pointer = sheet.settings().pointer;

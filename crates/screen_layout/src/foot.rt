@@ -15,7 +15,7 @@ use fixed_value::Fixed;
 use grid_address::Format;
 use lics_text::Line;
 use serial_date::Moment;
-use work_sheet::Sheet;
+use work_sheet::Worksheet;
 
 // The columns from which on the indicators stand; what is told before them ends at the first.
 const CALC_COLUMN: usize = 50;
@@ -92,14 +92,14 @@ fn mark(line: &mut PaintedLine, told: bool, column: usize, word: &[u8])
 }
 
 /// Whether a change was made since the last recalculation, and none follows by itself.
-pub fn wants_recalculation(sheet: &Sheet) -> bool
+pub fn wants_recalculation(sheet: &Worksheet) -> bool
     ensures { result ≡ wants_recalculation (of_worksheet sheet.now) }
 {
     sheet.is_stale() && !sheet.settings().automatic
 }
 
 /// The last line: the moment or in ERROR the message, and CALC, CIRC, END and CMD.
-pub fn foot_line(sheet: &Sheet, panel: &PanelView, now: &Moment) -> [u8; 80]
+pub fn foot_line(sheet: &Worksheet, panel: &PanelView, now: &Moment) -> [u8; 80]
     ensures { result ≡ shown_line (foot_line (of_worksheet sheet.now) (viewed panel.now) now.now.day now.now.second) }
 {
     let mut line = first_part(panel, now);

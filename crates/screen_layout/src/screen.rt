@@ -15,10 +15,10 @@ use control_panel::Panel;
 use grid_address::{Cell, ROWS};
 use screen_show::{LineSet, Screen};
 use serial_date::Moment;
-use work_sheet::Sheet;
+use work_sheet::Worksheet;
 
 // A row of the sheet; below row 8192 there is none.
-fn row_line(sheet: &Sheet, row: u16, first: u8) -> [u8; 80]
+fn row_line(sheet: &Worksheet, row: u16, first: u8) -> [u8; 80]
     ensures { result ≡ shown_line (row_line (of_worksheet sheet.now) row first) }
 {
     if row < ROWS {
@@ -29,7 +29,7 @@ fn row_line(sheet: &Sheet, row: u16, first: u8) -> [u8; 80]
 }
 
 /// A line of the screen, as `paint` shows it, of the lines 0 to 24.
-pub fn line_at(sheet: &Sheet, panel: &PanelView, corner: Cell, now: &Moment, line: u8) -> [u8; 80]
+pub fn line_at(sheet: &Worksheet, panel: &PanelView, corner: Cell, now: &Moment, line: u8) -> [u8; 80]
     requires { line ≤ 24 }
     ensures { result ≡ screen_line (of_worksheet sheet.now) (viewed panel.now) corner now.now.day now.now.second line }
 {
@@ -46,7 +46,7 @@ pub fn line_at(sheet: &Sheet, panel: &PanelView, corner: Cell, now: &Moment, lin
 
 /// The screen: the control panel, the columns' letters, 20 rows from the corner's on, and the last line. None of its
 /// bytes is below 32. (Release 2 manual for what stands where, this project's choice for the columns.)
-pub fn paint(sheet: &Sheet, panel: &Panel, corner: Cell, now: &Moment) -> Screen
+pub fn paint(sheet: &Worksheet, panel: &Panel, corner: Cell, now: &Moment) -> Screen
     ensures screen { result ≡ screen (of_worksheet sheet.now) panel.now corner now.now.day now.now.second }
     ensures shape { IsScreen (screen (of_worksheet sheet.now) panel.now corner now.now.day now.now.second) }
     ensures printed { IsPrinted (screen (of_worksheet sheet.now) panel.now corner now.now.day now.now.second) }
@@ -65,7 +65,7 @@ pub fn paint(sheet: &Sheet, panel: &Panel, corner: Cell, now: &Moment) -> Screen
 
 // Paints the lines of a set over a screen that has the others in common with this one, as `paint` does.
 fn paint_lines(
-    sheet: &Sheet,
+    sheet: &Worksheet,
     panel: &PanelView,
     corner: Cell,
     now: &Moment,

@@ -7,7 +7,7 @@ ghost use Rattle.work_sheet.specs.Seen.{of_worksheet};
 use crate::widths::width_in;
 use grid_address::COLUMNS;
 use sheet_store::MOST_WIDTH;
-use work_sheet::Sheet;
+use work_sheet::Worksheet;
 
 // How many bytes of a line stand behind the four of the row's number.
 pub(crate) const ROOM: u8 = 76;
@@ -43,7 +43,7 @@ impl Coming {
 
     /// The next of them. Hidden columns are passed over, the others stand beside each other while they fit whole into
     /// 76 bytes, and the first is shown in any case.
-    pub fn next_in(&mut self, sheet: &Sheet) -> Option<Column>
+    pub fn next_in(&mut self, sheet: &Worksheet) -> Option<Column>
         requires { self.old.used ≤ MOST_WIDTH }
         ensures next { ComesNext (of_worksheet sheet.now) self.old result self.new }
         ensures used { IfSome result (λ x. self.old.used < self.new.used) }
@@ -70,7 +70,7 @@ impl Coming {
 /// How many columns stand on the screen from a column on, 0 to 76: those that aren't hidden, while they fit whole. The
 /// first counts in any case, and there is none where all from there on are hidden. (This project's choice.) It takes no
 /// memory.
-pub fn columns_shown(sheet: &Sheet, first: u8) -> u8
+pub fn columns_shown(sheet: &Worksheet, first: u8) -> u8
     ensures { result ≡ columns_shown (of_worksheet sheet.now) first }
 {
     let mut count: u8 = 0;

@@ -13,10 +13,10 @@ use menu_tree::{Action, CommonAction};
 use outside_world::Shelf;
 use session_rooms::{AnsweredCommand, Answers};
 use sheet_store::Settings;
-use work_sheet::Sheet;
+use work_sheet::Worksheet;
 
 // The pointer goes to the cell that the answer is.
-fn go_to(answers: &Answers, sheet: &mut Sheet) -> CommandEnd
+fn go_to(answers: &Answers, sheet: &mut Worksheet) -> CommandEnd
     ensures { (n : ℕ) → HasActedBy (gone_to answers.now) result sheet.old sheet.new n n }
 {
     match cell_at(sheet.names(), answers, 0) {
@@ -36,7 +36,7 @@ fn go_to(answers: &Answers, sheet: &mut Sheet) -> CommandEnd
 fn act_common(
     action: CommonAction,
     answers: &Answers,
-    sheet: &mut Sheet,
+    sheet: &mut Worksheet,
     scene: &Scene,
     tally: &mut Tally,
 ) -> Result<CommandEnd, Memory>

@@ -13,7 +13,7 @@ use grid_address::Cell;
 use lics_text::{LabelPrefix, Memory, Text};
 use session_rooms::begins_value;
 use std::alloc::Global;
-use work_sheet::Sheet;
+use work_sheet::Worksheet;
 
 /// What a finished line means: a content, or a fault at a byte of the line, or at its end.
 #[derive(Drop)]
@@ -40,7 +40,7 @@ fn fault_place(fault: ParseFault, line: &[u8]) -> usize
 }
 
 // A formula, or the place of its fault.
-fn formula_of(line: &[u8], sheet: &Sheet, cell: Cell) -> Result<Meant, Memory>
+fn formula_of(line: &[u8], sheet: &Worksheet, cell: Cell) -> Result<Meant, Memory>
     ensures { IfOk result (λ m. m ≡ formula_meant (reading sheet.now.names cell line.now) line.now) }
 {
     match read(sheet.alloc(), line, cell, sheet.names()) {
@@ -51,7 +51,7 @@ fn formula_of(line: &[u8], sheet: &Sheet, cell: Cell) -> Result<Meant, Memory>
 }
 
 // A decimal is a number, one that is too large is a fault, and any other value is read as a formula.
-fn value_of(line: &[u8], sheet: &Sheet, cell: Cell) -> Result<Meant, Memory>
+fn value_of(line: &[u8], sheet: &Worksheet, cell: Cell) -> Result<Meant, Memory>
     ensures { IfOk result (λ m. m ≡ value_in line.now (of_worksheet sheet.now) cell) }
 {
     match read_decimal(line) {
@@ -72,7 +72,7 @@ fn label(prefix: LabelPrefix, bytes: &[u8], alloc: Global) -> Result<Content, Me
 
 // A label begins with its prefix, or takes the sheet's.
 #[tactic(auto, using(crate::proofs::Prefixed::behind_prefix))]
-fn label_of(line: &[u8], sheet: &Sheet) -> Result<Content, Memory>
+fn label_of(line: &[u8], sheet: &Worksheet) -> Result<Content, Memory>
     requires { IsText line.now }
     ensures { IfOk result (λ x. x ≡ label_content sheet.now.settings.prefix line.now) }
 {
@@ -88,7 +88,7 @@ fn label_of(line: &[u8], sheet: &Sheet) -> Result<Content, Memory>
 
 /// What a line means in a cell of a sheet: a value where its first byte begins one, and else a label, which begins with
 /// its prefix or takes the sheet's (Release 2 manual).
-pub(crate) fn meaning_of(line: &[u8], sheet: &Sheet, cell: Cell) -> Result<Meant, Memory>
+pub(crate) fn meaning_of(line: &[u8], sheet: &Worksheet, cell: Cell) -> Result<Meant, Memory>
     requires { IsText line.now }
     ensures { IfOk result (λ m. m ≡ meaning_of line.now (of_worksheet sheet.now) cell) }
 {

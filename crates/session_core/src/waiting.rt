@@ -13,10 +13,10 @@ use lics_text::{Line, MAX_LEN};
 use macro_text::macro_text;
 use macro_words::{MacroMenu, Question, Running, Waiting, beside, item_text};
 use menu_room::put_item;
-use work_sheet::Sheet;
+use work_sheet::Worksheet;
 
 // The text of an item of a menu; nothing where none stands there.
-fn item_bytes<'a>(sheet: &'a Sheet, menu: &MacroMenu, place: usize) -> &'a [u8]
+fn item_bytes<'a>(sheet: &'a Worksheet, menu: &MacroMenu, place: usize) -> &'a [u8]
     ensures { result.now ≡ spec.item_of (of_worksheet sheet.now) menu.now place }
 {
     match item_text(sheet, menu.first, place) {
@@ -26,7 +26,7 @@ fn item_bytes<'a>(sheet: &'a Sheet, menu: &MacroMenu, place: usize) -> &'a [u8]
 }
 
 // The items of a menu, of which the highlighted one is marked.
-fn items_line(sheet: &Sheet, menu: &MacroMenu) -> Line
+fn items_line(sheet: &Worksheet, menu: &MacroMenu) -> Line
     ensures { result ≡ take MAX_LEN (items_line menu.now.highlight (spec.items_of (of_worksheet sheet.now) menu.now)) }
 {
     let mut line = Line::new();
@@ -41,7 +41,7 @@ fn items_line(sheet: &Sheet, menu: &MacroMenu) -> Line
 }
 
 // The text of the cell below one; below the last row there is none.
-fn text_below(sheet: &Sheet, cell: Cell) -> &[u8]
+fn text_below(sheet: &Worksheet, cell: Cell) -> &[u8]
     ensures below { result.now ≡ spec.text_below (of_worksheet sheet.now) cell }
     ensures short { length result.now ≤ MAX_LEN }
 {
@@ -56,7 +56,7 @@ fn text_below(sheet: &Sheet, cell: Cell) -> &[u8]
 }
 
 // A menu.
-fn menu_panel(sheet: &Sheet, menu: &MacroMenu) -> Panel
+fn menu_panel(sheet: &Worksheet, menu: &MacroMenu) -> Panel
     ensures { result ≡ spec.menu_panel (of_worksheet sheet.now) menu.now }
 {
     let mut panel = Panel::of(Mode::Menu);
@@ -80,7 +80,7 @@ fn question_panel(question: &Question) -> Panel
 }
 
 /// What is shown of a macro's line or menu, or else what the session shows.
-pub(crate) fn waiting_panel(sheet: &Sheet, running: Option<&Running>, room: Panel) -> Panel
+pub(crate) fn waiting_panel(sheet: &Worksheet, running: Option<&Running>, room: Panel) -> Panel
     ensures { result ≡ spec.waiting_panel (of_worksheet sheet.now) (option_copied running.entry) room }
 {
     let Some(running) = running else {

@@ -25,7 +25,7 @@ use outside_world::{Failed, FileName, Memory, Notes};
 use session_core::Session;
 use std::alloc::Global;
 use wk1_file::Wk1Fault;
-use work_sheet::Sheet;
+use work_sheet::Worksheet;
 
 const MEMORY_NOTE: &[u8] = b"1-2-3: memory full\n";
 
@@ -363,7 +363,7 @@ fn tell_row_count<N: Notes>(notes: &mut N, rows: u16) -> Result<(), Failed>
 }
 
 // Tells the sum of all rows.
-fn tell_sum<N: Notes>(notes: &mut N, rows: u16, sheet: &Sheet) -> Result<(), Failed>
+fn tell_sum<N: Notes>(notes: &mut N, rows: u16, sheet: &Worksheet) -> Result<(), Failed>
     requires some { 1 ≤ rows }
     requires most { rows ≤ 8000 }
     ensures { HasWritten (sum_note rows sheet.now.grid)
@@ -379,7 +379,7 @@ fn tell_sum<N: Notes>(notes: &mut N, rows: u16, sheet: &Sheet) -> Result<(), Fai
 }
 
 // Tells the rows of a generated sheet, and then the sum of all of them.
-fn tell_generated<N: Notes>(notes: &mut N, rows: u16, sheet: &Sheet) -> Result<(), Failed>
+fn tell_generated<N: Notes>(notes: &mut N, rows: u16, sheet: &Worksheet) -> Result<(), Failed>
     requires some { 1 ≤ rows }
     requires most { rows ≤ 8000 }
     ensures { HasWritten (generated_notes rows sheet.now.grid)

@@ -11,7 +11,7 @@ use sheet_gen::generate;
 use sheet_store::SavedSheet;
 use std::alloc::Global;
 use wk1_file::{Wk1Fault, read};
-use work_sheet::Sheet;
+use work_sheet::Worksheet;
 
 /// Why a start file isn't read as a sheet.
 #[derive(Clone, Copy)]
@@ -63,7 +63,7 @@ fn desk_over(alloc: Global, saved: SavedSheet) -> Result<Desk, Memory>
     ensures { IfOk result (IsDeskOf saved) }
 {
     let mut desk = Desk::new(alloc)?;
-    let sheet = Sheet::restore(saved)?;
+    let sheet = Worksheet::restore(saved)?;
     desk.sheet = sheet;
     Ok(desk)
 }

@@ -12,7 +12,7 @@ use formula_eval::Means;
 use grid_address::Cell;
 use lics_text::Memory;
 use sheet_store::{Settings, Store};
-use work_sheet::{KeptState, SheetOf};
+use work_sheet::{KeptState, WorksheetOf};
 
 // Settings with the pointer in A1.
 fn but_pointer(settings: &Settings) -> Settings
@@ -42,7 +42,7 @@ fn is_same_store(one: &Store, other: &Store) -> Result<bool, Memory>
 }
 
 /// Whether the cells, the columns, the names and the settings of a sheet other than the pointer are as they were.
-pub fn is_alike<E: Means>(kept: &KeptState, sheet: &SheetOf<E>) -> Result<bool, Memory>
+pub fn is_alike<E: Means>(kept: &KeptState, sheet: &WorksheetOf<E>) -> Result<bool, Memory>
     ensures { IfOk result (λ same. Decides same (IsAlike (sheet_of kept.now) (of_worksheet sheet.now))) }
 {
     if !are_same_settings(&kept.saved.settings, sheet.settings())

@@ -13,7 +13,7 @@ use range_names::Names;
 use sheet_store::{SavedSheet, Settings, Store};
 use std::alloc::Global;
 use std::marker::Model;
-use work_sheet::{KeptState, SheetOf};
+use work_sheet::{KeptState, WorksheetOf};
 
 /// How many states are kept at most, beside the latest.
 const MOST_EARLIER: usize = 19;
@@ -49,7 +49,7 @@ impl Model for History {
 }
 
 // The state that a sheet is in.
-fn state_of<E: Means>(sheet: &SheetOf<E>) -> Result<KeptState, Memory>
+fn state_of<E: Means>(sheet: &WorksheetOf<E>) -> Result<KeptState, Memory>
     ensures { IfOk result (λ k. sheet_of k ≡ of_worksheet sheet.now) }
 {
     let saved = sheet.snapshot()?;
@@ -176,7 +176,7 @@ impl History {
     }
 
     /// A command begins: the sheet's present state is the begun one. The history is unchanged where there is no memory.
-    pub fn begin<E: Means>(&mut self, sheet: &SheetOf<E>) -> Result<(), Memory>
+    pub fn begin<E: Means>(&mut self, sheet: &WorksheetOf<E>) -> Result<(), Memory>
         ensures ok { OnOk result (self.new ≡ record self.old { begun = Some (of_worksheet sheet.now) }) }
         ensures err { OnErr result (self.new ≡ self.old) }
     {
@@ -195,7 +195,7 @@ impl History {
     /// A command ends: the begun state is kept, and past 20 the oldest one is dropped, exactly where the answer is
     /// true, which is exactly where the sheet differs from it in its cells, its columns, its names or its settings
     /// other than the pointer. Afterwards none is begun. The history is unchanged where there is no memory.
-    pub fn end<E: Means>(&mut self, sheet: &SheetOf<E>) -> Result<bool, Memory>
+    pub fn end<E: Means>(&mut self, sheet: &WorksheetOf<E>) -> Result<bool, Memory>
         requires { is_some self.old.begun ≡ true }
         ensures answer { IfOk result (λ differs. Tells differs self.old.begun (of_worksheet sheet.now)) }
         ensures ok { IfOk result (λ differs. self.new ≡ ended differs self.old.begun self.old.kept) }
@@ -217,7 +217,7 @@ impl History {
 
     /// Puts the latest kept state back, with its pointer and its marks, and takes it off the list; the answer is false
     /// exactly where none is kept. The history and the sheet are unchanged where there is no memory.
-    pub fn undo<E: Means>(&mut self, sheet: &mut SheetOf<E>) -> Result<bool, Memory>
+    pub fn undo<E: Means>(&mut self, sheet: &mut WorksheetOf<E>) -> Result<bool, Memory>
         ensures sheet { IfOk result (λ undone. Undoes self.old.kept undone sheet.old sheet.new) }
         ensures list { OnOk result (self.new ≡ record self.old { kept = drop 1 self.old.kept }) }
         ensures err { OnErr result ((self.new ≡ self.old) × (sheet.new ≡ sheet.old)) }

@@ -7,7 +7,7 @@ mod typed;
 mod work;
 
 pub use kept::KeptState;
-pub use sheet::{Sheet, SheetOf};
+pub use sheet::{Worksheet, WorksheetOf};
 pub use work::{
     what_happened_has_its_work, what_happened_tells_the_work, what_was_done_is_composed,
 };

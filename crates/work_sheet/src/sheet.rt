@@ -55,7 +55,7 @@ use std::mem::replace;
 /// A sheet over an evaluator: its cells and columns, its names and its settings. It keeps which formulas are dirty, so
 /// that a recalculation evaluates those alone: a formula that isn't dirty has its meaning as its value.
 #[derive(Drop)]
-pub struct SheetOf<E: Means> {
+pub struct WorksheetOf<E: Means> {
     store: Store,
     graph: Graph,
     dirty: CellSet,
@@ -67,9 +67,9 @@ pub struct SheetOf<E: Means> {
 }
 
 /// A sheet that evaluates formulas by their meaning.
-pub type Sheet = SheetOf<Tally>;
+pub type Worksheet = WorksheetOf<Tally>;
 
-impl<E: Means> Model for SheetOf<E> {
+impl<E: Means> Model for WorksheetOf<E> {
     ghost use Rattle.formula_tree.specs.contracts.formula.Formula as formula;
     ghost use Rattle.std.specs.Coded.{codes};
     ghost use Rattle.std.specs.FinMap as map;
@@ -91,13 +91,13 @@ impl<E: Means> Model for SheetOf<E> {
     ghost invariant = { λ s. IsKept E.meaning s.graph s.store s.dirty.keys s.settings.order };
 }
 
-impl<E: Means> SheetOf<E> {
+impl<E: Means> WorksheetOf<E> {
     /// A fresh sheet: no cell, no name, and the settings of a fresh sheet.
     pub fn new(alloc: Global) -> Self
         ensures sheet { of_worksheet result ≡ fresh_sheet }
         ensures dirty { result.dirty ≡ [] }
     {
-        SheetOf {
+        WorksheetOf {
             store: Store::new(alloc),
             graph: Graph::new(alloc),
             dirty: CellSet::new(alloc),
@@ -118,7 +118,7 @@ impl<E: Means> SheetOf<E> {
         let dirty = all_dirty(&saved.store)?;
         // `len` is called for its clause that no cell is in the set twice, here and below.
         let _ = dirty.len();
-        Ok(SheetOf {
+        Ok(WorksheetOf {
             store: saved.store,
             graph,
             dirty,
@@ -156,7 +156,7 @@ impl<E: Means> SheetOf<E> {
         let graph = graph_of(&store)?;
         let all = all_dirty(&store)?;
         let _ = all.len();
-        let sheet = SheetOf {
+        let sheet = WorksheetOf {
             store,
             graph,
             dirty: all,
@@ -597,7 +597,7 @@ impl<E: Means> SheetOf<E> {
         let graph = graph_of(&store)?;
         let formulas = all_dirty(&store)?;
         let _ = formulas.len();
-        let sheet = SheetOf {
+        let sheet = WorksheetOf {
             store,
             graph,
             dirty: formulas,
@@ -742,7 +742,7 @@ pub fn mark(stale: &mut bool)
 }
 
 /// Formulas and blocks of data look at a sheet as it stands.
-impl<E: Means> Look for SheetOf<E> {
+impl<E: Means> Look for WorksheetOf<E> {
     ghost sight = { λ s. sight_of s.names s.settings s.grid };
 
     fn value(&self, cell: Cell) -> ValueRef<'_> {

@@ -1,0 +1,14 @@
+use Rattle.natural_recalc.specs.Passes.{Meaning}
+use Rattle.natural_recalc.specs.inner.Meanings.{IsMeaning}
+use Rattle.work_sheet.proofs.Held.{kept_edit}
+use Rattle.work_sheet.proofs.sheet.WorksheetOf.enter.Goals as goal
+
+pub write_cell-requires-clause-only : goal.write_cell-requires-clause-only
+write_cell-requires-clause-only g c = c.self.invariant.only
+
+pub invariant_of-self : goal.invariant_of-self
+invariant_of-self g c =
+    let mean : Meaning = g.E.Means.meaning in
+    let meaning : IsMeaning mean = record { reads = g.met.E.Means.reads_alone } in
+    kept_edit mean meaning c.self.inside.store c.write_cell.new.store c.args.cell c.in_ok-state.state c.self.inside.dirty.keys c.write_cell.new.dirty.keys
+    c.in-Ok.ensures.store c.in-Ok.ensures.dirty c.self.inside.settings.order c.self.inside.graph c.write_cell.new.graph c.self.invariant c.write_cell.ensures.matches

@@ -1,0 +1,17 @@
+use Rattle.std.specs.FinMap.{get}
+use Rattle.std.proofs.Common.{ap, ◌∙◌}
+use Rattle.grid_address.specs.Place.{same_place}
+use Rattle.cell_numbers.specs.Sets.{has}
+use Rattle.natural_recalc.specs.Passes.{Meaning}
+use Rattle.natural_recalc.specs.inner.Meanings.{IsMeaning}
+use Rattle.work_sheet.proofs.Held.{kept_changed}
+use Rattle.sheet_edits.specs.Spans.{changed}
+use Rattle.work_sheet.proofs.sheet.WorksheetOf.put_changes.Goals as goal
+
+pub invariant_of-self : goal.invariant_of-self
+invariant_of-self g c =
+    let mean : Meaning = g.E.Means.meaning in
+    let meaning : IsMeaning mean = record { reads = g.met.E.Means.reads_alone } in
+    kept_changed mean meaning c.self.inside.store c.write_cells.new.store (has same_place c.args.cells.now)
+    (λ x f. c.in-Ok.ensures.store.cells x ∙ ap (λ o. changed o (get c.self.inside.store.cells x)) (c.requires.given x f))
+    c.self.inside.dirty.keys c.write_cells.new.dirty.keys c.in-Ok.ensures.dirty c.self.inside.settings.order c.self.inside.graph c.write_cells.new.graph c.self.invariant c.write_cells.ensures.matches

@@ -1,0 +1,17 @@
+use Rattle.natural_recalc.specs.Passes.{Meaning}
+use Rattle.natural_recalc.specs.inner.Meanings.{IsMeaning}
+use Rattle.std.proofs.Common.{rules}
+use Rattle.work_sheet.proofs.Done.{reformatted_did}
+use Rattle.work_sheet.proofs.Reformatted.{kept_reformatted}
+use Rattle.sheet_edits.specs.Spans.{rule_of}
+use Rattle.work_sheet.proofs.sheet.WorksheetOf.reformat.Goals as goal
+
+pub invariant_of-self-2 : goal.invariant_of-self-2
+invariant_of-self-2 g c =
+    let mean : Meaning = g.E.Means.meaning in
+    let meaning : IsMeaning mean = record { reads = g.met.E.Means.reads_alone } in
+    kept_reformatted mean meaning c.self.inside.graph c.self.inside.store c.change_cells.new.store c.self.inside.dirty.keys c.self.inside.settings.order (rule_of c.args.change) c.as_slice.result.now c.in_ok-changes.changes
+    c.reformatted.ensures.held c.in_ok-changes.ensures.given c.in_ok-change_cells.ensures.ok c.self.invariant
+
+pub returns-clause-did : goal.returns-clause-did
+returns-clause-did g c = λ n. reformatted_did c.args.self.now _ c.args.span (rule_of c.args.change) c.in_ok-cells.cells c.in_ok-changes.changes n (search rules) (search rules) (search rules) (search rules)
