@@ -6,7 +6,8 @@ use Rattle.std.proofs.lemmas.Bool.{cases_Bool}
 use Rattle.std.proofs.lemmas.Bool.Decides.{nat_tests}
 use Rattle.std.proofs.lemmas.List.{drop_all, drop_more}
 use Rattle.grid_address.specs.declared.reading.Progress.{Progress}
-use Rattle.grid_address.specs.Progress.{end_of, next_of, read_by, step_on, whole_cell, IsFront}
+use Rattle.grid_address.specs.Progress.{end_of, next_of, read_by, step_on, whole_cell}
+use Rattle.grid_address.specs.inner.Progress.{IsFront}
 
 stuck : (bytes : List ℕ) → fold step_on None bytes ≡ None
 stuck [] = refl

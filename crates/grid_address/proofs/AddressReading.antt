@@ -15,7 +15,8 @@ use Rattle.grid_address.specs.declared.reading.Progress.{Progress}
 use Rattle.grid_address.specs.declared.reading.Progress.TheVariants.{Nothing, Letter, Column, Row}
 use Rattle.grid_address.specs.Address.{address_of, column_name, decimal}
 use Rattle.grid_address.specs.Place.{InSheet, Place}
-use Rattle.grid_address.specs.Progress.{first_digit, later_digit, next_of, second_letter, whole_cell, IsFront, IsRead}
+use Rattle.grid_address.specs.Progress.{first_digit, later_digit, next_of, second_letter, whole_cell}
+use Rattle.grid_address.specs.inner.Progress.{IsFront, IsRead}
 use Rattle.grid_address.specs.Reading.{Begins, IsAddress, SpellsCell, StopsAt}
 use Rattle.grid_address.proofs.Decimals.{decimal_more, decimal_one}
 

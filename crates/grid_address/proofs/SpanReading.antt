@@ -15,7 +15,8 @@ use Rattle.grid_address.specs.declared.reading.Progress.{Progress}
 use Rattle.grid_address.specs.declared.reading.Progress.TheVariants.{Nothing, Letter, Column, Row}
 use Rattle.grid_address.specs.Address.{column_name, decimal}
 use Rattle.grid_address.specs.Place.{spanned, Place}
-use Rattle.grid_address.specs.Progress.{count_dots, whole_cell, IsFront, IsRead}
+use Rattle.grid_address.specs.Progress.{count_dots, whole_cell}
+use Rattle.grid_address.specs.inner.Progress.{IsFront, IsRead}
 use Rattle.grid_address.specs.Reading.{AreDots, Begins, IsAddress, IsSpan, SpellsCell, SpellsSpan, StopsAt}
 use Rattle.grid_address.proofs.AddressReading.{begun, front_ends, one_letter, two_letters, unfinished}
 use Rattle.grid_address.proofs.AddressReading.{BeginsAddress}

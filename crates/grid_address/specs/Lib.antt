@@ -7,3 +7,4 @@ pub mod Place
 pub mod Progress
 pub mod Reading
 pub mod TypedSpans
+pub mod inner

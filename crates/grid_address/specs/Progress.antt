@@ -1,22 +1,11 @@
 -- How far an address is read.
 use Rattle.std.specs.Char.{is_ascii_digit, is_ascii_uppercase, to_ascii_uppercase}
-use Rattle.std.specs.Prelude.{ℕ, ◌≡◌, ◌≤◌, ◌<◌, ◌+◌, ◌-◌, ◌*◌, ◌/◌, ◌%◌, ◌&&◌, ◌==◌, nat_le, nat_lt, get_or, length, take, Option, Some, None, List, [], ◌∷◌, ◌++◌, map, if◌then◌else◌, fold, ⊤}
+use Rattle.std.specs.Prelude.{ℕ, ◌+◌, ◌-◌, ◌*◌, ◌&&◌, ◌==◌, nat_le, nat_lt, get_or, Option, Some, None, List, [], ◌∷◌, if◌then◌else◌, fold}
 use Rattle.ascii_bytes.specs.Ascii as ascii
 use Rattle.grid_address.specs.Limits.{COLUMNS, ROWS}
 use Rattle.grid_address.specs.declared.reading.Progress.{Progress}
 use Rattle.grid_address.specs.declared.reading.Progress.TheVariants.{Nothing, Letter, Column, Row}
-use Rattle.grid_address.specs.Address.{before_a, column_name, decimal}
 use Rattle.grid_address.specs.Place.{Place}
-
--- these bytes are read that far: one letter, the two letters of a column, or a column and the first digits of a row's
--- number
-abbrev pub IsRead : Progress → List ℕ → Type 0
-IsRead Nothing bytes = bytes ≡ []
-IsRead (Letter c) bytes = (map to_ascii_uppercase bytes ≡ (ascii.capital_a + c) ∷ []) × (c < 26)
-IsRead (Column c) bytes =
-    (map to_ascii_uppercase bytes ≡ (before_a + c / 26) ∷ (ascii.capital_a + c % 26) ∷ []) × (26 ≤ c) × (c < COLUMNS)
-IsRead (Row c n) bytes =
-    (map to_ascii_uppercase bytes ≡ column_name c ++ decimal n) × (c < COLUMNS) × (1 ≤ n) × (n ≤ ROWS)
 
 -- a row's number begins with 1 to 9
 abbrev pub first_digit : ℕ → ℕ → Option Progress
@@ -42,26 +31,12 @@ next_of (Letter c) b =
 next_of (Column c) b = first_digit c b
 next_of (Row c n) b = if is_ascii_digit b then later_digit c (n * 10 + (b - ascii.zero)) else None
 
--- a column and a row that are read are the sheet's
-abbrev pub IsRowOfSheet : Progress → Type 0
-IsRowOfSheet Nothing = ⊤
-IsRowOfSheet (Letter c) = ⊤
-IsRowOfSheet (Column c) = ⊤
-IsRowOfSheet (Row c n) = (c < COLUMNS) × (1 ≤ n) × (n ≤ ROWS)
-
 -- the cell, where its row is read
 abbrev pub whole_cell : Progress → Option Place
 whole_cell Nothing = None
 whole_cell (Letter c) = None
 whole_cell (Column c) = None
 whole_cell (Row c n) = Some (record { row = n - 1; col = c })
-
--- the front of the bytes is read that far, and the byte behind it can't go on
-pub record IsFront (bytes : List ℕ) (s : Progress) (end : ℕ) : Type 0 where
-  pub within : end ≤ length bytes
-  pub read : IsRead s (take end bytes)
-  pub sheet : IsRowOfSheet s
-  pub ends : end < length bytes → next_of s (get_or bytes end 0) ≡ None
 
 -- how many dots stand in front, at most two
 abbrev pub count_dots : List ℕ → ℕ

@@ -1,7 +1,8 @@
 // Addresses read byte by byte.
 ghost use Rattle.std.specs.Char.{to_ascii_uppercase};
 ghost use Rattle.std.specs.Prelude.{◌≡◌, ◌≤◌, drop, length, IfOk, IfErr, Some, None};
-ghost use Rattle.grid_address.specs.Progress.{address_in, count_dots, first_digit, next_of, read_by, whole_cell, IsFront, IsRowOfSheet};
+ghost use Rattle.grid_address.specs.Progress.{address_in, count_dots, first_digit, next_of, read_by, whole_cell};
+ghost use Rattle.grid_address.specs.inner.Progress.{IsFront, IsRowOfSheet};
 ghost use Rattle.grid_address.specs.Reading.{IsAddress, IsSpan, SpellsCell, SpellsSpan, StopsAt};
 ghost use Rattle.grid_address.specs.declared.reading.Progress.TheVariants.{Letter, Row};
 

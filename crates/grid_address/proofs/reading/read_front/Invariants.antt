@@ -1,5 +1,6 @@
 use Rattle.std.proofs.Common.{◌≡◌, drop, take}
-use Rattle.grid_address.specs.Progress.{address_in, read_by, IsRead}
+use Rattle.grid_address.specs.Progress.{address_in, read_by}
+use Rattle.grid_address.specs.inner.Progress.{IsRead}
 use Rattle.grid_address.proofs.reading.read_front.Given as goal
 
 abbrev pub invariant-loop-at : goal.invariant-loop-at
