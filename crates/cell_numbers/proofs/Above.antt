@@ -5,8 +5,9 @@ use Rattle.std.proofs.lemmas.Bool.{cases_Bool}
 use Rattle.std.proofs.lemmas.Option.{slice_get_within}
 use Rattle.grid_address.specs.Place.{same_place, InSheet, Place}
 use Rattle.grid_address.proofs.Places.{same_place_is}
-use Rattle.cell_numbers.specs.Filled.{AreNumbered}
-use Rattle.cell_numbers.specs.Numbers.{above, head_of, number_at, number_in, place_of, Numbers}
+use Rattle.cell_numbers.specs.inner.Numbering.{AreNumbered}
+use Rattle.cell_numbers.specs.Numbers.{head_of, number_at, number_in, place_of, Numbers}
+use Rattle.cell_numbers.specs.inner.Numbering.{above}
 
 get_above : (xs : List ℕ) (gone j : ℕ) → get_or (map (λ n. n - gone) xs) j 0 ≡ get_or xs j 0 - gone
 get_above [] gone j = omega arith

@@ -14,7 +14,8 @@ use Rattle.std.proofs.lemmas.Option.{slice_get-get_or, slice_get-map, slice_get_
 use Rattle.grid_address.specs.Place.{place_cmp, same_place, InSheet, Place}
 use Rattle.grid_address.proofs.Places.{cells_exact, cells_total, get_inserted, get_removed, place_tied, same_place_is, same_place_itself, same_places}
 use Rattle.cell_numbers.specs.Numbers.{number_at, Numbers}
-use Rattle.cell_numbers.specs.Filled.{cell_in, cells_of, filled, item_in, with_item, AreNumbered}
+use Rattle.cell_numbers.specs.Filled.{cell_in, cells_of, filled, item_in, with_item}
+use Rattle.cell_numbers.specs.inner.Numbering.{AreNumbered}
 use Rattle.cell_numbers.specs.declared.held.Held.{Held}
 use Rattle.cell_numbers.specs.declared.held.Held.TheVariants as held
 

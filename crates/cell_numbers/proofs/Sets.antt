@@ -7,7 +7,7 @@ use Rattle.std.proofs.lemmas.Map.Keys.{IsDistinct-from_apart}
 use Rattle.std.proofs.lemmas.Option.{slice_get-get_or, slice_get_within}
 use Rattle.grid_address.specs.Place.{same_place, InSheet, Place}
 use Rattle.grid_address.proofs.Places.{same_place_is, same_place_itself, same_place_laws}
-use Rattle.cell_numbers.specs.Filled.{AreNumbered}
+use Rattle.cell_numbers.specs.inner.Numbering.{AreNumbered}
 use Rattle.cell_numbers.specs.Numbers.{head_of, number_at, number_in, place_of, HasRoom, Numbers}
 use Rattle.cell_numbers.specs.Sets.{has}
 use Rattle.cell_numbers.proofs.Filled.{last_is, last_or, longer}

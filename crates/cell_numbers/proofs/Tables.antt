@@ -5,7 +5,8 @@ use Rattle.std.proofs.lemmas.Bool.{cases_Bool, eq-eqb, eqb-true, false≢true, l
 use Rattle.std.proofs.lemmas.List.{get_or_past, length-set}
 use Rattle.grid_address.specs.Place.{same_place, InSheet, Place}
 use Rattle.grid_address.proofs.Places.{same_place_is, same_place_itself}
-use Rattle.cell_numbers.specs.Numbers.{band_of, head_of, number_at, number_in, page_of, place_of, used, AreParted, HasRoom, Numbers}
+use Rattle.cell_numbers.specs.Numbers.{band_of, head_of, number_at, number_in, page_of, place_of, HasRoom, Numbers}
+use Rattle.cell_numbers.specs.inner.Numbering.{used, AreParted}
 
 zeros : (n j : ℕ) → ◌≡◌ {A = ℕ} (get_or (replicate n 0) j 0) 0
 zeros zero j = refl

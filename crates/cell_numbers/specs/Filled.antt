@@ -1,7 +1,6 @@
 -- The entries of held cells, and how their numbers tell them apart.
-use Rattle.std.specs.Prelude.{ℕ, suc, ◌≡◌, List, [], ◌∷◌, map, Option, None, Some, slice_get}
-use Rattle.grid_address.specs.Place.{InSheet, Place}
-use Rattle.cell_numbers.specs.Numbers.{number_at, Numbers}
+use Rattle.std.specs.Prelude.{ℕ, ◌≡◌, List, [], ◌∷◌, map, Option, None, Some, slice_get}
+use Rattle.grid_address.specs.Place.{Place}
 use Rattle.cell_numbers.specs.declared.held.Held.{Held}
 use Rattle.cell_numbers.specs.declared.held.Held.TheVariants as held
 
@@ -32,9 +31,3 @@ cells_of hs = map cell_in hs
 -- no cell stands twice
 abbrev pub AreOnce : List Place → Type 0
 AreOnce cells = (i j : ℕ) (c : Place) → slice_get cells i ≡ Some c → slice_get cells j ≡ Some c → i ≡ j
-
--- the cells that have numbers are these, the first with 1
-pub record AreNumbered (bands : Numbers) (cells : List Place) : Type 0 where
-  pub inside : (i : ℕ) (c : Place) → slice_get cells i ≡ Some c → InSheet c
-  pub told : (i : ℕ) (c : Place) → slice_get cells i ≡ Some c → number_at bands c ≡ suc i
-  pub found : (c : Place) (i : ℕ) → InSheet c → number_at bands c ≡ suc i → slice_get cells i ≡ Some c

@@ -1,5 +1,5 @@
 pub mod Filled
-pub mod Lends
 pub mod MapLends
 pub mod Numbers
 pub mod Sets
+pub mod inner

@@ -1,5 +1,5 @@
 -- The number of a place, in pages of 256 rows and 4 columns.
-use Rattle.std.specs.Prelude.{ℕ, zero, suc, ◌≡◌, ◌+◌, ◌-◌, ◌*◌, ◌/◌, ◌%◌, ◌<◌, ◌≤◌, ◌⊎◌, List, [], ◌∷◌, length, map, get_or}
+use Rattle.std.specs.Prelude.{ℕ, zero, suc, ◌+◌, ◌*◌, ◌/◌, ◌%◌, ◌<◌, List, get_or}
 use Rattle.grid_address.specs.Place.{Place}
 
 -- for each page of the sheet which one of the pages with room it is, the first with 1, and 0 where it has none; and the
@@ -33,23 +33,6 @@ number_in numbers (suc k) p = get_or numbers (k * 1024 + p) 0
 abbrev pub number_at : Numbers → Place → ℕ
 number_at t c = number_in t.numbers (head_of t c) (place_of c)
 
--- the numbers above one of them, counted from there; those up to it are none
-abbrev pub above : ℕ → Numbers → Numbers
-above gone t = record { heads = t.heads; numbers = map (λ n. n - gone) t.numbers }
-
 -- a number of the place can be set
 abbrev pub HasRoom : Numbers → Place → Type 0
 HasRoom t c = 0 < head_of t c
-
--- how many of the heads are those of pages with room
-abbrev pub used : List ℕ → ℕ
-used [] = 0
-used (zero ∷ heads) = used heads
-used (suc k ∷ heads) = suc (used heads)
-
--- each page with room has 1,024 numbers of its own, and there are no others; there are the heads of all pages or none
-pub record AreParted (t : Numbers) : Type 0 where
-  pub apart : (i j : ℕ) → get_or t.heads i 0 ≡ get_or t.heads j 0 → 0 < get_or t.heads i 0 → i ≡ j
-  pub room : (i : ℕ) → get_or t.heads i 0 * 1024 ≤ length t.numbers
-  pub full : length t.numbers ≡ used t.heads * 1024
-  pub short : (length t.heads ≡ 0) ⊎ (length t.heads ≡ 2048)

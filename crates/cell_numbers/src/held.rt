@@ -3,7 +3,7 @@ ghost use Rattle.std.specs.Prelude.{◌≡◌};
 ghost use Rattle.std.specs.Option.{option_copied_mut};
 ghost use Rattle.std.specs.Borrow.{sem};
 ghost use Rattle.cell_numbers.specs.Filled.{item_in};
-ghost use Rattle.cell_numbers.specs.Lends.{lends_item};
+ghost use Rattle.cell_numbers.specs.inner.Lends.{lends_item};
 
 use grid_address::Cell;
 

@@ -30,7 +30,8 @@ impl<T> Model for CellMap<T> {
 
     ghost coded = { map.code (place.the_row).coded T.code };
 
-    ghost use Rattle.cell_numbers.specs.Filled.{cells_of, filled, AreNumbered};
+    ghost use Rattle.cell_numbers.specs.Filled.{cells_of, filled};
+    ghost use Rattle.cell_numbers.specs.inner.Numbering.{AreNumbered};
 
     ghost view = { λ m. map.from_entries (filled m.held.items) };
 

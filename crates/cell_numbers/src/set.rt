@@ -2,7 +2,8 @@
 ghost use Rattle.std.specs.Prelude.{◌≡◌, ◌<◌, ◌+◌, ◌++◌, ◌∷◌, [], ◌-◌, ◌^◌, ◌⊎◌, suc, cond, length, take, false, IfNone, IfSome, OnOk, OnErr, IfOk};
 ghost use Rattle.std.specs.List.{IsDistinct};
 ghost use Rattle.grid_address.specs.Place.{same_place, InSheet, Place};
-ghost use Rattle.cell_numbers.specs.Numbers.{above, number_at};
+ghost use Rattle.cell_numbers.specs.Numbers.{number_at};
+ghost use Rattle.cell_numbers.specs.inner.Numbering.{above};
 ghost use Rattle.cell_numbers.specs.Sets.{has, insert_key};
 
 use crate::PlaceTable;
@@ -24,8 +25,8 @@ pub struct CellSet {
 
 impl Model for CellSet {
     ghost use Rattle.std.specs.Prelude.{◌≤◌, ◌^◌};
-    ghost use Rattle.cell_numbers.specs.Filled.{AreNumbered};
-    ghost use Rattle.cell_numbers.specs.Numbers.{above};
+    ghost use Rattle.cell_numbers.specs.inner.Numbering.{AreNumbered};
+    ghost use Rattle.cell_numbers.specs.inner.Numbering.{above};
     ghost use Rattle.cell_numbers.specs.Sets.{Cells};
 
     ghost Value = { Cells };

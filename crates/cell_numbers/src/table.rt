@@ -1,7 +1,8 @@
 // The numbers of places.
 ghost use Rattle.std.specs.Prelude.{◌≡◌, false, true, ℕ, ◌<◌, ◌≤◌, ◌+◌, ◌-◌, ◌*◌, ◌/◌, ◌%◌, ◌⊎◌, cond, length, get_or, OnOk, OnErr};
 ghost use Rattle.grid_address.specs.Place.{same_place, InSheet, Place};
-ghost use Rattle.cell_numbers.specs.Numbers.{band_of, head_of, number_at, page_of, place_of, used, HasRoom};
+ghost use Rattle.cell_numbers.specs.Numbers.{band_of, head_of, number_at, page_of, place_of, HasRoom};
+ghost use Rattle.cell_numbers.specs.inner.Numbering.{used};
 
 use grid_address::{COLUMNS, Cell};
 use std::alloc::{AllocError, Global};
@@ -34,7 +35,8 @@ pub struct PlaceTable {
 }
 
 impl Model for PlaceTable {
-    ghost use Rattle.cell_numbers.specs.Numbers.{AreParted, Numbers};
+    ghost use Rattle.cell_numbers.specs.Numbers.{Numbers};
+    ghost use Rattle.cell_numbers.specs.inner.Numbering.{AreParted};
 
     ghost Value = { Numbers };
 

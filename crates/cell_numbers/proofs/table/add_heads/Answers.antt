@@ -1,5 +1,5 @@
 use Rattle.std.proofs.Common.{ap, ◌∙◌, get_or}
-use Rattle.cell_numbers.specs.Numbers.{used}
+use Rattle.cell_numbers.specs.inner.Numbering.{used}
 use Rattle.cell_numbers.proofs.Tables.{fill_same, used_fill}
 use Rattle.cell_numbers.proofs.table.add_heads.Goals as goal
 

@@ -1,7 +1,8 @@
 use Rattle.std.proofs.Common.{refl, ap, sym, ◌∙◌, subst, ◌<◌, List, Result, Ok, Err, OnErr, arith}
 use Rattle.std.specs.FinMap.{from_entries, get, insert}
 use Rattle.grid_address.specs.Place.{place_cmp}
-use Rattle.cell_numbers.specs.Filled.{cells_of, filled, AreNumbered}
+use Rattle.cell_numbers.specs.Filled.{cells_of, filled}
+use Rattle.cell_numbers.specs.inner.Numbering.{AreNumbered}
 use Rattle.cell_numbers.proofs.Filled.{added, added_numbered, few, got_none, put_in, same_numbered, same_table, within}
 use Rattle.cell_numbers.specs.declared.held.Held.{Held}
 use Rattle.cell_numbers.specs.declared.held.Held.TheVariants as held

@@ -1,7 +1,8 @@
 use Rattle.std.proofs.Common.{refl, ap, sym, ◌∙◌, subst, ◌<◌, set}
 use Rattle.std.specs.FinMap.{from_entries, get, remove}
 use Rattle.grid_address.specs.Place.{place_cmp}
-use Rattle.cell_numbers.specs.Filled.{cells_of, filled, item_in, AreNumbered}
+use Rattle.cell_numbers.specs.Filled.{cells_of, filled, item_in}
+use Rattle.cell_numbers.specs.inner.Numbering.{AreNumbered}
 use Rattle.cell_numbers.proofs.Filled.{got, got_none, same_numbered, taken_none, taken_out, within}
 use Rattle.cell_numbers.specs.declared.held.Held.{Held}
 use Rattle.cell_numbers.specs.declared.held.Held.TheVariants as held

@@ -1,7 +1,7 @@
 use Rattle.std.specs.List.{IsDistinct}
 use Rattle.std.proofs.Common.{subst}
 use Rattle.grid_address.specs.Place.{same_place}
-use Rattle.cell_numbers.specs.Numbers.{above}
+use Rattle.cell_numbers.specs.inner.Numbering.{above}
 use Rattle.cell_numbers.specs.Sets.{Cells}
 use Rattle.cell_numbers.proofs.Sets.{distinct}
 use Rattle.cell_numbers.proofs.set.CellSet.as_slice.Goals as goal

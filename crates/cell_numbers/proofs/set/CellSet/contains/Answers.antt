@@ -1,5 +1,5 @@
 use Rattle.std.proofs.Common.{ap, sym, ◌∙◌}
-use Rattle.cell_numbers.specs.Numbers.{above}
+use Rattle.cell_numbers.specs.inner.Numbering.{above}
 use Rattle.cell_numbers.specs.Sets.{has, Cells}
 use Rattle.grid_address.specs.Place.{same_place}
 use Rattle.cell_numbers.proofs.Sets.{member, no_member}

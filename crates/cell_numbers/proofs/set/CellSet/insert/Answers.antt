@@ -1,6 +1,6 @@
 use Rattle.std.proofs.Common.{ap, arith, subst, sym, ◌∙◌}
-use Rattle.cell_numbers.specs.Filled.{AreNumbered}
-use Rattle.cell_numbers.specs.Numbers.{above}
+use Rattle.cell_numbers.specs.inner.Numbering.{AreNumbered}
+use Rattle.cell_numbers.specs.inner.Numbering.{above}
 use Rattle.cell_numbers.specs.Sets.{has, Cells}
 use Rattle.grid_address.specs.Place.{same_place}
 use Rattle.cell_numbers.proofs.Filled.{few_places, number_last}

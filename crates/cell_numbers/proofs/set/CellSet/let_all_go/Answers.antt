@@ -1,6 +1,6 @@
 use Rattle.std.proofs.Common.{◌+◌, arith, subst, sym}
-use Rattle.cell_numbers.specs.Filled.{AreNumbered}
-use Rattle.cell_numbers.specs.Numbers.{above}
+use Rattle.cell_numbers.specs.inner.Numbering.{AreNumbered}
+use Rattle.cell_numbers.specs.inner.Numbering.{above}
 use Rattle.cell_numbers.proofs.Above.{all_gone}
 use Rattle.cell_numbers.proofs.Filled.{few_places}
 use Rattle.cell_numbers.proofs.set.CellSet.let_all_go.Goals as goal

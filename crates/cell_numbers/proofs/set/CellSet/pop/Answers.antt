@@ -1,7 +1,7 @@
 use Rattle.std.specs.Prelude.{length}
 use Rattle.std.proofs.Common.{arith, subst}
-use Rattle.cell_numbers.specs.Filled.{AreNumbered}
-use Rattle.cell_numbers.specs.Numbers.{above}
+use Rattle.cell_numbers.specs.inner.Numbering.{AreNumbered}
+use Rattle.cell_numbers.specs.inner.Numbering.{above}
 use Rattle.cell_numbers.proofs.Above.{above_set}
 use Rattle.cell_numbers.proofs.Filled.{last_is}
 use Rattle.cell_numbers.proofs.Sets.{popped, room}

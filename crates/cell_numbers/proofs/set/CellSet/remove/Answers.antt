@@ -2,8 +2,9 @@ use Rattle.std.specs.Prelude.{ℕ, ◌≡◌, ◌<◌, ◌+◌, ◌≤◌, ◌++
 use Rattle.std.proofs.lemmas.Option.{slice_get_within}
 use Rattle.std.proofs.Common.{ap, arith, subst, sym, ◌∙◌}
 use Rattle.grid_address.specs.Place.{same_place, InSheet, Place}
-use Rattle.cell_numbers.specs.Filled.{AreNumbered}
-use Rattle.cell_numbers.specs.Numbers.{above, number_at, Numbers}
+use Rattle.cell_numbers.specs.inner.Numbering.{AreNumbered}
+use Rattle.cell_numbers.specs.Numbers.{number_at, Numbers}
+use Rattle.cell_numbers.specs.inner.Numbering.{above}
 use Rattle.cell_numbers.specs.Sets.{has, Cells}
 use Rattle.cell_numbers.proofs.Above.{above_set}
 use Rattle.cell_numbers.proofs.Filled.{few_places, last_is}

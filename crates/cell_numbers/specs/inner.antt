@@ -1,0 +1,3 @@
+-- How the code keeps its books; no definition beside this folder speaks of it.
+pub mod Lends
+pub mod Numbering
