@@ -18,7 +18,7 @@ use Rattle.key_words.specs.declared.reader.KeyReader.{KeyReader}
 use Rattle.key_words.specs.Names.{longer, looked_up}
 use Rattle.key_words.specs.Notation.{is_mark, is_typed, IsRepeat, first, later, SpellsWord, byte, tilde, mark, named}
 use Rattle.key_words.specs.Notation.{repeated, alone, alt, SpellsWords, one_word, line_end, Begins, IsNoText}
-use Rattle.key_words.specs.Begun.{after, closed, lettered, spaced}
+use Rattle.key_words.specs.inner.Begun.{after, closed, lettered, spaced}
 use Rattle.key_words.specs.Reading.{HasRead, Holds}
 use Rattle.key_words.proofs.Tables.{folded_twice, letter_is}
 use Rattle.key_words.proofs.Scanning.{after_keys, begins_none, holds_scanned, Keys, Scan, scan, scan-append, scan_on}

@@ -18,7 +18,7 @@ use Rattle.key_words.specs.declared.begun.Next.TheVariants.{Going, Ended, Refuse
 use Rattle.key_words.specs.Names.{looked_up}
 use Rattle.key_words.specs.Notation.{is_mark, is_typed, IsRepeat, first, later, SpellsWord, byte, tilde, mark, named}
 use Rattle.key_words.specs.Notation.{repeated, alone, alt, SpellsWords, nothing, one_word, line_end, Begins}
-use Rattle.key_words.specs.Begun.{after, closed, lettered, spaced}
+use Rattle.key_words.specs.inner.Begun.{after, closed, lettered, spaced}
 use Rattle.key_words.specs.Reading.{Holds}
 use Rattle.key_words.proofs.Tables.{capitals_split, folded_twice, letter_apart, letter_goes_on, looked_up_proper}
 

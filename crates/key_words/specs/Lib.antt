@@ -1,6 +1,6 @@
-pub mod Begun
 pub mod Commands
 pub mod MacroText
 pub mod Names
 pub mod Notation
 pub mod Reading
+pub mod inner

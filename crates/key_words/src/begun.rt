@@ -2,7 +2,7 @@
 ghost use Rattle.std.specs.Char.{to_ascii_uppercase};
 ghost use Rattle.std.specs.Prelude.{◌≡◌, ◌==◌, if◌then◌else◌};
 ghost use Rattle.ascii_bytes.specs.Ascii as ascii;
-ghost use Rattle.key_words.specs.Begun as spec;
+ghost use Rattle.key_words.specs.inner.Begun as spec;
 ghost use Rattle.key_words.specs.Names.{longer};
 ghost use Rattle.key_words.specs.Notation as notation;
 ghost use Rattle.key_words.specs.declared.begun.Begun.TheVariants as Begun;
