@@ -5,7 +5,8 @@ use Rattle.std.specs.Prelude.{◌==◌}
 use Rattle.std.proofs.lemmas.List.{drop_more}
 use Rattle.std.proofs.lemmas.Bool.{cases_Bool, eq-eqb}
 use Rattle.list_lemmas.proofs.Takes.{take-add}
-use Rattle.screen_show.specs.Changes.{patched_line, line_differences, line_runs, runs_after, differing_front}
+use Rattle.screen_show.specs.Changes.{line_differences, line_runs, runs_after}
+use Rattle.screen_show.specs.inner.Patches.{patched_line, differing_front}
 
 -- equal bytes end the front that differs
 pub front_stops : (before after : List ℕ) (n : ℕ) → n < length before → n < length after

@@ -10,7 +10,7 @@ use Rattle.std.proofs.lemmas.Nat.Bits.{bit_at_lowest, bit_at-suc, bit_at-zero, b
 use Rattle.std.proofs.lemmas.Nat.Bits.{bit_at_mask_inside, bit_at_set_same, bit_at_set_other, bit_at-trailing_zeros}
 use Rattle.std.proofs.lemmas.Nat.Bits.{ones_shl, shr_and_one}
 use Rattle.std.proofs.lemmas.Option.{slice_get_past}
-use Rattle.screen_show.specs.LineSets.{lines_of}
+use Rattle.screen_show.specs.inner.LineSets.{lines_of}
 use Rattle.screen_show.proofs.LineSets.{get_set_same, get_set_other, same_elements}
 
 -- whether a line is in the set, by its bit

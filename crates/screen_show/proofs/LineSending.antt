@@ -6,7 +6,8 @@ use Rattle.std.specs.Prelude.{◌==◌}
 use Rattle.std.proofs.lemmas.Bool.{eq-eqb}
 use Rattle.std.proofs.lemmas.List.{drop_more, take_more, length-take-le, length-drop}
 use Rattle.std.proofs.lemmas.List.{set-get_or, get_or-set_same, set-set, take_at, drop_at, drop-drop}
-use Rattle.screen_show.specs.Changes.{patched_line, line_differences, line_runs, differing_front}
+use Rattle.screen_show.specs.Changes.{line_differences, line_runs}
+use Rattle.screen_show.specs.inner.Patches.{patched_line, differing_front}
 use Rattle.screen_show.specs.Display.{Shown, Puts, TellsSoundly, raised, with_bytes}
 use Rattle.screen_show.specs.Screen.{put_in_line}
 use Rattle.screen_show.specs.inner.Lines.{SendsLine}

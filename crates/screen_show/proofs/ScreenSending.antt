@@ -8,7 +8,8 @@ use Rattle.std.proofs.lemmas.List.Elements.{All-set, All-head, All-tail}
 use Rattle.std.proofs.lemmas.Bool.{cases_Bool, eqb-true}
 use Rattle.std.proofs.lemmas.Option.{slice_get-get_or}
 use Rattle.outside_world.specs.declared.faults.Failed.{Failed}
-use Rattle.screen_show.specs.Changes.{Agrees, AgreesInLine, Unchanged, patched, patched_line, changed_runs, differences}
+use Rattle.screen_show.specs.Changes.{Agrees, AgreesInLine, Unchanged, changed_runs, differences}
+use Rattle.screen_show.specs.inner.Patches.{patched, patched_line}
 use Rattle.screen_show.specs.Changes.{line_runs, line_differences}
 use Rattle.screen_show.specs.Display.{Shown, Finishes, HasSent, IsSound, Sends, TellsSoundly, raised, with_frame}
 use Rattle.screen_show.specs.Screen.{IsScreen}

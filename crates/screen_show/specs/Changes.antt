@@ -1,12 +1,5 @@
 -- Where two screens differ.
-use Rattle.std.specs.Prelude.{◌≡◌, ⊤, ℕ, suc, ◌+◌, Bool, true, false, ◌==◌, if◌then◌else◌, List, [], ◌∷◌, Option, Some, slice_get}
-
--- a line after the bytes of `after` were put where `before` and `after` differ
-abbrev pub patched_line : List ℕ → List ℕ → List ℕ → List ℕ
-patched_line [] after line = []
-patched_line (b ∷ before) [] line = []
-patched_line (b ∷ before) (a ∷ after) [] = []
-patched_line (b ∷ before) (a ∷ after) (x ∷ line) = (if b == a then x else a) ∷ patched_line before after line
+use Rattle.std.specs.Prelude.{◌≡◌, ⊤, ℕ, ◌+◌, Bool, true, false, ◌==◌, if◌then◌else◌, List, [], ◌∷◌, Option, Some, slice_get}
 
 -- at how many places two lines differ
 abbrev pub line_differences : List ℕ → List ℕ → ℕ
@@ -25,13 +18,6 @@ runs_after inside (b ∷ before) (a ∷ after) =
 abbrev pub line_runs : List ℕ → List ℕ → ℕ
 line_runs before after = runs_after false before after
 
--- a screen after the bytes of `after` were put where `before` and `after` differ
-abbrev pub patched : List (List ℕ) → List (List ℕ) → List (List ℕ) → List (List ℕ)
-patched [] after screen = []
-patched (b ∷ before) [] screen = []
-patched (b ∷ before) (a ∷ after) [] = []
-patched (b ∷ before) (a ∷ after) (x ∷ screen) = patched_line b a x ∷ patched before after screen
-
 -- at how many places two screens differ
 abbrev pub differences : List (List ℕ) → List (List ℕ) → ℕ
 differences [] after = 0
@@ -43,12 +29,6 @@ abbrev pub changed_runs : List (List ℕ) → List (List ℕ) → ℕ
 changed_runs [] after = 0
 changed_runs (b ∷ before) [] = 0
 changed_runs (b ∷ before) (a ∷ after) = line_runs b a + changed_runs before after
-
--- how far two lines differ from their beginning on
-abbrev pub differing_front : List ℕ → List ℕ → ℕ
-differing_front [] after = 0
-differing_front (b ∷ before) [] = 0
-differing_front (b ∷ before) (a ∷ after) = if b == a then 0 else suc (differing_front before after)
 
 -- a line has the byte of `before` at each place at which `before` and `after` are equal
 abbrev pub AgreesInLine : List ℕ → List ℕ → List ℕ → Type 0

@@ -1,6 +1,5 @@
 pub mod Changes
 pub mod Display
 pub mod Screen
-pub mod LineSets
 pub mod Recorder
 pub mod inner

@@ -1,2 +1,4 @@
 -- How the code keeps its books; no definition beside this folder speaks of it.
+pub mod LineSets
 pub mod Lines
+pub mod Patches

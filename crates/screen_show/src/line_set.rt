@@ -11,7 +11,7 @@ pub struct LineSet {
 
 impl Model for LineSet {
     ghost use Rattle.std.specs.Prelude.{Bool, List};
-    ghost use Rattle.screen_show.specs.LineSets.{lines_of};
+    ghost use Rattle.screen_show.specs.inner.LineSets.{lines_of};
 
     ghost Value = { List Bool };
 

@@ -1,7 +1,8 @@
 // Sends a screen to a display, by what changed.
 ghost use Rattle.std.specs.Prelude.{◌≡◌, ◌≤◌, ◌<◌, ◌+◌, length, take, drop};
 ghost use Rattle.outside_world.specs.Causes.{HasCause};
-ghost use Rattle.screen_show.specs.Changes.{differing_front, Unchanged};
+ghost use Rattle.screen_show.specs.Changes.{Unchanged};
+ghost use Rattle.screen_show.specs.inner.Patches.{differing_front};
 ghost use Rattle.screen_show.specs.Display.{Puts, Finishes, Sends, TellsSoundly};
 ghost use Rattle.screen_show.specs.inner.Lines.{SendsLine};
 

@@ -1,7 +1,8 @@
 -- What sending one line does.
 use Rattle.std.specs.Prelude.{◌≡◌, ℕ, List, [], Option, Some, None, Result, Ok, Err, slice_set, slice_index_or}
 use Rattle.outside_world.specs.declared.faults.Failed.{Failed}
-use Rattle.screen_show.specs.Changes.{patched_line, line_runs, line_differences}
+use Rattle.screen_show.specs.Changes.{line_runs, line_differences}
+use Rattle.screen_show.specs.inner.Patches.{patched_line}
 use Rattle.screen_show.specs.Display.{Shown, raised}
 
 -- the changes of one line were put

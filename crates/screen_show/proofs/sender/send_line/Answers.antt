@@ -1,6 +1,6 @@
 use Rattle.std.proofs.Common.{rules, ◌≡◌, ◌≤◌, ◌<◌, ◌+◌, length, arith, ap, ◌∙◌, drop, take}
 use Rattle.std.proofs.lemmas.List.{length-drop}
-use Rattle.screen_show.specs.Changes.{differing_front}
+use Rattle.screen_show.specs.inner.Patches.{differing_front}
 use Rattle.screen_show.proofs.LineSending.{line_begins, line_put, line_stretch, rests_differ, rests_equal}
 use Rattle.screen_show.proofs.sender.send_line.Goals as goal
 

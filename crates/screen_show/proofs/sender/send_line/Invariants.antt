@@ -1,5 +1,5 @@
 use Rattle.std.proofs.Common.{◌≡◌, ◌<◌, ◌≤◌, ◌-◌, length, drop}
-use Rattle.screen_show.specs.Changes.{differing_front}
+use Rattle.screen_show.specs.inner.Patches.{differing_front}
 use Rattle.screen_show.proofs.LineSending.{SendingLine}
 use Rattle.screen_show.proofs.sender.send_line.Given as goal
 
