@@ -8,7 +8,7 @@ use Rattle.std.proofs.lemmas.List.Folds.{list_all-append}
 use Rattle.std.proofs.lemmas.List.Sums.{sum_by-append}
 use Rattle.std.proofs.Math.Bool.{and-false}
 use Rattle.formula_tree.specs.Tree.{Tree, num, str, cell, span, group, neg, not, binary, call, Trees, no_trees, trees}
-use Rattle.formula_tree.specs.Nodes.{all_nodes, listed_parts, nodes, parts}
+use Rattle.formula_tree.specs.inner.Nodes.{all_nodes, listed_parts, nodes, parts}
 use Rattle.formula_tree.specs.Shape.{all_sizes, code_size, every, every_one, has_shape, is_fine, node_size, nodes_size}
 use Rattle.formula_tree.specs.View.{listed}
 

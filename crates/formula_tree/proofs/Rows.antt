@@ -15,7 +15,7 @@ use Rattle.formula_tree.specs.declared.ast.Expr.{items_hidden-the_row-Expr-0}
 use Rattle.formula_tree.specs.declared.ast.Expr.TheVariants.{Call', Call}
 use Rattle.formula_tree.specs.Tree.{Tree, num, str, cell, span, group, neg, not, binary, call, trees}
 use Rattle.formula_tree.specs.View.{tree_of, row_trees, listed}
-use Rattle.formula_tree.specs.Nodes.{all_nodes, nodes}
+use Rattle.formula_tree.specs.inner.Nodes.{all_nodes, nodes}
 use Rattle.formula_tree.specs.Shape.{count, depth, greatest_depth}
 
 abbrev row_of : Expr → (n : Count) × Row_of-Expr n

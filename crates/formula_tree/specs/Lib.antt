@@ -1,5 +1,4 @@
 pub mod Formulas
-pub mod Nodes
 pub mod Ranges
 pub mod Redirected
 pub mod Seen

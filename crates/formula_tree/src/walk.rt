@@ -1,6 +1,6 @@
 // The shape of a whole tree, seen without recursion, since a tree that is refused may be deep.
 ghost use Rattle.std.specs.Prelude.{◌≡◌, ◌++◌, ◌∷◌, [], true, IfOk, OnOk, map};
-ghost use Rattle.formula_tree.specs.Nodes.{parts};
+ghost use Rattle.formula_tree.specs.inner.Nodes.{parts};
 ghost use Rattle.formula_tree.specs.Ranges.{is_ranged};
 ghost use Rattle.formula_tree.specs.Shape.{every, has_shape};
 ghost use Rattle.formula_tree.specs.View.{tree_of};

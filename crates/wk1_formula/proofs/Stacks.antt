@@ -3,7 +3,7 @@ use Rattle.std.proofs.Common.{◌≡◌, ◌≤◌, true, nat_le, List, [], ◌�
 use Rattle.std.specs.Prelude.{Some}
 use Rattle.std.proofs.lemmas.Bool.Decides.{nat_tests}
 use Rattle.std.proofs.lemmas.List.{drop_at, length-reverse, reverse-append, reverse-reverse, take_at}
-use Rattle.formula_tree.specs.Nodes.{listed_parts}
+use Rattle.formula_tree.specs.inner.Nodes.{listed_parts}
 use Rattle.formula_tree.specs.Shape.{count}
 use Rattle.formula_tree.specs.Tree.{Tree, call, Trees, no_trees, trees}
 use Rattle.formula_tree.specs.View.{listed}

@@ -1,5 +1,5 @@
 use Rattle.std.proofs.Common.{◌≡◌, ◌+◌, ◌*◌, map, take}
-use Rattle.formula_tree.specs.Nodes.{all_nodes, nodes}
+use Rattle.formula_tree.specs.inner.Nodes.{all_nodes, nodes}
 use Rattle.formula_tree.specs.View.{listed, tree_of}
 use Rattle.formula_eval.specs.Parts.{arguments_by}
 use Rattle.formula_eval.specs.Scenes.{outlook_of}

@@ -1,6 +1,6 @@
 use Rattle.std.proofs.Common.{◌≡◌, ℕ, List, suc, ◌+◌, ◌++◌, ◌∷◌, [], codes, map, take, refl, sym, ap, ◌∙◌, arith}
 use Rattle.formula_tree.specs.declared.ast.Expr.{Expr}
-use Rattle.formula_tree.specs.Nodes.{all_nodes, nodes}
+use Rattle.formula_tree.specs.inner.Nodes.{all_nodes, nodes}
 use Rattle.formula_tree.specs.View.{listed, tree_of, trees_in}
 use Rattle.formula_tree.proofs.Rows.{fewer_nodes, one_taken, tree_of-Call}
 use Rattle.formula_text.specs.Functions.{name_of}

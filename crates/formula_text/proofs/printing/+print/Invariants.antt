@@ -1,5 +1,5 @@
 use Rattle.std.proofs.Common.{◌≡◌, ◌+◌, ◌*◌, ◌++◌, codes, map, take}
-use Rattle.formula_tree.specs.Nodes.{all_nodes, nodes}
+use Rattle.formula_tree.specs.inner.Nodes.{all_nodes, nodes}
 use Rattle.formula_tree.specs.View.{listed, tree_of}
 use Rattle.formula_text.specs.Functions.{name_of}
 use Rattle.formula_text.specs.inner.Calls.{mark_before, opened}

@@ -1,5 +1,5 @@
 use Rattle.std.proofs.Common.{◌≡◌, nat_le}
-use Rattle.formula_tree.specs.Nodes.{nodes}
+use Rattle.formula_tree.specs.inner.Nodes.{nodes}
 use Rattle.formula_tree.specs.Shape.{lowest}
 use Rattle.formula_tree.specs.View.{tree_of}
 use Rattle.formula_tree.proofs.shape.is_right_edge.Given as goal

@@ -4,7 +4,7 @@ use Rattle.std.proofs.lemmas.List.{map-append}
 use Rattle.formula_tree.specs.declared.ast.Expr.{Expr}
 use Rattle.formula_tree.specs.Tree.{Tree}
 use Rattle.formula_tree.specs.View.{tree_of}
-use Rattle.formula_tree.specs.Nodes.{nodes, parts}
+use Rattle.formula_tree.specs.inner.Nodes.{nodes, parts}
 use Rattle.formula_tree.specs.Ranges.{is_ranged}
 use Rattle.formula_tree.specs.Shape.{is_fine}
 use Rattle.formula_tree.proofs.Parts.{all_fine, all_pass, as_long, fewer, left_size, passes_on, too_long, unfit}

@@ -1,7 +1,7 @@
 use Rattle.std.proofs.Common.{◌≡◌, ◌≤◌, map}
 use Rattle.std.specs.Prelude.{sum_by}
 use Rattle.formula_tree.specs.View.{tree_of}
-use Rattle.formula_tree.specs.Nodes.{nodes}
+use Rattle.formula_tree.specs.inner.Nodes.{nodes}
 use Rattle.formula_tree.specs.Ranges.{is_ranged}
 use Rattle.formula_tree.specs.Shape.{code_size, every, is_fine}
 use Rattle.formula_tree.proofs.Parts.{all_fine, all_pass, left_size}

@@ -3,7 +3,7 @@ use Rattle.std.proofs.lemmas.List.{take_all}
 use Rattle.formula_tree.specs.declared.ast.Expr.{Expr}
 use Rattle.formula_tree.specs.Tree.{Tree}
 use Rattle.formula_tree.specs.View.{tree_of}
-use Rattle.formula_tree.specs.Nodes.{parts}
+use Rattle.formula_tree.specs.inner.Nodes.{parts}
 use Rattle.formula_tree.proofs.Rows.{tree_of-Call}
 use Rattle.formula_tree.proofs.Parts.{parts_listed}
 use Rattle.formula_tree.proofs.walk.spread.Goals as goal

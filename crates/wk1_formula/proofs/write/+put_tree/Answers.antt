@@ -1,7 +1,7 @@
 use Rattle.std.proofs.Common.{◌≡◌, ◌≤◌, ◌+◌, ◌++◌, OnOk, true, flat_map, length, map, sym, ap, ◌∙◌, subst, append_assoc, arith}
 use Rattle.std.specs.List.{list_all}
 use Rattle.std.proofs.lemmas.Bool.{and_parts}
-use Rattle.formula_tree.specs.Nodes.{all_nodes, nodes}
+use Rattle.formula_tree.specs.inner.Nodes.{all_nodes, nodes}
 use Rattle.formula_tree.specs.Shape.{count, every, every_one, is_counted}
 use Rattle.formula_tree.specs.Table.{counts_of, takes}
 use Rattle.formula_tree.specs.Tree.{call}
