@@ -1,6 +1,7 @@
 -- Arguments are parted at the first separator.
 use Rattle.std.proofs.Common.{◌≡◌, ℕ, zero, suc, ◌+◌, ◌≤◌, Bool, true, false, cond, not, ◌==◌, ◌&&◌, Option, None, Some, List, [], ◌∷◌, ◌++◌, append_assoc, take, drop, refl, sym, ap, ◌∙◌, arith}
-use Rattle.macro_text.specs.Listed.{depth_behind, is_quote, is_separator, onto, separator_from, split_from}
+use Rattle.macro_text.specs.Listed.{depth_behind, is_quote, is_separator, onto, split_from}
+use Rattle.macro_text.specs.inner.Separators.{separator_from}
 
 some_is : (a b : ℕ) → Some a ≡ Some b → a ≡ b
 some_is a b e = cc

@@ -5,3 +5,4 @@ pub mod Ranges
 pub mod Read
 pub mod Texts
 pub mod Units
+pub mod inner

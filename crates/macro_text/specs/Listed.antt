@@ -1,5 +1,5 @@
 -- The arguments that stand behind a word's name.
-use Rattle.std.specs.Prelude.{ℕ, ◌+◌, ◌-◌, ◌==◌, ◌||◌, ◌&&◌, not, Bool, true, false, Option, None, Some, List, [], ◌∷◌, if◌then◌else◌}
+use Rattle.std.specs.Prelude.{ℕ, ◌+◌, ◌-◌, ◌==◌, ◌||◌, ◌&&◌, not, Bool, true, false, List, [], ◌∷◌, if◌then◌else◌}
 use Rattle.ascii_bytes.specs.Ascii as ascii
 use Rattle.key_words.specs.declared.macro_word.Arguments.{Arguments}
 use Rattle.key_words.specs.declared.macro_word.Arguments.TheVariants as arguments
@@ -32,14 +32,6 @@ split_from true depth (b ∷ bs) = onto b (split_from (not (is_quote b)) depth b
 split_from false depth (b ∷ bs) =
     if is_separator b && depth == 0 then [] ∷ split_from false 0 bs
     else onto b (split_from (is_quote b) (depth_behind depth b) bs)
-
--- the first separator outside quotes and brackets; the first byte has this place
-abbrev pub separator_from : ℕ → Bool → ℕ → List ℕ → Option ℕ
-separator_from place quoted depth [] = None
-separator_from place true depth (b ∷ bs) = separator_from (place + 1) (not (is_quote b)) depth bs
-separator_from place false depth (b ∷ bs) =
-    if is_separator b && depth == 0 then Some place
-    else separator_from (place + 1) (is_quote b) (depth_behind depth b) bs
 
 -- whether bytes end inside quotes, which begin there or not; quotes count from a word's opening brace on
 abbrev pub ends_quoted : Bool → List ℕ → Bool

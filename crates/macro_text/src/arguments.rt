@@ -1,6 +1,7 @@
 // Arguments with the formulas that they spell.
 ghost use Rattle.std.specs.Prelude.{◌≡◌, [], get_or, IfOk, IfSome};
-ghost use Rattle.macro_text.specs.Read.{AreReadOf, IsRead};
+ghost use Rattle.macro_text.specs.Read.{IsRead};
+ghost use Rattle.macro_text.specs.inner.Formulas.{AreReadOf};
 
 use crate::TextList;
 use formula_text::{ParseFault, read};
@@ -28,7 +29,7 @@ pub struct ReadArguments {
 
 impl Model for ReadArguments {
     ghost use Rattle.std.specs.Prelude.{ℕ, List};
-    ghost use Rattle.macro_text.specs.Read.{AreReadOf};
+    ghost use Rattle.macro_text.specs.inner.Formulas.{AreReadOf};
 
     ghost Value = { List (List ℕ) };
 

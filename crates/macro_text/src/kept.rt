@@ -30,7 +30,7 @@ pub struct KeptWords {
 
 impl Model for KeptWords {
     ghost use Rattle.std.specs.Prelude.{ℕ, List};
-    ghost use Rattle.macro_text.specs.Kept.{AreWordsOf};
+    ghost use Rattle.macro_text.specs.inner.Words.{AreWordsOf};
 
     ghost Value = { List ℕ };
 

@@ -2,6 +2,7 @@
 ghost use Rattle.std.specs.Prelude.{◌≡◌, ◌<◌, ◌≤◌, ◌++◌, ◌∷◌, [], drop, false, length, take, IfOk, IfSome, OnOk};
 ghost use Rattle.lics_text.specs.Bytes.{IsText};
 ghost use Rattle.macro_text.specs.Listed as spec;
+ghost use Rattle.macro_text.specs.inner.Separators.{separator_from};
 ghost use Rattle.macro_text.specs.Texts.{part as part_of};
 
 use crate::TextList;
@@ -32,7 +33,7 @@ fn depth_behind(depth: usize, byte: u8) -> usize
 // The first separator outside quotes and brackets.
 fn separator(mut bytes: &[u8], mut quoted: bool) -> Option<usize>
     requires { length bytes.now ≤ MAX_LEN }
-    ensures place { result ≡ spec.separator_from 0 quoted 0 bytes.entry.now }
+    ensures place { result ≡ separator_from 0 quoted 0 bytes.entry.now }
     ensures within { IfSome result (λ place. place < length bytes.entry.now) }
 {
     let mut place = 0;

@@ -1,4 +1,4 @@
-use Rattle.macro_text.specs.Read.{AreReadOf}
+use Rattle.macro_text.specs.inner.Formulas.{AreReadOf}
 use Rattle.macro_text.proofs.arguments.formulas_in.Given as goal
 
 abbrev pub invariant-loop-place : goal.invariant-loop-place
