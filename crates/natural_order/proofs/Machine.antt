@@ -14,7 +14,8 @@ use Rattle.grid_address.proofs.Places.{same_place_is, same_place_itself, same_pl
 use Rattle.cell_numbers.specs.Sets.{has}
 use Rattle.natural_order.specs.Walk.{Walked, appended, raised, walk}
 use Rattle.indexmap.specs.IndexSet.{insert_key}
-use Rattle.natural_order.specs.Machine.{left, fuel, walk_on, finish, trail, EachFrame, IsOnPath, work_left, Entered}
+use Rattle.natural_order.specs.Machine.{fuel}
+use Rattle.natural_order.specs.inner.Stack.{left, walk_on, finish, trail, EachFrame, IsOnPath, work_left, Entered}
 use Rattle.natural_order.specs.declared.walker.Frame.{Frame}
 
 module _ (pre : Place → List Place) (n : ℕ) where

@@ -2,7 +2,8 @@
 ghost use Rattle.std.specs.Prelude.{◌≡◌, ◌<◌, ◌≤◌, [], ◌∷◌, ◌++◌, length, IfOk, OnOk, true, false};
 ghost use Rattle.grid_address.specs.Place.{same_place, Place};
 ghost use Rattle.indexmap.specs.IndexSet.{insert_key, IsUnique};
-ghost use Rattle.natural_order.specs.Machine.{finish, fuel, trail, walked, walk_on, work_left, Entered, IsOnPath};
+ghost use Rattle.natural_order.specs.Machine.{fuel, walked};
+ghost use Rattle.natural_order.specs.inner.Stack.{finish, trail, walk_on, work_left, Entered, IsOnPath};
 ghost use Rattle.cell_numbers.specs.Sets.{has};
 ghost use Rattle.natural_order.specs.Walk.{order, walk};
 

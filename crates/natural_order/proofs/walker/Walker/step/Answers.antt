@@ -4,7 +4,8 @@ use Rattle.std.proofs.Math.ListN.{drop_of_length-le}
 use Rattle.cell_numbers.specs.Sets.{has}
 use Rattle.natural_order.specs.Walk.{Walked}
 use Rattle.grid_address.specs.Place.{same_place, Place}
-use Rattle.natural_order.specs.Machine.{walked, finish, fuel, work_left, IsOnPath, left, walk_on, trail}
+use Rattle.natural_order.specs.Machine.{walked, fuel}
+use Rattle.natural_order.specs.inner.Stack.{finish, work_left, IsOnPath, left, walk_on, trail}
 use Rattle.natural_order.specs.declared.walker.Frame.{Frame}
 use Rattle.natural_order.proofs.Machine.{on-advanced, advanced, reads-last, has_at, finish-advanced, left-advanced, finish-closed, path-last, last-apart, closed_less, inserted_new, on-closed, advanced_less, less_still}
 use Rattle.natural_order.proofs.walker.Walker.step.Goals as goal

@@ -2,7 +2,8 @@ use Rattle.std.specs.Prelude.{◌≤◌, [], Bool, List}
 use Rattle.std.proofs.Common.{sym, ◌∙◌, ap, subst}
 use Rattle.natural_order.specs.Walk.{Walked}
 use Rattle.grid_address.specs.Place.{Place}
-use Rattle.natural_order.specs.Machine.{walked, finish, fuel, work_left}
+use Rattle.natural_order.specs.Machine.{walked, fuel}
+use Rattle.natural_order.specs.inner.Stack.{finish, work_left}
 use Rattle.natural_order.proofs.Machine.{visited_on_path, visited_new, visited_less}
 use Rattle.natural_order.proofs.walker.Walker.visit.Goals as goal
 

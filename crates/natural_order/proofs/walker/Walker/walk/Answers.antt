@@ -2,7 +2,8 @@ use Rattle.std.specs.Prelude.{◌≡◌, ℕ, [], List, true, length}
 use Rattle.std.proofs.Common.{ap, arith, rules, sym, vec_len, ◌∙◌}
 use Rattle.std.proofs.lemmas.Bool.{eqb-true}
 use Rattle.std.proofs.lemmas.List.{nil_from_length}
-use Rattle.natural_order.specs.Machine.{finish, fuel, walked}
+use Rattle.natural_order.specs.Machine.{fuel, walked}
+use Rattle.natural_order.specs.inner.Stack.{finish}
 use Rattle.natural_order.specs.declared.walker.Frame.{Frame}
 use Rattle.natural_order.proofs.Machine.{begun_walk, on-begun}
 use Rattle.natural_order.proofs.walker.Walker.walk.Goals as goal

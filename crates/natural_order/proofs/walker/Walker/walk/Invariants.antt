@@ -1,7 +1,8 @@
 use Rattle.grid_address.specs.Place.{same_place}
 use Rattle.std.specs.Prelude.{◌≡◌, []}
 use Rattle.natural_order.specs.Walk.{walk}
-use Rattle.natural_order.specs.Machine.{walked, IsOnPath, finish, fuel, work_left}
+use Rattle.natural_order.specs.Machine.{walked, fuel}
+use Rattle.natural_order.specs.inner.Stack.{IsOnPath, finish, work_left}
 use Rattle.natural_order.proofs.walker.Walker.walk.Given as goal
 
 abbrev pub invariant-steps : goal.invariant-steps
