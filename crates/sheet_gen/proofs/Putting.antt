@@ -11,7 +11,8 @@ use Rattle.grid_address.specs.Place.{place_cmp, same_place, Place}
 use Rattle.grid_address.proofs.Places.{get_inserted}
 use Rattle.sheet_store.specs.Grid.{put_state, Cells, Grid, IsSound}
 use Rattle.sheet_store.specs.State.{CellState}
-use Rattle.sheet_gen.specs.Rows.{chain, formula_state, generated, in_row, number_state, seed, triple, with_row}
+use Rattle.sheet_gen.specs.Rows.{chain, formula_state, generated, in_row, number_state, seed, triple}
+use Rattle.sheet_gen.specs.inner.Putting.{with_row}
 
 -- a generated number can be written
 pub is_sound_number : (n : ℕ) (s : CellState) → s ≡ number_state n → IsSound s

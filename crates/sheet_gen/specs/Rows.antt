@@ -70,7 +70,3 @@ pub record IsGenerated (rows : ℕ) (s : SavedSheet) : Type 0 where
   pub hidden : s.store.hidden ≡ replicate COLUMNS false
   pub names : s.names ≡ map.empty
   pub settings : s.settings ≡ fresh
-
--- a cell after a row was put in
-abbrev pub with_row : ℕ → Place → Option CellState → Option CellState
-with_row row p was = if p.row == row then in_row row p.col was else was

@@ -6,7 +6,8 @@ ghost use Rattle.formula_tree.specs.Tree.{binary, cell, num};
 ghost use Rattle.formula_tree.specs.View.{tree_of};
 ghost use Rattle.grid_address.specs.Place.{Place};
 ghost use Rattle.sheet_store.specs.Grid.{put_state};
-ghost use Rattle.sheet_gen.specs.Rows.{above, chain, formula_state, left, number_state, seed, triple, whole, with_row};
+ghost use Rattle.sheet_gen.specs.Rows.{above, chain, formula_state, left, number_state, seed, triple, whole};
+ghost use Rattle.sheet_gen.specs.inner.Putting.{with_row};
 
 use fixed_value::Fixed;
 use formula_tree::{Expr, Formula, Op, Value};
