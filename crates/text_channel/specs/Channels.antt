@@ -1,5 +1,5 @@
 -- A channel is nothing, or a file's name, an access, a list of bytes and a position of at most its length.
-use Rattle.std.specs.Prelude.{◌≡◌, ◌≤◌, ℕ, ◌+◌, ◌&&◌, not, nat_le, Bool, true, false, List, [], ◌++◌, length, take, drop, Option, Some, None, Result, Ok, Err, is_some, option_map, if◌then◌else◌}
+use Rattle.std.specs.Prelude.{◌≡◌, ℕ, ◌+◌, ◌&&◌, not, nat_le, Bool, true, false, List, [], ◌++◌, length, take, drop, Option, Some, None, Result, Ok, Err, is_some, option_map, if◌then◌else◌}
 use Rattle.outside_world.specs.Shelf.{OnShelf, HasPut, HasRead, file_in}
 use Rattle.outside_world.specs.declared.faults.ShelfFault.{ShelfFault}
 use Rattle.outside_world.specs.declared.faults.ShelfFault.TheVariants as shelf
@@ -29,11 +29,6 @@ writes Modify = true
 -- a file that is open: its name, what may be done with it, its bytes, and the position in them
 abbrev pub attached : List ℕ → Access → List ℕ → ℕ → Attached
 attached name access bytes at = record { name = name; access = access; bytes = bytes; at = at }
-
--- an open file is within its bounds: its position in its bytes, and these within the most that a file may hold
-abbrev pub IsWithin : Option Attached → Type 0
-IsWithin None = Unit {0}
-IsWithin (Some a) = (a.at ≤ length a.bytes) × (length a.bytes ≤ LIMIT)
 
 -- the bytes that can be read: none where nothing is attached, the access is Write, or the position is the length
 abbrev pub left_to_read : Option Attached → Option (List ℕ)

@@ -1,2 +1,3 @@
 pub mod Channels
 pub mod Lines
+pub mod inner

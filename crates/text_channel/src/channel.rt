@@ -31,7 +31,7 @@ pub struct Channel {
 impl Model for Channel {
     ghost use Rattle.std.specs.Prelude.{Option};
     ghost use Rattle.text_channel.specs.declared.attached.Attached.{Attached};
-    ghost use Rattle.text_channel.specs.Channels.{IsWithin};
+    ghost use Rattle.text_channel.specs.inner.Attached.{IsWithin};
 
     ghost Value = { Option Attached };
 
