@@ -3,3 +3,4 @@ pub mod Operators
 pub mod Patterns
 pub mod Scalars
 pub mod Values
+pub mod inner

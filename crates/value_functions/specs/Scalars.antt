@@ -1,10 +1,9 @@
 -- Functions of single values, one row each.
 use Rattle.std.specs.Char.{to_ascii_lowercase, to_ascii_uppercase}
-use Rattle.std.specs.Prelude.{ℕ, ◌+◌, ◌*◌, not, ℤ, pos, nat_abs, Option, Some, None, Result, Ok, Err, List, length, map}
+use Rattle.std.specs.Prelude.{ℕ, ◌+◌, ◌*◌, not, ℤ, pos, nat_abs, Option, Some, None, List, length, map}
 use Rattle.std.specs.Str.{bytes_eq}
 use Rattle.fixed_value.specs.Numbers.{remainder, whole_part}
 use Rattle.serial_date.specs.Fractions.{millionths_of_day}
-use Rattle.lics_text.specs.declared.faults.Memory.{Memory}
 use Rattle.lics_text.specs.Texts.{proper_of, trimmed}
 use Rattle.at_functions.specs.Dates.{date, day, hour, minute, month, second, time, year}
 use Rattle.at_functions.specs.Numbers.{round, units}
@@ -20,11 +19,6 @@ use Rattle.value_functions.specs.Values.{answer, is_err, is_na, is_text, number_
 abbrev pub now_value : Option ℕ → ℕ → Value
 now_value None second = value.Err
 now_value (Some day) second = value.Num (pos (day * 1000000 + millionths_of_day second))
-
--- a text as a value, unless memory is wanting
-abbrev pub in_words : Result (Option (List ℕ)) Memory → Result Value Memory
-in_words (Ok t) = Ok (worded t)
-in_words (Err e) = Err e
 
 -- NA, ERR, FALSE, TRUE and NOW
 abbrev pub constant_value : Function → Option ℕ → ℕ → Value

@@ -1,6 +1,7 @@
 // Functions of single values.
 ghost use Rattle.std.specs.Prelude.{◌≡◌, IfOk};
-ghost use Rattle.value_functions.specs.Scalars.{changed, char_value, cut_value, exact_value, find_value, in_words, mid_value, of_number, of_numbers, of_parts, of_text, replace_value, string_value, test_value};
+ghost use Rattle.value_functions.specs.Scalars.{changed, char_value, cut_value, exact_value, find_value, mid_value, of_number, of_numbers, of_parts, of_text, replace_value, string_value, test_value};
+ghost use Rattle.value_functions.specs.inner.Worded.{in_words};
 
 use crate::rows::{changed_row, cut_row, number_row, numbers_row, parts_row, text_row};
 use crate::values::{
