@@ -1,6 +1,6 @@
 -- A bench: a sheet on which inputs are tried, and whose cells get their old contents back.
-use Rattle.std.specs.Prelude.{◌≡◌, ◌⊎◌, Bool, true, false, Option, None, Some, List, [], ◌∷◌, ◌++◌, map, Result, Ok, Err, if◌then◌else◌}
-use Rattle.std.specs.List.{find, list_any}
+use Rattle.std.specs.Prelude.{◌≡◌, Bool, true, false, Option, None, Some, List, [], ◌∷◌, ◌++◌, map, Result, Ok, Err, if◌then◌else◌}
+use Rattle.std.specs.List.{list_any}
 use Rattle.grid_address.specs.Place.{same_place, Extent, Place}
 use Rattle.formula_tree.specs.declared.value.Content.{Content}
 use Rattle.formula_tree.specs.declared.value.Value.{Value}
@@ -57,12 +57,6 @@ abbrev pub IsTrialOf : Bool → Place → Result (Unit {0}) BlockFault → OnBen
 IsTrialOf true cell r a b = (r ≡ Err (fault.Sheet (sheet_fault.Protected cell))) × (b.contents ≡ a.contents)
 IsTrialOf false cell (Ok x) a b = Unit {0}
 IsTrialOf false cell (Err f) a b = f ≡ fault.Memory
-
--- a failed trial of one of these cells: want of memory, or the cell is protected
-abbrev pub HasFailed : OnBench → List Place → BlockFault → Type 0
-HasFailed b cells f =
-    (f ≡ fault.Memory)
-    ⊎ ((p : Place) × (find b.guarded cells ≡ Some p) × (f ≡ fault.Sheet (sheet_fault.Protected p)))
 
 -- why a table with these input cells fails: want of memory, or what refuses it; after any fault but want of memory all
 -- contents are as before

@@ -1,7 +1,8 @@
 // Table 1: one input is tried.
 ghost use Rattle.std.specs.Prelude.{◌≡◌, ◌≤◌, ◌++◌, ◌∷◌, [], map, IfOk, IfErr, OnOk, None, true};
 ghost use Rattle.block_writes.specs.Writing.{at, rows_below};
-ghost use Rattle.data_blocks.specs.Benches.{takes, values_on, HasFailed, HasTaken, HoldsOld, IsFaultOf, IsSameBench, IsTable};
+ghost use Rattle.data_blocks.specs.Benches.{takes, values_on, HasTaken, HoldsOld, IsFaultOf, IsSameBench, IsTable};
+ghost use Rattle.data_blocks.specs.inner.Failing.{HasFailed};
 ghost use Rattle.data_blocks.specs.Tables.{answer_written, row_answers, shape_fault, scenarios_one, Trial, Scenario};
 
 use crate::table_cells::{

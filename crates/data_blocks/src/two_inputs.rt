@@ -2,7 +2,8 @@
 ghost use Rattle.std.specs.Prelude.{◌≡◌, ◌≤◌, ◌∷◌, [], map, IfOk, IfErr, OnOk, None, true};
 ghost use Rattle.grid_address.specs.Place.{Place};
 ghost use Rattle.block_writes.specs.Writing.{at, rows_below};
-ghost use Rattle.data_blocks.specs.Benches.{takes, values_on, HasFailed, HasTaken, HoldsOld, IsFaultOf, IsSameBench, IsTable};
+ghost use Rattle.data_blocks.specs.Benches.{takes, values_on, HasTaken, HoldsOld, IsFaultOf, IsSameBench, IsTable};
+ghost use Rattle.data_blocks.specs.inner.Failing.{HasFailed};
 ghost use Rattle.data_blocks.specs.Tables.{columns_behind, row_scenarios, shape_fault, scenarios_two, Answer, Trial, Scenario};
 
 use crate::table_cells::{
