@@ -14,10 +14,12 @@ use Rattle.std.proofs.lemmas.List.{length-map}
 use Rattle.grid_address.specs.Place.{Place}
 use Rattle.sheet_store.specs.declared.writes.SavedSheet.{SavedSheet}
 use Rattle.wk1_records.specs.Meanings.{meaning}
-use Rattle.wk1_file.specs.Said.{hidden_entries, IsRecord, Says}
+use Rattle.wk1_file.specs.Said.{IsRecord, Says}
+use Rattle.wk1_file.specs.inner.HiddenEntries.{hidden_entries}
 use Rattle.wk1_records.specs.Bodies.{made}
 use Rattle.wk1_file.specs.Saved.{hidden_pieces}
-use Rattle.wk1_file.specs.Sheets.{with_entry, with_hidden}
+use Rattle.wk1_file.specs.Sheets.{with_entry}
+use Rattle.wk1_file.specs.inner.HiddenEntries.{with_hidden}
 use Rattle.wk1_records.specs.declared.entry.Entry.TheVariants as entry
 use Rattle.wk1_records.specs.declared.kind.RecordKind.TheVariants as kind
 use Rattle.wk1_file.proofs.Heads.{by_type, tested}

@@ -11,10 +11,12 @@ use Rattle.sheet_store.specs.declared.writes.SavedSheet.{SavedSheet}
 use Rattle.wk1_file.specs.Files.{has_bof, read, IsFile}
 use Rattle.wk1_records.specs.Meanings.{meaning}
 use Rattle.wk1_records.specs.Records.{pieces_bytes, piece_bytes, Piece}
-use Rattle.wk1_file.specs.Said.{cell_entries, hidden_entries, name_entry_of, records_of, settings_entries, widths_entries, IsRecord, IsSavedSheet, Says}
+use Rattle.wk1_file.specs.Said.{cell_entries, name_entry_of, records_of, settings_entries, widths_entries, IsRecord, IsSavedSheet, Says}
+use Rattle.wk1_file.specs.inner.HiddenEntries.{hidden_entries}
 use Rattle.wk1_records.specs.Bodies.{made, place_bytes}
 use Rattle.wk1_file.specs.Saved.{bof, cell_pieces, eof, file_bytes, hidden_pieces, name_piece, range_end, range_piece, records_before, settings_pieces, width_pieces}
-use Rattle.wk1_file.specs.Sheets.{first_fault, sheet_of, start, unless_fault, with_entry, with_hidden, with_names, with_widths, Progress}
+use Rattle.wk1_file.specs.Sheets.{first_fault, sheet_of, start, unless_fault, with_entry, with_names, with_widths, Progress}
+use Rattle.wk1_file.specs.inner.HiddenEntries.{with_hidden}
 use Rattle.wk1_records.specs.declared.entry.Entry.{Entry}
 use Rattle.wk1_records.specs.declared.entry.Entry.TheVariants as entry
 use Rattle.wk1_records.specs.declared.kind.RecordKind.TheVariants as kind

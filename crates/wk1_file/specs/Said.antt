@@ -1,8 +1,8 @@
 -- What the saved records of a sheet say.
 use Rattle.std.specs.FinMap.{entries}
-use Rattle.std.specs.List.{list_any, AllByRecursion}
+use Rattle.std.specs.List.{AllByRecursion}
 use Rattle.sheet_store.specs.declared.writes.SavedSheet.{SavedSheet}
-use Rattle.std.specs.Prelude.{Bool, if◌then◌else◌, ℕ, ◌≡◌, ◌≤◌, pos, nat_abs, true, Option, Some, None, flat_map, length, get_or, Ok, List, [], ◌∷◌, ⊤}
+use Rattle.std.specs.Prelude.{ℕ, ◌≡◌, ◌≤◌, nat_abs, true, Option, Some, None, flat_map, length, get_or, Ok, List, [], ◌∷◌, ⊤}
 use Rattle.grid_address.specs.Limits.{COLUMNS}
 use Rattle.grid_address.specs.Place.{Extent, InSheet, Place}
 use Rattle.formula_tree.specs.Ranges.{is_ranged, is_text}
@@ -130,10 +130,6 @@ pub record IsSavedName (e : List ℕ × Extent) : Type 0 where
 -- what the record of a name says
 abbrev pub name_entry_of : List ℕ × Extent → Entry
 name_entry_of e = entry.Name (name_in e.0) e.1
-
--- what the record of hidden columns says
-abbrev pub hidden_entries : List Bool → List Entry
-hidden_entries bits = if list_any (λ b. b) bits then entry.Hidden bits ∷ [] else []
 
 -- a sheet as its parts keep it
 pub record IsSavedSheet (s : SavedSheet) : Type 0 where

@@ -1,5 +1,5 @@
 -- What records make of a sheet.
-use Rattle.std.specs.Prelude.{ℕ, Bool, false, cond, ◌+◌, replicate, fold, Option, Some, None, Result, Ok, Err, List, [], ◌∷◌}
+use Rattle.std.specs.Prelude.{ℕ, false, cond, ◌+◌, replicate, fold, Option, Some, None, Result, Ok, Err, List, [], ◌∷◌}
 use Rattle.std.specs.FinMap as map
 use Rattle.grid_address.specs.Limits.{COLUMNS}
 use Rattle.grid_address.specs.Place.{same_place, Place}
@@ -105,7 +105,3 @@ with_widths s ws f = record { sheet = record s { store = record s.store { widths
 -- with these names
 abbrev pub with_names : SavedSheet → NameMap → Option Place → Progress
 with_names s ns f = record { sheet = record s { names = ns }; formula = f }
-
--- with these hidden columns
-abbrev pub with_hidden : SavedSheet → List Bool → Option Place → Progress
-with_hidden s bits f = record { sheet = record s { store = record s.store { hidden = bits } }; formula = f }
