@@ -24,7 +24,8 @@ use Rattle.work_sheet.specs.Did.{work_of, Did}
 use Rattle.work_sheet.specs.Doing.{all_dirty, all_passed, and_then, edited, evaluation_if, put, quiet, recalculated, with_content, wrote, Done}
 use Rattle.work_sheet.specs.Editing.{reformatted, reordered, same_order}
 use Rattle.work_sheet.specs.Seen.{of_worksheet, Sheet}
-use Rattle.work_sheet.specs.Sheets.{SameBeside, Worksheet}
+use Rattle.work_sheet.specs.Sheets.{Worksheet}
+use Rattle.work_sheet.specs.inner.Keeping.{SameBeside}
 use Rattle.work_sheet.specs.Work.{HasWorked}
 
 -- one act, and then another

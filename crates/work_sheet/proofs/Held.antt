@@ -25,7 +25,8 @@ use Rattle.natural_recalc.specs.Reading.{is_formula_at, node_of, pre, Matches}
 use Rattle.sheet_edits.proofs.Beside.{beside}
 use Rattle.sheet_edits.proofs.Reaching.{reaching_formula}
 use Rattle.sheet_edits.specs.Edits.{just, AreDirtied}
-use Rattle.work_sheet.specs.Sheets.{AllDirtyIn, IsKept}
+use Rattle.work_sheet.specs.Sheets.{AllDirtyIn}
+use Rattle.work_sheet.specs.inner.Keeping.{IsKept}
 
 module _ (mean : Meaning) (meaning : IsMeaning mean) where
   -- what holds in one context holds in each, where formulas and values are the same

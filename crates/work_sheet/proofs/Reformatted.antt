@@ -12,7 +12,7 @@ use Rattle.sheet_store.specs.Grid.{AreHeld, Cells, Grid}
 use Rattle.sheet_store.specs.declared.order.Order.{Order}
 use Rattle.work_sheet.proofs.Held.{kept_values}
 use Rattle.sheet_edits.proofs.Sound.{same_formula, same_value}
-use Rattle.work_sheet.specs.Sheets.{IsKept}
+use Rattle.work_sheet.specs.inner.Keeping.{IsKept}
 use Rattle.sheet_edits.specs.Spans.{changed, reformatted, reformatted_state, AreGiven, Becomes}
 
 module _ (g h : Grid) (rule : ℕ → ℕ) (cells : List Place) (changes : Cells) (held : AreHeld g.cells) (given : AreGiven changes (has same_place cells) (λ c. Some (reformatted_state rule (get g.cells c)))) (b : Becomes g (λ c. changed (get changes c) (get g.cells c)) h) where

@@ -9,3 +9,4 @@ pub mod Sheets
 pub mod Spans
 pub mod Typed
 pub mod Work
+pub mod inner

@@ -3,7 +3,6 @@ use Rattle.std.specs.Prelude.{◌≡◌, Bool, true, false, List, Option, None, 
 use Rattle.std.specs.FinMap as map
 use Rattle.grid_address.specs.Place.{same_place, Place}
 use Rattle.range_names.specs.Names.{NameMap}
-use Rattle.depend_graph.specs.Network.{Network}
 use Rattle.cell_numbers.specs.Sets.{has}
 use Rattle.sheet_store.specs.Choices.{Choices}
 use Rattle.sheet_store.specs.Grid.{Grid}
@@ -13,9 +12,7 @@ use Rattle.sheet_store.specs.declared.writes.SheetFault.{SheetFault}
 use Rattle.sheet_store.specs.declared.writes.SheetFault.TheVariants as faults
 use Rattle.sheet_store.specs.declared.order.Order.{Order}
 use Rattle.sheet_store.specs.declared.order.Order.TheVariants as orders
-use Rattle.natural_recalc.specs.Context.{Context}
-use Rattle.natural_recalc.specs.Passes.{IsSound, Meaning}
-use Rattle.natural_recalc.specs.Reading.{is_formula_at, Matches}
+use Rattle.natural_recalc.specs.Reading.{is_formula_at}
 
 -- the cells and columns, the dirty formulas, whether the last recalculation told a circle, whether a change was made
 -- since then, the names and the settings
@@ -33,14 +30,6 @@ AllDirtyIn orders.Natural g dirty = Unit {0}
 AllDirtyIn orders.Columnwise g dirty = (c : Place) → is_formula_at g c ≡ true → has same_place dirty c ≡ true
 AllDirtyIn orders.Rowwise g dirty = (c : Place) → is_formula_at g c ≡ true → has same_place dirty c ≡ true
 
--- what a sheet keeps: the graph holds its formulas, what holds of the dirty ones holds whatever the moment, the names
--- and the settings are, and in another order than the natural one all are dirty
-pub record IsKept (mean : Meaning) (n : Network) (g : Grid) (dirty : List Place) (order : Order) : Type 0 where
-  pub matches : Matches n g
-  pub only : (c : Place) → has same_place dirty c ≡ true → is_formula_at g c ≡ true
-  pub sound : (x : Context) → IsSound mean x g (has same_place dirty)
-  pub whole : AllDirtyIn order g dirty
-
 -- the value of what is held of a cell
 abbrev pub value_in : Option CellState → Option Value
 value_in None = None
@@ -49,12 +38,6 @@ value_in (Some s) = Some s.value
 -- the value of a cell, where the sheet holds something of it
 abbrev pub value_told : Grid → Place → Option Value
 value_told g c = value_in (map.get g.cells c)
-
--- what an edit of cells leaves
-pub record SameBeside (old new : Worksheet) : Type 0 where
-  pub circular : new.circular ≡ old.circular
-  pub names : new.names ≡ old.names
-  pub settings : new.settings ≡ old.settings
 
 -- an edit of a cell is refused as protected exactly where it is, and is refused otherwise for want of memory alone
 abbrev pub IsFaultOf : Bool → Place → Result (Unit {0}) SheetFault → Type 0

@@ -23,7 +23,8 @@ ghost use Rattle.work_sheet.specs.Editing.{all_written, copied, erased, reformat
 ghost use Rattle.work_sheet.specs.Kept.{put_back, sheet_of};
 ghost use Rattle.work_sheet.specs.Seen.{fresh_sheet, of_worksheet};
 ghost use Rattle.work_sheet.specs.Spans.{span_recalculated};
-ghost use Rattle.work_sheet.specs.Sheets.{value_told, AllDirtyIn, IsFaultOf, IsRefusedBy, SameBeside, Worksheet};
+ghost use Rattle.work_sheet.specs.Sheets.{value_told, AllDirtyIn, IsFaultOf, IsRefusedBy, Worksheet};
+ghost use Rattle.work_sheet.specs.inner.Keeping.{SameBeside};
 ghost use Rattle.sheet_edits.specs.Spans.{changed, rule_of, target_of, with_code, with_mark, written_cells, AreSound, Becomes, HasCode, IsAnswered};
 ghost use Rattle.work_sheet.specs.Typed.{typed};
 
@@ -73,7 +74,8 @@ impl<E: Means> Model for WorksheetOf<E> {
     ghost use Rattle.formula_tree.specs.contracts.formula.Formula as formula;
     ghost use Rattle.std.specs.Coded.{codes};
     ghost use Rattle.std.specs.FinMap as map;
-    ghost use Rattle.work_sheet.specs.Sheets.{IsKept, Worksheet};
+    ghost use Rattle.work_sheet.specs.Sheets.{Worksheet};
+    ghost use Rattle.work_sheet.specs.inner.Keeping.{IsKept};
 
     ghost Value = { Worksheet };
 
