@@ -1,5 +1,5 @@
 -- The notes of a run.
-use Rattle.std.specs.Prelude.{◌≡◌, ℕ, ◌+◌, ◌-◌, ◌/◌, ◌%◌, ◌≤◌, ◌⊎◌, nat_lt, Bool, Err, List, [], ◌∷◌, ◌++◌, length, take, Option, Some, None, codes, if◌then◌else◌}
+use Rattle.std.specs.Prelude.{◌≡◌, ℕ, ◌+◌, ◌-◌, ◌≤◌, ◌⊎◌, Bool, Err, List, [], ◌∷◌, ◌++◌, length, take, Option, Some, None, codes, if◌then◌else◌}
 use Rattle.std.specs.Option.{unwrap_or}
 use Rattle.ascii_bytes.specs.Ascii as ascii
 use Rattle.grid_address.specs.Address.{decimal}
@@ -7,6 +7,7 @@ use Rattle.fixed_value.specs.Written.{short}
 use Rattle.formula_tree.specs.declared.value.Value.{Value}
 use Rattle.formula_tree.specs.declared.value.Value.TheVariants as value
 use Rattle.grid_address.specs.Place.{Place}
+use Rattle.file_faults.specs.Faults.{fault_text}
 use Rattle.outside_world.specs.Causes.{Rose}
 use Rattle.session_core.specs.Machine.{sheet_of, State}
 use Rattle.session_core.specs.Standing.{left_in, refused}
@@ -20,8 +21,6 @@ use Rattle.sheet_run.specs.declared.opening.NotRead.TheVariants.{NoSuchFile, Fau
 use Rattle.sheet_run.specs.declared.options.Options.{Options}
 use Rattle.sheet_run.specs.declared.options.Start.{Start}
 use Rattle.sheet_run.specs.declared.options.Start.TheVariants as given
-use Rattle.wk1_records.specs.declared.fault.Wk1Fault.{Wk1Fault}
-use Rattle.wk1_records.specs.declared.fault.Wk1Fault.TheVariants as fault
 
 -- a line that begins with the program's name
 abbrev pub note : List ℕ → List ℕ
@@ -34,35 +33,6 @@ refused_note word = note (codes "bad word: " ++ word)
 -- the note where memory ran out
 abbrev pub memory_note : List ℕ
 memory_note = note (codes "memory full")
-
--- a hexadecimal digit, as a capital
-abbrev pub hex_digit : ℕ → ℕ
-hex_digit d = if nat_lt d 10 then ascii.zero + d else ascii.capital_a + (d - 10)
-
--- a byte in two hexadecimal digits
-abbrev pub hex_pair : ℕ → List ℕ
-hex_pair byte = hex_digit (byte / 16) ∷ hex_digit (byte % 16) ∷ []
-
--- a fault of a file with the number of its record, or the offset
-abbrev pub with_number : List ℕ → ℕ → List ℕ
-with_number front n = front ++ decimal n
-
--- A fault of a file: its number, and the numbers that it carries, a function's code in hexadecimal digits. Want of
--- memory is told otherwise.
-abbrev pub fault_text : Wk1Fault → List ℕ
-fault_text fault.NoBof = codes "F1"
-fault_text (fault.Truncated at) = with_number (codes "F2 ") at
-fault_text (fault.BadLength place) = with_number (codes "F3 ") place
-fault_text (fault.CellOutside place) = with_number (codes "F4 ") place
-fault_text (fault.BadText place) = with_number (codes "F5 ") place
-fault_text (fault.NumberTooLarge place) = with_number (codes "F6 ") place
-fault_text (fault.BadCode place at) = with_number (codes "F7 ") place ++ ascii.space ∷ decimal at
-fault_text (fault.FunctionOutside place code) = with_number (codes "F8 ") place ++ ascii.space ∷ hex_pair code
-fault_text (fault.BadName place) = with_number (codes "F9 ") place
-fault_text (fault.BadSpan place) = with_number (codes "F10 ") place
-fault_text fault.FileTooLarge = codes "F11"
-fault_text (fault.TooDeep place) = with_number (codes "F12 ") place
-fault_text fault.Memory = []
 
 -- why a start file isn't read
 abbrev pub reason : NotRead → List ℕ

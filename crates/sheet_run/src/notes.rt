@@ -3,13 +3,12 @@ ghost use Rattle.std.specs.Prelude.{◌≡◌, ◌≤◌, ◌<◌, ◌++◌, ◌
 ghost use Rattle.std.specs.Option.{unwrap_or};
 ghost use Rattle.grid_address.specs.Address.{decimal};
 ghost use Rattle.sheet_run.specs.Notes.{count_note, display_note, display_status, ending_note, ending_status};
-ghost use Rattle.sheet_run.specs.Notes.{fault_text, file_note, file_status, hex_digit, hex_pair, memory_note, reason};
+ghost use Rattle.sheet_run.specs.Notes.{file_note, file_status, memory_note, reason};
 ghost use Rattle.sheet_run.specs.Notes.{generated_notes, row_count_note, rows_notes, session_notes};
-ghost use Rattle.sheet_run.specs.Notes.{count_of, refused_note, stop_note, sum_note, told_value, with_number};
+ghost use Rattle.sheet_run.specs.Notes.{count_of, refused_note, stop_note, sum_note, told_value};
 ghost use Rattle.session_core.specs.Standing.{left_in, refused};
 ghost use Rattle.sheet_run.specs.Options.{limit_of};
 ghost use Rattle.formula_tree.specs.Seen.{seen_value};
-ghost use Rattle.wk1_records.specs.declared.fault.Wk1Fault.TheVariants as fault;
 ghost use Rattle.sheet_run.specs.Notes.{LeavesSession, Tells, Tried};
 ghost use Rattle.sheet_run.specs.inner.Telling.{HasWritten, ToldRefused};
 
@@ -17,6 +16,7 @@ use crate::drive::Ending;
 use crate::opening::NotRead;
 use crate::options::{Options, Start};
 use byte_list::ByteList;
+use file_faults::fault_line;
 use fixed_value::write_short;
 use formula_tree::ValueRef;
 use grid_address::{Cell, decimal_text};
@@ -24,7 +24,6 @@ use lics_text::{Line, MAX_LEN};
 use outside_world::{Failed, FileName, Memory, Notes};
 use session_core::Session;
 use std::alloc::Global;
-use wk1_file::Wk1Fault;
 use work_sheet::Worksheet;
 
 const MEMORY_NOTE: &[u8] = b"1-2-3: memory full\n";
@@ -109,53 +108,6 @@ pub fn tell_refused<N: Notes>(alloc: Global, word: &[u8], notes: &mut N) -> u8
     }
 }
 
-// A hexadecimal digit, as a capital.
-fn hex_digit(digit: u8) -> u8
-    requires { digit < 16 }
-    ensures { result ≡ hex_digit digit }
-{
-    if digit < 10 {
-        b'0' + digit
-    } else {
-        b'A' - 10 + digit
-    }
-}
-
-// A number behind some bytes.
-fn with_number(front: &[u8], number: u32) -> Line
-    requires { length front.now ≤ 40 }
-    ensures line { result ≡ with_number front.now number }
-    ensures short { length result ≤ 60 }
-{
-    let digits = decimal_text(u64::from(number));
-    let mut line = Line::new();
-    line.put_all(front);
-    line.put_all(digits.bytes());
-    line
-}
-
-// The fault of a code in a record.
-fn code_fault(place: u32, at: u32) -> Line
-    ensures line { result ≡ fault_text (fault.BadCode place at) }
-    ensures short { length result ≤ 120 }
-{
-    let mut line = with_number(b"F7 ", place);
-    let digits = decimal_text(u64::from(at));
-    line.put_all(b" ");
-    line.put_all(digits.bytes());
-    line
-}
-
-// The fault of a function in a record.
-fn function_fault(place: u32, code: u8) -> Line
-    ensures line { result ≡ fault_text (fault.FunctionOutside place code) }
-    ensures short { length result ≤ 120 }
-{
-    let mut line = with_number(b"F8 ", place);
-    line.put_all(&[b' ', hex_digit(code / 16), hex_digit(code % 16)]);
-    line
-}
-
 // A line of these bytes alone.
 fn plain_line(bytes: &[u8]) -> Line
     requires { length bytes.now ≤ 40 }
@@ -164,28 +116,6 @@ fn plain_line(bytes: &[u8]) -> Line
     let mut line = Line::new();
     line.put_all(bytes);
     line
-}
-
-// A fault of a file, with the numbers that it carries.
-fn fault_line(fault: Wk1Fault) -> Line
-    ensures line { result ≡ fault_text fault }
-    ensures short { length result ≤ 120 }
-{
-    match fault {
-        Wk1Fault::NoBof => plain_line(b"F1"),
-        Wk1Fault::Truncated(at) => with_number(b"F2 ", at),
-        Wk1Fault::BadLength(record) => with_number(b"F3 ", record),
-        Wk1Fault::CellOutside(record) => with_number(b"F4 ", record),
-        Wk1Fault::BadText(record) => with_number(b"F5 ", record),
-        Wk1Fault::NumberTooLarge(record) => with_number(b"F6 ", record),
-        Wk1Fault::BadCode(record, at) => code_fault(record, at),
-        Wk1Fault::FunctionOutside(record, code) => function_fault(record, code),
-        Wk1Fault::BadName(record) => with_number(b"F9 ", record),
-        Wk1Fault::BadSpan(record) => with_number(b"F10 ", record),
-        Wk1Fault::FileTooLarge => plain_line(b"F11"),
-        Wk1Fault::TooDeep(record) => with_number(b"F12 ", record),
-        Wk1Fault::Memory => Line::new(),
-    }
 }
 
 // Why a start file isn't read.
