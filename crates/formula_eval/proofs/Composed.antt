@@ -1,5 +1,6 @@
 -- The numbers of operators and calls, by those of their parts.
-use Rattle.std.proofs.Common.{◌≡◌, ℕ, ◌≤◌, ◌<◌, false, List, [], ◌∷◌, length, get_or, map, Some, None, sym, ap, ◌∙◌, arith}
+use Rattle.std.proofs.Common.{◌≡◌, ℕ, ◌≤◌, ◌<◌, false, List, [], ◌∷◌, length, get_or, map, Some, None, sym, ap, ◌∙◌}
+use Rattle.std.proofs.Common.{arith}
 use Rattle.std.specs.Prelude.{ℤ, neg_ℤ, Option, IfSome}
 use Rattle.std.proofs.lemmas.List.{append-nil}
 use Rattle.grid_address.specs.Place.{width_of, Extent, Place}
@@ -23,8 +24,9 @@ use Rattle.formula_eval.specs.Outlook.{filled, Outlook, Sight}
 use Rattle.formula_eval.specs.Parts.{arguments_by, call_value, operand_of, value_by}
 use Rattle.formula_eval.specs.Scenes.{outlook_of}
 
-pub in_binary : (t a b : Tree) (op : Op) (at : Place) (sight : Sight) (x y : ℤ) (found : Option ℤ) → t ≡ binary op a b → IsNumber a at sight x → IsNumber b at sight y →
-    binary_value op (value.Num x) (value.Num y) ≡ answer found → IfSome found (IsNumber t at sight)
+pub in_binary : (t a b : Tree) (op : Op) (at : Place) (sight : Sight) (x y : ℤ) (found : Option ℤ) → t ≡ binary op a b
+    → IsNumber a at sight x → IsNumber b at sight y
+    → binary_value op (value.Num x) (value.Num y) ≡ answer found → IfSome found (IsNumber t at sight)
 in_binary t a b op at sight x y None is left right so = tt
 in_binary t a b op at sight x y (Some n) is left right so = λ d s.
     ap (λ u. value_by d u at (outlook_of sight s)) is
@@ -32,27 +34,33 @@ in_binary t a b op at sight x y (Some n) is left right so = λ d s.
     ∙ ap (binary_value op (value.Num x)) (right d s)
     ∙ so
 
-pub in_neg : (t a : Tree) (at : Place) (sight : Sight) (x : ℤ) → t ≡ neg a → IsNumber a at sight x → IsNumber t at sight (neg_ℤ x)
+pub in_neg : (t a : Tree) (at : Place) (sight : Sight) (x : ℤ) → t ≡ neg a → IsNumber a at sight x
+    → IsNumber t at sight (neg_ℤ x)
 unfolding negated
 in_neg t a at sight x is part = λ d s. ap (λ u. value_by d u at (outlook_of sight s)) is ∙ ap negated (part d s)
 
-pub in_call : (e : Expr) (f : Function) (args : ExprList) (es : List Expr) (at : Place) (sight : Sight) (found : Option ℤ) → e ≡ Call f args → es ≡ args.items.items →
-    IfSome found (IsCallNumber f (listed (map tree_of es)) at sight) → IfSome found (IsNumber (tree_of e) at sight)
+pub in_call : (e : Expr) (f : Function) (args : ExprList) (es : List Expr) (at : Place) (sight : Sight)
+    (found : Option ℤ) → e ≡ Call f args → es ≡ args.items.items
+    → IfSome found (IsCallNumber f (listed (map tree_of es)) at sight) → IfSome found (IsNumber (tree_of e) at sight)
 in_call e f args es at sight None is items so = tt
 in_call e f args es at sight (Some n) is items so = λ d s.
     ap (λ x. value_by d (tree_of x) at (outlook_of sight s)) is
     ∙ ap (λ t. value_by d t at (outlook_of sight s)) (tree_of-Call f args)
-    ∙ ap (λ l. call_value d f (outlook_of sight s) (arguments_by d (listed (map tree_of l)) at (outlook_of sight s))) (sym items)
+    ∙ ap (λ l. call_value d f (outlook_of sight s) (arguments_by d (listed (map tree_of l)) at (outlook_of sight s)))
+    (sym items)
     ∙ so d s
 
 -- a function of a list whose only argument is a range
-pub of_range : (f : Function) (w : Outlook) (args : List Argument) (s : Extent) (n : ℤ) → args ≡ ranged s → list_value f (items_in w.sight.values (filled w.sight.values s)) ≡ value.Num n →
-    list_value f (items_of w.sight.values args) ≡ value.Num n
+pub of_range : (f : Function) (w : Outlook) (args : List Argument) (s : Extent) (n : ℤ) → args ≡ ranged s
+    → list_value f (items_in w.sight.values (filled w.sight.values s)) ≡ value.Num n
+    → list_value f (items_of w.sight.values args) ≡ value.Num n
 of_range f w args s n are is =
-    ap (λ (l : List Argument). list_value f (items_of w.sight.values l)) are ∙ ap (list_value f) (append-nil (items_in w.sight.values (filled w.sight.values s))) ∙ is
+    ap (λ (l : List Argument). list_value f (items_of w.sight.values l)) are
+    ∙ ap (list_value f) (append-nil (items_in w.sight.values (filled w.sight.values s))) ∙ is
 
 -- a list of three
-pub three : {X : Type 0} (l : List X) (x y z : X) → 3 ≤ length l → length l < 4 → x ≡ get_or l 0 x → y ≡ get_or l 1 y → z ≡ get_or l 2 z → l ≡ x ∷ y ∷ z ∷ []
+pub three : {X : Type 0} (l : List X) (x y z : X) → 3 ≤ length l → length l < 4 → x ≡ get_or l 0 x → y ≡ get_or l 1 y
+    → z ≡ get_or l 2 z → l ≡ x ∷ y ∷ z ∷ []
 three [] x y z some few a b c = absurd (omega arith)
 three (p ∷ []) x y z some few a b c = absurd (omega arith)
 three (p ∷ q ∷ []) x y z some few a b c = absurd (omega arith)
@@ -60,14 +68,19 @@ three (p ∷ q ∷ r ∷ []) x y z some few a b c = λ i. sym a i ∷ sym b i �
 three (p ∷ q ∷ r ∷ s ∷ l) x y z some few a b c = absurd (omega arith)
 
 -- VLOOKUP of a number in a range
-pub in_lookup : (es : List Expr) (x r n : Expr) (at : Place) (sight : Sight) (s : Extent) (number place : ℤ) (k : ℕ) (found : Option ℤ) → es ≡ x ∷ r ∷ n ∷ [] → range_of (operand_of (tree_of r) at) ≡ Some s →
-    IsNumber (tree_of x) at sight number → IsNumber (tree_of n) at sight place → place_in place (width_of s) ≡ Some k → IfSome found (λ m. by_number sight.values false s k number ≡ value.Num m) →
-    IfSome found (IsCallNumber function.VLookup (listed (map tree_of es)) at sight)
+pub in_lookup : (es : List Expr) (x r n : Expr) (at : Place) (sight : Sight) (s : Extent) (number place : ℤ) (k : ℕ)
+    (found : Option ℤ) → es ≡ x ∷ r ∷ n ∷ [] → range_of (operand_of (tree_of r) at) ≡ Some s
+    → IsNumber (tree_of x) at sight number → IsNumber (tree_of n) at sight place → place_in place (width_of s) ≡ Some k
+    → IfSome found (λ m. by_number sight.values false s k number ≡ value.Num m)
+    → IfSome found (IsCallNumber function.VLookup (listed (map tree_of es)) at sight)
 in_lookup es x r n at sight s number place k None are range left right told by = tt
 in_lookup es x r n at sight s number place k (Some m) are range left right told by = λ d c.
-    ap (λ (l : List Expr). call_value d function.VLookup (outlook_of sight c) (arguments_by d (listed (map tree_of l)) at (outlook_of sight c))) are
-    ∙ ap (λ v. lookup_value sight.values false v (operand_of (tree_of r) at) (value_by d (tree_of n) at (outlook_of sight c))) (left d c)
+    ap (λ (l : List Expr). call_value d function.VLookup (outlook_of sight c)
+    (arguments_by d (listed (map tree_of l)) at (outlook_of sight c))) are
+    ∙ ap (λ v. lookup_value sight.values false v (operand_of (tree_of r) at)
+    (value_by d (tree_of n) at (outlook_of sight c))) (left d c)
     ∙ ap (lookup_value sight.values false (value.Num number) (operand_of (tree_of r) at)) (right d c)
-    ∙ ap (λ o. on_range o (λ t. on_place (place_in place (width_of t)) (λ j. by_number sight.values false t j number))) range
+    ∙ ap (λ o. on_range o (λ t. on_place (place_in place (width_of t)) (λ j. by_number sight.values false t j number)))
+    range
     ∙ ap (λ o. on_place o (λ j. by_number sight.values false s j number)) told
     ∙ by

@@ -11,4 +11,6 @@ loop-col-preserved g c =
     let now = c.loop-col.fields.items in
     let f = λ (col : ℕ). field_named sight c.args.input (at c.args.criterion.first.row col) in
     made_more f [] now c.push.new.self.items c.args.criterion.first.col c.loop-col.col c.loop-col.invariant
-    (c.in_ok-push.ensures.items ∙ ap (λ (o : Option ℕ). now ++ o ∷ []) (c.field_named.ensures ∙ ap (field_named sight c.args.input) c.header.ensures))
+    (c.in_ok-push.ensures.items
+    ∙ ap (λ (o : Option ℕ). now ++ o ∷ [])
+    (c.field_named.ensures ∙ ap (field_named sight c.args.input) c.header.ensures))

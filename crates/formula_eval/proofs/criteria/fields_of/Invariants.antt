@@ -5,4 +5,6 @@ use Rattle.formula_eval.proofs.criteria.fields_of.Given as goal
 
 abbrev pub invariant-loop-col : goal.invariant-loop-col
 invariant-loop-col g l =
-    l.fields.items ≡ map (λ col. field_named (g.K.Look.sight l.look) l.input (at l.criterion.first.row col)) (numbers_from l.criterion.first.col l.col)
+    l.fields.items
+    ≡ map (λ col. field_named (g.K.Look.sight l.look) l.input (at l.criterion.first.row col))
+    (numbers_from l.criterion.first.col l.col)

@@ -13,7 +13,9 @@ pub bounds-fields-from : goal.bounds-fields-from
 bounds-fields-from g c =
     let sight = g.K.Look.sight c.args.look.now in
     let many : length c.args.fields.now ≡ width_of c.args.criterion =
-    ap length c.requires.fields ∙ made_count (λ (col : ℕ). field_named sight c.args.input (at c.args.criterion.first.row col)) c.args.criterion.first.col (width_of c.args.criterion) in
+    ap length c.requires.fields
+    ∙ made_count (λ (col : ℕ). field_named sight c.args.input (at c.args.criterion.first.row col))
+    c.args.criterion.first.col (width_of c.args.criterion) in
     omega (arith, c.loop-col-test.true, c.width-col-end.ensures.width, c.from.ensures, many)
 
 pub loop-col-init : goal.loop-col-init
@@ -30,10 +32,16 @@ loop-col-preserved g c =
     let input = c.args.input in
     let criterion = c.args.criterion in
     let f = λ (col : ℕ). holds_at outlook input criterion c.args.row (at c.args.conditions col) in
-    let inside : c.loop-col.col < width_of criterion = omega (arith, c.loop-col-test.true, c.width-col-end.ensures.width) in
+    let inside : c.loop-col.col < width_of criterion =
+    omega (arith, c.loop-col-test.true, c.width-col-end.ensures.width) in
     let indexed : c.from.result ≡ c.loop-col.col = omega (arith, c.from.ensures) in
-    let is = held outlook input criterion c.args.fields.now c.args.row c.args.conditions c.loop-col.col c.column_at.result c.rows_behind-count.result c.from.result _ c.in_ok-held.held c.requires.fields inside c.column_at.ensures c.rows_behind-count.ensures indexed c.in_ok-held.ensures in
-    all_more f criterion.first.col (width_of criterion) c.loop-col.col (row_holds outlook input criterion c.args.row c.args.conditions) inside (is ∙ c.if-not-held.false) c.loop-col.invariant
+    let is =
+    held outlook input criterion c.args.fields.now c.args.row c.args.conditions c.loop-col.col c.column_at.result
+    c.rows_behind-count.result c.from.result _ c.in_ok-held.held c.requires.fields inside c.column_at.ensures
+    c.rows_behind-count.ensures indexed c.in_ok-held.ensures in
+    all_more f criterion.first.col (width_of criterion) c.loop-col.col
+    (row_holds outlook input criterion c.args.row c.args.conditions) inside (is ∙ c.if-not-held.false)
+    c.loop-col.invariant
 
 pub returns-then-not-held : goal.returns-then-not-held
 returns-then-not-held g c =
@@ -41,10 +49,16 @@ returns-then-not-held g c =
     let input = c.args.input in
     let criterion = c.args.criterion in
     let f = λ (col : ℕ). holds_at outlook input criterion c.args.row (at c.args.conditions col) in
-    let inside : c.loop-col.col < width_of criterion = omega (arith, c.loop-col-test.true, c.width-col-end.ensures.width) in
+    let inside : c.loop-col.col < width_of criterion =
+    omega (arith, c.loop-col-test.true, c.width-col-end.ensures.width) in
     let indexed : c.from.result ≡ c.loop-col.col = omega (arith, c.from.ensures) in
-    let is = held outlook input criterion c.args.fields.now c.args.row c.args.conditions c.loop-col.col c.column_at.result c.rows_behind-count.result c.from.result _ c.in_ok-held.held c.requires.fields inside c.column_at.ensures c.rows_behind-count.ensures indexed c.in_ok-held.ensures in
-    all_stop f criterion.first.col (width_of criterion) c.loop-col.col (row_holds outlook input criterion c.args.row c.args.conditions) inside (is ∙ c.if-not-held.true) c.loop-col.invariant
+    let is =
+    held outlook input criterion c.args.fields.now c.args.row c.args.conditions c.loop-col.col c.column_at.result
+    c.rows_behind-count.result c.from.result _ c.in_ok-held.held c.requires.fields inside c.column_at.ensures
+    c.rows_behind-count.ensures indexed c.in_ok-held.ensures in
+    all_stop f criterion.first.col (width_of criterion) c.loop-col.col
+    (row_holds outlook input criterion c.args.row c.args.conditions) inside (is ∙ c.if-not-held.true)
+    c.loop-col.invariant
 
 pub returns : goal.returns
 returns g c =
@@ -52,5 +66,6 @@ returns g c =
     let input = c.args.input in
     let criterion = c.args.criterion in
     let f = λ (col : ℕ). holds_at outlook input criterion c.args.row (at c.args.conditions col) in
-    all_end f criterion.first.col (width_of criterion) c.loop-col.col (row_holds outlook input criterion c.args.row c.args.conditions)
+    all_end f criterion.first.col (width_of criterion) c.loop-col.col
+    (row_holds outlook input criterion c.args.row c.args.conditions)
     (omega (arith, c.loop-col-test.false, c.width-col-end.ensures.width)) c.loop-col.invariant

@@ -9,5 +9,6 @@ use Rattle.formula_eval.proofs.criteria.row_holds.Given as goal
 
 abbrev pub invariant-loop-col : goal.invariant-loop-col
 invariant-loop-col g l =
-    list_all (λ col. holds_at (outlook_of (g.K.Look.sight l.look) l.scene) l.fn.input l.criterion l.row (at l.conditions col)) (left l.criterion.first.col (width_of l.criterion) l.col)
+    list_all (λ col. holds_at (outlook_of (g.K.Look.sight l.look) l.scene) l.fn.input l.criterion l.row
+    (at l.conditions col)) (left l.criterion.first.col (width_of l.criterion) l.col)
     ≡ row_holds (outlook_of (g.K.Look.sight l.look) l.scene) l.fn.input l.criterion l.row l.conditions

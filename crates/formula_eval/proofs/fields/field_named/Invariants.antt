@@ -8,5 +8,7 @@ use Rattle.formula_eval.proofs.fields.field_named.Given as goal
 
 abbrev pub invariant-loop-col : goal.invariant-loop-col
 invariant-loop-col g l =
-    find (λ col. same_label (label_in ((g.K.Look.sight l.look).contents l.name)) (label_in ((g.K.Look.sight l.look).contents (at l.input.first.row col)))) (left l.input.first.col (width_of l.input) l.col)
+    find (λ col. same_label (label_in ((g.K.Look.sight l.look).contents l.name))
+    (label_in ((g.K.Look.sight l.look).contents (at l.input.first.row col))))
+    (left l.input.first.col (width_of l.input) l.col)
     ≡ field_named (g.K.Look.sight l.look) l.input l.name

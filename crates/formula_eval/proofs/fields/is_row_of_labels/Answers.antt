@@ -16,16 +16,21 @@ loop-col-preserved g c =
     let sight = g.K.Look.sight c.args.look.now in
     let f = λ (col : ℕ). is_label_at sight (at c.args.input.first.row col) in
     let is = sym (c.is_label_at.ensures ∙ ap (is_label_at sight) c.header.ensures) in
-    all_more f c.args.input.first.col (width_of c.args.input) c.loop-col.col (list_all f (columns_of c.args.input)) (omega (arith, c.loop-col-test.true, c.width-col-end.ensures.width)) (is ∙ c.if-not-is_label_at.false) c.loop-col.invariant
+    all_more f c.args.input.first.col (width_of c.args.input) c.loop-col.col (list_all f (columns_of c.args.input))
+    (omega (arith, c.loop-col-test.true, c.width-col-end.ensures.width)) (is ∙ c.if-not-is_label_at.false)
+    c.loop-col.invariant
 
 pub returns-then-not-is_label_at : goal.returns-then-not-is_label_at
 returns-then-not-is_label_at g c =
     let sight = g.K.Look.sight c.args.look.now in
     let f = λ (col : ℕ). is_label_at sight (at c.args.input.first.row col) in
     let is = sym (c.is_label_at.ensures ∙ ap (is_label_at sight) c.header.ensures) in
-    all_stop f c.args.input.first.col (width_of c.args.input) c.loop-col.col (list_all f (columns_of c.args.input)) (omega (arith, c.loop-col-test.true, c.width-col-end.ensures.width)) (is ∙ c.if-not-is_label_at.true) c.loop-col.invariant
+    all_stop f c.args.input.first.col (width_of c.args.input) c.loop-col.col (list_all f (columns_of c.args.input))
+    (omega (arith, c.loop-col-test.true, c.width-col-end.ensures.width)) (is ∙ c.if-not-is_label_at.true)
+    c.loop-col.invariant
 
 pub returns : goal.returns
 returns g c =
     let f = λ (col : ℕ). is_label_at (g.K.Look.sight c.args.look.now) (at c.args.input.first.row col) in
-    all_end f c.args.input.first.col (width_of c.args.input) c.loop-col.col (list_all f (columns_of c.args.input)) (omega (arith, c.loop-col-test.false, c.width-col-end.ensures.width)) c.loop-col.invariant
+    all_end f c.args.input.first.col (width_of c.args.input) c.loop-col.col (list_all f (columns_of c.args.input))
+    (omega (arith, c.loop-col-test.false, c.width-col-end.ensures.width)) c.loop-col.invariant

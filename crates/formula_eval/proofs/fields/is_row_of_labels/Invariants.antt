@@ -8,5 +8,6 @@ use Rattle.formula_eval.proofs.fields.is_row_of_labels.Given as goal
 
 abbrev pub invariant-loop-col : goal.invariant-loop-col
 invariant-loop-col g l =
-    list_all (λ col. is_label_at (g.K.Look.sight l.look) (at l.input.first.row col)) (left l.input.first.col (width_of l.input) l.col)
+    list_all (λ col. is_label_at (g.K.Look.sight l.look) (at l.input.first.row col))
+    (left l.input.first.col (width_of l.input) l.col)
     ≡ list_all (λ col. is_label_at (g.K.Look.sight l.look) (at l.input.first.row col)) (columns_of l.input)

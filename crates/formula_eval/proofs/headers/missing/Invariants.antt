@@ -7,5 +7,6 @@ use Rattle.formula_eval.proofs.headers.missing.Given as goal
 
 abbrev pub invariant-loop-col : goal.invariant-loop-col
 invariant-loop-col g l =
-    find (is_missing (g.K.Look.sight l.look) l.input l.criterion) (left l.criterion.first.col (width_of l.criterion) l.col)
+    find (is_missing (g.K.Look.sight l.look) l.input l.criterion)
+    (left l.criterion.first.col (width_of l.criterion) l.col)
     ≡ missing (g.K.Look.sight l.look) l.input l.criterion

@@ -14,4 +14,6 @@ returns-then-begins-clause-total c = λ values is.
     let begins = c.begins.ensures in
     let yes = c.if-begins.true in
     let there : IsRunning values running = subst (λ o. IfSome o (IsRunning values)) c.in_ok-running.was is in
-    subst (IsTotal running.total) (goes_on values running.span c.args.span (begins.row yes) (begins.col yes) (begins.width yes) ∙ ap (so_far values c.args.span) (sym c.height.ensures.height)) there)
+    subst (IsTotal running.total)
+    (goes_on values running.span c.args.span (begins.row yes) (begins.col yes) (begins.width yes)
+    ∙ ap (so_far values c.args.span) (sym c.height.ensures.height)) there)

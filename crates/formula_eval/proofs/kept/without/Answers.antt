@@ -9,4 +9,5 @@ pub returns : goal.returns
 returns c = λ values others is same.
     (let running = c.in_ok-running.running in
     let there : IsRunning values running = subst (λ o. IfSome o (IsRunning values)) c.in_ok-running.was is in
-    subst (IsTotal running.total) (stays values others running.span c.args.cell (sym c.contains.ensures ∙ c.if-contains.false) same) there)
+    subst (IsTotal running.total)
+    (stays values others running.span c.args.cell (sym c.contains.ensures ∙ c.if-contains.false) same) there)

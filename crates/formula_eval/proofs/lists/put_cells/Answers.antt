@@ -11,11 +11,14 @@ pub loop-cell-preserved : goal.loop-cell-preserved
 loop-cell-preserved g c =
     let values = (g.K.Look.sight c.args.look.now).values in
     λ m is.
-    subst (IsTotal c.put_value.new.total) (cell_next values c.args.cells.now c.loop-cell.cell-index m c.cell-item.result (seen_value c.value.result) c.loop-cell-test.true c.cell-item.is c.value.ensures)
+    subst (IsTotal c.put_value.new.total) (cell_next values c.args.cells.now c.loop-cell.cell-index m c.cell-item.result
+    (seen_value c.value.result) c.loop-cell-test.true c.cell-item.is c.value.ensures)
     (c.in_ok-put_value.ensures _ (c.loop-cell.invariant m is))
 
 pub returns : goal.returns
 returns g c =
     let values = (g.K.Look.sight c.args.look.now).values in
     let past : length c.args.cells.now ≤ c.loop-cell.cell-index = omega (arith, c.loop-cell-test.false) in
-    λ m is. subst (IsTotal c.loop-cell.total) (ap (λ (ps : List Place). m ++ items_in values ps) (take_all c.loop-cell.cell-index c.args.cells.now past)) (c.loop-cell.invariant m is)
+    λ m is. subst (IsTotal c.loop-cell.total)
+    (ap (λ (ps : List Place). m ++ items_in values ps) (take_all c.loop-cell.cell-index c.args.cells.now past))
+    (c.loop-cell.invariant m is)

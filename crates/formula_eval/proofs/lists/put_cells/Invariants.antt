@@ -6,4 +6,5 @@ use Rattle.formula_eval.proofs.lists.put_cells.Given as goal
 
 abbrev pub invariant-loop-cell : goal.invariant-loop-cell
 invariant-loop-cell g l =
-    (m : List Item) → IsTotal l.fn.total m → IsTotal l.total (m ++ items_in (g.K.Look.sight l.look).values (take l.cell-index l.cells))
+    (m : List Item) → IsTotal l.fn.total m
+    → IsTotal l.total (m ++ items_in (g.K.Look.sight l.look).values (take l.cell-index l.cells))

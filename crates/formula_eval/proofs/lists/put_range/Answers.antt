@@ -16,7 +16,9 @@ loop-row-preserved g c =
     let rows = c.rows_of.result in (
       c.band_end-end.ensures.inside,
       λ m is. subst (IsTotal c.put_rows.new.total)
-          (append_assoc m (so_far values span row) (items_in values (cells_of rows)) ∙ ap (λ (l : List Item). m ++ l) (rows_put values span rows row end c.band_end-end.ensures.behind c.rows_of.ensures.first c.rows_of.ensures.last))
+          (append_assoc m (so_far values span row) (items_in values (cells_of rows))
+          ∙ ap (λ (l : List Item). m ++ l) (rows_put values span rows row end c.band_end-end.ensures.behind
+          c.rows_of.ensures.first c.rows_of.ensures.last))
           (c.in_ok-put_rows.ensures _ (c.loop-row.invariant.1 m is)),
     )
 
@@ -24,5 +26,8 @@ pub returns : goal.returns
 returns g c =
     let values = (g.K.Look.sight c.args.look.now).values in
     let span = c.args.span in
-    let all : c.loop-row.row ≡ height_of span = omega (arith, c.loop-row-test.false, c.loop-row.invariant.0, c.height-height.ensures.height) in
-    λ m is. subst (IsTotal c.loop-row.total) (ap (λ (l : List Item). m ++ l) (ap (so_far values span) all ∙ sym (unfiltered values (cells_of span)))) (c.loop-row.invariant.1 m is)
+    let all : c.loop-row.row ≡ height_of span =
+    omega (arith, c.loop-row-test.false, c.loop-row.invariant.0, c.height-height.ensures.height) in
+    λ m is. subst (IsTotal c.loop-row.total)
+    (ap (λ (l : List Item). m ++ l) (ap (so_far values span) all ∙ sym (unfiltered values (cells_of span))))
+    (c.loop-row.invariant.1 m is)

@@ -10,9 +10,13 @@ use Rattle.formula_eval.proofs.lists.put_rows.Goals as goal
 pub returns-then-is_unused : goal.returns-then-is_unused
 returns-then-is_unused g c =
     let values = (g.K.Look.sight c.args.look.now).values in
-    λ m is. subst (IsTotal c.args.total.now) (sym (append-nil m) ∙ ap (λ (l : List Item). m ++ l) (sym (unused_none values c.args.rows (c.is_unused.ensures c.if-is_unused.true)))) is
+    λ m is. subst (IsTotal c.args.total.now) (sym (append-nil m)
+    ∙ ap (λ (l : List Item). m ++ l) (sym (unused_none values c.args.rows (c.is_unused.ensures c.if-is_unused.true))))
+    is
 
 pub returns : goal.returns
 returns g c =
     let values = (g.K.Look.sight c.args.look.now).values in
-    λ m is. subst (IsTotal c.put_cells.new.total) (ap (λ (l : List Item). m ++ l) (ap (items_in values) (c.as_slice.ensures ∙ c.in_ok-cells.ensures) ∙ unfiltered values (cells_of c.args.rows))) (c.in_ok-put_cells.ensures m is)
+    λ m is. subst (IsTotal c.put_cells.new.total)
+    (ap (λ (l : List Item). m ++ l) (ap (items_in values) (c.as_slice.ensures ∙ c.in_ok-cells.ensures)
+    ∙ unfiltered values (cells_of c.args.rows))) (c.in_ok-put_cells.ensures m is)

@@ -6,4 +6,6 @@ use Rattle.formula_eval.proofs.lists.total_of.Goals as goal
 pub loop-argument-preserved : goal.loop-argument-preserved
 loop-argument-preserved g c =
     let values = (g.K.Look.sight c.args.look.now).values in
-    subst (IsTotal c.put_argument.new.total) (next_argument values c.args.arguments.now c.loop-argument.argument-index c.argument-item.result c.loop-argument-test.true c.argument-item.is) (c.in_ok-put_argument.ensures _ c.loop-argument.invariant)
+    subst (IsTotal c.put_argument.new.total) (next_argument values c.args.arguments.now c.loop-argument.argument-index
+    c.argument-item.result c.loop-argument-test.true c.argument-item.is)
+    (c.in_ok-put_argument.ensures _ c.loop-argument.invariant)

@@ -4,4 +4,5 @@ use Rattle.formula_eval.specs.inner.Totals.{IsTotal}
 use Rattle.formula_eval.proofs.lists.total_of.Given as goal
 
 abbrev pub invariant-loop-argument : goal.invariant-loop-argument
-invariant-loop-argument g l = IsTotal l.total (items_of (g.K.Look.sight l.look).values (take l.argument-index l.arguments))
+invariant-loop-argument g l =
+    IsTotal l.total (items_of (g.K.Look.sight l.look).values (take l.argument-index l.arguments))

@@ -27,4 +27,7 @@ abbrev pub decreases-binary_value : goal.decreases-binary_value
 decreases-binary_value g l = 5 * (nodes (tree_of l.left.now) + nodes (tree_of l.right.now)) + 1
 
 abbrev pub invariant-arguments_of-loop-expr : goal.invariant-arguments_of-loop-expr
-invariant-arguments_of-loop-expr g l = l.arguments.items ≡ arguments_by g.D.Databases.answers (listed (map tree_of (take l.expr-index l.exprs))) l.at (outlook_of (g.K.Look.sight l.look) l.scene)
+invariant-arguments_of-loop-expr g l =
+    l.arguments.items
+    ≡ arguments_by g.D.Databases.answers (listed (map tree_of (take l.expr-index l.exprs))) l.at
+    (outlook_of (g.K.Look.sight l.look) l.scene)

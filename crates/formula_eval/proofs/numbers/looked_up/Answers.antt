@@ -11,7 +11,8 @@ returns-in_ok-place-in-len3-clause-number g c =
     let n = c.number-item.result in
     let span = c.in_ok-span-in-len3.span in
     let number = c.in_ok-number-in-len3.number in
-    in_lookup es x r n c.args.at (g.K.Look.sight c.args.look.now) span c.in_ok-x-in-len3.x number c.in_ok-place-in-len3.place c.lookup_number.result
+    in_lookup es x r n c.args.at (g.K.Look.sight c.args.look.now) span c.in_ok-x-in-len3.x number
+    c.in_ok-place-in-len3.place c.lookup_number.result
     (three es x r n c.in-len3.len_at_least c.in-len3.len_below c.x-item.is c.range-item.is c.number-item.is)
     (ap range_of (sym c.operand_of.ensures) ∙ sym c.in_ok-span-in-len3.ensures)
     c.in_ok-x-in-len3.ensures

@@ -14,7 +14,9 @@ loop-place-init g c =
     let values = outlook.sight.values in
     let input = c.args.input in
     let test = record_matches outlook input c.args.criterion in
-    ap (λ (l : List Item). l ++ behind values c.args.col test (input.first.row + 1) (input.last.row - input.first.row) 0) c.new-items.ensures.items
+    ap (λ (l : List Item). l
+    ++ behind values c.args.col test (input.first.row + 1) (input.last.row - input.first.row) 0)
+    c.new-items.ensures.items
     ∙ behind_all values c.args.col test (input.first.row + 1) (input.last.row - input.first.row)
 
 pub loop-place-preserved : goal.loop-place-preserved
@@ -32,10 +34,13 @@ loop-place-preserved g c =
     let inside : place < count = omega (arith, c.loop-place-test.true, c.count_below-place-end.ensures.count) in
     elim c.if-found.branch [
       | then-found+in_ok-put_cell w ↦
-          put_record values col test n count place row c.loop-place.items.items c.if-found.items.items all (seen_value w.value.result) inside c.row_below-row.ensures.row (sym c.in_ok-found.ensures ∙ w.if-found.true) w.value.ensures (ap (λ v. v.items) w.items-is ∙ w.in_ok-put_cell.ensures) c.loop-place.invariant
+          put_record values col test n count place row c.loop-place.items.items c.if-found.items.items all
+          (seen_value w.value.result) inside c.row_below-row.ensures.row (sym c.in_ok-found.ensures ∙ w.if-found.true)
+          w.value.ensures (ap (λ v. v.items) w.items-is ∙ w.in_ok-put_cell.ensures) c.loop-place.invariant
       | else-found w ↦
           ap (λ v. v.items ++ behind values col test n count (place + 1)) w.items-is
-          ∙ pass_record values col test n count place row c.loop-place.items.items all inside c.row_below-row.ensures.row (sym c.in_ok-found.ensures ∙ w.if-found.false) c.loop-place.invariant
+          ∙ pass_record values col test n count place row c.loop-place.items.items all inside
+          c.row_below-row.ensures.row (sym c.in_ok-found.ensures ∙ w.if-found.false) c.loop-place.invariant
     ]
 
 pub returns : goal.returns
@@ -43,4 +48,6 @@ returns g c =
     let outlook = outlook_of (g.K.Look.sight c.args.look.now) c.args.scene.now in
     let input = c.args.input in
     let test = record_matches outlook input c.args.criterion in
-    no_record outlook.sight.values c.args.col test (input.first.row + 1) (input.last.row - input.first.row) c.loop-place.place c.loop-place.items.items (record_items outlook input c.args.criterion c.args.col) (omega (arith, c.loop-place-test.false, c.count_below-place-end.ensures.count)) c.loop-place.invariant
+    no_record outlook.sight.values c.args.col test (input.first.row + 1) (input.last.row - input.first.row)
+    c.loop-place.place c.loop-place.items.items (record_items outlook input c.args.criterion c.args.col)
+    (omega (arith, c.loop-place-test.false, c.count_below-place-end.ensures.count)) c.loop-place.invariant

@@ -7,5 +7,8 @@ use Rattle.formula_eval.proofs.records.items_of_records.Given as goal
 
 abbrev pub invariant-loop-place : goal.invariant-loop-place
 invariant-loop-place g l =
-    l.items.items ++ behind (g.K.Look.sight l.look).values l.col (record_matches (outlook_of (g.K.Look.sight l.look) l.scene) l.input l.criterion) (l.input.first.row + 1) (l.input.last.row - l.input.first.row) l.place
+    l.items.items
+    ++ behind (g.K.Look.sight l.look).values l.col
+    (record_matches (outlook_of (g.K.Look.sight l.look) l.scene) l.input l.criterion) (l.input.first.row + 1)
+    (l.input.last.row - l.input.first.row) l.place
     ≡ record_items (outlook_of (g.K.Look.sight l.look) l.scene) l.input l.criterion l.col

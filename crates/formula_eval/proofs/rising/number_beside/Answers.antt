@@ -10,5 +10,6 @@ returns-in-Num g c =
     let passed = c.passed_rows-passed.result in
     let some : passed ≡ suc (passed - 1) = omega (arith, c.if-passed-eq0.false) in
     ap (by_passed values false span c.args.place) (sym c.passed_rows-passed.ensures.passed ∙ some)
-    ∙ ap values (sym (same_cell c.cell_at.result (span.first.row + (passed - 1)) (span.first.col + c.args.place) c.cell_at.ensures.row c.cell_at.ensures.col))
+    ∙ ap values (sym (same_cell c.cell_at.result (span.first.row + (passed - 1)) (span.first.col + c.args.place)
+    c.cell_at.ensures.row c.cell_at.ensures.col))
     ∙ sym c.in-Num.ensures

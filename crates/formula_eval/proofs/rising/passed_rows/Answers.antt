@@ -19,12 +19,17 @@ loop-low-preserved-then-passes g c =
     let span = c.args.span in
     let now = c.loop-low in
     let middle = now.low + (now.high - now.low) / 2 in
-    let there = ap values (sym (same_cell c.cell_at.result (span.first.row + middle) (span.first.col + 0) c.cell_at.ensures.row c.cell_at.ensures.col)) ∙ sym c.value.ensures in
+    let there =
+    ap values (sym (same_cell c.cell_at.result (span.first.row + middle) (span.first.col + 0) c.cell_at.ensures.row
+    c.cell_at.ensures.col))
+    ∙ sym c.value.ensures in
     let pass = ap (passes c.args.x) there ∙ sym c.passes.ensures ∙ c.if-passes.true in
     record {
       within = omega (arith, c.loop-low-test.true);
       inside = now.invariant.inside;
-      before = λ i h. c.requires c.args.x i middle (omega (arith, h)) (omega (arith, c.loop-low-test.true, now.invariant.inside)) pass;
+      before =
+          λ i h. c.requires c.args.x i middle (omega (arith, h))
+          (omega (arith, c.loop-low-test.true, now.invariant.inside)) pass;
       behind = now.invariant.behind;
     }
 
@@ -34,7 +39,10 @@ loop-low-preserved g c =
     let span = c.args.span in
     let now = c.loop-low in
     let middle = now.low + (now.high - now.low) / 2 in
-    let there = ap values (sym (same_cell c.cell_at.result (span.first.row + middle) (span.first.col + 0) c.cell_at.ensures.row c.cell_at.ensures.col)) ∙ sym c.value.ensures in
+    let there =
+    ap values (sym (same_cell c.cell_at.result (span.first.row + middle) (span.first.col + 0) c.cell_at.ensures.row
+    c.cell_at.ensures.col))
+    ∙ sym c.value.ensures in
     record {
       within = omega arith;
       inside = omega (arith, now.invariant.within, now.invariant.inside);
@@ -48,8 +56,12 @@ returns g c =
     let span = c.args.span in
     let now = c.loop-low in
     let ends : now.high ≡ now.low = omega (arith, c.loop-low-test.false, now.invariant.within) in
-    let behind = subst (λ k. k < height_of span → passes c.args.x (values (line_cell false span k 0)) ≡ false) ends now.invariant.behind in
+    let behind =
+    subst (λ k. k < height_of span → passes c.args.x (values (line_cell false span k 0)) ≡ false) ends
+    now.invariant.behind in
     record {
-      passed = ends_at (passes c.args.x) values span (height_of span) now.low (omega (arith, now.invariant.within, now.invariant.inside)) now.invariant.before behind;
+      passed =
+          ends_at (passes c.args.x) values span (height_of span) now.low
+          (omega (arith, now.invariant.within, now.invariant.inside)) now.invariant.before behind;
       within = omega (arith, now.invariant.within, now.invariant.inside);
     }

@@ -3,7 +3,8 @@ use Rattle.grid_address.specs.Place.{height_of}
 use Rattle.formula_eval.specs.inner.Totals.{so_far, IsTotal}
 use Rattle.formula_eval.proofs.Totalled.{unused_put}
 use Rattle.formula_eval.proofs.totals.add_rest.Goals as goal
-use Rattle.formula_eval.proofs.totals.add_rest.Goals.{else-not-is_unused-via-then-not-is_unused+else-not-add_rows, else-not-is_unused-via-else-not-is_unused}
+use Rattle.formula_eval.proofs.totals.add_rest.Goals.{else-not-is_unused-via-then-not-is_unused+else-not-add_rows}
+use Rattle.formula_eval.proofs.totals.add_rest.Goals.{else-not-is_unused-via-else-not-is_unused}
 
 pub loop-row-preserved : goal.loop-row-preserved
 loop-row-preserved g c =
@@ -14,16 +15,20 @@ loop-row-preserved g c =
       c.band_end-end.ensures.inside,
       λ is. elim c.else-not-is_unused.branch [
         | else-not-is_unused-via-then-not-is_unused+else-not-add_rows w ↦
-            subst (λ t. IsTotal t (so_far end)) (sym w.total-is) (w.add_rows.ensures w.if-not-add_rows.false (c.loop-row.invariant.1 is))
+            subst (λ t. IsTotal t (so_far end)) (sym w.total-is)
+            (w.add_rows.ensures w.if-not-add_rows.false (c.loop-row.invariant.1 is))
         | else-not-is_unused-via-else-not-is_unused w ↦
             subst (λ t. IsTotal t (so_far end)) (sym w.total-is)
             (subst (IsTotal c.loop-row.total)
-            (sym (unused_put values span c.rows_of.result c.loop-row.row end c.band_end-end.ensures.behind c.rows_of.ensures.first c.rows_of.ensures.last (c.is_unused.ensures w.if-not-is_unused.false)))
+            (sym (unused_put values span c.rows_of.result c.loop-row.row end c.band_end-end.ensures.behind
+            c.rows_of.ensures.first c.rows_of.ensures.last (c.is_unused.ensures w.if-not-is_unused.false)))
             (c.loop-row.invariant.1 is))
       ],
     )
 
 pub returns : goal.returns
 returns g c =
-    let all : c.loop-row.row ≡ height_of c.args.span = omega (arith, c.loop-row-test.false, c.loop-row.invariant.0, c.height-height.ensures.height) in
-    λ _ is. subst (IsTotal c.loop-row.total) (ap (so_far (g.K.Look.sight c.args.look.now).values c.args.span) all) (c.loop-row.invariant.1 is)
+    let all : c.loop-row.row ≡ height_of c.args.span =
+    omega (arith, c.loop-row-test.false, c.loop-row.invariant.0, c.height-height.ensures.height) in
+    λ _ is. subst (IsTotal c.loop-row.total) (ap (so_far (g.K.Look.sight c.args.look.now).values c.args.span) all)
+    (c.loop-row.invariant.1 is)

@@ -7,4 +7,6 @@ use Rattle.formula_eval.proofs.totals.add_row.Given as goal
 
 abbrev pub invariant-loop-col : goal.invariant-loop-col
 invariant-loop-col g l =
-    (m : List Item) → IsTotal l.fn.total m → IsTotal l.total (m ++ items_in (g.K.Look.sight l.look).values (row_cells (l.span.first.row + l.row) l.span.first.col l.col))
+    (m : List Item) → IsTotal l.fn.total m
+    → IsTotal l.total
+    (m ++ items_in (g.K.Look.sight l.look).values (row_cells (l.span.first.row + l.row) l.span.first.col l.col))

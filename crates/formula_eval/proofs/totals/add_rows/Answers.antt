@@ -14,5 +14,7 @@ loop-row-preserved g c =
 
 pub returns : goal.returns
 returns g c =
-    let all : c.loop-row.row ≡ c.args.to = omega (arith, c.loop-row-test.false, c.loop-row.auto.row-end, c.requires.rows) in
-    λ _ is. subst (IsTotal c.loop-row.total) (ap (so_far (g.K.Look.sight c.args.look.now).values c.args.span) all) (c.loop-row.invariant is)
+    let all : c.loop-row.row ≡ c.args.to =
+    omega (arith, c.loop-row-test.false, c.loop-row.auto.row-end, c.requires.rows) in
+    λ _ is. subst (IsTotal c.loop-row.total) (ap (so_far (g.K.Look.sight c.args.look.now).values c.args.span) all)
+    (c.loop-row.invariant is)

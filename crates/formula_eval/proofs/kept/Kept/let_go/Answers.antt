@@ -19,4 +19,6 @@ returns-then-not-hang_on c = λ values others is same.
     subst (λ o. IfSome o (AreFound others)) (sym c.in-Some.is) still)
 
 pub returns : goal.returns
-returns c = λ values others is same. c.without.ensures values others (subst (λ o. IfSome o (AreFound values)) c.in-Some.is is) same
+returns c =
+    λ values others is same. c.without.ensures values others (subst (λ o. IfSome o (AreFound values)) c.in-Some.is is)
+    same

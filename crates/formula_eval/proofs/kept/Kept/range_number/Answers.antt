@@ -8,10 +8,12 @@ pub returns-clause-number : goal.returns-clause-number
 returns-clause-number g c =
     let values = (g.K.Look.sight c.args.look.now).values in
     let total : IsTotal c.add_rest.new.total (items_in values (cells_of c.args.span)) =
-    c.add_rest.ensures c.if-not-add_rest.false (c.begun-rows.ensures.total values (c.findings-findings.ensures values c.requires)) in
+    c.add_rest.ensures c.if-not-add_rest.false
+    (c.begun-rows.ensures.total values (c.findings-findings.ensures values c.requires)) in
     found_by c.args.function c.add_rest.new.total c.number_for.result values c.args.span total c.number_for.ensures
 
 pub returns-clause-kept : goal.returns-clause-kept
 returns-clause-kept g c =
     let values = (g.K.Look.sight c.args.look.now).values in
-    c.keep.ensures values (c.findings-findings.ensures values c.requires) (c.add_rest.ensures c.if-not-add_rest.false (c.begun-rows.ensures.total values (c.findings-findings.ensures values c.requires)))
+    c.keep.ensures values (c.findings-findings.ensures values c.requires) (c.add_rest.ensures c.if-not-add_rest.false
+    (c.begun-rows.ensures.total values (c.findings-findings.ensures values c.requires)))
