@@ -7,4 +7,5 @@ use Rattle.macro_text.proofs.arguments.nameless_formula.Goals as goal
 pub returns-in-Ok : goal.returns-in-Ok
 returns-in-Ok c =
     nameless c.args.cell c.args.text.now c.in-Ok.formula
-    (subst (λ (n : NameMap). reading n c.args.cell c.args.text.now ≡ Ok c.in-Ok.formula) c.new-names.ensures c.in-Ok.ensures.found)
+    (subst (λ (n : NameMap). reading n c.args.cell c.args.text.now ≡ Ok c.in-Ok.formula) c.new-names.ensures
+    c.in-Ok.ensures.found)

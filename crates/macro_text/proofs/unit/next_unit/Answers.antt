@@ -10,13 +10,17 @@ pub returns-in-Now : goal.returns-in-Now
 returns-in-Now g c =
     let w = outlook_of (g.K.Look.sight c.args.look.now) c.args.scene.now in
     let left : 0 < 241 - c.loop-turn.turn = omega (arith, c.loop-turn-test.true) in
-    sym (within_now (241 - c.loop-turn.turn) w c.loop-turn.place c.in-Now.unit c.in-Now.next left (sym c.in_ok-unit.ensures ∙ c.in-Now.is)) ∙ c.loop-turn.invariant
+    sym (within_now (241 - c.loop-turn.turn) w c.loop-turn.place c.in-Now.unit c.in-Now.next left
+    (sym c.in_ok-unit.ensures ∙ c.in-Now.is))
+    ∙ c.loop-turn.invariant
 
 pub loop-turn-preserved : goal.loop-turn-preserved
 loop-turn-preserved g c =
     let w = outlook_of (g.K.Look.sight c.args.look.now) c.args.scene.now in
     let left : 241 - c.loop-turn.turn ≡ suc (241 - (c.loop-turn.turn + 1)) = omega (arith, c.loop-turn-test.true) in
-    sym (within_passed (241 - c.loop-turn.turn) (241 - (c.loop-turn.turn + 1)) w c.loop-turn.place c.in-Passed.next left (sym c.in_ok-unit.ensures ∙ c.in-Passed.is)) ∙ c.loop-turn.invariant
+    sym (within_passed (241 - c.loop-turn.turn) (241 - (c.loop-turn.turn + 1)) w c.loop-turn.place c.in-Passed.next left
+    (sym c.in_ok-unit.ensures ∙ c.in-Passed.is))
+    ∙ c.loop-turn.invariant
 
 pub returns : goal.returns
 returns g c =

@@ -6,10 +6,14 @@ use Rattle.macro_text.proofs.kept.KeptWords.keep.Goals as goal
 
 pub invariant_of-self : goal.invariant_of-self
 invariant_of-self c =
-    kept_more c.self.inside.text c.self.inside.words.items c.push.new.self.items (record { at = c.args.at; word = c.args.word.now; end = c.args.end; args = c.args.args }) (is_ok c.push.result) c.push.ensures.items
-    (ap (λ t. unit_at t c.args.at) c.self.view_is ∙ c.requires.word) (c.requires.args ∙ sym (ap (λ t. arguments_in t c.args.word.now) c.self.view_is)) c.self.invariant
+    kept_more c.self.inside.text c.self.inside.words.items c.push.new.self.items
+    (record { at = c.args.at; word = c.args.word.now; end = c.args.end; args = c.args.args }) (is_ok c.push.result)
+    c.push.ensures.items (ap (λ t. unit_at t c.args.at) c.self.view_is ∙ c.requires.word)
+    (c.requires.args ∙ sym (ap (λ t. arguments_in t c.args.word.now) c.self.view_is)) c.self.invariant
 
 pub invariant_of-self-2 : goal.invariant_of-self-2
 invariant_of-self-2 c =
-    kept_more c.self.inside.text c.self.inside.words.items c.push.new.self.items (record { at = c.args.at; word = c.args.word.now; end = c.args.end; args = c.args.args }) (is_ok c.push.result) c.push.ensures.items
-    (ap (λ t. unit_at t c.args.at) c.self.view_is ∙ c.requires.word) (c.requires.args ∙ sym (ap (λ t. arguments_in t c.args.word.now) c.self.view_is)) c.self.invariant
+    kept_more c.self.inside.text c.self.inside.words.items c.push.new.self.items
+    (record { at = c.args.at; word = c.args.word.now; end = c.args.end; args = c.args.args }) (is_ok c.push.result)
+    c.push.ensures.items (ap (λ t. unit_at t c.args.at) c.self.view_is ∙ c.requires.word)
+    (c.requires.args ∙ sym (ap (λ t. arguments_in t c.args.word.now) c.self.view_is)) c.self.invariant
