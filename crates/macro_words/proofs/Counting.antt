@@ -7,14 +7,17 @@ use Rattle.macro_words.specs.Items.{begins_with, chosen_from, item_text, items_f
 
 module _ (s : Sight) (first : Place) where
   -- an item stands at a place, and is counted
-  pub one_item : (n more k : ℕ) → more ≡ suc k → is_some (item_text s first n) ≡ true → items_from s first n more ≡ items_from s first (n + 1) k
+  pub one_item : (n more k : ℕ) → more ≡ suc k → is_some (item_text s first n) ≡ true
+      → items_from s first n more ≡ items_from s first (n + 1) k
   unfolding items_from
-  one_item n more k left is = ap (items_from s first n) left ∙ ap (λ (b : Bool). if b then items_from s first (n + 1) k else n) is
+  one_item n more k left is =
+      ap (items_from s first n) left ∙ ap (λ (b : Bool). if b then items_from s first (n + 1) k else n) is
 
   -- none stands there
   pub no_item : (n more k : ℕ) → more ≡ suc k → is_some (item_text s first n) ≡ false → items_from s first n more ≡ n
   unfolding items_from
-  no_item n more k left is = ap (items_from s first n) left ∙ ap (λ (b : Bool). if b then items_from s first (n + 1) k else n) is
+  no_item n more k left is =
+      ap (items_from s first n) left ∙ ap (λ (b : Bool). if b then items_from s first (n + 1) k else n) is
 
   -- there may be no more
   pub last_item : (n more : ℕ) → more ≡ 0 → items_from s first n more ≡ n
@@ -22,14 +25,18 @@ module _ (s : Sight) (first : Place) where
   last_item n more left = ap (items_from s first n) left
 
   -- an item begins with the byte
-  pub chosen_here : (b n more k : ℕ) → more ≡ suc k → begins_with b (item_text s first n) ≡ true → chosen_from s first b n more ≡ Some n
+  pub chosen_here : (b n more k : ℕ) → more ≡ suc k → begins_with b (item_text s first n) ≡ true
+      → chosen_from s first b n more ≡ Some n
   unfolding chosen_from
-  chosen_here b n more k left is = ap (chosen_from s first b n) left ∙ ap (λ (t : Bool). if t then Some n else chosen_from s first b (n + 1) k) is
+  chosen_here b n more k left is =
+      ap (chosen_from s first b n) left ∙ ap (λ (t : Bool). if t then Some n else chosen_from s first b (n + 1) k) is
 
   -- it doesn't
-  pub chosen_later : (b n more k : ℕ) → more ≡ suc k → begins_with b (item_text s first n) ≡ false → chosen_from s first b n more ≡ chosen_from s first b (n + 1) k
+  pub chosen_later : (b n more k : ℕ) → more ≡ suc k → begins_with b (item_text s first n) ≡ false
+      → chosen_from s first b n more ≡ chosen_from s first b (n + 1) k
   unfolding chosen_from
-  chosen_later b n more k left is = ap (chosen_from s first b n) left ∙ ap (λ (t : Bool). if t then Some n else chosen_from s first b (n + 1) k) is
+  chosen_later b n more k left is =
+      ap (chosen_from s first b n) left ∙ ap (λ (t : Bool). if t then Some n else chosen_from s first b (n + 1) k) is
 
   -- none is left
   pub none_chosen : (b n more : ℕ) → more ≡ 0 → chosen_from s first b n more ≡ None

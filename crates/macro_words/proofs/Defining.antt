@@ -25,18 +25,25 @@ pub joined_nothing : (more : Option (List Write)) → joined [] more ≡ more
 joined_nothing None = refl
 joined_nothing (Some ws) = refl
 
-joined_by : (ws : List Write) (e : Write) (more : Option (List Write)) → joined ws (in_front (Some e) more) ≡ joined (ws ++ e ∷ []) more
+joined_by : (ws : List Write) (e : Write) (more : Option (List Write))
+    → joined ws (in_front (Some e) more) ≡ joined (ws ++ e ∷ []) more
 joined_by ws e None = refl
 joined_by ws e (Some more) = ap (λ (l : List Write). Some l) (sym (append_assoc ws (e ∷ []) more))
 
 -- one more cell takes one more argument
-pub joined_more : (w : Outlook) (at : Place) (ws new : List Write) (e : Write) (t g : List ℕ) (ts gs : List (List ℕ)) (all : Option (List Write)) → Some e ≡ defined w at t g → new ≡ ws ++ e ∷ [] → joined ws (defined_all w at (t ∷ ts) (g ∷ gs)) ≡ all → joined new (defined_all w at ts gs) ≡ all
+pub joined_more : (w : Outlook) (at : Place) (ws new : List Write) (e : Write) (t g : List ℕ) (ts gs : List (List ℕ))
+    (all : Option (List Write)) → Some e ≡ defined w at t g → new ≡ ws ++ e ∷ []
+    → joined ws (defined_all w at (t ∷ ts) (g ∷ gs)) ≡ all → joined new (defined_all w at ts gs) ≡ all
 joined_more w at ws new e t g ts gs all is more so_far =
-    ap (λ (l : List Write). joined l (defined_all w at ts gs)) more ∙ sym (joined_by ws e (defined_all w at ts gs)) ∙ ap (λ (d : Option Write). joined ws (in_front d (defined_all w at ts gs))) is ∙ so_far
+    ap (λ (l : List Write). joined l (defined_all w at ts gs)) more ∙ sym (joined_by ws e (defined_all w at ts gs))
+    ∙ ap (λ (d : Option Write). joined ws (in_front d (defined_all w at ts gs))) is ∙ so_far
 
 -- an argument that a cell can't take
-pub joined_none : (w : Outlook) (at : Place) (ws : List Write) (t g : List ℕ) (ts gs : List (List ℕ)) (all : Option (List Write)) → None ≡ defined w at t g → joined ws (defined_all w at (t ∷ ts) (g ∷ gs)) ≡ all → None ≡ all
-joined_none w at ws t g ts gs all is so_far = ap (λ (d : Option Write). joined ws (in_front d (defined_all w at ts gs))) is ∙ so_far
+pub joined_none : (w : Outlook) (at : Place) (ws : List Write) (t g : List ℕ) (ts gs : List (List ℕ))
+    (all : Option (List Write)) → None ≡ defined w at t g → joined ws (defined_all w at (t ∷ ts) (g ∷ gs)) ≡ all
+    → None ≡ all
+joined_none w at ws t g ts gs all is so_far =
+    ap (λ (d : Option Write). joined ws (in_front d (defined_all w at ts gs))) is ∙ so_far
 
 -- no argument is left
 pub joined_end : (ws : List Write) (all : Option (List Write)) → joined ws (Some []) ≡ all → Some ws ≡ all

@@ -9,11 +9,16 @@ use Rattle.shown_cells.specs.Cells.{padded, shown_byte}
 use Rattle.shown_cells.proofs.Bytes.{shown_least}
 
 -- a text is cut, and filled with blanks
-pub text_padded : (text : List ℕ) (width shown : ℕ) → shown ≡ min width (length text) → ([] ++ take shown text) ++ replicate (width - shown) 32 ≡ padded width text
+pub text_padded : (text : List ℕ) (width shown : ℕ) → shown ≡ min width (length text)
+    → ([] ++ take shown text) ++ replicate (width - shown) 32 ≡ padded width text
 text_padded text width shown is =
     let blanks : width - shown ≡ width - length text = omega arith in
-    ap (λ (l : List ℕ). l ++ replicate (width - shown) 32) (ap (λ (k : ℕ). take k text) is ∙ take_min width text) ∙ ap (λ (k : ℕ). take width text ++ replicate k 32) blanks
+    ap (λ (l : List ℕ). l ++ replicate (width - shown) 32) (ap (λ (k : ℕ). take k text) is ∙ take_min width text)
+    ∙ ap (λ (k : ℕ). take width text ++ replicate k 32) blanks
 
 -- bytes as they are shown are a text
 pub shown_is_text : (bytes : List ℕ) → length bytes ≤ 240 → IsText (map shown_byte bytes)
-shown_is_text bytes short = (omega (arith, short, length-map bytes shown_byte), All-map (λ b. 32 ≤ b) shown_byte bytes (λ k d inside. shown_least (slice_index_or bytes k d)))
+shown_is_text bytes short = (
+  omega (arith, short, length-map bytes shown_byte),
+  All-map (λ b. 32 ≤ b) shown_byte bytes (λ k d inside. shown_least (slice_index_or bytes k d)),
+)

@@ -10,7 +10,8 @@ returns-then-item_begins g c =
     let more : ℕ = c.args.menu.now.count - n in
     let rest : ℕ = c.args.menu.now.count - (n + 1) in
     let left : more ≡ suc rest = omega (arith, c.loop-place-test.true) in
-    sym (chosen_here s first c.args.byte n more rest left (sym c.item_begins.ensures ∙ c.if-item_begins.true)) ∙ c.loop-place.invariant
+    sym (chosen_here s first c.args.byte n more rest left (sym c.item_begins.ensures ∙ c.if-item_begins.true))
+    ∙ c.loop-place.invariant
 
 pub loop-place-preserved : goal.loop-place-preserved
 loop-place-preserved g c =
@@ -20,7 +21,8 @@ loop-place-preserved g c =
     let more : ℕ = c.args.menu.now.count - n in
     let rest : ℕ = c.args.menu.now.count - (n + 1) in
     let left : more ≡ suc rest = omega (arith, c.loop-place-test.true) in
-    sym (chosen_later s first c.args.byte n more rest left (sym c.item_begins.ensures ∙ c.if-item_begins.false)) ∙ c.loop-place.invariant
+    sym (chosen_later s first c.args.byte n more rest left (sym c.item_begins.ensures ∙ c.if-item_begins.false))
+    ∙ c.loop-place.invariant
 
 pub returns : goal.returns
 returns g c =
