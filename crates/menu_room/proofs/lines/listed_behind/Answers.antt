@@ -13,6 +13,6 @@ loop-place-preserved c =
     let item : Item = item.Menu menu.Main in
     let others : List Item = c.args.others.now in
     let named : c.name-in-loop-place.result.now ≡ item_name (get_or others c.loop-place.place item) = search rules in
-    one_set_off item_name 240 c.loop-place.place others item (item_name c.args.first) c.loop-place.line c.put_set_off.new.line
-    c.loop-place-test.true c.loop-place.invariant
+    one_set_off item_name 240 c.loop-place.place others item (item_name c.args.first) c.loop-place.line
+    c.put_set_off.new.line c.loop-place-test.true c.loop-place.invariant
     (c.put_set_off.ensures ∙ ap (λ (n : List ℕ). take 240 (c.loop-place.line ++ (codes "  " ++ n))) named)
