@@ -15,10 +15,14 @@ walk-requires-clause-known g c = ap (has same_place (g.G.Precedents.all c.args.g
 
 pub loop-root-preserved : goal.loop-root-preserved
 loop-root-preserved g c =
-    let f : Walked Place → Place → Walked Place = walk same_place (g.G.Precedents.pre c.args.graph.now) (fuel (g.G.Precedents.all c.args.graph.now)) [] in
+    let f : Walked Place → Place → Walked Place =
+    walk same_place (g.G.Precedents.pre c.args.graph.now) (fuel (g.G.Precedents.all c.args.graph.now)) [] in
     record {
-      rest = ap (λ (s : Walked Place). fold f s (drop (c.loop-root.root-index + 1) c.args.roots.now)) c.in_ok-walk.ensures.walked
-          ∙ walked_more f (walked c.loop-root.walker.done c.loop-root.walker.circular) c.args.roots.now c.loop-root.root-index c.root-item.result c.loop-root-test.true c.root-item.is
+      rest =
+          ap (λ (s : Walked Place). fold f s (drop (c.loop-root.root-index + 1) c.args.roots.now))
+          c.in_ok-walk.ensures.walked
+          ∙ walked_more f (walked c.loop-root.walker.done c.loop-root.walker.circular) c.args.roots.now
+          c.loop-root.root-index c.root-item.result c.loop-root-test.true c.root-item.is
           ∙ c.loop-root.invariant.rest;
       path = c.in_ok-walk.ensures.clear;
       stack = c.in_ok-walk.ensures.idle;
@@ -26,5 +30,8 @@ loop-root-preserved g c =
 
 pub returns-clause-order : goal.returns-clause-order
 returns-clause-order g c =
-    let f : Walked Place → Place → Walked Place = walk same_place (g.G.Precedents.pre c.args.graph.now) (fuel (g.G.Precedents.all c.args.graph.now)) [] in
-    ap (fold f (walked c.loop-root.walker.done c.loop-root.walker.circular)) (sym (drop_of_length-le c.args.roots.now c.loop-root-test.false)) ∙ c.loop-root.invariant.rest
+    let f : Walked Place → Place → Walked Place =
+    walk same_place (g.G.Precedents.pre c.args.graph.now) (fuel (g.G.Precedents.all c.args.graph.now)) [] in
+    ap (fold f (walked c.loop-root.walker.done c.loop-root.walker.circular))
+    (sym (drop_of_length-le c.args.roots.now c.loop-root-test.false))
+    ∙ c.loop-root.invariant.rest

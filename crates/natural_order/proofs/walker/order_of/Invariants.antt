@@ -10,7 +10,9 @@ invariant-loop-root g l =
     let pre = g.G.Precedents.pre l.graph in
     let all = g.G.Precedents.all l.graph in
     record {
-      rest : fold (walk same_place pre (fuel all) []) (walked l.walker.done l.walker.circular) (drop l.root-index l.roots) ≡ order same_place pre (fuel all) l.roots;
+      rest : fold (walk same_place pre (fuel all) []) (walked l.walker.done l.walker.circular)
+          (drop l.root-index l.roots)
+          ≡ order same_place pre (fuel all) l.roots;
       path : l.walker.path.keys ≡ [];
       stack : l.walker.stack.items ≡ [];
     }
