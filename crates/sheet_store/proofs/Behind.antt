@@ -15,7 +15,9 @@ use Rattle.sheet_store.proofs.Grids.{first_found, found_later}
 use Rattle.sheet_store.proofs.Scans.{behind, next_here, none_here}
 
 -- two tests that agree on the keys leave the same
-filter_agrees : (p q : Place → Bool) (es : List (Place × CellState)) → ((c : Place) (s : CellState) → find place_cmp c es ≡ Some s → p c ≡ q c) → filter (λ e. p e.0) es ≡ filter (λ e. q e.0) es
+filter_agrees : (p q : Place → Bool) (es : List (Place × CellState))
+    → ((c : Place) (s : CellState) → find place_cmp c es ≡ Some s → p c ≡ q c)
+    → filter (λ e. p e.0) es ≡ filter (λ e. q e.0) es
 filter_agrees p q [] h = refl
 filter_agrees p q (e ∷ es) h =
     ap (λ b. cond b (e ∷ filter (λ e. p e.0) es) (filter (λ e. p e.0) es)) (h e.0 e.1 (first_found e es))
@@ -30,16 +32,25 @@ all_left [] = refl
 all_left (e ∷ es) = ap (λ l. e ∷ l) (all_left es)
 
 module _ (m : Cells) (held : AreHeld m) where
-  agrees_inside : (p q : Place → Bool) → ((c : Place) → InSheet c → p c ≡ q c) → filter (λ e. p e.0) (entries m) ≡ filter (λ e. q e.0) (entries m)
+  agrees_inside : (p q : Place → Bool) → ((c : Place) → InSheet c → p c ≡ q c)
+      → filter (λ e. p e.0) (entries m) ≡ filter (λ e. q e.0) (entries m)
   agrees_inside p q h = filter_agrees p q (entries m) (λ c s k. h c (held c s (get-entries m c ∙ k)).inside)
 
   -- the same of a next one behind which nothing is left out
-  pub left_past : (c : Place) (next : Option Place) → IfSome next (λ d. NextHeld m c d) → IfNone next (NoneHeldBehind m c) → entries_behind c (entries m) ≡ left_from next (entries m)
-  left_past c None some none = filter_agrees (λ p. is_lt (place_cmp c p)) (λ p. false) (entries m) (λ p s k. none p s (held p s (get-entries m p ∙ k)).inside (get-entries m p ∙ k)) ∙ none_left (entries m)
-  left_past c (Some d) some none = filter_agrees (λ p. is_lt (place_cmp c p)) (λ p. is_le (place_cmp d p)) (entries m) (λ p s k. some p s (held p s (get-entries m p ∙ k)).inside (get-entries m p ∙ k))
+  pub left_past : (c : Place) (next : Option Place) → IfSome next (λ d. NextHeld m c d)
+      → IfNone next (NoneHeldBehind m c) → entries_behind c (entries m) ≡ left_from next (entries m)
+  left_past c None some none =
+      filter_agrees (λ p. is_lt (place_cmp c p)) (λ p. false) (entries m)
+      (λ p s k. none p s (held p s (get-entries m p ∙ k)).inside (get-entries m p ∙ k))
+      ∙ none_left (entries m)
+  left_past c (Some d) some none =
+      filter_agrees (λ p. is_lt (place_cmp c p)) (λ p. is_le (place_cmp d p)) (entries m)
+      (λ p s k. some p s (held p s (get-entries m p ∙ k)).inside (get-entries m p ∙ k))
 
   -- what stands behind a place is what is left from the next one on
-  pub left_next : (c : Place) (next : Option Place) → IfSome next (λ d. (p : Place) → InSheet p → is_lt (place_cmp c p) ≡ is_le (place_cmp d p)) → IfNone next ((p : Place) → InSheet p → is_lt (place_cmp c p) ≡ false)
+  pub left_next : (c : Place) (next : Option Place)
+      → IfSome next (λ d. (p : Place) → InSheet p → is_lt (place_cmp c p) ≡ is_le (place_cmp d p))
+      → IfNone next ((p : Place) → InSheet p → is_lt (place_cmp c p) ≡ false)
       → entries_behind c (entries m) ≡ left_from next (entries m)
   left_next c None some none = agrees_inside (λ p. is_lt (place_cmp c p)) (λ p. false) none ∙ none_left (entries m)
   left_next c (Some d) some none = agrees_inside (λ p. is_lt (place_cmp c p)) (λ p. is_le (place_cmp d p)) some
@@ -49,12 +60,16 @@ module _ (m : Cells) (held : AreHeld m) where
 
   -- from the first place on, all is left
   pub all_from_first : left_from (Some (record { row = 0; col = 0 })) (entries m) ≡ entries m
-  all_from_first = agrees_inside (λ p. is_le (place_cmp (record { row = 0; col = 0 }) p)) (λ p. true) (λ p i. first_le p) ∙ all_left (entries m)
+  all_from_first =
+      agrees_inside (λ p. is_le (place_cmp (record { row = 0; col = 0 }) p)) (λ p. true) (λ p i. first_le p)
+      ∙ all_left (entries m)
 
   -- a place that has a state comes next
-  pub left_here : (c : Place) (s : CellState) → get m c ≡ Some s → entries_from c (entries m) ≡ (c, s) ∷ entries_behind c (entries m)
+  pub left_here : (c : Place) (s : CellState) → get m c ≡ Some s
+      → entries_from c (entries m) ≡ (c, s) ∷ entries_behind c (entries m)
   unfolding behind
-  left_here c s h = next_here c s (entries m) (in_order cells_total (entries m) (entries_sorted m)) (sym (get-entries m c) ∙ h)
+  left_here c s h =
+      next_here c s (entries m) (in_order cells_total (entries m) (entries_sorted m)) (sym (get-entries m c) ∙ h)
 
   -- a place that has none is passed over
   pub left_over_none : (c : Place) → get m c ≡ None → entries_from c (entries m) ≡ entries_behind c (entries m)

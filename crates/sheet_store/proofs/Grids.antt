@@ -16,7 +16,8 @@ pub first_found : (e : Place × CellState) (es : List (Place × CellState)) → 
 first_found e es = ap (λ b. cond b (Some e.1) (find place_cmp e.0 es)) (place_tied e.0 e.0 ∙ same_place_itself e.0)
 
 -- what is found in the rest is found, perhaps with another state
-pub found_later : (e : Place × CellState) (es : List (Place × CellState)) (p : Place) (s : CellState) → find place_cmp p es ≡ Some s → (t : CellState) × (find place_cmp p (e ∷ es) ≡ Some t)
+pub found_later : (e : Place × CellState) (es : List (Place × CellState)) (p : Place) (s : CellState)
+    → find place_cmp p es ≡ Some s → (t : CellState) × (find place_cmp p (e ∷ es) ≡ Some t)
 found_later e es p s h = elim (cases_Bool (eq_by_cmp place_cmp p e.0)) [
   | inl t ↦ (e.1, ap (λ b. cond b (Some e.1) (find place_cmp p es)) t)
   | inr f ↦ (s, ap (λ b. cond b (Some e.1) (find place_cmp p es)) f ∙ h)
@@ -25,11 +26,14 @@ found_later e es p s h = elim (cases_Bool (eq_by_cmp place_cmp p e.0)) [
 in_whole : (p : Place) → InSheet p → is_within whole p ≡ true
 in_whole p h = search rules
 
-whole_among : (es : List (Place × CellState)) → ((p : Place) (s : CellState) → find place_cmp p es ≡ Some s → InSheet p) → picked holds_formula whole es ≡ formulas_among es
+whole_among : (es : List (Place × CellState)) → ((p : Place) (s : CellState) → find place_cmp p es ≡ Some s → InSheet p)
+    → picked holds_formula whole es ≡ formulas_among es
 whole_among [] h = refl
 whole_among (e ∷ es) h =
-    ap (λ b. cond (b && holds_formula e.1) (e.0 ∷ picked holds_formula whole es) (picked holds_formula whole es)) (in_whole e.0 (h e.0 e.1 (first_found e es)))
-    ∙ ap (λ l. cond (is_formula e.1.content) (e.0 ∷ l) l) (whole_among es (λ p s k. (let t = found_later e es p s k in h p t.0 t.1)))
+    ap (λ b. cond (b && holds_formula e.1) (e.0 ∷ picked holds_formula whole es) (picked holds_formula whole es))
+    (in_whole e.0 (h e.0 e.1 (first_found e es)))
+    ∙ ap (λ l. cond (is_formula e.1.content) (e.0 ∷ l) l)
+    (whole_among es (λ p s k. (let t = found_later e es p s k in h p t.0 t.1)))
 
 -- the formulas of the whole sheet are all formulas
 pub formulas_whole : (m : Cells) → AreHeld m → picked holds_formula whole (entries m) ≡ formulas_among (entries m)
@@ -40,7 +44,8 @@ most : (Place → ℕ) → ℕ → List (Place × CellState) → ℕ
 most f n [] = n
 most f n (e ∷ es) = most f (max n (f e.0)) es
 
-last_is : (q : Place) (es : List (Place × CellState)) → last_among (Some q) es ≡ Some (record { row = most (λ p. p.row) q.row es; col = most (λ p. p.col) q.col es })
+last_is : (q : Place) (es : List (Place × CellState))
+    → last_among (Some q) es ≡ Some (record { row = most (λ p. p.row) q.row es; col = most (λ p. p.col) q.col es })
 unfolding most
 last_is q [] = refl
 last_is q (e ∷ es) = last_is (record { row = max q.row e.0.row; col = max q.col e.0.col }) es
@@ -51,7 +56,8 @@ module _ (f : Place → ℕ) where
   at_least n [] = omega arith
   at_least n (e ∷ es) = let k = at_least (max n (f e.0)) es in omega (arith, k)
 
-  no_less : (n : ℕ) (es : List (Place × CellState)) (p : Place) (s : CellState) → find place_cmp p es ≡ Some s → f p ≤ most f n es
+  no_less : (n : ℕ) (es : List (Place × CellState)) (p : Place) (s : CellState) → find place_cmp p es ≡ Some s
+      → f p ≤ most f n es
   unfolding most
   no_less n [] p s h = absurd cc
   no_less n (e ∷ es) p s h = elim (cases_Bool (eq_by_cmp place_cmp p e.0)) [
@@ -63,13 +69,20 @@ module _ (f : Place → ℕ) where
   ]
 
   -- it is the first number, or a cell's
-  reached : (n : ℕ) (es : List (Place × CellState)) (bound : ℕ) → n ≤ bound → ((p : Place) (s : CellState) → find place_cmp p es ≡ Some s → f p ≤ bound) → most f n es ≤ bound
+  reached : (n : ℕ) (es : List (Place × CellState)) (bound : ℕ) → n ≤ bound
+      → ((p : Place) (s : CellState) → find place_cmp p es ≡ Some s → f p ≤ bound) → most f n es ≤ bound
   unfolding most
   reached n [] bound h k = h
-  reached n (e ∷ es) bound h k = let here = k e.0 e.1 (first_found e es) in reached (max n (f e.0)) es bound (omega (arith, h, here)) (λ p s g. (let t = found_later e es p s g in k p t.0 t.1))
+  reached n (e ∷ es) bound h k =
+      let here = k e.0 e.1 (first_found e es) in
+      reached (max n (f e.0)) es bound (omega (arith, h, here))
+      (λ p s g. (let t = found_later e es p s g in k p t.0 t.1))
 
-  below : (es fs : List (Place × CellState)) (e g : Place × CellState) → ((p : Place) → find place_cmp p (e ∷ es) ≡ find place_cmp p (g ∷ fs)) → most f (f e.0) es ≤ most f (f g.0) fs
-  below es fs e g same = reached (f e.0) es (most f (f g.0) fs) (member e.0 e.1 (first_found e es)) (λ p s h. (let t = found_later e es p s h in member p t.0 t.1))
+  below : (es fs : List (Place × CellState)) (e g : Place × CellState)
+      → ((p : Place) → find place_cmp p (e ∷ es) ≡ find place_cmp p (g ∷ fs)) → most f (f e.0) es ≤ most f (f g.0) fs
+  below es fs e g same =
+      reached (f e.0) es (most f (f g.0) fs) (member e.0 e.1 (first_found e es))
+      (λ p s h. (let t = found_later e es p s h in member p t.0 t.1))
     where
       member : (p : Place) (s : CellState) → find place_cmp p (e ∷ es) ≡ Some s → f p ≤ most f (f g.0) fs
       member p s h = elim (cases_Bool (eq_by_cmp place_cmp p g.0)) [
@@ -81,7 +94,8 @@ module _ (f : Place → ℕ) where
       ]
 
 -- it is the same in any order
-last_same : (es fs : List (Place × CellState)) → ((p : Place) → find place_cmp p es ≡ find place_cmp p fs) → last_among None es ≡ last_among None fs
+last_same : (es fs : List (Place × CellState)) → ((p : Place) → find place_cmp p es ≡ find place_cmp p fs)
+    → last_among None es ≡ last_among None fs
 last_same [] [] h = refl
 last_same [] (g ∷ fs) h = absurd (none_some g.1 (h g.0 ∙ first_found g fs))
   where
@@ -102,5 +116,8 @@ last_same (e ∷ es) (g ∷ fs) h =
     last_is e.0 es ∙ (λ i. Some (record { row = r i; col = s i })) ∙ sym (last_is g.0 fs)
 
 -- among the held cells, and among the map's entries
-pub last_held : (hs : List (Held CellState)) (m : Cells) → from_entries (filled hs) ≡ m → last_among None (filled hs) ≡ last_among None (entries m)
-last_held hs m e = last_same (filled hs) (entries m) (λ p. sym (get-from_entries cells_total (filled hs) p) ∙ ap (λ m. get m p) e ∙ get-entries m p)
+pub last_held : (hs : List (Held CellState)) (m : Cells) → from_entries (filled hs) ≡ m
+    → last_among None (filled hs) ≡ last_among None (entries m)
+last_held hs m e =
+    last_same (filled hs) (entries m)
+    (λ p. sym (get-from_entries cells_total (filled hs) p) ∙ ap (λ m. get m p) e ∙ get-entries m p)

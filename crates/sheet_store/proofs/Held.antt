@@ -11,7 +11,8 @@ use Rattle.formula_tree.specs.declared.value.Content.TheVariants as content
 use Rattle.formula_tree.specs.declared.value.Value.{Value}
 use Rattle.formula_tree.specs.declared.value.Value.TheVariants as value
 use Rattle.grid_address.specs.declared.format.Format.{Format}
-use Rattle.sheet_store.specs.Grid.{blank_state, formatted, is_blank, is_formula, is_kept, AreHeld, Cells, Fits, IsHeld, IsSound}
+use Rattle.sheet_store.specs.Grid.{blank_state, formatted, is_blank, is_formula, is_kept, AreHeld, Cells, Fits, IsHeld}
+use Rattle.sheet_store.specs.Grid.{IsSound}
 use Rattle.sheet_store.specs.State.{CellState}
 use Rattle.grid_address.proofs.Places.{cells_exact, cells_total}
 
@@ -32,19 +33,24 @@ same_some x y h = cc
 pub empty_held : AreHeld empty
 empty_held p s h = absurd (none_some s (sym (get-empty place_cmp p) ∙ h))
 
-put_held : (b : Bool) (p c : Place) (s found : CellState) (old : Option CellState) → (b ≡ true → p ≡ c) → IsHeld c s → (old ≡ Some found → IsHeld p found) → cond b (Some s) old ≡ Some found → IsHeld p found
-put_held true p c s found old same here before h = subst (λ x. IsHeld p x) (same_some s found h) (subst (λ q. IsHeld q s) (sym (same refl)) here)
+put_held : (b : Bool) (p c : Place) (s found : CellState) (old : Option CellState) → (b ≡ true → p ≡ c) → IsHeld c s
+    → (old ≡ Some found → IsHeld p found) → cond b (Some s) old ≡ Some found → IsHeld p found
+put_held true p c s found old same here before h =
+    subst (λ x. IsHeld p x) (same_some s found h) (subst (λ q. IsHeld q s) (sym (same refl)) here)
 put_held false p c s found old same here before h = before h
 
 pub inserted_held : (m : Cells) (c : Place) (s : CellState) → IsHeld c s → AreHeld m → AreHeld (insert m c s)
-inserted_held m c s here held p found h = put_held (eq_by_cmp place_cmp p c) p c s found (get m p) (tied p c) here (held p found) (sym (get-insert cells_total m c s p) ∙ h)
+inserted_held m c s here held p found h =
+    put_held (eq_by_cmp place_cmp p c) p c s found (get m p) (tied p c) here (held p found)
+    (sym (get-insert cells_total m c s p) ∙ h)
 
 left_over : (b : Bool) (found : CellState) (old : Option CellState) → cond b None old ≡ Some found → old ≡ Some found
 left_over true found old h = absurd (none_some found h)
 left_over false found old h = h
 
 pub removed_held : (m : Cells) (c : Place) → AreHeld m → AreHeld (remove m c)
-removed_held m c held p found h = held p found (left_over (eq_by_cmp place_cmp p c) found (get m p) (sym (get-remove cells_total m c p) ∙ h))
+removed_held m c held p found h =
+    held p found (left_over (eq_by_cmp place_cmp p c) found (get m p) (sym (get-remove cells_total m c p) ∙ h))
 
 -- a formula takes any value but a blank one
 formula_fits : (c : Content) (v : Value) → is_formula c ≡ true → (v ≡ value.Blank → ⊥) → Fits c v
@@ -53,25 +59,39 @@ formula_fits (content.Number x) v h some = absurd cc
 formula_fits (content.Label p t) v h some = absurd cc
 formula_fits (content.Formula f) v h some = some
 
-pub valued_held : (p : Place) (s : CellState) (v : Value) → IsHeld p s → is_formula s.content ≡ true → (v ≡ value.Blank → ⊥) → IsHeld p (record s { value = v })
-valued_held p s v here formula some = record { inside = here.inside; sound = formula_fits s.content v formula some; kept = here.kept }
+pub valued_held : (p : Place) (s : CellState) (v : Value) → IsHeld p s → is_formula s.content ≡ true
+    → (v ≡ value.Blank → ⊥) → IsHeld p (record s { value = v })
+valued_held p s v here formula some = record {
+  inside = here.inside;
+  sound = formula_fits s.content v formula some;
+  kept = here.kept;
+}
 
 -- a cell with a content is kept in any format
-pub format_written : (m : Cells) (c : Place) (s : CellState) (f : Format) → get m c ≡ Some s → is_blank s.content ≡ false →
-    insert m c (record s { format = f }) ≡ cond (is_kept (formatted (get m c) f)) (insert m c (formatted (get m c) f)) (remove m c)
+pub format_written : (m : Cells) (c : Place) (s : CellState) (f : Format) → get m c ≡ Some s
+    → is_blank s.content ≡ false
+    → insert m c (record s { format = f })
+    ≡ cond (is_kept (formatted (get m c) f)) (insert m c (formatted (get m c) f)) (remove m c)
 format_written m c s f found filled =
     sym (ap (λ o. cond (is_kept (formatted o f)) (insert m c (formatted o f)) (remove m c)) found
     ∙ ap (λ b. cond (cond b (not (nat_eq f.0 255)) true) (insert m c (record s { format = f })) (remove m c)) filled)
 
-pub formatted_held : (p : Place) (s : CellState) (f : Format) → IsHeld p s → is_blank s.content ≡ false → IsHeld p (record s { format = f })
-formatted_held p s f here filled = record { inside = here.inside; sound = here.sound; kept = ap (λ b. cond b (not (nat_eq f.0 255)) true) filled }
+pub formatted_held : (p : Place) (s : CellState) (f : Format) → IsHeld p s → is_blank s.content ≡ false
+    → IsHeld p (record s { format = f })
+formatted_held p s f here filled = record {
+  inside = here.inside;
+  sound = here.sound;
+  kept = ap (λ b. cond b (not (nat_eq f.0 255)) true) filled;
+}
 
 -- a cell without a content has a blank value
-blank_fits : (c : Content) (v : Value) (f : Format) → is_blank c ≡ true → Fits c v → ◌≡◌ {A = CellState} (record { content = c; value = v; format = f }) (blank_state f)
+blank_fits : (c : Content) (v : Value) (f : Format) → is_blank c ≡ true → Fits c v
+    → ◌≡◌ {A = CellState} (record { content = c; value = v; format = f }) (blank_state f)
 blank_fits content.Blank v f h fits = ap (λ x. record { content = content.Blank; value = x; format = f }) fits
 blank_fits (content.Number x) v f h fits = absurd cc
 blank_fits (content.Label p t) v f h fits = absurd cc
 blank_fits (content.Formula x) v f h fits = absurd cc
 
-pub blank_there : (s : CellState) (f : Format) → is_blank s.content ≡ true → IsSound s → formatted (Some s) f ≡ blank_state f
+pub blank_there : (s : CellState) (f : Format) → is_blank s.content ≡ true → IsSound s
+    → formatted (Some s) f ≡ blank_state f
 blank_there s f h sound = blank_fits s.content s.value f h sound

@@ -36,7 +36,8 @@ no_some : (s : CellState) → Some s ≡ None → ⊥
 no_some s h = absurd cc
 
 -- entries in order are apart
-ahead : (x : Place) (es : List (Place × CellState)) → AllByRecursion (λ y. place_cmp x y ≡ Less) (keys_of es) → find place_cmp x es ≡ None
+ahead : (x : Place) (es : List (Place × CellState)) → AllByRecursion (λ y. place_cmp x y ≡ Less) (keys_of es)
+    → find place_cmp x es ≡ None
 ahead x [] h = refl
 ahead x (e ∷ es) h = ap (λ o. cond (is_eq o) (Some e.1) (find place_cmp x es)) h.0 ∙ ahead x es h.1
 
@@ -48,33 +49,47 @@ ordered_apart (e ∷ es) h = (ahead e.0 es h.0, ordered_apart es h.1)
 -- those of held cells are, where each is held once
 pub filled_apart : (hs : List (Held CellState)) → AreOnce (cells_of hs) → AreApart (filled hs)
 filled_apart [] once = tt
-filled_apart (h ∷ hs) once = with (item_in h) (filled_apart hs (λ i j c a b. (let e : suc i ≡ suc j = once (suc i) (suc j) c a b in omega (arith, e))))
+filled_apart (h ∷ hs) once =
+    with (item_in h)
+    (filled_apart hs (λ i j c a b. (let e : suc i ≡ suc j = once (suc i) (suc j) c a b in omega (arith, e))))
   where
     with : (o : Option CellState) → AreApart (filled hs) → AreApart (with_item (cell_in h) o (filled hs))
     with None rest = rest
-    with (Some s) rest = (none_at (cell_in h) hs (λ i k. (let e : suc i ≡ 0 = once (suc i) 0 (cell_in h) k refl in absurd (omega (arith, e)))), rest)
+    with (Some s) rest = (
+      none_at (cell_in h) hs
+          (λ i k. (let e : suc i ≡ 0 = once (suc i) 0 (cell_in h) k refl in absurd (omega (arith, e)))),
+      rest,
+    )
 
 -- lists in row order with the same members are one
-pub same_members : (xs ys : List Place) → Ascends xs → Ascends ys → ((q : Place) → has same_place xs q ≡ has same_place ys q) → xs ≡ ys
-same_members xs ys a b h = btree_set_from_contains cells_total (record { keys = xs }) (record { keys = ys }) a b (λ q. tied q xs ∙ h q ∙ sym (tied q ys)) cells_exact
+pub same_members : (xs ys : List Place) → Ascends xs → Ascends ys
+    → ((q : Place) → has same_place xs q ≡ has same_place ys q) → xs ≡ ys
+same_members xs ys a b h =
+    btree_set_from_contains cells_total (record { keys = xs }) (record { keys = ys }) a b
+    (λ q. tied q xs ∙ h q ∙ sym (tied q ys)) cells_exact
   where
     tied : (q : Place) (zs : List Place) → list_any (is_at (place_cmp q)) zs ≡ has same_place zs q
     tied q [] = refl
-    tied q (z ∷ zs) = ap (λ b. b || list_any (is_at (place_cmp q)) zs) (place_tied q z) ∙ ap (λ b. same_place q z || b) (tied q zs)
+    tied q (z ∷ zs) =
+        ap (λ b. b || list_any (is_at (place_cmp q)) zs) (place_tied q z) ∙ ap (λ b. same_place q z || b) (tied q zs)
 
 -- where no place comes twice, none is dropped
 dedup_same : (k : Place) (xs : List Place) → IsDistinct same_place (k ∷ xs) → dedup_from same_place k xs ≡ k ∷ xs
 unfolding IsDistinct
 dedup_same k [] h = refl
-dedup_same k (x ∷ xs) h = ap (λ b. cond b (dedup_from same_place k xs) (k ∷ dedup_from same_place x xs)) (same_place_laws.symm x k ∙ h.0.0) ∙ ap (λ l. k ∷ l) (dedup_same x xs h.1)
+dedup_same k (x ∷ xs) h =
+    ap (λ b. cond b (dedup_from same_place k xs) (k ∷ dedup_from same_place x xs)) (same_place_laws.symm x k ∙ h.0.0)
+    ∙ ap (λ l. k ∷ l) (dedup_same x xs h.1)
 
 dedup_all : (xs : List Place) → IsDistinct same_place xs → dedup same_place xs ≡ xs
 dedup_all [] h = refl
 dedup_all (x ∷ xs) h = dedup_same x xs h
 
 -- distinct places, sorted
-pub sorted_ascends : (xs ys : List Place) → IsDistinct same_place xs → IsPermutation xs ys → IsSorted place_cmp ys → Ascends ys
-sorted_ascends xs ys d p s = subst Ascends (dedup_all ys (IsDistinct-IsPermutation same_place same_place_laws.symm xs ys p d))
+pub sorted_ascends : (xs ys : List Place) → IsDistinct same_place xs → IsPermutation xs ys → IsSorted place_cmp ys
+    → Ascends ys
+sorted_ascends xs ys d p s =
+    subst Ascends (dedup_all ys (IsDistinct-IsPermutation same_place same_place_laws.symm xs ys p d))
     (IsStrictlySortedBy-dedup cells_total {E = same_place} (λ x y. sym (place_tied x y)) ys s)
 
 others : (q : Place) (xs : List Place) → has same_place xs q ≡ false → AllByRecursion (λ y. same_place q y ≡ false) xs
@@ -91,30 +106,47 @@ module _ (test : CellState → Bool) (span : Extent) where
   is_picked q None = false
   is_picked q (Some s) = is_within span q && test s
 
-  picked_missed : (q : Place) (es : List (Place × CellState)) → find place_cmp q es ≡ None → has same_place (picked test span es) q ≡ false
+  picked_missed : (q : Place) (es : List (Place × CellState)) → find place_cmp q es ≡ None
+      → has same_place (picked test span es) q ≡ false
   picked_missed q [] h = refl
   picked_missed q (e ∷ es) h = elim (cases_Bool (same_place q e.0)) [
     | inl t ↦ absurd (no_some e.1 (sym (ap (λ b. cond b (Some e.1) (find place_cmp q es)) (place_tied q e.0 ∙ t)) ∙ h))
-    | inr f ↦ with f (is_within span e.0 && test e.1) (picked_missed q es (sym (ap (λ b. cond b (Some e.1) (find place_cmp q es)) (place_tied q e.0 ∙ f)) ∙ h))
+    | inr f ↦
+        with f (is_within span e.0 && test e.1)
+        (picked_missed q es (sym (ap (λ b. cond b (Some e.1) (find place_cmp q es)) (place_tied q e.0 ∙ f)) ∙ h))
   ]
     where
-      with : same_place q e.0 ≡ false → (b : Bool) → has same_place (picked test span es) q ≡ false → has same_place (cond b (e.0 ∷ picked test span es) (picked test span es)) q ≡ false
+      with : same_place q e.0 ≡ false → (b : Bool) → has same_place (picked test span es) q ≡ false
+          → has same_place (cond b (e.0 ∷ picked test span es) (picked test span es)) q ≡ false
       with f true k = ap (λ x. x || has same_place (picked test span es) q) f ∙ k
       with f false k = k
 
-  has_picked : (q : Place) (es : List (Place × CellState)) → AreApart es → has same_place (picked test span es) q ≡ is_picked q (find place_cmp q es)
+  has_picked : (q : Place) (es : List (Place × CellState)) → AreApart es
+      → has same_place (picked test span es) q ≡ is_picked q (find place_cmp q es)
   unfolding is_picked
   has_picked q [] h = refl
   has_picked q (e ∷ es) h = elim (cases_Bool (same_place q e.0)) [
-    | inl t ↦ here t (is_within span e.0 && test e.1) refl ∙ sym (ap (λ b. is_picked q (cond b (Some e.1) (find place_cmp q es))) (place_tied q e.0 ∙ t))
-    | inr f ↦ there f (is_within span e.0 && test e.1) (has_picked q es h.1) ∙ sym (ap (λ b. is_picked q (cond b (Some e.1) (find place_cmp q es))) (place_tied q e.0 ∙ f))
+    | inl t ↦
+        here t (is_within span e.0 && test e.1) refl
+        ∙ sym (ap (λ b. is_picked q (cond b (Some e.1) (find place_cmp q es))) (place_tied q e.0 ∙ t))
+    | inr f ↦
+        there f (is_within span e.0 && test e.1) (has_picked q es h.1)
+        ∙ sym (ap (λ b. is_picked q (cond b (Some e.1) (find place_cmp q es))) (place_tied q e.0 ∙ f))
   ]
     where
-      here : same_place q e.0 ≡ true → (b : Bool) → (is_within span e.0 && test e.1) ≡ b → has same_place (cond b (e.0 ∷ picked test span es) (picked test span es)) q ≡ (is_within span q && test e.1)
-      here t true k = ap (λ b. b || has same_place (picked test span es) q) t ∙ sym (ap (λ x. is_within span x && test e.1) (same_place_is q e.0 t) ∙ k)
-      here t false k = ap (has same_place (picked test span es)) (same_place_is q e.0 t) ∙ picked_missed e.0 es h.0 ∙ sym (ap (λ x. is_within span x && test e.1) (same_place_is q e.0 t) ∙ k)
+      here : same_place q e.0 ≡ true → (b : Bool) → (is_within span e.0 && test e.1) ≡ b
+          → has same_place (cond b (e.0 ∷ picked test span es) (picked test span es)) q ≡ (is_within span q && test e.1)
+      here t true k =
+          ap (λ b. b || has same_place (picked test span es) q) t
+          ∙ sym (ap (λ x. is_within span x && test e.1) (same_place_is q e.0 t) ∙ k)
+      here t false k =
+          ap (has same_place (picked test span es)) (same_place_is q e.0 t) ∙ picked_missed e.0 es h.0
+          ∙ sym (ap (λ x. is_within span x && test e.1) (same_place_is q e.0 t) ∙ k)
 
-      there : same_place q e.0 ≡ false → (b : Bool) → has same_place (picked test span es) q ≡ is_picked q (find place_cmp q es) → has same_place (cond b (e.0 ∷ picked test span es) (picked test span es)) q ≡ is_picked q (find place_cmp q es)
+      there : same_place q e.0 ≡ false → (b : Bool)
+          → has same_place (picked test span es) q ≡ is_picked q (find place_cmp q es)
+          → has same_place (cond b (e.0 ∷ picked test span es) (picked test span es)) q
+          ≡ is_picked q (find place_cmp q es)
       there f true k = ap (λ b. b || has same_place (picked test span es) q) f ∙ k
       there f false k = k
 
@@ -123,15 +155,20 @@ module _ (test : CellState → Bool) (span : Extent) where
   picked_distinct [] h = tt
   picked_distinct (e ∷ es) h = with (is_within span e.0 && test e.1) (picked_distinct es h.1)
     where
-      with : (b : Bool) → IsDistinct same_place (picked test span es) → IsDistinct same_place (cond b (e.0 ∷ picked test span es) (picked test span es))
-      with true rest = IsDistinct-cons same_place e.0 (picked test span es) (others e.0 (picked test span es) (picked_missed e.0 es h.0)) rest
+      with : (b : Bool) → IsDistinct same_place (picked test span es)
+          → IsDistinct same_place (cond b (e.0 ∷ picked test span es) (picked test span es))
+      with true rest =
+          IsDistinct-cons same_place e.0 (picked test span es)
+          (others e.0 (picked test span es) (picked_missed e.0 es h.0)) rest
       with false rest = rest
 
-  picked_above : (x : Place) (es : List (Place × CellState)) → AllByRecursion (λ y. place_cmp x y ≡ Less) (keys_of es) → AllByRecursion (λ y. place_cmp x y ≡ Less) (picked test span es)
+  picked_above : (x : Place) (es : List (Place × CellState)) → AllByRecursion (λ y. place_cmp x y ≡ Less) (keys_of es)
+      → AllByRecursion (λ y. place_cmp x y ≡ Less) (picked test span es)
   picked_above x [] h = tt
   picked_above x (e ∷ es) h = with (is_within span e.0 && test e.1) (picked_above x es h.1)
     where
-      with : (b : Bool) → AllByRecursion (λ y. place_cmp x y ≡ Less) (picked test span es) → AllByRecursion (λ y. place_cmp x y ≡ Less) (cond b (e.0 ∷ picked test span es) (picked test span es))
+      with : (b : Bool) → AllByRecursion (λ y. place_cmp x y ≡ Less) (picked test span es)
+          → AllByRecursion (λ y. place_cmp x y ≡ Less) (cond b (e.0 ∷ picked test span es) (picked test span es))
       with true a = (h.0, a)
       with false a = a
 
@@ -140,15 +177,20 @@ module _ (test : CellState → Bool) (span : Extent) where
   picked_ascends [] h = tt
   picked_ascends (e ∷ es) h = with (is_within span e.0 && test e.1) (picked_above e.0 es h.0) (picked_ascends es h.1)
     where
-      with : (b : Bool) → AllByRecursion (λ y. place_cmp e.0 y ≡ Less) (picked test span es) → Ascends (picked test span es) → Ascends (cond b (e.0 ∷ picked test span es) (picked test span es))
+      with : (b : Bool) → AllByRecursion (λ y. place_cmp e.0 y ≡ Less) (picked test span es)
+          → Ascends (picked test span es) → Ascends (cond b (e.0 ∷ picked test span es) (picked test span es))
       with true a s = (a, s)
       with false a s = s
 
-  pub sorted_picked : (hs : List (Held CellState)) (m : Cells) (xs : List Place) → from_entries (filled hs) ≡ m → AreOnce (cells_of hs) → IsPermutation (picked test span (filled hs)) xs → IsSorted place_cmp xs → xs ≡ picked test span (entries m)
+  pub sorted_picked : (hs : List (Held CellState)) (m : Cells) (xs : List Place) → from_entries (filled hs) ≡ m
+      → AreOnce (cells_of hs) → IsPermutation (picked test span (filled hs)) xs → IsSorted place_cmp xs
+      → xs ≡ picked test span (entries m)
   sorted_picked hs m xs is once p s =
       let apart = filled_apart hs once in
       let ordered = in_order cells_total (entries m) (entries_sorted m) in
-      same_members xs (picked test span (entries m)) (sorted_ascends (picked test span (filled hs)) xs (picked_distinct (filled hs) apart) p s) (picked_ascends (entries m) ordered) (λ q.
+      same_members xs (picked test span (entries m))
+      (sorted_ascends (picked test span (filled hs)) xs (picked_distinct (filled hs) apart) p s)
+      (picked_ascends (entries m) ordered) (λ q.
       sym (list_any-IsPermutation (same_place q) (picked test span (filled hs)) xs p) ∙ has_picked q (filled hs) apart
       ∙ ap (is_picked q) (sym (get-from_entries cells_total (filled hs) q) ∙ ap (λ n. get n q) is ∙ get-entries m q)
       ∙ sym (has_picked q (entries m) (ordered_apart (entries m) ordered)))

@@ -5,4 +5,6 @@ use Rattle.sheet_store.specs.inner.Scan.{wanted}
 use Rattle.sheet_store.proofs.scan.picked_held.Given as goal
 
 abbrev pub invariant-loop-one : goal.invariant-loop-one
-invariant-loop-one l = l.list.items ++ picked (wanted l.only_formulas) l.span (filled (drop l.one-index l.held)) ≡ picked (wanted l.only_formulas) l.span (filled l.held)
+invariant-loop-one l =
+    l.list.items ++ picked (wanted l.only_formulas) l.span (filled (drop l.one-index l.held))
+    ≡ picked (wanted l.only_formulas) l.span (filled l.held)

@@ -8,7 +8,8 @@ use Rattle.sheet_store.proofs.scan.scan_places.Given as goal
 abbrev pub invariant-loop-from : goal.invariant-loop-from
 invariant-loop-from l = record {
   within : IfSome l.from (λ c. is_within l.span c ≡ true);
-  whole : l.list ++ picked (wanted l.only_formulas) l.span (left_from l.from (entries l.cells)) ≡ picked (wanted l.only_formulas) l.span (entries l.cells);
+  whole : l.list ++ picked (wanted l.only_formulas) l.span (left_from l.from (entries l.cells))
+      ≡ picked (wanted l.only_formulas) l.span (entries l.cells);
 }
 
 abbrev pub decreases-loop-from : goal.decreases-loop-from

@@ -7,4 +7,5 @@ use Rattle.sheet_store.proofs.store.copy_cells.Goals as goal
 pub loop-held-init : goal.loop-held-init
 loop-held-init c =
     let hs = c.held-held-items.result.now in
-    ap (λ m. inserted_all m (filled hs)) c.new-copy.ensures ∙ all_inserted hs c.held-held-items.ensures.once ∙ c.held-held-items.ensures.items
+    ap (λ m. inserted_all m (filled hs)) c.new-copy.ensures ∙ all_inserted hs c.held-held-items.ensures.once
+    ∙ c.held-held-items.ensures.items

@@ -16,12 +16,18 @@ invariant_of-self c = elim c.match-get_mut.branch [
       let written : CellState = record s { value = c.args.value } in
       let old = c.self.inside.cells in
       let found : get old c.args.cell ≡ Some s = sym w.in-Some.ensures.value in
-      let known : c.requires.formula.0 ≡ s = same_some c.requires.formula.0 s (sym c.requires.formula.1 ∙ ap (λ (g : Grid). get g.cells c.args.cell) (sym c.self.view_is) ∙ found) in
-      let formula : is_formula s.content ≡ true = subst (λ (x : CellState). is_formula x.content ≡ true) known c.requires.formula.2 in
-      let here : IsHeld c.args.cell written = valued_held c.args.cell s c.args.value (c.self.invariant c.args.cell s found) formula c.requires.some in
+      let known : c.requires.formula.0 ≡ s =
+      same_some c.requires.formula.0 s
+      (sym c.requires.formula.1 ∙ ap (λ (g : Grid). get g.cells c.args.cell) (sym c.self.view_is) ∙ found) in
+      let formula : is_formula s.content ≡ true =
+      subst (λ (x : CellState). is_formula x.content ≡ true) known c.requires.formula.2 in
+      let here : IsHeld c.args.cell written =
+      valued_held c.args.cell s c.args.value (c.self.invariant c.args.cell s found) formula c.requires.some in
       subst (λ (i : Inside). AreHeld i.cells) (sym w.self-inside-is)
-      (subst (λ (x : CellState). AreHeld (insert old c.args.cell x)) (sym w.set_value.ensures) (inserted_held old c.args.cell written here c.self.invariant))
+      (subst (λ (x : CellState). AreHeld (insert old c.args.cell x)) (sym w.set_value.ensures)
+      (inserted_held old c.args.cell written here c.self.invariant))
   | in-None w ↦
-      let none : None ≡ get c.args.self.now.cells c.args.cell = w.in-None.ensures.value ∙ ap (λ (g : Grid). get g.cells c.args.cell) c.self.view_is in
+      let none : None ≡ get c.args.self.now.cells c.args.cell =
+      w.in-None.ensures.value ∙ ap (λ (g : Grid). get g.cells c.args.cell) c.self.view_is in
       absurd (false≢true (ap is_some (none ∙ c.requires.formula.1)))
 ]

@@ -16,12 +16,18 @@ invariant_of-self c = elim c.match-get_mut.branch [
       let written : CellState = record s { format = c.args.format } in
       let old = c.self.inside.cells in
       let found : get old c.args.cell ≡ Some s = sym w.in-Some.ensures.value in
-      let known : c.requires.0 ≡ s = same_some c.requires.0 s (sym c.requires.1 ∙ ap (λ (g : Grid). get g.cells c.args.cell) (sym c.self.view_is) ∙ found) in
-      let filled : is_blank s.content ≡ false = subst (λ (x : CellState). is_blank x.content ≡ false) known c.requires.2 in
-      let here : IsHeld c.args.cell written = formatted_held c.args.cell s c.args.format (c.self.invariant c.args.cell s found) filled in
+      let known : c.requires.0 ≡ s =
+      same_some c.requires.0 s
+      (sym c.requires.1 ∙ ap (λ (g : Grid). get g.cells c.args.cell) (sym c.self.view_is) ∙ found) in
+      let filled : is_blank s.content ≡ false =
+      subst (λ (x : CellState). is_blank x.content ≡ false) known c.requires.2 in
+      let here : IsHeld c.args.cell written =
+      formatted_held c.args.cell s c.args.format (c.self.invariant c.args.cell s found) filled in
       subst (λ (i : Inside). AreHeld i.cells) (sym w.self-inside-is)
-      (subst (λ (x : CellState). AreHeld (insert old c.args.cell x)) (sym w.set_format.ensures) (inserted_held old c.args.cell written here c.self.invariant))
+      (subst (λ (x : CellState). AreHeld (insert old c.args.cell x)) (sym w.set_format.ensures)
+      (inserted_held old c.args.cell written here c.self.invariant))
   | in-None w ↦
-      let none : None ≡ get c.args.self.now.cells c.args.cell = w.in-None.ensures.value ∙ ap (λ (g : Grid). get g.cells c.args.cell) c.self.view_is in
+      let none : None ≡ get c.args.self.now.cells c.args.cell =
+      w.in-None.ensures.value ∙ ap (λ (g : Grid). get g.cells c.args.cell) c.self.view_is in
       absurd (false≢true (ap is_some (none ∙ c.requires.1)))
 ]
