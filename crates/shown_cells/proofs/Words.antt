@@ -1,5 +1,6 @@
 -- Words that stand at the right, and texts that are cut.
-use Rattle.std.proofs.Common.{◌≡◌, ℕ, ◌≤◌, List, [], ◌∷◌, ◌++◌, length, take, replicate, refl, sym, ◌∙◌, arith, inl, inr, append_assoc}
+use Rattle.std.proofs.Common.{◌≡◌, ℕ, ◌≤◌, List, [], ◌∷◌, ◌++◌, length, take, replicate, refl, sym, ◌∙◌, arith, inl}
+use Rattle.std.proofs.Common.{inr, append_assoc}
 use Rattle.std.proofs.lemmas.List.{take-replicate}
 use Rattle.ascii_bytes.specs.Ascii as ascii
 
