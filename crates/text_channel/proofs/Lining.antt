@@ -1,5 +1,6 @@
 -- The length of a line, byte by byte.
-use Rattle.std.proofs.Common.{◌≡◌, ◌≤◌, ◌<◌, ◌+◌, ◌-◌, ℕ, suc, min, take, true, false, List, [], ◌∷◌, drop, length, get_or, refl, sym, ap, ◌∙◌, arith}
+use Rattle.std.proofs.Common.{◌≡◌, ◌≤◌, ◌<◌, ◌+◌, ◌-◌, ℕ, suc, min, take, true, false, List, [], ◌∷◌, drop, length}
+use Rattle.std.proofs.Common.{get_or, refl, sym, ap, ◌∙◌, arith}
 use Rattle.std.specs.Prelude.{◌==◌, nat_lt, if◌then◌else◌}
 use Rattle.std.proofs.lemmas.Bool.Decides.{nat_tests}
 use Rattle.std.proofs.lemmas.List.{drop_all, take_all, length-drop}
@@ -7,19 +8,24 @@ use Rattle.std.proofs.Math.Seq.{drop-cons}
 use Rattle.text_channel.specs.Lines.{ending_of, line_length, next_line, piece}
 
 split_at : (bytes : List ℕ) (at : ℕ) → at < length bytes → drop at bytes ≡ get_or bytes at 0 ∷ drop (at + 1) bytes
-split_at bytes at inside = drop-cons bytes at 0 inside ∙ ap (λ k. get_or bytes at 0 ∷ drop k bytes) (let e : suc at ≡ at + 1 = omega arith in e)
+split_at bytes at inside =
+    drop-cons bytes at 0 inside
+    ∙ ap (λ k. get_or bytes at 0 ∷ drop k bytes) (let e : suc at ≡ at + 1 = omega arith in e)
 
 cons_more : (b : ℕ) (rest : List ℕ) → ending_of (b ∷ rest) ≡ 0 → line_length (b ∷ rest) ≡ line_length rest + 1
 cons_more b rest none = ap (λ t. if t then line_length rest + 1 else 0) (ap (λ n. n == 0) none)
 
-pub one_more : (bytes : List ℕ) (at : ℕ) → at < length bytes → ending_of (drop at bytes) ≡ 0 → line_length (drop at bytes) ≡ line_length (drop (at + 1) bytes) + 1
+pub one_more : (bytes : List ℕ) (at : ℕ) → at < length bytes → ending_of (drop at bytes) ≡ 0
+    → line_length (drop at bytes) ≡ line_length (drop (at + 1) bytes) + 1
 one_more bytes at inside none =
     let split = split_at bytes at inside in
     ap line_length split ∙ cons_more (get_or bytes at 0) (drop (at + 1) bytes) (sym (ap ending_of split) ∙ none)
 
 pub at_ending : (left : List ℕ) → (ending_of left ≡ 0 → ⊥) → line_length left ≡ 0
 at_ending [] some = refl
-at_ending (b ∷ rest) some = ap (λ t. if t then line_length rest + 1 else 0) (let e : (ending_of (b ∷ rest) == 0) ≡ false = grind (arith, nat_tests, some) in e)
+at_ending (b ∷ rest) some =
+    ap (λ t. if t then line_length rest + 1 else 0)
+    (let e : (ending_of (b ∷ rest) == 0) ≡ false = grind (arith, nat_tests, some) in e)
 
 pub at_end : (bytes : List ℕ) (at : ℕ) → length bytes ≤ at → line_length (drop at bytes) ≡ 0
 at_end bytes at past = ap line_length (drop_all at bytes past)
@@ -28,13 +34,19 @@ pub whole_rest : (bytes : List ℕ) (at : ℕ) → take (length bytes - at) (dro
 whole_rest bytes at = take_all (length bytes - at) (drop at bytes) (omega (arith, length-drop at bytes))
 
 pub long_line : (left : List ℕ) → 240 < min (line_length left) 241 → next_line left ≡ piece (take 240 left) 240
-long_line left long = ap (λ t. if t then piece (take 240 left) 240 else piece (take (line_length left) left) (line_length left + ending_of (drop (line_length left) left)))
+long_line left long =
+    ap (λ t. if t then piece (take 240 left) 240
+    else piece (take (line_length left) left) (line_length left + ending_of (drop (line_length left) left)))
     (let e : nat_lt 240 (line_length left) ≡ true = grind (arith, nat_tests, long) in e)
 
-short_as : (left : List ℕ) (n : ℕ) → n ≡ line_length left → n ≤ 240 → next_line left ≡ piece (take n left) (n + ending_of (drop n left))
-short_as left n is short = ap (λ t. if t then piece (take 240 left) 240 else piece (take (line_length left) left) (line_length left + ending_of (drop (line_length left) left)))
+short_as : (left : List ℕ) (n : ℕ) → n ≡ line_length left → n ≤ 240
+    → next_line left ≡ piece (take n left) (n + ending_of (drop n left))
+short_as left n is short =
+    ap (λ t. if t then piece (take 240 left) 240
+    else piece (take (line_length left) left) (line_length left + ending_of (drop (line_length left) left)))
     (let e : nat_lt 240 (line_length left) ≡ false = grind (arith, nat_tests, is, short) in e)
     ∙ ap (λ k. piece (take k left) (k + ending_of (drop k left))) (sym is)
 
-pub short_line : (left : List ℕ) (n : ℕ) → n ≡ min (line_length left) 241 → n ≤ 240 → next_line left ≡ piece (take n left) (n + ending_of (drop n left))
+pub short_line : (left : List ℕ) (n : ℕ) → n ≡ min (line_length left) 241 → n ≤ 240
+    → next_line left ≡ piece (take n left) (n + ending_of (drop n left))
 short_line left n is short = short_as left n (omega (arith, is, short)) short

@@ -11,5 +11,7 @@ at_least : (b : ℕ) → 32 ≤ shown_byte b
 at_least b = grind (arith, nat_tests)
 
 pub is_shown_text : (bytes shown : List ℕ) → shown ≡ map shown_byte bytes → length bytes ≤ 240 → IsText shown
-is_shown_text bytes shown is short = subst IsText (sym is)
-    (omega (arith, length-map bytes shown_byte, short), All-map (λ b. 32 ≤ b) shown_byte bytes (λ k d inside. at_least (slice_index_or bytes k d)))
+is_shown_text bytes shown is short = subst IsText (sym is) (
+  omega (arith, length-map bytes shown_byte, short),
+  All-map (λ b. 32 ≤ b) shown_byte bytes (λ k d inside. at_least (slice_index_or bytes k d)),
+)

@@ -3,7 +3,8 @@ use Rattle.text_channel.specs.Lines.{line_length}
 use Rattle.text_channel.proofs.lines.line_length.Given as goal
 
 abbrev pub invariant-loop-at : goal.invariant-loop-at
-invariant-loop-at l = (l.at ≤ 241) × (l.at ≤ length l.bytes) × (line_length l.bytes ≡ l.at + line_length (drop l.at l.bytes))
+invariant-loop-at l =
+    (l.at ≤ 241) × (l.at ≤ length l.bytes) × (line_length l.bytes ≡ l.at + line_length (drop l.at l.bytes))
 
 abbrev pub decreases-loop-at : goal.decreases-loop-at
 decreases-loop-at l = length l.bytes - l.at
