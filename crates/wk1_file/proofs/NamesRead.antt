@@ -1,5 +1,6 @@
 -- The records of names.
-use Rattle.std.proofs.Common.{◌≡◌, ℕ, suc, ◌+◌, ◌-◌, ◌≤◌, true, nat_le, List, [], ◌∷◌, ◌++◌, length, take, drop, map, replicate, refl, ap, ◌∙◌, sym, append_assoc, arith, inl, inr, length-append}
+use Rattle.std.proofs.Common.{◌≡◌, ℕ, suc, ◌+◌, ◌-◌, ◌≤◌, true, nat_le, List, [], ◌∷◌, ◌++◌, length, take, drop, map}
+use Rattle.std.proofs.Common.{replicate, refl, ap, ◌∙◌, sym, append_assoc, arith, inl, inr, length-append}
 use Rattle.std.specs.Int.{from_le_bytes, w16}
 use Rattle.std.specs.List.{AllByRecursion}
 use Rattle.std.specs.FinMap.{empty, entries, insert}
@@ -46,9 +47,12 @@ short_name name e =
 
 -- what stands behind a front of so many bytes
 short_behind : (front rest : List ℕ) (n j : ℕ) → length front ≡ n → short_at (n + j) (front ++ rest) ≡ short_at j rest
-short_behind front rest n j len = ap (λ bs. from_le_bytes w16 (take 2 bs)) (ap (λ k. drop (k + j) (front ++ rest)) (sym len) ∙ drop-append-add front rest j)
+short_behind front rest n j len =
+    ap (λ bs. from_le_bytes w16 (take 2 bs))
+    (ap (λ k. drop (k + j) (front ++ rest)) (sym len) ∙ drop-append-add front rest j)
 
-one_said : (e : List ℕ × Extent) (n : ℕ) → IsSavedName e → meaning n (name_piece (name_in e.0) e.1) ≡ Ok (name_entry_of e)
+one_said : (e : List ℕ × Extent) (n : ℕ) → IsSavedName e
+    → meaning n (name_piece (name_in e.0) e.1) ≡ Ok (name_entry_of e)
 one_said e n h =
     let name : List ℕ = name_in e.0 in
     let zeros : List ℕ = replicate (16 - length name) 0 in
@@ -56,39 +60,53 @@ one_said e n h =
     let front : List ℕ = name ++ zeros in
     let body : List ℕ = name ++ (zeros ++ places) in
     let short = short_name name h.name in
-    let len : length front ≡ 16 = omega (arith, length-append name zeros, length-replicate {A = ℕ} (16 - length name) 0, short) in
+    let len : length front ≡ 16 =
+    omega (arith, length-append name zeros, length-replicate {A = ℕ} (16 - length name) 0, short) in
     let is : front ++ places ≡ body = append_assoc name zeros places in
     let long : 24 ≤ length body = omega (arith, ap length is, length-append front places, len) in
     let more : 16 - length name ≡ suc (15 - length name) = omega (arith, short) in
-    let found : before_zero (take 16 body) ≡ Some name = ap (λ b. before_zero (take 16 b)) (sym is) ∙ ap before_zero (take_at front places 16 len) ∙ ap (λ k. before_zero (name ++ replicate k 0)) more ∙ name_back e.0 (replicate (15 - length name) 0) in
+    let found : before_zero (take 16 body) ≡ Some name =
+    ap (λ b. before_zero (take 16 b)) (sym is) ∙ ap before_zero (take_at front places 16 len)
+    ∙ ap (λ k. before_zero (name ++ replicate k 0)) more ∙ name_back e.0 (replicate (15 - length name) 0) in
     let one = place_back e.1.first h.first in
     let other = place_back e.1.last h.last in
-    let row : short_at 18 body ≡ e.1.first.row = ap (short_at 18) (sym is) ∙ short_behind front places 16 2 len ∙ one.0 in
-    let col : short_at 16 body ≡ e.1.first.col = ap (short_at 16) (sym is) ∙ short_behind front places 16 0 len ∙ one.1 in
-    let last_row : short_at 22 body ≡ e.1.last.row = ap (short_at 22) (sym is) ∙ short_behind front places 16 6 len ∙ other.0 in
-    let last_col : short_at 20 body ≡ e.1.last.col = ap (short_at 20) (sym is) ∙ short_behind front places 16 4 len ∙ other.1 in
+    let row : short_at 18 body ≡ e.1.first.row =
+    ap (short_at 18) (sym is) ∙ short_behind front places 16 2 len ∙ one.0 in
+    let col : short_at 16 body ≡ e.1.first.col =
+    ap (short_at 16) (sym is) ∙ short_behind front places 16 0 len ∙ one.1 in
+    let last_row : short_at 22 body ≡ e.1.last.row =
+    ap (short_at 22) (sym is) ∙ short_behind front places 16 6 len ∙ other.0 in
+    let last_col : short_at 20 body ≡ e.1.last.col =
+    ap (short_at 20) (sym is) ∙ short_behind front places 16 4 len ∙ other.1 in
     let first : place_at 16 body ≡ e.1.first = λ i. record { row = row i; col = col i } in
     let last : place_at 20 body ≡ e.1.last = λ i. record { row = last_row i; col = last_col i } in
     let rows : nat_le e.1.first.row e.1.last.row ≡ true = (let l = h.rows in grind (arith, nat_tests, l)) in
     let cols : nat_le e.1.first.col e.1.last.col ≡ true = (let l = h.cols in grind (arith, nat_tests, l)) in
-    let spans : is_span e.1.first e.1.last ≡ true = rw (inside_is e.1.first h.first, inside_is e.1.last h.last, rows, cols) refl in
+    let spans : is_span e.1.first e.1.last ≡ true =
+    rw (inside_is e.1.first h.first, inside_is e.1.last h.last, rows, cols) refl in
     by_type n kind.Name body (λ x. absurd cc) ∙ tested n body kind.Name (name_entry_of e) long refl
     (ap (name_entry n body) found ∙ ap (if_name n body name) h.name
-    ∙ ap (λ p. if is_span p (place_at 20 body) then Ok (entry.Name name (record { first = p; last = place_at 20 body })) else Err (fault.BadSpan n)) first
-    ∙ ap (λ p. if is_span e.1.first p then Ok (entry.Name name (record { first = e.1.first; last = p })) else Err (fault.BadSpan n)) last
+    ∙ ap (λ p. if is_span p (place_at 20 body) then Ok (entry.Name name (record { first = p; last = place_at 20 body }))
+    else Err (fault.BadSpan n)) first
+    ∙ ap (λ p. if is_span e.1.first p then Ok (entry.Name name (record { first = e.1.first; last = p }))
+    else Err (fault.BadSpan n)) last
     ∙ rw spans refl)
 
-pub names_said : (es : List (List ℕ × Extent)) → AllByRecursion IsSavedName es → Says (map (λ e. name_piece (name_in e.0) e.1) es) (map name_entry_of es)
+pub names_said : (es : List (List ℕ × Extent)) → AllByRecursion IsSavedName es
+    → Says (map (λ e. name_piece (name_in e.0) e.1) es) (map name_entry_of es)
 names_said [] h = tt
 names_said (e ∷ es) h = ((λ n. one_said e n h.0), names_said es h.1)
 
-all_taken : (s : SavedSheet) (es : List (List ℕ × Extent)) (m : NameMap) (f : Option Place) → AllByRecursion IsSavedName es → (h : Option Place) × (fold with_entry (with_names s m f) (map name_entry_of es) ≡ with_names s (filled m es) h)
+all_taken : (s : SavedSheet) (es : List (List ℕ × Extent)) (m : NameMap) (f : Option Place)
+    → AllByRecursion IsSavedName es
+    → (h : Option Place) × (fold with_entry (with_names s m f) (map name_entry_of es) ≡ with_names s (filled m es) h)
 all_taken s [] m f h = (f, refl)
 all_taken s (e ∷ es) m f h =
     let rest = all_taken s es (insert m e.0 e.1) None h.1 in
     (rest.0, ap (λ k. fold with_entry (with_names s (insert m k e.1) None) (map name_entry_of es)) h.0.key ∙ rest.1)
 
-pub names_taken : (s : SavedSheet) (ns : NameMap) (f : Option Place) → AllByRecursion IsSavedName (entries ns) → (h : Option Place) × (fold with_entry (with_names s empty f) (map name_entry_of (entries ns)) ≡ with_names s ns h)
+pub names_taken : (s : SavedSheet) (ns : NameMap) (f : Option Place) → AllByRecursion IsSavedName (entries ns)
+    → (h : Option Place) × (fold with_entry (with_names s empty f) (map name_entry_of (entries ns)) ≡ with_names s ns h)
 names_taken s ns f h =
     let x = all_taken s (entries ns) empty f h in
     (x.0, x.1 ∙ ap (λ m. with_names s m x.0) (filled_again names_total names_exact ns))

@@ -1,5 +1,6 @@
 -- Bytes are one file.
-use Rattle.std.proofs.Common.{◌≡◌, ℕ, ◌+◌, ◌≤◌, ◌<◌, true, false, List, ◌++◌, length, take, drop, refl, ap, ◌∙◌, sym, arith}
+use Rattle.std.proofs.Common.{◌≡◌, ℕ, ◌+◌, ◌≤◌, ◌<◌, true, false, List, ◌++◌, length, take, drop, refl, ap, ◌∙◌, sym}
+use Rattle.std.proofs.Common.{arith}
 use Rattle.std.specs.Int.{from_le_bytes, to_le_bytes, w16}
 use Rattle.std.specs.Prelude.{Result, Err}
 use Rattle.std.proofs.lemmas.List.{drop_at, take_at}
@@ -7,15 +8,18 @@ use Rattle.std.proofs.lemmas.Nat.{from_le_bytes-to_le_bytes_2}
 use Rattle.sheet_store.specs.declared.writes.SavedSheet.{SavedSheet}
 use Rattle.wk1_formula.specs.Reading.{short_at}
 use Rattle.wk1_file.specs.Files.{has_bof, large, bare, read, IsFile}
-use Rattle.wk1_records.specs.Records.{at_cut, at_end, at_piece, cut, ended, piece, piece_bytes, IsPiece, Piece, Records, Splits}
+use Rattle.wk1_records.specs.Records.{at_cut, at_end, at_piece, cut, ended, piece, piece_bytes, IsPiece, Piece, Records}
+use Rattle.wk1_records.specs.Records.{Splits}
 use Rattle.wk1_file.specs.Sheets.{sheet_of}
 use Rattle.wk1_records.specs.declared.fault.Wk1Fault.{Wk1Fault}
 use Rattle.wk1_records.specs.declared.fault.Wk1Fault.TheVariants as fault
 
 data Inverted (at : ℕ) (bytes : List ℕ) : Records → Type 0 where
-  by_end : (p : Piece) (rest : List ℕ) → bytes ≡ piece_bytes p ++ rest → p.kind ≡ 1 → IsPiece p → Inverted at bytes ended
+  by_end : (p : Piece) (rest : List ℕ) → bytes ≡ piece_bytes p ++ rest → p.kind ≡ 1 → IsPiece p
+      → Inverted at bytes ended
   by_cut : ((p : Piece) (rest : List ℕ) → IsPiece p → bytes ≡ piece_bytes p ++ rest → ⊥) → Inverted at bytes (cut at)
-  by_piece : {rs : Records} (p : Piece) (rest : List ℕ) → bytes ≡ piece_bytes p ++ rest → (p.kind ≡ 1 → ⊥) → IsPiece p → Splits (at + (4 + length p.body)) rest rs → Inverted at bytes (piece p rs)
+  by_piece : {rs : Records} (p : Piece) (rest : List ℕ) → bytes ≡ piece_bytes p ++ rest → (p.kind ≡ 1 → ⊥) → IsPiece p
+      → Splits (at + (4 + length p.body)) rest rs → Inverted at bytes (piece p rs)
 
 inverted : {at : ℕ} {bytes : List ℕ} {r : Records} → Splits at bytes r → Inverted at bytes r
 inverted (at_end p rest e h) = by_end p rest refl e h
@@ -26,23 +30,32 @@ back : (n : ℕ) → n < 65536 → from_le_bytes w16 (to_le_bytes w16 n) ≡ n
 back n h = from_le_bytes-to_le_bytes_2 n (omega (arith, h))
 
 -- one record is at the front of bytes
-same_piece : (p q : Piece) (r s : List ℕ) → IsPiece p → IsPiece q → piece_bytes p ++ r ≡ piece_bytes q ++ s → (p ≡ q) × (r ≡ s)
+same_piece : (p q : Piece) (r s : List ℕ) → IsPiece p → IsPiece q → piece_bytes p ++ r ≡ piece_bytes q ++ s
+    → (p ≡ q) × (r ≡ s)
 same_piece p q r s hp hq e =
     let kind : p.kind ≡ q.kind = sym (back p.kind hp.0) ∙ ap (short_at 0) e ∙ back q.kind hq.0 in
-    let size : length p.body ≡ length q.body = sym (back (length p.body) hp.1) ∙ ap (short_at 2) e ∙ back (length q.body) hq.1 in
+    let size : length p.body ≡ length q.body =
+    sym (back (length p.body) hp.1) ∙ ap (short_at 2) e ∙ back (length q.body) hq.1 in
     let rest : p.body ++ r ≡ q.body ++ s = ap (drop 4) e in
-    let body : p.body ≡ q.body = sym (take_at p.body r (length q.body) size) ∙ ap (take (length q.body)) rest ∙ take_at q.body s (length q.body) refl in
-    let behind : r ≡ s = sym (drop_at p.body r (length q.body) size) ∙ ap (drop (length q.body)) rest ∙ drop_at q.body s (length q.body) refl in
+    let body : p.body ≡ q.body =
+    sym (take_at p.body r (length q.body) size) ∙ ap (take (length q.body)) rest
+    ∙ take_at q.body s (length q.body) refl in
+    let behind : r ≡ s =
+    sym (drop_at p.body r (length q.body) size) ∙ ap (drop (length q.body)) rest
+    ∙ drop_at q.body s (length q.body) refl in
     ((λ i. record { kind = kind i; body = body i }), behind)
 
-one_split : {at : ℕ} {bytes : List ℕ} {r : Records} → Splits at bytes r → (q : Records) (k : ℕ) (other : List ℕ) → k ≡ at → other ≡ bytes → Inverted k other q → r ≡ q
+one_split : {at : ℕ} {bytes : List ℕ} {r : Records} → Splits at bytes r → (q : Records) (k : ℕ) (other : List ℕ)
+    → k ≡ at → other ≡ bytes → Inverted k other q → r ≡ q
 one_split (at_end p rest e h) q k other same is (by_end p2 rest2 is2 e2 h2) = refl
 one_split (at_end p rest e h) q k other same is (by_cut none) = absurd (none p rest h is)
-one_split (at_end p rest e h) q k other same is (by_piece p2 rest2 is2 e2 h2 d2) = (let x = same_piece p p2 rest rest2 h h2 (sym is ∙ is2) in absurd (e2 (sym (ap (λ (y : Piece). y.kind) x.0) ∙ e)))
+one_split (at_end p rest e h) q k other same is (by_piece p2 rest2 is2 e2 h2 d2) =
+    (let x = same_piece p p2 rest rest2 h h2 (sym is ∙ is2) in absurd (e2 (sym (ap (λ (y : Piece). y.kind) x.0) ∙ e)))
 one_split (at_cut none) q k other same is (by_end p2 rest2 is2 e2 h2) = absurd (none p2 rest2 h2 (sym is ∙ is2))
 one_split (at_cut none) q k other same is (by_cut none2) = ap cut (sym same)
 one_split (at_cut none) q k other same is (by_piece p2 rest2 is2 e2 h2 d2) = absurd (none p2 rest2 h2 (sym is ∙ is2))
-one_split (at_piece p rest e h d) q k other same is (by_end p2 rest2 is2 e2 h2) = (let x = same_piece p p2 rest rest2 h h2 (sym is ∙ is2) in absurd (e (ap (λ (y : Piece). y.kind) x.0 ∙ e2)))
+one_split (at_piece p rest e h d) q k other same is (by_end p2 rest2 is2 e2 h2) =
+    (let x = same_piece p p2 rest rest2 h h2 (sym is ∙ is2) in absurd (e (ap (λ (y : Piece). y.kind) x.0 ∙ e2)))
 one_split (at_piece p rest e h d) q k other same is (by_cut none) = absurd (none p rest h is)
 one_split (at_piece {at} p rest e h d) q k other same is (by_piece {rs} p2 rest2 is2 e2 h2 d2) =
     let x = same_piece p p2 rest rest2 h h2 (sym is ∙ is2) in
@@ -57,7 +70,8 @@ one_records at bytes r q a b = one_split a q at bytes refl refl (inverted b)
 data Answered (bytes : List ℕ) : Result SavedSheet Wk1Fault → Type 0 where
   by_large : 67108864 < length bytes → Answered bytes (Err fault.FileTooLarge)
   by_bare : length bytes ≤ 67108864 → has_bof bytes ≡ false → Answered bytes (Err fault.NoBof)
-  by_read : (rs : Records) → length bytes ≤ 67108864 → has_bof bytes ≡ true → Splits 0 bytes rs → Answered bytes (sheet_of rs)
+  by_read : (rs : Records) → length bytes ≤ 67108864 → has_bof bytes ≡ true → Splits 0 bytes rs
+      → Answered bytes (sheet_of rs)
 
 answered : {bytes : List ℕ} {x : Result SavedSheet Wk1Fault} → IsFile bytes x → Answered bytes x
 answered (large h) = by_large h

@@ -1,5 +1,6 @@
 -- Every list of bytes is a file.
-use Rattle.std.proofs.Common.{ℕ, zero, suc, ◌+◌, ◌≤◌, List, length, take, drop, sym, subst, arith, inl, inr, length-drop}
+use Rattle.std.proofs.Common.{ℕ, zero, suc, ◌+◌, ◌≤◌, List, length, take, drop, sym, subst, arith, inl, inr}
+use Rattle.std.proofs.Common.{length-drop}
 use Rattle.std.specs.Prelude.{Result, Err}
 use Rattle.std.proofs.lemmas.Bool.{cases_Bool, cases_eq, cases_lt}
 use Rattle.std.proofs.lemmas.List.{get_or-drop}
@@ -12,7 +13,8 @@ use Rattle.wk1_records.specs.declared.fault.Wk1Fault.{Wk1Fault}
 use Rattle.wk1_records.specs.declared.fault.Wk1Fault.TheVariants as fault
 use Rattle.wk1_records.proofs.Fronts.{no_piece, too_few, whole_piece}
 
-pub all_split : (fuel at : ℕ) (bytes : List ℕ) → length bytes ≤ fuel → IsBytes bytes → (rs : Records) × Splits at bytes rs
+pub all_split : (fuel at : ℕ) (bytes : List ℕ) → length bytes ≤ fuel → IsBytes bytes
+    → (rs : Records) × Splits at bytes rs
 all_split zero at bytes few h = (cut at, at_cut (too_few bytes (omega (arith, few))))
 all_split (suc n) at bytes few h =
     elim (cases_lt (length bytes) 4) [
@@ -27,7 +29,10 @@ all_split (suc n) at bytes few h =
             elim (cases_eq (short_at 0 bytes) 1) [
               | inl e ↦ (ended, subst (λ l. Splits at l ended) (sym f.is) (at_end p rest e f.fits))
               | inr other ↦ (
-                  let r = all_split n (at + (4 + length body)) rest (omega (arith, few, four, length-drop (4 + length body) bytes)) (λ i. rw get_or-drop (h (4 + length body + i))) in
+                  let r =
+                  all_split n (at + (4 + length body)) rest
+                  (omega (arith, few, four, length-drop (4 + length body) bytes))
+                  (λ i. rw get_or-drop (h (4 + length body + i))) in
                   (piece p r.0, subst (λ l. Splits at l (piece p r.0)) (sym f.is) (at_piece p rest other f.fits r.1))
                   )
             ]

@@ -8,23 +8,28 @@ use Rattle.wk1_file.specs.inner.Written.{Writes}
 
 pub bytes_both : (ps qs : List Piece) → pieces_bytes (ps ++ qs) ≡ pieces_bytes ps ++ pieces_bytes qs
 bytes_both [] qs = refl
-bytes_both (p ∷ ps) qs = ap (λ l. piece_bytes p ++ l) (bytes_both ps qs) ∙ sym (append_assoc (piece_bytes p) (pieces_bytes ps) (pieces_bytes qs))
+bytes_both (p ∷ ps) qs =
+    ap (λ l. piece_bytes p ++ l) (bytes_both ps qs)
+    ∙ sym (append_assoc (piece_bytes p) (pieces_bytes ps) (pieces_bytes qs))
 
 pub bytes_one : (p : Piece) → pieces_bytes (p ∷ []) ≡ piece_bytes p
 bytes_one p = append-nil (piece_bytes p)
 
-pub bytes_each : {X : Type 0} (f : X → List Piece) (xs : List X) → pieces_bytes (flat_map f xs) ≡ flat_map (λ x. pieces_bytes (f x)) xs
+pub bytes_each : {X : Type 0} (f : X → List Piece) (xs : List X)
+    → pieces_bytes (flat_map f xs) ≡ flat_map (λ x. pieces_bytes (f x)) xs
 bytes_each f [] = refl
 bytes_each f (x ∷ xs) = bytes_both (f x) (flat_map f xs) ∙ ap (λ l. pieces_bytes (f x) ++ l) (bytes_each f xs)
 
-pub bytes_all : {X : Type 0} (f : X → Piece) (xs : List X) → pieces_bytes (map f xs) ≡ flat_map (λ x. piece_bytes (f x)) xs
+pub bytes_all : {X : Type 0} (f : X → Piece) (xs : List X)
+    → pieces_bytes (map f xs) ≡ flat_map (λ x. piece_bytes (f x)) xs
 bytes_all f [] = refl
 bytes_all f (x ∷ xs) = ap (λ l. piece_bytes (f x) ++ l) (bytes_all f xs)
 
 module _ {X : Type 0} (bytes_of : X → List ℕ) (IsGood : X → Type 0) where
   flat_end : (xs : List X) (x : X) → flat_map bytes_of (xs ++ x ∷ []) ≡ flat_map bytes_of xs ++ bytes_of x
   flat_end [] x = append-nil (bytes_of x)
-  flat_end (y ∷ xs) x = ap (λ l. bytes_of y ++ l) (flat_end xs x) ∙ sym (append_assoc (bytes_of y) (flat_map bytes_of xs) (bytes_of x))
+  flat_end (y ∷ xs) x =
+      ap (λ l. bytes_of y ++ l) (flat_end xs x) ∙ sym (append_assoc (bytes_of y) (flat_map bytes_of xs) (bytes_of x))
 
   good_end : (xs : List X) (x : X) → AllByRecursion IsGood xs → IsGood x → AllByRecursion IsGood (xs ++ x ∷ [])
   good_end [] x h k = (k, tt)
@@ -33,25 +38,39 @@ module _ {X : Type 0} (bytes_of : X → List ℕ) (IsGood : X → Type 0) where
   pub begun : (before : List ℕ) (all : List X) → Writes bytes_of IsGood before before all all
   begun before all = record { done = []; parts = refl; bytes = sym (append-nil before); good = tt }
 
-  pub one_more : (before now next : List ℕ) (x : X) (rest left all : List X) → Writes bytes_of IsGood before now left all → left ≡ x ∷ rest → next ≡ now ++ bytes_of x → IsGood x → Writes bytes_of IsGood before next rest all
+  pub one_more : (before now next : List ℕ) (x : X) (rest left all : List X)
+      → Writes bytes_of IsGood before now left all → left ≡ x ∷ rest → next ≡ now ++ bytes_of x → IsGood x
+      → Writes bytes_of IsGood before next rest all
   one_more before now next x rest left all w is e k = record {
     done = w.done ++ x ∷ [];
     parts = w.parts ∙ ap (λ l. w.done ++ l) is ∙ sym (append_assoc w.done (x ∷ []) rest);
-    bytes = e ∙ ap (λ l. l ++ bytes_of x) w.bytes ∙ append_assoc before (flat_map bytes_of w.done) (bytes_of x) ∙ ap (λ l. before ++ l) (sym (flat_end w.done x));
+    bytes =
+        e ∙ ap (λ l. l ++ bytes_of x) w.bytes ∙ append_assoc before (flat_map bytes_of w.done) (bytes_of x)
+        ∙ ap (λ l. before ++ l) (sym (flat_end w.done x));
     good = good_end w.done x w.good k;
   }
 
-  pub all_bytes : (before now : List ℕ) (left all : List X) → left ≡ [] → Writes bytes_of IsGood before now left all → now ≡ before ++ flat_map bytes_of all
-  all_bytes before now left all none w = w.bytes ∙ ap (λ l. before ++ flat_map bytes_of l) (sym (w.parts ∙ ap (λ l. w.done ++ l) none ∙ append-nil w.done))
+  pub all_bytes : (before now : List ℕ) (left all : List X) → left ≡ [] → Writes bytes_of IsGood before now left all
+      → now ≡ before ++ flat_map bytes_of all
+  all_bytes before now left all none w =
+      w.bytes ∙ ap (λ l. before ++ flat_map bytes_of l) (sym (w.parts ∙ ap (λ l. w.done ++ l) none ∙ append-nil w.done))
 
-  pub all_good : (before now : List ℕ) (left all : List X) → left ≡ [] → Writes bytes_of IsGood before now left all → AllByRecursion IsGood all
-  all_good before now left all none w = subst (AllByRecursion IsGood) (sym (w.parts ∙ ap (λ l. w.done ++ l) none ∙ append-nil w.done)) w.good
+  pub all_good : (before now : List ℕ) (left all : List X) → left ≡ [] → Writes bytes_of IsGood before now left all
+      → AllByRecursion IsGood all
+  all_good before now left all none w =
+      subst (AllByRecursion IsGood) (sym (w.parts ∙ ap (λ l. w.done ++ l) none ∙ append-nil w.done)) w.good
 
-pub joined : (old a b c d e f w h n k : List ℕ) → a ≡ old ++ f → b ≡ a ++ w → c ≡ b ++ h → d ≡ c ++ n → e ≡ d ++ k → e ≡ old ++ (f ++ (w ++ (h ++ (n ++ k))))
+pub joined : (old a b c d e f w h n k : List ℕ) → a ≡ old ++ f → b ≡ a ++ w → c ≡ b ++ h → d ≡ c ++ n → e ≡ d ++ k
+    → e ≡ old ++ (f ++ (w ++ (h ++ (n ++ k))))
 joined old a b c d e f w h n k p q r s t =
-    t ∙ ap (λ l. l ++ k) s ∙ append_assoc c n k ∙ ap (λ l. l ++ (n ++ k)) r ∙ append_assoc b h (n ++ k) ∙ ap (λ l. l ++ (h ++ (n ++ k))) q ∙ append_assoc a w (h ++ (n ++ k)) ∙ ap (λ l. l ++ (w ++ (h ++ (n ++ k)))) p
+    t ∙ ap (λ l. l ++ k) s ∙ append_assoc c n k ∙ ap (λ l. l ++ (n ++ k)) r ∙ append_assoc b h (n ++ k)
+    ∙ ap (λ l. l ++ (h ++ (n ++ k))) q ∙ append_assoc a w (h ++ (n ++ k)) ∙ ap (λ l. l ++ (w ++ (h ++ (n ++ k)))) p
     ∙ append_assoc old f (w ++ (h ++ (n ++ k)))
 
-pub five : (f w h n k : List Piece) → pieces_bytes f ++ (pieces_bytes w ++ (pieces_bytes h ++ (pieces_bytes n ++ pieces_bytes k))) ≡ pieces_bytes (f ++ (w ++ (h ++ (n ++ k))))
+pub five : (f w h n k : List Piece)
+    → pieces_bytes f ++ (pieces_bytes w ++ (pieces_bytes h ++ (pieces_bytes n ++ pieces_bytes k)))
+    ≡ pieces_bytes (f ++ (w ++ (h ++ (n ++ k))))
 five f w h n k =
-    sym (bytes_both f (w ++ (h ++ (n ++ k))) ∙ ap (λ l. pieces_bytes f ++ l) (bytes_both w (h ++ (n ++ k)) ∙ ap (λ l. pieces_bytes w ++ l) (bytes_both h (n ++ k) ∙ ap (λ l. pieces_bytes h ++ l) (bytes_both n k))))
+    sym (bytes_both f (w ++ (h ++ (n ++ k)))
+    ∙ ap (λ l. pieces_bytes f ++ l) (bytes_both w (h ++ (n ++ k))
+    ∙ ap (λ l. pieces_bytes w ++ l) (bytes_both h (n ++ k) ∙ ap (λ l. pieces_bytes h ++ l) (bytes_both n k))))

@@ -11,7 +11,8 @@ returns-then-kind-eq-EOF c =
     let body = c.in-Some.body.now in
     let g = c.loop-kind.invariant in
     let front = subst (λ l. IsFront l c.in-Some.kind body) c.bytes_from.ensures.rest c.in-Some.ensures.some in
-    inr (is_end c.args.bytes.now c.loop-kind.at c.loop-kind.number (as_progress c.loop-kind.loading) c.in-Some.kind body g.ahead front (omega (arith, c.if-kind-eq-EOF.true)))
+    inr (is_end c.args.bytes.now c.loop-kind.at c.loop-kind.number (as_progress c.loop-kind.loading) c.in-Some.kind body
+    g.ahead front (omega (arith, c.if-kind-eq-EOF.true)))
 
 pub returns-in-Err : goal.returns-in-Err
 returns-in-Err c =
@@ -20,8 +21,12 @@ returns-in-Err c =
     let front = subst (λ l. IsFront l c.in-Some.kind body) c.bytes_from.ensures.rest c.in-Some.ensures.some in
     elim c.in-Err.ensures.fault [
       | inl e ↦ inl (ap Err e)
-      | inr m ↦ inr (is_fault c.args.bytes.now c.loop-kind.at c.loop-kind.number (as_progress c.loop-kind.loading) c.in-Some.kind body g.ahead front c.in-Err.fault
-          (λ i. omega (arith, c.type_inv.bytes i)) (λ e. absurd (omega (arith, e, c.if-kind-eq-EOF.false))) (ap (meaning_by c.loop-kind.number body) (sym c.kind_of.ensures) ∙ m))
+      | inr m ↦
+          inr
+          (is_fault c.args.bytes.now c.loop-kind.at c.loop-kind.number (as_progress c.loop-kind.loading) c.in-Some.kind
+          body g.ahead front c.in-Err.fault
+          (λ i. omega (arith, c.type_inv.bytes i)) (λ e. absurd (omega (arith, e, c.if-kind-eq-EOF.false)))
+          (ap (meaning_by c.loop-kind.number body) (sym c.kind_of.ensures) ∙ m))
     ]
 
 pub loop-kind-preserved : goal.loop-kind-preserved
@@ -38,9 +43,12 @@ loop-kind-preserved c =
       counted = omega (arith, g.counted);
       minded = c.in-Ok.ensures.minded;
       ahead = subst (Ahead bytes (at + (4 + length body)) (n + 1)) (sym x.2)
-          (goes_on bytes at n r c.in-Some.kind body g.ahead front x.0 (λ e. absurd (omega (arith, e, c.if-kind-eq-EOF.false))) (ap (meaning_by n body) (sym c.kind_of.ensures) ∙ x.1));
+          (goes_on bytes at n r c.in-Some.kind body g.ahead front x.0
+          (λ e. absurd (omega (arith, e, c.if-kind-eq-EOF.false)))
+          (ap (meaning_by n body) (sym c.kind_of.ensures) ∙ x.1));
     }
 
 pub returns : goal.returns
 returns c =
-    inr (is_cut c.args.bytes.now c.loop-kind.at c.loop-kind.number (as_progress c.loop-kind.loading) c.loop-kind.invariant.ahead (λ p rest h e. c.in_default.ensures.none p rest h (c.bytes_from.ensures.rest ∙ e)))
+    inr (is_cut c.args.bytes.now c.loop-kind.at c.loop-kind.number (as_progress c.loop-kind.loading)
+    c.loop-kind.invariant.ahead (λ p rest h e. c.in_default.ensures.none p rest h (c.bytes_from.ensures.rest ∙ e)))

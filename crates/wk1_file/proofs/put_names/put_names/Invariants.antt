@@ -9,4 +9,6 @@ use Rattle.wk1_file.specs.inner.Written.{Writes}
 use Rattle.wk1_file.proofs.put_names.put_names.Given as goal
 
 abbrev pub invariant-loop-key : goal.invariant-loop-key
-invariant-loop-key l = Writes {X = List ℕ × Extent} (λ e. piece_bytes (name_piece (name_in e.0) e.1)) (λ e. IsExtent e.1) l.fn.into.items l.into.items l.key-iterator (finite.entries l.names)
+invariant-loop-key l =
+    Writes {X = List ℕ × Extent} (λ e. piece_bytes (name_piece (name_in e.0) e.1)) (λ e. IsExtent e.1) l.fn.into.items
+    l.into.items l.key-iterator (finite.entries l.names)

@@ -12,5 +12,6 @@ loop-col-preserved c =
     let k = c.loop-col.col in
     elim c.if-is_marked.branch [
       | then-is_marked w ↦ w.last-is ∙ sym (marked_next g k (sym c.is_marked.ensures ∙ w.if-is_marked.true))
-      | else-is_marked w ↦ w.last-is ∙ c.loop-col.invariant ∙ sym (unmarked_next g k (sym c.is_marked.ensures ∙ w.if-is_marked.false))
+      | else-is_marked w ↦
+          w.last-is ∙ c.loop-col.invariant ∙ sym (unmarked_next g k (sym c.is_marked.ensures ∙ w.if-is_marked.false))
     ]

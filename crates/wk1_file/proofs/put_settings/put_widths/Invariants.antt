@@ -6,4 +6,6 @@ use Rattle.wk1_file.specs.inner.Written.{Writes}
 use Rattle.wk1_file.proofs.put_settings.put_widths.Given as goal
 
 abbrev pub invariant-loop-col : goal.invariant-loop-col
-invariant-loop-col l = Writes (λ col. pieces_bytes (width_piece col (width_of l.store col))) (λ col. get_or l.store.widths col 0 ≤ 240) l.fn.into.items l.into.items (drop l.col columns) columns
+invariant-loop-col l =
+    Writes (λ col. pieces_bytes (width_piece col (width_of l.store col))) (λ col. get_or l.store.widths col 0 ≤ 240)
+    l.fn.into.items l.into.items (drop l.col columns) columns

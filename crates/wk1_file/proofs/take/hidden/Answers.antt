@@ -13,4 +13,5 @@ loop-at-preserved c =
     let there : at < length old.store.hidden = omega (arith, c.loop-at-test.true, c.are_columns.ensures.hidden) in
     ap (λ (g : Grid). record c.loop-at.sheet { store = g }) c.set_hidden.ensures
     ∙ ap (λ (w : SavedSheet). record w { store = set_hidden_of w.store at (get_or bits at false) }) c.loop-at.invariant
-    ∙ ap (λ (l : List Bool). record old { store = record old.store { hidden = l } }) (one_mark bits old.store.hidden at inside there)
+    ∙ ap (λ (l : List Bool). record old { store = record old.store { hidden = l } })
+    (one_mark bits old.store.hidden at inside there)
