@@ -1,5 +1,6 @@
 -- A function's code is found as the function.
-use Rattle.std.proofs.Common.{◌≡◌, ℕ, ◌≤◌, Bool, true, false, cond, ◌==◌, nat_le, List, [], ◌∷◌, map, Option, Some, None, refl, sym, ap, ◌∙◌, arith, inl, inr}
+use Rattle.std.proofs.Common.{◌≡◌, ℕ, ◌≤◌, Bool, true, false, cond, ◌==◌, nat_le, List, [], ◌∷◌, map, Option, Some}
+use Rattle.std.proofs.Common.{None, refl, sym, ap, ◌∙◌, arith, inl, inr}
 use Rattle.std.proofs.lemmas.Bool.{cases_Bool, eqb-true}
 use Rattle.std.proofs.lemmas.Bool.Decides.{nat_tests}
 use Rattle.formula_tree.specs.Table.{functions}
@@ -36,11 +37,16 @@ first x f h = ap (λ o. pick o) h
 none : (f : Function) → None ≡ Some f → ⊥
 none f h = absurd cc
 
-among : (fs : List Function) (code : ℕ) (f : Function) → found_in (map (λ f. (code_of f, f)) fs) code ≡ Some f → code_of f ≡ code
+among : (fs : List Function) (code : ℕ) (f : Function) → found_in (map (λ f. (code_of f, f)) fs) code ≡ Some f
+    → code_of f ≡ code
 among [] code f h = absurd (none f h)
 among (x ∷ fs) code f h = elim (cases_Bool (code_of x == code)) [
-  | inl here ↦ ap code_of (sym (first x f (sym (ap (λ b. cond b (Some x) (found_in (map (λ f. (code_of f, f)) fs) code)) here) ∙ h))) ∙ eqb-true (code_of x) code here
-  | inr later ↦ among fs code f (sym (ap (λ b. cond b (Some x) (found_in (map (λ f. (code_of f, f)) fs) code)) later) ∙ h)
+  | inl here ↦
+      ap code_of
+      (sym (first x f (sym (ap (λ b. cond b (Some x) (found_in (map (λ f. (code_of f, f)) fs) code)) here) ∙ h)))
+      ∙ eqb-true (code_of x) code here
+  | inr later ↦
+      among fs code f (sym (ap (λ b. cond b (Some x) (found_in (map (λ f. (code_of f, f)) fs) code)) later) ∙ h)
 ]
 
 pub told : (code : ℕ) (f : Function) → function_of code ≡ Some f → code_of f ≡ code

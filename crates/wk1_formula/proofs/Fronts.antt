@@ -1,5 +1,6 @@
 -- The code that is written is at the front of its bytes, whatever follows.
-use Rattle.std.proofs.Common.{◌≡◌, ℕ, ◌+◌, ◌-◌, ◌*◌, ◌/◌, ◌%◌, ◌^◌, ◌≤◌, ◌<◌, true, false, nat_le, List, [], ◌∷◌, ◌++◌, length, refl, ap, ◌∙◌, arith, inl, inr}
+use Rattle.std.proofs.Common.{◌≡◌, ℕ, ◌+◌, ◌-◌, ◌*◌, ◌/◌, ◌%◌, ◌^◌, ◌≤◌, ◌<◌, true, false, nat_le, List, [], ◌∷◌, ◌++◌}
+use Rattle.std.proofs.Common.{length, refl, ap, ◌∙◌, arith, inl, inr}
 use Rattle.std.specs.Int.{from_le_bytes, to_le_bytes, w16, w64}
 use Rattle.std.specs.Int.RustNames.{int_lt}
 use Rattle.std.specs.List.{list_all}
@@ -16,12 +17,14 @@ use Rattle.formula_tree.specs.Ranges.{is_reference, is_text}
 use Rattle.formula_tree.specs.Shape.{has_no_quote, is_short, not_negative}
 use Rattle.formula_tree.specs.Table.{call_size, counts_of, counts_size, takes}
 use Rattle.formula_tree.specs.declared.ast.Op.{Op}
-use Rattle.formula_tree.specs.declared.ast.Op.TheVariants.{Pow, Mul, Div, Add, Sub, Eq, Ne, Lt, Gt, Le, Ge, And, Or, Join}
+use Rattle.formula_tree.specs.declared.ast.Op.TheVariants.{Pow, Mul, Div, Add, Sub, Eq, Ne, Lt, Gt, Le, Ge, And, Or}
+use Rattle.formula_tree.specs.declared.ast.Op.TheVariants.{Join}
 use Rattle.wk1_formula.specs.Codes.{number, reference, range, text, operator, function}
 use Rattle.wk1_formula.specs.Doubles.{bits_of}
 use Rattle.wk1_formula.specs.Kinds.{front_kind, function_kind, kind_of, op_code, operator_kind, operator_of}
 use Rattle.wk1_formula.specs.declared.kind.CodeKind.TheVariants as kind
-use Rattle.wk1_formula.specs.Reading.{axis_of, before_zero, both_axes, text_code, front_of, is_formula_text, least_of, reference_at, short_at, short_value, with_byte, whole}
+use Rattle.wk1_formula.specs.Reading.{axis_of, before_zero, both_axes, text_code, front_of, is_formula_text, least_of}
+use Rattle.wk1_formula.specs.Reading.{reference_at, short_at, short_value, with_byte, whole}
 use Rattle.wk1_formula.specs.Written.{coordinate, function_bytes, number_bytes, reference_bytes}
 use Rattle.wk1_formula.proofs.Bits.{bits_back, written}
 use Rattle.formula_tree.specs.declared.function.Function.{Function}
@@ -52,7 +55,9 @@ zero_bits v none = rw none refl
 pub bits_most : (v : ℤ) → nat_abs v ≤ 999999999999999 → bits_of v < 2 ^ 64
 bits_most v most =
     elim (cases_Bool (nat_lt 0 (nat_abs v))) [
-      | inl some ↦ (let w = written v (grind (arith, nat_tests, some)) most in omega (arith, w.bits_are, w.scale_from, sign_most v, even_most (nat_abs v * 2 ^ w.scale) w.below))
+      | inl some ↦
+          (let w = written v (grind (arith, nat_tests, some)) most in
+          omega (arith, w.bits_are, w.scale_from, sign_most v, even_most (nat_abs v * 2 ^ w.scale) w.below))
       | inr none ↦ (let e : bits_of v ≡ 0 = zero_bits v (grind (arith, nat_tests, none)) in omega (arith, e))
     ]
 
@@ -64,7 +69,8 @@ short_is (pos n) sign short =
     let x = and_parts (n % 1000000 == 0) (nat_le n 32767000000) short in
     let whole : n % 1000000 ≡ 0 = grind (arith, nat_tests, x.0) in
     let few : n ≤ 32767000000 = grind (arith, nat_tests, x.1) in
-    let less : nat_lt (n / 1000000) 32768 ≡ true = (let h : n / 1000000 < 32768 = omega (arith, few) in grind (arith, nat_tests, h)) in
+    let less : nat_lt (n / 1000000) 32768 ≡ true =
+    (let h : n / 1000000 < 32768 = omega (arith, few) in grind (arith, nat_tests, h)) in
     rw less (ap pos (omega (arith, whole)))
 short_is (negsuc n) sign short = absurd cc
 
@@ -74,17 +80,24 @@ short_size v short =
     let few : nat_abs v ≤ 32767000000 = grind (arith, nat_tests, x.1) in
     omega (arith, few)
 
-pub number_front : (v : ℤ) (rest : List ℕ) → not_negative v ≡ true → nat_abs v ≤ 999999999999999 → front_of (number_bytes v ++ rest) ≡ whole (number v) (length (number_bytes v))
+pub number_front : (v : ℤ) (rest : List ℕ) → not_negative v ≡ true → nat_abs v ≤ 999999999999999
+    → front_of (number_bytes v ++ rest) ≡ whole (number v) (length (number_bytes v))
 unfolding front_of kind_of operator_of front_kind
 number_front v rest sign most =
     elim (cases_Bool (is_short v)) [
       | inl short ↦ (
           let n = nat_abs v / 1000000 in
           let size = short_size v short in
-          rw (short, no_less (length (to_le_bytes w16 n ++ rest)) 2 (omega arith), short_again n rest size, short_is v sign short) refl
+          rw (
+            short,
+            no_less (length (to_le_bytes w16 n ++ rest)) 2 (omega arith),
+            short_again n rest size,
+            short_is v sign short,
+          ) refl
           )
       | inr long ↦ (
-          let back : from_le_bytes w64 (to_le_bytes w64 (bits_of v)) ≡ bits_of v = from_le_bytes-to_le_bytes_8 (bits_of v) (bits_most v most) in
+          let back : from_le_bytes w64 (to_le_bytes w64 (bits_of v)) ≡ bits_of v =
+          from_le_bytes-to_le_bytes_8 (bits_of v) (bits_most v most) in
           rw (long, no_less (length (to_le_bytes w64 (bits_of v) ++ rest)) 8 (omega arith), back, bits_back v most) refl
           )
     ]
@@ -129,13 +142,16 @@ row_back n own own_in n_in =
           )
     ]
 
-offset_column : (n own count : ℕ) → count ≡ 256 → own < count → n < count → (32768 + ((own + n) % count + 16384 - own) % 16384) % count ≡ n
+offset_column : (n own count : ℕ) → count ≡ 256 → own < count → n < count
+    → (32768 + ((own + n) % count + 16384 - own) % 16384) % count ≡ n
 offset_column n own count e own_in n_in = rw e (column_back n own (omega (arith, e)) (omega (arith, e)))
 
-offset_row : (n own count : ℕ) → count ≡ 8192 → own < count → n < count → (32768 + ((own + n) % count + 16384 - own) % 16384) % count ≡ n
+offset_row : (n own count : ℕ) → count ≡ 8192 → own < count → n < count
+    → (32768 + ((own + n) % count + 16384 - own) % 16384) % count ≡ n
 offset_row n own count e own_in n_in = rw e (row_back n own (omega (arith, e)) (omega (arith, e)))
 
-axis_back : (a : Axis) (own count : ℕ) → own < count → number_of a < count → (count ≡ 256) ⊎ (count ≡ 8192) → axis_of (coordinate a own count) count ≡ Some a
+axis_back : (a : Axis) (own count : ℕ) → own < count → number_of a < count → (count ≡ 256) ⊎ (count ≡ 8192)
+    → axis_of (coordinate a own count) count ≡ Some a
 axis_back (Fixed n) own count own_in n_in counts =
     let small : count ≤ 8192 = elim counts [ inl e ↦ omega (arith, e) | inr e ↦ omega (arith, e) ] in
     let plain : nat_le 32768 n ≡ false = grind (arith, nat_tests, small, n_in) in
@@ -157,10 +173,14 @@ coordinate_most (Offset n) own count n_in few = omega arith
 -- a reference that is in its ranges
 module _ (r : Reference) (at : Place) (ok : is_reference r ≡ true) (inside : InSheet at) where
   col_in : number_of r.col < 256
-  col_in = (let x = (and_parts (nat_lt (number_of r.col) 256) (nat_lt (number_of r.row) 8192) ok).0 in grind (arith, nat_tests, x))
+  col_in =
+      (let x = (and_parts (nat_lt (number_of r.col) 256) (nat_lt (number_of r.row) 8192) ok).0 in
+      grind (arith, nat_tests, x))
 
   row_in : number_of r.row < 8192
-  row_in = (let x = (and_parts (nat_lt (number_of r.col) 256) (nat_lt (number_of r.row) 8192) ok).1 in grind (arith, nat_tests, x))
+  row_in =
+      (let x = (and_parts (nat_lt (number_of r.col) 256) (nat_lt (number_of r.row) 8192) ok).1 in
+      grind (arith, nat_tests, x))
 
   abbrev col : ℕ
   col = coordinate r.col at.col 256
@@ -181,29 +201,46 @@ module _ (r : Reference) (at : Place) (ok : is_reference r ≡ true) (inside : I
   row_back_to = axis_back r.row at.row 8192 inside.0 row_in (inr refl)
 
   pub first_reference : (rest : List ℕ) → reference_at 0 (reference_bytes r at ++ rest) ≡ Some r
-  first_reference rest = ap (λ n. both_axes (axis_of n 256) (axis_of (from_le_bytes w16 (to_le_bytes w16 row)) 8192)) col_again ∙ ap (λ n. both_axes (axis_of col 256) (axis_of n 8192)) row_again ∙ ap (λ a. both_axes a (axis_of row 8192)) col_back ∙ ap (both_axes (Some r.col)) row_back_to
+  first_reference rest =
+      ap (λ n. both_axes (axis_of n 256) (axis_of (from_le_bytes w16 (to_le_bytes w16 row)) 8192)) col_again
+      ∙ ap (λ n. both_axes (axis_of col 256) (axis_of n 8192)) row_again
+      ∙ ap (λ a. both_axes a (axis_of row 8192)) col_back ∙ ap (both_axes (Some r.col)) row_back_to
 
-  pub second_reference : (s : Reference) (rest : List ℕ) → reference_at 4 ((reference_bytes s at ++ reference_bytes r at) ++ rest) ≡ Some r
-  second_reference s rest = ap (λ n. both_axes (axis_of n 256) (axis_of (from_le_bytes w16 (to_le_bytes w16 row)) 8192)) col_again ∙ ap (λ n. both_axes (axis_of col 256) (axis_of n 8192)) row_again ∙ ap (λ a. both_axes a (axis_of row 8192)) col_back ∙ ap (both_axes (Some r.col)) row_back_to
+  pub second_reference : (s : Reference) (rest : List ℕ)
+      → reference_at 4 ((reference_bytes s at ++ reference_bytes r at) ++ rest) ≡ Some r
+  second_reference s rest =
+      ap (λ n. both_axes (axis_of n 256) (axis_of (from_le_bytes w16 (to_le_bytes w16 row)) 8192)) col_again
+      ∙ ap (λ n. both_axes (axis_of col 256) (axis_of n 8192)) row_again
+      ∙ ap (λ a. both_axes a (axis_of row 8192)) col_back ∙ ap (both_axes (Some r.col)) row_back_to
 
-pub reference_front_is : (r : Reference) (at : Place) (rest : List ℕ) → is_reference r ≡ true → InSheet at → front_of (1 ∷ (reference_bytes r at ++ rest)) ≡ whole (reference r) 5
+pub reference_front_is : (r : Reference) (at : Place) (rest : List ℕ) → is_reference r ≡ true → InSheet at
+    → front_of (1 ∷ (reference_bytes r at ++ rest)) ≡ whole (reference r) 5
 unfolding front_of kind_of operator_of front_kind
-reference_front_is r at rest ok inside = rw (no_less (length (reference_bytes r at ++ rest)) 4 (omega arith), first_reference r at ok inside rest) refl
+reference_front_is r at rest ok inside =
+    rw (no_less (length (reference_bytes r at ++ rest)) 4 (omega arith), first_reference r at ok inside rest) refl
 
-pub range_front_is : (a b : Reference) (at : Place) (rest : List ℕ) → is_reference a ≡ true → is_reference b ≡ true → InSheet at → front_of (2 ∷ ((reference_bytes a at ++ reference_bytes b at) ++ rest)) ≡ whole (range a b) 9
+pub range_front_is : (a b : Reference) (at : Place) (rest : List ℕ) → is_reference a ≡ true → is_reference b ≡ true
+    → InSheet at → front_of (2 ∷ ((reference_bytes a at ++ reference_bytes b at) ++ rest)) ≡ whole (range a b) 9
 unfolding front_of kind_of operator_of front_kind
-range_front_is a b at rest first last inside = rw (no_less (length ((reference_bytes a at ++ reference_bytes b at) ++ rest)) 8 (omega arith), first_reference a at first inside (reference_bytes b at ++ rest), second_reference b at last inside a rest) refl
+range_front_is a b at rest first last inside =
+    rw (
+      no_less (length ((reference_bytes a at ++ reference_bytes b at) ++ rest)) 8 (omega arith),
+      first_reference a at first inside (reference_bytes b at ++ rest),
+      second_reference b at last inside a rest,
+    ) refl
 
 -- ---- texts
 
-pub before_back : (t rest : List ℕ) → list_all (λ b. nat_le 32 b) t ≡ true → before_zero ((t ++ 0 ∷ []) ++ rest) ≡ Some t
+pub before_back : (t rest : List ℕ) → list_all (λ b. nat_le 32 b) t ≡ true
+    → before_zero ((t ++ 0 ∷ []) ++ rest) ≡ Some t
 before_back [] rest h = refl
 before_back (b ∷ bs) rest h =
     let x = and_parts (nat_le 32 b) (list_all (λ c. nat_le 32 c) bs) h in
     let some : (b == 0) ≡ false = grind (arith, nat_tests, x.0) in
     rw some (ap (with_byte b) (before_back bs rest x.1))
 
-pub text_front_is : (t rest : List ℕ) → is_text t ≡ true → has_no_quote t ≡ true → front_of (6 ∷ ((t ++ 0 ∷ []) ++ rest)) ≡ whole (text t) (length t + 2)
+pub text_front_is : (t rest : List ℕ) → is_text t ≡ true → has_no_quote t ≡ true
+    → front_of (6 ∷ ((t ++ 0 ∷ []) ++ rest)) ≡ whole (text t) (length t + 2)
 unfolding front_of kind_of operator_of front_kind
 text_front_is t rest ok plain =
     let bytes = (and_parts (nat_le (length t) 240) (list_all (λ b. nat_le 32 b) t) ok).1 in
@@ -264,7 +301,8 @@ exactly : (c : Counts) (n : ℕ) → takes c n ≡ true → (counts_size c == 2)
 exactly (Exactly k) n e fixed = grind (arith, nat_tests, e)
 exactly (AtLeast k) n e fixed = absurd cc
 
-pub function_front_is : (f : Function) (n : ℕ) (rest : List ℕ) → takes (counts_of f) n ≡ true → front_of (function_bytes f n ++ rest) ≡ whole (function f n) (length (function_bytes f n))
+pub function_front_is : (f : Function) (n : ℕ) (rest : List ℕ) → takes (counts_of f) n ≡ true
+    → front_of (function_bytes f n ++ rest) ≡ whole (function f n) (length (function_bytes f n))
 unfolding front_of
 function_front_is f n rest called =
     elim (cases_Bool (call_size f == 2)) [

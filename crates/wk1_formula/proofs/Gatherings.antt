@@ -1,5 +1,6 @@
 -- What is kept of the arguments of a call.
-use Rattle.std.proofs.Common.{◌≡◌, ℕ, ◌+◌, ◌≤◌, ◌<◌, max, min, Bool, true, false, ◌&&◌, List, [], ◌∷◌, ◌++◌, length, reverse, refl, ap, ◌∙◌, sym, subst, append_assoc, arith, inl, inr, length-append}
+use Rattle.std.proofs.Common.{◌≡◌, ℕ, ◌+◌, ◌≤◌, ◌<◌, max, min, Bool, true, false, ◌&&◌, List, [], ◌∷◌, ◌++◌, length}
+use Rattle.std.proofs.Common.{reverse, refl, ap, ◌∙◌, sym, subst, append_assoc, arith, inl, inr, length-append}
 use Rattle.std.specs.Option.{ForSome}
 use Rattle.std.specs.Prelude.{Option, Some, None, ◌⊎◌}
 use Rattle.std.proofs.lemmas.List.{append-nil, reverse-append}
@@ -13,7 +14,8 @@ use Rattle.wk1_formula.specs.inner.Gathered.{IsGathered}
 use Rattle.wk1_formula.specs.inner.Items.{AreItems, IsItem}
 use Rattle.formula_tree.specs.declared.function.Function.{Function}
 
-depth_more : (ts : List Tree) (t : Tree) → greatest_depth (listed (ts ++ t ∷ [])) ≡ max (greatest_depth (listed ts)) (depth t)
+depth_more : (ts : List Tree) (t : Tree)
+    → greatest_depth (listed (ts ++ t ∷ [])) ≡ max (greatest_depth (listed ts)) (depth t)
 depth_more [] t = omega arith
 depth_more (u ∷ us) t = omega (arith, depth_more us t)
 
@@ -29,11 +31,17 @@ and_last : (a : Bool) → (a && true) ≡ a
 and_last true = refl
 and_last false = refl
 
-fine_more : (ts : List Tree) (t : Tree) → every_one is_fine (listed (ts ++ t ∷ [])) ≡ (every_one is_fine (listed ts) && every is_fine t)
+fine_more : (ts : List Tree) (t : Tree)
+    → every_one is_fine (listed (ts ++ t ∷ [])) ≡ (every_one is_fine (listed ts) && every is_fine t)
 fine_more [] t = and_last (every is_fine t)
-fine_more (u ∷ us) t = ap (λ b. every is_fine u && b) (fine_more us t) ∙ and_step (every is_fine u) (every_one is_fine (listed us)) (every is_fine t)
+fine_more (u ∷ us) t =
+    ap (λ b. every is_fine u && b) (fine_more us t)
+    ∙ and_step (every is_fine u) (every_one is_fine (listed us)) (every is_fine t)
 
-pub gathered_more : (g new : Gathered) (i : Item) (ts : List Tree) (t : Tree) → new.depth ≡ max g.depth i.depth → new.size ≡ min (g.size + i.size) 65520 → ForSome new.exprs (λ l. trees_in l ≡ ts ++ t ∷ []) → (new.exprs ≡ None → (256 < greatest_depth (listed ts)) ⊎ (256 < depth t)) → IsGathered g ts → IsItem i t → IsGathered new (ts ++ t ∷ [])
+pub gathered_more : (g new : Gathered) (i : Item) (ts : List Tree) (t : Tree) → new.depth ≡ max g.depth i.depth
+    → new.size ≡ min (g.size + i.size) 65520 → ForSome new.exprs (λ l. trees_in l ≡ ts ++ t ∷ [])
+    → (new.exprs ≡ None → (256 < greatest_depth (listed ts)) ⊎ (256 < depth t)) → IsGathered g ts → IsItem i t
+    → IsGathered new (ts ++ t ∷ [])
 gathered_more g new i ts t deep long there gone p q = record {
   depth_is = omega (arith, deep, p.depth_is, q.depth_is, depth_more ts t);
   size_is = omega (arith, long, p.size_is, q.size_is, sizes_more ts t);
@@ -46,7 +54,11 @@ count_listed : (ts : List Tree) → count (listed ts) ≡ length ts
 count_listed [] = refl
 count_listed (t ∷ ts) = omega (arith, count_listed ts)
 
-pub call_made : (f : Function) (g : Gathered) (ts : List Tree) (new : Item) → IsGathered g ts → takes (counts_of f) (length ts) ≡ true → new.depth ≡ min (g.depth + 1) 257 → new.size ≡ min (g.size + call_size f) 65520 → new.top ≡ 8 → new.edge ≡ 8 → ForSome new.expr (λ e. tree_of e ≡ call f (listed ts)) → (new.expr ≡ None → 256 < 1 + greatest_depth (listed ts)) → IsItem new (call f (listed ts))
+pub call_made : (f : Function) (g : Gathered) (ts : List Tree) (new : Item) → IsGathered g ts
+    → takes (counts_of f) (length ts) ≡ true → new.depth ≡ min (g.depth + 1) 257
+    → new.size ≡ min (g.size + call_size f) 65520 → new.top ≡ 8 → new.edge ≡ 8
+    → ForSome new.expr (λ e. tree_of e ≡ call f (listed ts)) → (new.expr ≡ None → 256 < 1 + greatest_depth (listed ts))
+    → IsItem new (call f (listed ts))
 call_made f g ts new p taken deep long top edge there gone = record {
   depth_is = omega (arith, deep, p.depth_is);
   size_is = omega (arith, long, p.size_is);
@@ -72,14 +84,27 @@ parted [] i (t ∷ u ∷ us) h = absurd h.1
 parted (j ∷ js) i [] h = absurd h
 parted (j ∷ js) i (t ∷ ts) h =
     let p = parted js i ts h.1 in
-    record { front = t ∷ p.front; last = p.last; whole = ap (λ l. t ∷ l) p.whole; items = (h.0, p.items); item = p.item }
+    record {
+      front = t ∷ p.front;
+      last = p.last;
+      whole = ap (λ l. t ∷ l) p.whole;
+      items = (h.0, p.items);
+      item = p.item;
+    }
 
 -- the last of some items goes to those that were taken
-pub last_taken : (stack now args new old : List Item) (i : Item) (n count : ℕ) → stack ≡ now ++ i ∷ [] → new ≡ args ++ i ∷ []
-    → (stack ++ reverse args ≡ old) × (length args ≡ n) × (count ≤ length stack + n) → (now ++ reverse new ≡ old) × (length new ≡ n + 1) × (count ≤ length now + (n + 1))
+pub last_taken : (stack now args new old : List Item) (i : Item) (n count : ℕ) → stack ≡ now ++ i ∷ []
+    → new ≡ args ++ i ∷ []
+    → (stack ++ reverse args ≡ old) × (length args ≡ n) × (count ≤ length stack + n)
+    → (now ++ reverse new ≡ old) × (length new ≡ n + 1) × (count ≤ length now + (n + 1))
 last_taken stack now args new old i n count left taken h =
-    let kept = ap (λ l. now ++ reverse l) taken ∙ ap (λ l. now ++ l) (reverse-append args (i ∷ [])) ∙ sym (append_assoc now (i ∷ []) (reverse args)) ∙ ap (λ l. l ++ reverse args) (sym left) ∙ h.0 in
-    (kept, omega (arith, h.1, ap length taken, length-append args (i ∷ [])), omega (arith, h.2, ap length left, length-append now (i ∷ [])))
+    let kept =
+    ap (λ l. now ++ reverse l) taken ∙ ap (λ l. now ++ l) (reverse-append args (i ∷ []))
+    ∙ sym (append_assoc now (i ∷ []) (reverse args)) ∙ ap (λ l. l ++ reverse args) (sym left) ∙ h.0 in (
+      kept,
+      omega (arith, h.1, ap length taken, length-append args (i ∷ [])),
+      omega (arith, h.2, ap length left, length-append now (i ∷ [])),
+    )
 
 -- some of the trees wait, and the others are gathered
 pub record Waits (is : List Item) (g : Gathered) (ts : List Tree) : Type 0 where
@@ -92,7 +117,8 @@ pub record Waits (is : List Item) (g : Gathered) (ts : List Tree) : Type 0 where
 pub waits_first : (is : List Item) (g : Gathered) (ts : List Tree) → AreItems is ts → IsGathered g [] → Waits is g ts
 waits_first is g ts h p = record { waiting = ts; done = []; whole = sym (append-nil ts); items = h; gathered = p }
 
-pub waits_next : (is : List Item) (i : Item) (g new : Gathered) (ts : List Tree) → Waits (is ++ i ∷ []) g ts → ((us : List Tree) (t : Tree) → IsGathered g us → IsItem i t → IsGathered new (us ++ t ∷ [])) → Waits is new ts
+pub waits_next : (is : List Item) (i : Item) (g new : Gathered) (ts : List Tree) → Waits (is ++ i ∷ []) g ts
+    → ((us : List Tree) (t : Tree) → IsGathered g us → IsItem i t → IsGathered new (us ++ t ∷ [])) → Waits is new ts
 waits_next is i g new ts w more =
     let p = parted is i w.waiting w.items in
     record {
@@ -100,10 +126,13 @@ waits_next is i g new ts w more =
       done = p.last ∷ w.done;
       whole = w.whole ∙ ap (λ l. l ++ w.done) p.whole ∙ append_assoc p.front (p.last ∷ []) w.done;
       items = p.items;
-      gathered = subst (IsGathered new) (sym (reverse-append (p.last ∷ []) w.done)) (more (reverse w.done) p.last w.gathered p.item);
+      gathered =
+          subst (IsGathered new) (sym (reverse-append (p.last ∷ []) w.done))
+          (more (reverse w.done) p.last w.gathered p.item);
     }
 
-waited : (g : Gathered) (ts us vs : List Tree) → ts ≡ us ++ vs → AreItems [] us → IsGathered g (reverse vs) → IsGathered g (reverse ts)
+waited : (g : Gathered) (ts us vs : List Tree) → ts ≡ us ++ vs → AreItems [] us → IsGathered g (reverse vs)
+    → IsGathered g (reverse ts)
 waited g ts [] vs whole items p = subst (λ l. IsGathered g (reverse l)) (sym whole) p
 waited g ts (u ∷ us) vs whole items p = absurd items
 

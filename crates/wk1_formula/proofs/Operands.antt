@@ -33,8 +33,10 @@ too_deep n d e gone (inl a) = omega (arith, gone a)
 too_deep n d e gone (inr h) = omega (arith, e, h)
 
 -- the item of a bracket, a minus or a NOT over a tree
-pub over_made : (one : One) (i new : Item) (t : Tree) → IsOver one i new → ForSome new.expr (λ e. tree_of e ≡ built one t)
-    → (new.expr ≡ None → (i.expr ≡ None) ⊎ (256 < new.depth)) → IsItem i t → fits one t ≡ true → IsItem new (built one t)
+pub over_made : (one : One) (i new : Item) (t : Tree) → IsOver one i new
+    → ForSome new.expr (λ e. tree_of e ≡ built one t)
+    → (new.expr ≡ None → (i.expr ≡ None) ⊎ (256 < new.depth)) → IsItem i t → fits one t ≡ true
+    → IsItem new (built one t)
 over_made Group i new t o there gone p fit =
     let deep = one_deeper new.depth i.depth (depth t) o.depth_is p.depth_is in
     record {
@@ -81,7 +83,8 @@ deeper_two : (n k m a b : ℕ) → n ≡ min (max k m + 1) 257 → k ≡ min a 2
 deeper_two n k m a b e f g = omega (arith, e, f, g)
 
 -- one byte more than two have, up to the most
-larger_two : (n k m a b : ℕ) → n ≡ min (min (k + m) 65520 + 1) 65520 → k ≡ min a 65520 → m ≡ min b 65520 → n ≡ min (1 + (a + b)) 65520
+larger_two : (n k m a b : ℕ) → n ≡ min (min (k + m) 65520 + 1) 65520 → k ≡ min a 65520 → m ≡ min b 65520
+    → n ≡ min (1 + (a + b)) 65520
 larger_two n k m a b e f g = omega (arith, e, f, g)
 
 -- one of two trees that isn't kept is too deep
@@ -90,7 +93,8 @@ deep_two a b p q (inl x) = omega (arith, p x)
 deep_two a b p q (inr y) = omega (arith, q y)
 
 -- the item of an operator between two trees
-pub between_made : (op : Op) (i j new : Item) (a b : Tree) → IsBetween op i j new → ForSome new.expr (λ e. tree_of e ≡ binary op a b)
+pub between_made : (op : Op) (i j new : Item) (a b : Tree) → IsBetween op i j new
+    → ForSome new.expr (λ e. tree_of e ≡ binary op a b)
     → (new.expr ≡ None → ((i.expr ≡ None) ⊎ (j.expr ≡ None)) ⊎ (256 < new.depth)) → IsItem i a → IsItem j b
     → nat_le (level op) (lowest a) ≡ true → nat_lt (level op) (top b) ≡ true → IsItem new (binary op a b)
 between_made op i j new a b o there gone p q left right =
@@ -102,19 +106,25 @@ between_made op i j new a b o there gone p q left right =
       edge_is = rw (← q.edge_is) o.edge_is;
       fine = rw (left, right, p.fine, q.fine) refl;
       there = there;
-      gone = λ e. too_deep new.depth (max (depth a) (depth b)) deep (deep_two (depth a) (depth b) p.gone q.gone) (gone e);
+      gone =
+          λ e. too_deep new.depth (max (depth a) (depth b)) deep (deep_two (depth a) (depth b) p.gone q.gone) (gone e);
     }
 
 -- an operand that a minus or a NOT holds, or one with a bracket round it
-pub front_held : (least : ℕ) (i j : Item) (t : Tree) → IsItem i t → IsItem j (if nat_lt least i.top then t else group t) → IsItem j (front_operand least t)
+pub front_held : (least : ℕ) (i j : Item) (t : Tree) → IsItem i t → IsItem j (if nat_lt least i.top then t else group t)
+    → IsItem j (front_operand least t)
 front_held least i j t p h = subst (λ n. IsItem j (if nat_lt least n then t else group t)) p.top_is h
 
 -- a left operand that an operator holds, or one with a bracket round it
-pub left_held : (op : Op) (n : ℕ) (i j : Item) (t : Tree) → n ≡ level op → IsItem i t → IsItem j (if nat_le n i.edge then t else group t) → IsItem j (left_operand op t)
+pub left_held : (op : Op) (n : ℕ) (i j : Item) (t : Tree) → n ≡ level op → IsItem i t
+    → IsItem j (if nat_le n i.edge then t else group t) → IsItem j (left_operand op t)
 left_held op n i j t e p h =
-    subst (λ k. IsItem j (if nat_le k (lowest t) then t else group t)) e (subst (λ k. IsItem j (if nat_le n k then t else group t)) p.edge_is h)
+    subst (λ k. IsItem j (if nat_le k (lowest t) then t else group t)) e
+    (subst (λ k. IsItem j (if nat_le n k then t else group t)) p.edge_is h)
 
 -- a right operand that an operator holds, or one with a bracket round it
-pub right_held : (op : Op) (n : ℕ) (i j : Item) (t : Tree) → n ≡ level op → IsItem i t → IsItem j (if nat_lt n i.top then t else group t) → IsItem j (right_operand op t)
+pub right_held : (op : Op) (n : ℕ) (i j : Item) (t : Tree) → n ≡ level op → IsItem i t
+    → IsItem j (if nat_lt n i.top then t else group t) → IsItem j (right_operand op t)
 right_held op n i j t e p h =
-    subst (λ k. IsItem j (if nat_lt k (top t) then t else group t)) e (subst (λ k. IsItem j (if nat_lt n k then t else group t)) p.top_is h)
+    subst (λ k. IsItem j (if nat_lt k (top t) then t else group t)) e
+    (subst (λ k. IsItem j (if nat_lt n k then t else group t)) p.top_is h)

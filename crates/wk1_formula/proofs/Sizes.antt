@@ -40,8 +40,23 @@ mutual
   nodes_long p (group a) = omega (arith, joined p (postfix a) (brackets ∷ []), nodes_long p a, one p brackets)
   nodes_long p (neg a) = omega (arith, joined p (postfix a) (minus ∷ []), nodes_long p a, one p minus)
   nodes_long p (not a) = omega (arith, joined p (postfix a) (negation ∷ []), nodes_long p a, one p negation)
-  nodes_long p (binary op a b) = omega (arith, joined p (postfix a) (postfix b ++ operator op ∷ []), joined p (postfix b) (operator op ∷ []), nodes_long p a, nodes_long p b, one p (operator op))
-  nodes_long p (call f ts) = omega (arith, joined p (postfix_all ts) (function f (count ts) ∷ []), all_long p ts, one p (function f (count ts)), function_size f (count ts))
+  nodes_long p (binary op a b) =
+      omega (
+        arith,
+        joined p (postfix a) (postfix b ++ operator op ∷ []),
+        joined p (postfix b) (operator op ∷ []),
+        nodes_long p a,
+        nodes_long p b,
+        one p (operator op),
+      )
+  nodes_long p (call f ts) =
+      omega (
+        arith,
+        joined p (postfix_all ts) (function f (count ts) ∷ []),
+        all_long p ts,
+        one p (function f (count ts)),
+        function_size f (count ts),
+      )
 
   all_long : (p : Place) (ts : Trees) → length (spelled p (postfix_all ts)) ≡ all_sizes ts
   all_long p no_trees = refl

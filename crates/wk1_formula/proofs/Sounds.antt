@@ -8,7 +8,8 @@ use Rattle.fixed_value.specs.declared.doubles.DoubleRead.TheVariants as double
 use Rattle.grid_address.specs.Axes.{Reference}
 use Rattle.formula_tree.specs.Table.{call_size, counts_of, counts_size, takes}
 use Rattle.wk1_formula.specs.Kinds.{kind_of}
-use Rattle.wk1_formula.specs.Reading.{before_zero, counted_front, double_code, front_by, front_of, function_front, is_formula_text, least_of, one_reference, text_code, two_references, with_byte}
+use Rattle.wk1_formula.specs.Reading.{before_zero, counted_front, double_code, front_by, front_of, function_front}
+use Rattle.wk1_formula.specs.Reading.{is_formula_text, least_of, one_reference, text_code, two_references, with_byte}
 use Rattle.wk1_formula.specs.inner.Steps.{IsSound}
 use Rattle.wk1_formula.specs.declared.kind.CodeKind.{CodeKind}
 use Rattle.wk1_formula.specs.declared.kind.CodeKind.TheVariants as kind
@@ -31,7 +32,8 @@ two_sound (Some a) (Some b) len h = (refl, omega arith, h)
 two_sound (Some a) None len h = tt
 two_sound None b len h = tt
 
-none_more : (b : ℕ) (o : Option (List ℕ)) (t : List ℕ) → with_byte b o ≡ Some t → (u : List ℕ) × (o ≡ Some u) × (t ≡ b ∷ u)
+none_more : (b : ℕ) (o : Option (List ℕ)) (t : List ℕ) → with_byte b o ≡ Some t
+    → (u : List ℕ) × (o ≡ Some u) × (t ≡ b ∷ u)
 none_more b None t e = absurd cc
 none_more b (Some u) t e = (u, refl, cc)
 
@@ -43,7 +45,8 @@ zero_behind [] t e = absurd cc
 zero_behind (b ∷ bs) t e =
     elim (cases_Bool (b == 0)) [
       | inl z ↦ (let x : [] ≡ t = some_is (rw z at e) in omega (arith, ap length x))
-      | inr z ↦ (let x = none_more b (before_zero bs) t (rw z at e) in omega (arith, zero_behind bs x.0 x.1, ap length x.2))
+      | inr z ↦
+          (let x = none_more b (before_zero bs) t (rw z at e) in omega (arith, zero_behind bs x.0 x.1, ap length x.2))
     ]
 
 text_sound : (o : Option (List ℕ)) (bytes : List ℕ) → before_zero bytes ≡ o → IsSound (text_code o) (suc (length bytes))
@@ -78,17 +81,23 @@ by_kind : (k : CodeKind) (code : ℕ) (bytes : List ℕ) → IsSound (front_by k
 by_kind kind.Double code bytes =
     elim (cases_Bool (nat_lt (length bytes) 8)) [
       | inl e ↦ rw e tt
-      | inr e ↦ (let long : 9 ≤ suc (length bytes) = grind (arith, nat_tests, e) in rw e (double_sound _ (suc (length bytes)) long))
+      | inr e ↦
+          (let long : 9 ≤ suc (length bytes) = grind (arith, nat_tests, e) in
+          rw e (double_sound _ (suc (length bytes)) long))
     ]
 by_kind kind.Reference code bytes =
     elim (cases_Bool (nat_lt (length bytes) 4)) [
       | inl e ↦ rw e tt
-      | inr e ↦ (let long : 5 ≤ suc (length bytes) = grind (arith, nat_tests, e) in rw e (one_sound _ (suc (length bytes)) long))
+      | inr e ↦
+          (let long : 5 ≤ suc (length bytes) = grind (arith, nat_tests, e) in
+          rw e (one_sound _ (suc (length bytes)) long))
     ]
 by_kind kind.Range code bytes =
     elim (cases_Bool (nat_lt (length bytes) 8)) [
       | inl e ↦ rw e tt
-      | inr e ↦ (let long : 9 ≤ suc (length bytes) = grind (arith, nat_tests, e) in rw e (two_sound _ _ (suc (length bytes)) long))
+      | inr e ↦
+          (let long : 9 ≤ suc (length bytes) = grind (arith, nat_tests, e) in
+          rw e (two_sound _ _ (suc (length bytes)) long))
     ]
 by_kind kind.Finish code bytes = tt
 by_kind kind.Brackets code bytes = (refl, omega arith, omega arith)

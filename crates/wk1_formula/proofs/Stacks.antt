@@ -1,5 +1,6 @@
 -- The arguments of a call on a stack.
-use Rattle.std.proofs.Common.{◌≡◌, ◌≤◌, true, nat_le, List, [], ◌∷◌, ◌++◌, length, reverse, refl, ap, ◌∙◌, sym, append_assoc, arith, length-append}
+use Rattle.std.proofs.Common.{◌≡◌, ◌≤◌, true, nat_le, List, [], ◌∷◌, ◌++◌, length, reverse, refl, ap, ◌∙◌, sym}
+use Rattle.std.proofs.Common.{append_assoc, arith, length-append}
 use Rattle.std.specs.Prelude.{Some}
 use Rattle.std.proofs.lemmas.Bool.Decides.{nat_tests}
 use Rattle.std.proofs.lemmas.List.{drop_at, length-reverse, reverse-append, reverse-reverse, take_at}
@@ -30,11 +31,18 @@ count_is no_trees = refl
 count_is (trees t ts) = omega (arith, count_is ts)
 
 -- a call takes the arguments that were put
-pub called_piled : (f : Function) (ts : Trees) (stack : List Tree) → called f (count ts) (piled ts stack) ≡ Some (call f ts ∷ stack)
+pub called_piled : (f : Function) (ts : Trees) (stack : List Tree)
+    → called f (count ts) (piled ts stack) ≡ Some (call f ts ∷ stack)
 called_piled f ts stack =
     let args = reverse (listed_parts ts) in
     let len : length args ≡ count ts = length-reverse (listed_parts ts) ∙ sym (count_is ts) in
     let long : count ts ≤ length (args ++ stack) = omega (arith, len, length-append args stack) in
     let enough : nat_le (count ts) (length (args ++ stack)) ≡ true = grind (arith, nat_tests, long) in
     ap (called f (count ts)) (piled_is ts stack)
-    ∙ rw (enough, take_at args stack (count ts) len, drop_at args stack (count ts) len, reverse-reverse (listed_parts ts), listed_back ts) refl
+    ∙ rw (
+      enough,
+      take_at args stack (count ts) len,
+      drop_at args stack (count ts) len,
+      reverse-reverse (listed_parts ts),
+      listed_back ts,
+    ) refl

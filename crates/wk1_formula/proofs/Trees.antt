@@ -1,5 +1,6 @@
 -- What every node of a tree passes, its arguments' nodes pass.
-use Rattle.std.proofs.Common.{◌≡◌, ℕ, zero, suc, ◌≤◌, ◌<◌, Bool, true, ◌&&◌, nat_le, map, get_or, List, [], ◌∷◌, ◌++◌, length, refl, ap, ◌∙◌, sym, arith}
+use Rattle.std.proofs.Common.{◌≡◌, ℕ, zero, suc, ◌≤◌, ◌<◌, Bool, true, ◌&&◌, nat_le, map, get_or, List, [], ◌∷◌, ◌++◌}
+use Rattle.std.proofs.Common.{length, refl, ap, ◌∙◌, sym, arith}
 use Rattle.std.specs.List.{list_all}
 use Rattle.std.specs.Prelude.{flat_map}
 use Rattle.std.proofs.lemmas.Bool.{and_parts}
@@ -8,7 +9,8 @@ use Rattle.std.proofs.lemmas.Grind.{flat_map-append}
 use Rattle.std.proofs.lemmas.List.{append-nil}
 use Rattle.formula_tree.specs.declared.ast.Expr.{Expr}
 use Rattle.formula_tree.specs.Tree.{Tree, num, str, cell, span, group, neg, not, binary, call, Trees, no_trees, trees}
-use Rattle.formula_tree.specs.Shape.{code_size, has_shape, every, every_one, is_bracketed, is_counted, is_fine, is_plain}
+use Rattle.formula_tree.specs.Shape.{code_size, has_shape, every, every_one, is_bracketed, is_counted, is_fine}
+use Rattle.formula_tree.specs.Shape.{is_plain}
 use Rattle.formula_tree.specs.Table.{counts_of, takes}
 use Rattle.formula_tree.specs.View.{listed, tree_of}
 use Rattle.grid_address.specs.Place.{Place}
@@ -25,39 +27,54 @@ and_both a b p q = rw (p, q) refl
 
 mutual
   -- a test that follows from another
-  pub weaker : (p q : Tree → Bool) → ((t : Tree) → p t ≡ true → q t ≡ true) → (t : Tree) → every p t ≡ true → every q t ≡ true
+  pub weaker : (p q : Tree → Bool) → ((t : Tree) → p t ≡ true → q t ≡ true) → (t : Tree) → every p t ≡ true
+      → every q t ≡ true
   weaker p q h (num v) e = h (num v) e
   weaker p q h (str v) e = h (str v) e
   weaker p q h (cell v) e = h (cell v) e
   weaker p q h (span v w) e = h (span v w) e
-  weaker p q h (group a) e = (let x = and_parts (p (group a)) (every p a) e in and_both _ _ (h (group a) x.0) (weaker p q h a x.1))
-  weaker p q h (neg a) e = (let x = and_parts (p (neg a)) (every p a) e in and_both _ _ (h (neg a) x.0) (weaker p q h a x.1))
-  weaker p q h (not a) e = (let x = and_parts (p (not a)) (every p a) e in and_both _ _ (h (not a) x.0) (weaker p q h a x.1))
+  weaker p q h (group a) e =
+      (let x = and_parts (p (group a)) (every p a) e in and_both _ _ (h (group a) x.0) (weaker p q h a x.1))
+  weaker p q h (neg a) e =
+      (let x = and_parts (p (neg a)) (every p a) e in and_both _ _ (h (neg a) x.0) (weaker p q h a x.1))
+  weaker p q h (not a) e =
+      (let x = and_parts (p (not a)) (every p a) e in and_both _ _ (h (not a) x.0) (weaker p q h a x.1))
   weaker p q h (binary op a b) e =
       let x = and_parts (p (binary op a b)) (every p a && every p b) e in
       let y = and_parts (every p a) (every p b) x.1 in
       and_both _ _ (h (binary op a b) x.0) (and_both _ _ (weaker p q h a y.0) (weaker p q h b y.1))
-  weaker p q h (call f ts) e = (let x = and_parts (p (call f ts)) (every_one p ts) e in and_both _ _ (h (call f ts) x.0) (weaker_each p q h ts x.1))
+  weaker p q h (call f ts) e =
+      (let x = and_parts (p (call f ts)) (every_one p ts) e in
+      and_both _ _ (h (call f ts) x.0) (weaker_each p q h ts x.1))
 
-  pub weaker_each : (p q : Tree → Bool) → ((t : Tree) → p t ≡ true → q t ≡ true) → (ts : Trees) → every_one p ts ≡ true → every_one q ts ≡ true
+  pub weaker_each : (p q : Tree → Bool) → ((t : Tree) → p t ≡ true → q t ≡ true) → (ts : Trees) → every_one p ts ≡ true
+      → every_one q ts ≡ true
   weaker_each p q h no_trees e = refl
-  weaker_each p q h (trees t ts) e = (let x = and_parts (every p t) (every_one p ts) e in and_both _ _ (weaker p q h t x.0) (weaker_each p q h ts x.1))
+  weaker_each p q h (trees t ts) e =
+      (let x = and_parts (every p t) (every_one p ts) e in and_both _ _ (weaker p q h t x.0) (weaker_each p q h ts x.1))
 
 pub fine_counted : (t : Tree) → is_fine t ≡ true → is_counted t ≡ true
-fine_counted t e = (and_parts (is_counted t) (is_plain t) (and_parts (is_bracketed t) (is_counted t && is_plain t) e).1).0
+fine_counted t e =
+    (and_parts (is_counted t) (is_plain t) (and_parts (is_bracketed t) (is_counted t && is_plain t) e).1).0
 
-pub every_listed : (test : Tree → Bool) (es : List Expr) → list_all (λ e. every test (tree_of e)) es ≡ every_one test (listed (map tree_of es))
+pub every_listed : (test : Tree → Bool) (es : List Expr)
+    → list_all (λ e. every test (tree_of e)) es ≡ every_one test (listed (map tree_of es))
 every_listed test [] = refl
 every_listed test (e ∷ es) = ap (λ b. every test (tree_of e) && b) (every_listed test es)
 
-pub spelled_listed : (at : Place) (es : List Expr) → flat_map (λ e. spelled at (postfix (tree_of e))) es ≡ spelled at (postfix_all (listed (map tree_of es)))
+pub spelled_listed : (at : Place) (es : List Expr)
+    → flat_map (λ e. spelled at (postfix (tree_of e))) es ≡ spelled at (postfix_all (listed (map tree_of es)))
 spelled_listed at [] = refl
-spelled_listed at (e ∷ es) = ap (λ l. spelled at (postfix (tree_of e)) ++ l) (spelled_listed at es) ∙ sym (flat_map-append (bytes_of at) (postfix (tree_of e)) (postfix_all (listed (map tree_of es))))
+spelled_listed at (e ∷ es) =
+    ap (λ l. spelled at (postfix (tree_of e)) ++ l) (spelled_listed at es)
+    ∙ sym (flat_map-append (bytes_of at) (postfix (tree_of e)) (postfix_all (listed (map tree_of es))))
 
-pub each_passes : (test : Expr → Bool) (es : List Expr) (i : ℕ) (d : Expr) → list_all test es ≡ true → i < length es → test (get_or es i d) ≡ true
+pub each_passes : (test : Expr → Bool) (es : List Expr) (i : ℕ) (d : Expr) → list_all test es ≡ true → i < length es
+    → test (get_or es i d) ≡ true
 each_passes test [] i d e h = absurd (omega arith)
 each_passes test (x ∷ xs) zero d e h = (and_parts (test x) (list_all test xs) e).0
-each_passes test (x ∷ xs) (suc i) d e h = each_passes test xs i d (and_parts (test x) (list_all test xs) e).1 (omega (arith, h))
+each_passes test (x ∷ xs) (suc i) d e h =
+    each_passes test xs i d (and_parts (test x) (list_all test xs) e).1 (omega (arith, h))
 
 few : (f : Function) → nat_le (least_of (counts_of f)) 255 ≡ true
 few function_named.Na = refl
@@ -73,8 +90,12 @@ pub few_arguments : (f : Function) (n : ℕ) → takes (counts_of f) n ≡ true 
 few_arguments f n e = most_taken (counts_of f) n (few f) e
 
 pub shaped_counted : (t : Tree) → has_shape t ≡ true → every is_counted t ≡ true
-shaped_counted t e = weaker is_fine is_counted fine_counted t (and_parts (every is_fine t) (nat_le (code_size t) 65520) e).0
+shaped_counted t e =
+    weaker is_fine is_counted fine_counted t (and_parts (every is_fine t) (nat_le (code_size t) 65520) e).0
 
 -- a function's bytes stand behind those of its arguments
-pub function_last : (at : Place) (cs : List Code) (f : Function) (n : ℕ) → spelled at (cs ++ function f n ∷ []) ≡ spelled at cs ++ function_bytes f n
-function_last at cs f n = flat_map-append (bytes_of at) cs (function f n ∷ []) ∙ ap (λ l. spelled at cs ++ l) (append-nil (function_bytes f n))
+pub function_last : (at : Place) (cs : List Code) (f : Function) (n : ℕ)
+    → spelled at (cs ++ function f n ∷ []) ≡ spelled at cs ++ function_bytes f n
+function_last at cs f n =
+    flat_map-append (bytes_of at) cs (function f n ∷ [])
+    ∙ ap (λ l. spelled at cs ++ l) (append-nil (function_bytes f n))

@@ -8,7 +8,8 @@ use Rattle.wk1_formula.proofs.stack.call.Goals as goal
 
 pub returns-then-len-from : goal.returns-then-len-from
 returns-then-len-from c ts h =
-    let few : length (reverse c.args.stack.now.items) < c.args.count = omega (arith, length-reverse c.args.stack.now.items, c.if-len-from.true, c.len.ensures, c.from.ensures) in
+    let few : length (reverse c.args.stack.now.items) < c.args.count =
+    omega (arith, length-reverse c.args.stack.now.items, c.if-len-from.true, c.len.ensures, c.from.ensures) in
     lacks_call c.args.function c.args.count (reverse c.args.stack.now.items) few ts h
 
 pub returns : goal.returns
@@ -16,5 +17,7 @@ returns c =
     let args = c.in_ok-args.args.items in
     let rest = reverse c.take_last.new.stack.items in
     let old = turned c.args.stack.now.items c.take_last.new.stack.items args c.in_ok-args.ensures.both in
-    went_on (function c.args.function c.args.count) c.called.result rest _ _ c.go_on.result (λ is ts h. went_call c.args.function c.args.count args rest _ c.in_ok-gathered.gathered c.called.result c.in_ok-args.ensures.count is c.requires c.in_ok-gathered.ensures c.called.ensures ts
+    went_on (function c.args.function c.args.count) c.called.result rest _ _ c.go_on.result
+    (λ is ts h. went_call c.args.function c.args.count args rest _ c.in_ok-gathered.gathered c.called.result
+    c.in_ok-args.ensures.count is c.requires c.in_ok-gathered.ensures c.called.ensures ts
     (subst (λ (l : List Item). AreItems l ts) old h)) c.go_on.ensures

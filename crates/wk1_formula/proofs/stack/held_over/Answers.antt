@@ -5,4 +5,5 @@ use Rattle.wk1_formula.proofs.stack.held_over.Goals as goal
 
 pub returns : goal.returns
 returns c =
-    ok_weaker _ _ c.over.result (λ i h t p. h (held c.args.one t) (c.in_ok-item.ensures t p) (held_fits c.args.one t)) c.over.ensures
+    ok_weaker _ _ c.over.result (λ i h t p. h (held c.args.one t) (c.in_ok-item.ensures t p) (held_fits c.args.one t))
+    c.over.ensures
