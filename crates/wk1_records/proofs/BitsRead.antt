@@ -1,5 +1,6 @@
 -- The bits that are read one by one.
-use Rattle.std.proofs.Common.{◌≡◌, ℕ, zero, suc, ◌+◌, ◌<◌, Bool, false, List, length, map, get_or, take, drop, ◌++◌, [], refl, ap, ◌∙◌, arith}
+use Rattle.std.proofs.Common.{◌≡◌, ℕ, zero, suc, ◌+◌, ◌<◌, Bool, false, List, length, map, get_or, take, drop, ◌++◌, []}
+use Rattle.std.proofs.Common.{refl, ap, ◌∙◌, arith}
 use Rattle.std.specs.List.{range_with_len}
 use Rattle.std.proofs.Math.ListN.{drop_of_length-le}
 use Rattle.std.proofs.lemmas.List.{append-nil, length-map, take_all}
@@ -9,7 +10,8 @@ use Rattle.wk1_records.specs.Meanings.{bit_at, bits_in}
 bit_of : (f : ℕ → Bool) (a n i : ℕ) → i < n → get_or (map f (range_with_len a n)) i false ≡ f (a + i)
 bit_of f a zero i h = absurd (omega (arith, h))
 bit_of f a (suc n) zero h = ap f (let e : a ≡ a + 0 = omega arith in e)
-bit_of f a (suc n) (suc i) h = bit_of f (a + 1) n i (omega (arith, h)) ∙ ap f (let e : a + 1 + i ≡ a + suc i = omega arith in e)
+bit_of f a (suc n) (suc i) h =
+    bit_of f (a + 1) n i (omega (arith, h)) ∙ ap f (let e : a + 1 + i ≡ a + suc i = omega arith in e)
 
 pub bit_in : (body : List ℕ) (at : ℕ) → at < 256 → get_or (bits_in body) at false ≡ bit_at body at
 unfolding bits_in
@@ -20,4 +22,6 @@ unfolding bits_in
 bits_in_long body = length-map (range_with_len 0 256) (bit_at body) ∙ length-range_with_len 0 256
 
 pub all_bits : (bits old : List Bool) (at : ℕ) → length bits ≡ at → length old ≡ at → take at bits ++ drop at old ≡ bits
-all_bits bits old at h k = ap (λ l. l ++ drop at old) (take_all at bits (omega (arith, h))) ∙ ap (λ l. bits ++ l) (drop_of_length-le old (omega (arith, k))) ∙ append-nil bits
+all_bits bits old at h k =
+    ap (λ l. l ++ drop at old) (take_all at bits (omega (arith, h)))
+    ∙ ap (λ l. bits ++ l) (drop_of_length-le old (omega (arith, k))) ∙ append-nil bits

@@ -13,11 +13,14 @@ loop-col-preserved c =
     let inside : at < length bits = omega (arith, c.loop-col-test.true, bits_in_long body) in
     let there : at < length old = omega (arith, c.loop-col-test.true, c.told-bits) in
     ap (λ (l : List Bool). set l at c.bit_at.result) c.loop-col.invariant
-    ∙ ap (λ b. set (take at bits ++ drop at old) at b) (c.bit_at.ensures ∙ sym (bit_in body at (omega (arith, c.loop-col-test.true))))
+    ∙ ap (λ b. set (take at bits ++ drop at old) at b)
+    (c.bit_at.ensures ∙ sym (bit_in body at (omega (arith, c.loop-col-test.true))))
     ∙ one_mark bits old at inside there
 
 pub returns : goal.returns
 returns c =
     let at = c.loop-col.col in
     let end : at ≡ 256 = omega (arith, c.loop-col-test.false, c.loop-col.auto.col-end) in
-    c.loop-col.invariant ∙ all_bits (bits_in c.args.body.now) c.args.bits.now at (bits_in_long c.args.body.now ∙ sym end) (omega (arith, c.told-bits, end))
+    c.loop-col.invariant
+    ∙ all_bits (bits_in c.args.body.now) c.args.bits.now at (bits_in_long c.args.body.now ∙ sym end)
+    (omega (arith, c.told-bits, end))

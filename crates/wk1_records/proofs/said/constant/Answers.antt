@@ -21,4 +21,5 @@ made_is t f e =
 
 pub returns-in-Ok : goal.returns-in-Ok
 returns-in-Ok c =
-    made_is _ c.in-Ok.formula c.in-Ok.ensures ∙ tree_of-Call c.args.function c.new.result ∙ ap (λ ts. call c.args.function (listed ts)) c.new.ensures
+    made_is _ c.in-Ok.formula c.in-Ok.ensures ∙ tree_of-Call c.args.function c.new.result
+    ∙ ap (λ ts. call c.args.function (listed ts)) c.new.ensures

@@ -11,5 +11,7 @@ returns-clause-some c =
     let size : c.from-size.result ≡ short_at 2 bytes = c.from-size.ensures ∙ c.short_at.ensures in
     let long : 4 + short_at 2 bytes ≤ length bytes = omega (arith, four, size, c.if-bytes-size.false) in
     let small : (i : ℕ) → get_or bytes i 0 < 256 = λ i. omega (arith, c.type_inv.bytes i) in
-    let body : c.body_of.result.now ≡ take (short_at 2 bytes) (drop 4 bytes) = c.body_of.ensures ∙ ap (λ n. take n (drop 4 bytes)) size in
-    subst (λ k. IsFront bytes k c.body_of.result.now) (sym c.short_at-2.ensures) (subst (IsFront bytes (short_at 0 bytes)) (sym body) (whole_piece bytes small four long))
+    let body : c.body_of.result.now ≡ take (short_at 2 bytes) (drop 4 bytes) =
+    c.body_of.ensures ∙ ap (λ n. take n (drop 4 bytes)) size in
+    subst (λ k. IsFront bytes k c.body_of.result.now) (sym c.short_at-2.ensures)
+    (subst (IsFront bytes (short_at 0 bytes)) (sym body) (whole_piece bytes small four long))
