@@ -9,7 +9,9 @@ use Rattle.macro_engine.proofs.changes.erase.Goals as goal
 
 pub returns : goal.returns
 returns c = if_ok c.settled.result
-    (λ cell settles. edit_carried (change.Erase c.args.span) (cells_of c.args.span) (is_within c.args.span) (has_cells c.args.span)
-    (erased c.args.span) c.args.scene.now c.args.sheet.now c.erase-answer.new.self c.settled.new.sheet c.args.tally.now.count c.settled.new.tally.count
-    refl refl c.erase-answer.result cell c.erase-answer.ensures.answer c.erase-answer.ensures.did c.erase-answer.ensures.err settles)
+    (λ cell settles. edit_carried (change.Erase c.args.span) (cells_of c.args.span) (is_within c.args.span)
+    (has_cells c.args.span)
+    (erased c.args.span) c.args.scene.now c.args.sheet.now c.erase-answer.new.self c.settled.new.sheet
+    c.args.tally.now.count c.settled.new.tally.count refl refl c.erase-answer.result cell c.erase-answer.ensures.answer
+    c.erase-answer.ensures.did c.erase-answer.ensures.err settles)
     c.settled.ensures

@@ -9,7 +9,9 @@ use Rattle.macro_engine.proofs.changes.write.Goals as goal
 
 pub returns : goal.returns
 returns c = if_ok c.settled.result
-    (λ cell settles. edit_carried (change.Write c.args.writes.now) (written_cells c.args.writes.now) (has same_place (written_cells c.args.writes.now)) (λ x. refl)
-    (all_written c.args.writes.now) c.args.scene.now c.args.sheet.now c.write-answer.new.self c.settled.new.sheet c.args.tally.now.count c.settled.new.tally.count
-    refl refl c.write-answer.result cell c.write-answer.ensures.answer c.write-answer.ensures.did c.write-answer.ensures.err settles)
+    (λ cell settles. edit_carried (change.Write c.args.writes.now) (written_cells c.args.writes.now)
+    (has same_place (written_cells c.args.writes.now)) (λ x. refl)
+    (all_written c.args.writes.now) c.args.scene.now c.args.sheet.now c.write-answer.new.self c.settled.new.sheet
+    c.args.tally.now.count c.settled.new.tally.count refl refl c.write-answer.result cell c.write-answer.ensures.answer
+    c.write-answer.ensures.did c.write-answer.ensures.err settles)
     c.settled.ensures
