@@ -33,6 +33,7 @@ whole_by : (t : Bool) (place b : ℕ) (bs : List ℕ) (more : Option ℕ) (at_on
 whole_by true place b bs more at_once others h e = none_some place (sym e)
 whole_by false place b bs more at_once others h e = ap (onto b) (h e)
 
+-- bytes with no separator are one argument
 pub split_whole : (place : ℕ) (quoted : Bool) (depth : ℕ) (bytes : List ℕ)
     → separator_from place quoted depth bytes ≡ None → split_from quoted depth bytes ≡ bytes ∷ []
 split_whole place quoted depth [] e = refl
@@ -70,6 +71,7 @@ split_at place false depth (b ∷ bs) k end h e =
     (λ j. split_at (place + 1) (is_quote b) (depth_behind depth b) bs j end)
     (behind (place + 1) (is_quote b) (depth_behind depth b) bs end) h e
 
+-- the first argument stands before the first separator, and the others are those behind it
 pub split_first : (quoted : Bool) (bytes : List ℕ) (end : ℕ) → separator_from 0 quoted 0 bytes ≡ Some end
     → split_from quoted 0 bytes ≡ take end bytes ∷ split_from false 0 (drop (end + 1) bytes)
 split_first quoted bytes end e =
@@ -90,6 +92,7 @@ one_more list new all quoted rest first after end s p n q h =
     ∙ ap (λ (l : List (List ℕ)). list ++ l) (sym (split_first quoted rest end s))
     ∙ h
 
+-- with no separator in what is left, that is the last argument, and all are found
 pub last_one : (list new all : List (List ℕ)) (quoted : Bool) (rest : List ℕ) → separator_from 0 quoted 0 rest ≡ None
     → new ≡ list ++ rest ∷ [] → list ++ split_from quoted 0 rest ≡ all → new ≡ all
 last_one list new all quoted rest s n h =
