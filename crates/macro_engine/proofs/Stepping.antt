@@ -19,39 +19,11 @@ use Rattle.macro_words.specs.declared.running.Move.TheVariants as move
 use Rattle.macro_words.specs.declared.running.Running.{Running}
 use Rattle.work_sheet.specs.Seen.{of_worksheet, Sheet}
 use Rattle.work_sheet.specs.Sheets.{Worksheet}
-use Rattle.macro_engine.specs.inner.Carried.{HasCarried}
 use Rattle.macro_engine.specs.Changes.{changed, changed_cells, refused_cell, outlook_in}
 use Rattle.macro_engine.specs.Keys.{key_step, rested}
-use Rattle.macro_engine.specs.Steps.{cell_of, deed_step, ended, format_in, leaves_sheet, macro_step, placed, row_step}
+use Rattle.macro_engine.specs.Steps.{cell_of, ended, format_in, leaves_sheet, macro_step, placed, row_step}
 use Rattle.macro_engine.specs.Steps.{unit_step, unless_protected, worked, HasStepped, MacroStep}
 use Rattle.macro_engine.specs.declared.steps.StepEnd.{StepEnd}
-use Rattle.macro_engine.specs.declared.steps.StepEnd.TheVariants.{Refused}
-
-module _ (scene : Scene) (r : Running) (d : Deed) (v w : Worksheet) (m n : ℕ) where
-  -- by the first protected cell
-  by_first : (o : Option Place) → HasCarried d.change scene o v w m n → (end : StepEnd) (now : Option Running) →
-      HasStepped (unless_protected o (record {
-        end = ended d.change d.after;
-        running = moved d.after r;
-        done = changed scene d.change (of_worksheet v);
-      }) r (of_worksheet v)) end now v w m n
-      → HasStepped (deed_step scene r d (of_worksheet v)) end now v w m n
-  by_first o h end now stepped =
-      subst (λ (x : Option Place). HasStepped (unless_protected x (record {
-        end = ended d.change d.after;
-        running = moved d.after r;
-        done = changed scene d.change (of_worksheet v);
-      }) r (of_worksheet v)) end now v w m n) h.first stepped
-
-  -- a protected cell was met
-  pub deed_refused : (c : Place) → HasCarried d.change scene (Some c) v w m n
-      → HasStepped (deed_step scene r d (of_worksheet v)) (Refused c) (Some r) v w m n
-  deed_refused c h = by_first (Some c) h (Refused c) (Some r) (record { end = refl; running = refl; did = h.did })
-
-  -- the deed was done
-  pub deed_done : (end : StepEnd) (now : Option Running) → end ≡ ended d.change d.after → now ≡ moved d.after r
-      → HasCarried d.change scene None v w m n → HasStepped (deed_step scene r d (of_worksheet v)) end now v w m n
-  deed_done end now came is h = by_first None h end now (record { end = came; running = is; did = h.did })
 
 -- a step that changes nothing of the sheet leaves it
 worked_leaves : (x : Change) (scene : Scene) (s : Sheet) → leaves_sheet (worked x) ≡ true
@@ -97,6 +69,7 @@ unit_leaves unit.Down scene r s h = refl
 unit_leaves unit.Return scene r s h = row_leaves (return_row (outlook_in scene s) r) scene r (cell_of r) s h
 unit_leaves (unit.Fault f) scene r s h = refl
 
+-- where a macro's step changes nothing of the sheet, the sheet is as it was
 pub macro_leaves : (scene : Scene) (running : Option Running) (s : Sheet)
     → leaves_sheet (macro_step scene running s).end ≡ true → (macro_step scene running s).done.sheet ≡ s
 unfolding macro_step
@@ -105,6 +78,7 @@ macro_leaves scene (Some r) s h =
     let n : Next = next_unit (outlook_in scene s) r.position in
     unit_leaves n.0 scene (placed r n.1) s h
 
+-- where a key that a macro takes changes nothing of the sheet, the sheet is as it was
 pub key_leaves : (scene : Scene) (k : Key) (running : Option Running) (s : Sheet)
     → leaves_sheet (key_step scene k running s).end ≡ true → (key_step scene k running s).done.sheet ≡ s
 unfolding key_step
