@@ -10,6 +10,7 @@ use Rattle.text_channel.specs.Lines.{shown_byte}
 at_least : (b : ℕ) → 32 ≤ shown_byte b
 at_least b = grind (arith, nat_tests)
 
+-- bytes as they are shown, at most 240 of them, are a text
 pub is_shown_text : (bytes shown : List ℕ) → shown ≡ map shown_byte bytes → length bytes ≤ 240 → IsText shown
 is_shown_text bytes shown is short = subst IsText (sym is) (
   omega (arith, length-map bytes shown_byte, short),
