@@ -13,14 +13,17 @@ bit_of f a (suc n) zero h = ap f (let e : a ≡ a + 0 = omega arith in e)
 bit_of f a (suc n) (suc i) h =
     bit_of f (a + 1) n i (omega (arith, h)) ∙ ap f (let e : a + 1 + i ≡ a + suc i = omega arith in e)
 
+-- each of the 256 bits is the one of its number in the body
 pub bit_in : (body : List ℕ) (at : ℕ) → at < 256 → get_or (bits_in body) at false ≡ bit_at body at
 unfolding bits_in
 bit_in body at h = bit_of (bit_at body) 0 256 at h ∙ ap (bit_at body) (let e : 0 + at ≡ at = omega arith in e)
 
+-- there are 256 bits
 pub bits_in_long : (body : List ℕ) → length (bits_in body) ≡ 256
 unfolding bits_in
 bits_in_long body = length-map (range_with_len 0 256) (bit_at body) ∙ length-range_with_len 0 256
 
+-- where every bit was read, none of the old ones is left
 pub all_bits : (bits old : List Bool) (at : ℕ) → length bits ≡ at → length old ≡ at → take at bits ++ drop at old ≡ bits
 all_bits bits old at h k =
     ap (λ l. l ++ drop at old) (take_all at bits (omega (arith, h)))

@@ -27,6 +27,7 @@ short_back at bytes h long =
 short_less : (at : ℕ) (bytes : List ℕ) → IsBytes bytes → short_at at bytes < 65536
 short_less at bytes h = (let f = few_at at bytes h in omega (arith, f 0, f 1))
 
+-- bytes that are not too few for the length that they state begin with a record of it
 pub whole_piece : (bytes : List ℕ) → IsBytes bytes → 4 ≤ length bytes → 4 + short_at 2 bytes ≤ length bytes
     → IsFront bytes (short_at 0 bytes) (take (short_at 2 bytes) (drop 4 bytes))
 whole_piece bytes h four long =
@@ -60,6 +61,7 @@ no_piece bytes few p rest h e =
     ap length e ∙ omega (arith, length-append p.body rest) in
     absurd (omega (arith, few, stated, size))
 
+-- fewer than four bytes are no whole record
 pub too_few : (bytes : List ℕ) → length bytes < 4 → (p : Piece) (rest : List ℕ) → IsPiece p
     → bytes ≡ piece_bytes p ++ rest → ⊥
 too_few bytes few p rest h e =
