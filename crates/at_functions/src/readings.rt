@@ -2,7 +2,7 @@
 ghost use Rattle.std.specs.Char.{is_ascii_digit};
 ghost use Rattle.std.specs.Prelude.{◌≡◌, ◌≤◌, ◌<◌, ◌+◌, IfNone, IfSome, Some, None, drop, length, take, map};
 ghost use Rattle.std.specs.Option.{ForSome};
-ghost use Rattle.ascii_bytes.specs.Ascii as ascii;
+ghost use Rattle.lics_text.specs.Ascii as ascii;
 ghost use Rattle.at_functions.specs.Readings.{before, behind, clock, dashed, datevalue, is_name, month_named, month_number, number_in, short_number, slashed, three, timevalue, two_digits, value, with_minutes, with_seconds};
 
 use crate::dates::{date_by, time_of};

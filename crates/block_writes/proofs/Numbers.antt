@@ -5,7 +5,7 @@ use Rattle.std.proofs.lemmas.List.{append-nil, map-append}
 use Rattle.std.proofs.lemmas.Grind.{flat_map-append}
 use Rattle.grid_address.specs.Place.{Extent, Place}
 use Rattle.block_writes.specs.Writing.{at, down, numbers_from, rows_of}
-pub use Rattle.range_lines.proofs.Numbers.{numbers_more}
+pub use Rattle.grid_address.proofs.Numbers.{numbers_more}
 
 -- the cells down one more row
 pub down_more : (col n k : ℕ) → down col (numbers_from n (k + 1)) ≡ down col (numbers_from n k) ++ at (n + k) col ∷ []

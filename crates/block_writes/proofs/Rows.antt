@@ -4,7 +4,7 @@ use Rattle.std.proofs.Common.{◌∙◌, append_assoc, arith}
 use Rattle.std.specs.List.{flat_map, zip}
 use Rattle.std.proofs.lemmas.List.{append-nil, drop_all, drop_more}
 use Rattle.block_writes.specs.Writing.{numbers_from}
-pub use Rattle.range_lines.proofs.Numbers.{made_more}
+pub use Rattle.grid_address.proofs.Numbers.{made_more}
 
 module _ {W : Type 0} (f : ℕ × ℕ → List W) (rows : List ℕ) (n count : ℕ) where
   -- what the rows from a place on write

@@ -12,7 +12,7 @@ use Rattle.formula_tree.specs.declared.value.Value.{Value}
 use Rattle.formula_tree.specs.declared.value.Value.TheVariants as value
 use Rattle.formula_eval.specs.Outlook.{Sight}
 use Rattle.sheet_store.specs.declared.writes.Write.{Write}
-pub use Rattle.range_lines.specs.Rows.{at, columns_of, numbers_from, rows_below, rows_of}
+pub use Rattle.grid_address.specs.Lines.{at, columns_of, numbers_from, rows_below, rows_of}
 
 -- the cells of some rows of a column, and of some columns of a row
 abbrev pub down : ℕ → List ℕ → List Place

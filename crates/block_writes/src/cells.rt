@@ -4,9 +4,8 @@ ghost use Rattle.std.specs.List.{flat_map};
 ghost use Rattle.grid_address.specs.Place.{width_of};
 ghost use Rattle.block_writes.specs.Writing.{by_columns, down, numbers_from, rows_of};
 
-use grid_address::{Cell, CellList, LAST_ROW, Span};
+use grid_address::{Cell, CellList, LAST_ROW, Span, column_at};
 use lics_text::Memory;
-use range_lines::column_at;
 use std::alloc::Global;
 
 /// Adds so many cells of a column, from a row on.

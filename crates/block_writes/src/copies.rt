@@ -6,9 +6,8 @@ ghost use Rattle.block_writes.specs.Writing.{at, columns_of, content_or_blank, c
 
 use formula_eval::Look;
 use formula_tree::Content;
-use grid_address::{Cell, Span};
+use grid_address::{Cell, Span, column_at};
 use lics_text::Memory;
-use range_lines::column_at;
 use sheet_store::{Write, Writes};
 use std::alloc::Global;
 

@@ -7,5 +7,5 @@ mod values;
 
 pub use cells::{by_columns, push_down};
 pub use copies::{copied, rows_copied, written};
-pub use range_lines::column_at;
+pub use grid_address::column_at;
 pub use values::{content_of, value_copied};

@@ -1,6 +1,6 @@
 -- Labels as they are shown.
 use Rattle.std.specs.Prelude.{ℕ, zero, suc, ◌-◌, ◌/◌, ◌%◌, nat_le, nat_lt, List, [], ◌∷◌, ◌++◌, length, get_or, map, take, if◌then◌else◌}
-use Rattle.ascii_bytes.specs.Ascii as ascii
+use Rattle.lics_text.specs.Ascii as ascii
 use Rattle.lics_text.specs.declared.prefix.LabelPrefix.{LabelPrefix}
 use Rattle.lics_text.specs.declared.prefix.LabelPrefix.TheVariants.{Left, Right, Center, Repeat, Unprinted}
 use Rattle.cell_format.specs.Numbers.{at_right, spaces}

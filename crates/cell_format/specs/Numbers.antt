@@ -1,6 +1,6 @@
 -- Numbers as they are shown.
 use Rattle.std.specs.Prelude.{ℕ, zero, suc, ◌+◌, ◌-◌, ◌/◌, ◌%◌, ℤ, pos, nat_abs, int_lt, unsigned_abs, not, ◌&&◌, ◌==◌, nat_le, nat_lt, Option, Some, None, List, [], ◌∷◌, ◌++◌, length, replicate, if◌then◌else◌, codes}
-use Rattle.ascii_bytes.specs.Ascii as ascii
+use Rattle.lics_text.specs.Ascii as ascii
 use Rattle.fixed_value.specs.Decimals.{behind_digits, whole_digits}
 use Rattle.fixed_value.specs.Written.{hundredfold, scaled, short, written}
 use Rattle.serial_date.specs.declared.calendar.Civil.{Civil}

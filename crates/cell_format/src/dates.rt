@@ -1,6 +1,6 @@
 // Days as they are shown.
 ghost use Rattle.std.specs.Prelude.{◌≡◌, ◌≤◌, ◌+◌, ◌++◌, ◌∷◌, length, unsigned_abs};
-ghost use Rattle.ascii_bytes.specs.Ascii as ascii;
+ghost use Rattle.lics_text.specs.Ascii as ascii;
 ghost use Rattle.cell_format.specs.Numbers.{date_text, dated, month_name, two_digits};
 ghost use Rattle.serial_date.specs.Calendar.{date_of};
 ghost use Rattle.serial_date.specs.Fractions.{whole_day};

@@ -1,6 +1,6 @@
 // Labels as they are shown.
 ghost use Rattle.std.specs.Prelude.{◌≡◌, ◌≤◌, ◌<◌, ◌+◌, ◌++◌, get_or, length, map, ◌%◌};
-ghost use Rattle.ascii_bytes.specs.Ascii as ascii;
+ghost use Rattle.lics_text.specs.Ascii as ascii;
 ghost use Rattle.cell_format.specs.Labels.{at_left, centred, masked, repeated, shown_label};
 ghost use Rattle.cell_format.specs.Numbers.{at_right};
 

@@ -1,7 +1,7 @@
 // Numbers as they are shown.
 ghost use Rattle.std.specs.Int.RustNames.{int_lt};
 ghost use Rattle.std.specs.Prelude.{◌≡◌, ◌≤◌, ◌<◌, ◌+◌, ◌-◌, ◌*◌, ◌++◌, ◌∷◌, ◌&&◌, ◌==◌, not, [], length, Some, ℕ};
-ghost use Rattle.ascii_bytes.specs.Ascii as ascii;
+ghost use Rattle.lics_text.specs.Ascii as ascii;
 ghost use Rattle.cell_format.specs.Format.{shape_of, HasFewPlaces};
 ghost use Rattle.cell_format.specs.Numbers.{at_right, bracketed, dated, fitting, grouped, number_text, placed, shown_number, size_text};
 ghost use Rattle.fixed_value.specs.Written.{hundredfold, scaled, written};

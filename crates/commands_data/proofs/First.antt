@@ -4,7 +4,7 @@ use Rattle.std.specs.Prelude.{None, Some}
 use Rattle.std.specs.List.{find, flat_map}
 use Rattle.std.proofs.Common.{ap, sym, ◌∙◌}
 use Rattle.grid_address.specs.Place.{Place}
-use Rattle.range_lines.proofs.Scans.{left, left_more, left_none}
+use Rattle.grid_address.proofs.Scans.{left, left_more, left_none}
 
 -- one answer, and another where there is none
 abbrev pub or_then : Option Place → Option Place → Option Place

@@ -7,7 +7,7 @@ use Rattle.formula_eval.specs.Outlook.{Outlook}
 use Rattle.block_writes.specs.Writing.{at}
 use Rattle.formula_eval.specs.Criteria.{record_matches}
 use Rattle.data_query.specs.Extraction.{extracted_rows, same_record, without_repeats}
-use Rattle.range_lines.specs.Rows.{last_row}
+use Rattle.grid_address.specs.Lines.{last_row}
 use Rattle.data_query.specs.Selection.{chosen}
 use Rattle.data_query.specs.declared.output.OutputField.{OutputField}
 use Rattle.data_query.proofs.Distinct.{fewer}

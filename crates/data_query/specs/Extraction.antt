@@ -8,7 +8,7 @@ use Rattle.formula_eval.specs.Outlook.{Outlook, Sight}
 use Rattle.block_writes.specs.Writing.{at, columns_of, numbers_from, value_copied}
 use Rattle.sheet_store.specs.declared.writes.Write.{Write}
 use Rattle.formula_eval.specs.Fields.{field_named, is_label_at, is_no_field}
-use Rattle.range_lines.specs.Rows.{last_row}
+use Rattle.grid_address.specs.Lines.{last_row}
 use Rattle.data_query.specs.Selection.{asked, chosen, rows_erased}
 use Rattle.data_query.specs.declared.fault.QueryFault.{QueryFault}
 use Rattle.data_query.specs.declared.fault.QueryFault.TheVariants as fault

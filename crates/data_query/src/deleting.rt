@@ -12,9 +12,8 @@ use crate::missing::asked;
 use crate::plan::records;
 use block_writes::rows_copied;
 use formula_eval::{Look, Scene};
-use grid_address::{Cell, CellList, Span};
+use grid_address::{Cell, CellList, Span, count_below, row_below};
 use lics_text::Memory;
-use range_lines::{count_below, row_below};
 use sheet_store::Writes;
 use std::alloc::Global;
 

@@ -1,6 +1,6 @@
 // Rows that are erased.
 ghost use Rattle.std.specs.Prelude.{◌≡◌, ◌≤◌, ◌<◌, ◌+◌, ◌++◌, OnOk, map};
-ghost use Rattle.range_lines.specs.Rows.{last_row};
+ghost use Rattle.grid_address.specs.Lines.{last_row};
 ghost use Rattle.block_writes.specs.Writing.{across, columns_of, erased, numbers_from};
 ghost use Rattle.data_query.specs.Selection.{rows_erased};
 

@@ -1,7 +1,7 @@
 // What an extraction of records writes.
 ghost use Rattle.std.specs.Prelude.{◌≡◌, ◌⊎◌, ◌≤◌, ◌+◌, ◌++◌, ◌∷◌, [], IfOk, IfErr, OnOk, Ok, Err, length, map};
 ghost use Rattle.grid_address.specs.Place.{Place};
-ghost use Rattle.range_lines.specs.Rows.{last_row};
+ghost use Rattle.grid_address.specs.Lines.{last_row};
 ghost use Rattle.formula_eval.specs.Outlook.{Sight};
 ghost use Rattle.formula_eval.specs.Scenes.{outlook_of};
 ghost use Rattle.block_writes.specs.Writing.{at, numbers_from, value_copied};
@@ -15,9 +15,8 @@ use crate::repeats::without_repeats;
 use crate::selecting::chosen;
 use block_writes::value_copied;
 use formula_eval::{Look, Scene};
-use grid_address::{Cell, CellList, Span};
+use grid_address::{Cell, CellList, Span, row_below};
 use lics_text::Memory;
-use range_lines::row_below;
 use sheet_store::Writes;
 use std::alloc::Global;
 

@@ -15,6 +15,6 @@ pub use deleting::deletion;
 pub use extracting::extract;
 pub use fault::QueryFault;
 pub use formula_eval::{Match, content_holds, matches};
-pub use range_lines::rows_down;
+pub use grid_address::rows_down;
 pub use selecting::select;
 pub use value_functions::{equals_number, fits, is_true, value_is_like};

@@ -1,7 +1,7 @@
 // The output of an extraction: the fields that its headers name, and its room.
 ghost use Rattle.std.specs.Prelude.{◌≡◌, ◌≤◌, ◌<◌, ◌+◌, ◌++◌, IfOk, OnOk, option_to_list};
 ghost use Rattle.grid_address.specs.Place.{width_of};
-ghost use Rattle.range_lines.specs.Rows.{last_row};
+ghost use Rattle.grid_address.specs.Lines.{last_row};
 ghost use Rattle.formula_eval.specs.Fields.{field_named};
 ghost use Rattle.formula_eval.specs.Outlook.{Sight};
 ghost use Rattle.block_writes.specs.Writing.{at};
@@ -9,9 +9,8 @@ ghost use Rattle.data_query.specs.Extraction.{is_unknown, labelled, room_of, out
 
 use crate::QueryFault;
 use formula_eval::{Look, field_named, is_label_at, is_no_field};
-use grid_address::{Cell, LAST_ROW, Span};
+use grid_address::{Cell, LAST_ROW, Span, column_at, header};
 use lics_text::Memory;
-use range_lines::{column_at, header};
 use std::alloc::Global;
 
 /// A field that an output takes: its column in the input, and the column of the output.

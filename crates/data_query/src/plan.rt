@@ -1,15 +1,14 @@
 // The records that match a criterion, or the others.
 ghost use Rattle.std.specs.Prelude.{◌≡◌, IfOk, map};
-ghost use Rattle.range_lines.specs.Rows.{at};
+ghost use Rattle.grid_address.specs.Lines.{at};
 ghost use Rattle.formula_eval.specs.Criteria.{fields_of};
 ghost use Rattle.formula_eval.specs.Outlook.{Sight};
 ghost use Rattle.formula_eval.specs.Scenes.{outlook_of};
 ghost use Rattle.data_query.specs.inner.Plans.{is_wanted, records};
 
 use formula_eval::{Look, Scene, fields_of, record_matches};
-use grid_address::{CellList, Span};
+use grid_address::{CellList, Span, cell_below, count_below, row_below};
 use lics_text::Memory;
-use range_lines::{cell_below, count_below, row_below};
 use std::alloc::Global;
 
 // Whether the records that match are wanted, or the others.

@@ -1,6 +1,6 @@
 -- What ERROR tells.
 use Rattle.std.specs.Prelude.{ℕ, Bool, nat_le, List, [], ◌++◌, codes}
-use Rattle.ascii_bytes.specs.Ascii as ascii
+use Rattle.lics_text.specs.Ascii as ascii
 use Rattle.grid_address.specs.Address.{decimal}
 use Rattle.desk_errors.specs.declared.error.CommandError.{CommandError}
 use Rattle.desk_errors.specs.declared.error.CommandError.TheVariants as error

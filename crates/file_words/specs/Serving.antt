@@ -1,6 +1,6 @@
 -- What words do to the text file that is attached and to the shelf, and what they then do to the sheet and the macro.
 use Rattle.std.specs.Prelude.{◌≡◌, ℕ, ◌*◌, pos, min, option_map, Bool, true, false, List, [], ◌∷◌, ◌++◌, Option, None, Some}
-use Rattle.ascii_bytes.specs.Ascii as ascii
+use Rattle.lics_text.specs.Ascii as ascii
 use Rattle.block_writes.specs.Writing.{written as writing}
 use Rattle.commands_file.specs.Calls.{Asked, HasBrokenOver, HaveAnswered, Reply, ShelfView}
 use Rattle.formula_tree.specs.declared.value.Content.{Content}

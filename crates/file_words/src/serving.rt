@@ -9,9 +9,8 @@ ghost use Rattle.text_channel.specs.Channels.{can_write, left_after, stood, writ
 ghost use Rattle.text_channel.specs.Lines.{next_bytes, next_line};
 
 use crate::deeds::{goes_on, puts_number, puts_text};
-use byte_list::ByteList;
 use grid_address::Cell;
-use lics_text::{Memory, Text};
+use lics_text::{ByteList, Memory, Text};
 use macro_text::Spot;
 use macro_words::{Deed, FileDeed, FileWord};
 use outside_world::{FileName, Shelf};

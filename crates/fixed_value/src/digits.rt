@@ -1,7 +1,7 @@
 // Decimals as they are written.
 ghost use Rattle.std.specs.Int.RustNames.{int_lt};
 ghost use Rattle.std.specs.Prelude.{◌≡◌, ◌≤◌, ◌<◌, ◌+◌, ◌/◌, ◌^◌, ◌++◌, ◌&&◌, ◌==◌, if◌then◌else◌, not, length, nat_le, replicate, ℕ, ℤ, pos, nat_abs, Some, None};
-ghost use Rattle.ascii_bytes.specs.Ascii as ascii;
+ghost use Rattle.lics_text.specs.Ascii as ascii;
 ghost use Rattle.fixed_value.specs.Decimals.{decimal_of};
 ghost use Rattle.fixed_value.specs.Written.{decimals, fixed_digits, hundredfold, minus_sign, pointed, scaled, short, without_last_zeros, whole_len, without_zeros, written};
 ghost use Rattle.fixed_value.specs.declared.decimal.Decimal.TheVariants.{Num};

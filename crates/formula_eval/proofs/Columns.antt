@@ -4,8 +4,8 @@ use Rattle.std.specs.Prelude.{Bool, true, false}
 use Rattle.std.specs.List.{filter}
 use Rattle.std.proofs.lemmas.List.{append-nil}
 use Rattle.grid_address.specs.Place.{Place}
-use Rattle.range_lines.specs.Rows.{at, numbers_from}
-use Rattle.range_lines.proofs.Scans.{left, left_first, left_more, left_none}
+use Rattle.grid_address.specs.Lines.{at, numbers_from}
+use Rattle.grid_address.proofs.Scans.{left, left_first, left_more, left_none}
 use Rattle.formula_tree.specs.declared.value.Value.{Value}
 use Rattle.formula_eval.specs.declared.items.Item.{Item}
 use Rattle.formula_eval.specs.Lists.{in_range, items_in}

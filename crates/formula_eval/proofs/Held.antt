@@ -3,11 +3,11 @@ use Rattle.std.proofs.Common.{◌≡◌, ℕ, ◌+◌, ◌-◌, ◌<◌, List, g
 use Rattle.std.specs.Prelude.{Bool, Option}
 use Rattle.grid_address.specs.Place.{width_of, Extent}
 use Rattle.formula_eval.specs.Outlook.{Outlook}
-use Rattle.range_lines.specs.Rows.{at, rows_down}
+use Rattle.grid_address.specs.Lines.{at, rows_down}
 use Rattle.formula_eval.specs.Criteria.{condition_holds, holds_at, value_of_field}
 use Rattle.formula_eval.specs.Fields.{field_named}
 use Rattle.formula_eval.specs.Criteria.{fields_of}
-use Rattle.range_lines.proofs.Scans.{made_at}
+use Rattle.grid_address.proofs.Scans.{made_at}
 
 pub held : (w : Outlook) (input criterion : Extent) (fields : List (Option ℕ))
     (row conditions col place count index : ℕ) (d : Option ℕ) (b : Bool)

@@ -2,7 +2,7 @@
 use Rattle.std.specs.Prelude.{ℕ, ◌+◌, ◌-◌, ◌&&◌, nat_eq, Bool, true, false, Option, None, Some, List, map, if◌then◌else◌}
 use Rattle.std.specs.List.{find, list_all, list_any}
 use Rattle.grid_address.specs.Place.{Extent, Place}
-use Rattle.range_lines.specs.Rows.{at, columns_of, rows_below, rows_down}
+use Rattle.grid_address.specs.Lines.{at, columns_of, rows_below, rows_down}
 use Rattle.formula_tree.specs.declared.value.Content.{Content}
 use Rattle.formula_tree.specs.declared.value.Content.TheVariants as content
 use Rattle.formula_tree.specs.declared.value.Value.{Value}

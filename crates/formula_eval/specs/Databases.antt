@@ -2,7 +2,7 @@
 use Rattle.std.specs.Prelude.{ℕ, ◌+◌, ◌&&◌, Bool, true, false, Option, None, Some, List, [], ◌∷◌, map, if◌then◌else◌}
 use Rattle.std.specs.List.{filter}
 use Rattle.grid_address.specs.Place.{width_of, Extent}
-use Rattle.range_lines.specs.Rows.{at, rows_below}
+use Rattle.grid_address.specs.Lines.{at, rows_below}
 use Rattle.formula_tree.specs.declared.function.Function.{Function}
 use Rattle.formula_tree.specs.declared.function.Function.TheVariants as function
 use Rattle.formula_tree.specs.declared.value.Value.{Value}

@@ -6,7 +6,7 @@ use Rattle.grid_address.specs.Place.{Extent, Place}
 use Rattle.formula_tree.specs.declared.value.Content.{Content}
 use Rattle.formula_tree.specs.declared.value.Content.TheVariants as content
 use Rattle.value_functions.specs.Operators.{order_of_texts}
-use Rattle.range_lines.specs.Rows.{at, columns_of}
+use Rattle.grid_address.specs.Lines.{at, columns_of}
 use Rattle.formula_eval.specs.Outlook.{Sight}
 
 -- the text of a label

@@ -1,6 +1,6 @@
 // Which records match a criterion.
 ghost use Rattle.std.specs.Prelude.{◌≡◌, ◌<◌, ◌≤◌, IfOk};
-ghost use Rattle.range_lines.specs.Rows.{last_row, rows_down};
+ghost use Rattle.grid_address.specs.Lines.{last_row, rows_down};
 ghost use Rattle.formula_tree.specs.Seen.{seen_content, seen_value};
 ghost use Rattle.formula_eval.specs.Criteria.{condition_holds, content_holds, fields_of, record_matches, row_holds, value_of_field};
 ghost use Rattle.formula_eval.specs.Outlook.{Sight};
@@ -10,9 +10,8 @@ use crate::fields::field_named;
 use crate::look::{Look, Scene};
 use crate::meaning::glance_within;
 use formula_tree::{ContentRef, ValueRef};
-use grid_address::{Cell, Span};
+use grid_address::{Cell, Span, column_at, count_below, header, row_below, rows_behind, rows_down};
 use lics_text::Memory;
-use range_lines::{column_at, count_below, header, row_below, rows_behind, rows_down};
 use std::alloc::Global;
 use value_functions::{equals_number, fits, is_true};
 

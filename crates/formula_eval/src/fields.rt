@@ -1,15 +1,14 @@
 // The fields of a range of records, which its first row names.
 ghost use Rattle.std.specs.Prelude.{◌≡◌, IfSome, IfNone, Some, None};
 ghost use Rattle.std.specs.List.{list_all};
-ghost use Rattle.range_lines.specs.Rows.{at, columns_of};
+ghost use Rattle.grid_address.specs.Lines.{at, columns_of};
 ghost use Rattle.formula_eval.specs.Fields.{field_named, has_fields, is_label_at, is_no_field, label_in, same_label};
 ghost use Rattle.formula_eval.specs.Outlook.{Sight};
 
 use crate::look::Look;
 use formula_tree::ContentRef;
-use grid_address::{Cell, Span};
+use grid_address::{Cell, Span, column_at, header};
 use lics_text::Text;
-use range_lines::{column_at, header};
 
 // The text of a label in a cell.
 fn label_at<K: Look>(look: &K, cell: Cell) -> Option<&Text>

@@ -2,15 +2,14 @@
 ghost use Rattle.std.specs.Prelude.{◌≡◌, ◌<◌, ◌+◌};
 ghost use Rattle.std.specs.List.{list_any};
 ghost use Rattle.grid_address.specs.Place.{width_of};
-ghost use Rattle.range_lines.specs.Rows.{at, rows_below};
+ghost use Rattle.grid_address.specs.Lines.{at, rows_below};
 ghost use Rattle.formula_eval.specs.Criteria.{asks_field, is_missing, missing};
 ghost use Rattle.formula_eval.specs.Outlook.{Sight};
 
 use crate::fields::is_no_field;
 use crate::look::Look;
 use formula_tree::ContentRef;
-use grid_address::{Cell, Span};
-use range_lines::{column_at, count_below, header, row_below};
+use grid_address::{Cell, Span, column_at, count_below, header, row_below};
 
 // Whether a cell is a condition that speaks of its field: a number or a label.
 fn asks_field<K: Look>(look: &K, cell: Cell) -> bool

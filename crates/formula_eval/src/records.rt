@@ -16,9 +16,8 @@ use crate::look::{Look, Scene};
 use crate::lookups::{place_in, range_of};
 use crate::totals::value_for;
 use formula_tree::{Function, Value};
-use grid_address::{Cell, Span};
+use grid_address::{Cell, Span, column_at, count_below, row_below};
 use lics_text::Memory;
-use range_lines::{column_at, count_below, row_below};
 use std::alloc::Global;
 use value_functions::{number_in, stop_one};
 

@@ -1,6 +1,6 @@
 -- The parts of a text.
 use Rattle.std.specs.Prelude.{ℕ, zero, suc, ◌+◌, ◌-◌, ◌==◌, nat_lt, get_or, List, [], ◌∷◌, if◌then◌else◌}
-use Rattle.ascii_bytes.specs.Ascii as ascii
+use Rattle.lics_text.specs.Ascii as ascii
 use Rattle.grid_address.specs.Place.{Place}
 use Rattle.range_names.specs.Names.{NameMap}
 use Rattle.formula_text.specs.Operands.{function_found, number_found, number_len, text_found}

@@ -2,7 +2,7 @@
 use Rattle.std.specs.Char.{is_ascii_alphabetic, is_ascii_digit}
 use Rattle.std.specs.Prelude.{ℕ, ◌+◌, ◌==◌, ◌&&◌, ◌||◌, nat_le, get_or, position, Bool, Option, Some, None, Result, Ok, Err, List, [], ◌∷◌, length, take, drop, if◌then◌else◌}
 use Rattle.std.specs.List.{prefix_len}
-use Rattle.ascii_bytes.specs.Ascii as ascii
+use Rattle.lics_text.specs.Ascii as ascii
 use Rattle.lics_text.specs.Texts.{text_of}
 use Rattle.lics_text.specs.declared.faults.TextFault.{TextFault}
 use Rattle.fixed_value.specs.declared.decimal.Decimal.{Decimal}

@@ -1,7 +1,7 @@
 -- The text of a tree.
 use Rattle.std.specs.Char.{is_ascii_alphabetic}
 use Rattle.std.specs.Prelude.{ℕ, ◌+◌, ◌==◌, ◌&&◌, ◌||◌, not, nat_le, Bool, true, false, Option, Some, None, List, [], ◌∷◌, ◌++◌, length, take, codes, if◌then◌else◌}
-use Rattle.ascii_bytes.specs.Ascii as ascii
+use Rattle.lics_text.specs.Ascii as ascii
 use Rattle.lics_text.specs.Limits.{MAX_LEN}
 use Rattle.fixed_value.specs.Written.{short}
 use Rattle.grid_address.specs.Address.{column_name, decimal}

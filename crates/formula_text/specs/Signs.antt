@@ -1,7 +1,7 @@
 -- Signs in a formula.
 use Rattle.std.specs.Prelude.{ℕ, ◌==◌, min, get_or, Bool, List, length, take, codes, if◌then◌else◌}
 use Rattle.std.specs.Str.{str_eq_ignore_ascii_case}
-use Rattle.ascii_bytes.specs.Ascii as ascii
+use Rattle.lics_text.specs.Ascii as ascii
 use Rattle.formula_tree.specs.declared.ast.Op.TheVariants.{Pow, Mul, Div, Add, Sub, Eq, Ne, Lt, Gt, Le, Ge, And, Or, Join}
 use Rattle.formula_text.specs.declared.fault.ParseFault.TheVariants.{Unexpected}
 use Rattle.formula_text.specs.declared.lexeme.Found.{Found}

@@ -2,7 +2,7 @@
 use Rattle.std.specs.Prelude.{ℕ, Bool, true, nat_abs, ◌&&◌, nat_le, nat_lt, List, length}
 use Rattle.std.specs.List.{list_all}
 use Rattle.lics_text.specs.Limits.{MAX_LEN}
-use Rattle.ascii_bytes.specs.Ascii as ascii
+use Rattle.lics_text.specs.Ascii as ascii
 use Rattle.grid_address.specs.Limits.{COLUMNS, ROWS}
 use Rattle.grid_address.specs.Axes.{number_of, Reference}
 use Rattle.formula_tree.specs.Tree.{Tree, num, str, cell, span, group, neg, not, binary, call}

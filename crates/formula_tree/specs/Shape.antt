@@ -1,7 +1,7 @@
 -- The shape of a tree.
 use Rattle.std.specs.Prelude.{ℕ, ◌+◌, ◌≤◌, ◌≡◌, max, min, ℤ, pos, negsuc, nat_abs, ◌%◌, ◌==◌, Bool, true, false, not, ◌&&◌, nat_le, nat_lt, List, length, if◌then◌else◌}
 use Rattle.std.specs.List.{list_any}
-use Rattle.ascii_bytes.specs.Ascii as ascii
+use Rattle.lics_text.specs.Ascii as ascii
 use Rattle.formula_tree.specs.declared.ast.Op.{Op}
 use Rattle.formula_tree.specs.declared.ast.Op.TheVariants.{Pow, Mul, Div, Add, Sub, Eq, Ne, Lt, Gt, Le, Ge, And, Or, Join}
 use Rattle.formula_tree.specs.Table.{call_size, counts_of, takes}

@@ -2,6 +2,8 @@ pub mod AddressFunction
 pub mod AddressReading
 pub mod Decimals
 pub mod Maps
+pub mod Numbers
 pub mod Places
+pub mod Scans
 pub mod SpanReading
 pub mod Written

@@ -1,7 +1,7 @@
 -- How addresses are written.
 use Rattle.std.specs.Prelude.{ℕ, ◌+◌, ◌/◌, ◌%◌, List, [], ◌∷◌, ◌++◌, map, nat_lt, ◌==◌, if◌then◌else◌}
 use Rattle.std.specs.Int.Digits.{digits_of}
-use Rattle.ascii_bytes.specs.Ascii as ascii
+use Rattle.lics_text.specs.Ascii as ascii
 use Rattle.grid_address.specs.Place.{Place}
 
 -- a number in decimal digits, without leading zeros

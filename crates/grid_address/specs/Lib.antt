@@ -3,6 +3,7 @@ pub mod Axes
 pub mod Formats
 pub mod Leads
 pub mod Limits
+pub mod Lines
 pub mod Place
 pub mod Progress
 pub mod Reading

@@ -1,7 +1,7 @@
 -- How far an address is read.
 use Rattle.std.specs.Char.{is_ascii_digit, is_ascii_uppercase, to_ascii_uppercase}
 use Rattle.std.specs.Prelude.{ℕ, ◌+◌, ◌-◌, ◌*◌, ◌&&◌, ◌==◌, nat_le, nat_lt, get_or, Option, Some, None, List, [], ◌∷◌, if◌then◌else◌, fold}
-use Rattle.ascii_bytes.specs.Ascii as ascii
+use Rattle.lics_text.specs.Ascii as ascii
 use Rattle.grid_address.specs.Limits.{COLUMNS, ROWS}
 use Rattle.grid_address.specs.declared.reading.Progress.{Progress}
 use Rattle.grid_address.specs.declared.reading.Progress.TheVariants.{Nothing, Letter, Column, Row}

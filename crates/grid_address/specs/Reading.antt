@@ -1,7 +1,7 @@
 -- Addresses and spans as they are read.
 use Rattle.std.specs.Char.{to_ascii_uppercase}
 use Rattle.std.specs.Prelude.{ℕ, ◌≡◌, ◌≤◌, ◌<◌, ◌+◌, List, [], ◌∷◌, ◌++◌, length, take, map, ◌⊎◌}
-use Rattle.ascii_bytes.specs.Ascii as ascii
+use Rattle.lics_text.specs.Ascii as ascii
 use Rattle.grid_address.specs.Address.{address_of}
 use Rattle.grid_address.specs.Place.{spanned, Extent, InSheet, Place}
 

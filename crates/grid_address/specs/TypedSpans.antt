@@ -1,6 +1,6 @@
 -- Spans as they are typed.
 use Rattle.std.specs.Prelude.{ℕ, nat_eq, List, drop, take, position, Option, None, Some}
-use Rattle.ascii_bytes.specs.Ascii as ascii
+use Rattle.lics_text.specs.Ascii as ascii
 use Rattle.grid_address.specs.Place.{spanned, Extent, Place}
 use Rattle.grid_address.specs.Progress.{address_in, count_dots}
 

@@ -4,7 +4,7 @@ ghost use Rattle.grid_address.specs.Address.{address_of, column_name, decimal};
 
 use crate::decimal::decimal_text;
 use crate::{Cell, ROWS};
-use byte_list::ByteList;
+use lics_text::ByteList;
 
 /// A short text, as an address or a piece of one: at most 6 bytes.
 pub type AddressText = ByteList<6>;

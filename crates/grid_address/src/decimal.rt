@@ -2,7 +2,7 @@
 ghost use Rattle.std.specs.Prelude.{◌≡◌, ◌≤◌, ◌<◌, ◌+◌, ◌++◌, length};
 ghost use Rattle.grid_address.specs.Address.{decimal};
 
-use byte_list::ByteList;
+use lics_text::ByteList;
 
 /// The digits of a whole number: 1 to 20 bytes.
 pub type DecimalText = ByteList<20>;

@@ -1,6 +1,6 @@
 // Spans as they are typed.
 ghost use Rattle.std.specs.Prelude.{◌≡◌, ◌<◌, length, nat_eq, position, IfSome};
-ghost use Rattle.ascii_bytes.specs.Ascii as ascii;
+ghost use Rattle.lics_text.specs.Ascii as ascii;
 ghost use Rattle.grid_address.specs.Progress.{address_in};
 ghost use Rattle.grid_address.specs.TypedSpans.{behind_dots, both_corners, span_in};
 

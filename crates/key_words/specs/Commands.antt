@@ -1,6 +1,6 @@
 -- The commands of macros (Release 2 manual), by their names, and the words of a slash, X and a letter.
 use Rattle.std.specs.Prelude.{ℕ, ◌==◌, if◌then◌else◌, Option, Some, None, List, [], ◌∷◌, codes}
-use Rattle.ascii_bytes.specs.Ascii as ascii
+use Rattle.lics_text.specs.Ascii as ascii
 use Rattle.key_words.specs.declared.command.Command.{Command}
 use Rattle.key_words.specs.declared.command.Command.TheVariants as command
 use Rattle.key_words.specs.declared.command.SlashWord.{SlashWord}

@@ -1,7 +1,7 @@
 -- What a reader of key notation has read.
 use Rattle.std.specs.Char.{is_ascii_alphabetic, to_ascii_uppercase}
 use Rattle.std.specs.Prelude.{◌≡◌, ℕ, true, List, [], ◌∷◌, ◌++◌, map, length, Some, None}
-use Rattle.ascii_bytes.specs.Ascii as ascii
+use Rattle.lics_text.specs.Ascii as ascii
 use Rattle.key_words.specs.declared.key.Key.{Key as AnyKey}
 use Rattle.key_words.specs.declared.name.Named.{Named}
 use Rattle.key_words.specs.declared.name.Named.TheVariants.{Repeated, Alt}

@@ -1,7 +1,7 @@
 // A word of key notation that is begun.
 ghost use Rattle.std.specs.Char.{to_ascii_uppercase};
 ghost use Rattle.std.specs.Prelude.{◌≡◌, ◌==◌, if◌then◌else◌};
-ghost use Rattle.ascii_bytes.specs.Ascii as ascii;
+ghost use Rattle.lics_text.specs.Ascii as ascii;
 ghost use Rattle.key_words.specs.inner.Begun as spec;
 ghost use Rattle.key_words.specs.Names.{longer};
 ghost use Rattle.key_words.specs.Notation as notation;

@@ -1,7 +1,7 @@
 // A letter, in capitals.
 ghost use Rattle.std.specs.Char.{is_ascii_alphabetic, to_ascii_uppercase};
 ghost use Rattle.std.specs.Prelude.{◌≡◌, ◌≤◌, IfNone, IfSome, false, true};
-ghost use Rattle.ascii_bytes.specs.Ascii as ascii;
+ghost use Rattle.lics_text.specs.Ascii as ascii;
 
 use std::marker::Model;
 
@@ -13,7 +13,7 @@ pub struct Letter {
 
 impl Model for Letter {
     ghost use Rattle.std.specs.Prelude.{ℕ, ◌≤◌};
-    ghost use Rattle.ascii_bytes.specs.Ascii as ascii;
+    ghost use Rattle.lics_text.specs.Ascii as ascii;
 
     ghost Value = { ℕ };
 

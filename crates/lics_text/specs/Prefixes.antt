@@ -1,6 +1,6 @@
 -- Prefixes of labels and their bytes (Release 2 manual).
 use Rattle.std.specs.Prelude.{ℕ, ◌==◌, Option, Some, None, if◌then◌else◌}
-use Rattle.ascii_bytes.specs.Ascii as ascii
+use Rattle.lics_text.specs.Ascii as ascii
 use Rattle.lics_text.specs.declared.prefix.LabelPrefix.{LabelPrefix}
 use Rattle.lics_text.specs.declared.prefix.LabelPrefix.TheVariants.{Left, Right, Center, Repeat, Unprinted}
 

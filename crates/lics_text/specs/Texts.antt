@@ -1,8 +1,8 @@
 -- What the calls of a text answer.
 use Rattle.std.specs.Char.{is_ascii_alphabetic, to_ascii_lowercase, to_ascii_uppercase}
 use Rattle.std.specs.Prelude.{ℕ, ◌≡◌, ◌≤◌, ◌<◌, ◌+◌, List, [], ◌∷◌, ◌++◌, length, take, drop, Option, Some, None, Result, Ok, Err, Bool, true, false, nat_lt, nat_le, ◌==◌, ◌&&◌, position, if◌then◌else◌}
-use Rattle.ascii_bytes.specs.Ascii as ascii
-use Rattle.byte_list.specs.Lists.{with_byte}
+use Rattle.lics_text.specs.Ascii as ascii
+use Rattle.lics_text.specs.ByteLists.{with_byte}
 use Rattle.lics_text.specs.Limits.{MAX_LEN}
 use Rattle.lics_text.specs.declared.faults.TextFault.{TextFault}
 use Rattle.lics_text.specs.declared.faults.TextFault.TheVariants.{TooLong, BadByte}

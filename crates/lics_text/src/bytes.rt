@@ -1,6 +1,6 @@
 // Single bytes that a text may hold.
 ghost use Rattle.std.specs.Prelude.{◌≡◌, ◌≤◌, ◌↔◌, IsTrue, IsSome, IfSome};
-ghost use Rattle.ascii_bytes.specs.Ascii as ascii;
+ghost use Rattle.lics_text.specs.Ascii as ascii;
 
 use std::marker::Model;
 
@@ -12,7 +12,7 @@ pub struct TextByte {
 
 impl Model for TextByte {
     ghost use Rattle.std.specs.Prelude.{ℕ, ◌≤◌};
-    ghost use Rattle.ascii_bytes.specs.Ascii as ascii;
+    ghost use Rattle.lics_text.specs.Ascii as ascii;
 
     ghost Value = { ℕ };
 

@@ -1,7 +1,9 @@
 //! Texts as 1-2-3 keeps them: at most 240 bytes of the Lotus International Character Set, each 32
-//! to 255, compared and changed byte by byte.
+//! to 255, compared and changed byte by byte. And lists of few bytes of any value, which take no
+//! memory, and the bytes of ASCII by the names that definitions speak by.
 #![tactic(auto)]
 
+mod byte_list;
 mod bytes;
 mod cases;
 mod faults;
@@ -13,6 +15,7 @@ mod text;
 mod text_line;
 mod trim;
 
+pub use byte_list::ByteList;
 pub use bytes::TextByte;
 pub use faults::{Memory, TextFault};
 pub use line::Line;

@@ -1,5 +1,4 @@
-use crate::MAX_LEN;
-use byte_list::ByteList;
+use crate::{ByteList, MAX_LEN};
 
 /// A line of at most 240 bytes, of any value, which takes no memory.
 pub type Line = ByteList<MAX_LEN>;

@@ -2,7 +2,7 @@ ghost use Rattle.std.specs.Char.{to_ascii_lowercase, to_ascii_uppercase};
 ghost use Rattle.std.specs.Prelude.{◌≡◌, ◌≤◌, ◌<◌, map, IfOk, OnErr, IfSome, IfNone, position, nat_lt};
 ghost use Rattle.std.specs.Ordering.{nat_cmp};
 ghost use Rattle.std.specs.Cmp.Lexicographic.{slice_cmp};
-ghost use Rattle.ascii_bytes.specs.Ascii as ascii;
+ghost use Rattle.lics_text.specs.Ascii as ascii;
 ghost use Rattle.lics_text.specs.Answer.{Gives};
 ghost use Rattle.lics_text.specs.Texts.{text_of, pushed_text, proper_of, trimmed, IsFirstPlace, IsNoPlace};
 

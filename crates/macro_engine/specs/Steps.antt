@@ -1,6 +1,6 @@
 -- One step of a macro: its next unit, carried out over the sheet.
 use Rattle.std.specs.Prelude.{◌≡◌, ℕ, Bool, true, false, [], ◌∷◌, Option, None, Some, Ok, Err, option_map}
-use Rattle.ascii_bytes.specs.Ascii as ascii
+use Rattle.lics_text.specs.Ascii as ascii
 use Rattle.formula_eval.specs.declared.look.Scene.{Scene}
 use Rattle.formula_text.specs.Words.{named_span}
 use Rattle.grid_address.specs.Place.{Place}

@@ -4,7 +4,7 @@ use Rattle.std.proofs.Common.{Ok, Err, refl, ap, sym, subst, ◌∙◌}
 use Rattle.std.specs.FinMap.{empty, get, get-empty}
 use Rattle.std.specs.Prelude.{◌++◌, ◌==◌, drop, get_or, if◌then◌else◌, length, nat_le, nat_lt, take, IsOk}
 use Rattle.std.proofs.lemmas.Bool.{false≢true}
-use Rattle.ascii_bytes.specs.Ascii as ascii
+use Rattle.lics_text.specs.Ascii as ascii
 use Rattle.formula_tree.specs.Table.{counts_of, takes}
 use Rattle.formula_tree.specs.Tree.{Tree}
 use Rattle.formula_tree.specs.declared.ast.Op.{Op}

@@ -1,6 +1,6 @@
 -- The arguments that stand behind a word's name.
 use Rattle.std.specs.Prelude.{ℕ, ◌+◌, ◌-◌, ◌==◌, ◌||◌, ◌&&◌, not, Bool, true, false, List, [], ◌∷◌, if◌then◌else◌}
-use Rattle.ascii_bytes.specs.Ascii as ascii
+use Rattle.lics_text.specs.Ascii as ascii
 use Rattle.key_words.specs.declared.macro_word.Arguments.{Arguments}
 use Rattle.key_words.specs.declared.macro_word.Arguments.TheVariants as arguments
 use Rattle.macro_text.specs.Texts.{part}

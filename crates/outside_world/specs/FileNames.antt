@@ -3,7 +3,7 @@ use Rattle.std.specs.Prelude.{◌≡◌, ℕ, ◌-◌, ◌==◌, ◌&&◌, ◌||
 use Rattle.std.specs.List.{list_all}
 use Rattle.std.specs.Char.{is_ascii_alphanumeric, to_ascii_uppercase}
 use Rattle.std.specs.Str.{bytes_eq}
-use Rattle.ascii_bytes.specs.Ascii as ascii
+use Rattle.lics_text.specs.Ascii as ascii
 use Rattle.outside_world.specs.declared.file_name.Ext.{Ext}
 use Rattle.outside_world.specs.declared.file_name.Ext.TheVariants.{Wk1, Prn, Txt}
 

@@ -5,8 +5,7 @@ ghost use Rattle.outside_world.specs.FileNames.{dotted, file_name, has_ending, i
 ghost use Rattle.outside_world.specs.declared.file_name.Ext.TheVariants as of;
 ghost use Rattle.std.specs.Str.{bytes_eq};
 
-use byte_list::ByteList;
-use lics_text::is_name;
+use lics_text::{ByteList, is_name};
 use std::marker::Model;
 
 /// Which kind of file a name is for.

@@ -5,7 +5,7 @@ ghost use Rattle.outside_world.specs.declared.new_file.Stage.TheVariants as stag
 
 use crate::FileName;
 use crate::plain_file::{is_same, uninterrupted};
-use byte_list::ByteList;
+use lics_text::ByteList;
 use std::fs::{Files, Metadata, OpenFile, OpenOptions, Permissions};
 use std::io;
 use std::io::{ErrorKind, Write};

@@ -1,11 +1,11 @@
 // A pointed reference as text.
 ghost use Rattle.std.specs.Prelude.{◌≡◌, ◌≤◌, ◌+◌, ◌++◌, length};
 ghost use Rattle.std.specs.List.{All};
-ghost use Rattle.ascii_bytes.specs.Ascii as ascii;
+ghost use Rattle.lics_text.specs.Ascii as ascii;
 ghost use Rattle.point_room.specs.Pointing.{answer_text, fixes_column, fixes_row, reference_by, reference_text, sign_if, signed_address};
 
-use byte_list::ByteList;
 use grid_address::{Cell, column_text, row_text};
+use lics_text::ByteList;
 use session_rooms::{Pointed, Signs};
 
 /// A reference as it is put into a line: at most two addresses of 8 bytes, with two dots between them.

@@ -1,6 +1,6 @@
 -- Lines as they are written.
 use Rattle.std.specs.Prelude.{ℕ, zero, suc, ◌==◌, List, [], ◌∷◌, ◌++◌, replicate, if◌then◌else◌}
-use Rattle.ascii_bytes.specs.Ascii as ascii
+use Rattle.lics_text.specs.Ascii as ascii
 
 -- CR LF
 abbrev pub line_end : List ℕ

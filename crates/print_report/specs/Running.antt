@@ -1,6 +1,6 @@
 -- The lines at the head and the foot of each page.
 use Rattle.std.specs.Prelude.{ℕ, ◌+◌, ◌-◌, ◌*◌, ◌/◌, ◌==◌, pos, List, [], ◌∷◌, ◌++◌, length, take, drop, replicate, position, Option, Some, None, if◌then◌else◌}
-use Rattle.ascii_bytes.specs.Ascii as ascii
+use Rattle.lics_text.specs.Ascii as ascii
 use Rattle.cell_format.specs.Numbers.{shown_number}
 use Rattle.grid_address.specs.Address.{decimal}
 use Rattle.grid_address.specs.Formats.{date_format}

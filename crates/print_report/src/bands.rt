@@ -4,8 +4,8 @@ ghost use Rattle.print_report.specs.Bands.{bands, columns_of, wide, width_in};
 ghost use Rattle.print_report.specs.Jobs.{sheet_of};
 
 use crate::PrintedSheet;
-use byte_list::ByteList;
 use grid_address::Span;
+use lics_text::ByteList;
 use sheet_store::MOST_WIDTH;
 
 /// Columns, from left to right.

@@ -6,9 +6,8 @@ ghost use Rattle.shown_cells.specs.Cells.{padded};
 ghost use Rattle.shown_cells.specs.Parts.{fitting_text, shown_text};
 
 use crate::PrintedSheet;
-use byte_list::ByteList;
 use grid_address::Cell;
-use lics_text::{Line, MAX_LEN};
+use lics_text::{ByteList, Line, MAX_LEN};
 use sheet_store::MOST_WIDTH;
 use shown_cells::{Fitting, Shown, put_fitting, shown_in};
 

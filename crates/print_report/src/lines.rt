@@ -1,6 +1,6 @@
 // Lines as they are written.
 ghost use Rattle.std.specs.Prelude.{◌≡◌, ◌≤◌, ◌++◌, length, OnOk, replicate};
-ghost use Rattle.ascii_bytes.specs.Ascii as ascii;
+ghost use Rattle.lics_text.specs.Ascii as ascii;
 ghost use Rattle.print_report.specs.Lines.{empty_lines, line, line_end, trimmed, with_margin};
 
 use lics_text::Memory;

@@ -7,11 +7,10 @@ ghost use Rattle.print_report.specs.Lines.{line};
 ghost use Rattle.print_report.specs.Running.{bar_in, before_bar, behind_bar, day_text, filled, laid, left_laid, middle_laid, overlaid, part, right_laid, running};
 
 use crate::lines::put_line;
-use byte_list::ByteList;
 use cell_format::show_number;
 use fixed_value::Fixed;
 use grid_address::{Format, decimal_text};
-use lics_text::{Line, Memory};
+use lics_text::{ByteList, Line, Memory};
 use outside_world::ByteBuffer;
 
 // A part of a line.

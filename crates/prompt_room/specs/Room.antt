@@ -1,7 +1,7 @@
 -- What a key comes to in a prompt.
 use Rattle.std.specs.Prelude.{ℕ, zero, suc, Bool, true, false, is_some, nat_eq, not, List, [], ◌∷◌, ◌++◌, codes, length}
 use Rattle.std.specs.Prelude.{position, Option, None, Some, if◌then◌else◌}
-use Rattle.ascii_bytes.specs.Ascii as ascii
+use Rattle.lics_text.specs.Ascii as ascii
 use Rattle.key_words.specs.declared.key.Key.{Key}
 use Rattle.key_words.specs.declared.key.Key.TheVariants as key
 use Rattle.entry_line.specs.Line.{after, event, Entry}

@@ -1,6 +1,6 @@
 // Names as keys: folded, with zeros up to 15 bytes.
 ghost use Rattle.std.specs.Prelude.{◌≡◌, ◌≤◌, ◌<◌, ◌==◌, get_or, length, Some, None, IfNone, IfOk, IfErr, OnOk, position, nat_lt};
-ghost use Rattle.ascii_bytes.specs.Ascii as ascii;
+ghost use Rattle.lics_text.specs.Ascii as ascii;
 ghost use Rattle.range_names.specs.Names.{bad_place, fault_of, key_of, name_in};
 
 use crate::NameFault;

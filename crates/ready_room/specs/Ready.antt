@@ -1,6 +1,6 @@
 -- READY.
 use Rattle.std.specs.Prelude.{ℕ, Bool, true, false, nat_eq, List, [], ◌∷◌, Option, None, Some, if◌then◌else◌}
-use Rattle.ascii_bytes.specs.Ascii as ascii
+use Rattle.lics_text.specs.Ascii as ascii
 use Rattle.cell_pointer.specs.Keys.{move_after_end, move_of}
 use Rattle.cell_pointer.specs.declared.way.Way.{Way}
 use Rattle.control_panel.specs.Panels.{plain_panel}

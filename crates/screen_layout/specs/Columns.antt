@@ -1,6 +1,6 @@
 -- The shown columns, and the lines that show them.
 use Rattle.std.specs.Prelude.{ℕ, zero, suc, ◌+◌, ◌-◌, ◌/◌, Bool, true, false, ◌||◌, nat_le, List, [], ◌∷◌, ◌++◌, length, take, drop, replicate, Option, Some, None, codes, unwrap_or, if◌then◌else◌}
-use Rattle.ascii_bytes.specs.Ascii as ascii
+use Rattle.lics_text.specs.Ascii as ascii
 use Rattle.grid_address.specs.Limits.{COLUMNS}
 use Rattle.grid_address.specs.Address.{column_name, decimal}
 use Rattle.sheet_store.specs.Grid.{is_hidden}

@@ -1,7 +1,7 @@
 -- The control panel: what stands in the pointer's cell, the line that is typed, and the menu.
 use Rattle.std.specs.Prelude.{ℕ, ◌+◌, ◌-◌, Bool, true, false, not, List, [], ◌∷◌, ◌++◌, length, take, drop, Option, Some, None, codes, if◌then◌else◌}
 use Rattle.std.specs.FinMap as map
-use Rattle.ascii_bytes.specs.Ascii as ascii
+use Rattle.lics_text.specs.Ascii as ascii
 use Rattle.cell_format.specs.Indicator.{indicator_of}
 use Rattle.grid_address.specs.Formats.{has_protection}
 use Rattle.grid_address.specs.Address.{address_of, decimal}

@@ -1,6 +1,6 @@
 -- Lines of 80 bytes.
 use Rattle.std.specs.Prelude.{ℕ, ◌-◌, List, ◌++◌, length, replicate, map}
-use Rattle.ascii_bytes.specs.Ascii as ascii
+use Rattle.lics_text.specs.Ascii as ascii
 use Rattle.shown_cells.specs.Cells.{padded, shown_byte}
 
 -- a text filled with blanks to a width

@@ -1,6 +1,6 @@
 // A line of the screen while it is painted. What is not painted yet is blank.
 ghost use Rattle.std.specs.Prelude.{◌≡◌, ◌≤◌, ◌+◌, ◌-◌, ◌++◌, [], length, take, replicate, map, true, false};
-ghost use Rattle.ascii_bytes.specs.Ascii as ascii;
+ghost use Rattle.lics_text.specs.Ascii as ascii;
 ghost use Rattle.cell_format.specs.Numbers.{shown_number};
 ghost use Rattle.screen_layout.specs.Lines.{shown_line};
 ghost use Rattle.shown_cells.specs.Cells.{shown_byte};
@@ -19,7 +19,7 @@ pub struct PaintedLine {
 
 impl Model for PaintedLine {
     ghost use Rattle.std.specs.Prelude.{◌≡◌, ℕ, List, ◌≤◌, ◌-◌, take, drop, replicate};
-    ghost use Rattle.ascii_bytes.specs.Ascii as ascii;
+    ghost use Rattle.lics_text.specs.Ascii as ascii;
 
     ghost Value = { List ℕ };
 

@@ -29,7 +29,13 @@ fn row_line(sheet: &Worksheet, row: u16, first: u8) -> [u8; 80]
 }
 
 /// A line of the screen, as `paint` shows it, of the lines 0 to 24.
-pub fn line_at(sheet: &Worksheet, panel: &PanelView, corner: Cell, now: &Moment, line: u8) -> [u8; 80]
+pub fn line_at(
+    sheet: &Worksheet,
+    panel: &PanelView,
+    corner: Cell,
+    now: &Moment,
+    line: u8,
+) -> [u8; 80]
     requires { line ≤ 24 }
     ensures { result ≡ screen_line (of_worksheet sheet.now) (viewed panel.now) corner now.now.day now.now.second line }
 {

@@ -1,6 +1,6 @@
 -- A screen as its lines.
 use Rattle.std.specs.Prelude.{◌≡◌, ℕ, ◌+◌, ◌≤◌, List, ◌++◌, length, take, drop, replicate, slice_set, slice_index_or, [], All}
-use Rattle.ascii_bytes.specs.Ascii as ascii
+use Rattle.lics_text.specs.Ascii as ascii
 
 -- 25 lines of 80 bytes
 pub record IsScreen (screen : List (List ℕ)) : Type 0 where

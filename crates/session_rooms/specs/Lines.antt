@@ -1,7 +1,7 @@
 -- Lines with the cursor at the end.
 use Rattle.std.specs.Prelude.{ℕ, ◌-◌, Bool, ◌&&◌, nat_le, List, ◌++◌, length, take, get_or}
 use Rattle.std.specs.List.{list_all}
-use Rattle.ascii_bytes.specs.Ascii as ascii
+use Rattle.lics_text.specs.Ascii as ascii
 use Rattle.entry_line.specs.Line.{Entry}
 use Rattle.lics_text.specs.Limits.{MAX_LEN}
 

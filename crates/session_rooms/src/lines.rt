@@ -1,7 +1,7 @@
 // Lines with the cursor at the end.
 ghost use Rattle.std.specs.Prelude.{◌≡◌, ◌≤◌, ◌∷◌, [], length, nat_le, true};
 ghost use Rattle.std.specs.List.{All, list_all};
-ghost use Rattle.ascii_bytes.specs.Ascii as ascii;
+ghost use Rattle.lics_text.specs.Ascii as ascii;
 ghost use Rattle.lics_text.specs.Bytes.{IsText};
 ghost use Rattle.session_rooms.specs.Lines.{extended, fits_line, last_byte, line_of};
 

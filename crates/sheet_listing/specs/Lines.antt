@@ -1,6 +1,6 @@
 -- Lines of fields (this project's own).
 use Rattle.std.specs.Prelude.{ℕ, Bool, true, false, List, [], ◌∷◌, ◌++◌, if◌then◌else◌}
-use Rattle.ascii_bytes.specs.Ascii as ascii
+use Rattle.lics_text.specs.Ascii as ascii
 
 -- stands between two fields of a line
 abbrev pub TAB : ℕ

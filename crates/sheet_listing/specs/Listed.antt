@@ -1,7 +1,7 @@
 -- A worksheet as lines of text (this project's own).
 use Rattle.std.specs.Prelude.{ℕ, Bool, true, false, Option, Some, None, List, [], ◌∷◌, ◌++◌, codes, flat_map}
 use Rattle.std.specs.FinMap as map
-use Rattle.ascii_bytes.specs.Ascii as ascii
+use Rattle.lics_text.specs.Ascii as ascii
 use Rattle.lics_text.specs.Prefixes.{prefix_byte}
 use Rattle.grid_address.specs.Address.{address_of, column_name, decimal}
 use Rattle.grid_address.specs.Formats.{has_protection}

@@ -1,6 +1,6 @@
 // The lines on cells.
 ghost use Rattle.std.specs.Prelude.{◌≡◌, ◌<◌, ◌++◌, ◌∷◌, [], OnOk, OnErr};
-ghost use Rattle.ascii_bytes.specs.Ascii as ascii;
+ghost use Rattle.lics_text.specs.Ascii as ascii;
 ghost use Rattle.lics_text.specs.Prefixes.{prefix_byte};
 ghost use Rattle.sheet_listing.specs.Lines.{line};
 ghost use Rattle.sheet_listing.specs.Listed.{cell_line, cell_lines, content_text, saved_text, unprotected_mark, value_text};

@@ -6,9 +6,8 @@ ghost use Rattle.sheet_listing.specs.Waiting.{added, HasFailed, IsFront};
 
 use crate::lines::put_line;
 use crate::writing::{WriteFault, write_blocks};
-use byte_list::ByteList;
 use grid_address::{Span, cell_text};
-use lics_text::Memory;
+use lics_text::{ByteList, Memory};
 use outside_world::Notes;
 use range_names::{Names, name_in};
 

@@ -1,7 +1,7 @@
 -- The notes of a run.
 use Rattle.std.specs.Prelude.{◌≡◌, ℕ, ◌+◌, ◌-◌, ◌≤◌, ◌⊎◌, Bool, Err, List, [], ◌∷◌, ◌++◌, length, take, Option, Some, None, codes, if◌then◌else◌}
 use Rattle.std.specs.Option.{unwrap_or}
-use Rattle.ascii_bytes.specs.Ascii as ascii
+use Rattle.lics_text.specs.Ascii as ascii
 use Rattle.grid_address.specs.Address.{decimal}
 use Rattle.fixed_value.specs.Written.{short}
 use Rattle.formula_tree.specs.declared.value.Value.{Value}

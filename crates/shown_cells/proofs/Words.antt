@@ -2,7 +2,7 @@
 use Rattle.std.proofs.Common.{◌≡◌, ℕ, ◌≤◌, List, [], ◌∷◌, ◌++◌, length, take, replicate, refl, sym, ◌∙◌, arith, inl}
 use Rattle.std.proofs.Common.{inr, append_assoc}
 use Rattle.std.proofs.lemmas.List.{take-replicate}
-use Rattle.ascii_bytes.specs.Ascii as ascii
+use Rattle.lics_text.specs.Ascii as ascii
 
 -- the front of a line of blanks is so many blanks
 pub blanks_front : (n : ℕ) → n ≤ 240 → take {A = ℕ} n (replicate 240 ascii.space) ≡ replicate n ascii.space

@@ -1,6 +1,6 @@
 -- What a cell shows in a column's width.
 use Rattle.std.specs.Prelude.{ℕ, ◌-◌, Bool, true, false, not, ◌&&◌, nat_le, nat_lt, if◌then◌else◌, List, [], ◌++◌, length, take, Option, Some, None, codes}
-use Rattle.ascii_bytes.specs.Ascii as ascii
+use Rattle.lics_text.specs.Ascii as ascii
 use Rattle.cell_format.specs.Labels.{shown_label}
 use Rattle.cell_format.specs.Numbers.{placed, shown_number, spaces}
 use Rattle.formula_text.specs.Printed.{printed}

@@ -1,6 +1,6 @@
 -- Lines of a text file. A line ends at CR LF, at LF alone or at the end.
 use Rattle.std.specs.Prelude.{ℕ, ◌+◌, ◌==◌, ◌&&◌, nat_lt, Bool, false, List, [], ◌∷◌, length, min, map, take, drop, if◌then◌else◌}
-use Rattle.ascii_bytes.specs.Ascii as ascii
+use Rattle.lics_text.specs.Ascii as ascii
 use Rattle.lics_text.specs.Limits.{MAX_LEN}
 
 -- a byte below 32 becomes a blank

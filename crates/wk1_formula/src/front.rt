@@ -2,7 +2,7 @@
 ghost use Rattle.std.specs.Int.{from_le_bytes, w64};
 ghost use Rattle.std.specs.List.{list_all};
 ghost use Rattle.std.specs.Prelude.{◌≡◌, nat_le, ◌≤◌, ◌<◌, ◌+◌, ◌*◌, drop, take, length, true, false, pos, IfOk, IfSome, IfNone, Some, None};
-ghost use Rattle.ascii_bytes.specs.Ascii as ascii;
+ghost use Rattle.lics_text.specs.Ascii as ascii;
 ghost use Rattle.grid_address.specs.Axes.{number_of};
 ghost use Rattle.formula_tree.specs.Ranges.{is_text};
 ghost use Rattle.formula_tree.specs.Shape.{has_no_quote};

@@ -1,7 +1,6 @@
 // What a record says.
-use byte_list::ByteList;
 use grid_address::{Cell, Format, Span};
-use lics_text::{LabelPrefix, Text};
+use lics_text::{ByteList, LabelPrefix, Text};
 use sheet_store::{CellState, Order};
 
 /// What a record says of the sheet.

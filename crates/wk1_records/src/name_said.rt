@@ -7,8 +7,8 @@ ghost use Rattle.wk1_records.specs.Meanings.{bit_at, bits_in, if_name, name_entr
 
 use crate::said::span_at;
 use crate::{Entry, Wk1Fault};
-use byte_list::ByteList;
 use grid_address::COLUMNS;
+use lics_text::ByteList;
 use range_names::fault_of;
 use wk1_formula::before_zero;
 

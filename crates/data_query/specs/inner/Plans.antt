@@ -2,7 +2,7 @@
 use Rattle.std.specs.Prelude.{ℕ, ◌+◌, not, Bool, true, false, List}
 use Rattle.std.specs.List.{filter}
 use Rattle.grid_address.specs.Place.{Extent}
-use Rattle.range_lines.specs.Rows.{at, rows_below}
+use Rattle.grid_address.specs.Lines.{at, rows_below}
 use Rattle.formula_eval.specs.Criteria.{record_matches}
 use Rattle.formula_eval.specs.Outlook.{Outlook}
 

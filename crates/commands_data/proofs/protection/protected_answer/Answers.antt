@@ -6,7 +6,7 @@ use Rattle.commands_data.proofs.First.{rows_end, rows_more, rows_stop}
 use Rattle.commands_data.specs.TableCommands.{answer_cells}
 use Rattle.data_blocks.specs.Tables.{columns_behind}
 use Rattle.grid_address.specs.Place.{Place}
-use Rattle.range_lines.proofs.Scans.{left_first}
+use Rattle.grid_address.proofs.Scans.{left_first}
 use Rattle.sheet_edits.specs.Edits.{is_protected}
 use Rattle.work_sheet.specs.Seen.{of_worksheet}
 use Rattle.commands_data.proofs.protection.protected_answer.Goals as goal

@@ -4,7 +4,7 @@ use Rattle.block_writes.specs.Writing.{at}
 use Rattle.command_desk.specs.Acting.{first_protected}
 use Rattle.commands_data.specs.TableCommands.{answer_cells}
 use Rattle.data_blocks.specs.Tables.{columns_behind}
-use Rattle.range_lines.proofs.Scans.{left}
+use Rattle.grid_address.proofs.Scans.{left}
 use Rattle.work_sheet.specs.Seen.{of_worksheet}
 use Rattle.commands_data.proofs.protection.protected_answer.Given as goal
 

@@ -4,7 +4,7 @@ use Rattle.command_desk.specs.Acting.{first_protected}
 use Rattle.commands_data.proofs.First.{found_end, found_more}
 use Rattle.data_blocks.specs.Tables.{columns_behind}
 use Rattle.grid_address.specs.Place.{Place}
-use Rattle.range_lines.proofs.Scans.{left_first}
+use Rattle.grid_address.proofs.Scans.{left_first}
 use Rattle.sheet_edits.specs.Edits.{is_protected}
 use Rattle.work_sheet.specs.Seen.{of_worksheet}
 use Rattle.commands_data.proofs.protection.protected_in_row.Goals as goal

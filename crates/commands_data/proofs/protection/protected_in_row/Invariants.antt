@@ -2,7 +2,7 @@ use Rattle.std.proofs.Common.{◌≡◌, ◌+◌, ◌-◌, map}
 use Rattle.block_writes.specs.Writing.{at}
 use Rattle.command_desk.specs.Acting.{first_protected}
 use Rattle.data_blocks.specs.Tables.{columns_behind}
-use Rattle.range_lines.proofs.Scans.{left}
+use Rattle.grid_address.proofs.Scans.{left}
 use Rattle.work_sheet.specs.Seen.{of_worksheet}
 use Rattle.commands_data.proofs.protection.protected_in_row.Given as goal
 

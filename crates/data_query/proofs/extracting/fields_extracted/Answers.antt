@@ -2,7 +2,7 @@ use Rattle.std.proofs.Common.{◌≡◌, ◌≤◌, List, length, map, sym, ap, 
 use Rattle.grid_address.specs.Place.{Place}
 use Rattle.formula_eval.specs.Scenes.{outlook_of}
 use Rattle.data_query.specs.Extraction.{rows_extracted}
-use Rattle.range_lines.specs.Rows.{last_row}
+use Rattle.grid_address.specs.Lines.{last_row}
 use Rattle.data_query.proofs.Extracted.{fault_as, found_as}
 use Rattle.data_query.proofs.Records.{row_of}
 use Rattle.data_query.proofs.extracting.fields_extracted.Goals as goal

@@ -2,7 +2,7 @@ use Rattle.std.proofs.Common.{◌≡◌}
 use Rattle.std.specs.List.{find}
 use Rattle.grid_address.specs.Place.{width_of}
 use Rattle.data_query.specs.Extraction.{is_unknown, unknown_label}
-use Rattle.range_lines.proofs.Scans.{left}
+use Rattle.grid_address.proofs.Scans.{left}
 use Rattle.data_query.proofs.output.unknown_label.Given as goal
 
 abbrev pub invariant-loop-col : goal.invariant-loop-col

@@ -5,7 +5,7 @@ use Rattle.formula_eval.specs.Scenes.{outlook_of}
 use Rattle.block_writes.specs.Writing.{at}
 use Rattle.formula_eval.specs.Criteria.{record_matches}
 use Rattle.data_query.specs.inner.Plans.{is_wanted, records}
-use Rattle.range_lines.proofs.Scans.{left_first, passed, put_all, put_none, put_one}
+use Rattle.grid_address.proofs.Scans.{left_first, passed, put_all, put_none, put_one}
 use Rattle.data_query.proofs.plan.records_of.Goals as goal
 use Rattle.data_query.proofs.plan.records_of.Goals.{then-is_wanted+in_ok-push, else-is_wanted}
 

@@ -3,7 +3,7 @@ use Rattle.formula_eval.specs.Scenes.{outlook_of}
 use Rattle.block_writes.specs.Writing.{at}
 use Rattle.formula_eval.specs.Criteria.{record_matches}
 use Rattle.data_query.specs.inner.Plans.{is_wanted, records}
-use Rattle.range_lines.proofs.Scans.{passed}
+use Rattle.grid_address.proofs.Scans.{passed}
 use Rattle.data_query.proofs.plan.records_of.Given as goal
 
 abbrev pub invariant-loop-place : goal.invariant-loop-place

@@ -1,7 +1,7 @@
 use Rattle.std.proofs.Common.{ℕ, [], ◌∷◌, ◌++◌, ap, ◌∙◌}
 use Rattle.std.specs.Prelude.{Option}
-use Rattle.range_lines.specs.Rows.{at}
-use Rattle.range_lines.proofs.Numbers.{made_more}
+use Rattle.grid_address.specs.Lines.{at}
+use Rattle.grid_address.proofs.Numbers.{made_more}
 use Rattle.formula_eval.specs.Fields.{field_named}
 use Rattle.formula_eval.proofs.criteria.fields_of.Goals as goal
 

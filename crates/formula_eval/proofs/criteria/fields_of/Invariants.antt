@@ -1,5 +1,5 @@
 use Rattle.std.proofs.Common.{◌≡◌, map}
-use Rattle.range_lines.specs.Rows.{at, numbers_from}
+use Rattle.grid_address.specs.Lines.{at, numbers_from}
 use Rattle.formula_eval.specs.Fields.{field_named}
 use Rattle.formula_eval.proofs.criteria.fields_of.Given as goal
 

@@ -2,7 +2,7 @@ use Rattle.std.proofs.Common.{◌+◌, ◌-◌, sym, ap, ◌∙◌, arith}
 use Rattle.std.specs.List.{list_any}
 use Rattle.formula_eval.specs.Scenes.{outlook_of}
 use Rattle.formula_eval.specs.Criteria.{record_matches, row_holds}
-use Rattle.range_lines.proofs.Scans.{any_end, any_more, any_stop, left_first}
+use Rattle.grid_address.proofs.Scans.{any_end, any_more, any_stop, left_first}
 use Rattle.formula_eval.proofs.criteria.record_matches.Goals as goal
 
 pub loop-place-init : goal.loop-place-init

@@ -2,7 +2,7 @@ use Rattle.std.proofs.Common.{◌≡◌, ◌+◌, ◌-◌}
 use Rattle.std.specs.List.{list_any}
 use Rattle.formula_eval.specs.Scenes.{outlook_of}
 use Rattle.formula_eval.specs.Criteria.{record_matches, row_holds}
-use Rattle.range_lines.proofs.Scans.{left}
+use Rattle.grid_address.proofs.Scans.{left}
 use Rattle.formula_eval.proofs.criteria.record_matches.Given as goal
 
 abbrev pub invariant-loop-place : goal.invariant-loop-place

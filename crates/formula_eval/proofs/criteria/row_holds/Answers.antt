@@ -2,11 +2,11 @@ use Rattle.std.proofs.Common.{ℕ, ◌<◌, ◌≡◌, length, ap, ◌∙◌, ar
 use Rattle.std.specs.List.{list_all}
 use Rattle.grid_address.specs.Place.{width_of}
 use Rattle.formula_eval.specs.Scenes.{outlook_of}
-use Rattle.range_lines.specs.Rows.{at}
+use Rattle.grid_address.specs.Lines.{at}
 use Rattle.formula_eval.specs.Criteria.{holds_at, row_holds}
 use Rattle.formula_eval.specs.Fields.{field_named}
 use Rattle.formula_eval.proofs.Held.{held}
-use Rattle.range_lines.proofs.Scans.{all_end, all_more, all_stop, left_first, made_count}
+use Rattle.grid_address.proofs.Scans.{all_end, all_more, all_stop, left_first, made_count}
 use Rattle.formula_eval.proofs.criteria.row_holds.Goals as goal
 
 pub bounds-fields-from : goal.bounds-fields-from

@@ -2,9 +2,9 @@ use Rattle.std.proofs.Common.{◌≡◌}
 use Rattle.std.specs.List.{list_all}
 use Rattle.grid_address.specs.Place.{width_of}
 use Rattle.formula_eval.specs.Scenes.{outlook_of}
-use Rattle.range_lines.specs.Rows.{at}
+use Rattle.grid_address.specs.Lines.{at}
 use Rattle.formula_eval.specs.Criteria.{holds_at, row_holds}
-use Rattle.range_lines.proofs.Scans.{left}
+use Rattle.grid_address.proofs.Scans.{left}
 use Rattle.formula_eval.proofs.criteria.row_holds.Given as goal
 
 abbrev pub invariant-loop-col : goal.invariant-loop-col

@@ -1,9 +1,9 @@
 use Rattle.std.proofs.Common.{ℕ, Some, sym, ap, ◌∙◌, arith}
 use Rattle.std.specs.List.{find}
 use Rattle.grid_address.specs.Place.{width_of, Place}
-use Rattle.range_lines.specs.Rows.{at}
+use Rattle.grid_address.specs.Lines.{at}
 use Rattle.formula_eval.specs.Fields.{field_named, label_in, same_label}
-use Rattle.range_lines.proofs.Scans.{find_end, find_more, find_stop, left_first}
+use Rattle.grid_address.proofs.Scans.{find_end, find_more, find_stop, left_first}
 use Rattle.formula_eval.proofs.fields.field_named.Goals as goal
 
 pub loop-col-init : goal.loop-col-init

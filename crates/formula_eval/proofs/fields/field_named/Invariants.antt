@@ -1,9 +1,9 @@
 use Rattle.std.proofs.Common.{◌≡◌}
 use Rattle.std.specs.List.{find}
 use Rattle.grid_address.specs.Place.{width_of}
-use Rattle.range_lines.specs.Rows.{at}
+use Rattle.grid_address.specs.Lines.{at}
 use Rattle.formula_eval.specs.Fields.{field_named, label_in, same_label}
-use Rattle.range_lines.proofs.Scans.{left}
+use Rattle.grid_address.proofs.Scans.{left}
 use Rattle.formula_eval.proofs.fields.field_named.Given as goal
 
 abbrev pub invariant-loop-col : goal.invariant-loop-col

@@ -1,9 +1,9 @@
 use Rattle.std.proofs.Common.{ℕ, sym, ap, ◌∙◌, arith}
 use Rattle.std.specs.List.{list_all}
 use Rattle.grid_address.specs.Place.{width_of}
-use Rattle.range_lines.specs.Rows.{at, columns_of}
+use Rattle.grid_address.specs.Lines.{at, columns_of}
 use Rattle.formula_eval.specs.Fields.{is_label_at}
-use Rattle.range_lines.proofs.Scans.{all_end, all_more, all_stop, left_first}
+use Rattle.grid_address.proofs.Scans.{all_end, all_more, all_stop, left_first}
 use Rattle.formula_eval.proofs.fields.is_row_of_labels.Goals as goal
 
 pub loop-col-init : goal.loop-col-init

@@ -1,8 +1,8 @@
 use Rattle.std.proofs.Common.{ℕ, ◌+◌, ◌-◌, sym, ap, ◌∙◌, arith}
 use Rattle.std.specs.List.{list_any}
-use Rattle.range_lines.specs.Rows.{at, rows_below}
+use Rattle.grid_address.specs.Lines.{at, rows_below}
 use Rattle.formula_eval.specs.Criteria.{asks_field}
-use Rattle.range_lines.proofs.Scans.{any_end, any_more, any_stop, left_first}
+use Rattle.grid_address.proofs.Scans.{any_end, any_more, any_stop, left_first}
 use Rattle.formula_eval.proofs.headers.is_asked_below.Goals as goal
 
 pub loop-place-init : goal.loop-place-init

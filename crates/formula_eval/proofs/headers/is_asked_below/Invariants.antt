@@ -1,8 +1,8 @@
 use Rattle.std.proofs.Common.{◌≡◌, ◌+◌, ◌-◌}
 use Rattle.std.specs.List.{list_any}
-use Rattle.range_lines.specs.Rows.{at, rows_below}
+use Rattle.grid_address.specs.Lines.{at, rows_below}
 use Rattle.formula_eval.specs.Criteria.{asks_field}
-use Rattle.range_lines.proofs.Scans.{left}
+use Rattle.grid_address.proofs.Scans.{left}
 use Rattle.formula_eval.proofs.headers.is_asked_below.Given as goal
 
 abbrev pub invariant-loop-place : goal.invariant-loop-place

@@ -2,7 +2,7 @@ use Rattle.std.proofs.Common.{Some, sym, ap, ◌∙◌, arith}
 use Rattle.std.specs.List.{find}
 use Rattle.grid_address.specs.Place.{width_of}
 use Rattle.formula_eval.specs.Criteria.{is_missing, missing}
-use Rattle.range_lines.proofs.Scans.{find_end, find_more, find_stop, left_first}
+use Rattle.grid_address.proofs.Scans.{find_end, find_more, find_stop, left_first}
 use Rattle.formula_eval.proofs.headers.missing.Goals as goal
 
 pub loop-col-init : goal.loop-col-init

@@ -2,7 +2,7 @@ use Rattle.std.proofs.Common.{◌≡◌}
 use Rattle.std.specs.List.{find}
 use Rattle.grid_address.specs.Place.{width_of}
 use Rattle.formula_eval.specs.Criteria.{is_missing, missing}
-use Rattle.range_lines.proofs.Scans.{left}
+use Rattle.grid_address.proofs.Scans.{left}
 use Rattle.formula_eval.proofs.headers.missing.Given as goal
 
 abbrev pub invariant-loop-col : goal.invariant-loop-col

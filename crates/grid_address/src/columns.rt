@@ -1,9 +1,9 @@
 // The columns of a range.
 ghost use Rattle.std.specs.Prelude.{◌≡◌, ◌<◌, ◌+◌};
 ghost use Rattle.grid_address.specs.Place.{width_of};
-ghost use Rattle.range_lines.specs.Rows.{at};
+ghost use Rattle.grid_address.specs.Lines.{at};
 
-use grid_address::{Cell, Span};
+use crate::{Cell, Span};
 
 /// A column of a span, counted from its first.
 pub fn column_at(span: Span, col: u16) -> u8

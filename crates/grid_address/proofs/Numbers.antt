@@ -2,7 +2,7 @@
 use Rattle.std.proofs.Common.{◌≡◌, ℕ, ◌+◌, List, [], ◌∷◌, ◌++◌, map, sym, ap, ◌∙◌, append_assoc, arith}
 use Rattle.std.specs.Prelude.{zero, suc}
 use Rattle.std.proofs.lemmas.List.{map-append}
-use Rattle.range_lines.specs.Rows.{numbers_from}
+use Rattle.grid_address.specs.Lines.{numbers_from}
 
 numbers_suc : (n k : ℕ) → numbers_from n (suc k) ≡ numbers_from n k ++ (n + k) ∷ []
 numbers_suc n zero = (let e : n ≡ n + 0 = omega arith in ap (λ m. m ∷ []) e)

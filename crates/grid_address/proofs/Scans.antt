@@ -4,7 +4,7 @@ use Rattle.std.proofs.Common.{sym, ap, ◌∙◌, append_assoc, arith}
 use Rattle.std.specs.Prelude.{zero, ◌&&◌, ◌||◌, Bool, true, false, Option, Some, None, option_to_list}
 use Rattle.std.specs.List.{cons_option, filter, filter_map, find, list_all, list_any}
 use Rattle.std.proofs.lemmas.List.{append-nil}
-use Rattle.range_lines.specs.Rows.{numbers_from}
+use Rattle.grid_address.specs.Lines.{numbers_from}
 
 -- what is left of so many numbers behind the first few
 abbrev pub left : ℕ → ℕ → ℕ → List ℕ

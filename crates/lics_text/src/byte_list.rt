@@ -1,8 +1,6 @@
-//! Lists of few bytes, which take no memory.
-#![tactic(auto)]
-
+// Lists of few bytes, which take no memory.
 ghost use Rattle.std.specs.Prelude.{◌≡◌, ◌≤◌, ◌+◌, ◌++◌, [], length, nat_lt};
-ghost use Rattle.byte_list.specs.Lists.{with_byte};
+ghost use Rattle.lics_text.specs.ByteLists.{with_byte};
 
 use std::marker::Model;
 

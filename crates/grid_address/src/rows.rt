@@ -1,8 +1,8 @@
 // The rows of a range below its first.
 ghost use Rattle.std.specs.Prelude.{◌≡◌, ◌≤◌, ◌<◌, ◌+◌, ◌-◌};
-ghost use Rattle.range_lines.specs.Rows.{at, last_row, rows_down};
+ghost use Rattle.grid_address.specs.Lines.{at, last_row, rows_down};
 
-use grid_address::{Cell, LAST_ROW, Span};
+use crate::{Cell, LAST_ROW, Span};
 
 /// How many rows a range has below its first.
 pub fn count_below(span: Span) -> u16
