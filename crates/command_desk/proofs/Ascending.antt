@@ -7,9 +7,9 @@ use Rattle.std.proofs.Common.{sym, ◌∙◌, ap, inl, inr, subst}
 use Rattle.std.proofs.lemmas.Bool.{cases_Bool, false≢true, or_cases, or_left, or_right, true≢false}
 use Rattle.grid_address.proofs.Places.{same_place_is, same_place_itself}
 use Rattle.grid_address.specs.Place.{place_cmp, same_place, Place}
-use Rattle.cell_numbers.specs.Sets.{has}
-use Rattle.natural_recalc.proofs.Filled.{Before}
-use Rattle.natural_recalc.specs.inner.Laws.{Ascends}
+use Rattle.cell_maps.specs.Sets.{has}
+use Rattle.recalculation.proofs.Filled.{Before}
+use Rattle.recalculation.specs.inner.Laws.{Ascends}
 
 module _ (p : Place → Bool) where
   -- none passes

@@ -9,8 +9,8 @@ use Rattle.std.proofs.lemmas.Bool.{and_from, and_parts, cases_Bool, false≢true
 use Rattle.std.proofs.lemmas.Option.{none-some, same_Some}
 use Rattle.grid_address.proofs.Places.{cells_exact, cells_total, same_place_is, same_place_itself}
 use Rattle.grid_address.specs.Place.{place_cmp, same_place, Place}
-use Rattle.cell_numbers.specs.Sets.{has}
-use Rattle.natural_recalc.proofs.Filled.{has_filtered}
+use Rattle.cell_maps.specs.Sets.{has}
+use Rattle.recalculation.proofs.Filled.{has_filtered}
 use Rattle.command_desk.specs.Writing.{first_in_order, unless_before}
 
 not_less : (o : Ordering) → (o ≡ Less → ⊥) → is_lt o ≡ false

@@ -6,7 +6,7 @@ use Rattle.desk_errors.specs.declared.error.CommandError.TheVariants as error
 use Rattle.formula_eval.specs.Mean.{mean}
 use Rattle.formula_eval.specs.declared.look.Scene.{Scene}
 use Rattle.grid_address.specs.Place.{same_place, Place}
-use Rattle.cell_numbers.specs.Sets.{has}
+use Rattle.cell_maps.specs.Sets.{has}
 use Rattle.sheet_edits.specs.Edits.{is_protected}
 use Rattle.sheet_edits.specs.Spans.{IsAnswered, IsFirstProtected, NoneProtected}
 use Rattle.sheet_shifts.specs.Refusals.{refusal}
@@ -20,7 +20,7 @@ use Rattle.work_sheet.specs.Editing.{shifted}
 use Rattle.work_sheet.specs.Seen.{of_worksheet, Sheet}
 use Rattle.work_sheet.specs.Sheets.{IsRefusedBy, Worksheet}
 use Rattle.command_desk.proofs.Ascending.{first_found, none_found}
-use Rattle.natural_recalc.specs.inner.Laws.{Ascends}
+use Rattle.recalculation.specs.inner.Laws.{Ascends}
 use Rattle.command_desk.specs.Acting.{edited, error_of, first_protected, moved_by, refusal_of, refused}
 use Rattle.command_desk.specs.Acting.{unless_protected, unless_refused, written, Acted, HasActed, HasSettled}
 use Rattle.command_desk.specs.declared.ending.CommandEnd.{CommandEnd}

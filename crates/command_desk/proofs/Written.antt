@@ -5,7 +5,7 @@ use Rattle.desk_errors.specs.declared.error.CommandError.TheVariants as error
 use Rattle.formula_eval.specs.Mean.{mean}
 use Rattle.formula_eval.specs.declared.look.Scene.{Scene}
 use Rattle.grid_address.specs.Place.{same_place, Place}
-use Rattle.cell_numbers.specs.Sets.{has}
+use Rattle.cell_maps.specs.Sets.{has}
 use Rattle.sheet_edits.specs.Edits.{is_protected}
 use Rattle.sheet_edits.specs.Spans.{written_cells, IsAnswered}
 use Rattle.sheet_store.specs.declared.writes.SheetFault.{SheetFault}

@@ -5,7 +5,7 @@ use Rattle.std.specs.Ordering.{is_lt}
 use Rattle.formula_eval.specs.Outlook.{Sight}
 use Rattle.formula_eval.specs.declared.look.Scene.{Scene}
 use Rattle.grid_address.specs.Place.{place_cmp, Place}
-use Rattle.natural_recalc.specs.Context.{sight_of}
+use Rattle.recalculation.specs.Context.{sight_of}
 use Rattle.sheet_edits.specs.Edits.{is_protected}
 use Rattle.sheet_edits.specs.Spans.{written_cells}
 use Rattle.sheet_store.specs.declared.writes.Write.{Write}

@@ -15,8 +15,8 @@ use Rattle.grid_address.proofs.Places.{same_place_is}
 use Rattle.grid_address.specs.Formats.{has_protection}
 use Rattle.grid_address.specs.Place.{same_place, Place}
 use Rattle.grid_address.specs.declared.format.Format.{Format}
-use Rattle.cell_numbers.specs.Sets.{has}
-use Rattle.natural_recalc.specs.Context.{content_of, format_of}
+use Rattle.cell_maps.specs.Sets.{has}
+use Rattle.recalculation.specs.Context.{content_of, format_of}
 use Rattle.sheet_edits.proofs.Gathering.{format_changed}
 use Rattle.sheet_edits.proofs.Overlaid.{get_put}
 use Rattle.sheet_edits.specs.Edits.{just}

@@ -12,9 +12,9 @@ use Rattle.formula_eval.specs.declared.look.Scene.{Scene}
 use Rattle.formula_tree.specs.declared.value.Content.{Content}
 use Rattle.grid_address.specs.Place.{same_place, Place}
 use Rattle.lics_text.specs.declared.faults.Memory.{Memory}
-use Rattle.cell_numbers.specs.Sets.{has}
-use Rattle.natural_recalc.specs.Context.{format_of}
-use Rattle.natural_recalc.specs.Passes.{SameContents}
+use Rattle.cell_maps.specs.Sets.{has}
+use Rattle.recalculation.specs.Context.{format_of}
+use Rattle.recalculation.specs.Passes.{SameContents}
 use Rattle.sheet_edits.specs.Edits.{just, written_state}
 use Rattle.sheet_edits.specs.Spans.{written_cells}
 use Rattle.sheet_store.specs.Grid.{Grid}

@@ -9,7 +9,7 @@ use Rattle.formula_eval.specs.declared.look.Scene.{Scene}
 use Rattle.formula_tree.specs.declared.value.Content.{Content}
 use Rattle.formula_tree.specs.declared.value.Value.{Value}
 use Rattle.grid_address.specs.Place.{Extent, Place}
-use Rattle.natural_recalc.specs.Context.{content_of}
+use Rattle.recalculation.specs.Context.{content_of}
 use Rattle.sheet_store.specs.Grid.{Grid}
 use Rattle.sheet_store.specs.declared.writes.Write.{Write}
 use Rattle.work_sheet.specs.Doing.{and_then, quiet, recalculated, with_content, Done}

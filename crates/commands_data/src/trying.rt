@@ -4,7 +4,7 @@ ghost use Rattle.commands_data.specs.inner.Benched.{contents_behind, keep_format
 ghost use Rattle.commands_data.specs.Trying.{content_at, contents_of, put_out, written_out};
 ghost use Rattle.data_blocks.specs.Benches.{with_content};
 ghost use Rattle.grid_address.specs.Place.{same_place};
-ghost use Rattle.cell_numbers.specs.Sets.{has};
+ghost use Rattle.cell_maps.specs.Sets.{has};
 ghost use Rattle.sheet_edits.specs.Edits.{just};
 ghost use Rattle.sheet_edits.specs.Spans.{written_cells};
 ghost use Rattle.work_sheet.specs.Did.{Did};

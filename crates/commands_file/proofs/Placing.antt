@@ -11,8 +11,8 @@ use Rattle.std.specs.declared.cmp.Ordering.TheVariants.{Less, Equal, Greater}
 use Rattle.std.proofs.Common.{ap, arith, inl, inr, subst, sym, ◌∙◌}
 use Rattle.std.proofs.lemmas.Bool.{cases_lt}
 use Rattle.std.proofs.lemmas.List.{map-append}
-use Rattle.natural_recalc.proofs.Filled.{Before}
-use Rattle.natural_recalc.specs.inner.Laws.{Ascends}
+use Rattle.recalculation.proofs.Filled.{Before}
+use Rattle.recalculation.specs.inner.Laws.{Ascends}
 use Rattle.commands_file.specs.Combined.{combined_writes, from_pointer, is_taken, number_held, placed, totalled}
 use Rattle.commands_file.specs.Combined.{write_at, write_of, write_placed, Entry}
 use Rattle.commands_file.specs.declared.combining.Combining.{Combining}

@@ -89,7 +89,11 @@ fn brought(span: Span, store: &Store) -> Result<Store, Memory>
 
 /// What is saved of a span: its cells, moved to A1 as Move does, with the settings, and no names, widths of columns'
 /// own or hidden columns.
-pub(crate) fn extracted(kind: Extracting, span: Span, sheet: &Worksheet) -> Result<SavedSheet, Memory>
+pub(crate) fn extracted(
+    kind: Extracting,
+    span: Span,
+    sheet: &Worksheet,
+) -> Result<SavedSheet, Memory>
     ensures { IfOk result (λ saved. saved ≡ extracted kind span (of_worksheet sheet.now)) }
 {
     let part = part(kind, span, sheet.cells())?;

@@ -14,7 +14,7 @@ use Rattle.sheet_edits.proofs.Gathering.{on_ok}
 use Rattle.sheet_edits.specs.Spans.{IsAnswered}
 use Rattle.sheet_store.specs.declared.writes.SheetFault.{SheetFault}
 use Rattle.sheet_store.specs.declared.writes.SheetFault.TheVariants as fault
-use Rattle.natural_recalc.proofs.Filled.{has_cells, span_ascends}
+use Rattle.recalculation.proofs.Filled.{has_cells, span_ascends}
 use Rattle.formula_eval.specs.Outlook.{cells_of}
 use Rattle.work_sheet.specs.Did.{DidEdit}
 use Rattle.work_sheet.specs.Editing.{copied}

@@ -2,14 +2,14 @@
 use Rattle.std.specs.Prelude.{◌++◌, List, [], ◌∷◌, flat_map, Option, None, Some}
 use Rattle.std.specs.FinMap as map
 use Rattle.std.specs.List.Sorted.{IsStrictlySortedBy}
-use Rattle.natural_recalc.proofs.Filled.{Before}
-use Rattle.natural_recalc.specs.inner.Laws.{Ascends}
+use Rattle.recalculation.proofs.Filled.{Before}
+use Rattle.recalculation.specs.inner.Laws.{Ascends}
 use Rattle.commands_range.specs.Commands.{relabelled, relabelled_cell, relabelled_content}
 use Rattle.formula_tree.specs.declared.value.Content.{Content}
 use Rattle.formula_tree.specs.declared.value.Content.TheVariants as content
 use Rattle.grid_address.specs.Place.{Extent, Place}
 use Rattle.lics_text.specs.declared.prefix.LabelPrefix.{LabelPrefix}
-use Rattle.natural_recalc.proofs.Ascending.{picked_ascends}
+use Rattle.recalculation.proofs.Ascending.{picked_ascends}
 use Rattle.sheet_edits.specs.Spans.{written_cells}
 use Rattle.sheet_store.specs.Grid.{any_state, cells_within, Grid}
 use Rattle.sheet_store.specs.State.{CellState}

@@ -47,7 +47,11 @@ pub fn formatted(
 
 /// Sets the protection marks of the cells of the span that the first answer is, or takes them away; their formats stay.
 /// It is refused by the errors of `span_at` alone.
-pub fn marked(protected: bool, answers: &Answers, sheet: &mut Worksheet) -> Result<CommandEnd, Memory>
+pub fn marked(
+    protected: bool,
+    answers: &Answers,
+    sheet: &mut Worksheet,
+) -> Result<CommandEnd, Memory>
     ensures { IfOk result (λ end. (n : ℕ) → HasActed (marked answers.now (of_worksheet sheet.old) protected)
         end sheet.old sheet.new n n) }
 {

@@ -8,9 +8,9 @@ use Rattle.command_desk.specs.declared.ending.CommandEnd.TheVariants.{Finished}
 use Rattle.formula_eval.specs.Mean.{mean}
 use Rattle.formula_eval.specs.declared.look.Scene.{Scene}
 use Rattle.grid_address.specs.Place.{place_cmp, same_place, Place}
-use Rattle.cell_numbers.specs.Sets.{has}
-use Rattle.natural_recalc.specs.Context.{formula_of}
-use Rattle.natural_recalc.specs.Reading.{is_formula_at}
+use Rattle.cell_maps.specs.Sets.{has}
+use Rattle.recalculation.specs.Context.{formula_of}
+use Rattle.recalculation.specs.Reading.{is_formula_at}
 use Rattle.work_sheet.proofs.Done.{did_both}
 use Rattle.work_sheet.specs.Did.{work_of, Did, DidEdit}
 use Rattle.work_sheet.specs.Doing.{settled}

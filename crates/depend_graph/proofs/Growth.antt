@@ -7,7 +7,7 @@ use Rattle.std.specs.Map.{keys_of, lookup}
 use Rattle.std.proofs.Common.{sym, ◌∙◌, ap, inl, inr, arith, length-append}
 use Rattle.std.proofs.lemmas.Bool.{false≢true, cases_Bool, or_cases, or_left, or_right}
 use Rattle.std.proofs.lemmas.Map.Made.{length-le_from_is_member}
-use Rattle.cell_numbers.specs.Sets.{has}
+use Rattle.cell_maps.specs.Sets.{has}
 use Rattle.grid_address.proofs.Maps.{get_lookup}
 use Rattle.grid_address.proofs.Places.{cells_total, place_tied, same_place_is, same_place_laws}
 use Rattle.grid_address.specs.Place.{place_cmp, same_place, Place}

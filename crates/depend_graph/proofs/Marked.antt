@@ -4,8 +4,8 @@ use Rattle.std.proofs.Common.{sym, ◌∙◌, ap, subst, refl, inl, inr, arith, 
 use Rattle.std.proofs.lemmas.Bool.{cases_Bool, false≢true, or_cases, true≢false}
 use Rattle.std.proofs.lemmas.Bool.Decides.{nat_tests}
 use Rattle.std.proofs.lemmas.List.{length-drop, take_all}
-use Rattle.cell_numbers.specs.Numbers.{number_at, Numbers}
-use Rattle.cell_numbers.specs.Sets.{has}
+use Rattle.cell_maps.specs.Numbers.{number_at, Numbers}
+use Rattle.cell_maps.specs.Sets.{has}
 use Rattle.grid_address.proofs.Places.{same_place_is, same_place_itself}
 use Rattle.grid_address.specs.Place.{is_within, same_place, Extent, InSheet, Place}
 use Rattle.range_index.specs.Hulls.{in_hull}

@@ -4,8 +4,8 @@ use Rattle.std.proofs.Common.{sym, ◌∙◌, ap, subst, inl, inr, arith, length
 use Rattle.std.specs.List.{AllByRecursion, IsDistinct}
 use Rattle.std.proofs.lemmas.Bool.{true≢false, false≢true, cases_Bool, false_from_ne_true, or_cases, or_left, or_right}
 use Rattle.std.proofs.lemmas.List.Folds.{list_any-append}
-use Rattle.cell_numbers.specs.Numbers.{number_at}
-use Rattle.cell_numbers.specs.Sets.{has}
+use Rattle.cell_maps.specs.Numbers.{number_at}
+use Rattle.cell_maps.specs.Sets.{has}
 use Rattle.grid_address.proofs.Places.{same_place_is, same_place_itself, same_place_laws}
 use Rattle.grid_address.specs.Place.{same_place, InSheet, Place}
 use Rattle.depend_graph.specs.inner.Backward.{all, work_left, IsDeeper, IsSearched}

@@ -1,7 +1,7 @@
 -- Formulas in an order in which each comes after all of them that it reads.
 use Rattle.std.specs.Prelude.{◌≡◌, Bool, true, false, List, [], ◌∷◌, Option, None, Some}
 use Rattle.std.specs.FinMap.{get}
-use Rattle.cell_numbers.specs.Sets.{has}
+use Rattle.cell_maps.specs.Sets.{has}
 use Rattle.grid_address.specs.Place.{same_place, Place}
 use Rattle.depend_graph.specs.Network.{reads, Network}
 use Rattle.depend_graph.specs.declared.node.Node.{Node}

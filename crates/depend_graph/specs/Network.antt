@@ -1,7 +1,7 @@
 -- Which formulas there are, what they read, and which of them reach a cell.
 use Rattle.std.specs.Prelude.{◌≡◌, ◌⊎◌, Bool, true, false, List, Option, None, Some, is_some}
 use Rattle.std.specs.FinMap.{get, insert, remove, FinMap}
-use Rattle.cell_numbers.specs.Sets.{has}
+use Rattle.cell_maps.specs.Sets.{has}
 use Rattle.grid_address.specs.Place.{place_cmp, same_place, Place}
 use Rattle.range_index.specs.Owners.{hold}
 use Rattle.depend_graph.specs.declared.node.Node.{Node}

@@ -1,7 +1,7 @@
 // What reaches cells through what formulas read, by a search that goes depth first.
 ghost use Rattle.std.specs.Prelude.{◌≡◌, ◌<◌, ◌^◌, ◌⊎◌, ◌↔◌, ◌++◌, ◌∷◌, [], List, cond, length, true, false, IfOk, OnOk};
-ghost use Rattle.cell_numbers.specs.Numbers.{number_at};
-ghost use Rattle.cell_numbers.specs.Sets.{has};
+ghost use Rattle.cell_maps.specs.Numbers.{number_at};
+ghost use Rattle.cell_maps.specs.Sets.{has};
 ghost use Rattle.grid_address.specs.Place.{same_place, InSheet, Place};
 ghost use Rattle.depend_graph.specs.inner.Backward.{work_left, IsDeeper, IsSearched};
 ghost use Rattle.depend_graph.specs.Network.{is_formula, reads, IsSpread, Network};
@@ -9,7 +9,7 @@ ghost use Rattle.depend_graph.specs.inner.Within.{Within};
 
 use crate::Graph;
 use crate::marks::put_mark;
-use cell_numbers::PlaceTable;
+use cell_maps::PlaceTable;
 use grid_address::{Cell, CellList};
 use lics_text::Memory;
 use std::alloc::Global;

@@ -1,7 +1,7 @@
 // The graph of what formulas read.
 ghost use Rattle.std.specs.Prelude.{◌≡◌, ◌⊎◌, ◌↔◌, ◌∷◌, [], true, IfOk, OnOk, OnErr, option_copied};
 ghost use Rattle.std.specs.FinMap as map;
-ghost use Rattle.cell_numbers.specs.Sets.{has};
+ghost use Rattle.cell_maps.specs.Sets.{has};
 ghost use Rattle.grid_address.specs.Place.{same_place, Place};
 ghost use Rattle.depend_graph.specs.InOrder.{GoesInOrder};
 ghost use Rattle.depend_graph.specs.Network.{accepted, dropped, is_formula, offered, put, reads, withdrawn, IsSpread};
@@ -15,7 +15,7 @@ use crate::lists::{Lists, add_all};
 use crate::readers::add_readers;
 use crate::slots::{Part, Slot, drop_part, has_offer, node_of, put_offer, side, turn};
 use crate::spread::{Spread, are_same, is_of, list_of, spread_of};
-use cell_numbers::CellMap;
+use cell_maps::CellMap;
 use grid_address::{Cell, CellList, SpanList};
 use lics_text::Memory;
 use std::alloc::Global;

@@ -1,7 +1,7 @@
 // Whether formulas stand in an order in which each comes after all of them that it reads.
 ghost use Rattle.std.specs.Prelude.{◌≡◌, ◌<◌, ◌≤◌, ◌∷◌, [], IfOk, true, false};
-ghost use Rattle.cell_numbers.specs.Numbers.{number_at};
-ghost use Rattle.cell_numbers.specs.Sets.{has};
+ghost use Rattle.cell_maps.specs.Numbers.{number_at};
+ghost use Rattle.cell_maps.specs.Sets.{has};
 ghost use Rattle.grid_address.specs.Place.{is_within, same_place, whole, Place};
 ghost use Rattle.range_index.specs.Owners.{hold};
 ghost use Rattle.depend_graph.specs.inner.Banks.{is_one};
@@ -12,7 +12,7 @@ ghost use Rattle.depend_graph.specs.Network.{reads};
 use crate::Graph;
 use crate::lists::is_one;
 use crate::marks::put_mark;
-use cell_numbers::PlaceTable;
+use cell_maps::PlaceTable;
 use grid_address::{Cell, Span};
 use lics_text::Memory;
 use range_index::{Hull, hold};

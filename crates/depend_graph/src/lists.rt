@@ -1,12 +1,12 @@
 // For each cell the formulas that read it by itself, and not in a wider span.
 ghost use Rattle.std.specs.Prelude.{◌≡◌, ◌≤◌, length, true, IfOk, OnOk};
 ghost use Rattle.std.specs.FinMap as map;
-ghost use Rattle.cell_numbers.specs.Sets.{has};
+ghost use Rattle.cell_maps.specs.Sets.{has};
 ghost use Rattle.grid_address.specs.Place.{place_cmp, same_place, Place};
 ghost use Rattle.depend_graph.specs.inner.Banks.{is_one};
 ghost use Rattle.depend_graph.specs.inner.Lists.{list_at, AreKept, IsListed};
 
-use cell_numbers::CellMap;
+use cell_maps::CellMap;
 use grid_address::{Cell, Span};
 use lics_text::Memory;
 use std::alloc::Global;

@@ -1,9 +1,9 @@
 // Marks of cells: their numbers in a table of places.
 ghost use Rattle.std.specs.Prelude.{◌≡◌, cond, OnOk};
-ghost use Rattle.cell_numbers.specs.Numbers.{number_at};
+ghost use Rattle.cell_maps.specs.Numbers.{number_at};
 ghost use Rattle.grid_address.specs.Place.{same_place, InSheet, Place};
 
-use cell_numbers::PlaceTable;
+use cell_maps::PlaceTable;
 use grid_address::Cell;
 use lics_text::Memory;
 

@@ -1,7 +1,7 @@
 // The formulas that read a cell.
 ghost use Rattle.std.specs.Prelude.{◌≡◌, ◌⊎◌, ◌↔◌, true, OnOk, IfOk, ◌++◌, ◌∷◌, []};
 ghost use Rattle.std.specs.FinMap as map;
-ghost use Rattle.cell_numbers.specs.Sets.{has};
+ghost use Rattle.cell_maps.specs.Sets.{has};
 ghost use Rattle.grid_address.specs.Place.{same_place, Place};
 ghost use Rattle.range_index.specs.Owners.{owners_of};
 ghost use Rattle.depend_graph.specs.inner.Lists.{list_at, AreInLists};
@@ -12,7 +12,7 @@ ghost use Rattle.depend_graph.specs.inner.Slots.{had, node_in, AreRegistered};
 use crate::banks::Banks;
 use crate::lists::Lists;
 use crate::slots::{Slot, node_of};
-use cell_numbers::CellMap;
+use cell_maps::CellMap;
 use grid_address::Cell;
 use lics_text::Memory;
 use range_index::{RangeIndex, hold};

@@ -1,10 +1,10 @@
 // Sets of cells that grow, and are cut back where a later growth fails.
 ghost use Rattle.std.specs.Prelude.{◌≡◌, ◌||◌, take, OnOk};
 ghost use Rattle.grid_address.specs.Place.{same_place, Place};
-ghost use Rattle.cell_numbers.specs.Sets.{has, insert_key};
+ghost use Rattle.cell_maps.specs.Sets.{has, insert_key};
 ghost use Rattle.depend_graph.specs.Sets.{Extends};
 
-use cell_numbers::CellSet;
+use cell_maps::CellSet;
 use grid_address::Cell;
 use lics_text::Memory;
 

@@ -4,7 +4,7 @@ ghost use Rattle.std.specs.FinMap as map;
 ghost use Rattle.depend_graph.specs.inner.Slots.{cleared, had, node_in, offer_in, offering, other_in, placed, side, turned, turned_to, without};
 
 use crate::Node;
-use cell_numbers::CellMap;
+use cell_maps::CellMap;
 use grid_address::Cell;
 use lics_text::Memory;
 

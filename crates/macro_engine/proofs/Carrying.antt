@@ -11,7 +11,7 @@ use Rattle.formula_eval.specs.declared.look.Scene.{Scene}
 use Rattle.grid_address.proofs.Places.{cells_exact, cells_total}
 use Rattle.grid_address.specs.Place.{place_cmp, same_place, Place}
 use Rattle.macro_words.specs.declared.running.Change.{Change}
-use Rattle.cell_numbers.specs.Sets.{has}
+use Rattle.cell_maps.specs.Sets.{has}
 use Rattle.sheet_edits.proofs.Spanned.{first_more}
 use Rattle.sheet_edits.specs.Spans.{IsAnswered, IsFirstProtected, NoneProtected}
 use Rattle.sheet_edits.specs.inner.Marks.{IsFirstMarked, IsFirstOf}

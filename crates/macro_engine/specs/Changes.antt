@@ -10,7 +10,7 @@ use Rattle.macro_words.specs.Rows.{is_true}
 use Rattle.macro_words.specs.declared.running.Change.{Change}
 use Rattle.macro_words.specs.declared.running.Change.TheVariants as change
 use Rattle.macro_words.specs.declared.running.Sweep.{Sweep}
-use Rattle.natural_recalc.specs.Context.{outlook_at}
+use Rattle.recalculation.specs.Context.{outlook_at}
 use Rattle.sheet_edits.specs.Spans.{sooner, written_cells}
 use Rattle.sheet_store.specs.Grid.{Grid}
 use Rattle.formula_eval.specs.Outlook.{cells_of}

@@ -12,7 +12,7 @@ use Rattle.std.proofs.Math.Seq.{drop-cons}
 use Rattle.std.proofs.lemmas.Map.Made.{length-le_from_is_member}
 use Rattle.grid_address.specs.Place.{same_place, Place}
 use Rattle.grid_address.proofs.Places.{same_place_is, same_place_itself, same_place_laws}
-use Rattle.cell_numbers.specs.Sets.{has}
+use Rattle.cell_maps.specs.Sets.{has}
 use Rattle.natural_order.specs.Walk.{Walked, appended, raised, walk}
 use Rattle.indexmap.specs.IndexSet.{insert_key}
 use Rattle.natural_order.specs.Machine.{fuel}

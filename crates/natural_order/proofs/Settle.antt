@@ -8,7 +8,7 @@ use Rattle.std.proofs.lemmas.Bool.{true≢false, or_cases, or_left, or_right, or
 use Rattle.std.proofs.lemmas.List.Folds.{list_any-append}
 use Rattle.std.proofs.lemmas.Map.Made.{length-le_from_is_member}
 use Rattle.std.proofs.lemmas.Map.Keys.{IsDistinct-cons}
-use Rattle.cell_numbers.specs.Sets.{has}
+use Rattle.cell_maps.specs.Sets.{has}
 use Rattle.natural_order.specs.Walk.{Walked, appended, raised, walk, unwalked, Reaches, IsExact, Precedes, OrderCovers}
 use Rattle.natural_order.specs.Walk.{OrderPrecedes}
 use Rattle.natural_order.specs.Walk.Reaches.{one, more}

@@ -1,7 +1,7 @@
 -- The natural order, over any kind of cell. eq tells cells apart, pre gives the formula cells that a formula reads.
 use Rattle.std.specs.Prelude.{ℕ, zero, suc, ◌≡◌, Bool, true, false, cond, List, [], ◌∷◌, ◌++◌, length, ◌⊎◌}
 use Rattle.std.specs.List.{fold, filter}
-use Rattle.cell_numbers.specs.Sets.{has}
+use Rattle.cell_maps.specs.Sets.{has}
 
 -- what a walk has made: the cells appended, and whether it met a cell on its path
 pub record Walked (K : Type 0) : Type 0 where

@@ -1,7 +1,7 @@
 // What formulas read.
 ghost use Rattle.std.specs.Prelude.{◌≡◌, List, IfOk, true};
 ghost use Rattle.grid_address.specs.Place.{same_place, Place};
-ghost use Rattle.cell_numbers.specs.Sets.{has};
+ghost use Rattle.cell_maps.specs.Sets.{has};
 
 use grid_address::Cell;
 use lics_text::Memory;

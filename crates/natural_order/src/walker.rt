@@ -4,7 +4,7 @@ ghost use Rattle.grid_address.specs.Place.{same_place, Place};
 ghost use Rattle.indexmap.specs.IndexSet.{insert_key, IsUnique};
 ghost use Rattle.natural_order.specs.Machine.{fuel, walked};
 ghost use Rattle.natural_order.specs.inner.Stack.{finish, trail, walk_on, work_left, Entered, IsOnPath};
-ghost use Rattle.cell_numbers.specs.Sets.{has};
+ghost use Rattle.cell_maps.specs.Sets.{has};
 ghost use Rattle.natural_order.specs.Walk.{order, walk};
 
 use crate::Precedents;

@@ -6,7 +6,7 @@ use Rattle.std.proofs.lemmas.Bool.Decides.{nat_tests}
 use Rattle.std.specs.FinMap.{get}
 use Rattle.control_panel.specs.declared.panel.Panel.{Panel}
 use Rattle.grid_address.specs.Place.{Place}
-use Rattle.natural_recalc.specs.Context.{width_or}
+use Rattle.recalculation.specs.Context.{width_or}
 use Rattle.range_names.specs.Names.{NameMap}
 use Rattle.sheet_store.specs.Grid.{is_hidden, own_width, width_of}
 use Rattle.sheet_store.specs.State.{CellState}

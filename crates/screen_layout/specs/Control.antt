@@ -5,7 +5,7 @@ use Rattle.lics_text.specs.Ascii as ascii
 use Rattle.cell_format.specs.Indicator.{indicator_of}
 use Rattle.grid_address.specs.Formats.{has_protection}
 use Rattle.grid_address.specs.Address.{address_of, decimal}
-use Rattle.natural_recalc.specs.Context.{format_of}
+use Rattle.recalculation.specs.Context.{format_of}
 use Rattle.sheet_store.specs.Grid.{width_of}
 use Rattle.screen_layout.specs.Lines.{filled}
 use Rattle.screen_layout.specs.Places.{CONTENT_END, LAST_COLUMN, MODE_COLUMN}

@@ -1,6 +1,6 @@
 -- The columns of a sheet.
 use Rattle.std.specs.Prelude.{ℕ}
-use Rattle.natural_recalc.specs.Context.{width_or}
+use Rattle.recalculation.specs.Context.{width_or}
 use Rattle.sheet_store.specs.Grid.{width_of}
 use Rattle.work_sheet.specs.Seen.{Sheet}
 

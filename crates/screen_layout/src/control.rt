@@ -4,7 +4,7 @@ ghost use Rattle.std.specs.FinMap as map;
 ghost use Rattle.cell_format.specs.Indicator.{indicator_of};
 ghost use Rattle.screen_layout.specs.Views.{viewed};
 ghost use Rattle.grid_address.specs.Address.{address_of};
-ghost use Rattle.natural_recalc.specs.Context.{format_of};
+ghost use Rattle.recalculation.specs.Context.{format_of};
 ghost use Rattle.screen_layout.specs.Control.{below_line, entry_line, front_text, is_menu, mode_name, mode_text, pointer_format, pointer_line, pointer_text, protection_part, typed_line, width_part, with_space};
 ghost use Rattle.screen_layout.specs.Lines.{filled, shown_line};
 ghost use Rattle.work_sheet.specs.Seen.{of_worksheet};

@@ -4,17 +4,17 @@ use Rattle.std.specs.FinMap.{get}
 use Rattle.std.specs.List.{filter}
 use Rattle.std.specs.Prelude.{◌||◌, cond, is_some}
 use Rattle.std.proofs.lemmas.Bool.{cases_Bool, cond-false, false_from_ne_true, or_left, or_right, true≢false}
-use Rattle.cell_numbers.specs.Sets.{has}
+use Rattle.cell_maps.specs.Sets.{has}
 use Rattle.formula_eval.specs.Mean.{mean}
 use Rattle.formula_eval.specs.declared.look.Scene.{Scene}
 use Rattle.formula_tree.specs.Tree.{Tree}
 use Rattle.grid_address.proofs.Places.{same_place_is}
 use Rattle.grid_address.specs.Place.{same_place, Place}
-use Rattle.natural_recalc.proofs.Contents.{same_evaluated, same_itself, same_on}
-use Rattle.natural_recalc.proofs.Valued.{get_valued, with_value}
-use Rattle.natural_recalc.specs.Passes.{evaluated, pass, passes, revalued, IsRest, IsSound, Meaning, RecalculationIsCut, SameContents}
-use Rattle.natural_recalc.specs.Reading.{is_formula_at, natural_order, order_in, plain_order}
-use Rattle.natural_recalc.specs.Context.{formula_at, formula_of, outlook_at, Context}
+use Rattle.recalculation.proofs.Contents.{same_evaluated, same_itself, same_on}
+use Rattle.recalculation.proofs.Valued.{get_valued, with_value}
+use Rattle.recalculation.specs.Passes.{evaluated, pass, passes, revalued, IsRest, IsSound, Meaning, RecalculationIsCut, SameContents}
+use Rattle.recalculation.specs.Reading.{is_formula_at, natural_order, order_in, plain_order}
+use Rattle.recalculation.specs.Context.{formula_at, formula_of, outlook_at, Context}
 use Rattle.screen_layout.specs.inner.Alike.{AreAlike}
 use Rattle.sheet_store.specs.Grid.{Grid}
 use Rattle.sheet_store.specs.declared.order.Order.{Order}

@@ -1,6 +1,6 @@
 // The lines of the screen that show rows of the sheet, in sets.
 ghost use Rattle.std.specs.Prelude.{◌≡◌, ◌≤◌, ◌<◌, ◌+◌, ◌-◌, ℕ, false, true, nat_eq, slice_get, Some};
-ghost use Rattle.cell_numbers.specs.Sets.{has};
+ghost use Rattle.cell_maps.specs.Sets.{has};
 ghost use Rattle.grid_address.specs.Place.{same_place, Place};
 
 use grid_address::Cell;

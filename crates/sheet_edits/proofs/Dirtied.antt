@@ -10,11 +10,11 @@ use Rattle.formula_tree.specs.Tree.{Tree}
 use Rattle.depend_graph.specs.Network as network
 use Rattle.depend_graph.proofs.Spreads.{spread_along}
 use Rattle.depend_graph.specs.Network.{IsSpread, Network}
-use Rattle.cell_numbers.specs.Sets.{has, insert_key}
+use Rattle.cell_maps.specs.Sets.{has, insert_key}
 use Rattle.sheet_store.specs.Grid.{is_formula, is_kept, put_state, Grid}
 use Rattle.sheet_store.specs.State.{CellState}
-use Rattle.natural_recalc.specs.Context.{formula_at, formula_in}
-use Rattle.natural_recalc.specs.Reading.{is_formula_at, node_of, Matches}
+use Rattle.recalculation.specs.Context.{formula_at, formula_in}
+use Rattle.recalculation.specs.Reading.{is_formula_at, node_of, Matches}
 use Rattle.sheet_edits.proofs.Reaching.{accepted_told, dropped_told, formula_beside, formula_here, formula_in_is, matches_written, reaching_formula, to_new, to_old}
 use Rattle.sheet_edits.specs.Edits.{just, AreDirtied, IsDirtied}
 use Rattle.sheet_edits.specs.inner.Settling.{kept_at, settled, WithReached}

@@ -11,8 +11,8 @@ use Rattle.grid_address.specs.declared.format.Format.{Format}
 use Rattle.formula_tree.specs.declared.value.Content.{Content}
 use Rattle.formula_tree.specs.declared.value.Content.TheVariants as content
 use Rattle.formula_tree.specs.declared.value.Value.{Value}
-use Rattle.cell_numbers.specs.Sets.{has}
-use Rattle.natural_recalc.specs.Context.{format_of}
+use Rattle.cell_maps.specs.Sets.{has}
+use Rattle.recalculation.specs.Context.{format_of}
 use Rattle.sheet_store.specs.Grid.{Cells, Grid, IsSound}
 use Rattle.sheet_store.specs.State.{CellState}
 use Rattle.sheet_store.specs.declared.writes.Write.{Write}

@@ -8,7 +8,7 @@ use Rattle.std.proofs.lemmas.List.Folds.{list_any-append}
 use Rattle.grid_address.proofs.Places.{get_inserted, get_removed, same_place_is, same_place_itself}
 use Rattle.grid_address.specs.Place.{same_place, Place}
 use Rattle.depend_graph.specs.Sets.{Extends}
-use Rattle.cell_numbers.specs.Sets.{has, insert_key}
+use Rattle.cell_maps.specs.Sets.{has, insert_key}
 use Rattle.sheet_store.specs.Grid.{Cells}
 use Rattle.sheet_store.specs.State.{CellState}
 use Rattle.sheet_edits.proofs.Dirtied.{inserted_members}

@@ -12,9 +12,9 @@ use Rattle.formula_tree.specs.declared.value.Content.TheVariants as content
 use Rattle.formula_tree.specs.declared.value.Value.{Value}
 use Rattle.depend_graph.specs.Network.{promoted, IsSpread, Network}
 use Rattle.depend_graph.specs.declared.node.Node.{Node}
-use Rattle.cell_numbers.specs.Sets.{has}
-use Rattle.natural_recalc.specs.Context.{formula_at, formula_in, formula_of}
-use Rattle.natural_recalc.specs.Reading.{is_formula_at, node_of, Matches}
+use Rattle.cell_maps.specs.Sets.{has}
+use Rattle.recalculation.specs.Context.{formula_at, formula_in, formula_of}
+use Rattle.recalculation.specs.Reading.{is_formula_at, node_of, Matches}
 use Rattle.sheet_store.specs.Grid.{is_kept, put_state, Cells, Grid}
 use Rattle.sheet_store.specs.State.{CellState}
 use Rattle.depend_graph.proofs.Spreads.{spread_along}

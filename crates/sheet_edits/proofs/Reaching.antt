@@ -14,8 +14,8 @@ use Rattle.depend_graph.specs.Network.ReachesCell.{direct, through}
 use Rattle.range_index.specs.Owners.{hold}
 use Rattle.sheet_store.specs.Grid.{is_formula, is_kept, put_state, Grid}
 use Rattle.sheet_store.specs.State.{CellState}
-use Rattle.natural_recalc.specs.Context.{formula_at, formula_in, formula_of}
-use Rattle.natural_recalc.specs.Reading.{is_formula_at, node_of, reads_at, spans_at, spans_in, Matches}
+use Rattle.recalculation.specs.Context.{formula_at, formula_in, formula_of}
+use Rattle.recalculation.specs.Reading.{is_formula_at, node_of, reads_at, spans_at, spans_in, Matches}
 use Rattle.sheet_edits.specs.Edits.{ReachesWritten}
 
 pub formula_in_is : (c : Content) → is_formula c ≡ is_some (formula_in c)

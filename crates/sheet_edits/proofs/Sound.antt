@@ -10,7 +10,7 @@ use Rattle.formula_tree.specs.declared.value.Content.{Content}
 use Rattle.formula_tree.specs.declared.value.Content.TheVariants as content
 use Rattle.formula_tree.specs.declared.value.Value.{Value}
 use Rattle.formula_tree.specs.declared.value.Value.TheVariants as value
-use Rattle.natural_recalc.specs.Context.{formula_of, value_of}
+use Rattle.recalculation.specs.Context.{formula_of, value_of}
 use Rattle.sheet_store.specs.Grid.{blank_state, AreHeld, Cells, Fits, IsSound}
 use Rattle.sheet_store.specs.State.{CellState}
 use Rattle.sheet_edits.proofs.Overlaid.{formula_kept, none_not_some}

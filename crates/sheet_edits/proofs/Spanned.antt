@@ -9,7 +9,7 @@ use Rattle.std.proofs.lemmas.Bool.{and_parts, cases_Bool, false≢true, or_cases
 use Rattle.std.proofs.lemmas.Bool.Decides.{nat_tests}
 use Rattle.grid_address.proofs.Places.{cells_total, same_place_is, same_place_itself}
 use Rattle.grid_address.specs.Place.{height_of, is_within, place_cmp, same_place, width_of, Extent, Place}
-use Rattle.cell_numbers.specs.Sets.{has}
+use Rattle.cell_maps.specs.Sets.{has}
 use Rattle.sheet_store.specs.Grid.{Cells, Grid}
 use Rattle.sheet_edits.proofs.Listed.{both}
 use Rattle.sheet_edits.specs.Spans.{before, is_marked, sooner, sooner_of}

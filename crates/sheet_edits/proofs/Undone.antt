@@ -7,7 +7,7 @@ use Rattle.grid_address.proofs.Places.{get_inserted, get_removed, same_place_is,
 use Rattle.grid_address.specs.Place.{same_place, Place}
 use Rattle.sheet_store.specs.Grid.{is_formula, is_kept, put_state, Cells, Grid}
 use Rattle.sheet_store.specs.State.{CellState}
-use Rattle.natural_recalc.specs.Reading.{is_formula_at}
+use Rattle.recalculation.specs.Reading.{is_formula_at}
 use Rattle.sheet_edits.proofs.Beside.{beside}
 use Rattle.sheet_edits.proofs.Reaching.{formula_here, formula_in_is}
 use Rattle.sheet_edits.specs.inner.Undoing.{put_back}

@@ -11,9 +11,9 @@ use Rattle.depend_graph.specs.Network.{ReachesCell}
 use Rattle.sheet_store.specs.Choices.{Choices}
 use Rattle.sheet_store.specs.Grid.{is_formula, put_state, Grid}
 use Rattle.sheet_store.specs.State.{CellState}
-use Rattle.natural_recalc.specs.Context.{format_of, Context}
-use Rattle.natural_recalc.specs.Passes.{evaluated, Meaning}
-use Rattle.natural_recalc.specs.Reading.{is_formula_at, reads_at}
+use Rattle.recalculation.specs.Context.{format_of, Context}
+use Rattle.recalculation.specs.Passes.{evaluated, Meaning}
+use Rattle.recalculation.specs.Reading.{is_formula_at, reads_at}
 
 -- a newly written formula has the value 0
 abbrev pub first_value : Content → Value

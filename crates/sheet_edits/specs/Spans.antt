@@ -7,8 +7,8 @@ use Rattle.grid_address.specs.Formats.{default_format, has_protection, protected
 use Rattle.grid_address.specs.Limits.{COLUMNS, ROWS}
 use Rattle.grid_address.specs.Place.{height_of, place_cmp, same_place, width_of, Extent, Place}
 use Rattle.grid_address.specs.declared.format.Format.{Format}
-use Rattle.cell_numbers.specs.Sets.{has}
-use Rattle.natural_recalc.specs.Context.{format_of}
+use Rattle.cell_maps.specs.Sets.{has}
+use Rattle.recalculation.specs.Context.{format_of}
 use Rattle.sheet_store.specs.Choices.{Choices}
 use Rattle.sheet_store.specs.Grid.{blank_state, formatted, is_kept, put_state, Cells, Grid, IsSound}
 use Rattle.sheet_store.specs.State.{CellState}

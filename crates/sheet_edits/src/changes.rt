@@ -3,7 +3,7 @@ ghost use Rattle.std.specs.Prelude.{◌≡◌, OnOk, option_copied};
 ghost use Rattle.std.specs.FinMap as map;
 ghost use Rattle.grid_address.specs.Place.{place_cmp};
 
-use cell_numbers::CellMap;
+use cell_maps::CellMap;
 use grid_address::Cell;
 use lics_text::Memory;
 use sheet_store::CellState;

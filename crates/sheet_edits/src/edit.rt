@@ -4,14 +4,14 @@ ghost use Rattle.std.specs.FinMap as map;
 ghost use Rattle.grid_address.specs.Place.{same_place, Place};
 ghost use Rattle.depend_graph.specs.Network.{IsSpread};
 ghost use Rattle.depend_graph.specs.Sets.{Extends};
-ghost use Rattle.cell_numbers.specs.Sets.{has};
-ghost use Rattle.natural_recalc.specs.Context.{formula_in};
-ghost use Rattle.natural_recalc.specs.Reading.{is_formula_at, node_of, Matches};
+ghost use Rattle.cell_maps.specs.Sets.{has};
+ghost use Rattle.recalculation.specs.Context.{formula_in};
+ghost use Rattle.recalculation.specs.Reading.{is_formula_at, node_of, Matches};
 ghost use Rattle.sheet_store.specs.Grid.{is_formula, is_kept, put_state, IsSound};
 ghost use Rattle.sheet_edits.specs.Edits.{just, AreDirtied};
 ghost use Rattle.sheet_edits.specs.inner.Settling.{kept_at, settled, WithReached};
 
-use cell_numbers::CellSet;
+use cell_maps::CellSet;
 use depend_graph::{Graph, Node, cut_back, insert, insert_all};
 use formula_tree::ContentRef;
 use grid_address::{Cell, CellList};

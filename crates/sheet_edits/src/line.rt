@@ -3,22 +3,22 @@ ghost use Rattle.std.specs.Prelude.{◌≡◌, IfOk, OnErr, OnOk, None, true};
 ghost use Rattle.std.specs.FinMap as map;
 ghost use Rattle.std.specs.Option.{ForSome};
 ghost use Rattle.grid_address.specs.Place.{same_place, Place};
-ghost use Rattle.cell_numbers.specs.Sets.{has};
-ghost use Rattle.natural_recalc.specs.Context.{context_of};
-ghost use Rattle.natural_recalc.specs.Passes.{evaluated, raised_by};
-ghost use Rattle.natural_recalc.specs.Reading.{is_formula_at, Matches};
+ghost use Rattle.cell_maps.specs.Sets.{has};
+ghost use Rattle.recalculation.specs.Context.{context_of};
+ghost use Rattle.recalculation.specs.Passes.{evaluated, raised_by};
+ghost use Rattle.recalculation.specs.Reading.{is_formula_at, Matches};
 ghost use Rattle.sheet_store.specs.Grid.{is_formula, is_kept, put_state, IsSound};
 ghost use Rattle.sheet_edits.specs.Edits.{just, AreDirtied};
 ghost use Rattle.sheet_edits.specs.inner.Undoing.{put_back, IsOldState};
 
 use crate::edit::{prepare, settle};
-use cell_numbers::CellSet;
+use cell_maps::CellSet;
 use depend_graph::{Graph, cut_back};
 use formula_eval::{Means, Scene};
 use grid_address::Cell;
 use lics_text::Memory;
-use natural_recalc::evaluate_at;
 use range_names::Names;
+use recalculation::evaluate_at;
 use sheet_store::{CellState, Settings, Store};
 
 // A copy of a cell's state.

@@ -3,9 +3,9 @@ ghost use Rattle.std.specs.Prelude.{◌≡◌, ◌&&◌, ◌||◌, ◌⊎◌, []
 ghost use Rattle.std.specs.FinMap as map;
 ghost use Rattle.grid_address.specs.Place.{same_place, Place};
 ghost use Rattle.depend_graph.specs.Sets.{Extends};
-ghost use Rattle.cell_numbers.specs.Sets.{has};
-ghost use Rattle.natural_recalc.specs.Context.{formula_at};
-ghost use Rattle.natural_recalc.specs.Reading.{is_formula_at, node_of, Matches};
+ghost use Rattle.cell_maps.specs.Sets.{has};
+ghost use Rattle.recalculation.specs.Context.{formula_at};
+ghost use Rattle.recalculation.specs.Reading.{is_formula_at, node_of, Matches};
 ghost use Rattle.sheet_store.specs.Grid.{is_formula, is_kept, put_state, IsSound};
 ghost use Rattle.sheet_store.specs.State.{CellState};
 ghost use Rattle.sheet_edits.specs.Edits.{just, AreDirtied};
@@ -15,7 +15,7 @@ ghost use Rattle.sheet_edits.specs.inner.Putting.{gives_formula, node_given, put
 
 use crate::changes::Changes;
 use crate::edit::{node_of, offer, settle};
-use cell_numbers::CellSet;
+use cell_maps::CellSet;
 use depend_graph::{Graph, cut_back, insert, insert_all};
 use grid_address::{Cell, CellList};
 use lics_text::Memory;

@@ -2,8 +2,8 @@
 ghost use Rattle.std.specs.Prelude.{◌≡◌, ◌≤◌, ◌<◌, ◌+◌, ◌-◌, ◌%◌, ◌&&◌, ◌||◌, [], length, IfOk, IfSome, IfNone, OnOk, None, Some, nat_eq, nat_le, false, true};
 ghost use Rattle.std.specs.FinMap as map;
 ghost use Rattle.grid_address.specs.Place.{is_within, same_place, Place};
-ghost use Rattle.cell_numbers.specs.Sets.{has};
-ghost use Rattle.natural_recalc.specs.Context.{format_of};
+ghost use Rattle.cell_maps.specs.Sets.{has};
+ghost use Rattle.recalculation.specs.Context.{format_of};
 ghost use Rattle.sheet_store.specs.Grid.{AreHeld};
 ghost use Rattle.sheet_store.specs.Choices.{Choices};
 ghost use Rattle.sheet_edits.specs.Spans.{blanked, block_at, copied_state, reformatted_state, repeated, rule_of, sooner, source_of, target_of, AreGiven, AreSound, HasCode, IsFirstProtected, NoneProtected};
@@ -15,7 +15,7 @@ use crate::changes::Changes;
 use crate::states::{first_state, is_marked};
 use grid_address::{Cell, CellList, Format, ROWS, Span};
 use lics_text::Memory;
-use natural_recalc::format_of;
+use recalculation::format_of;
 use sheet_store::{CellState, Settings, Store};
 use std::alloc::Global;
 

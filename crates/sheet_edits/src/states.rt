@@ -2,7 +2,7 @@
 ghost use Rattle.std.specs.Prelude.{◌≡◌, IfOk, true};
 ghost use Rattle.grid_address.specs.Formats.{has_protection};
 ghost use Rattle.sheet_store.specs.Grid.{is_formula, is_kept, IsSound};
-ghost use Rattle.natural_recalc.specs.Context.{format_of};
+ghost use Rattle.recalculation.specs.Context.{format_of};
 ghost use Rattle.sheet_edits.specs.Edits.{first_value, written_state};
 ghost use Rattle.std.specs.FinMap as map;
 
@@ -10,7 +10,7 @@ use fixed_value::Fixed;
 use formula_tree::{Content, Value};
 use grid_address::{Cell, Format};
 use lics_text::Memory;
-use natural_recalc::format_of;
+use recalculation::format_of;
 use sheet_store::{CellState, Store};
 use std::alloc::Global;
 

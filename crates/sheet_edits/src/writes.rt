@@ -2,7 +2,7 @@
 ghost use Rattle.std.specs.Prelude.{◌≡◌, ◌++◌, ◌∷◌, [], IfOk, OnOk, None, false, true};
 ghost use Rattle.std.specs.FinMap as map;
 ghost use Rattle.grid_address.specs.Place.{same_place, Place};
-ghost use Rattle.natural_recalc.specs.Context.{format_of};
+ghost use Rattle.recalculation.specs.Context.{format_of};
 ghost use Rattle.sheet_store.specs.Grid.{is_formula, is_kept, IsSound};
 ghost use Rattle.sheet_edits.specs.Spans.{changed, write_state, written_all, written_cells, AreGathered};
 
@@ -10,7 +10,7 @@ use crate::changes::Changes;
 use crate::states::first_state;
 use grid_address::{Cell, CellList, Format};
 use lics_text::Memory;
-use natural_recalc::format_of;
+use recalculation::format_of;
 use sheet_store::{CellState, Store, Write, Writes};
 
 // The format that a cell has after the changes.

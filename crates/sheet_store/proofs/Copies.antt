@@ -5,8 +5,8 @@ use Rattle.std.specs.FinMap.{empty, find, from_entries, get, get-empty, get-from
 use Rattle.std.proofs.Common.{sym, ◌∙◌, ap, inl, inr}
 use Rattle.std.proofs.lemmas.Bool.{cases_Bool}
 use Rattle.grid_address.specs.Place.{place_cmp, Place}
-use Rattle.cell_numbers.specs.Filled.{cells_of, filled, AreOnce}
-use Rattle.cell_numbers.specs.declared.held.Held.{Held}
+use Rattle.cell_maps.specs.Filled.{cells_of, filled, AreOnce}
+use Rattle.cell_maps.specs.declared.held.Held.{Held}
 use Rattle.sheet_store.specs.inner.Copies.{inserted_all}
 use Rattle.sheet_store.specs.Grid.{Cells}
 use Rattle.sheet_store.specs.State.{CellState}

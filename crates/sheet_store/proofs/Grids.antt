@@ -6,8 +6,8 @@ use Rattle.std.proofs.Common.{sym, ◌∙◌, ap, arith, inl, inr, rules}
 use Rattle.std.proofs.lemmas.Bool.{cases_Bool}
 use Rattle.grid_address.proofs.Places.{cells_total, place_tied, same_place_itself}
 use Rattle.grid_address.specs.Place.{is_within, place_cmp, whole, InSheet, Place}
-use Rattle.cell_numbers.specs.Filled.{filled}
-use Rattle.cell_numbers.specs.declared.held.Held.{Held}
+use Rattle.cell_maps.specs.Filled.{filled}
+use Rattle.cell_maps.specs.declared.held.Held.{Held}
 use Rattle.sheet_store.proofs.Held.{tied}
 use Rattle.sheet_store.specs.Grid.{formulas_among, holds_formula, is_formula, last_among, picked, AreHeld, Cells}
 use Rattle.sheet_store.specs.State.{CellState}

@@ -16,10 +16,10 @@ use Rattle.std.proofs.lemmas.Map.Lookups.{btree_set_from_contains}
 use Rattle.grid_address.proofs.Maps.{in_order}
 use Rattle.grid_address.proofs.Places.{cells_exact, cells_total, place_tied, same_place_is, same_place_laws}
 use Rattle.grid_address.specs.Place.{is_within, place_cmp, same_place, Extent, Place}
-use Rattle.cell_numbers.specs.Filled.{cell_in, cells_of, filled, item_in, with_item, AreOnce}
-use Rattle.cell_numbers.specs.Sets.{has}
-use Rattle.cell_numbers.specs.declared.held.Held.{Held}
-use Rattle.cell_numbers.proofs.Filled.{none_at}
+use Rattle.cell_maps.specs.Filled.{cell_in, cells_of, filled, item_in, with_item, AreOnce}
+use Rattle.cell_maps.specs.Sets.{has}
+use Rattle.cell_maps.specs.declared.held.Held.{Held}
+use Rattle.cell_maps.proofs.Filled.{none_at}
 use Rattle.sheet_store.specs.Grid.{picked, Cells}
 use Rattle.sheet_store.specs.State.{CellState}
 

@@ -3,7 +3,7 @@ use Rattle.std.proofs.Common.{◌≡◌, ℕ, ◌≤◌, ◌<◌, ◌/◌, true,
 use Rattle.std.specs.FinMap.{get}
 use Rattle.std.proofs.lemmas.Bool.Decides.{nat_tests}
 use Rattle.grid_address.specs.Place.{is_within, Extent, InSheet, Place}
-use Rattle.cell_numbers.specs.Numbers.{band_of}
+use Rattle.cell_maps.specs.Numbers.{band_of}
 use Rattle.sheet_store.specs.Grid.{Cells}
 
 record Lies (s : Extent) (p : Place) : Type 0 where

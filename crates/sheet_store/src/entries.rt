@@ -2,7 +2,7 @@
 ghost use Rattle.std.specs.Prelude.{◌≡◌, ◌∷◌, ◌<◌, ◌≤◌, [], false, None, IfSome, IfNone};
 ghost use Rattle.std.specs.Ordering.{is_le, is_lt};
 ghost use Rattle.std.specs.FinMap as map;
-ghost use Rattle.cell_numbers.specs.Numbers.{band_of};
+ghost use Rattle.cell_maps.specs.Numbers.{band_of};
 ghost use Rattle.grid_address.specs.Place.{place_cmp, InSheet, Place};
 ghost use Rattle.sheet_store.specs.inner.RowOrder.{entries_behind, IsEdge, NextHeld, NoneHeldBehind};
 ghost use Rattle.sheet_store.specs.inner.Scan.{left_from, number_of};

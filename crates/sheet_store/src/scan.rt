@@ -2,13 +2,13 @@
 ghost use Rattle.std.specs.Prelude.{◌≡◌, ◌<◌, ◌++◌, [], true, false, IfOk, IfSome, IfNone, OnOk};
 ghost use Rattle.std.specs.Ordering.{is_le, is_lt};
 ghost use Rattle.std.specs.FinMap as map;
-ghost use Rattle.cell_numbers.specs.Filled.{cell_in, filled, item_in, with_item};
+ghost use Rattle.cell_maps.specs.Filled.{cell_in, filled, item_in, with_item};
 ghost use Rattle.grid_address.specs.Place.{is_within, place_cmp, Place};
 ghost use Rattle.sheet_store.specs.Grid.{picked};
 ghost use Rattle.sheet_store.specs.inner.Scan.{number_of, passed_at, wanted};
 
 use crate::CellState;
-use cell_numbers::{CellMap, Held};
+use cell_maps::{CellMap, Held};
 use grid_address::{Cell, CellList, Span};
 use lics_text::Memory;
 use std::alloc::Global;

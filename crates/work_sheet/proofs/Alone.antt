@@ -2,7 +2,7 @@
 use Rattle.std.specs.Prelude.{◌≡◌, ◌||◌, Bool, true, false, refl, slice_get, length, List, [], ◌∷◌, Some}
 use Rattle.std.proofs.Common.{ap, arith}
 use Rattle.grid_address.specs.Place.{same_place, Place}
-use Rattle.cell_numbers.specs.Sets.{has}
+use Rattle.cell_maps.specs.Sets.{has}
 use Rattle.sheet_edits.proofs.Overlaid.{none_not_some}
 use Rattle.sheet_edits.proofs.Sound.{the_same}
 use Rattle.sheet_store.specs.declared.writes.Write.{Write}

@@ -6,10 +6,10 @@ use Rattle.std.proofs.Common.{ap, subst, sym, ◌∙◌}
 use Rattle.formula_eval.specs.declared.look.Scene.{Scene}
 use Rattle.formula_tree.specs.declared.value.Content.{Content}
 use Rattle.grid_address.specs.Place.{is_within, same_place, Extent, Place}
-use Rattle.cell_numbers.specs.Sets.{has}
-use Rattle.natural_recalc.specs.Context.{context_of}
-use Rattle.natural_recalc.specs.Passes.{raised_by, IsDirtyAfter, Meaning}
-use Rattle.natural_recalc.specs.Reading.{is_formula_at, order_in}
+use Rattle.cell_maps.specs.Sets.{has}
+use Rattle.recalculation.specs.Context.{context_of}
+use Rattle.recalculation.specs.Passes.{raised_by, IsDirtyAfter, Meaning}
+use Rattle.recalculation.specs.Reading.{is_formula_at, order_in}
 use Rattle.sheet_edits.specs.Edits.{entered, is_evaluated, just, written, AreDirtied}
 use Rattle.sheet_edits.specs.inner.Undoing.{evaluations}
 use Rattle.sheet_edits.specs.Spans.{changed, reformatted_state, AreGiven, Becomes}

@@ -9,23 +9,23 @@ use Rattle.grid_address.specs.Place.{is_within, same_place, Extent, Place}
 use Rattle.depend_graph.specs.Network.{ReachesCell}
 use Rattle.depend_graph.specs.Network.ReachesCell.{direct, through}
 use Rattle.natural_order.proofs.Cut.{filter_in, filter_passes, has-filter}
-use Rattle.cell_numbers.specs.Sets.{has}
+use Rattle.cell_maps.specs.Sets.{has}
 use Rattle.natural_order.specs.Walk.{Reaches}
 use Rattle.natural_order.specs.Walk.Reaches.{one, more}
-use Rattle.natural_recalc.proofs.First.{reads_formula, stays_formula}
-use Rattle.natural_recalc.proofs.Members.{pre_of_read, read_of_pre}
-use Rattle.natural_recalc.specs.Context.{formula_at}
-use Rattle.natural_recalc.specs.inner.Laws.{has_formula}
-use Rattle.natural_recalc.specs.Passes.{raised_by, IsDirtyAfter, IsWhatStays}
-use Rattle.natural_recalc.specs.Reading.{is_formula_at, pre, reads_at, spans_at, spans_in, volatile_of, StaysDirty}
-use Rattle.natural_recalc.specs.Reading.StaysDirty.{circle, reading, volatile}
+use Rattle.recalculation.proofs.First.{reads_formula, stays_formula}
+use Rattle.recalculation.proofs.Members.{pre_of_read, read_of_pre}
+use Rattle.recalculation.specs.Context.{formula_at}
+use Rattle.recalculation.specs.inner.Laws.{has_formula}
+use Rattle.recalculation.specs.Passes.{raised_by, IsDirtyAfter, IsWhatStays}
+use Rattle.recalculation.specs.Reading.{is_formula_at, pre, reads_at, spans_at, spans_in, volatile_of, StaysDirty}
+use Rattle.recalculation.specs.Reading.StaysDirty.{circle, reading, volatile}
 use Rattle.range_index.specs.Owners.{hold}
 use Rattle.sheet_edits.proofs.Reaching.{reaching_formula}
 use Rattle.sheet_edits.specs.Edits.{AreDirtied, IsDirtied, ReachesWritten}
 use Rattle.sheet_store.specs.Grid.{formulas, Grid}
 use Rattle.sheet_store.specs.declared.order.Order.{Order}
 use Rattle.sheet_store.specs.declared.order.Order.TheVariants as orders
-use Rattle.natural_recalc.proofs.Filled.{has_cells}
+use Rattle.recalculation.proofs.Filled.{has_cells}
 use Rattle.work_sheet.proofs.Leading.{any_at, leading, some_at, Leads}
 use Rattle.work_sheet.proofs.Leading.Leads.{here, there}
 use Rattle.formula_eval.specs.Outlook.{cells_of}

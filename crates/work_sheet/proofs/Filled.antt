@@ -4,13 +4,13 @@ use Rattle.std.specs.FinMap.{get}
 use Rattle.std.proofs.Common.{sym, ◌∙◌, ap}
 use Rattle.grid_address.proofs.Places.{get_inserted, get_removed, same_place_is}
 use Rattle.grid_address.specs.Place.{is_within, same_place, Extent, Place}
-use Rattle.cell_numbers.specs.Sets.{has}
+use Rattle.cell_maps.specs.Sets.{has}
 use Rattle.sheet_edits.proofs.Overlaid.{same_grid}
 use Rattle.sheet_edits.specs.Spans.{changed, AreGiven, Becomes}
 use Rattle.sheet_store.specs.Grid.{Cells, Grid}
 use Rattle.sheet_store.specs.State.{CellState}
 use Rattle.formula_eval.specs.Outlook.{cells_of}
-use Rattle.natural_recalc.proofs.Filled.{has_cells}
+use Rattle.recalculation.proofs.Filled.{has_cells}
 use Rattle.work_sheet.specs.Cells.{with_cell, with_cells, with_cells_in}
 
 get_with_cell : (m : Cells) (c : Place) (o : Option CellState) (d : Place) → get (with_cell m c o) d ≡ cond (same_place d c) o (get m d)

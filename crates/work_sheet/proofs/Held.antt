@@ -6,22 +6,22 @@ use Rattle.std.proofs.lemmas.Bool.{cases_Bool, true≢false}
 use Rattle.grid_address.specs.Place.{place_cmp, same_place, Place}
 use Rattle.formula_tree.specs.Tree.{Tree}
 use Rattle.depend_graph.specs.Network.{Network}
-use Rattle.cell_numbers.specs.Sets.{has}
+use Rattle.cell_maps.specs.Sets.{has}
 use Rattle.natural_order.specs.Walk.{Reaches}
 use Rattle.natural_order.specs.Walk.Reaches.{more, one}
 use Rattle.sheet_store.specs.Grid.{put_state, Cells, Grid}
 use Rattle.sheet_store.specs.declared.order.Order.{Order}
 use Rattle.sheet_store.specs.declared.order.Order.TheVariants as orders
 use Rattle.sheet_store.specs.State.{CellState}
-use Rattle.natural_recalc.proofs.Contents.{formulas_same, matches_on, same_evaluated}
-use Rattle.natural_recalc.proofs.Cut.{sound_all}
-use Rattle.natural_recalc.proofs.Edit.{edit_keeps_sound}
-use Rattle.natural_recalc.proofs.First.{reads_formula}
-use Rattle.natural_recalc.proofs.Members.{pre_along}
-use Rattle.natural_recalc.specs.Context.{formula_at, formula_of, outlook_at, value_of, Context}
-use Rattle.natural_recalc.specs.Passes.{evaluated, IsDirtyAfter, IsSound, IsSpread, Meaning, SameContents}
-use Rattle.natural_recalc.specs.inner.Meanings.{IsMeaning}
-use Rattle.natural_recalc.specs.Reading.{is_formula_at, node_of, pre, Matches}
+use Rattle.recalculation.proofs.Contents.{formulas_same, matches_on, same_evaluated}
+use Rattle.recalculation.proofs.Cut.{sound_all}
+use Rattle.recalculation.proofs.Edit.{edit_keeps_sound}
+use Rattle.recalculation.proofs.First.{reads_formula}
+use Rattle.recalculation.proofs.Members.{pre_along}
+use Rattle.recalculation.specs.Context.{formula_at, formula_of, outlook_at, value_of, Context}
+use Rattle.recalculation.specs.Passes.{evaluated, IsDirtyAfter, IsSound, IsSpread, Meaning, SameContents}
+use Rattle.recalculation.specs.inner.Meanings.{IsMeaning}
+use Rattle.recalculation.specs.Reading.{is_formula_at, node_of, pre, Matches}
 use Rattle.sheet_edits.proofs.Beside.{beside}
 use Rattle.sheet_edits.proofs.Reaching.{reaching_formula}
 use Rattle.sheet_edits.specs.Edits.{just, AreDirtied}

@@ -4,8 +4,8 @@ use Rattle.std.specs.List.{filter, IsDistinct}
 use Rattle.std.proofs.lemmas.Map.Made.{length-from_same_keys}
 use Rattle.grid_address.proofs.Places.{same_place_laws}
 use Rattle.grid_address.specs.Place.{same_place, Extent, Place}
-use Rattle.cell_numbers.specs.Sets.{has}
-use Rattle.natural_recalc.specs.Passes.{raised_by, IsDirtyAfter}
+use Rattle.cell_maps.specs.Sets.{has}
+use Rattle.recalculation.specs.Passes.{raised_by, IsDirtyAfter}
 use Rattle.sheet_edits.proofs.Listed.{both}
 use Rattle.sheet_edits.specs.Edits.{AreDirtied, IsDirtied}
 use Rattle.sheet_edits.specs.inner.Undoing.{evaluations}

@@ -4,9 +4,9 @@ use Rattle.formula_eval.specs.declared.look.Scene.{Scene}
 use Rattle.formula_tree.specs.declared.value.Content.{Content}
 use Rattle.grid_address.specs.Place.{Extent, Place}
 use Rattle.natural_order.specs.Walk.{Walked}
-use Rattle.natural_recalc.specs.Context.{context_of, Context}
-use Rattle.natural_recalc.specs.Passes.{passes, Meaning}
-use Rattle.natural_recalc.specs.Reading.{order_in}
+use Rattle.recalculation.specs.Context.{context_of, Context}
+use Rattle.recalculation.specs.Passes.{passes, Meaning}
+use Rattle.recalculation.specs.Reading.{order_in}
 use Rattle.sheet_edits.specs.Edits.{entered, is_evaluated, just, written}
 use Rattle.sheet_store.specs.Grid.{Grid}
 use Rattle.sheet_store.specs.declared.order.Order.{Order}

@@ -2,7 +2,7 @@
 use Rattle.std.specs.Prelude.{ℕ, Bool, true, false, List, [], ◌∷◌, Option, if◌then◌else◌}
 use Rattle.std.specs.FinMap as map
 use Rattle.grid_address.specs.Place.{is_within, same_place, Extent}
-use Rattle.cell_numbers.specs.Sets.{has}
+use Rattle.cell_maps.specs.Sets.{has}
 use Rattle.range_names.specs.Names.{NameMap}
 use Rattle.sheet_edits.specs.Spans as cell
 use Rattle.sheet_edits.specs.Spans.{source_of, written_all, written_cells}

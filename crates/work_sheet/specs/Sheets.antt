@@ -3,7 +3,7 @@ use Rattle.std.specs.Prelude.{◌≡◌, Bool, true, false, List, Option, None, 
 use Rattle.std.specs.FinMap as map
 use Rattle.grid_address.specs.Place.{same_place, Place}
 use Rattle.range_names.specs.Names.{NameMap}
-use Rattle.cell_numbers.specs.Sets.{has}
+use Rattle.cell_maps.specs.Sets.{has}
 use Rattle.sheet_store.specs.Choices.{Choices}
 use Rattle.sheet_store.specs.Grid.{Grid}
 use Rattle.formula_tree.specs.declared.value.Value.{Value}
@@ -12,7 +12,7 @@ use Rattle.sheet_store.specs.declared.writes.SheetFault.{SheetFault}
 use Rattle.sheet_store.specs.declared.writes.SheetFault.TheVariants as faults
 use Rattle.sheet_store.specs.declared.order.Order.{Order}
 use Rattle.sheet_store.specs.declared.order.Order.TheVariants as orders
-use Rattle.natural_recalc.specs.Reading.{is_formula_at}
+use Rattle.recalculation.specs.Reading.{is_formula_at}
 
 -- the cells and columns, the dirty formulas, whether the last recalculation told a circle, whether a change was made
 -- since then, the names and the settings

@@ -2,8 +2,8 @@
 use Rattle.std.specs.Prelude.{Bool, [], ◌∷◌}
 use Rattle.formula_eval.specs.declared.look.Scene.{Scene}
 use Rattle.grid_address.specs.Place.{Extent}
-use Rattle.natural_recalc.specs.Passes.{pass, Meaning}
-use Rattle.natural_recalc.specs.Spans.{span_order}
+use Rattle.recalculation.specs.Passes.{pass, Meaning}
+use Rattle.recalculation.specs.Spans.{span_order}
 use Rattle.work_sheet.specs.Doing.{context_in, swept, Done}
 use Rattle.work_sheet.specs.Seen.{Sheet}
 

@@ -3,9 +3,9 @@
 use Rattle.std.specs.Prelude.{◌≡◌, ℕ, ◌+◌, ◌-◌, ◌*◌, Bool, List, [], ◌∷◌, length}
 use Rattle.std.specs.List.{filter, IsDistinct}
 use Rattle.grid_address.specs.Place.{same_place, Extent, Place}
-use Rattle.cell_numbers.specs.Sets.{has}
-use Rattle.natural_recalc.specs.Passes.{raised_by, IsDirtyAfter}
-use Rattle.natural_recalc.specs.Reading.{is_formula_at}
+use Rattle.cell_maps.specs.Sets.{has}
+use Rattle.recalculation.specs.Passes.{raised_by, IsDirtyAfter}
+use Rattle.recalculation.specs.Reading.{is_formula_at}
 use Rattle.sheet_edits.specs.Edits.{AreDirtied}
 use Rattle.sheet_store.specs.Grid.{formulas_within, Grid}
 use Rattle.sheet_store.specs.declared.order.Order.{Order}

@@ -4,10 +4,10 @@ ghost use Rattle.std.specs.FinMap as map;
 ghost use Rattle.std.specs.List.{IsDistinct};
 ghost use Rattle.std.specs.Option.{ForSome};
 ghost use Rattle.grid_address.specs.Place.{is_within, same_place, Place};
-ghost use Rattle.cell_numbers.specs.Sets.{has};
-ghost use Rattle.natural_recalc.specs.Context.{sight_of, Context};
-ghost use Rattle.natural_recalc.specs.Passes as recalculation;
-ghost use Rattle.natural_recalc.specs.Passes.{IsPlain, IsRight, SameContents};
+ghost use Rattle.cell_maps.specs.Sets.{has};
+ghost use Rattle.recalculation.specs.Context.{sight_of, Context};
+ghost use Rattle.recalculation.specs.Passes as recalculation;
+ghost use Rattle.recalculation.specs.Passes.{IsPlain, IsRight, SameContents};
 ghost use Rattle.range_names.specs.Names.{fault_of, key_of};
 ghost use Rattle.range_names.specs.declared.fault.NameFault.TheVariants as cause;
 ghost use Rattle.sheet_store.specs.declared.order.Order.TheVariants as orders;
@@ -30,16 +30,16 @@ ghost use Rattle.work_sheet.specs.Typed.{typed};
 
 use crate::KeptState;
 use crate::typed::text_of;
-use cell_numbers::CellSet;
+use cell_maps::CellSet;
 use depend_graph::Graph;
 use formula_eval::{Look, Means, Scene, Tally};
 use formula_tree::{Content, ContentRef, ValueRef};
 use grid_address::{Cell, CellList, Format, Span};
 use lics_text::{Line, MAX_LEN, Memory};
-use natural_recalc::{
+use range_names::{NameFault, Names};
+use recalculation::{
     View, all_dirty, content_of, format_of, graph_of, recalc, recalc_span, value_of, width_of,
 };
-use range_names::{NameFault, Names};
 use sheet_edits::{
     Changes, FormatChange, cells_of, change_cells, copied, erased, first_of, gathered, is_marked,
     reformatted, refusing, state_of, state_written, target_of, write_cell, write_cells,

@@ -5,7 +5,7 @@ use Rattle.commands_data.specs.Trying.{content_at}
 use Rattle.data_blocks.specs.Benches.{with_content, OnBench}
 use Rattle.formula_tree.specs.declared.value.Content.{Content}
 use Rattle.grid_address.specs.Place.{Place}
-use Rattle.natural_recalc.specs.Context.{format_of}
+use Rattle.recalculation.specs.Context.{format_of}
 use Rattle.sheet_edits.specs.Edits.{is_protected}
 use Rattle.sheet_edits.specs.Spans.{written_cells}
 use Rattle.sheet_store.specs.declared.writes.Write.{Write}

@@ -3,8 +3,8 @@ use Rattle.std.specs.Prelude.{ℕ, ◌≡◌, ◌+◌, ◌-◌, ◌*◌, ◌^◌
 use Rattle.std.specs.FinMap.{entries}
 use Rattle.std.specs.List.{IsDistinct}
 use Rattle.std.specs.Map.{keys_of}
-use Rattle.cell_numbers.specs.Numbers.{number_at}
-use Rattle.cell_numbers.specs.Sets.{has}
+use Rattle.cell_maps.specs.Numbers.{number_at}
+use Rattle.cell_maps.specs.Sets.{has}
 use Rattle.grid_address.specs.Place.{same_place, InSheet, Place}
 use Rattle.depend_graph.specs.Network.{reads, Network}
 use Rattle.depend_graph.specs.inner.Within.{Within}

@@ -1,7 +1,7 @@
 -- Cells that are marked while an order is looked at.
 use Rattle.std.specs.Prelude.{◌≡◌, true, List}
-use Rattle.cell_numbers.specs.Numbers.{number_at, Numbers}
-use Rattle.cell_numbers.specs.Sets.{has}
+use Rattle.cell_maps.specs.Numbers.{number_at, Numbers}
+use Rattle.cell_maps.specs.Sets.{has}
 use Rattle.grid_address.specs.Place.{same_place, InSheet, Place}
 use Rattle.range_index.specs.Hulls.{in_hull}
 use Rattle.range_index.specs.declared.hull.Hull.{Hull}

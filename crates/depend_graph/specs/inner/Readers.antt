@@ -1,7 +1,7 @@
 -- What slots tell of formulas, and of the readers of a cell.
 use Rattle.std.specs.Prelude.{◌≡◌, true, List}
 use Rattle.std.specs.FinMap.{get}
-use Rattle.cell_numbers.specs.Sets.{has}
+use Rattle.cell_maps.specs.Sets.{has}
 use Rattle.grid_address.specs.Place.{same_place, Place}
 use Rattle.depend_graph.specs.inner.Slots.{had, node_in, offer_in, picked, Slots}
 use Rattle.depend_graph.specs.Network.{Network, holds}

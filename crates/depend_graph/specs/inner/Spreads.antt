@@ -1,7 +1,7 @@
 -- What is kept of a search, for the next one from the same cell.
 use Rattle.std.specs.Prelude.{◌≡◌, ◌↔◌, Bool, true, false, List, [], ◌∷◌, Option, None, Some}
 use Rattle.std.specs.Option.{ForSome}
-use Rattle.cell_numbers.specs.Sets.{has}
+use Rattle.cell_maps.specs.Sets.{has}
 use Rattle.grid_address.specs.Place.{same_place, Place}
 use Rattle.depend_graph.specs.InOrder.{GoesInOrder}
 use Rattle.depend_graph.specs.Network.{IsSpread, Network}

@@ -1,6 +1,6 @@
 -- What is found from some cells on, going back over what formulas read.
 use Rattle.std.specs.Prelude.{◌≡◌, true, List}
-use Rattle.cell_numbers.specs.Sets.{has}
+use Rattle.cell_maps.specs.Sets.{has}
 use Rattle.grid_address.specs.Place.{same_place, Place}
 use Rattle.depend_graph.specs.Network.{reads, Network}
 

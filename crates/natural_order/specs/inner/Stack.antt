@@ -2,7 +2,7 @@
 use Rattle.std.specs.Prelude.{ℕ, ◌≡◌, ◌-◌, ◌+◌, true, false, cond, ◌||◌, List, [], ◌∷◌, ◌++◌, length, drop, map}
 use Rattle.std.specs.List.{fold, sum_by, IsDistinct}
 use Rattle.grid_address.specs.Place.{same_place, Place}
-use Rattle.cell_numbers.specs.Sets.{has}
+use Rattle.cell_maps.specs.Sets.{has}
 use Rattle.natural_order.specs.Walk.{Walked, appended, walk}
 use Rattle.natural_order.specs.declared.walker.Frame.{Frame}
 use Rattle.natural_order.specs.Machine.{walked}

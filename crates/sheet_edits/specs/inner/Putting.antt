@@ -4,9 +4,9 @@ use Rattle.std.specs.FinMap as cells
 use Rattle.grid_address.specs.Place.{same_place, Place}
 use Rattle.depend_graph.specs.Network.{Network}
 use Rattle.depend_graph.specs.declared.node.Node.{Node}
-use Rattle.cell_numbers.specs.Sets.{has}
-use Rattle.natural_recalc.specs.Context.{formula_at, formula_in}
-use Rattle.natural_recalc.specs.Reading.{node_of}
+use Rattle.cell_maps.specs.Sets.{has}
+use Rattle.recalculation.specs.Context.{formula_at, formula_in}
+use Rattle.recalculation.specs.Reading.{node_of}
 use Rattle.sheet_store.specs.Grid.{is_formula, is_kept, put_state, Cells, Grid}
 use Rattle.sheet_store.specs.State.{CellState}
 use Rattle.sheet_edits.specs.Spans.{changed}

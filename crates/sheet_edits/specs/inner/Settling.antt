@@ -2,7 +2,7 @@
 use Rattle.std.specs.Prelude.{false, cond, ◌≡◌, ◌⊎◌, ◌↔◌, Bool, true, List}
 use Rattle.grid_address.specs.Place.{same_place, Place}
 use Rattle.depend_graph.specs.Network.{accepted, dropped, IsSpread, Network}
-use Rattle.cell_numbers.specs.Sets.{has}
+use Rattle.cell_maps.specs.Sets.{has}
 
 -- the set has what it had, the cells that are given a formula, and what the graph tells of the written cells
 abbrev pub WithReached : Network → List Place → (Place → Bool) → List Place → List Place → Type 0

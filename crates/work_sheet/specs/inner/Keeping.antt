@@ -2,12 +2,12 @@
 use Rattle.std.specs.Prelude.{◌≡◌, true, List}
 use Rattle.grid_address.specs.Place.{same_place, Place}
 use Rattle.depend_graph.specs.Network.{Network}
-use Rattle.cell_numbers.specs.Sets.{has}
+use Rattle.cell_maps.specs.Sets.{has}
 use Rattle.sheet_store.specs.Grid.{Grid}
 use Rattle.sheet_store.specs.declared.order.Order.{Order}
-use Rattle.natural_recalc.specs.Context.{Context}
-use Rattle.natural_recalc.specs.Passes.{IsSound, Meaning}
-use Rattle.natural_recalc.specs.Reading.{is_formula_at, Matches}
+use Rattle.recalculation.specs.Context.{Context}
+use Rattle.recalculation.specs.Passes.{IsSound, Meaning}
+use Rattle.recalculation.specs.Reading.{is_formula_at, Matches}
 use Rattle.work_sheet.specs.Sheets.{AllDirtyIn, Worksheet}
 
 -- what a sheet keeps: the graph holds its formulas, what holds of the dirty ones holds whatever the moment, the names

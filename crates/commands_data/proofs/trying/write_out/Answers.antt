@@ -2,7 +2,7 @@ use Rattle.std.specs.Prelude.{◌≡◌}
 use Rattle.commands_data.proofs.Entered.{always, recalculated_same, settings_kept, written_holds, written_same}
 use Rattle.formula_eval.specs.Mean.{mean}
 use Rattle.grid_address.specs.Place.{same_place}
-use Rattle.cell_numbers.specs.Sets.{has}
+use Rattle.cell_maps.specs.Sets.{has}
 use Rattle.sheet_edits.proofs.Gathering.{on_ok}
 use Rattle.sheet_edits.specs.Spans.{written_cells}
 use Rattle.work_sheet.proofs.Done.{did_both}

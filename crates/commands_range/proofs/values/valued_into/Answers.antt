@@ -1,14 +1,14 @@
 use Rattle.std.specs.Prelude.{refl, ◌≡◌, List}
 use Rattle.std.proofs.Common.{ap, subst, sym, ◌∙◌}
-use Rattle.natural_recalc.proofs.Filled.{span_ascends}
-use Rattle.natural_recalc.specs.inner.Laws.{Ascends}
+use Rattle.recalculation.proofs.Filled.{span_ascends}
+use Rattle.recalculation.specs.inner.Laws.{Ascends}
 use Rattle.command_desk.proofs.Edited.{if_ok, edit_acted}
 use Rattle.command_desk.specs.Acting.{written, HasActed}
 use Rattle.commands_range.proofs.Valued.{written_are}
 use Rattle.command_desk.specs.Writing.{sight_in}
 use Rattle.commands_range.specs.Valued.{values_of}
 use Rattle.grid_address.specs.Place.{same_place, Place}
-use Rattle.cell_numbers.specs.Sets.{has}
+use Rattle.cell_maps.specs.Sets.{has}
 use Rattle.sheet_edits.specs.Spans.{written_cells}
 use Rattle.sheet_store.specs.declared.writes.Write.{Write}
 use Rattle.formula_eval.specs.Outlook.{cells_of}

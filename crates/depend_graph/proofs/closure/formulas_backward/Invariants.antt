@@ -1,5 +1,5 @@
 use Rattle.std.specs.Prelude.{◌≡◌, ◌≤◌, ◌↔◌, true, drop, length}
-use Rattle.cell_numbers.specs.Sets.{has}
+use Rattle.cell_maps.specs.Sets.{has}
 use Rattle.grid_address.specs.Place.{same_place, Place}
 use Rattle.depend_graph.specs.Network.{is_formula}
 use Rattle.depend_graph.proofs.closure.formulas_backward.Given as goal

@@ -1,5 +1,5 @@
 use Rattle.std.specs.Prelude.{◌≡◌, take, true, false}
-use Rattle.cell_numbers.specs.Sets.{has}
+use Rattle.cell_maps.specs.Sets.{has}
 use Rattle.grid_address.specs.Place.{is_within, same_place, Place}
 use Rattle.depend_graph.proofs.in_order.holds_none.Given as goal
 

@@ -1,5 +1,5 @@
 use Rattle.std.specs.Prelude.{◌≡◌, ◌<◌, ◌≤◌}
-use Rattle.cell_numbers.specs.Numbers.{number_at}
+use Rattle.cell_maps.specs.Numbers.{number_at}
 use Rattle.grid_address.specs.Place.{Place}
 use Rattle.depend_graph.proofs.in_order.row_is_clear.Given as goal
 

@@ -3,7 +3,7 @@ use Rattle.std.specs.FinMap.{insert}
 use Rattle.std.specs.Global.{Vec}
 use Rattle.std.proofs.Common.{ap, subst, sym, ◌∙◌}
 use Rattle.std.proofs.lemmas.Bool.{false≢true}
-use Rattle.cell_numbers.specs.Sets.{has}
+use Rattle.cell_maps.specs.Sets.{has}
 use Rattle.grid_address.proofs.Places.{get_inserted}
 use Rattle.grid_address.specs.Place.{same_place, Place}
 use Rattle.depend_graph.proofs.Listing.{kept_inserted, list_inserted}

@@ -1,5 +1,5 @@
 use Rattle.std.proofs.Common.{ap, ◌∙◌}
-use Rattle.cell_numbers.specs.Sets.{has}
+use Rattle.cell_maps.specs.Sets.{has}
 use Rattle.grid_address.specs.Place.{same_place}
 use Rattle.depend_graph.proofs.Listing.{put_has}
 use Rattle.depend_graph.proofs.lists.put.Goals as goal

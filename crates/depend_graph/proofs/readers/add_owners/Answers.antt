@@ -3,7 +3,7 @@ use Rattle.std.specs.FinMap.{empty, entries, len-empty, len-entries}
 use Rattle.std.proofs.Common.{ap, inl, inr, sym, ◌∙◌}
 use Rattle.std.proofs.lemmas.Bool.{false≢true}
 use Rattle.std.proofs.lemmas.List.{nil_from_length}
-use Rattle.cell_numbers.specs.Sets.{has}
+use Rattle.cell_maps.specs.Sets.{has}
 use Rattle.grid_address.specs.Place.{place_cmp, same_place, Extent, Place}
 use Rattle.range_index.specs.Owners.{owners_among, owners_of, Owners}
 use Rattle.depend_graph.proofs.readers.add_owners.Goals as goal

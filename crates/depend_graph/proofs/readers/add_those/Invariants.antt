@@ -1,6 +1,6 @@
 use Rattle.std.specs.Prelude.{◌≡◌, ◌↔◌, true, take}
 use Rattle.std.proofs.Common.{◌⊎◌}
-use Rattle.cell_numbers.specs.Sets.{has}
+use Rattle.cell_maps.specs.Sets.{has}
 use Rattle.grid_address.specs.Place.{same_place, Place}
 use Rattle.depend_graph.specs.inner.Readers.{IsReaderAmong}
 use Rattle.depend_graph.proofs.readers.add_those.Given as goal

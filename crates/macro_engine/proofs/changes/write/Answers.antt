@@ -1,7 +1,7 @@
 use Rattle.std.specs.Prelude.{refl}
 use Rattle.grid_address.specs.Place.{same_place}
 use Rattle.macro_words.specs.declared.running.Change.TheVariants as change
-use Rattle.cell_numbers.specs.Sets.{has}
+use Rattle.cell_maps.specs.Sets.{has}
 use Rattle.sheet_edits.specs.Spans.{written_cells}
 use Rattle.work_sheet.specs.Editing.{all_written}
 use Rattle.macro_engine.proofs.Carrying.{edit_carried, if_ok}

@@ -2,7 +2,7 @@ use Rattle.std.specs.Prelude.{[], drop}
 use Rattle.std.specs.List.{fold}
 use Rattle.std.proofs.Common.{ap, sym, ◌+◌, ◌∙◌}
 use Rattle.std.proofs.Math.ListN.{drop_of_length-le}
-use Rattle.cell_numbers.specs.Sets.{has}
+use Rattle.cell_maps.specs.Sets.{has}
 use Rattle.grid_address.specs.Place.{same_place, Place}
 use Rattle.natural_order.specs.Machine.{fuel, walked}
 use Rattle.natural_order.specs.Walk.{walk, Walked}

@@ -2,8 +2,8 @@ use Rattle.std.specs.Prelude.{List}
 use Rattle.std.proofs.Common.{subst, sym}
 use Rattle.grid_address.specs.Place.{same_place, Place}
 use Rattle.depend_graph.specs.Network.{Network}
-use Rattle.cell_numbers.specs.Sets.{has}
-use Rattle.natural_recalc.specs.Reading.{Matches}
+use Rattle.cell_maps.specs.Sets.{has}
+use Rattle.recalculation.specs.Reading.{Matches}
 use Rattle.sheet_store.specs.Grid.{Grid}
 use Rattle.sheet_edits.proofs.Dirtied.{dirtied_settled, matches_settled}
 use Rattle.sheet_edits.specs.Edits.{just, AreDirtied}

@@ -3,8 +3,8 @@ use Rattle.std.specs.FinMap.{get}
 use Rattle.std.proofs.Common.{ap, subst, sym, ◌∙◌}
 use Rattle.grid_address.specs.Place.{same_place}
 use Rattle.depend_graph.specs.Network.{Network}
-use Rattle.cell_numbers.specs.Sets.{has}
-use Rattle.natural_recalc.specs.Reading.{is_formula_at, Matches}
+use Rattle.cell_maps.specs.Sets.{has}
+use Rattle.recalculation.specs.Reading.{is_formula_at, Matches}
 use Rattle.sheet_store.specs.Grid.{put_state, Grid}
 use Rattle.sheet_edits.proofs.Dirtied.{dirtied_settled, matches_settled}
 use Rattle.sheet_edits.proofs.Undone.{back_is, formula_there, is_there}

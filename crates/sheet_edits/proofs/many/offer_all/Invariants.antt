@@ -1,7 +1,7 @@
 use Rattle.std.specs.Prelude.{◌≡◌, true, take}
 use Rattle.std.specs.FinMap as map
 use Rattle.grid_address.specs.Place.{same_place, Place}
-use Rattle.cell_numbers.specs.Sets.{has}
+use Rattle.cell_maps.specs.Sets.{has}
 use Rattle.sheet_edits.specs.inner.Putting.{node_given}
 use Rattle.sheet_edits.proofs.many.offer_all.Given as goal
 

@@ -2,7 +2,7 @@ use Rattle.std.specs.Prelude.{◌&&◌, ◌||◌, List}
 use Rattle.std.specs.FinMap.{get}
 use Rattle.std.proofs.Common.{ap, ◌∙◌}
 use Rattle.grid_address.specs.Place.{same_place, Place}
-use Rattle.cell_numbers.specs.Sets.{has}
+use Rattle.cell_maps.specs.Sets.{has}
 use Rattle.sheet_edits.proofs.Overlaid.{reached_all}
 use Rattle.sheet_edits.specs.inner.Putting.{gives_formula}
 use Rattle.sheet_edits.proofs.many.prepare_all.Goals as goal

@@ -1,7 +1,7 @@
 use Rattle.std.specs.Prelude.{◌≡◌, None, cond, take}
 use Rattle.std.specs.FinMap as map
 use Rattle.grid_address.specs.Place.{same_place, Place}
-use Rattle.cell_numbers.specs.Sets.{has}
+use Rattle.cell_maps.specs.Sets.{has}
 use Rattle.sheet_edits.specs.Spans.{changed, Becomes}
 use Rattle.sheet_edits.proofs.many.put_all.Given as goal
 

@@ -2,7 +2,7 @@ use Rattle.std.specs.Prelude.{◌+◌, refl, take, List}
 use Rattle.std.proofs.Common.{arith, subst}
 use Rattle.std.proofs.lemmas.List.{take_all}
 use Rattle.grid_address.specs.Place.{same_place, Place}
-use Rattle.cell_numbers.specs.Sets.{has}
+use Rattle.cell_maps.specs.Sets.{has}
 use Rattle.sheet_store.specs.Grid.{Cells, Grid}
 use Rattle.sheet_edits.proofs.Overlaid.{putting_is, putting_new, putting_none, putting_same, Putting}
 use Rattle.sheet_edits.specs.inner.Putting.{HaveRoom}

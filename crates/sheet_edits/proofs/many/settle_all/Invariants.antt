@@ -1,9 +1,9 @@
 use Rattle.std.specs.Prelude.{◌≡◌, ◌&&◌, cond, false, true, take}
 use Rattle.std.specs.FinMap as map
 use Rattle.grid_address.specs.Place.{same_place, Place}
-use Rattle.cell_numbers.specs.Sets.{has}
-use Rattle.natural_recalc.specs.Context.{formula_at}
-use Rattle.natural_recalc.specs.Reading.{is_formula_at, node_of}
+use Rattle.cell_maps.specs.Sets.{has}
+use Rattle.recalculation.specs.Context.{formula_at}
+use Rattle.recalculation.specs.Reading.{is_formula_at, node_of}
 use Rattle.sheet_edits.specs.inner.Putting.{IsOffered}
 use Rattle.sheet_edits.proofs.many.settle_all.Given as goal
 

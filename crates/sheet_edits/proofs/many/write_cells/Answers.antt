@@ -2,8 +2,8 @@ use Rattle.std.specs.Prelude.{◌≡◌, ◌&&◌, cond, true, List}
 use Rattle.std.specs.FinMap.{get}
 use Rattle.std.proofs.Common.{ap, subst, ◌∙◌}
 use Rattle.grid_address.specs.Place.{same_place, Place}
-use Rattle.cell_numbers.specs.Sets.{has}
-use Rattle.natural_recalc.specs.Reading.{is_formula_at}
+use Rattle.cell_maps.specs.Sets.{has}
+use Rattle.recalculation.specs.Reading.{is_formula_at}
 use Rattle.sheet_store.specs.Grid.{Cells, Grid}
 use Rattle.sheet_edits.proofs.Overlaid.{dirtied_all, put_whole}
 use Rattle.sheet_edits.specs.Spans.{changed, Becomes}

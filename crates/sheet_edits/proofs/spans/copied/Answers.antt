@@ -2,7 +2,7 @@ use Rattle.std.specs.Prelude.{take, Some}
 use Rattle.std.specs.FinMap.{get, insert}
 use Rattle.std.proofs.Common.{ap, subst, ◌∙◌}
 use Rattle.grid_address.specs.Place.{same_place}
-use Rattle.cell_numbers.specs.Sets.{has}
+use Rattle.cell_maps.specs.Sets.{has}
 use Rattle.sheet_store.specs.Grid.{IsSound}
 use Rattle.sheet_edits.proofs.Listed.{given_more, is_among}
 use Rattle.sheet_edits.proofs.Sound.{copied_sound, given_sound, the_same}

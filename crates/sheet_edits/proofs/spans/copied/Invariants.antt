@@ -1,7 +1,7 @@
 use Rattle.std.specs.Prelude.{take, Some}
 use Rattle.std.specs.FinMap.{get}
 use Rattle.grid_address.specs.Place.{same_place}
-use Rattle.cell_numbers.specs.Sets.{has}
+use Rattle.cell_maps.specs.Sets.{has}
 use Rattle.sheet_edits.specs.Spans.{copied_state, source_of, AreGiven}
 use Rattle.sheet_edits.proofs.spans.copied.Given as goal
 

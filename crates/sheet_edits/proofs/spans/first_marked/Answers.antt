@@ -1,7 +1,7 @@
 use Rattle.std.specs.Prelude.{◌+◌, take}
 use Rattle.std.proofs.Common.{subst, sym}
 use Rattle.grid_address.specs.Place.{same_place}
-use Rattle.cell_numbers.specs.Sets.{has}
+use Rattle.cell_maps.specs.Sets.{has}
 use Rattle.sheet_edits.proofs.Listed.{more_seen}
 use Rattle.sheet_edits.proofs.Spanned.{first_more}
 use Rattle.sheet_edits.specs.inner.Marks.{IsFirstOf}

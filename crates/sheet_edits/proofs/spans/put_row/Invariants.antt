@@ -1,6 +1,6 @@
 use Rattle.std.specs.Prelude.{◌≡◌, ◌&&◌, ◌||◌, nat_eq}
 use Rattle.grid_address.specs.Place.{same_place, Place}
-use Rattle.cell_numbers.specs.Sets.{has}
+use Rattle.cell_maps.specs.Sets.{has}
 use Rattle.sheet_edits.specs.inner.Lines.{in_columns}
 use Rattle.sheet_edits.proofs.spans.put_row.Given as goal
 

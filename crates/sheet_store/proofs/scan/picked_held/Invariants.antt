@@ -1,5 +1,5 @@
 use Rattle.std.proofs.Common.{◌≡◌, ◌++◌, drop}
-use Rattle.cell_numbers.specs.Filled.{filled}
+use Rattle.cell_maps.specs.Filled.{filled}
 use Rattle.sheet_store.specs.Grid.{picked}
 use Rattle.sheet_store.specs.inner.Scan.{wanted}
 use Rattle.sheet_store.proofs.scan.picked_held.Given as goal

@@ -1,5 +1,5 @@
 use Rattle.std.proofs.Common.{◌≡◌, drop}
-use Rattle.cell_numbers.specs.Filled.{filled}
+use Rattle.cell_maps.specs.Filled.{filled}
 use Rattle.sheet_store.specs.inner.Copies.{inserted_all}
 use Rattle.sheet_store.proofs.store.copy_cells.Given as goal
 

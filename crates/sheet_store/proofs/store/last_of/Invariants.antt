@@ -1,5 +1,5 @@
 use Rattle.std.proofs.Common.{◌≡◌, None, drop}
-use Rattle.cell_numbers.specs.Filled.{filled}
+use Rattle.cell_maps.specs.Filled.{filled}
 use Rattle.sheet_store.specs.Grid.{last_among}
 use Rattle.sheet_store.proofs.store.last_of.Given as goal
 

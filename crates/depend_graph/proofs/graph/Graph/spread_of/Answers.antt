@@ -1,6 +1,6 @@
 use Rattle.std.specs.Prelude.{◌≡◌, ◌↔◌, true, [], ◌∷◌}
 use Rattle.std.proofs.Common.{sym, subst, ◌∙◌}
-use Rattle.cell_numbers.specs.Sets.{has}
+use Rattle.cell_maps.specs.Sets.{has}
 use Rattle.grid_address.specs.Place.{same_place, Place}
 use Rattle.depend_graph.specs.Network.{IsSpread, Network}
 use Rattle.depend_graph.specs.inner.Spreads.{list_of}

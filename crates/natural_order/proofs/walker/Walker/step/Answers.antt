@@ -1,7 +1,7 @@
 use Rattle.std.specs.Prelude.{◌≡◌, ◌≤◌, ◌<◌, ◌∷◌, [], true, List, ◌++◌, length}
 use Rattle.std.proofs.Common.{sym, ◌∙◌, ap, subst, arith}
 use Rattle.std.proofs.Math.ListN.{drop_of_length-le}
-use Rattle.cell_numbers.specs.Sets.{has}
+use Rattle.cell_maps.specs.Sets.{has}
 use Rattle.natural_order.specs.Walk.{Walked}
 use Rattle.grid_address.specs.Place.{same_place, Place}
 use Rattle.natural_order.specs.Machine.{walked, fuel}

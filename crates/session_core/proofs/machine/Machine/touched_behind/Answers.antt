@@ -1,5 +1,5 @@
 use Rattle.std.proofs.Common.{◌≡◌, true, false, rules, ap, subst, ◌∙◌, ℕ, Bool, List}
-use Rattle.cell_numbers.specs.Sets.{has}
+use Rattle.cell_maps.specs.Sets.{has}
 use Rattle.grid_address.specs.Place.{same_place, Place}
 use Rattle.work_sheet.specs.Seen.{of_worksheet}
 use Rattle.work_sheet.specs.Sheets.{Worksheet}

@@ -1,7 +1,7 @@
 use Rattle.std.specs.FinMap.{get}
 use Rattle.std.proofs.Common.{rules}
 use Rattle.grid_address.specs.Place.{same_place}
-use Rattle.cell_numbers.specs.Sets.{has}
+use Rattle.cell_maps.specs.Sets.{has}
 use Rattle.sheet_edits.specs.Spans.{blanked, AreGiven}
 use Rattle.work_sheet.proofs.Done.{on_all, spanned_did}
 use Rattle.work_sheet.proofs.sheet.WorksheetOf.erase.Goals as goal

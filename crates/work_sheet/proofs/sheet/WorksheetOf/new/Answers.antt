@@ -1,6 +1,6 @@
 use Rattle.std.proofs.Common.{false}
-use Rattle.natural_recalc.specs.Passes.{Meaning}
-use Rattle.natural_recalc.specs.inner.Meanings.{IsMeaning}
+use Rattle.recalculation.specs.Passes.{Meaning}
+use Rattle.recalculation.specs.inner.Meanings.{IsMeaning}
 use Rattle.work_sheet.proofs.Held.{kept_empty}
 use Rattle.work_sheet.proofs.sheet.WorksheetOf.new.Goals as goal
 

@@ -1,9 +1,9 @@
 use Rattle.std.specs.FinMap.{get}
 use Rattle.std.proofs.Common.{ap, ◌∙◌}
 use Rattle.grid_address.specs.Place.{same_place}
-use Rattle.cell_numbers.specs.Sets.{has}
-use Rattle.natural_recalc.specs.Passes.{Meaning}
-use Rattle.natural_recalc.specs.inner.Meanings.{IsMeaning}
+use Rattle.cell_maps.specs.Sets.{has}
+use Rattle.recalculation.specs.Passes.{Meaning}
+use Rattle.recalculation.specs.inner.Meanings.{IsMeaning}
 use Rattle.work_sheet.proofs.Held.{kept_changed}
 use Rattle.sheet_edits.specs.Spans.{changed}
 use Rattle.work_sheet.proofs.sheet.WorksheetOf.put_changes.Goals as goal

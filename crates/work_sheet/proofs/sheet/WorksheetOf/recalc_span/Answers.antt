@@ -1,8 +1,8 @@
 use Rattle.std.specs.Prelude.{refl}
-use Rattle.natural_recalc.proofs.Contents.{matches_on}
-use Rattle.natural_recalc.specs.Context.{context_of}
-use Rattle.natural_recalc.specs.Passes.{Meaning}
-use Rattle.natural_recalc.specs.inner.Meanings.{IsMeaning}
+use Rattle.recalculation.proofs.Contents.{matches_on}
+use Rattle.recalculation.specs.Context.{context_of}
+use Rattle.recalculation.specs.Passes.{Meaning}
+use Rattle.recalculation.specs.inner.Meanings.{IsMeaning}
 use Rattle.work_sheet.proofs.Held.{kept_same}
 use Rattle.work_sheet.proofs.sheet.WorksheetOf.recalc_span.Goals as goal
 

@@ -1,5 +1,5 @@
-use Rattle.natural_recalc.specs.Passes.{Meaning}
-use Rattle.natural_recalc.specs.inner.Meanings.{IsMeaning}
+use Rattle.recalculation.specs.Passes.{Meaning}
+use Rattle.recalculation.specs.inner.Meanings.{IsMeaning}
 use Rattle.std.proofs.Common.{rules}
 use Rattle.work_sheet.proofs.Done.{reformatted_did}
 use Rattle.work_sheet.proofs.Reformatted.{kept_reformatted}

@@ -1,5 +1,5 @@
-use Rattle.natural_recalc.specs.Passes.{Meaning}
-use Rattle.natural_recalc.specs.inner.Meanings.{IsMeaning}
+use Rattle.recalculation.specs.Passes.{Meaning}
+use Rattle.recalculation.specs.inner.Meanings.{IsMeaning}
 use Rattle.std.proofs.Common.{ap}
 use Rattle.sheet_store.specs.Grid.{Grid}
 use Rattle.work_sheet.proofs.Held.{kept_beside}

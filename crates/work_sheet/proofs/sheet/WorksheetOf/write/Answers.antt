@@ -1,7 +1,7 @@
 use Rattle.std.specs.Prelude.{List, OnOk}
 use Rattle.std.proofs.Common.{arith, subst, sym}
 use Rattle.grid_address.specs.Place.{same_place}
-use Rattle.cell_numbers.specs.Sets.{has}
+use Rattle.cell_maps.specs.Sets.{has}
 use Rattle.sheet_edits.specs.Spans.{written_cells, IsAnswered}
 use Rattle.sheet_store.specs.declared.writes.Write.{Write}
 use Rattle.work_sheet.proofs.Alone.{alone}

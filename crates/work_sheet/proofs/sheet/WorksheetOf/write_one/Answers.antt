@@ -1,9 +1,9 @@
 use Rattle.std.specs.Prelude.{[], ◌∷◌}
 use Rattle.std.proofs.Common.{rules}
 use Rattle.grid_address.specs.Place.{same_place}
-use Rattle.cell_numbers.specs.Sets.{has}
-use Rattle.natural_recalc.specs.Passes.{Meaning}
-use Rattle.natural_recalc.specs.inner.Meanings.{IsMeaning}
+use Rattle.cell_maps.specs.Sets.{has}
+use Rattle.recalculation.specs.Passes.{Meaning}
+use Rattle.recalculation.specs.inner.Meanings.{IsMeaning}
 use Rattle.sheet_edits.specs.Edits.{just}
 use Rattle.sheet_edits.specs.Spans.{written_all}
 use Rattle.work_sheet.proofs.Alone.{only_cell}

@@ -1,0 +1,27 @@
+-- How the numbers of cells are kept.
+use Rattle.std.specs.Prelude.{ℕ, zero, suc, ◌≡◌, ◌-◌, ◌*◌, ◌<◌, ◌≤◌, ◌⊎◌, List, [], ◌∷◌, length, map, get_or, Some, slice_get}
+use Rattle.cell_maps.specs.Numbers.{Numbers, number_at}
+use Rattle.grid_address.specs.Place.{InSheet, Place}
+
+-- the numbers above one of them, counted from there; those up to it are none
+abbrev pub above : ℕ → Numbers → Numbers
+above gone t = record { heads = t.heads; numbers = map (λ n. n - gone) t.numbers }
+
+-- how many of the heads are those of pages with room
+abbrev pub used : List ℕ → ℕ
+used [] = 0
+used (zero ∷ heads) = used heads
+used (suc k ∷ heads) = suc (used heads)
+
+-- each page with room has 1,024 numbers of its own, and there are no others; there are the heads of all pages or none
+pub record AreParted (t : Numbers) : Type 0 where
+  pub apart : (i j : ℕ) → get_or t.heads i 0 ≡ get_or t.heads j 0 → 0 < get_or t.heads i 0 → i ≡ j
+  pub room : (i : ℕ) → get_or t.heads i 0 * 1024 ≤ length t.numbers
+  pub full : length t.numbers ≡ used t.heads * 1024
+  pub short : (length t.heads ≡ 0) ⊎ (length t.heads ≡ 2048)
+
+-- the cells that have numbers are these, the first with 1
+pub record AreNumbered (bands : Numbers) (cells : List Place) : Type 0 where
+  pub inside : (i : ℕ) (c : Place) → slice_get cells i ≡ Some c → InSheet c
+  pub told : (i : ℕ) (c : Place) → slice_get cells i ≡ Some c → number_at bands c ≡ suc i
+  pub found : (c : Place) (i : ℕ) → InSheet c → number_at bands c ≡ suc i → slice_get cells i ≡ Some c

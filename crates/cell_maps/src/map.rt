@@ -1,0 +1,196 @@
+// Maps from cells to items.
+ghost use Rattle.std.specs.Prelude.{◌≡◌, ◌++◌, ◌∷◌, [], ◌<◌, ◌≤◌, ◌-◌, ◌^◌, suc, ℕ, cond, length, Some, None, option_copied, IfSome, IfNone, OnOk, OnErr};
+ghost use Rattle.std.specs.Option.{option_copied_mut};
+ghost use Rattle.std.specs.Borrow.{sem};
+ghost use Rattle.std.specs.FinMap as map;
+ghost use Rattle.grid_address.specs.Place.{same_place, InSheet, Place};
+ghost use Rattle.cell_maps.specs.Numbers.{band_of, number_at};
+
+use crate::{Held, PlaceTable};
+use grid_address::{COLUMNS, Cell};
+use std::alloc::{AllocError, Global};
+use std::marker::Model;
+use std::mem::replace;
+
+/// A finite map from cells to items. Each cell that was ever put in keeps a number, and an item is found by its cell's
+/// number, so that only a cell that is put in for the first time takes memory.
+#[derive(Drop)]
+pub struct CellMap<T> {
+    table: PlaceTable,
+    held: Vec<Held<T>>,
+}
+
+impl<T> Model for CellMap<T> {
+    ghost use Rattle.std.specs.FinMap as map;
+    ghost use Rattle.std.specs.FinMap.{FinMap};
+    ghost use Rattle.grid_address.specs.contracts.cell.Cell as place;
+    ghost use Rattle.grid_address.specs.Place.{place_cmp};
+
+    ghost Value = { FinMap place_cmp T };
+
+    ghost coded = { map.code (place.the_row).coded T.code };
+
+    ghost use Rattle.cell_maps.specs.Filled.{cells_of, filled};
+    ghost use Rattle.cell_maps.specs.inner.Numbering.{AreNumbered};
+
+    ghost view = { λ m. map.from_entries (filled m.held.items) };
+
+    ghost invariant = { λ m. AreNumbered m.table (cells_of m.held.items) };
+}
+
+// Where a cell is held, if it has a number.
+pub(crate) fn index_of(table: &PlaceTable, cell: Cell) -> Option<usize>
+    ensures none { IfNone result (number_at table.now cell ≡ 0) }
+    ensures some { IfSome result (λ i. number_at table.now cell ≡ suc i) }
+{
+    match table.number_at(cell) {
+        0 => None,
+        number => Some(number as usize - 1),
+    }
+}
+
+// Holds an item at a cell that has no number yet.
+fn add<T: Drop>(
+    table: &mut PlaceTable,
+    held: &mut Vec<Held<T>>,
+    cell: Cell,
+    item: T,
+) -> Result<(), AllocError>
+    requires { length held.old.items < 2 ^ 32 - 1 }
+    ensures held { OnOk result (held.new.items ≡ held.old.items ++ Held.Filled cell item ∷ []) }
+    ensures numbers { OnOk result ((d : Place) → InSheet d → number_at table.new d
+        ≡ cond (same_place cell d) (suc (length held.old.items)) (number_at table.old d)) }
+    ensures err_held { OnErr result (held.new.items ≡ held.old.items) }
+    ensures err_numbers { OnErr result ((d : Place) → number_at table.new d ≡ number_at table.old d) }
+{
+    table.make_room(cell)?;
+    let number = held.len() as u32 + 1;
+    held.push(Held::Filled(cell, item))?;
+    table.set(cell, number);
+    Ok(())
+}
+
+impl<T> CellMap<T> {
+    ghost use Rattle.cell_maps.specs.Filled.{cells_of, filled, AreOnce};
+    ghost use Rattle.cell_maps.specs.MapLends.{lends_get};
+
+    /// An empty map. It takes no memory.
+    pub fn new(alloc: Global) -> CellMap<T>
+        ensures { result ≡ map.empty }
+    {
+        CellMap {
+            table: PlaceTable::new(alloc),
+            held: Vec::new(alloc),
+        }
+    }
+
+    /// The item of a cell.
+    pub fn get(&self, cell: Cell) -> Option<&T>
+        ensures { option_copied result ≡ map.get self.now cell }
+    {
+        cell.is_on_sheet();
+        match index_of(&self.table, cell) {
+            Some(at) => match &self.held[at] {
+                Held::Filled(_, item) => Some(item),
+                Held::Erased(_) => None,
+            },
+            None => None,
+        }
+    }
+
+    /// A column from the cell's on before which no cell of its row has an item, from its own column on. It is one that
+    /// may have an item, and else the end, or the cell's own column where that lies behind the end.
+    pub fn next_column(&self, cell: Cell, end: u16) -> u16
+        requires { end ≤ COLUMNS }
+        ensures within { (cell.col ≤ result) × (result ≤ COLUMNS) }
+        ensures none { (c : Place) → InSheet c → c.row ≡ cell.row → cell.col ≤ c.col → c.col < result →
+            map.get self.now c ≡ None }
+    {
+        self.table.next_column(cell, end)
+    }
+
+    /// A column from the cell's on, up to 256, before which no cell of its band of 256 rows has an item, from its own
+    /// column on.
+    pub fn next_page(&self, cell: Cell) -> u16
+        ensures within { (cell.col ≤ result) × (result ≤ COLUMNS) }
+        ensures none { (c : Place) → InSheet c → band_of c ≡ band_of cell → cell.col ≤ c.col → c.col < result →
+            map.get self.now c ≡ None }
+    {
+        self.table.next_page(cell)
+    }
+
+    /// A column, up to 256, from which on no cell of the cell's band of 256 rows has an item.
+    pub fn band_end(&self, cell: Cell) -> u16
+        ensures within { result ≤ COLUMNS }
+        ensures none { (c : Place) → InSheet c → band_of c ≡ band_of cell → result ≤ c.col → map.get self.now c ≡ None }
+    {
+        self.table.band_end(cell)
+    }
+
+    /// The item of a cell, to be changed in place.
+    pub fn get_mut(&mut self, cell: Cell) -> Option<&mut T>
+        ensures* writes_back { sem 𝓛 (lends_get T.row self.entry cell result) }
+        ensures value { option_copied_mut result ≡ map.get self.old cell }
+    {
+        cell.is_on_sheet();
+        match index_of(&self.table, cell) {
+            Some(at) => self.held[at].item_mut(),
+            None => None,
+        }
+    }
+
+    /// Gives a cell an item in place of the one that it has. Only a cell that was never put in can find no memory.
+    pub fn insert(&mut self, cell: Cell, item: T) -> Result<(), AllocError>
+    where
+        T: Drop,
+        ensures ok { OnOk result (self.new ≡ map.insert self.old cell item) }
+        ensures err { OnErr result (self.new ≡ self.old) }
+        ensures absent { OnErr result (map.get self.old cell ≡ None) }
+    {
+        cell.is_on_sheet();
+        match index_of(&self.table, cell) {
+            Some(at) => {
+                self.held[at] = Held::Filled(cell, item);
+                Ok(())
+            }
+            None => {
+                add(&mut self.table, &mut self.held, cell, item)?;
+                Ok(())
+            }
+        }
+    }
+
+    /// Takes a cell's item out. The cell keeps its number.
+    pub fn remove(&mut self, cell: Cell)
+    where
+        T: Drop,
+        ensures { self.new ≡ map.remove self.old cell }
+    {
+        cell.is_on_sheet();
+        if let Some(at) = index_of(&self.table, cell) {
+            self.held[at] = Held::Erased(cell);
+        }
+    }
+
+    /// Takes a cell's item out, and gives it to the caller; none where the cell has none. The cell keeps its number.
+    pub fn take(&mut self, cell: Cell) -> Option<T>
+    where
+        T: Drop,
+        ensures item { result ≡ map.get self.old cell }
+        ensures rest { self.new ≡ map.remove self.old cell }
+    {
+        cell.is_on_sheet();
+        match index_of(&self.table, cell) {
+            Some(at) => replace(&mut self.held[at], Held::Erased(cell)).into_item(),
+            None => None,
+        }
+    }
+
+    /// The cells that have numbers, in the order in which they got them, each once.
+    pub fn held(&self) -> &[Held<T>]
+        ensures items { map.from_entries (filled result.now) ≡ self.now }
+        ensures once { AreOnce (cells_of result.now) }
+    {
+        self.held.as_slice()
+    }
+}

@@ -1,0 +1,226 @@
+// The numbers of places.
+ghost use Rattle.std.specs.Prelude.{◌≡◌, false, true, ℕ, ◌<◌, ◌≤◌, ◌+◌, ◌-◌, ◌*◌, ◌/◌, ◌%◌, ◌⊎◌, cond, length, get_or, OnOk, OnErr};
+ghost use Rattle.grid_address.specs.Place.{same_place, InSheet, Place};
+ghost use Rattle.cell_maps.specs.Numbers.{band_of, head_of, number_at, page_of, place_of, HasRoom};
+ghost use Rattle.cell_maps.specs.inner.Numbering.{used};
+
+use grid_address::{COLUMNS, Cell};
+use std::alloc::{AllocError, Global};
+use std::marker::Model;
+
+/// How many rows a page has.
+const PAGE_ROWS: u16 = 256;
+
+/// How many columns a page has.
+const PAGE_COLUMNS: u8 = 4;
+
+/// How many pages lie side by side.
+const PAGES: usize = 64;
+
+/// How many places a page has.
+const PLACES: usize = 1_024;
+
+/// The heads of pages without room.
+const NO_HEADS: [u16; 2_048] = [0; 2_048];
+
+/// The numbers of a page that has just got room.
+const NO_NUMBERS: [u32; PLACES] = [0; PLACES];
+
+/// A number for each place of the sheet; 0 stands for none. The places lie in pages of 256 rows and 4 columns. Once a
+/// number was set each page has a head of two bytes, and a page without a number takes no more room than that.
+#[derive(Drop)]
+pub struct PlaceTable {
+    heads: Vec<u16>,
+    numbers: Vec<u32>,
+}
+
+impl Model for PlaceTable {
+    ghost use Rattle.cell_maps.specs.Numbers.{Numbers};
+    ghost use Rattle.cell_maps.specs.inner.Numbering.{AreParted};
+
+    ghost Value = { Numbers };
+
+    ghost view = { λ t. record { heads = t.heads.items; numbers = t.numbers.items } };
+
+    ghost invariant = { λ t. AreParted (record { heads = t.heads.items; numbers = t.numbers.items }) };
+}
+
+// The page of a cell.
+fn page_of(cell: Cell) -> usize
+    ensures { result ≡ page_of cell }
+{
+    usize::from(cell.row / PAGE_ROWS) * PAGES + usize::from(cell.col / PAGE_COLUMNS)
+}
+
+// The place of a cell in its page.
+fn place_of(cell: Cell) -> usize
+    ensures place { result ≡ place_of cell }
+    ensures below { result < 1024 }
+{
+    usize::from(cell.row % PAGE_ROWS) * 4 + usize::from(cell.col % PAGE_COLUMNS)
+}
+
+// Where the number of a cell stands among those of all pages, where its page is the given one of them.
+fn index_in(head: u16, cell: Cell) -> usize
+    requires { 0 < head }
+    ensures index { result ≡ (head - 1) * 1024 + place_of cell }
+    ensures below { result < head * 1024 }
+{
+    usize::from(head - 1) * PLACES + place_of(cell)
+}
+
+// Adds the heads of all pages, where there are none.
+fn add_heads(heads: &mut Vec<u16>) -> Result<(), AllocError>
+    requires { (length heads.old.items ≡ 0) ⊎ (length heads.old.items ≡ 2048) }
+    ensures same { (j : ℕ) → get_or heads.new.items j 0 ≡ get_or heads.old.items j 0 }
+    ensures used { used heads.new.items ≡ used heads.old.items }
+    ensures long { OnOk result (length heads.new.items ≡ 2048) }
+    ensures err { OnErr result (heads.new.items ≡ heads.old.items) }
+{
+    if heads.is_empty() {
+        heads.extend_from_slice(&NO_HEADS)?;
+    }
+    Ok(())
+}
+
+// Adds a page of zeros behind the others.
+fn add_page(numbers: &mut Vec<u32>) -> Result<(), AllocError>
+    ensures same { (j : ℕ) → get_or numbers.new.items j 0 ≡ get_or numbers.old.items j 0 }
+    ensures long { OnOk result (length numbers.new.items ≡ length numbers.old.items + 1024) }
+    ensures err { OnErr result (numbers.new.items ≡ numbers.old.items) }
+{
+    numbers.extend_from_slice(&NO_NUMBERS)?;
+    Ok(())
+}
+
+impl PlaceTable {
+    /// A table without numbers. It takes no memory.
+    pub fn new(alloc: Global) -> PlaceTable
+        ensures { (d : Place) → number_at result d ≡ 0 }
+    {
+        PlaceTable {
+            heads: Vec::new(alloc),
+            numbers: Vec::new(alloc),
+        }
+    }
+
+    // Which one of the pages with room a cell's page is, 0 where it has none.
+    fn head_of(&self, cell: Cell) -> u16
+        ensures { result ≡ head_of self.now cell }
+    {
+        match self.heads.get(page_of(cell)) {
+            Some(head) => *head,
+            None => 0,
+        }
+    }
+
+    /// The number of a cell.
+    pub fn number_at(&self, cell: Cell) -> u32
+        ensures { result ≡ number_at self.now cell }
+    {
+        match self.head_of(cell) {
+            0 => 0,
+            head => self.numbers[index_in(head, cell)],
+        }
+    }
+
+    /// The next column from the cell's on, before the end, in which its row has a number. Where none is left, it is the
+    /// end, or the cell's own column where that lies behind the end.
+    pub fn next_column(&self, cell: Cell, end: u16) -> u16
+        requires { end ≤ COLUMNS }
+        ensures within { (cell.col ≤ result) × (result ≤ COLUMNS) }
+        ensures none { (d : Place) → InSheet d → d.row ≡ cell.row → cell.col ≤ d.col → d.col < result →
+            number_at self.now d ≡ 0 }
+    {
+        let mut col = u16::from(cell.col);
+        while col < end {
+            let place = Cell {
+                row: cell.row,
+                col: col as u8,
+            };
+            if self.number_at(place) != 0 {
+                return col;
+            }
+            col += 1;
+        }
+        col
+    }
+
+    /// A column from the cell's on, up to 256, before which no place of the cell's band of 256 rows has a number, from
+    /// the cell's own column on. It is the cell's own where its page has room, or the first of a page that has, or 256.
+    pub fn next_page(&self, cell: Cell) -> u16
+        ensures within { (cell.col ≤ result) × (result ≤ COLUMNS) }
+        ensures none { (d : Place) → InSheet d → band_of d ≡ band_of cell → cell.col ≤ d.col → d.col < result →
+            number_at self.now d ≡ 0 }
+    {
+        let mut col = u16::from(cell.col);
+        while col < COLUMNS {
+            let here = Cell {
+                row: cell.row,
+                col: col as u8,
+            };
+            if self.head_of(here) != 0 {
+                return col;
+            }
+            col = col / 4 * 4 + 4;
+        }
+        col
+    }
+
+    /// A column, up to 256, from which on no place of the cell's band of 256 rows has a number.
+    pub fn band_end(&self, cell: Cell) -> u16
+        ensures within { result ≤ COLUMNS }
+        ensures none { (d : Place) → InSheet d → band_of d ≡ band_of cell → result ≤ d.col → number_at self.now d ≡ 0 }
+    {
+        let mut end = COLUMNS;
+        while end > 0 {
+            let place = Cell {
+                row: cell.row,
+                col: (end - 4) as u8,
+            };
+            if self.head_of(place) != 0 {
+                return end;
+            }
+            end -= 4;
+        }
+        end
+    }
+
+    // Adds room for the number of a cell whose page has none.
+    #[inline(never)]
+    fn add_room(&mut self, cell: Cell) -> Result<(), AllocError>
+        requires { head_of self.old cell ≡ 0 }
+        ensures same { (d : Place) → number_at self.new d ≡ number_at self.old d }
+        ensures room { OnOk result (HasRoom self.new cell) }
+    {
+        cell.is_on_sheet();
+        let page = page_of(cell);
+        let pages = self.numbers.len() / PLACES;
+        add_heads(&mut self.heads)?;
+        add_page(&mut self.numbers)?;
+        self.heads[page] = pages as u16 + 1;
+        Ok(())
+    }
+
+    /// Makes room for the number of a cell. No number changes.
+    pub fn make_room(&mut self, cell: Cell) -> Result<(), AllocError>
+        ensures same { (d : Place) → number_at self.new d ≡ number_at self.old d }
+        ensures room { OnOk result (HasRoom self.new cell) }
+    {
+        if self.head_of(cell) != 0 {
+            return Ok(());
+        }
+        self.add_room(cell)
+    }
+
+    /// Sets the number of a cell that has room for it.
+    pub fn set(&mut self, cell: Cell, number: u32)
+        requires { HasRoom self.old cell }
+        ensures { (d : Place) → InSheet d →
+            number_at self.new d ≡ cond (same_place cell d) number (number_at self.old d) }
+    {
+        cell.is_on_sheet();
+        let at = index_in(self.head_of(cell), cell);
+        self.numbers[at] = number;
+    }
+}

@@ -1,6 +1,0 @@
-use Rattle.std.specs.Prelude.{◌≡◌, ◌-◌, ◌++◌}
-use Rattle.natural_recalc.specs.Reading.{by_columns, of_columns}
-use Rattle.natural_recalc.proofs.columns.by_columns.Given as goal
-
-abbrev pub invariant-loop-col : goal.invariant-loop-col
-invariant-loop-col l = l.list.items ++ of_columns (256 - l.col) l.col l.cells ≡ by_columns l.cells

@@ -1,8 +1,0 @@
-use Rattle.std.specs.Prelude.{◌≡◌, drop}
-use Rattle.std.specs.List.{list_any}
-use Rattle.grid_address.specs.Place.{same_place}
-use Rattle.cell_numbers.specs.Sets.{has}
-use Rattle.natural_recalc.proofs.reads.any_kept.Given as goal
-
-abbrev pub invariant-loop-cell : goal.invariant-loop-cell
-invariant-loop-cell l = list_any (has same_place l.set.keys) (drop l.cell-index l.cells) ≡ list_any (has same_place l.set.keys) l.cells

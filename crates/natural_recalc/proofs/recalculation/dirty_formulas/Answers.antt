@@ -1,7 +1,0 @@
-use Rattle.grid_address.specs.Place.{same_place}
-use Rattle.cell_numbers.specs.Sets.{has}
-use Rattle.natural_recalc.proofs.RowOrder.{dirty_sorted}
-use Rattle.natural_recalc.proofs.recalculation.dirty_formulas.Goals as goal
-
-pub returns : goal.returns
-returns c = dirty_sorted c.args.store.now (has same_place c.args.dirty.now.keys) c.in_ok-list.list.items c.in_ok-list.ensures.ascends c.in_ok-list.ensures.members c.requires

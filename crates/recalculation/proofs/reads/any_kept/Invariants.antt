@@ -1,0 +1,8 @@
+use Rattle.std.specs.Prelude.{◌≡◌, drop}
+use Rattle.std.specs.List.{list_any}
+use Rattle.grid_address.specs.Place.{same_place}
+use Rattle.cell_maps.specs.Sets.{has}
+use Rattle.recalculation.proofs.reads.any_kept.Given as goal
+
+abbrev pub invariant-loop-cell : goal.invariant-loop-cell
+invariant-loop-cell l = list_any (has same_place l.set.keys) (drop l.cell-index l.cells) ≡ list_any (has same_place l.set.keys) l.cells

@@ -1,0 +1,122 @@
+// Evaluation of formulas in the cells of a store.
+ghost use Rattle.std.specs.Prelude.{◌≡◌, ◌*◌, Bool, length, OnErr, OnOk, true};
+ghost use Rattle.grid_address.specs.Place.{same_place, Place};
+ghost use Rattle.cell_maps.specs.Sets.{has};
+ghost use Rattle.formula_eval.specs.inner.Kept.{IsKept};
+ghost use Rattle.recalculation.specs.Context.{context_of, value_at};
+ghost use Rattle.recalculation.specs.Passes.{evaluated, pass, passes, raised_by, IsSound, SameContents};
+ghost use Rattle.recalculation.specs.Reading.{is_formula_at};
+
+use crate::View;
+use formula_eval::{Kept, Means, Scene};
+use formula_tree::ContentRef;
+use grid_address::Cell;
+use lics_text::Memory;
+use range_names::Names;
+use sheet_store::{Settings, Store};
+
+/// Gives a cell the meaning of its formula over the values as they stand. Where there is no memory the store is as it
+/// was.
+pub fn evaluate_at<E: Means>(
+    store: &mut Store,
+    cell: Cell,
+    names: &Names,
+    settings: &Settings,
+    scene: &Scene,
+    tally: &mut E,
+) -> Result<(), Memory>
+    requires { is_formula_at store.old cell ≡ true }
+    ensures value { OnOk result
+        (store.new ≡ evaluated E.meaning (context_of names.now settings.now scene.entry.now) store.old cell) }
+    ensures err { OnErr result (store.new ≡ store.old) }
+    ensures count { OnOk result (E.count tally.new ≡ raised_by 1 (E.count tally.old)) }
+{
+    let mut kept = Kept::new();
+    evaluate_next(store, cell, names, settings, scene, tally, &mut kept)
+}
+
+// The same behind other evaluations, with what they kept of the values as they stand.
+#[inline(always)]
+fn evaluate_next<E: Means>(
+    store: &mut Store,
+    cell: Cell,
+    names: &Names,
+    settings: &Settings,
+    scene: &Scene,
+    tally: &mut E,
+    kept: &mut Kept,
+) -> Result<(), Memory>
+    requires formula { is_formula_at store.old cell ≡ true }
+    requires kept { IsKept kept.old (value_at store.old) }
+    ensures value { OnOk result
+        (store.new ≡ evaluated E.meaning (context_of names.now settings.now scene.entry.now) store.old cell) }
+    ensures err { OnErr result (store.new ≡ store.old) }
+    ensures count { OnOk result (E.count tally.new ≡ raised_by 1 (E.count tally.old)) }
+    ensures kept { OnOk result (IsKept kept.new (value_at store.new)) }
+{
+    let Some(state) = store.get(cell) else {
+        return Ok(());
+    };
+    let ContentRef::Formula(formula) = state.content() else {
+        return Ok(());
+    };
+    let view = View {
+        store,
+        names,
+        settings,
+    };
+    let value = tally.evaluate(formula, cell, &view, scene, kept)?;
+    store.set_value(cell, value);
+    kept.forget(cell);
+    Ok(())
+}
+
+// Gives each of the cells, in turn, the meaning of its formula.
+pub fn pass_over<E: Means>(
+    store: &mut Store,
+    cells: &[Cell],
+    names: &Names,
+    settings: &Settings,
+    scene: &Scene,
+    tally: &mut E,
+) -> Result<(), Memory>
+    requires { (c : Place) → has same_place cells.now c ≡ true → is_formula_at store.old c ≡ true }
+    ensures values { OnOk result
+        (store.new ≡ pass E.meaning (context_of names.now settings.now scene.entry.now) cells.now store.old) }
+    ensures count { OnOk result (E.count tally.new ≡ raised_by (length cells.now) (E.count tally.old)) }
+    ensures sound { (dirty : Place → Bool) →
+        IsSound E.meaning (context_of names.now settings.now scene.entry.now) store.old dirty
+        → IsSound E.meaning (context_of names.now settings.now scene.entry.now) store.new dirty }
+    ensures contents { SameContents store.old store.new }
+{
+    let mut kept = Kept::new();
+    for cell in cells {
+        evaluate_next(store, *cell, names, settings, scene, tally, &mut kept)?;
+    }
+    Ok(())
+}
+
+// Goes over the cells as many times as it is told.
+pub fn further<E: Means>(
+    store: &mut Store,
+    cells: &[Cell],
+    times: u8,
+    names: &Names,
+    settings: &Settings,
+    scene: &Scene,
+    tally: &mut E,
+) -> Result<(), Memory>
+    requires { (c : Place) → has same_place cells.now c ≡ true → is_formula_at store.old c ≡ true }
+    ensures values { OnOk result
+        (store.new ≡ passes E.meaning (context_of names.now settings.now scene.entry.now) times cells.now store.old) }
+    ensures count { OnOk result (E.count tally.new ≡ raised_by (times * length cells.now) (E.count tally.old)) }
+    ensures sound { (dirty : Place → Bool) →
+        IsSound E.meaning (context_of names.now settings.now scene.entry.now) store.old dirty
+        → IsSound E.meaning (context_of names.now settings.now scene.entry.now) store.new dirty }
+    ensures contents { SameContents store.old store.new }
+{
+    for _turn in 0..times {
+        pass_over(store, cells, names, settings, scene, tally)?;
+    }
+    Ok(())
+}

@@ -1,0 +1,66 @@
+// A store whose formulas all are dirty.
+ghost use Rattle.std.specs.Prelude.{◌≡◌, ◌&&◌, cond, IfOk, OnOk};
+ghost use Rattle.std.specs.FinMap as map;
+ghost use Rattle.grid_address.specs.Place.{same_place, Place};
+ghost use Rattle.cell_maps.specs.Sets.{has};
+ghost use Rattle.recalculation.specs.Context.{formula_at, Context};
+ghost use Rattle.recalculation.specs.Passes.{IsSound, Meaning};
+ghost use Rattle.recalculation.specs.Reading.{is_formula_at, node_of, Matches};
+ghost use Rattle.recalculation.specs.inner.Graphs.{with_formula};
+
+use cell_maps::CellSet;
+use depend_graph::{Graph, insert_all};
+use formula_tree::ContentRef;
+use grid_address::Cell;
+use lics_text::Memory;
+use sheet_store::Store;
+
+/// Every formula of a store, as a dirty set, whatever their values are.
+pub fn all_dirty(store: &Store) -> Result<CellSet, Memory>
+    ensures members { IfOk result (λ set. (c : Place) → has same_place set.keys c ≡ is_formula_at store.now c) }
+    ensures sound { IfOk result
+        (λ set. (mean : Meaning) (x : Context) → IsSound mean x store.now (has same_place set.keys)) }
+{
+    let cells = store.formulas()?;
+    let mut set = CellSet::new(store.alloc());
+    insert_all(&mut set, cells.as_slice())?;
+    Ok(set)
+}
+
+// Puts the formula of a cell into the graph, if the cell holds one.
+fn add_formula(graph: &mut Graph, store: &Store, cell: Cell) -> Result<(), Memory>
+    ensures { OnOk result (graph.new ≡ with_formula (node_of (formula_at store.now cell) cell) graph.old cell) }
+{
+    let Some(state) = store.get(cell) else {
+        return Ok(());
+    };
+    let ContentRef::Formula(formula) = state.content() else {
+        return Ok(());
+    };
+    let reads = formula.reads(cell)?;
+    graph.set(cell, &reads, formula.is_volatile())?;
+    Ok(())
+}
+
+// Puts the formulas of cells into the graph.
+fn add_formulas(graph: &mut Graph, store: &Store, cells: &[Cell]) -> Result<(), Memory>
+    ensures { OnOk result
+        ((c : Place) → map.get graph.new.formulas c
+        ≡ cond (has same_place cells.now c && is_formula_at store.now c) (node_of (formula_at store.now c) c)
+        (map.get graph.old.formulas c)) }
+{
+    for cell in cells {
+        add_formula(graph, store, *cell)?;
+    }
+    Ok(())
+}
+
+/// The graph of a store's formulas.
+pub fn graph_of(store: &Store) -> Result<Graph, Memory>
+    ensures { IfOk result (λ graph. Matches graph store.now) }
+{
+    let cells = store.formulas()?;
+    let mut graph = Graph::new(store.alloc());
+    add_formulas(&mut graph, store, cells.as_slice())?;
+    Ok(graph)
+}
