@@ -1,4 +1,4 @@
--- What a deed comes to.
+-- A step of a macro that changes nothing of the sheet leaves it.
 use Rattle.std.specs.Prelude.{ℕ, ◌≡◌, refl, false, true, Option, None, Some, Ok, Err}
 use Rattle.std.proofs.Common.{subst, ◌∙◌}
 use Rattle.std.proofs.lemmas.Bool.{false≢true}
