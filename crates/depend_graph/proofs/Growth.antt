@@ -69,15 +69,12 @@ no_way : (g : Network) (c d : Place) → ((e : Place) → reads g e d ≡ false)
 no_way g c d none (direct r) = false≢true (sym (none c) ∙ r)
 no_way g c d none (through {e = e} r more) = no_way g e d none more
 
--- so it is all that there is of itself
-pub spread_alone : (g : Network) (cells : List Place) (d : Place) → cells ≡ d ∷ [] → ((e : Place) → reads g e d ≡ false) → (c : Place) → ((has same_place cells c ≡ true) × (is_formula g c ≡ true)) ↔ IsSpread g cells c
-spread_alone g cells d is none c = (
+-- so such cells are all that there is of themselves
+pub spread_unread : (g : Network) (cells : List Place) → ((d : Place) → has same_place cells d ≡ true → (e : Place) → reads g e d ≡ false) → (c : Place) → ((has same_place cells c ≡ true) × (is_formula g c ≡ true)) ↔ IsSpread g cells c
+spread_unread g cells none c = (
   (λ h. record { formula = h.1; way = inl h.0 }),
   (λ s. elim s.way [
     | inl m ↦ (m, s.formula)
-    | inr q ↦ elim (or_cases (same_place q.cell d) false (sym (ap (λ l. has same_place l q.cell) is) ∙ q.among)) [
-      | inl k ↦ absurd (no_way g c q.cell (λ e. ap (reads g e) (same_place_is q.cell d k) ∙ none e) q.reached)
-      | inr k ↦ absurd (false≢true k)
-    ]
+    | inr q ↦ absurd (no_way g c q.cell (none q.cell q.among) q.reached)
   ]),
 )

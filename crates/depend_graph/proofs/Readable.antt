@@ -3,17 +3,30 @@ use Rattle.std.specs.Prelude.{◌≡◌, Bool, true, false, cond, not, List, [],
 use Rattle.std.specs.FinMap.{get}
 use Rattle.std.specs.List.{filter}
 use Rattle.std.proofs.Common.{sym, ◌∙◌, ap, inl, inr, ◌⊎◌}
-use Rattle.std.proofs.lemmas.Bool.{true≢false, or_cases, or_left, or_right}
+use Rattle.std.proofs.lemmas.Bool.{cases_Bool, false≢true, true≢false, or_cases, or_left, or_right}
 use Rattle.cell_maps.specs.Sets.{has}
+use Rattle.grid_address.proofs.Places.{same_place_is}
 use Rattle.grid_address.specs.Place.{is_within, same_place, Extent, Place}
 use Rattle.range_index.proofs.Listed.{owner_told}
 use Rattle.range_index.specs.Owners.{hold, owners_of, Owners}
 use Rattle.depend_graph.specs.inner.Banks.{is_one, spans_at, wide}
 use Rattle.depend_graph.specs.inner.Lists.{list_at, AreInLists, IsInListsOf, Lists}
 use Rattle.depend_graph.specs.Network.{holds}
+use Rattle.depend_graph.specs.inner.Readers.{any_reads}
 use Rattle.depend_graph.specs.inner.Slots.{had, node_in, AreRegistered, Slots, Stands}
 use Rattle.depend_graph.specs.declared.node.Node.{Node}
 use Rattle.depend_graph.specs.declared.slots.Slot.{Slot}
+
+-- where none of the formulas reads a cell, none that is among them does
+pub none_reads : (m : Slots) (c : Place) (fs : List Place) → any_reads m c fs ≡ false → (d : Place) → has same_place fs d ≡ true → holds (had node_in (get m d)) c ≡ true → ⊥
+none_reads m c [] none d h k = false≢true h
+none_reads m c (f ∷ fs) none d h k = elim (or_cases (same_place d f) (has same_place fs d) h) [
+  | inl s ↦ true≢false (sym (or_left (holds (had node_in (get m f)) c) (any_reads m c fs) (ap (λ (x : Place). holds (had node_in (get m x)) c) (sym (same_place_is d f s)) ∙ k)) ∙ none)
+  | inr later ↦ elim (cases_Bool (any_reads m c fs)) [
+    | inl t ↦ true≢false (sym (or_right (holds (had node_in (get m f)) c) (any_reads m c fs) t) ∙ none)
+    | inr rest ↦ none_reads m c fs rest d later k
+  ]
+]
 
 -- a span that holds a cell is that cell or a wide one
 in_part : (cell : Place) (spans : List Extent) → hold spans cell ≡ true → (hold (filter is_one spans) cell ≡ true) ⊎ (hold (wide spans) cell ≡ true)

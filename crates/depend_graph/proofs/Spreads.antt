@@ -7,7 +7,7 @@ use Rattle.cell_maps.specs.Sets.{has}
 use Rattle.grid_address.proofs.Places.{get_removed, same_place_is, same_places}
 use Rattle.grid_address.specs.Place.{same_place, Place}
 use Rattle.depend_graph.specs.InOrder.{is_volatile, is_volatile_at, GoesInOrder, StandsFirst}
-use Rattle.depend_graph.specs.Network.{dropped, holds, is_formula, reads, IsSpread, Network, ReachesCell}
+use Rattle.depend_graph.specs.Network.{dropped, holds, is_formula, reads, withdrawn, IsSpread, Network, ReachesCell}
 use Rattle.depend_graph.specs.Network.ReachesCell.{direct, through}
 use Rattle.depend_graph.specs.Network.{Nodes}
 use Rattle.depend_graph.specs.inner.Spreads.{is_of, list_of, IsKept, IsSpreadOf}
@@ -59,13 +59,21 @@ none_of : (o : Option Node) → is_some o ≡ false → o ≡ None
 none_of None h = refl
 none_of (Some n) h = absurd (true≢false h)
 
+-- where nothing stands at a cell, nothing is taken away there
+none_removed : (m : Nodes) (c : Place) → is_some (get m c) ≡ false → m ≡ remove m c
+none_removed m c f = same_places _ _ (λ d. with d (cases_Bool (same_place d c)) ∙ sym (get_removed m c d))
+  where
+    with : (d : Place) → (same_place d c ≡ true) ⊎ (same_place d c ≡ false) → get m d ≡ cond (same_place d c) None (get m d)
+    with d (inl t) = ap (get m) (same_place_is d c t) ∙ none_of (get m c) f ∙ ap (λ b. cond b None (get m d)) (sym t)
+    with d (inr n) = ap (λ b. cond b None (get m d)) (sym n)
+
 -- where no formula stands, none is dropped
 pub none_dropped : (g : Network) (c : Place) → is_formula g c ≡ false → g ≡ dropped g c
-none_dropped g c f = ap {B = Network} (λ (m : Nodes). record g { formulas = m }) (same_places _ _ (λ d. with d (cases_Bool (same_place d c)) ∙ sym (get_removed g.formulas c d)))
-  where
-    with : (d : Place) → (same_place d c ≡ true) ⊎ (same_place d c ≡ false) → get g.formulas d ≡ cond (same_place d c) None (get g.formulas d)
-    with d (inl t) = ap (get g.formulas) (same_place_is d c t) ∙ none_of (get g.formulas c) f ∙ ap (λ b. cond b None (get g.formulas d)) (sym t)
-    with d (inr n) = ap (λ b. cond b None (get g.formulas d)) (sym n)
+none_dropped g c f = ap {B = Network} (λ (m : Nodes). record g { formulas = m }) (none_removed g.formulas c f)
+
+-- where none waits, none is given up
+pub none_withdrawn : (g : Network) (c : Place) → is_some (get g.offers c) ≡ false → g ≡ withdrawn g c
+none_withdrawn g c f = ap {B = Network} (λ (m : Nodes). record g { offers = m }) (none_removed g.offers c f)
 
 -- what is kept of a cell is what it spreads to
 pub kept_is : (g : Network) (kept : Option Spread) (cell : Place) → IsKept g kept → is_of kept cell ≡ true → (c : Place) → (has same_place (list_of kept) c ≡ true) ↔ IsSpread g (cell ∷ []) c

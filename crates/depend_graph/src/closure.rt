@@ -126,6 +126,20 @@ fn within(alloc: Global, graph: &Graph, cells: &[Cell]) -> Result<Vec<Cell>, Mem
     Ok(search.left)
 }
 
+// Those of the cells that hold formulas.
+fn formulas_among(alloc: Global, graph: &Graph, cells: &[Cell]) -> Result<CellList, Memory>
+    ensures { IfOk result (λ l. (c : Place) → (has same_place l c ≡ true)
+        ↔ ((has same_place cells.now c ≡ true) × (is_formula graph.now c ≡ true))) }
+{
+    let mut list = CellList::new(alloc);
+    for cell in cells {
+        if graph.has_formula(*cell) {
+            list.push(*cell)?;
+        }
+    }
+    Ok(list)
+}
+
 // Those of the cells that hold formulas, the last one first.
 fn formulas_backward(alloc: Global, graph: &Graph, cells: &[Cell]) -> Result<CellList, Memory>
     ensures { IfOk result (λ l. (c : Place) → (has same_place l c ≡ true)
@@ -143,22 +157,26 @@ fn formulas_backward(alloc: Global, graph: &Graph, cells: &[Cell]) -> Result<Cel
     Ok(list)
 }
 
-// Whether no formula reads a cell.
-fn is_unread(alloc: Global, graph: &Graph, cell: Cell) -> Result<bool, Memory>
-    ensures { IfOk result (λ b. b ≡ true → (d : Place) → reads graph.now d cell ≡ false) }
+// Whether it is known that no formula reads one of the cells.
+fn are_unread(graph: &Graph, cells: &[Cell]) -> bool
+    ensures { result ≡ true → (c : Place) → has same_place cells.now c ≡ true →
+        (d : Place) → reads graph.now d c ≡ false }
 {
-    let mut readers = Vec::new(alloc);
-    graph.add_readers(cell, &mut readers)?;
-    Ok(readers.is_empty())
+    for cell in cells {
+        if !graph.is_unread(*cell) {
+            return false;
+        }
+    }
+    true
 }
 
-/// The formulas among the cells, and those that reach one of them, the last one that the search left first. One cell
-/// that no formula reads takes no search.
+/// The formulas among the cells, and those that reach one of them, the last one that the search left first. Cells that
+/// no formula reads take no search.
 pub fn closure(alloc: Global, graph: &Graph, cells: &[Cell]) -> Result<CellList, Memory>
     ensures { IfOk result (λ l. (c : Place) → (has same_place l c ≡ true) ↔ IsSpread graph.now cells.now c) }
 {
-    if cells.len() == 1 && is_unread(alloc, graph, cells[0])? {
-        return formulas_backward(alloc, graph, cells);
+    if are_unread(graph, cells) {
+        return formulas_among(alloc, graph, cells);
     }
     let left = within(alloc, graph, cells)?;
     let list = formulas_backward(alloc, graph, left.as_slice())?;

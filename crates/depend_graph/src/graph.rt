@@ -1,5 +1,5 @@
 // The graph of what formulas read.
-ghost use Rattle.std.specs.Prelude.{◌≡◌, ◌⊎◌, ◌↔◌, ◌∷◌, [], true, IfOk, OnOk, OnErr, option_copied};
+ghost use Rattle.std.specs.Prelude.{◌≡◌, ◌⊎◌, ◌↔◌, ◌∷◌, [], true, false, IfOk, OnOk, OnErr, option_copied};
 ghost use Rattle.std.specs.FinMap as map;
 ghost use Rattle.cell_maps.specs.Sets.{has};
 ghost use Rattle.grid_address.specs.Place.{same_place, Place};
@@ -12,7 +12,7 @@ use crate::banks::Banks;
 use crate::closure::closure;
 use crate::in_order::is_in_order;
 use crate::lists::{Lists, add_all};
-use crate::readers::add_readers;
+use crate::readers::{add_readers, is_unread};
 use crate::slots::{Part, Slot, drop_part, has_offer, node_of, put_offer, side, turn};
 use crate::spread::{Spread, are_same, is_of, list_of, spread_of};
 use cell_maps::CellMap;
@@ -114,6 +114,9 @@ impl Graph {
     pub fn withdraw(&mut self, cell: Cell)
         ensures { self.new ≡ withdrawn self.old cell }
     {
+        if !has_offer(&self.slots, cell) {
+            return;
+        }
         let is_odd = !side(&self.slots, cell);
         drop_part(&mut self.slots, cell, Part::Offer);
         self.banks.clear(is_odd, cell);
@@ -151,6 +154,13 @@ impl Graph {
     {
         add_readers(&self.slots, &self.lists, &self.banks, cell, found)?;
         Ok(())
+    }
+
+    /// Whether it is known that no formula reads a cell. It takes no memory.
+    pub fn is_unread(&self, cell: Cell) -> bool
+        ensures { result ≡ true → (d : Place) → reads self.now d cell ≡ false }
+    {
+        is_unread(&self.slots, &self.lists, &self.banks, cell)
     }
 
     /// The formulas among the cells, and those that reach one of them through what they read. They are meant to stand

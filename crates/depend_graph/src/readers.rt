@@ -1,12 +1,12 @@
 // The formulas that read a cell.
-ghost use Rattle.std.specs.Prelude.{◌≡◌, ◌⊎◌, ◌↔◌, true, OnOk, IfOk, ◌++◌, ◌∷◌, []};
+ghost use Rattle.std.specs.Prelude.{◌≡◌, ◌⊎◌, ◌↔◌, true, false, OnOk, IfOk, ◌++◌, ◌∷◌, []};
 ghost use Rattle.std.specs.FinMap as map;
 ghost use Rattle.cell_maps.specs.Sets.{has};
 ghost use Rattle.grid_address.specs.Place.{same_place, Place};
 ghost use Rattle.range_index.specs.Owners.{owners_of};
 ghost use Rattle.depend_graph.specs.inner.Lists.{list_at, AreInLists};
 ghost use Rattle.depend_graph.specs.Network.{holds, reads};
-ghost use Rattle.depend_graph.specs.inner.Readers.{network_of, IsReaderAmong};
+ghost use Rattle.depend_graph.specs.inner.Readers.{any_reads, network_of, IsReaderAmong};
 ghost use Rattle.depend_graph.specs.inner.Slots.{had, node_in, AreRegistered};
 
 use crate::banks::Banks;
@@ -95,4 +95,41 @@ pub fn add_readers(
     add_owners(slots, &banks.even, cell, found)?;
     add_owners(slots, &banks.odd, cell, found)?;
     Ok(())
+}
+
+// Whether one of the formulas reads the cell.
+fn any_reads(slots: &CellMap<Slot>, formulas: &[Cell], cell: Cell) -> bool
+    ensures { result ≡ any_reads slots.now cell formulas.now }
+{
+    for formula in formulas {
+        if reads(slots, *formula, cell) {
+            return true;
+        }
+    }
+    false
+}
+
+// Whether one of those that stand in the list of the cell reads it.
+fn any_listed(slots: &CellMap<Slot>, lists: &Lists, cell: Cell) -> bool
+    ensures { result ≡ any_reads slots.now cell (list_at lists.now cell) }
+{
+    match lists.get(cell) {
+        Some(list) => any_reads(slots, list.as_slice(), cell),
+        None => false,
+    }
+}
+
+/// Whether it is known that no formula reads the cell. It takes no memory, and stops at the first that does.
+pub fn is_unread(slots: &CellMap<Slot>, lists: &Lists, banks: &Banks, cell: Cell) -> bool
+    requires registered { AreRegistered slots.now banks.now.even banks.now.odd }
+    requires listed { AreInLists slots.now lists.now }
+    ensures { result ≡ true → (d : Place) → reads (network_of slots.now) d cell ≡ false }
+{
+    if any_listed(slots, lists, cell) {
+        return false;
+    }
+    if banks.even.is_unowned(cell) {
+        return banks.odd.is_unowned(cell);
+    }
+    false
 }

@@ -2,18 +2,16 @@ use Rattle.std.proofs.Common.{ap, sym, ◌∙◌}
 use Rattle.std.proofs.lemmas.Result.{IfOk-weaker}
 use Rattle.cell_maps.specs.Sets.{has}
 use Rattle.grid_address.specs.Place.{same_place}
-use Rattle.depend_graph.proofs.Growth.{spread, spread_alone}
-use Rattle.depend_graph.proofs.Marked.{one_is}
+use Rattle.depend_graph.proofs.Growth.{spread, spread_unread}
 use Rattle.depend_graph.proofs.closure.closure.Goals as goal
 
-pub returns-then-branch : goal.returns-then-branch
-returns-then-branch c =
-    IfOk-weaker c.formulas_backward.result _ _ (λ l h x.
-    let one = one_is c.args.cells.now c.index-cells-0.result c.if-cells-eq1.true c.index-cells-0.is in
-    let alone = spread_alone c.args.graph.now c.args.cells.now c.index-cells-0.result one (c.in_ok-is_unread.ensures c.if-branch.true) x in (
+pub returns-then-are_unread : goal.returns-then-are_unread
+returns-then-are_unread c =
+    IfOk-weaker c.formulas_among.result _ _ (λ l h x.
+    let alone = spread_unread c.args.graph.now c.args.cells.now (c.are_unread.ensures c.if-are_unread.true) x in (
       (λ m. alone.0 ((h x).0 m)),
       (λ s. (h x).1 (alone.1 s)),
-    )) c.formulas_backward.ensures
+    )) c.formulas_among.ensures
 
 pub returns : goal.returns
 returns c = λ x.

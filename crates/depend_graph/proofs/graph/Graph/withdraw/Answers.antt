@@ -1,13 +1,13 @@
-use Rattle.std.specs.Prelude.{not}
+use Rattle.std.specs.Prelude.{is_some, not}
 use Rattle.std.proofs.Common.{ap, subst, sym, ◌∙◌}
-use Rattle.depend_graph.proofs.Kept.{unoffered_registered}
+use Rattle.depend_graph.proofs.Kept.{get_picked, unoffered_registered}
 use Rattle.depend_graph.proofs.Listing.{unoffered_listed}
-use Rattle.depend_graph.proofs.Spreads.{kept_along}
+use Rattle.depend_graph.proofs.Spreads.{kept_along, none_withdrawn}
 use Rattle.depend_graph.proofs.Viewed.{viewed_withdrawn}
 use Rattle.depend_graph.specs.inner.Lists.{AreInLists}
 use Rattle.depend_graph.specs.Network.{withdrawn, Network}
 use Rattle.depend_graph.specs.inner.Readers.{network_of}
-use Rattle.depend_graph.specs.inner.Slots.{AreRegistered, Slots}
+use Rattle.depend_graph.specs.inner.Slots.{offer_in, AreRegistered, Slots}
 use Rattle.depend_graph.proofs.graph.Graph.withdraw.Goals as goal
 
 pub invariant_of-self : goal.invariant_of-self
@@ -23,3 +23,9 @@ invariant_of-self c = (
 
 pub returns : goal.returns
 returns c = ap network_of c.drop_part.ensures ∙ viewed_withdrawn c.self.inside.slots c.args.cell ∙ ap (λ g. withdrawn g c.args.cell) c.self.view_is
+
+pub returns-then-not-has_offer : goal.returns-then-not-has_offer
+returns-then-not-has_offer c =
+    sym c.self.view_is
+    ∙ none_withdrawn (network_of c.self.inside.slots) c.args.cell (ap is_some (get_picked offer_in c.self.inside.slots c.args.cell) ∙ (sym c.has_offer.ensures ∙ c.if-not-has_offer.true))
+    ∙ ap (λ g. withdrawn g c.args.cell) c.self.view_is
