@@ -10,8 +10,9 @@ use Rattle.depend_graph.specs.InOrder.{is_volatile, is_volatile_at, GoesInOrder,
 use Rattle.depend_graph.specs.Network.{dropped, holds, is_formula, reads, withdrawn, IsSpread, Network, ReachesCell}
 use Rattle.depend_graph.specs.Network.ReachesCell.{direct, through}
 use Rattle.depend_graph.specs.Network.{Nodes}
-use Rattle.depend_graph.specs.inner.Spreads.{is_of, list_of, IsKept, IsSpreadOf}
+use Rattle.depend_graph.specs.inner.Spreads.{is_of, list_of, AreKept, IsKept, IsSpreadOf}
 use Rattle.depend_graph.specs.declared.node.Node.{Node}
+use Rattle.depend_graph.specs.declared.spread.LastSpreads.{LastSpreads}
 use Rattle.depend_graph.specs.declared.spread.Spread.{Spread}
 
 -- which cells a formula reaches hangs on the formulas alone
@@ -46,14 +47,18 @@ none_kept g s is = absurd (no_some is)
     no_some h = absurd cc
 
 -- what is kept stays so while the formulas do
-pub kept_along : (a b : Network) → a.formulas ≡ b.formulas → (kept : Option Spread) → IsKept a kept → IsKept b kept
-kept_along a b e kept h s is = (let was : IsSpreadOf a s = h s is in record {
+one_along : (a b : Network) → a.formulas ≡ b.formulas → (kept : Option Spread) → IsKept a kept → IsKept b kept
+one_along a b e kept h s is = (let was : IsSpreadOf a s = h s is in record {
   members = λ c. (
     (λ m. spread_along a b e (s.cell ∷ []) c ((was.members c).0 m)),
     (λ m. (was.members c).1 (spread_along b a (sym e) (s.cell ∷ []) c m)),
   );
   order = λ o. order_along a b e s.list (was.order o);
 })
+
+-- so do both
+pub kept_along : (a b : Network) → a.formulas ≡ b.formulas → (kept : LastSpreads) → AreKept a kept → AreKept b kept
+kept_along a b e kept h = (one_along a b e kept.last h.0, one_along a b e kept.before h.1)
 
 none_of : (o : Option Node) → is_some o ≡ false → o ≡ None
 none_of None h = refl

@@ -14,7 +14,7 @@ use crate::in_order::is_in_order;
 use crate::lists::{Lists, add_all};
 use crate::readers::{add_readers, is_unread};
 use crate::slots::{Part, Slot, drop_part, has_offer, node_of, put_offer, side, turn};
-use crate::spread::{Spread, are_same, is_of, list_of, spread_of};
+use crate::spread::{LastSpreads, is_of, list_of, order_kept, spread_of};
 use cell_maps::CellMap;
 use grid_address::{Cell, CellList, SpanList};
 use lics_text::Memory;
@@ -28,7 +28,7 @@ pub struct Graph {
     slots: CellMap<Slot>,
     lists: Lists,
     banks: Banks,
-    spread: Option<Spread>,
+    spread: LastSpreads,
     alloc: Global,
 }
 
@@ -39,7 +39,7 @@ impl Model for Graph {
     ghost use Rattle.depend_graph.specs.Network.{Network};
     ghost use Rattle.depend_graph.specs.inner.Readers.{network_of};
     ghost use Rattle.depend_graph.specs.inner.Slots.{node_in, offer_in, picked, AreRegistered};
-    ghost use Rattle.depend_graph.specs.inner.Spreads.{IsKept};
+    ghost use Rattle.depend_graph.specs.inner.Spreads.{AreKept};
 
     ghost Value = { Network };
 
@@ -48,7 +48,7 @@ impl Model for Graph {
     ghost view = { λ g. record { formulas = picked node_in g.slots; offers = picked offer_in g.slots } };
 
     ghost invariant = { λ g. AreRegistered g.slots g.banks.even g.banks.odd × (AreInLists g.slots g.lists
-        × IsKept (network_of g.slots) g.spread) };
+        × AreKept (network_of g.slots) g.spread) };
 }
 
 impl Graph {
@@ -61,7 +61,7 @@ impl Graph {
             slots: CellMap::new(alloc),
             lists: CellMap::new(alloc),
             banks: Banks::new(alloc),
-            spread: None,
+            spread: LastSpreads::none(),
             alloc,
         }
     }
@@ -89,7 +89,7 @@ impl Graph {
         ensures ok { OnOk result (self.new ≡ offered self.old cell node) }
         ensures err { OnErr result (self.new ≡ withdrawn self.old cell) }
     {
-        self.spread = None;
+        self.spread = LastSpreads::none();
         drop_part(&mut self.slots, cell, Part::Offer);
         add_all(&mut self.lists, self.alloc, node.reads.as_slice(), cell)?;
         let is_odd = !side(&self.slots, cell);
@@ -103,7 +103,7 @@ impl Graph {
         ensures { self.new ≡ accepted self.old cell }
     {
         if has_offer(&self.slots, cell) {
-            self.spread = None;
+            self.spread = LastSpreads::none();
             let is_odd = side(&self.slots, cell);
             turn(&mut self.slots, cell);
             self.banks.clear(is_odd, cell);
@@ -129,7 +129,7 @@ impl Graph {
         if !self.has_formula(cell) {
             return;
         }
-        self.spread = None;
+        self.spread = LastSpreads::none();
         let is_odd = side(&self.slots, cell);
         drop_part(&mut self.slots, cell, Part::Formula);
         self.banks.clear(is_odd, cell);
@@ -172,19 +172,23 @@ impl Graph {
         Ok(list)
     }
 
-    /// The formulas among a cell and those that reach it, as `closure` tells them. They are kept for the next time
-    /// while no formula changes, and so is whether they stand in order.
+    /// The formulas among a cell and those that reach it, as `closure` tells them. Those of the last two cells are kept
+    /// for the next time while no formula changes, and so is whether they stand in order.
     pub fn spread_of(&mut self, cell: Cell) -> Result<CellList, Memory>
         ensures same { self.new ≡ self.old }
         ensures list { IfOk result (λ l. (c : Place) → (has same_place l c ≡ true) ↔ IsSpread self.old (cell ∷ []) c) }
     {
-        if is_of(&self.spread, cell) {
-            let list = list_of(self.alloc, &self.spread)?;
+        if is_of(&self.spread.last, cell) {
+            let list = list_of(self.alloc, &self.spread.last)?;
+            return Ok(list);
+        }
+        if is_of(&self.spread.before, cell) {
+            let list = list_of(self.alloc, &self.spread.before)?;
             return Ok(list);
         }
         let spread = spread_of(self.alloc, self, cell)?;
         let list = spread.list.copy(self.alloc)?;
-        self.spread = Some(spread);
+        self.spread.keep(spread);
         Ok(list)
     }
 
@@ -193,10 +197,11 @@ impl Graph {
     pub fn is_in_order(&self, cells: &[Cell]) -> Result<bool, Memory>
         ensures { IfOk result (λ b. b ≡ true → GoesInOrder self.now cells.now) }
     {
-        if let Some(spread) = &self.spread {
-            if are_same(spread.list.as_slice(), cells) {
-                return Ok(spread.is_in_order);
-            }
+        if let Some(last) = order_kept(&self.spread.last, cells) {
+            return Ok(last);
+        }
+        if let Some(before) = order_kept(&self.spread.before, cells) {
+            return Ok(before);
         }
         let is = is_in_order(self.alloc, self, cells)?;
         Ok(is)

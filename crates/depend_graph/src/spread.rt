@@ -1,6 +1,8 @@
-// What an edit of a cell makes dirty, kept for the next edit of the same cell.
-ghost use Rattle.std.specs.Prelude.{◌≡◌, IfOk, true};
-ghost use Rattle.depend_graph.specs.inner.Spreads.{is_of, list_of, IsSpreadOf};
+// What edits of cells make dirty, kept for the next edits of the same cells.
+ghost use Rattle.std.specs.Prelude.{◌≡◌, IfOk, IfSome, Some, true};
+ghost use Rattle.depend_graph.specs.InOrder.{GoesInOrder};
+ghost use Rattle.depend_graph.specs.Network.{Network};
+ghost use Rattle.depend_graph.specs.inner.Spreads.{is_of, list_of, AreKept, IsKept, IsSpreadOf};
 
 use crate::Graph;
 use crate::closure::closure;
@@ -16,6 +18,34 @@ pub struct Spread {
     pub cell: Cell,
     pub list: CellList,
     pub is_in_order: bool,
+}
+
+/// What the last two cells spread to, the later one first, so that two cells may be edited by turns.
+#[derive(Drop)]
+pub struct LastSpreads {
+    pub last: Option<Spread>,
+    pub before: Option<Spread>,
+}
+
+impl LastSpreads {
+    /// Nothing is kept.
+    pub fn none() -> LastSpreads
+        ensures { (g : Network) → AreKept g result }
+    {
+        LastSpreads {
+            last: None,
+            before: None,
+        }
+    }
+
+    /// Keeps one more, in place of the earlier one.
+    pub fn keep(&mut self, spread: Spread)
+        ensures last { self.new.last ≡ Some spread }
+        ensures before { self.new.before ≡ self.old.last }
+    {
+        self.before = self.last.take();
+        self.last = Some(spread);
+    }
 }
 
 /// Finds what a cell spreads to.
@@ -53,8 +83,20 @@ pub fn list_of(alloc: Global, kept: &Option<Spread>) -> Result<CellList, Memory>
     }
 }
 
-/// Whether two lists are the same.
-pub fn are_same(cells: &[Cell], others: &[Cell]) -> bool
+/// Whether the list that is kept stands in order, where it is the same as the cells.
+pub fn order_kept(kept: &Option<Spread>, cells: &[Cell]) -> Option<bool>
+    ensures { (g : Network) → IsKept g kept.now → IfSome result (λ b. b ≡ true → GoesInOrder g cells.now) }
+{
+    if let Some(spread) = kept {
+        if are_same(spread.list.as_slice(), cells) {
+            return Some(spread.is_in_order);
+        }
+    }
+    None
+}
+
+// Whether two lists are the same.
+fn are_same(cells: &[Cell], others: &[Cell]) -> bool
     ensures { result ≡ true → cells.now ≡ others.now }
 {
     if cells.len() != others.len() {

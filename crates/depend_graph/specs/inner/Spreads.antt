@@ -5,6 +5,7 @@ use Rattle.cell_maps.specs.Sets.{has}
 use Rattle.grid_address.specs.Place.{same_place, Place}
 use Rattle.depend_graph.specs.InOrder.{GoesInOrder}
 use Rattle.depend_graph.specs.Network.{IsSpread, Network}
+use Rattle.depend_graph.specs.declared.spread.LastSpreads.{LastSpreads}
 use Rattle.depend_graph.specs.declared.spread.Spread.{Spread}
 
 -- the list has the formulas among the cell and those that reach it, and stands in order where that is told
@@ -15,6 +16,10 @@ pub record IsSpreadOf (g : Network) (s : Spread) : Type 0 where
 -- so is what is kept, where something is
 abbrev pub IsKept : Network → Option Spread → Type 0
 IsKept g kept = ForSome kept (λ s. IsSpreadOf g s)
+
+-- so are both that are kept
+abbrev pub AreKept : Network → LastSpreads → Type 0
+AreKept g kept = IsKept g kept.last × IsKept g kept.before
 
 -- whether what is kept is of a cell
 abbrev pub is_of : Option Spread → Place → Bool

@@ -2,7 +2,6 @@ use Rattle.std.specs.Prelude.{not}
 use Rattle.std.proofs.Common.{ap, subst, sym, ◌∙◌}
 use Rattle.depend_graph.proofs.Listing.{listed_on, offering_listed}
 use Rattle.depend_graph.proofs.Offers.{on_err, refused, taken_up, unoffered}
-use Rattle.depend_graph.proofs.Spreads.{none_kept}
 use Rattle.depend_graph.proofs.Viewed.{offered_again, viewed_offered, viewed_withdrawn}
 use Rattle.depend_graph.specs.inner.Lists.{AreInLists, IsListed}
 use Rattle.depend_graph.specs.Network.{offered, withdrawn, Network}
@@ -13,7 +12,7 @@ use Rattle.depend_graph.proofs.graph.Graph.offer.Goals as goal
 pub invariant_of-self : goal.invariant_of-self
 invariant_of-self c = (
   unoffered c.self.inside.slots c.drop_part.new.slots c.self.inside.banks.even c.self.inside.banks.odd c.args.cell c.drop_part.ensures c.self.invariant.0,
-  (listed_on c.self.inside.slots c.drop_part.new.slots c.self.inside.lists c.add_all.new.lists c.args.cell c.drop_part.ensures c.self.invariant.1.0 c.add_all.ensures.kept, none_kept _),
+  (listed_on c.self.inside.slots c.drop_part.new.slots c.self.inside.lists c.add_all.new.lists c.args.cell c.drop_part.ensures c.self.invariant.1.0 c.add_all.ensures.kept, c.none.ensures _),
 )
 
 pub returns-in_err-add_all-clause-err : goal.returns-in_err-add_all-clause-err
@@ -23,7 +22,7 @@ pub invariant_of-self-in_err-fill : goal.invariant_of-self-in_err-fill
 invariant_of-self-in_err-fill c = (
   refused c.self.inside.slots c.drop_part.new.slots c.self.inside.banks.even c.self.inside.banks.odd c.args.cell c.drop_part.ensures c.self.invariant.0
       c.fill.new.self.even c.fill.new.self.odd (not c.side-is_odd.result) c.fill.ensures.others (ap not c.side-is_odd.ensures),
-  (listed_on c.self.inside.slots c.drop_part.new.slots c.self.inside.lists c.add_all.new.lists c.args.cell c.drop_part.ensures c.self.invariant.1.0 c.add_all.ensures.kept, none_kept _),
+  (listed_on c.self.inside.slots c.drop_part.new.slots c.self.inside.lists c.add_all.new.lists c.args.cell c.drop_part.ensures c.self.invariant.1.0 c.add_all.ensures.kept, c.none.ensures _),
 )
 
 pub returns-in_err-fill-clause-err : goal.returns-in_err-fill-clause-err
@@ -37,7 +36,7 @@ invariant_of-self-in_err-put_offer c = (
   (
     subst (λ (m : Slots). AreInLists m c.add_all.new.lists) (sym c.in_err-put_offer.ensures.err)
         (listed_on c.self.inside.slots c.drop_part.new.slots c.self.inside.lists c.add_all.new.lists c.args.cell c.drop_part.ensures c.self.invariant.1.0 c.add_all.ensures.kept),
-    none_kept _,
+    c.none.ensures _,
   ),
 )
 
@@ -54,7 +53,7 @@ invariant_of-self-2 c = (
         (offering_listed c.drop_part.new.slots c.add_all.new.lists
         (listed_on c.self.inside.slots c.drop_part.new.slots c.self.inside.lists c.add_all.new.lists c.args.cell c.drop_part.ensures c.self.invariant.1.0 c.add_all.ensures.kept)
         c.args.cell c.args.node (subst (IsListed c.add_all.new.lists c.args.cell) c.as_slice.ensures c.in_ok-add_all.ensures.listed)),
-    none_kept _,
+    c.none.ensures _,
   ),
 )
 
