@@ -1,5 +1,6 @@
 pub mod Completing
 pub mod Feeding
+pub mod Fronts
 pub mod Scanning
 pub mod Tables
 pub mod Words

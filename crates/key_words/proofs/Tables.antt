@@ -134,11 +134,11 @@ pub letter_goes_on : (letters more : List ℕ) (b : ℕ) (m : Named) → looked_
     → longer letters b ≡ Some (letters ++ b ∷ [])
 letter_goes_on letters more b m found = longer_found names letters more b m found
 
--- capitals are the same folded
 capital_folded : (b : ℕ) → is_ascii_uppercase b ≡ true → to_ascii_uppercase b ≡ b
 capital_folded b is = grind (arith, nat_tests, is)
 
-capitals_folded : (letters : List ℕ) → list_all is_ascii_uppercase letters ≡ true
+-- capitals are the same folded
+pub capitals_folded : (letters : List ℕ) → list_all is_ascii_uppercase letters ≡ true
     → map to_ascii_uppercase letters ≡ letters
 capitals_folded [] all = refl
 capitals_folded (b ∷ bs) all =

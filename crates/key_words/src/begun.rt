@@ -8,7 +8,7 @@ ghost use Rattle.key_words.specs.Notation as notation;
 ghost use Rattle.key_words.specs.declared.begun.Begun.TheVariants as Begun;
 ghost use Rattle.key_words.specs.declared.begun.Next.TheVariants as Next;
 
-use crate::name::{Letters, Named, longer, look_up};
+use crate::name::{Letters, Named, first_letter};
 use crate::{Key, Letter};
 use lics_text::TextByte;
 
@@ -73,14 +73,21 @@ fn between_words(byte: u8) -> Next
     }
 }
 
-// One more letter of a name, where one begins so.
-fn lettered(letters: &[u8], byte: u8) -> Next
-    ensures { result ≡ spec.lettered (longer letters.now (to_ascii_uppercase byte)) }
+// The letters of a name, where one begins so.
+fn lettered(letters: Option<Letters>) -> Next
+    ensures { result ≡ spec.lettered letters }
 {
-    match longer(letters, byte.to_ascii_uppercase()) {
+    match letters {
         Some(letters) => Next::Going(Begun::Letters(letters)),
         None => Next::Refused,
     }
+}
+
+// One more letter of a name, where one begins so.
+fn lettered_on(letters: &Letters, byte: u8) -> Next
+    ensures { result ≡ spec.lettered (longer letters.now (to_ascii_uppercase byte)) }
+{
+    lettered(letters.longer(byte.to_ascii_uppercase()))
 }
 
 // A byte behind an opening brace.
@@ -89,7 +96,7 @@ fn behind_brace(byte: u8) -> Next
 {
     match TextByte::of(byte) {
         Some(mark) if is_mark(byte) => Next::Going(Begun::Mark(mark)),
-        _ => lettered(b"", byte),
+        _ => lettered(first_letter(byte.to_ascii_uppercase())),
     }
 }
 
@@ -122,9 +129,9 @@ fn behind_letters(letters: &Letters, byte: u8) -> Next
     ensures { result ≡ spec.after (Begun.Letters letters.now) byte }
 {
     match byte {
-        b'}' => closed(look_up(letters.bytes())),
-        b' ' => spaced(look_up(letters.bytes())),
-        _ => lettered(letters.bytes(), byte),
+        b'}' => closed(letters.meaning()),
+        b' ' => spaced(letters.meaning()),
+        _ => lettered_on(letters, byte),
     }
 }
 

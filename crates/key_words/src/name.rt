@@ -1,7 +1,10 @@
 // The names that stand in braces.
 ghost use Rattle.std.specs.Char.{to_ascii_uppercase};
-ghost use Rattle.std.specs.Prelude.{◌≡◌, map};
+ghost use Rattle.std.specs.List.{AllByRecursion};
+ghost use Rattle.std.specs.Prelude.{◌≡◌, ◌<◌, [], Some, length, map, take};
 ghost use Rattle.key_words.specs.Names as spec;
+ghost use Rattle.key_words.specs.Names.{looked_up};
+ghost use Rattle.key_words.specs.inner.Listed.{IsListed};
 
 use crate::Key;
 use lics_text::name_in;
@@ -18,26 +21,57 @@ pub enum Named {
     Alt,
 }
 
-/// Letters with which a name begins.
+/// Letters with which a name begins, kept as the front of such a name with what that stands for.
 #[derive(Drop)]
 pub struct Letters {
-    bytes: &'static [u8],
+    name: &'static [u8],
+    named: Named,
+    len: usize,
 }
 
 impl Model for Letters {
-    ghost use Rattle.std.specs.Prelude.{ℕ, List};
+    ghost use Rattle.std.specs.Prelude.{ℕ, ◌≡◌, ◌≤◌, List, Some, length, take};
+    ghost use Rattle.key_words.specs.Names.{looked_up};
 
     ghost Value = { List ℕ };
 
-    ghost view = { λ l. l.bytes.now };
+    ghost view = { λ l. take l.len l.name.now };
+
+    ghost invariant = { λ l. (l.len ≤ length l.name.now) × (looked_up l.name.now ≡ Some l.named) };
 }
 
 impl Letters {
     // The letters, in capitals.
-    pub fn bytes(&self) -> &[u8]
+    fn bytes(&self) -> &[u8]
         ensures { result.now ≡ self.now }
     {
-        self.bytes
+        &self.name[..self.len]
+    }
+
+    /// What the letters stand for.
+    pub fn meaning(&self) -> Option<Named>
+        ensures { result ≡ spec.looked_up (map to_ascii_uppercase self.now) }
+    {
+        if self.len == self.name.len() {
+            Some(self.named)
+        } else {
+            look_up(self.bytes())
+        }
+    }
+
+    /// These letters and one more, where a name begins with them; that is a capital.
+    pub fn longer(&self, letter: u8) -> Option<Letters>
+        ensures { result ≡ spec.longer self.now letter }
+    {
+        if self.len < self.name.len() && self.name[self.len] == letter {
+            Some(Letters {
+                name: self.name,
+                named: self.named,
+                len: self.len + 1,
+            })
+        } else {
+            longer(self.bytes(), letter)
+        }
     }
 }
 
@@ -86,6 +120,7 @@ pub fn look_up(name: &[u8]) -> Option<Named>
 
 // These letters and one more, where a name of the table begins with them.
 fn longer_in(mut table: &[(&'static [u8], Named)], letters: &[u8], letter: u8) -> Option<Letters>
+    requires { AllByRecursion IsListed (map (λ e. (e.0.now, e.1)) table.now) }
     ensures { result ≡ spec.longer_in (map (λ e. (e.0.now, e.1)) table.entry.now) letters.now letter }
 {
     while let [entry, rest @ ..] = table {
@@ -93,7 +128,9 @@ fn longer_in(mut table: &[(&'static [u8], Named)], letters: &[u8], letter: u8) -
         let len = letters.len();
         if len < name.len() && (name.starts_with(letters) && name[len] == letter) {
             return Some(Letters {
-                bytes: &name[..len + 1],
+                name,
+                named: entry.1,
+                len: len + 1,
             });
         }
         table = rest;
@@ -101,9 +138,46 @@ fn longer_in(mut table: &[(&'static [u8], Named)], letters: &[u8], letter: u8) -
     None
 }
 
-/// These letters and one more, where a name begins with them; the letters are capitals.
-pub fn longer(letters: &[u8], letter: u8) -> Option<Letters>
+// These letters and one more, where a name begins with them; the letters are capitals.
+fn longer(letters: &[u8], letter: u8) -> Option<Letters>
     ensures { result ≡ spec.longer letters.now letter }
 {
     longer_in(&NAMES, letters, letter)
+}
+
+// The first letter of a name.
+fn first_of(name: &'static [u8], named: Named) -> Option<Letters>
+    requires some { 0 < length name.now }
+    requires listed { looked_up name.now ≡ Some named }
+    ensures { result ≡ Some (take 1 name.now) }
+{
+    Some(Letters {
+        name,
+        named,
+        len: 1,
+    })
+}
+
+/// A letter, which is a capital, where a name begins with it.
+pub fn first_letter(letter: u8) -> Option<Letters>
+    ensures { result ≡ spec.longer [] letter }
+{
+    match letter {
+        b'A' => first_of(b"ABS", Named::Repeated(Key::Abs)),
+        b'B' => first_of(b"BS", Named::Repeated(Key::Bs)),
+        b'C' => first_of(b"CALC", Named::Repeated(Key::Calc)),
+        b'D' => first_of(b"DOWN", Named::Repeated(Key::Down)),
+        b'E' => first_of(b"ESC", Named::Repeated(Key::Esc)),
+        b'G' => first_of(b"GOTO", Named::Repeated(Key::Goto)),
+        b'H' => first_of(b"HOME", Named::Repeated(Key::Home)),
+        b'L' => first_of(b"LEFT", Named::Repeated(Key::Left)),
+        b'N' => first_of(b"NAME", Named::Repeated(Key::Name)),
+        b'P' => first_of(b"PGUP", Named::Repeated(Key::PgUp)),
+        b'Q' => first_of(b"QUERY", Named::Repeated(Key::Query)),
+        b'R' => first_of(b"RIGHT", Named::Repeated(Key::Right)),
+        b'T' => first_of(b"TABLE", Named::Repeated(Key::Table)),
+        b'U' => first_of(b"UP", Named::Repeated(Key::Up)),
+        b'W' => first_of(b"WINDOW", Named::Repeated(Key::Window)),
+        _ => longer(b"", letter),
+    }
 }
