@@ -1,0 +1,122 @@
+// The states that cells had before they were written, each cell once.
+ghost use Rattle.std.specs.Prelude.{◌≡◌, ◌++◌, ◌∷◌, [], true, false, OnErr, OnOk};
+ghost use Rattle.std.specs.Bool.{Decides};
+ghost use Rattle.grid_address.specs.Place.{same_place, Place};
+ghost use Rattle.cell_maps.specs.Sets.{has};
+ghost use Rattle.edit_log.specs.Changes.{all_changed, is_noted, AreOnce};
+
+use crate::Change;
+use cell_maps::CellSet;
+use grid_address::Cell;
+use lics_text::Memory;
+use sheet_store::Store;
+use std::alloc::Global;
+use std::marker::Model;
+use std::mem::replace;
+
+/// The states that cells had before they were written: each cell is noted once, before it is first written.
+#[derive(Drop)]
+pub struct EditLog {
+    changes: Vec<Change>,
+    // The cells that are noted.
+    cells: CellSet,
+}
+
+impl Model for EditLog {
+    ghost use Rattle.formula_tree.specs.contracts.formula.Formula as formula;
+    ghost use Rattle.std.specs.Coded.{codes};
+    ghost use Rattle.std.specs.Prelude.{◌≡◌, List, Option};
+    ghost use Rattle.grid_address.specs.Place.{Place};
+    ghost use Rattle.sheet_store.specs.State.{CellState};
+    ghost use Rattle.edit_log.specs.Changes.{cells_of};
+
+    ghost Value = { List (Place × Option CellState) };
+
+    ghost coded = { Prim.hlevel (codes, formula.the_row.coded) };
+
+    ghost view = { λ l. l.changes.items };
+
+    ghost invariant = { λ l. l.cells.keys ≡ cells_of l.changes.items };
+}
+
+impl EditLog {
+    /// Nothing is noted.
+    pub fn new(alloc: Global) -> EditLog
+        ensures { result ≡ [] }
+    {
+        EditLog {
+            changes: Vec::new(alloc),
+            cells: CellSet::new(alloc),
+        }
+    }
+
+    /// Whether nothing is noted.
+    pub fn is_empty(&self) -> bool
+        ensures { Decides result (self.now ≡ []) }
+    {
+        self.changes.is_empty()
+    }
+
+    /// What is noted, the first cell first.
+    pub fn changes(&self) -> &[Change]
+        ensures changes { result.now ≡ self.now }
+        ensures once { AreOnce self.now }
+    {
+        // `len` is called for its clause that no cell is in the set twice.
+        let _ = self.cells.len();
+        self.changes.as_slice()
+    }
+
+    /// Notes the state that a cell has in a store, unless the cell is noted. What stood before in the store stays what
+    /// it is, also where there is no memory.
+    pub fn note(&mut self, store: &Store, cell: Cell) -> Result<(), Memory>
+        ensures before { all_changed store.now.cells self.new ≡ all_changed store.now.cells self.old }
+        ensures more { (c : Place) → is_noted self.old c ≡ true → is_noted self.new c ≡ true }
+        ensures noted { OnOk result (is_noted self.new cell ≡ true) }
+    {
+        if self.cells.contains(cell) {
+            return Ok(());
+        }
+        let change = Change::at(store, cell)?;
+        self.add(change)
+    }
+
+    // Adds what a cell had that isn't noted. Nothing is added where there is no memory.
+    fn add(&mut self, change: Change) -> Result<(), Memory>
+        requires { is_noted self.old change.0 ≡ false }
+        ensures ok { OnOk result (self.new ≡ self.old ++ change ∷ []) }
+        ensures err { OnErr result (self.new ≡ self.old) }
+    {
+        let count = self.cells.len();
+        self.cells.insert(change.cell())?;
+        match self.changes.push(change) {
+            Ok(()) => Ok(()),
+            Err(_) => {
+                self.cells.truncate(count);
+                Err(Memory)
+            }
+        }
+    }
+
+    /// Notes the states that cells have in a store, but for those that are noted. What stood before in the store stays
+    /// what it is, also where there is no memory.
+    pub fn note_all(&mut self, store: &Store, cells: &[Cell]) -> Result<(), Memory>
+        ensures before { all_changed store.now.cells self.new ≡ all_changed store.now.cells self.old }
+        ensures noted { OnOk result ((c : Place) → has same_place cells.now c ≡ true → is_noted self.new c ≡ true) }
+    {
+        for cell in cells {
+            self.note(store, *cell)?;
+        }
+        Ok(())
+    }
+
+    /// Takes out all that is noted.
+    pub fn take(&mut self) -> Vec<Change>
+        ensures changes { result.items ≡ self.old }
+        ensures none { self.new ≡ [] }
+    {
+        self.cells.truncate(0);
+        let alloc = *self.changes.allocator();
+        replace(&mut self.changes, Vec::new(alloc))
+    }
+}
