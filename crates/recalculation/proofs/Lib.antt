@@ -17,3 +17,4 @@ pub mod Rest
 pub mod RowOrder
 pub mod Valued
 pub mod Ordered
+pub mod Outside

@@ -69,6 +69,10 @@ pub record SameContents (old new : Grid) : Type 0 where
   pub widths : new.widths ≡ old.widths
   pub hidden : new.hidden ≡ old.hidden
 
+-- the cells that aren't among these have what they had
+abbrev pub SameOutside : (Place → Bool) → Grid → Grid → Type 0
+SameOutside among old new = (c : Place) → among c ≡ false → map.get new.cells c ≡ map.get old.cells c
+
 -- no formula is volatile, and none reaches itself
 pub record IsPlain (g : Grid) : Type 0 where
   pub steady : (c : Place) (t : Tree) → formula_at g c ≡ Some t → is_volatile t ≡ false

@@ -4,7 +4,7 @@ ghost use Rattle.grid_address.specs.Place.{same_place, Place};
 ghost use Rattle.cell_maps.specs.Sets.{has};
 ghost use Rattle.formula_eval.specs.inner.Kept.{IsKept};
 ghost use Rattle.recalculation.specs.Context.{context_of, value_at};
-ghost use Rattle.recalculation.specs.Passes.{evaluated, pass, passes, raised_by, IsSound, SameContents};
+ghost use Rattle.recalculation.specs.Passes.{evaluated, pass, passes, raised_by, IsSound, SameContents, SameOutside};
 ghost use Rattle.recalculation.specs.Reading.{is_formula_at};
 
 use crate::View;
@@ -88,6 +88,7 @@ pub fn pass_over<E: Means>(
         IsSound E.meaning (context_of names.now settings.now scene.entry.now) store.old dirty
         → IsSound E.meaning (context_of names.now settings.now scene.entry.now) store.new dirty }
     ensures contents { SameContents store.old store.new }
+    ensures outside { SameOutside (has same_place cells.now) store.old store.new }
 {
     let mut kept = Kept::new();
     for cell in cells {
@@ -114,6 +115,7 @@ pub fn further<E: Means>(
         IsSound E.meaning (context_of names.now settings.now scene.entry.now) store.old dirty
         → IsSound E.meaning (context_of names.now settings.now scene.entry.now) store.new dirty }
     ensures contents { SameContents store.old store.new }
+    ensures outside { SameOutside (has same_place cells.now) store.old store.new }
 {
     for _turn in 0..times {
         pass_over(store, cells, names, settings, scene, tally)?;

@@ -11,7 +11,7 @@ ghost use Rattle.sheet_store.specs.declared.order.Order.TheVariants.{Natural};
 ghost use Rattle.recalculation.specs.Context.{context_of};
 ghost use Rattle.recalculation.specs.InOrder.{GoesInOrder};
 ghost use Rattle.recalculation.specs.Passes as whole;
-ghost use Rattle.recalculation.specs.Passes.{pass, passes, raised_by, IsDirtyAfter, IsPlain, IsRight, IsSound, IsWhatStays, SameContents};
+ghost use Rattle.recalculation.specs.Passes.{pass, passes, raised_by, IsDirtyAfter, IsPlain, IsRight, IsSound, IsWhatStays, SameContents, SameOutside};
 ghost use Rattle.recalculation.specs.Reading.{is_formula_at, natural_order, order_in, plain_order, pre, Matches, StaysDirty};
 
 use crate::columns::by_columns;
@@ -136,6 +136,7 @@ fn first_pass<E: Means>(
     ensures sound { IsSound E.meaning (context_of names.now settings.now scene.entry.now) store.new
         (has same_place dirty.now.keys) }
     ensures contents { SameContents store.old store.new }
+    ensures outside { SameOutside (has same_place dirty.now.keys) store.old store.new }
 {
     // `len` is called for its clause that no cell is in the set twice.
     let _len = dirty.len();
@@ -190,6 +191,7 @@ fn recalc_in_order<E: Means>(
     ensures sound { IsSound E.meaning (context_of names.now settings.now scene.entry.now)
         store.new (has same_place dirty.new.keys) }
     ensures contents { SameContents store.old store.new }
+    ensures outside { SameOutside (has same_place dirty.old.keys) store.old store.new }
     ensures err { OnErr result (dirty.new.keys ≡ dirty.old.keys) }
     ensures none { OnOk result (dirty.new.keys ≡ []) }
     ensures count { OnOk result (E.count tally.new ≡ raised_by (length dirty.old.keys) (E.count tally.old)) }
@@ -222,6 +224,7 @@ fn recalc_walked<E: Means>(
     ensures sound { IsSound E.meaning (context_of names.now settings.now scene.entry.now)
         store.new (has same_place dirty.new.keys) }
     ensures contents { SameContents store.old store.new }
+    ensures outside { SameOutside (has same_place dirty.old.keys) store.old store.new }
     ensures err { OnErr result (dirty.new.keys ≡ dirty.old.keys) }
     ensures count { OnOk result (E.count tally.new
         ≡ raised_by (length dirty.old.keys + (times - 1) * length dirty.new.keys) (E.count tally.old)) }
@@ -265,6 +268,7 @@ fn recalc_natural<E: Means>(
     ensures sound { IsSound E.meaning (context_of names.now settings.now scene.entry.now)
         store.new (has same_place dirty.new.keys) }
     ensures contents { SameContents store.old store.new }
+    ensures outside { SameOutside (has same_place dirty.old.keys) store.old store.new }
     ensures err { OnErr result (dirty.new.keys ≡ dirty.old.keys) }
     ensures count { OnOk result (E.count tally.new
         ≡ raised_by (length dirty.old.keys + (times - 1) * length dirty.new.keys) (E.count tally.old)) }
@@ -298,6 +302,7 @@ fn recalc_plain<E: Means>(
     ensures sound { IsSound E.meaning (context_of names.now settings.now scene.entry.now) store.new
         (has same_place dirty.now.keys) }
     ensures contents { SameContents store.old store.new }
+    ensures outside { SameOutside (has same_place dirty.now.keys) store.old store.new }
     ensures count { OnOk result (E.count tally.new ≡ raised_by (times * length dirty.now.keys) (E.count tally.old)) }
 {
     // `len` is called for its clause that no cell is in the set twice.
@@ -316,10 +321,11 @@ fn recalc_plain<E: Means>(
 }
 
 /// Evaluates the dirty formulas alone, and leaves the values and the circle that passes along all formulas leave, in
-/// the order of the settings. The tally rises by the number of dirty formulas, and for each further pass by that of the
-/// formulas which are dirty afterwards. In natural order these are the formulas that are volatile or reach themselves,
-/// and those that reach one of them; in another order they are those that were dirty before. Where there is no memory,
-/// contents, formats and the dirty formulas are as before, and what held of these still holds.
+/// the order of the settings; no other cell changes. The tally rises by the number of dirty formulas, and for each
+/// further pass by that of the formulas which are dirty afterwards. In natural order these are the formulas that are
+/// volatile or reach themselves, and those that reach one of them; in another order they are those that were dirty
+/// before. Where there is no memory, contents, formats and the dirty formulas are as before, and what held of these
+/// still holds.
 pub fn recalc<E: Means>(
     store: &mut Store,
     graph: &Graph,
@@ -343,6 +349,7 @@ pub fn recalc<E: Means>(
     ensures sound { IsSound E.meaning (context_of names.now settings.now scene.entry.now) store.new
         (has same_place dirty.new.keys) }
     ensures contents { SameContents store.old store.new }
+    ensures outside { SameOutside (has same_place dirty.old.keys) store.old store.new }
     ensures matches { Matches graph.now store.new }
     ensures err { OnErr result (dirty.new.keys ≡ dirty.old.keys) }
     ensures count { OnOk result

@@ -5,7 +5,7 @@ ghost use Rattle.grid_address.specs.Place.{same_place, Place};
 ghost use Rattle.cell_maps.specs.Sets.{has};
 ghost use Rattle.sheet_store.specs.Grid.{formulas_within};
 ghost use Rattle.recalculation.specs.Context.{context_of};
-ghost use Rattle.recalculation.specs.Passes.{pass, raised_by, IsSound, SameContents};
+ghost use Rattle.recalculation.specs.Passes.{pass, raised_by, IsSound, SameContents, SameOutside};
 ghost use Rattle.recalculation.specs.Spans.{span_order};
 
 use crate::columns::by_columns;
@@ -49,9 +49,9 @@ fn dirty_ordered(
 }
 
 /// Evaluates the dirty formulas of a span once, and leaves the values that one pass along all its formulas leaves, by
-/// row and then by column, or by column and then by row. The tally rises by the number of these dirty formulas, which
-/// stay dirty. Where there is no memory, contents and formats are as before, and what held of the dirty formulas still
-/// holds.
+/// row and then by column, or by column and then by row; no other cell changes. The tally rises by the number of these
+/// dirty formulas, which stay dirty. Where there is no memory, contents and formats are as before, and what held of the
+/// dirty formulas still holds.
 pub fn recalc_span<E: Means>(
     store: &mut Store,
     dirty: &CellSet,
@@ -69,6 +69,7 @@ pub fn recalc_span<E: Means>(
     ensures sound { let context = context_of names.now settings.now scene.entry.now in
         IsSound E.meaning context store.new (has same_place dirty.now.keys) }
     ensures contents { SameContents store.old store.new }
+    ensures outside { SameOutside (has same_place (formulas_within store.old span)) store.old store.new }
     ensures count { let within = filter (has same_place dirty.now.keys) (formulas_within store.old span) in
         OnOk result (E.count tally.new ≡ raised_by (length within) (E.count tally.old)) }
 {

@@ -2,10 +2,12 @@ use Rattle.std.specs.Prelude.{◌≡◌, ◌-◌, ◌+◌, ◌*◌, suc, true, O
 use Rattle.std.specs.Option.{is_some}
 use Rattle.std.proofs.Common.{sym, ◌∙◌, ap, arith, refl}
 use Rattle.sheet_store.specs.Grid.{Grid}
-use Rattle.grid_address.specs.Place.{Place}
+use Rattle.cell_maps.specs.Sets.{has}
+use Rattle.grid_address.specs.Place.{same_place, Place}
 use Rattle.formula_tree.specs.Tree.{Tree}
 use Rattle.recalculation.proofs.Contents.{same_itself, same_on}
 use Rattle.recalculation.proofs.Counts.{one_more_turn, raised_more}
+use Rattle.recalculation.proofs.Outside.{outside_both, outside_itself}
 use Rattle.recalculation.proofs.Rest.{formulas_all}
 use Rattle.recalculation.specs.Context.{context_of, Context}
 use Rattle.recalculation.specs.Passes.{passes, raised_by, Meaning}
@@ -23,6 +25,7 @@ loop-turn-init g c =
       formulas = λ _. refl;
       sound = λ d s. s;
       contents = same_itself c.args.store.now;
+      outside = outside_itself (has same_place c.args.cells.now) c.args.store.now;
       count = ap (λ k. raised_by k (g.E.Means.count c.args.tally.now)) none;
     }
 
@@ -41,6 +44,7 @@ loop-turn-preserved g c =
           ∙ c.loop-turn.invariant.formulas x;
       sound = λ d s. c.pass_over.ensures.sound d (c.loop-turn.invariant.sound d s);
       contents = same_on _ _ _ c.loop-turn.invariant.contents c.pass_over.ensures.contents;
+      outside = outside_both (has same_place c.args.cells.now) c.args.store.now c.loop-turn.store c.pass_over.new.store c.loop-turn.invariant.outside c.pass_over.ensures.outside;
       count = c.in_ok-pass_over.ensures.count ∙ ap (raised_by n) c.loop-turn.invariant.count ∙ raised_more (c.loop-turn._turn * n) n (g.E.Means.count c.args.tally.now)
           ∙ ap (λ k. raised_by k (g.E.Means.count c.args.tally.now)) (one_more_turn c.loop-turn._turn n);
     }

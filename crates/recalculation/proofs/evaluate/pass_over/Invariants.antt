@@ -1,8 +1,9 @@
 use Rattle.std.specs.Prelude.{◌≡◌, drop, Bool}
-use Rattle.grid_address.specs.Place.{Place}
+use Rattle.cell_maps.specs.Sets.{has}
+use Rattle.grid_address.specs.Place.{same_place, Place}
 use Rattle.formula_eval.specs.inner.Kept.{IsKept}
 use Rattle.recalculation.specs.Context.{context_of, value_at}
-use Rattle.recalculation.specs.Passes.{pass, raised_by, IsSound, SameContents}
+use Rattle.recalculation.specs.Passes.{pass, raised_by, IsSound, SameContents, SameOutside}
 use Rattle.recalculation.specs.Reading.{is_formula_at}
 use Rattle.recalculation.proofs.evaluate.pass_over.Given as goal
 
@@ -15,6 +16,7 @@ invariant-loop-cell g l =
       formulas : (c : Place) → is_formula_at l.store c ≡ is_formula_at l.fn.store c;
       sound : (dirty : Place → Bool) → IsSound mean ctx l.fn.store dirty → IsSound mean ctx l.store dirty;
       contents : SameContents l.fn.store l.store;
+      outside : SameOutside (has same_place l.cells) l.fn.store l.store;
       kept : IsKept l.kept (value_at l.store);
       count : g.E.Means.count l.tally ≡ raised_by l.cell-index (g.E.Means.count l.fn.tally);
     }

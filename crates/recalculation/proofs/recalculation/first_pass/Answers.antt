@@ -31,3 +31,9 @@ returns-clause-count g c =
     let n : length c.as_slice.result.now ≡ length c.args.dirty.now.keys =
     ap length c.as_slice.ensures.keys ∙ as_many c.in_ok-order.order.done.keys c.args.dirty.now.keys c.in_ok-order.ensures.unique c.len-len.ensures.unique c.in_ok-order.ensures.same in
     c.in_ok-pass_over.ensures.count ∙ ap (λ k. raised_by k (g.E.Means.count c.args.tally.now)) n
+
+pub returns-in_err-pass_over-clause-outside : goal.returns-in_err-pass_over-clause-outside
+returns-in_err-pass_over-clause-outside g c = λ q f. c.pass_over.ensures.outside q (ap (λ ks. has same_place ks q) c.as_slice.ensures.keys ∙ c.in_ok-order.ensures.same q ∙ f)
+
+pub returns-clause-outside : goal.returns-clause-outside
+returns-clause-outside g c = λ q f. c.pass_over.ensures.outside q (ap (λ ks. has same_place ks q) c.as_slice.ensures.keys ∙ c.in_ok-order.ensures.same q ∙ f)

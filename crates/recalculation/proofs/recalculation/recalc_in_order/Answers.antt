@@ -49,3 +49,9 @@ returns-clause-sound g c =
     let is : c.pass_over.new.store ≡ pass mean ctx c.args.dirty.now.keys c.args.store.now = c.in_ok-pass_over.ensures.values ∙ ap (λ (cs : List Place). pass mean ctx cs c.args.store.now) c.as_slice.ensures.keys in
     subst (λ (ks : List Place). IsSound mean ctx c.pass_over.new.store (has same_place ks)) (sym c.truncate.ensures)
     (subst (λ (h : Grid). IsSound mean ctx h (has same_place [])) (sym is) (sound_after mean ctx meaning c.args.store.now c.args.dirty.now.keys c.requires.sound c.requires.order))
+
+pub returns-in_err-pass_over-clause-outside : goal.returns-in_err-pass_over-clause-outside
+returns-in_err-pass_over-clause-outside g c = λ q f. c.pass_over.ensures.outside q (ap (λ ks. has same_place ks q) c.as_slice.ensures.keys ∙ f)
+
+pub returns-clause-outside : goal.returns-clause-outside
+returns-clause-outside g c = λ q f. c.pass_over.ensures.outside q (ap (λ ks. has same_place ks q) c.as_slice.ensures.keys ∙ f)

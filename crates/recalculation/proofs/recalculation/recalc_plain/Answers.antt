@@ -7,6 +7,7 @@ use Rattle.cell_maps.specs.Sets.{has}
 use Rattle.sheet_store.specs.Grid.{Grid}
 use Rattle.recalculation.proofs.Rest.{further}
 use Rattle.recalculation.proofs.Ends.{as_many_dirty}
+use Rattle.recalculation.proofs.Outside.{passed_out}
 use Rattle.recalculation.specs.Context.{context_of, Context}
 use Rattle.recalculation.specs.Passes.{passes, raised_by, Meaning}
 use Rattle.recalculation.specs.inner.Meanings.{IsMeaning}
@@ -33,3 +34,11 @@ returns-clause-count g c =
     let n : length c.as_slice.result.now ≡ length c.args.dirty.now.keys =
     ap length c.as_slice.ensures.value ∙ c.in_ok-cells.ensures.length ∙ as_many_dirty c.args.store.now c.args.dirty.now.keys c.len-len.ensures.unique c.requires.sound.only in
     c.in_ok-further.ensures.count ∙ ap (λ k. raised_by (c.args.times * k) (g.E.Means.count c.args.tally.now)) n
+
+pub returns-in_err-further-clause-outside : goal.returns-in_err-further-clause-outside
+returns-in_err-further-clause-outside g c = λ q f. c.further.ensures.outside q
+    (ap (λ ks. has same_place ks q) (c.as_slice.ensures.value ∙ c.in_ok-cells.ensures.list) ∙ passed_out (has same_place c.args.dirty.now.keys) (plain_order c.args.is_by_column c.args.store.now) q f)
+
+pub returns-clause-outside : goal.returns-clause-outside
+returns-clause-outside g c = λ q f. c.further.ensures.outside q
+    (ap (λ ks. has same_place ks q) (c.as_slice.ensures.value ∙ c.in_ok-cells.ensures.list) ∙ passed_out (has same_place c.args.dirty.now.keys) (plain_order c.args.is_by_column c.args.store.now) q f)

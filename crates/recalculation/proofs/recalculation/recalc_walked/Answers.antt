@@ -7,6 +7,7 @@ use Rattle.sheet_store.specs.Grid.{Grid}
 use Rattle.recalculation.proofs.Contents.{matches_on}
 use Rattle.recalculation.proofs.Counts.{raised_more}
 use Rattle.recalculation.proofs.Ends.{all1, as_many_rest, formulas_rest, order1, sound_end, stays_end, values}
+use Rattle.recalculation.proofs.Outside.{filtered_out}
 use Rattle.recalculation.specs.Context.{context_of, Context}
 use Rattle.recalculation.specs.Passes.{raised_by, IsWhatStays, Meaning}
 use Rattle.recalculation.specs.inner.Meanings.{IsMeaning}
@@ -87,3 +88,13 @@ returns-clause-count g c =
     ∙ ap (λ (k : ℕ). raised_by (more * k) (g.E.Means.count c.first_pass.new.tally)) n
     ∙ ap (raised_by (more * length rest)) c.in_ok-order.ensures.count
     ∙ raised_more (length c.args.dirty.now.keys) (more * length rest) (g.E.Means.count c.args.tally.now)
+
+pub returns-in_err-further-clause-outside : goal.returns-in_err-further-clause-outside
+returns-in_err-further-clause-outside g c = λ q f. c.further.ensures.outside q
+    (ap (λ ks. has same_place ks q) (c.as_slice.ensures.value ∙ c.in_ok-rest.ensures.cells) ∙ filtered_out (has same_place c.in_ok-rest.rest.keys) c.in_ok-order.order.done.keys q (c.in_ok-order.ensures.same q ∙ f))
+    ∙ c.first_pass.ensures.outside q f
+
+pub returns-clause-outside : goal.returns-clause-outside
+returns-clause-outside g c = λ q f. c.further.ensures.outside q
+    (ap (λ ks. has same_place ks q) (c.as_slice.ensures.value ∙ c.in_ok-rest.ensures.cells) ∙ filtered_out (has same_place c.in_ok-rest.rest.keys) c.in_ok-order.order.done.keys q (c.in_ok-order.ensures.same q ∙ f))
+    ∙ c.first_pass.ensures.outside q f

@@ -6,6 +6,7 @@ use Rattle.natural_order.proofs.Cut.{filter_passes}
 use Rattle.cell_maps.specs.Sets.{has}
 use Rattle.sheet_store.specs.Grid.{Grid}
 use Rattle.recalculation.proofs.Cut.{pass_is_cut}
+use Rattle.recalculation.proofs.Outside.{filtered_out, ordered_out}
 use Rattle.recalculation.specs.Context.{context_of, Context}
 use Rattle.recalculation.specs.Passes.{pass, raised_by, Meaning}
 use Rattle.recalculation.specs.inner.Meanings.{IsMeaning}
@@ -26,3 +27,13 @@ returns-clause-values g c =
     let s : Grid = c.args.store.now in
     c.in_ok-pass_over.ensures.values ∙ ap (λ cs. pass mean ctx cs s) (c.as_slice.ensures.value ∙ c.in_ok-cells.ensures.list)
     ∙ sym (pass_is_cut mean ctx meaning s (has same_place c.args.dirty.now.keys) c.requires (span_order c.args.is_by_column c.args.span s))
+
+pub returns-in_err-pass_over-clause-outside : goal.returns-in_err-pass_over-clause-outside
+returns-in_err-pass_over-clause-outside g c = λ q f. c.pass_over.ensures.outside q
+    (ap (λ ks. has same_place ks q) (c.as_slice.ensures.value ∙ c.in_ok-cells.ensures.list)
+    ∙ filtered_out (has same_place c.args.dirty.now.keys) (span_order c.args.is_by_column c.args.span c.args.store.now) q (ordered_out c.args.is_by_column c.args.span c.args.store.now q f))
+
+pub returns-clause-outside : goal.returns-clause-outside
+returns-clause-outside g c = λ q f. c.pass_over.ensures.outside q
+    (ap (λ ks. has same_place ks q) (c.as_slice.ensures.value ∙ c.in_ok-cells.ensures.list)
+    ∙ filtered_out (has same_place c.args.dirty.now.keys) (span_order c.args.is_by_column c.args.span c.args.store.now) q (ordered_out c.args.is_by_column c.args.span c.args.store.now q f))
