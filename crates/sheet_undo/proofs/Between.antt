@@ -9,7 +9,8 @@ use Rattle.grid_address.specs.Place.{place_cmp, same_place, Place}
 use Rattle.sheet_shifts.proofs.Maps.{each, entries_apart, some_is_none}
 use Rattle.sheet_store.specs.Grid.{Cells}
 use Rattle.sheet_store.specs.State.{CellState}
-use Rattle.sheet_undo.specs.Changes.{all_changed, changed_at, AreTaken}
+use Rattle.edit_log.specs.Changes.{all_changed, changed_at}
+use Rattle.sheet_undo.specs.Changes.{AreTaken}
 
 -- the last change is made last
 pub all_and : (m : Cells) (es : List (Place × Option CellState)) (e : Place × Option CellState) → all_changed m (es ++ e ∷ []) ≡ changed_at (all_changed m es) e.0 e.1

@@ -1,5 +1,7 @@
 pub mod Between
 pub mod Compared
+pub mod Made
+pub mod Pasts
 pub mod States
 pub mod Tests
 pub mod Twins

@@ -1,7 +1,7 @@
 -- As many undos as states were kept.
 use Rattle.std.specs.Prelude.{◌≡◌, ◌≤◌, ◌+◌, ℕ, zero, suc, refl, length, take, List, [], ◌∷◌}
 use Rattle.std.proofs.Common.{arith, subst}
-use Rattle.work_sheet.specs.Seen.{Sheet}
+use Rattle.sheet_undo.specs.Histories.{Sheet}
 use Rattle.sheet_undo.specs.Histories.{all_kept, undone, with_kept}
 
 -- a state with so many in front of it

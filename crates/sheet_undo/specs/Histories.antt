@@ -1,10 +1,17 @@
 -- The history of a sheet: the states that undo gives back.
 use Rattle.std.specs.Prelude.{◌≡◌, ℕ, zero, suc, Bool, true, false, List, [], ◌∷◌, Option, None, Some, take}
+use Rattle.range_names.specs.Names.{NameMap}
 use Rattle.sheet_store.specs.Choices.{Choices}
-use Rattle.work_sheet.specs.Did.{DidEdit}
-use Rattle.work_sheet.specs.Kept.{put_back}
-use Rattle.work_sheet.specs.Seen.{Sheet}
-use Rattle.work_sheet.specs.Sheets.{Worksheet}
+use Rattle.sheet_store.specs.Grid.{Grid}
+
+-- one map of cells, with the columns, whether the last recalculation told a circle, whether a change was made since
+-- then, the names and the settings
+pub record Sheet : Type 0 where
+  pub grid : Grid
+  pub circular : Bool
+  pub stale : Bool
+  pub names : NameMap
+  pub settings : Choices
 
 -- the kept states, the latest first, and the begun one, if there is one
 pub record History : Type 0 where
@@ -41,10 +48,10 @@ ended differs None kept = record { kept = kept; begun = None }
 ended true (Some begun) kept = record { kept = with_kept begun kept; begun = None }
 ended false (Some begun) kept = record { kept = kept; begun = None }
 
--- the latest state takes the sheet's place; where none is kept, the answer is false and the sheet stays
-abbrev pub Undoes : List Sheet → Bool → Worksheet → Worksheet → Type 0
-Undoes [] answer old new = (answer ≡ false) × (new ≡ old)
-Undoes (s ∷ kept) answer old new = (answer ≡ true) × DidEdit (put_back s) old new
+-- the latest state, if one is kept
+abbrev pub latest : List Sheet → Option Sheet
+latest [] = None
+latest (s ∷ kept) = Some s
 
 -- states are kept, one after another
 abbrev pub all_kept : List Sheet → List Sheet → List Sheet

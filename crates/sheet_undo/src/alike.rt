@@ -1,18 +1,20 @@
 // Whether a sheet is as it was, but for the pointer.
 ghost use Rattle.std.specs.Bool.{Decides};
 ghost use Rattle.std.specs.Prelude.{◌≡◌, IfOk};
-ghost use Rattle.sheet_undo.specs.Histories.{but_pointer, IsAlike};
-ghost use Rattle.work_sheet.specs.Kept.{sheet_of};
-ghost use Rattle.work_sheet.specs.Seen.{of_worksheet};
+ghost use Rattle.std.specs.FinMap as map;
+ghost use Rattle.edit_log.specs.Changes.{all_changed, AreOnce};
+ghost use Rattle.sheet_undo.specs.Histories.{but_pointer};
+ghost use Rattle.sheet_undo.specs.Keeping.{columns_or, names_or};
 
 use crate::cells::are_same_cells;
+use crate::changes::{has_state, is_absent};
 use crate::columns::are_same_columns;
 use crate::names::are_same_names;
-use formula_eval::Means;
+use edit_log::Change;
 use grid_address::Cell;
 use lics_text::Memory;
+use range_names::Names;
 use sheet_store::{Settings, Store};
-use work_sheet::{KeptState, WorksheetOf};
 
 // Settings with the pointer in A1.
 fn but_pointer(settings: &Settings) -> Settings
@@ -24,15 +26,15 @@ fn but_pointer(settings: &Settings) -> Settings
     }
 }
 
-// Whether settings other than the pointer are the same.
-fn are_same_settings(one: &Settings, other: &Settings) -> bool
+/// Whether settings other than the pointer are the same.
+pub fn are_same_settings(one: &Settings, other: &Settings) -> bool
     ensures { Decides result (but_pointer one.now ≡ but_pointer other.now) }
 {
     but_pointer(one) == but_pointer(other)
 }
 
-// Whether two stores hold the same.
-fn is_same_store(one: &Store, other: &Store) -> Result<bool, Memory>
+/// Whether two stores hold the same.
+pub fn is_same_store(one: &Store, other: &Store) -> Result<bool, Memory>
     ensures { IfOk result (λ same. Decides same (one.now ≡ other.now)) }
 {
     if !are_same_columns(one, other) {
@@ -41,14 +43,45 @@ fn is_same_store(one: &Store, other: &Store) -> Result<bool, Memory>
     are_same_cells(one, other)
 }
 
-/// Whether the cells, the columns, the names and the settings of a sheet other than the pointer are as they were.
-pub fn is_alike<E: Means>(kept: &KeptState, sheet: &WorksheetOf<E>) -> Result<bool, Memory>
-    ensures { IfOk result (λ same. Decides same (IsAlike (sheet_of kept.now) (of_worksheet sheet.now))) }
+/// Whether the names that are kept, if some are, are these.
+pub fn are_names_kept(own: &Option<Names>, names: &Names) -> bool
+    ensures { Decides result (names_or own.now names.now ≡ names.now) }
 {
-    if !are_same_settings(&kept.saved.settings, sheet.settings())
-        || !are_same_names(&kept.saved.names, sheet.names())
-    {
-        return Ok(false);
+    match own {
+        Some(kept) => are_same_names(kept, names),
+        None => true,
     }
-    is_same_store(&kept.saved.store, sheet.cells())
+}
+
+/// Whether the columns that are kept, if some are, are those of a store.
+pub fn are_columns_kept(own: &Option<Store>, store: &Store) -> bool
+    ensures { Decides result (columns_or own.now store.now ≡ store.now) }
+{
+    match own {
+        Some(kept) => are_same_columns(kept, store),
+        None => true,
+    }
+}
+
+// Whether a cell of a store has what a change gives it.
+fn is_as_changed(change: &Change, store: &Store) -> Result<bool, Memory>
+    ensures { IfOk result (λ same. Decides same (map.get store.now.cells change.now.0 ≡ change.now.1)) }
+{
+    match change.state() {
+        Some(state) => has_state(store, change.cell(), state),
+        None => Ok(is_absent(store, change.cell())),
+    }
+}
+
+/// Whether changes, each of another cell, leave a store as it is.
+pub fn are_changes_made(changes: &[Change], store: &Store) -> Result<bool, Memory>
+    requires { AreOnce changes.now }
+    ensures { IfOk result (λ same. Decides same (all_changed store.now.cells changes.now ≡ store.now.cells)) }
+{
+    for change in changes {
+        if !is_as_changed(change, store)? {
+            return Ok(false);
+        }
+    }
+    Ok(true)
 }

@@ -1,86 +1,20 @@
-// What cells of one store have otherwise than those of another.
+// What cells of one store have otherwise than those of another, and changes that are made.
 ghost use Rattle.std.specs.Bool.{Decides};
-ghost use Rattle.std.specs.Prelude.{◌≡◌, None, Some, IfOk, OnOk};
+ghost use Rattle.std.specs.Prelude.{◌≡◌, None, Some, IfOk, OnErr, OnOk};
 ghost use Rattle.std.specs.FinMap as map;
-ghost use Rattle.sheet_store.specs.Grid.{IsHeld};
-ghost use Rattle.sheet_undo.specs.Changes.{all_changed, changed_at, with_changes, AreTaken};
+ghost use Rattle.edit_log.specs.Changes.{all_changed, with_changes};
+ghost use Rattle.sheet_undo.specs.Changes.{AreTaken};
+ghost use Rattle.sheet_undo.specs.Keeping.{columns_or};
 
 use crate::cells::is_same_entry;
+use crate::columns::put_own_columns;
+use edit_log::{Change, make_all};
 use grid_address::Cell;
 use lics_text::Memory;
 use sheet_store::{CellState, Store};
-use std::marker::Model;
-
-/// A cell, and the state that it has; none where it has none.
-#[derive(Drop)]
-pub struct Change {
-    cell: Cell,
-    state: Option<CellState>,
-}
-
-impl Model for Change {
-    ghost use Rattle.formula_tree.specs.contracts.formula.Formula as formula;
-    ghost use Rattle.std.specs.Coded.{codes};
-    ghost use Rattle.std.specs.Prelude.{Option};
-    ghost use Rattle.grid_address.specs.Place.{Place};
-    ghost use Rattle.sheet_store.specs.State.{CellState};
-    ghost use Rattle.sheet_undo.specs.Changes.{MayHave};
-
-    ghost Value = { Place × Option CellState };
-
-    ghost coded = { Prim.hlevel (codes, formula.the_row.coded) };
-
-    ghost view = { λ c. (c.cell, c.state) };
-
-    ghost invariant = { λ c. MayHave c.cell c.state };
-}
-
-impl Change {
-    // A cell has no state.
-    fn gone(cell: Cell) -> Change
-        ensures { result ≡ (cell, None) }
-    {
-        Change { cell, state: None }
-    }
-
-    // A cell has a state.
-    fn of(cell: Cell, state: CellState) -> Change
-        requires { IsHeld cell state }
-        ensures { result ≡ (cell, Some state) }
-    {
-        Change {
-            cell,
-            state: Some(state),
-        }
-    }
-
-    // Gives the cell of a store its state, or none.
-    fn make(&self, store: &mut Store) -> Result<(), Memory>
-        ensures { OnOk result (store.new ≡
-            record store.old { cells = changed_at store.old.cells self.now.0 self.now.1 }) }
-    {
-        match &self.state {
-            Some(state) => store.put(self.cell, state.copy(store.alloc())?),
-            None => {
-                store.clear(self.cell);
-                Ok(())
-            }
-        }
-    }
-}
-
-/// Makes changes, the first one first.
-pub fn make_all(changes: &[Change], store: &mut Store) -> Result<(), Memory>
-    ensures { OnOk result (store.new ≡ with_changes store.old changes.now) }
-{
-    for change in changes {
-        change.make(store)?;
-    }
-    Ok(())
-}
 
 // Whether a cell of a store has this state.
-fn has_state(store: &Store, cell: Cell, state: &CellState) -> Result<bool, Memory>
+pub fn has_state(store: &Store, cell: Cell, state: &CellState) -> Result<bool, Memory>
     ensures { IfOk result (λ same. Decides same (map.get store.now.cells cell ≡ Some state.now)) }
 {
     match store.get(cell) {
@@ -90,7 +24,7 @@ fn has_state(store: &Store, cell: Cell, state: &CellState) -> Result<bool, Memor
 }
 
 // Whether a cell of a store has no state.
-fn is_absent(store: &Store, cell: Cell) -> bool
+pub fn is_absent(store: &Store, cell: Cell) -> bool
     ensures { Decides result (map.get store.now.cells cell ≡ None) }
 {
     store.get(cell).is_none()
@@ -133,4 +67,19 @@ pub fn changes_of(kept: &Store, next: &Store) -> Result<Vec<Change>, Memory>
     add_others(&mut changes, kept, next)?;
     changes.shrink_to_fit();
     Ok(changes)
+}
+
+/// Makes changes in a store, and gives it the columns that are kept, if some are. Where there is no memory, the changes
+/// lead to the same from there.
+pub fn change_store(
+    changes: &[Change],
+    columns: &Option<Store>,
+    store: &mut Store,
+) -> Result<(), Memory>
+    ensures ok { OnOk result (store.new ≡ columns_or columns.now (with_changes store.old changes.now)) }
+    ensures err { OnErr result (with_changes store.new changes.now ≡ with_changes store.old changes.now) }
+{
+    make_all(changes, store)?;
+    put_own_columns(columns, store);
+    Ok(())
 }

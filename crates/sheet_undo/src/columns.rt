@@ -1,9 +1,20 @@
 // The columns of stores.
 ghost use Rattle.std.specs.Bool.{Decides};
 ghost use Rattle.std.specs.Prelude.{◌≡◌, get_or, set, false};
+ghost use Rattle.std.specs.FinMap as map;
+ghost use Rattle.sheet_undo.specs.Keeping.{columns_or};
 ghost use Rattle.sheet_undo.specs.Same.{IsSameColumn, SameColumns};
 
 use sheet_store::Store;
+
+/// A store without cells that has the columns of another.
+pub fn columns_of(store: &Store) -> Store
+    ensures { result ≡ record store.now { cells = map.empty } }
+{
+    let mut columns = Store::new(store.alloc());
+    put_columns(store, &mut columns);
+    columns
+}
 
 // The width of a column's own; 0 where it has none.
 fn width_number(store: &Store, col: u8) -> u8
@@ -57,5 +68,14 @@ pub fn put_columns(store: &Store, into: &mut Store)
     into.are_columns();
     for col in 0..256usize {
         put_column(store, into, col as u8);
+    }
+}
+
+/// Gives a store the columns that are kept, if some are.
+pub fn put_own_columns(own: &Option<Store>, into: &mut Store)
+    ensures { into.new ≡ columns_or own.now into.old }
+{
+    if let Some(columns) = own {
+        put_columns(columns, into);
     }
 }

@@ -1,62 +1,123 @@
-// What a kept state has otherwise than another one.
-ghost use Rattle.std.specs.Prelude.{◌≡◌, IfOk};
-ghost use Rattle.std.specs.FinMap as map;
-ghost use Rattle.sheet_undo.specs.Changes.{with_changes};
-ghost use Rattle.sheet_undo.specs.Keeping.{before, names_or};
-ghost use Rattle.work_sheet.specs.Kept.{sheet_of};
+// What a state has otherwise than another one.
+ghost use Rattle.std.specs.Prelude.{◌≡◌, [], Bool, IfOk, None, Some, false};
+ghost use Rattle.edit_log.specs.Changes.{with_changes};
+ghost use Rattle.sheet_undo.specs.Keeping.{before, columns_or, names_or, sheet_of, sheet_with};
+ghost use Rattle.sheet_store.specs.Choices.{Choices};
 
-use crate::changes::{Change, changes_of, make_all};
-use crate::columns::put_columns;
-use crate::names::are_same_names;
+use crate::KeptState;
+use crate::changes::{change_store, changes_of};
+use crate::columns::columns_of;
+use edit_log::Change;
 use lics_text::Memory;
 use range_names::Names;
 use sheet_store::{SavedSheet, Settings, Store};
-use work_sheet::KeptState;
+use std::alloc::Global;
+use std::marker::Model;
 
-/// What a kept state has otherwise than another one, the next: the cells that differ, the names where they differ, and
-/// the columns, the settings and the marks as they are.
+/// What a state has otherwise than another one, the next: the cells that differ, the columns and the names where they
+/// may differ, and the settings and the marks as they are.
 #[derive(Drop)]
 pub struct Difference {
     changes: Vec<Change>,
     // A store without cells.
-    columns: Store,
+    columns: Option<Store>,
     names: Option<Names>,
     settings: Settings,
     circular: bool,
     stale: bool,
 }
 
-// A store without cells that has the columns of another.
-fn columns_of(store: &Store) -> Store
-    ensures { result ≡ record store.now { cells = map.empty } }
-{
-    let mut columns = Store::new(store.alloc());
-    put_columns(store, &mut columns);
-    columns
+impl Model for Difference {
+    ghost use Rattle.formula_tree.specs.contracts.formula.Formula as formula;
+    ghost use Rattle.std.specs.Coded.{codes};
+    ghost use Rattle.std.specs.FinMap as map;
+    ghost use Rattle.sheet_undo.specs.Keeping.{Before};
+
+    ghost Value = { Before };
+
+    ghost coded = { Prim.hlevel (codes, map.code, formula.the_row.coded) };
+
+    ghost view = { λ d. record {
+      changes = d.changes.items;
+      columns = d.columns;
+      names = d.names;
+      settings = d.settings;
+      circular = d.circular;
+      stale = d.stale;
+    } };
 }
 
-// The names, where they aren't those of the next state.
-fn names_beside(kept: &Names, next: &Names) -> Result<Option<Names>, Memory>
-    ensures { IfOk result (λ own. names_or own next.now ≡ kept.now) }
+// Names, or equal ones to those of the next state.
+fn names_before(own: &Option<Names>, next: Names) -> Result<Names, Memory>
+    ensures { IfOk result (λ names. names ≡ names_or own.now next) }
 {
-    if are_same_names(next, kept) {
-        return Ok(None);
+    match own {
+        Some(names) => names.copy(),
+        None => Ok(next),
     }
-    let own = kept.copy()?;
-    Ok(Some(own))
 }
 
 impl Difference {
-    /// What a state has otherwise than the next one.
-    pub fn of(kept: &KeptState, next: &KeptState) -> Result<Difference, Memory>
-        ensures { IfOk result (λ d. before d (sheet_of next.now) ≡ sheet_of kept.now) }
+    /// Nothing but these settings and marks.
+    pub fn beside(alloc: Global, settings: Settings) -> Difference
+        ensures { result ≡ record {
+          changes = [];
+          columns = None;
+          names = None;
+          settings = settings;
+          circular = false;
+          stale = false;
+        } }
     {
-        let changes = changes_of(&kept.saved.store, &next.saved.store)?;
-        let names = names_beside(&kept.saved.names, &next.saved.names)?;
+        Difference {
+            changes: Vec::new(alloc),
+            columns: None,
+            names: None,
+            settings,
+            circular: false,
+            stale: false,
+        }
+    }
+
+    /// The difference that has these parts.
+    pub fn with(
+        changes: Vec<Change>,
+        columns: Option<Store>,
+        names: Option<Names>,
+        settings: Settings,
+        circular: bool,
+        stale: bool,
+    ) -> Difference
+        ensures { result ≡ record {
+          changes = changes.items;
+          columns = columns;
+          names = names;
+          settings = settings;
+          circular = circular;
+          stale = stale;
+        } }
+    {
+        Difference {
+            changes,
+            columns,
+            names,
+            settings,
+            circular,
+            stale,
+        }
+    }
+
+    /// What a state has otherwise than a sheet of these cells, columns and names.
+    pub fn of(kept: &KeptState, store: &Store, names: &Names) -> Result<Difference, Memory>
+        ensures { IfOk result (λ d. (settings : Choices) (circular stale : Bool) →
+            before d (sheet_with store.now names.now settings circular stale) ≡ sheet_of kept.now) }
+    {
+        let changes = changes_of(&kept.saved.store, store)?;
+        let own = kept.saved.names.copy()?;
         Ok(Difference {
             changes,
-            columns: columns_of(&kept.saved.store),
-            names,
+            columns: Some(columns_of(&kept.saved.store)),
+            names: Some(own),
             settings: kept.saved.settings,
             circular: kept.circular,
             stale: kept.stale,
@@ -64,35 +125,21 @@ impl Difference {
     }
 
     // The cells and columns of the state that differs so from the next one.
-    fn store_before(&self, next: &Store) -> Result<Store, Memory>
-        ensures { IfOk result (λ s. s ≡
-            record (with_changes next.now self.now.changes.items) {
-              widths = self.now.columns.widths;
-              hidden = self.now.columns.hidden;
-            }) }
+    fn store_before(&self, next: Store) -> Result<Store, Memory>
+        ensures { IfOk result (λ s. s ≡ columns_or self.now.columns (with_changes next self.now.changes)) }
     {
-        let mut store = next.copy()?;
-        make_all(self.changes.as_slice(), &mut store)?;
-        put_columns(&self.columns, &mut store);
+        let mut store = next;
+        change_store(self.changes.as_slice(), &self.columns, &mut store)?;
         Ok(store)
     }
 
-    // Its names.
-    fn names_before(&self, next: &Names) -> Result<Names, Memory>
-        ensures { IfOk result (λ names. names ≡ names_or self.now.names next.now) }
-    {
-        match &self.names {
-            Some(own) => own.copy(),
-            None => next.copy(),
-        }
-    }
-
     /// The state that differs so from the next one.
-    pub fn before(&self, next: &KeptState) -> Result<KeptState, Memory>
-        ensures { IfOk result (λ k. sheet_of k ≡ before self.now (sheet_of next.now)) }
+    pub fn before(&self, next: KeptState) -> Result<KeptState, Memory>
+        ensures { IfOk result (λ k. sheet_of k ≡ before self.now (sheet_of next)) }
     {
-        let store = self.store_before(&next.saved.store)?;
-        let names = self.names_before(&next.saved.names)?;
+        let saved = next.saved;
+        let store = self.store_before(saved.store)?;
+        let names = names_before(&self.names, saved.names)?;
         Ok(KeptState {
             saved: SavedSheet {
                 store,

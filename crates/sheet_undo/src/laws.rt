@@ -1,7 +1,6 @@
 // What undo gives back.
 ghost use Rattle.std.specs.Prelude.{◌≡◌, ◌≤◌, ◌∷◌, length, List};
-ghost use Rattle.sheet_undo.specs.Histories.{all_kept, undone};
-ghost use Rattle.work_sheet.specs.Seen.{Sheet};
+ghost use Rattle.sheet_undo.specs.Histories.{all_kept, undone, Sheet};
 
 /// As many undos as states were kept, at most 20 of them, make the sheet the first of these. Nothing is done here: the
 /// contract says it.

@@ -1,4 +1,4 @@
-//! Undo: the states of a worksheet before its last commands, to be put back one after another.
+//! Undo: the states of a worksheet before its last commands, told by what they have otherwise than the sheet.
 #![tactic(auto)]
 
 mod alike;
@@ -6,10 +6,11 @@ mod cells;
 mod changes;
 mod columns;
 mod difference;
-mod history;
+mod kept;
 mod laws;
 mod names;
+mod past;
 
-pub use history::History;
+pub use kept::KeptState;
 pub use laws::as_many_undos_give_the_first_state;
-pub use work_sheet::KeptState;
+pub use past::Past;

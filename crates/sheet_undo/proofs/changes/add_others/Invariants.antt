@@ -1,6 +1,6 @@
 use Rattle.std.specs.Prelude.{length}
 use Rattle.sheet_undo.proofs.Between.{IsGiving}
-use Rattle.sheet_undo.specs.Changes.{all_changed}
+use Rattle.edit_log.specs.Changes.{all_changed}
 use Rattle.sheet_undo.proofs.changes.add_others.Given as goal
 
 abbrev pub invariant-loop-entry : goal.invariant-loop-entry
