@@ -4,5 +4,7 @@ pub mod EveryLog
 pub mod Filled
 pub mod Held
 pub mod Leading
+pub mod Noted
 pub mod OneWork
 pub mod Reformatted
+pub mod Undone

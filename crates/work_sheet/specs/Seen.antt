@@ -1,20 +1,10 @@
 -- What is seen of a sheet.
-use Rattle.std.specs.Prelude.{Bool, false, replicate}
+use Rattle.std.specs.Prelude.{false, replicate}
 use Rattle.std.specs.FinMap as map
 use Rattle.grid_address.specs.Limits.{COLUMNS}
-use Rattle.range_names.specs.Names.{NameMap}
-use Rattle.sheet_store.specs.Choices.{fresh, Choices}
-use Rattle.sheet_store.specs.Grid.{Grid}
+use Rattle.sheet_store.specs.Choices.{fresh}
+pub use Rattle.sheet_undo.specs.Histories.{Sheet}
 use Rattle.work_sheet.specs.Sheets.{Worksheet}
-
--- one map of cells, with the columns, whether the last recalculation told a circle, whether a change was made since
--- then, the names and the settings
-pub record Sheet : Type 0 where
-  pub grid : Grid
-  pub circular : Bool
-  pub stale : Bool
-  pub names : NameMap
-  pub settings : Choices
 
 -- no cell, no column of a width of its own or hidden, no name, and the settings of a fresh sheet
 abbrev pub fresh_sheet : Sheet

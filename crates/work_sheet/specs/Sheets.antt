@@ -12,10 +12,11 @@ use Rattle.sheet_store.specs.declared.writes.SheetFault.{SheetFault}
 use Rattle.sheet_store.specs.declared.writes.SheetFault.TheVariants as faults
 use Rattle.sheet_store.specs.declared.order.Order.{Order}
 use Rattle.sheet_store.specs.declared.order.Order.TheVariants as orders
+use Rattle.sheet_undo.specs.Histories.{History}
 use Rattle.recalculation.specs.Reading.{is_formula_at}
 
 -- the cells and columns, the dirty formulas, whether the last recalculation told a circle, whether a change was made
--- since then, the names and the settings
+-- since then, the names, the settings, and the states before the last commands
 pub record Worksheet : Type 0 where
   pub grid : Grid
   pub dirty : List Place
@@ -23,6 +24,7 @@ pub record Worksheet : Type 0 where
   pub stale : Bool
   pub names : NameMap
   pub settings : Choices
+  pub history : History
 
 -- in another order than the natural one all formulas are dirty
 abbrev pub AllDirtyIn : Order → Grid → List Place → Type 0

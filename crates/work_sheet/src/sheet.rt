@@ -1,5 +1,5 @@
 // A sheet, whose values are kept right by recalculation over its dirty formulas.
-ghost use Rattle.std.specs.Prelude.{◌≡◌, ◌≤◌, ◌<◌, ◌⊎◌, ◌∷◌, [], length, IfErr, IfOk, OnErr, OnOk, Some, None, Err, option_map, nat_le, take, true, false};
+ghost use Rattle.std.specs.Prelude.{◌≡◌, ◌≤◌, ◌<◌, ◌⊎◌, ◌∷◌, [], length, is_some, IfErr, IfOk, OnErr, OnOk, Some, None, Err, option_map, nat_le, take, true, false};
 ghost use Rattle.std.specs.FinMap as map;
 ghost use Rattle.std.specs.List.{IsDistinct};
 ghost use Rattle.std.specs.Option.{ForSome};
@@ -19,8 +19,11 @@ ghost use Rattle.sheet_shifts.specs.Refusals.{refusal, AreInSheet};
 ghost use Rattle.sheet_shifts.specs.Shifts.{IsShift};
 ghost use Rattle.work_sheet.specs.Did.{Did, DidEdit};
 ghost use Rattle.work_sheet.specs.Doing.{context_in, put, recalculated, with_content};
-ghost use Rattle.work_sheet.specs.Editing.{all_written, copied, erased, reformatted, reordered, restored, shifted, with_hidden, with_names, with_settings, with_width};
-ghost use Rattle.work_sheet.specs.Kept.{put_back, sheet_of};
+ghost use Rattle.work_sheet.specs.Editing.{all_written, copied, erased, reformatted, reordered, shifted, with_hidden, with_names, with_settings, with_width};
+ghost use Rattle.range_names.specs.Names.{NameMap};
+ghost use Rattle.sheet_store.specs.Grid.{Grid};
+ghost use Rattle.sheet_undo.specs.Histories.{no_history};
+ghost use Rattle.sheet_undo.specs.Keeping.{history_of, IsSameBut};
 ghost use Rattle.work_sheet.specs.Seen.{fresh_sheet, of_worksheet};
 ghost use Rattle.work_sheet.specs.Spans.{span_recalculated};
 ghost use Rattle.work_sheet.specs.Sheets.{value_told, AllDirtyIn, IsFaultOf, IsRefusedBy, Worksheet};
@@ -28,7 +31,6 @@ ghost use Rattle.work_sheet.specs.inner.Keeping.{SameBeside};
 ghost use Rattle.sheet_edits.specs.Spans.{changed, rule_of, target_of, with_code, with_mark, written_cells, AreSound, Becomes, HasCode, IsAnswered};
 ghost use Rattle.work_sheet.specs.Typed.{typed};
 
-use crate::KeptState;
 use crate::typed::text_of;
 use cell_maps::CellSet;
 use depend_graph::Graph;
@@ -49,6 +51,7 @@ use sheet_shifts::{Shift, names_after, refusal, store_after};
 use sheet_store::{
     CellState, MOST_WIDTH, Order, SavedSheet, Settings, SheetFault, Store, Write, Writes,
 };
+use sheet_undo::Past;
 use std::alloc::Global;
 use std::marker::{Model, PhantomData};
 use std::mem::replace;
@@ -57,14 +60,15 @@ use std::mem::replace;
 /// that a recalculation evaluates those alone: a formula that isn't dirty has its meaning as its value.
 #[derive(Drop)]
 pub struct WorksheetOf<E: Means> {
-    store: Store,
-    graph: Graph,
-    dirty: CellSet,
-    circular: bool,
-    stale: bool,
-    names: Names,
-    settings: Settings,
-    with: PhantomData<E>,
+    pub(crate) store: Store,
+    pub(crate) graph: Graph,
+    pub(crate) dirty: CellSet,
+    pub(crate) circular: bool,
+    pub(crate) stale: bool,
+    pub(crate) names: Names,
+    pub(crate) settings: Settings,
+    pub(crate) past: Past,
+    pub(crate) with: PhantomData<E>,
 }
 
 /// A sheet that evaluates formulas by their meaning.
@@ -74,6 +78,7 @@ impl<E: Means> Model for WorksheetOf<E> {
     ghost use Rattle.formula_tree.specs.contracts.formula.Formula as formula;
     ghost use Rattle.std.specs.Coded.{codes};
     ghost use Rattle.std.specs.FinMap as map;
+    ghost use Rattle.sheet_undo.specs.Keeping.{history_of};
     ghost use Rattle.work_sheet.specs.Sheets.{Worksheet};
     ghost use Rattle.work_sheet.specs.inner.Keeping.{IsKept};
 
@@ -88,6 +93,7 @@ impl<E: Means> Model for WorksheetOf<E> {
       stale = s.stale;
       names = s.names;
       settings = s.settings;
+      history = history_of s.past s.store s.names;
     } };
 
     ghost invariant = { λ s. IsKept E.meaning s.graph s.store s.dirty.keys s.settings.order };
@@ -98,6 +104,7 @@ impl<E: Means> WorksheetOf<E> {
     pub fn new(alloc: Global) -> Self
         ensures sheet { of_worksheet result ≡ fresh_sheet }
         ensures dirty { result.dirty ≡ [] }
+        ensures history { result.history ≡ no_history }
     {
         WorksheetOf {
             store: Store::new(alloc),
@@ -107,29 +114,9 @@ impl<E: Means> WorksheetOf<E> {
             stale: false,
             names: Names::new(alloc),
             settings: Settings::fresh(),
+            past: Past::new(alloc),
             with: PhantomData,
         }
-    }
-
-    /// The sheet that was saved. All its formulas are dirty; it has no circle told, and no change made.
-    pub fn restore(saved: SavedSheet) -> Result<Self, Memory>
-        ensures { IfOk result
-            (λ s. (before : Worksheet) → DidEdit (restored saved.store saved.names saved.settings) before s) }
-    {
-        let graph = graph_of(&saved.store)?;
-        let dirty = all_dirty(&saved.store)?;
-        // `len` is called for its clause that no cell is in the set twice, here and below.
-        let _ = dirty.len();
-        Ok(WorksheetOf {
-            store: saved.store,
-            graph,
-            dirty,
-            circular: false,
-            stale: false,
-            names: saved.names,
-            settings: saved.settings,
-            with: PhantomData,
-        })
     }
 
     /// What a file holds of the sheet: its cells and columns, its names and its settings.
@@ -145,32 +132,6 @@ impl<E: Means> WorksheetOf<E> {
             names,
             settings: self.settings,
         })
-    }
-
-    /// Puts a kept sheet in the place of this one, with its pointer and its marks. All its formulas are dirty, and none
-    /// is evaluated. The sheet is unchanged where there is no memory.
-    pub fn put_back(&mut self, kept: &KeptState) -> Result<(), Memory>
-        ensures did { OnOk result (DidEdit (put_back (sheet_of kept.now)) self.old self.new) }
-        ensures err { OnErr result (self.new ≡ self.old) }
-    {
-        let store = kept.saved.store.copy()?;
-        let names = kept.saved.names.copy()?;
-        let graph = graph_of(&store)?;
-        let all = all_dirty(&store)?;
-        let _ = all.len();
-        let sheet = WorksheetOf {
-            store,
-            graph,
-            dirty: all,
-            circular: kept.circular,
-            stale: kept.stale,
-            names,
-            settings: kept.saved.settings,
-            with: PhantomData,
-        };
-        // An assignment would let each part of the old sheet go here, and not in one call that is proved once.
-        drop(replace(self, sheet));
-        Ok(())
     }
 
     /// The memory that the sheet is in.
@@ -288,6 +249,7 @@ impl<E: Means> WorksheetOf<E> {
         requires { ForSome width (λ n. (1 ≤ n) × (n ≤ MOST_WIDTH)) }
         ensures { DidEdit (with_width col width) self.old self.new }
     {
+        self.past.note_columns(&self.store);
         self.store.set_width(col, width);
     }
 
@@ -295,6 +257,7 @@ impl<E: Means> WorksheetOf<E> {
     pub fn set_hidden(&mut self, col: u8, hidden: bool)
         ensures { DidEdit (with_hidden col hidden) self.old self.new }
     {
+        self.past.note_columns(&self.store);
         self.store.set_hidden(col, hidden);
     }
 
@@ -307,6 +270,9 @@ impl<E: Means> WorksheetOf<E> {
         ensures kept { OnErr result (self.new ≡ self.old) }
         ensures err { IfErr result (λ fault. (fault ≡ cause.Memory) ⊎ (fault_of name.now ≡ Some fault)) }
     {
+        let Ok(()) = self.past.note_names(&self.names) else {
+            return Err(NameFault::Memory);
+        };
         self.names.create(name, span)?;
         Ok(())
     }
@@ -318,10 +284,13 @@ impl<E: Means> WorksheetOf<E> {
             (DidEdit (with_names (map.remove self.old.names (key_of name.now))) self.old self.new) }
         ensures kept { OnErr result (self.new ≡ self.old) }
         ensures err { IfErr result
-            (λ fault. (fault_of name.now ≡ Some fault)
+            (λ fault. (fault ≡ cause.Memory) ⊎ (fault_of name.now ≡ Some fault)
             ⊎ ((fault_of name.now ≡ None) × (fault ≡ cause.Absent)
             × (map.get self.old.names (key_of name.now) ≡ None))) }
     {
+        let Ok(()) = self.past.note_names(&self.names) else {
+            return Err(NameFault::Memory);
+        };
         self.names.delete(name)?;
         Ok(())
     }
@@ -330,7 +299,9 @@ impl<E: Means> WorksheetOf<E> {
     pub fn reset_names(&mut self)
         ensures { DidEdit (with_names map.empty) self.old self.new }
     {
-        self.names.reset();
+        let alloc = self.store.alloc();
+        self.past
+            .take_names(replace(&mut self.names, Names::new(alloc)));
     }
 
     /// Changes the settings, of which the order stays as it is.
@@ -367,6 +338,7 @@ impl<E: Means> WorksheetOf<E> {
         ensures fault { IsFaultOf (is_protected self.old.settings self.old.grid cell) cell result }
     {
         let state = entry_state(&self.store, &self.settings, cell, content)?;
+        note(&mut self.past, &self.store, &[cell])?;
         match write_cell(
             &mut self.store,
             &mut self.graph,
@@ -404,6 +376,7 @@ impl<E: Means> WorksheetOf<E> {
             return Ok(());
         }
         let state = entry_state(&self.store, &settings, cell, content)?;
+        note(&mut self.past, &self.store, &[cell])?;
         match write_evaluated(
             &mut self.store,
             &mut self.graph,
@@ -437,12 +410,15 @@ impl<E: Means> WorksheetOf<E> {
         ensures distinct { OnOk result (IsDistinct same_place self.new.dirty) }
         ensures stale { OnOk result (self.new.stale ≡ true) }
         ensures beside { SameBeside self.old self.new }
+        ensures history { self.new.history ≡ self.old.history }
         ensures err { OnErr result (self.new ≡ self.old) }
     {
         let settings = self.settings;
-        if let Some(cell) = refusing(&self.store, &settings, cells.as_slice()) {
+        let listed = cells.as_slice();
+        if let Some(cell) = refusing(&self.store, &settings, listed) {
             return Err(SheetFault::Protected(cell));
         }
+        note(&mut self.past, &self.store, listed)?;
         match write_cells(
             &mut self.store,
             &mut self.graph,
@@ -552,6 +528,7 @@ impl<E: Means> WorksheetOf<E> {
         let Ok(state) = state_written(&self.store, write) else {
             return Err(SheetFault::Memory);
         };
+        note(&mut self.past, &self.store, &[write.cell])?;
         match write_cell(
             &mut self.store,
             &mut self.graph,
@@ -599,7 +576,8 @@ impl<E: Means> WorksheetOf<E> {
         let graph = graph_of(&store)?;
         let formulas = all_dirty(&store)?;
         let _ = formulas.len();
-        let sheet = WorksheetOf {
+        let past = Past::new(store.alloc());
+        self.replace_by(WorksheetOf {
             store,
             graph,
             dirty: formulas,
@@ -607,9 +585,9 @@ impl<E: Means> WorksheetOf<E> {
             stale: true,
             names,
             settings: self.settings,
+            past,
             with: PhantomData,
-        };
-        drop(replace(self, sheet));
+        });
         Ok(())
     }
 
@@ -640,6 +618,7 @@ impl<E: Means> WorksheetOf<E> {
     {
         let cells = cells_of(self.store.alloc(), span)?;
         let changes = reformatted(&self.store, change, cells.as_slice())?;
+        self.past.note(&self.store, cells.as_slice())?;
         change_cells(&mut self.store, cells.as_slice(), changes)?;
         Ok(())
     }
@@ -657,6 +636,7 @@ impl<E: Means> WorksheetOf<E> {
         ensures err { OnErr result (self.new ≡ record self.old { grid = self.new.grid }) }
     {
         let settings = self.settings;
+        self.past.note(&self.store, self.dirty.as_slice())?;
         let circ = recalc(
             &mut self.store,
             &self.graph,
@@ -690,6 +670,8 @@ impl<E: Means> WorksheetOf<E> {
         ensures err { OnErr result (self.new ≡ record self.old { grid = self.new.grid }) }
     {
         let settings = self.settings;
+        let formulas = self.store.formulas_in(span)?;
+        self.past.note(&self.store, formulas.as_slice())?;
         recalc_span(
             &mut self.store,
             &self.dirty,
@@ -701,6 +683,20 @@ impl<E: Means> WorksheetOf<E> {
             tally,
         )?;
         Ok(())
+    }
+}
+
+// Notes the states of cells, which may then change. The history stays, also where there is no memory.
+fn note(past: &mut Past, store: &Store, cells: &[Cell]) -> Result<(), SheetFault>
+    ensures free { OnOk result
+        ((g : Grid) (names : NameMap) → IsSameBut (has same_place cells.now) store.now g →
+        history_of past.new g names ≡ history_of past.old store.now names) }
+    ensures same { (names : NameMap) → history_of past.new store.now names ≡ history_of past.old store.now names }
+    ensures err { IfErr result (λ fault. fault ≡ faults.Memory) }
+{
+    match past.note(store, cells) {
+        Ok(()) => Ok(()),
+        Err(Memory) => Err(SheetFault::Memory),
     }
 }
 

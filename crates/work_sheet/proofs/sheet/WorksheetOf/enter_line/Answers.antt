@@ -4,10 +4,13 @@ use Rattle.recalculation.specs.inner.Meanings.{IsMeaning}
 use Rattle.std.proofs.Common.{rules}
 use Rattle.work_sheet.proofs.Done.{content_did, put_did}
 use Rattle.work_sheet.proofs.Held.{kept_line}
+use Rattle.std.proofs.Common.{ap, ◌∙◌}
+use Rattle.work_sheet.proofs.Noted.{line_changed}
+use Rattle.work_sheet.specs.Sheets.{Worksheet}
 use Rattle.work_sheet.proofs.sheet.WorksheetOf.enter_line.Goals as goal
 
-pub invariant_of-self : goal.invariant_of-self
-invariant_of-self g c =
+pub invariant_of-self-in-Ok : goal.invariant_of-self-in-Ok
+invariant_of-self-in-Ok g c =
     let mean : Meaning = g.E.Means.meaning in
     let meaning : IsMeaning mean = record { reads = g.met.E.Means.reads_alone } in
     kept_line mean meaning c.self.inside.store c.write_evaluated.new.store c.args.cell c.in_ok-state.state c.self.inside.dirty.keys c.write_evaluated.new.dirty.keys
@@ -19,3 +22,7 @@ returns-then-settings-clause-did g c = content_did c.args.self.now c.enter.new.s
 pub returns-in-Ok-clause-did : goal.returns-in-Ok-clause-did
 returns-in-Ok-clause-did g c = put_did c.args.self.now _ g.E.Means.meaning c.args.scene.now c.args.cell c.args.content (g.E.Means.count c.args.tally.now) (g.E.Means.count c.write_evaluated.new.tally)
     (search rules) (search rules) (search rules) (search rules) (search rules) (search rules)
+    (c.in_ok-note.ensures.free c.write_evaluated.new.store c.self.inside.names
+    (line_changed g.E.Means.meaning (context_of c.self.inside.names c.self.inside.settings c.args.scene.now) c.self.inside.store
+    c.write_evaluated.new.store c.args.cell c.in_ok-state.state c.in-Ok.ensures.store)
+    ∙ ap (λ (w : Worksheet). w.history) c.self.view_is)

@@ -9,13 +9,16 @@ use Rattle.sheet_edits.specs.Spans.{written_all}
 use Rattle.work_sheet.proofs.Alone.{only_cell}
 use Rattle.work_sheet.proofs.Done.{edited_did}
 use Rattle.work_sheet.proofs.Held.{kept_edit}
+use Rattle.std.proofs.Common.{ap, ◌∙◌}
+use Rattle.work_sheet.proofs.Noted.{one_changed}
+use Rattle.work_sheet.specs.Sheets.{Worksheet}
 use Rattle.work_sheet.proofs.sheet.WorksheetOf.write_one.Goals as goal
 
 pub write_cell-requires-clause-only : goal.write_cell-requires-clause-only
 write_cell-requires-clause-only g c = c.self.invariant.only
 
-pub invariant_of-self : goal.invariant_of-self
-invariant_of-self g c =
+pub invariant_of-self-in-Ok-write_cell : goal.invariant_of-self-in-Ok-write_cell
+invariant_of-self-in-Ok-write_cell g c =
     let mean : Meaning = g.E.Means.meaning in
     let meaning : IsMeaning mean = record { reads = g.met.E.Means.reads_alone } in
     kept_edit mean meaning c.self.inside.store c.write_cell.new.store c.args.write.now.cell c.in-Ok.state c.self.inside.dirty.keys c.write_cell.new.dirty.keys
@@ -24,3 +27,6 @@ invariant_of-self g c =
 pub returns-in-Ok-write_cell-clause-did : goal.returns-in-Ok-write_cell-clause-did
 returns-in-Ok-write_cell-clause-did g c = λ n. edited_did c.args.self.now _ (just c.args.write.now.cell) (has same_place (c.args.write.now.cell ∷ [])) (written_all c.args.self.now.grid (c.args.write.now ∷ [])) n
     (only_cell c.args.write.now.cell) (search rules) (search rules) (search rules) (search rules) (search rules)
+    (c.in_ok-note.ensures.free c.write_cell.new.store c.self.inside.names
+    (one_changed c.self.inside.store c.write_cell.new.store c.args.write.now.cell c.in-Ok.state c.in-Ok-write_cell.ensures.store)
+    ∙ ap (λ (w : Worksheet). w.history) c.self.view_is)
