@@ -1,7 +1,7 @@
-//! Calls that the worksheet program doesn't make yet, compared with what another program answered: its data tells
-//! cases line by line, with the answers that are wanted. A line that begins a case stands behind `>` and a further
-//! line of the case behind `+`; below each stand the lines of its answer behind `=`, where it has an answer. A line
-//! behind `#` names the part that answers the lines behind it. Each line is answered in turn, and the answer
+//! Calls that the worksheet program makes only among others, compared with what another program answered: its data
+//! tells cases line by line, with the answers that are wanted. A line that begins a case stands behind `>` and a
+//! further line of the case behind `+`; below each stand the lines of its answer behind `=`, where it has an answer. A
+//! line behind `#` names the part that answers the lines behind it. Each line is answered in turn, and the answer
 //! compared with what stands there. It prints how many cases and answers there were and how many of these differ,
 //! and before that the first five that do: the number of the line, the case up to it, what is wanted and what was
 //! found. Where one differs the status isn't that of success. Bytes are told in hexadecimal digits, and a worksheet

@@ -7,7 +7,6 @@ use grid_address::{Cell, Span};
 use lics_text::Memory;
 use serial_date::Moment;
 use sheet_store::{CellState, SavedSheet, Store, Write as Entry, Writes};
-use sheet_undo::History;
 use std::alloc::Global;
 use std::io::Write;
 use std::mem::replace;
@@ -23,12 +22,11 @@ const SCENE: Scene = Scene {
     },
 };
 
-/// A sheet, the count of its evaluations, and its history.
+/// A sheet with its history, and the count of its evaluations.
 #[derive(Drop)]
 pub struct UndoDesk {
     sheet: Worksheet,
     tally: Tally,
-    history: History,
 }
 
 // Writes of the contents and the formats of all cells.
@@ -58,7 +56,6 @@ impl UndoDesk {
         UndoDesk {
             sheet: Worksheet::new(alloc),
             tally: Tally::new(),
-            history: History::new(alloc),
         }
     }
 
@@ -70,16 +67,16 @@ impl UndoDesk {
 
     // A command begins.
     fn begin(&mut self) -> Result<&'static [u8], Stop> {
-        self.history.begin(&self.sheet)?;
+        self.sheet.begin()?;
         Ok(b"begun ")
     }
 
     // The command that was begun ends: whether its state is kept, where there is one.
     fn end(&mut self) -> Result<&'static [u8], Stop> {
-        if !self.history.has_begun() {
+        if !self.sheet.has_begun() {
             return Ok(b"none ");
         }
-        if self.history.end(&self.sheet)? {
+        if self.sheet.end()? {
             Ok(b"kept ")
         } else {
             Ok(b"alike ")
@@ -88,7 +85,7 @@ impl UndoDesk {
 
     // The last state that is kept is put back, where there is one.
     fn undo(&mut self) -> Result<&'static [u8], Stop> {
-        if self.history.undo(&mut self.sheet)? {
+        if self.sheet.undo()? {
             Ok(b"undone ")
         } else {
             Ok(b"none ")
@@ -103,8 +100,7 @@ impl UndoDesk {
 
     // The sheet of a file takes the place of this one.
     fn restore(&mut self, saved: SavedSheet) -> Result<&'static [u8], Stop> {
-        let sheet = Worksheet::restore(saved)?;
-        drop(replace(&mut self.sheet, sheet));
+        self.sheet.take_saved(saved)?;
         Ok(b"")
     }
 
@@ -142,7 +138,7 @@ impl UndoDesk {
 
     // Tells how many states are kept, the count of evaluations, and the marks.
     fn tell(&self, out: &mut Vec<u8>) -> Result<(), Stop> {
-        write!(out, "{} {}", self.history.len(), self.tally.count())?;
+        write!(out, "{} {}", self.sheet.kept_count(), self.tally.count())?;
         if self.sheet.is_circular() {
             out.extend_from_slice(b" CIRC")?;
         }

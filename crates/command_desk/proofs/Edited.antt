@@ -41,7 +41,11 @@ some_is a b e = ap (λ (o : Option CommandEnd). held o) e
 
 -- nothing was done
 pub left : (v w : Worksheet) (m n : ℕ) → w ≡ v → n ≡ m → Did (quiet (of_worksheet v)) v w m n
-left v w m n same count = record { sheet = ap of_worksheet same; work = λ i. work_of (same i) (count i) }
+left v w m n same count = record {
+  sheet = ap of_worksheet same;
+  work = λ i. work_of (same i) (count i);
+  history = ap (λ (x : Worksheet). x.history) same;
+}
 
 -- a refused edit
 pub was_refused : (f : SheetFault) (e : CommandEnd) (scene : Scene) (end : CommandEnd) (v mid w : Worksheet) (m n : ℕ) →

@@ -114,3 +114,4 @@ pub record HasActedOn (a : DeskActed) (came : CommandEnd) (v w : declared.Desk) 
   pub end : came ≡ a.end
   pub desk : of_desk w ≡ a.desk
   pub work : HasWorked a.log (work_of v.sheet m) (work_of w.sheet n)
+  pub history : w.sheet.history ≡ v.sheet.history

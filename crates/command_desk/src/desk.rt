@@ -1,6 +1,7 @@
 // The desk.
 ghost use Rattle.std.specs.Prelude.{◌≡◌, [], IfOk};
 ghost use Rattle.command_desk.specs.Desks.{fresh_desk, of_desk};
+ghost use Rattle.sheet_undo.specs.Histories.{no_history};
 
 use crate::printing::PrintDesk;
 use data_blocks::DeskRanges;
@@ -24,6 +25,7 @@ impl Desk {
     pub fn new(alloc: Global) -> Result<Desk, Memory>
         ensures desk { IfOk result (λ desk. of_desk desk ≡ fresh_desk) }
         ensures dirty { IfOk result (λ desk. desk.sheet.dirty ≡ []) }
+        ensures history { IfOk result (λ desk. desk.sheet.history ≡ no_history) }
     {
         let print = PrintDesk::new(alloc)?;
         Ok(Desk {

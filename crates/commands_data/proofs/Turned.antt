@@ -27,7 +27,7 @@ none_done a = record {
   tally = refl;
   scene = refl;
   kept = refl;
-  did = record { sheet = refl; work = refl };
+  did = record { sheet = refl; work = refl; history = refl };
 }
 
 -- one act behind another

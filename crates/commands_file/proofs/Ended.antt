@@ -44,7 +44,7 @@ over call act reply came v w m n before now acted answered =
 -- a refused command
 refused_on : (e : CommandError) (came : CommandEnd) (v : declared.Desk) (n : ℕ) → came ≡ Refused e
     → HasActedOn (refused e (of_desk v)) came v v n n
-refused_on e came v n is = record { end = is; desk = refl; work = refl }
+refused_on e came v n is = record { end = is; desk = refl; work = refl; history = refl }
 
 module _ (v : declared.Desk) (n : ℕ) (before now : ShelfView) where
   -- a save whose call wrote the file is finished
@@ -202,14 +202,24 @@ module _ (make : SavedSheet → DeskActed) (name : List ℕ) (v : declared.Desk)
 pub done_on : (done : Done) (v : declared.Desk) (new : Worksheet) (m n : ℕ) → Did done v.sheet new m n →
     HasActedOn (finished done (of_desk v)) Finished v (record v { sheet = new }) m n
 done_on done v new m n did =
-    record { end = refl; desk = ap (λ (s : Sheet). on_sheet (of_desk v) s) did.sheet; work = did.work }
+    record {
+      end = refl;
+      desk = ap (λ (s : Sheet). on_sheet (of_desk v) s) did.sheet;
+      work = did.work;
+      history = did.history;
+    }
 
 -- a command over the worksheet is one over the desk
 pub acted_on : (act : Sheet → Acted) (came : CommandEnd) (v : declared.Desk) (new : Worksheet) (m n : ℕ)
     → HasActedBy act came v.sheet new m n →
     HasActedOn (on_desk act (of_desk v)) came v (record v { sheet = new }) m n
 acted_on act came v new m n acted =
-    record { end = acted.end; desk = ap (λ (s : Sheet). on_sheet (of_desk v) s) acted.did.sheet; work = acted.did.work }
+    record {
+      end = acted.end;
+      desk = ap (λ (s : Sheet). on_sheet (of_desk v) s) acted.did.sheet;
+      work = acted.did.work;
+      history = acted.did.history;
+    }
 
 -- a file's sheet took the place of the sheet, and was recalculated
 pub retrieved_acts : (saved : SavedSheet) (scene there_seen : Scene) (v mid w : Worksheet) (m n : ℕ) →

@@ -35,7 +35,7 @@ fn replace(
     ensures { let done = retrieved_sheet saved scene.entry.now (of_worksheet sheet.old) in
         OnOk result (Did done sheet.old sheet.new tally.old.count tally.new.count) }
 {
-    *sheet = Worksheet::restore(saved)?;
+    sheet.take_saved(saved)?;
     let there = Scene {
         cursor: pointer_of(sheet),
         now: scene.now,

@@ -112,7 +112,7 @@ fn act_on(action: RangeAction, answers: &Answers, work: &mut Work<'_>) -> Result
         RangeAction::LabelRight => labelled(LabelPrefix::Right, answers, work),
         RangeAction::LabelCenter => labelled(LabelPrefix::Center, answers, work),
         RangeAction::NameCreate => create_name(answers, work.sheet),
-        RangeAction::NameDelete => Ok(delete_name(line_at(answers, 0), work.sheet)),
+        RangeAction::NameDelete => delete_name(line_at(answers, 0), work.sheet),
         RangeAction::NameReset => Ok(reset_names(work.sheet)),
         RangeAction::Value => valued(Layout::Straight, answers, work),
         RangeAction::Transpose => valued(Layout::Turned, answers, work),

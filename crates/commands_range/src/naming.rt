@@ -56,28 +56,29 @@ pub fn create_name(answers: &Answers, sheet: &mut Worksheet) -> Result<CommandEn
 }
 
 // A name goes, where it is there.
-fn take_away(name: &[u8], sheet: &mut Worksheet) -> CommandEnd
+fn take_away(name: &[u8], sheet: &mut Worksheet) -> Result<CommandEnd, Memory>
     requires valid { fault_of name.now ≡ None }
     requires short { length name.now ≤ 15 }
-    ensures { (n : ℕ) → HasActed
+    ensures { IfOk result (λ end. (n : ℕ) → HasActed
         (taken_away (map.get sheet.old.names (key_of name.now)) name.now (of_worksheet sheet.old))
-        result sheet.old sheet.new n n }
+        end sheet.old sheet.new n n) }
 {
     match sheet.names().find(name) {
         Some(_span) => match sheet.delete_name(name) {
-            Ok(()) => CommandEnd::Finished,
-            Err(_) => unreachable!(),
+            Ok(()) => Ok(CommandEnd::Finished),
+            Err(_) => Err(Memory),
         },
-        None => CommandEnd::Refused(CommandError::NameNotFound(0)),
+        None => Ok(CommandEnd::Refused(CommandError::NameNotFound(0))),
     }
 }
 
 /// Takes the name away that the text is. It is refused by `InvalidName`, or by `NameNotFound` where it isn't there.
-pub fn delete_name(name: &[u8], sheet: &mut Worksheet) -> CommandEnd
-    ensures { (n : ℕ) → HasActed (name_deleted name.now (of_worksheet sheet.old)) result sheet.old sheet.new n n }
+pub fn delete_name(name: &[u8], sheet: &mut Worksheet) -> Result<CommandEnd, Memory>
+    ensures { IfOk result (λ end. (n : ℕ) → HasActed (name_deleted name.now (of_worksheet sheet.old))
+        end sheet.old sheet.new n n) }
 {
     match fault_of(name) {
-        Some(fault) => CommandEnd::Refused(CommandError::InvalidName(fault)),
+        Some(fault) => Ok(CommandEnd::Refused(CommandError::InvalidName(fault))),
         None => take_away(name, sheet),
     }
 }

@@ -38,6 +38,7 @@ quiet_is : (s : Sheet) (v w : Worksheet) (n : ℕ) → Did (quiet s) v w n n →
       stale = s.stale;
       names = s.names;
       settings = s.settings;
+      history = v.history;
     }
 quiet_is s v w n did = λ i. record {
   grid = (did.sheet i).grid;
@@ -46,6 +47,7 @@ quiet_is s v w n did = λ i. record {
   stale = (did.sheet i).stale;
   names = (did.sheet i).names;
   settings = (did.sheet i).settings;
+  history = did.history i;
 }
 
 -- one column was hidden, or shown, and the others are still to come
@@ -64,7 +66,11 @@ pub hidden_all : (v w : Worksheet) (span : Extent) (hidden : Bool) (col left : �
     ≡ record v { grid = all_hidden (columns_of span) hidden v.grid } →
     DidEdit (hidden_in hidden span) v w
 hidden_all v w span hidden col left e h =
-    λ n. record { sheet = ap of_worksheet is; work = ap (λ (x : Worksheet). work_of x n) is }
+    λ n. record {
+      sheet = ap of_worksheet is;
+      work = ap (λ (x : Worksheet). work_of x n) is;
+      history = ap (λ (x : Worksheet). x.history) is;
+    }
   where
     is : w ≡ record v { grid = all_hidden (columns_of span) hidden v.grid }
     is = ap (λ (k : ℕ). record w { grid = all_hidden (range_with_len col k) hidden w.grid }) (sym e) ∙ h

@@ -28,9 +28,9 @@ unfolding IsDistinct
 none_twice = tt
 
 -- none of its formulas is dirty, and so all are
-fresh_did : (v w : Worksheet) → of_worksheet w ≡ fresh_sheet → w.dirty ≡ [] →
+fresh_did : (v w : Worksheet) → of_worksheet w ≡ fresh_sheet → w.dirty ≡ [] → w.history ≡ v.history →
     DidEdit (restored fresh_sheet.grid fresh_sheet.names fresh_sheet.settings) v w
-fresh_did v w is none = λ n. record {
+fresh_did v w is none history = λ n. record {
   sheet = is;
   work = (
     work_of w n,
@@ -41,14 +41,16 @@ fresh_did v w is none = λ n. record {
     },
     refl,
   );
+  history = history;
 }
 
 -- a fresh sheet, after which all is recalculated
 pub erased_acted : (scene : Scene) (v mid w : Worksheet) (m n : ℕ) → of_worksheet mid ≡ fresh_sheet → mid.dirty ≡ [] →
-    Did (settled mean scene (of_worksheet mid)) mid w m n → HasActedBy (erased scene) Finished v w m n
-erased_acted scene v mid w m n is none did = record {
+    mid.history ≡ v.history → Did (settled mean scene (of_worksheet mid)) mid w m n →
+    HasActedBy (erased scene) Finished v w m n
+erased_acted scene v mid w m n is none history did = record {
   end = refl;
   did =
       did_both (restored fresh_sheet.grid fresh_sheet.names fresh_sheet.settings (of_worksheet v)) (settled mean scene)
-      v mid w m m n (fresh_did v mid is none m) did;
+      v mid w m m n (fresh_did v mid is none history m) did;
 }

@@ -42,7 +42,7 @@ fn erase(sheet: &mut Worksheet, scene: &Scene, tally: &mut Tally) -> Result<Comm
     ensures { IfOk result (λ end.
         HasActedBy (erased scene.entry.now) end sheet.old sheet.new tally.old.count tally.new.count) }
 {
-    *sheet = Worksheet::new(sheet.alloc());
+    sheet.take_fresh();
     settle(sheet, scene, tally)?;
     Ok(CommandEnd::Finished)
 }

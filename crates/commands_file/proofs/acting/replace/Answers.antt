@@ -7,5 +7,5 @@ use Rattle.commands_file.proofs.acting.replace.Goals as goal
 pub returns : goal.returns
 returns c = on_ok c.calc.result
     (λ did. retrieved_acts c.args.saved c.args.scene.now _ c.args.sheet.now _ _ _ _
-    (c.in_ok-sheet.ensures c.args.sheet.now)
+    c.in_ok-take_saved.ensures.did
     (ap (λ (x : Place). record c.args.scene.now { cursor = x }) c.pointer_of.ensures) did) c.calc.ensures.did

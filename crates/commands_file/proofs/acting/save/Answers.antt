@@ -32,7 +32,7 @@ returns-in-Written-clause-acted g c = λ n.
     (subst (λ (x : SavedSheet). IsPlaced name (file_bytes x) c.in_ok-placed.placed before now) is
     c.in_ok-placed.ensures.placed) in
     saved_so name bytes v n before now (record v { file_name = Some name })
-    (record { end = refl; desk = refl; work = refl }) placed
+    (record { end = refl; desk = refl; work = refl; history = refl }) placed
 
 pub returns-in-Failed-clause-acted : goal.returns-in-Failed-clause-acted
 returns-in-Failed-clause-acted g c = λ n.

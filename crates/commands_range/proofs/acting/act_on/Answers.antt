@@ -1,11 +1,13 @@
 use Rattle.std.specs.Prelude.{refl}
+use Rattle.command_desk.proofs.Edited.{if_ok}
 use Rattle.commands_range.proofs.acting.act_on.Goals as goal
 
 pub returns-in-NameDelete : goal.returns-in-NameDelete
-returns-in-NameDelete c = record {
-  same = record { sheet = refl; scene = refl; tally = refl };
-  acted = rw c.in-NameDelete.is (rw (← c.line_at.ensures) (c.delete_name.ensures c.args.work.now.tally.now.count));
-}
+returns-in-NameDelete c =
+    if_ok c.delete_name.result (λ end acts. record {
+      same = record { sheet = refl; scene = refl; tally = refl };
+      acted = rw c.in-NameDelete.is (rw (← c.line_at.ensures) (acts c.args.work.now.tally.now.count));
+    }) c.delete_name.ensures
 
 pub returns-in-NameReset : goal.returns-in-NameReset
 returns-in-NameReset c = record {
