@@ -12,7 +12,6 @@ UNMENDED = {
     "data_query": "push_records extracted_cells fields_extracted extract records_of",
     "formula_eval": "row_holds chosen listed_value call_value binary_value items_of_records over_column by_column",
     "macro_text": "word_outcome",
-    "macro_words": "command_row counted_row word_row row",
     "recalculation": "evaluate_next further first_pass recalc recalc_in_order recalc_walked recalc_natural"
                       " recalc_plain recalc_span",
     "sheet_edits": "write_evaluated",

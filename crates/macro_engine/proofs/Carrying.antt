@@ -33,7 +33,11 @@ if_ok (Err e) f p = p
 
 -- nothing was done
 pub left : (v w : Worksheet) (m n : ℕ) → w ≡ v → n ≡ m → Did (quiet (of_worksheet v)) v w m n
-left v w m n same count = record { sheet = ap of_worksheet same; work = λ i. work_of (same i) (count i) }
+left v w m n same count = record {
+  sheet = ap of_worksheet same;
+  work = λ i. work_of (same i) (count i);
+  history = ap (λ (x : Worksheet). x.history) same;
+}
 
 -- the first marked cell of a list is just that
 first_marked_is : (g : Grid) (cells : List Place) → IsFirstOf g (has same_place cells) (first_marked g cells)

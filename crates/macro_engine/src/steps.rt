@@ -15,7 +15,9 @@ use grid_address::Cell;
 use key_words::Key;
 use lics_text::{Memory, Text};
 use macro_text::{KeptWords, MacroFault, Spot, Unit, next_unit};
-use macro_words::{Change, Deed, FileDeed, Move, Row, Running, Waiting, key_row, return_row, row};
+use macro_words::{
+    Change, Deed, FileDeed, Move, Row, Running, Source, Waiting, key_row, return_row, row,
+};
 use std::mem;
 use work_sheet::Worksheet;
 
@@ -169,6 +171,20 @@ fn cell_of(running: &Running) -> Cell
     running.position.spot.cell
 }
 
+// What words read.
+fn source<'a>(sheet: &'a Worksheet, scene: &'a Scene) -> Source<'a, Worksheet>
+    ensures look { result.look.now ≡ sheet.now }
+    ensures scene { result.scene.now ≡ scene.entry.now }
+    ensures global { result.global.0 ≡ sheet.now.settings.format }
+{
+    Source {
+        alloc: sheet.alloc(),
+        look: sheet,
+        scene,
+        global: sheet.settings().format,
+    }
+}
+
 // The command, or the call, whose word stands at a place. The macro stands behind it already.
 fn command_stepped(
     running: &mut Running,
@@ -182,8 +198,8 @@ fn command_stepped(
         IfOk result (λ x. HasStepped step x.end (left_running x.goes_on (Some running.new))
         sheet.old sheet.new tally.old.count tally.new.count) }
 {
-    let global = sheet.settings().format;
-    let row = row(sheet.alloc(), sheet, scene, global, running, kept, at)?;
+    let from = source(sheet, scene);
+    let row = row(&from, running, kept, at)?;
     row_stepped(running, at.cell, row, sheet, scene, tally)
 }
 
@@ -199,7 +215,8 @@ fn return_stepped(
         sheet.old sheet.new tally.old.count tally.new.count) }
 {
     let cell = cell_of(running);
-    let row = return_row(sheet.alloc(), sheet, scene, running)?;
+    let from = source(sheet, scene);
+    let row = return_row(&from, running)?;
     row_stepped(running, cell, row, sheet, scene, tally)
 }
 
@@ -258,6 +275,7 @@ pub fn key_stepped(
 {
     let waiting = mem::replace(&mut running.waiting, Waiting::Nothing);
     let cell = cell_of(running);
-    let row = key_row(sheet.alloc(), sheet, scene, running, waiting, key)?;
+    let from = source(sheet, scene);
+    let row = key_row(&from, running, waiting, key)?;
     row_stepped(running, cell, row, sheet, scene, tally)
 }

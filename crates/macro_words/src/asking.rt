@@ -1,6 +1,6 @@
 // Words that wait, and the text in the mode's place.
 ghost use Rattle.std.specs.Prelude.{◌≡◌, IfOk};
-ghost use Rattle.formula_eval.specs.Scenes.{outlook_of};
+ghost use Rattle.macro_words.specs.Sources.{outlook_from};
 ghost use Rattle.lics_text.specs.Bytes.{IsText};
 ghost use Rattle.macro_words.specs.Rows as spec;
 ghost use Rattle.macro_words.specs.Values as values;
@@ -9,16 +9,17 @@ ghost use Rattle.value_functions.specs.Values.{text_in};
 use crate::items::items_at;
 use crate::rows::{bad, moves};
 use crate::values::{let_value, puts_text};
-use crate::{KeptQuestion, MacroMenu, Move, Question, Row, Running, Switches, Waiting, Wanted};
+use crate::{
+    KeptQuestion, MacroMenu, Move, Question, Row, Running, Source, Switches, Waiting, Wanted,
+};
 use entry_line::EntryLine;
 use fixed_value::Fixed;
-use formula_eval::{Look, Scene};
+use formula_eval::Look;
 use formula_tree::{Function, Value};
 use grid_address::Cell;
 use key_words::Command;
 use lics_text::{Memory, Text};
 use macro_text::{MacroFault, Spot, TextList, number_of, place_of};
-use std::alloc::Global;
 use value_functions::constant_value;
 
 /// The macro waits for this.
@@ -43,25 +44,23 @@ fn text_of(value: Value) -> Option<Text>
 
 /// A text, as LET takes one; none where the argument's value is none.
 pub fn text_given<K: Look>(
-    alloc: Global,
-    look: &K,
-    scene: &Scene,
+    from: &Source<'_, K>,
     at: Cell,
     text: &[u8],
 ) -> Result<Option<Text>, Memory>
     requires { IsText text.now }
-    ensures { let outlook = outlook_of (K.sight look.now) scene.entry.now in
+    ensures { let outlook = outlook_from K.Look from.now in
         IfOk result (λ t. t ≡ text_in (values.let_value outlook at text.now)) }
 {
-    let value = let_value(alloc, look, scene, at, text, None)?;
+    let value = let_value(from, at, text, None)?;
     Ok(text_of(value))
 }
 
 /// GET: the macro waits for a key, which is put into a cell as a macro spells it.
-pub fn get_row<K: Look>(look: &K, scene: &Scene, args: &TextList) -> Row
-    ensures { result ≡ spec.get_row (outlook_of (K.sight look.now) scene.entry.now) args.now }
+pub fn get_row<K: Look>(from: &Source<'_, K>, args: &TextList) -> Row
+    ensures { result ≡ spec.get_row (outlook_from K.Look from.now) args.now }
 {
-    match place_of(look.names(), args.get(0)) {
+    match place_of(from.look.names(), args.get(0)) {
         Some(cell) => awaits(Waiting::OneKey(cell)),
         None => bad(),
     }
@@ -69,20 +68,18 @@ pub fn get_row<K: Look>(look: &K, scene: &Scene, args: &TextList) -> Row
 
 /// GETLABEL and GETNUMBER: the macro shows a prompt and waits for a line, which is put into a cell.
 pub fn question_row<K: Look>(
-    alloc: Global,
-    look: &K,
-    scene: &Scene,
+    from: &Source<'_, K>,
     at: &Spot,
     wanted: Wanted,
     args: &TextList,
 ) -> Result<Row, Memory>
-    ensures { let outlook = outlook_of (K.sight look.now) scene.entry.now in
+    ensures { let outlook = outlook_from K.Look from.now in
         IfOk result (λ r. r ≡ spec.question_row outlook at.now wanted args.now) }
 {
-    let Some(prompt) = text_given(alloc, look, scene, at.cell, args.get(0))? else {
+    let Some(prompt) = text_given(from, at.cell, args.get(0))? else {
         return Ok(bad());
     };
-    match place_of(look.names(), args.get(1)) {
+    match place_of(from.look.names(), args.get(1)) {
         Some(target) => {
             let question = Question {
                 prompt,
@@ -90,7 +87,7 @@ pub fn question_row<K: Look>(
                 target,
                 wanted,
             };
-            Ok(awaits(Waiting::Line(KeptQuestion::new(alloc, question)?)))
+            Ok(awaits(Waiting::Line(KeptQuestion::new(from.alloc, question)?)))
         }
         None => {
             drop(prompt);
@@ -100,17 +97,12 @@ pub fn question_row<K: Look>(
 }
 
 /// LOOK: an empty label is put into a cell, since no key waits before it is asked for (this project's choice).
-pub fn look_row<K: Look>(
-    alloc: Global,
-    look: &K,
-    scene: &Scene,
-    args: &TextList,
-) -> Result<Row, Memory>
-    ensures { let outlook = outlook_of (K.sight look.now) scene.entry.now in
+pub fn look_row<K: Look>(from: &Source<'_, K>, args: &TextList) -> Result<Row, Memory>
+    ensures { let outlook = outlook_from K.Look from.now in
         IfOk result (λ r. r ≡ spec.look_row outlook args.now) }
 {
-    match place_of(look.names(), args.get(0)) {
-        Some(cell) => puts_text(alloc, cell, b"", Move::Stay),
+    match place_of(from.look.names(), args.get(0)) {
+        Some(cell) => puts_text(from.alloc, cell, b"", Move::Stay),
         None => Ok(bad()),
     }
 }
@@ -132,11 +124,11 @@ fn offers(first: Cell, count: usize, caller: Option<Spot>) -> Row
 
 /// MENUBRANCH: the macro waits for the choice of an item, and goes on there; with the place of its word it is MENUCALL,
 /// which calls what is chosen. A fault comes where no label stands in the first cell.
-pub fn menu_row<K: Look>(look: &K, scene: &Scene, caller: Option<Spot>, args: &TextList) -> Row
-    ensures { result ≡ spec.menu_row (outlook_of (K.sight look.now) scene.entry.now) caller args.now }
+pub fn menu_row<K: Look>(from: &Source<'_, K>, caller: Option<Spot>, args: &TextList) -> Row
+    ensures { result ≡ spec.menu_row (outlook_from K.Look from.now) caller args.now }
 {
-    match place_of(look.names(), args.get(0)) {
-        Some(first) => offers(first, items_at(look, first), caller),
+    match place_of(from.look.names(), args.get(0)) {
+        Some(first) => offers(first, items_at(from.look, first), caller),
         None => bad(),
     }
 }
@@ -166,40 +158,36 @@ fn number_kept(waiting: &Waiting) -> Option<Fixed>
 
 // The number, read at the word's first step.
 fn kept_or_read<K: Look>(
-    alloc: Global,
-    look: &K,
-    scene: &Scene,
+    from: &Source<'_, K>,
     at: &Spot,
     args: &TextList,
     kept: Option<Fixed>,
 ) -> Result<Option<Fixed>, Memory>
-    ensures { let outlook = outlook_of (K.sight look.now) scene.entry.now in
+    ensures { let outlook = outlook_from K.Look from.now in
         IfOk result (λ n. n ≡ spec.kept_or_read outlook at.now args.now kept) }
 {
     match kept {
         Some(number) => Ok(Some(number)),
-        None => number_of(alloc, args.get(0), at.cell, look, scene),
+        None => number_of(from.alloc, args.get(0), at.cell, from.look, from.scene),
     }
 }
 
 /// WAIT: the macro stays at its word while the moment is before a number, which is read at the first step and kept.
 /// Where the clock has no day, it goes on.
 pub fn wait_row<K: Look>(
-    alloc: Global,
-    look: &K,
-    scene: &Scene,
+    from: &Source<'_, K>,
     running: &Running,
     at: &Spot,
     args: &TextList,
 ) -> Result<Row, Memory>
-    ensures { let outlook = outlook_of (K.sight look.now) scene.entry.now in
+    ensures { let outlook = outlook_from K.Look from.now in
         IfOk result (λ r. r ≡ spec.wait_row outlook running.now at.now args.now) }
 {
     let kept = number_kept(&running.waiting);
-    let Some(number) = kept_or_read(alloc, look, scene, at, args, kept)? else {
+    let Some(number) = kept_or_read(from, at, args, kept)? else {
         return Ok(bad());
     };
-    if is_before(&constant_value(Function::Now, scene.now), number) {
+    if is_before(&constant_value(Function::Now, from.scene.now), number) {
         Ok(moves(Move::Pause(*at, number)))
     } else {
         Ok(moves(Move::Go(running.position.spot)))
@@ -208,19 +196,17 @@ pub fn wait_row<K: Look>(
 
 /// INDICATE: a text is shown in the mode's place, or without an argument the mode again.
 pub fn indicate_row<K: Look>(
-    alloc: Global,
-    look: &K,
-    scene: &Scene,
+    from: &Source<'_, K>,
     at: &Spot,
     args: &TextList,
 ) -> Result<Row, Memory>
-    ensures { let outlook = outlook_of (K.sight look.now) scene.entry.now in
+    ensures { let outlook = outlook_from K.Look from.now in
         IfOk result (λ r. r ≡ spec.indicate_row outlook at.now args.now) }
 {
     if args.len() == 0 {
-        return Ok(moves(Move::Indicate(Text::copy_of(alloc, b"")?)));
+        return Ok(moves(Move::Indicate(Text::copy_of(from.alloc, b"")?)));
     }
-    match text_given(alloc, look, scene, at.cell, args.get(0))? {
+    match text_given(from, at.cell, args.get(0))? {
         Some(text) => Ok(moves(Move::Indicate(text))),
         None => Ok(bad()),
     }

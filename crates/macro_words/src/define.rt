@@ -1,15 +1,15 @@
 // DEFINE, which reads the arguments of the present routine's call.
 ghost use Rattle.std.specs.Prelude.{◌≡◌, ◌∷◌, [], length, IfOk, Some};
-ghost use Rattle.formula_eval.specs.Scenes.{outlook_of};
+ghost use Rattle.macro_words.specs.Sources.{outlook_from};
 ghost use Rattle.formula_tree.specs.declared.value.Value.TheVariants as value;
 ghost use Rattle.lics_text.specs.Bytes.{IsText};
 ghost use Rattle.macro_words.specs.Rows as spec;
 
 use crate::rows::bad;
 use crate::values::{AS_STRING, AS_VALUE, ends_in, text_value, without};
-use crate::{Change, Deed, Frame, Move, Row, Running};
+use crate::{Change, Deed, Frame, Move, Row, Running, Source};
 use block_writes::{content_of, written};
-use formula_eval::{Look, Scene};
+use formula_eval::Look;
 use formula_tree::Value;
 use grid_address::Cell;
 use key_words::{MacroWord, unit_at};
@@ -57,24 +57,19 @@ fn given_in(
 }
 
 // The arguments of the call whose word stands at a place, as its text now stands.
-fn given_at<K: Look>(
-    alloc: Global,
-    look: &K,
-    scene: &Scene,
-    call: Option<Spot>,
-) -> Result<Option<TextList>, Memory>
-    ensures { let outlook = outlook_of (K.sight look.now) scene.entry.now in
+fn given_at<K: Look>(from: &Source<'_, K>, call: Option<Spot>) -> Result<Option<TextList>, Memory>
+    ensures { let outlook = outlook_from K.Look from.now in
         IfOk result (λ l. l ≡ spec.given_at outlook call) }
 {
     let Some(spot) = call else {
         return Ok(None);
     };
-    let Some(text) = macro_text(look, spot.cell) else {
+    let Some(text) = macro_text(from.look, spot.cell) else {
         return Ok(None);
     };
     let bytes = text.bytes();
     let (word, _) = unit_at(bytes, spot.offset);
-    given_in(alloc, look.names(), bytes, word)
+    given_in(from.alloc, from.look.names(), bytes, word)
 }
 
 // A value for a cell, where both are there.
@@ -107,47 +102,47 @@ fn plain_target(target: &[u8]) -> &[u8]
 
 // What a cell takes of an argument.
 fn defined<K: Look>(
-    alloc: Global,
-    look: &K,
-    scene: &Scene,
+    from: &Source<'_, K>,
     at: Cell,
     target: &[u8],
     given: &[u8],
 ) -> Result<Option<Write>, Memory>
     requires { IsText given.now }
-    ensures { let outlook = outlook_of (K.sight look.now) scene.entry.now in
+    ensures { let outlook = outlook_from K.Look from.now in
         IfOk result (λ e. e ≡ spec.defined outlook at target.now given.now) }
 {
     if ends_in(target, AS_VALUE) {
-        let value = expression_value(alloc, given, at, look, scene)?;
+        let value = expression_value(from.alloc, given, at, from.look, from.scene)?;
         return entered(
-            alloc,
-            place_of(look.names(), without(target, AS_VALUE)),
+            from.alloc,
+            place_of(from.look.names(), without(target, AS_VALUE)),
             &value,
         );
     }
-    let value = Some(text_value(alloc, given)?);
-    entered(alloc, place_of(look.names(), plain_target(target)), &value)
+    let value = Some(text_value(from.alloc, given)?);
+    entered(
+        from.alloc,
+        place_of(from.look.names(), plain_target(target)),
+        &value,
+    )
 }
 
 // What cells take of as many arguments; none where their numbers differ.
 fn defined_all<K: Look>(
-    alloc: Global,
-    look: &K,
-    scene: &Scene,
+    from: &Source<'_, K>,
     at: Cell,
     mut targets: &[Text],
     mut given: &[Text],
 ) -> Result<Option<Writes>, Memory>
-    ensures { let outlook = outlook_of (K.sight look.now) scene.entry.now in
+    ensures { let outlook = outlook_from K.Look from.now in
         IfOk result (λ ws. ws ≡ spec.defined_all outlook at targets.entry.now given.entry.now) }
 {
-    let mut writes = Writes::new(alloc);
+    let mut writes = Writes::new(from.alloc);
     while let [target, more @ ..] = targets {
         let [argument, rest @ ..] = given else {
             return Ok(None);
         };
-        let Some(write) = defined(alloc, look, scene, at, target.bytes(), argument.bytes())? else {
+        let Some(write) = defined(from, at, target.bytes(), argument.bytes())? else {
             return Ok(None);
         };
         writes.push(write)?;
@@ -163,21 +158,19 @@ fn defined_all<K: Look>(
 
 /// DEFINE.
 pub fn define_row<K: Look>(
-    alloc: Global,
-    look: &K,
-    scene: &Scene,
+    from: &Source<'_, K>,
     running: &Running,
     at: &Spot,
     args: &TextList,
 ) -> Result<Row, Memory>
-    ensures { let outlook = outlook_of (K.sight look.now) scene.entry.now in
+    ensures { let outlook = outlook_from K.Look from.now in
         IfOk result (λ r. r ≡ spec.define_row outlook running.now at.now args.now) }
 {
     let call = present_call(running.frames.items());
-    let Some(given) = given_at(alloc, look, scene, call)? else {
+    let Some(given) = given_at(from, call)? else {
         return Ok(bad());
     };
-    match defined_all(alloc, look, scene, at.cell, args.items(), given.items())? {
+    match defined_all(from, at.cell, args.items(), given.items())? {
         Some(writes) => Ok(Ok(Deed {
             change: Change::Write(writes),
             after: Move::Stay,

@@ -1,17 +1,16 @@
 // Words on text files.
 ghost use Rattle.std.specs.Prelude.{◌≡◌, IfOk};
-ghost use Rattle.formula_eval.specs.Scenes.{outlook_of};
+ghost use Rattle.macro_words.specs.Sources.{outlook_from};
 ghost use Rattle.macro_words.specs.Rows as spec;
 
 use crate::asking::text_given;
 use crate::rows::{bad, below, moves};
 use crate::writing::{count_given, within};
-use crate::{FileDeed, FileWord, Move, Row};
-use formula_eval::{Look, Scene};
+use crate::{FileDeed, FileWord, Move, Row, Source};
+use formula_eval::Look;
 use lics_text::{MAX_LEN, Memory};
 use macro_text::{Spot, TextList, place_of};
 use outside_world::{Ext, FileName};
-use std::alloc::Global;
 use text_channel::Access;
 
 // The text file that a text names, with `.TXT` where it has no extension.
@@ -50,17 +49,11 @@ pub fn asks(at: &Spot, word: FileWord) -> Row
 }
 
 /// OPEN.
-pub fn open_row<K: Look>(
-    alloc: Global,
-    look: &K,
-    scene: &Scene,
-    at: &Spot,
-    args: &TextList,
-) -> Result<Row, Memory>
-    ensures { let outlook = outlook_of (K.sight look.now) scene.entry.now in
+pub fn open_row<K: Look>(from: &Source<'_, K>, at: &Spot, args: &TextList) -> Result<Row, Memory>
+    ensures { let outlook = outlook_from K.Look from.now in
         IfOk result (λ r. r ≡ spec.open_row outlook at.now args.now) }
 {
-    let Some(text) = text_given(alloc, look, scene, at.cell, args.get(0))? else {
+    let Some(text) = text_given(from, at.cell, args.get(0))? else {
         return Ok(bad());
     };
     let Some(name) = text_file(text.bytes()) else {
@@ -73,48 +66,36 @@ pub fn open_row<K: Look>(
 }
 
 /// READ.
-pub fn read_row<K: Look>(
-    alloc: Global,
-    look: &K,
-    scene: &Scene,
-    at: &Spot,
-    args: &TextList,
-) -> Result<Row, Memory>
-    ensures { let outlook = outlook_of (K.sight look.now) scene.entry.now in
+pub fn read_row<K: Look>(from: &Source<'_, K>, at: &Spot, args: &TextList) -> Result<Row, Memory>
+    ensures { let outlook = outlook_from K.Look from.now in
         IfOk result (λ r. r ≡ spec.read_row outlook at.now args.now) }
 {
-    let count = count_given(alloc, look, scene, at.cell, args.get(0))?;
+    let count = count_given(from, at.cell, args.get(0))?;
     let Some(count) = within(0, MAX_LEN as u8, count) else {
         return Ok(bad());
     };
-    match place_of(look.names(), args.get(1)) {
+    match place_of(from.look.names(), args.get(1)) {
         Some(cell) => Ok(asks(at, FileWord::Read(count, cell))),
         None => Ok(bad()),
     }
 }
 
 /// READLN.
-pub fn read_line_row<K: Look>(look: &K, scene: &Scene, at: &Spot, args: &TextList) -> Row
-    ensures { result ≡ spec.read_line_row (outlook_of (K.sight look.now) scene.entry.now) at.now args.now }
+pub fn read_line_row<K: Look>(from: &Source<'_, K>, at: &Spot, args: &TextList) -> Row
+    ensures { result ≡ spec.read_line_row (outlook_from K.Look from.now) at.now args.now }
 {
-    match place_of(look.names(), args.get(0)) {
+    match place_of(from.look.names(), args.get(0)) {
         Some(cell) => asks(at, FileWord::ReadLine(cell)),
         None => bad(),
     }
 }
 
 /// WRITE.
-pub fn write_row<K: Look>(
-    alloc: Global,
-    look: &K,
-    scene: &Scene,
-    at: &Spot,
-    args: &TextList,
-) -> Result<Row, Memory>
-    ensures { let outlook = outlook_of (K.sight look.now) scene.entry.now in
+pub fn write_row<K: Look>(from: &Source<'_, K>, at: &Spot, args: &TextList) -> Result<Row, Memory>
+    ensures { let outlook = outlook_from K.Look from.now in
         IfOk result (λ r. r ≡ spec.write_row outlook at.now args.now) }
 {
-    match text_given(alloc, look, scene, at.cell, args.get(0))? {
+    match text_given(from, at.cell, args.get(0))? {
         Some(text) => Ok(asks(at, FileWord::Write(text))),
         None => Ok(bad()),
     }
@@ -122,36 +103,34 @@ pub fn write_row<K: Look>(
 
 /// WRITELN.
 pub fn write_line_row<K: Look>(
-    alloc: Global,
-    look: &K,
-    scene: &Scene,
+    from: &Source<'_, K>,
     at: &Spot,
     args: &TextList,
 ) -> Result<Row, Memory>
-    ensures { let outlook = outlook_of (K.sight look.now) scene.entry.now in
+    ensures { let outlook = outlook_from K.Look from.now in
         IfOk result (λ r. r ≡ spec.write_line_row outlook at.now args.now) }
 {
-    match text_given(alloc, look, scene, at.cell, args.get(0))? {
+    match text_given(from, at.cell, args.get(0))? {
         Some(text) => Ok(asks(at, FileWord::WriteLine(text))),
         None => Ok(bad()),
     }
 }
 
 /// FILESIZE.
-pub fn size_row<K: Look>(look: &K, scene: &Scene, at: &Spot, args: &TextList) -> Row
-    ensures { result ≡ spec.size_row (outlook_of (K.sight look.now) scene.entry.now) at.now args.now }
+pub fn size_row<K: Look>(from: &Source<'_, K>, at: &Spot, args: &TextList) -> Row
+    ensures { result ≡ spec.size_row (outlook_from K.Look from.now) at.now args.now }
 {
-    match place_of(look.names(), args.get(0)) {
+    match place_of(from.look.names(), args.get(0)) {
         Some(cell) => asks(at, FileWord::Size(cell)),
         None => bad(),
     }
 }
 
 /// GETPOS.
-pub fn position_row<K: Look>(look: &K, scene: &Scene, at: &Spot, args: &TextList) -> Row
-    ensures { result ≡ spec.position_row (outlook_of (K.sight look.now) scene.entry.now) at.now args.now }
+pub fn position_row<K: Look>(from: &Source<'_, K>, at: &Spot, args: &TextList) -> Row
+    ensures { result ≡ spec.position_row (outlook_from K.Look from.now) at.now args.now }
 {
-    match place_of(look.names(), args.get(0)) {
+    match place_of(from.look.names(), args.get(0)) {
         Some(cell) => asks(at, FileWord::Position(cell)),
         None => bad(),
     }
@@ -159,16 +138,14 @@ pub fn position_row<K: Look>(look: &K, scene: &Scene, at: &Spot, args: &TextList
 
 /// SETPOS.
 pub fn set_position_row<K: Look>(
-    alloc: Global,
-    look: &K,
-    scene: &Scene,
+    from: &Source<'_, K>,
     at: &Spot,
     args: &TextList,
 ) -> Result<Row, Memory>
-    ensures { let outlook = outlook_of (K.sight look.now) scene.entry.now in
+    ensures { let outlook = outlook_from K.Look from.now in
         IfOk result (λ r. r ≡ spec.set_position_row outlook at.now args.now) }
 {
-    match count_given(alloc, look, scene, at.cell, args.get(0))? {
+    match count_given(from, at.cell, args.get(0))? {
         Some(place) => Ok(asks(at, FileWord::SetPosition(place))),
         None => Ok(bad()),
     }

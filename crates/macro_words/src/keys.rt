@@ -1,6 +1,6 @@
 // What a key does to a macro that waits.
 ghost use Rattle.std.specs.Prelude.{◌≡◌, ◌≤◌, length, IfOk};
-ghost use Rattle.formula_eval.specs.Scenes.{outlook_of};
+ghost use Rattle.macro_words.specs.Sources.{outlook_from};
 ghost use Rattle.lics_text.specs.Bytes.{IsText};
 ghost use Rattle.macro_words.specs.Keys as spec;
 
@@ -8,8 +8,8 @@ use crate::asking::awaits;
 use crate::items::{beside, chosen_by};
 use crate::rows::{below, calls_at, moves};
 use crate::values::{puts_text, puts_value};
-use crate::{KeptQuestion, MacroMenu, Move, Question, Row, Running, Waiting, Wanted};
-use formula_eval::{Look, Scene};
+use crate::{KeptQuestion, MacroMenu, Move, Question, Row, Running, Source, Waiting, Wanted};
+use formula_eval::Look;
 use formula_tree::Value;
 use grid_address::Cell;
 use item_ring::highlighted;
@@ -100,40 +100,37 @@ fn number_or_err(value: &Option<Value>) -> Value
 }
 
 // A line is finished, and put into its cell.
-fn finished_row<K: Look>(
-    alloc: Global,
-    look: &K,
-    scene: &Scene,
-    at: Cell,
-    question: &Question,
-) -> Result<Row, Memory>
-    ensures { let outlook = outlook_of (K.sight look.now) scene.entry.now in
+fn finished_row<K: Look>(from: &Source<'_, K>, at: Cell, question: &Question) -> Result<Row, Memory>
+    ensures { let outlook = outlook_from K.Look from.now in
         IfOk result (λ r. r ≡ spec.line_row outlook at question.now Key.Enter) }
 {
     let text = question.line.text();
     match question.wanted {
-        Wanted::Label => puts_text(alloc, question.target, text, Move::Stay),
+        Wanted::Label => puts_text(from.alloc, question.target, text, Move::Stay),
         Wanted::Number => {
-            let value = expression_value(alloc, text, at, look, scene)?;
-            puts_value(alloc, question.target, &number_or_err(&value), Move::Stay)
+            let value = expression_value(from.alloc, text, at, from.look, from.scene)?;
+            puts_value(
+                from.alloc,
+                question.target,
+                &number_or_err(&value),
+                Move::Stay,
+            )
         }
     }
 }
 
 // GETLABEL and GETNUMBER.
 fn line_row<K: Look>(
-    alloc: Global,
-    look: &K,
-    scene: &Scene,
+    from: &Source<'_, K>,
     at: Cell,
     mut question: KeptQuestion,
     key: Key,
 ) -> Result<Row, Memory>
-    ensures { let outlook = outlook_of (K.sight look.now) scene.entry.now in
+    ensures { let outlook = outlook_from K.Look from.now in
         IfOk result (λ r. r ≡ spec.line_row outlook at question key) }
 {
     match key {
-        Key::Enter => finished_row(alloc, look, scene, at, question.question()),
+        Key::Enter => finished_row(from, at, question.question()),
         _ => {
             question.press(key);
             Ok(awaits(Waiting::Line(question)))
@@ -165,12 +162,12 @@ fn highlights(menu: &MacroMenu, highlight: usize) -> Row
 }
 
 // MENUBRANCH and MENUCALL.
-fn item_row<K: Look>(look: &K, scene: &Scene, running: &Running, menu: &MacroMenu, key: Key) -> Row
-    ensures { result ≡ spec.item_row (outlook_of (K.sight look.now) scene.entry.now) running.now menu.now key }
+fn item_row<K: Look>(from: &Source<'_, K>, running: &Running, menu: &MacroMenu, key: Key) -> Row
+    ensures { result ≡ spec.item_row (outlook_from K.Look from.now) running.now menu.now key }
 {
     match key {
         Key::Enter => choice_row(running, menu, menu.highlight),
-        Key::Byte(byte) => match chosen_by(look, menu, byte.get()) {
+        Key::Byte(byte) => match chosen_by(from.look, menu, byte.get()) {
             Some(place) => choice_row(running, menu, place),
             None => highlights(menu, menu.highlight),
         },
@@ -191,25 +188,23 @@ fn enter_row(key: Key) -> Row
 
 // What a key does, by what the macro waits for.
 fn waiting_row<K: Look>(
-    alloc: Global,
-    look: &K,
-    scene: &Scene,
+    from: &Source<'_, K>,
     running: &Running,
     waiting: Waiting,
     key: Key,
 ) -> Result<Row, Memory>
-    ensures { let outlook = outlook_of (K.sight look.now) scene.entry.now in
+    ensures { let outlook = outlook_from K.Look from.now in
         IfOk result (λ r. r ≡ spec.waiting_row outlook running.now waiting key) }
 {
     match waiting {
         Waiting::Nothing => Ok(awaits(Waiting::Nothing)),
         Waiting::Time(number) => Ok(awaits(Waiting::Time(number))),
-        Waiting::OneKey(cell) => one_key_row(alloc, cell, key),
+        Waiting::OneKey(cell) => one_key_row(from.alloc, cell, key),
         Waiting::Line(question) => {
             let at = running.position.spot.cell;
-            line_row(alloc, look, scene, at, question, key)
+            line_row(from, at, question, key)
         }
-        Waiting::Item(menu) => Ok(item_row(look, scene, running, &menu, key)),
+        Waiting::Item(menu) => Ok(item_row(from, running, &menu, key)),
         Waiting::Enter => Ok(enter_row(key)),
     }
 }
@@ -223,18 +218,16 @@ fn waiting_row<K: Look>(
 /// choice.)
 #[tactic(auto, unfolding(crate::specs::Keys::key_row))]
 pub fn key_row<K: Look>(
-    alloc: Global,
-    look: &K,
-    scene: &Scene,
+    from: &Source<'_, K>,
     running: &Running,
     waiting: Waiting,
     key: Key,
 ) -> Result<Row, Memory>
-    ensures { let outlook = outlook_of (K.sight look.now) scene.entry.now in
+    ensures { let outlook = outlook_from K.Look from.now in
         IfOk result (λ r. r ≡ spec.key_row outlook running.now waiting key) }
 {
     match key {
         Key::Break | Key::Undo => Ok(awaits(waiting)),
-        _ => waiting_row(alloc, look, scene, running, waiting, key),
+        _ => waiting_row(from, running, waiting, key),
     }
 }

@@ -1,6 +1,6 @@
 // Loops, and what a return goes back to.
 ghost use Rattle.std.specs.Prelude.{◌≡◌, Some, IfOk, not};
-ghost use Rattle.formula_eval.specs.Scenes.{outlook_of};
+ghost use Rattle.macro_words.specs.Sources.{outlook_from};
 ghost use Rattle.formula_tree.specs.declared.value.Value.TheVariants as value;
 ghost use Rattle.macro_words.specs.Moves as moving;
 ghost use Rattle.macro_words.specs.Rows as spec;
@@ -9,9 +9,9 @@ ghost use Rattle.macro_words.specs.declared.frames.Frame.TheVariants as frame;
 use crate::going::start_of;
 use crate::rows::{bad, has_room, moves};
 use crate::values::{puts_one, puts_value};
-use crate::{Frame, Loop, Move, Row, Running};
+use crate::{Frame, Loop, Move, Row, Running, Source};
 use fixed_value::Fixed;
-use formula_eval::{Look, Scene};
+use formula_eval::Look;
 use formula_tree::{Content, Op, Value};
 use lics_text::Memory;
 use macro_text::{MacroFault, Spot, TextList, number_of, place_of};
@@ -49,44 +49,34 @@ fn round(repeated: &Loop, value: &Value) -> Move
 }
 
 // The count and the step.
-fn next_count<K: Look>(
-    alloc: Global,
-    look: &K,
-    scene: &Scene,
-    repeated: &Loop,
-) -> Result<Value, Memory>
-    ensures { let outlook = outlook_of (K.sight look.now) scene.entry.now in
+fn next_count<K: Look>(from: &Source<'_, K>, repeated: &Loop) -> Result<Value, Memory>
+    ensures { let outlook = outlook_from K.Look from.now in
         IfOk result (λ v. v ≡ spec.next_count outlook repeated.now) }
 {
-    let count = look.value(repeated.counter).copy()?;
-    binary(alloc, Op::Add, &count, &Value::Num(repeated.step))
+    let count = from.look.value(repeated.counter).copy()?;
+    binary(from.alloc, Op::Add, &count, &Value::Num(repeated.step))
 }
 
 // A loop's next round, or its end.
-fn loop_row<K: Look>(alloc: Global, look: &K, scene: &Scene, repeated: &Loop) -> Result<Row, Memory>
-    ensures { let outlook = outlook_of (K.sight look.now) scene.entry.now in
+fn loop_row<K: Look>(from: &Source<'_, K>, repeated: &Loop) -> Result<Row, Memory>
+    ensures { let outlook = outlook_from K.Look from.now in
         IfOk result (λ r. r ≡ spec.returned outlook (Some (frame.Loop repeated.now))) }
 {
-    let count = next_count(alloc, look, scene, repeated)?;
+    let count = next_count(from, repeated)?;
     let after = round(repeated, &count);
-    puts_value(alloc, repeated.counter, &count, after)
+    puts_value(from.alloc, repeated.counter, &count, after)
 }
 
 /// RETURN, and the end of a routine: back to the caller, or on with the loop, whose step is added to its count; in the
 /// first routine the macro stops.
-pub fn return_row<K: Look>(
-    alloc: Global,
-    look: &K,
-    scene: &Scene,
-    running: &Running,
-) -> Result<Row, Memory>
-    ensures { let outlook = outlook_of (K.sight look.now) scene.entry.now in
+pub fn return_row<K: Look>(from: &Source<'_, K>, running: &Running) -> Result<Row, Memory>
+    ensures { let outlook = outlook_from K.Look from.now in
         IfOk result (λ r. r ≡ spec.return_row outlook running.now) }
 {
     match running.frames.innermost() {
         None => Ok(moves(Move::Stop)),
         Some(Frame::Call(_, back)) => Ok(moves(Move::Leave(back))),
-        Some(Frame::Loop(repeated)) => loop_row(alloc, look, scene, &repeated),
+        Some(Frame::Loop(repeated)) => loop_row(from, &repeated),
     }
 }
 
@@ -124,29 +114,27 @@ fn is_zero(number: Fixed) -> bool
 
 /// FOR.
 pub fn for_row<K: Look>(
-    alloc: Global,
-    look: &K,
-    scene: &Scene,
+    from: &Source<'_, K>,
     running: &Running,
     at: &Spot,
     args: &TextList,
 ) -> Result<Row, Memory>
-    ensures { let outlook = outlook_of (K.sight look.now) scene.entry.now in
+    ensures { let outlook = outlook_from K.Look from.now in
         IfOk result (λ r. r ≡ spec.for_row outlook running.now at.now args.now) }
 {
-    let Some(counter) = place_of(look.names(), args.get(0)) else {
+    let Some(counter) = place_of(from.look.names(), args.get(0)) else {
         return Ok(bad());
     };
-    let Some(first) = number_of(alloc, args.get(1), at.cell, look, scene)? else {
+    let Some(first) = number_of(from.alloc, args.get(1), at.cell, from.look, from.scene)? else {
         return Ok(bad());
     };
-    let Some(bound) = number_of(alloc, args.get(2), at.cell, look, scene)? else {
+    let Some(bound) = number_of(from.alloc, args.get(2), at.cell, from.look, from.scene)? else {
         return Ok(bad());
     };
-    let Some(step) = number_of(alloc, args.get(3), at.cell, look, scene)? else {
+    let Some(step) = number_of(from.alloc, args.get(3), at.cell, from.look, from.scene)? else {
         return Ok(bad());
     };
-    let Some(routine) = place_of(look.names(), args.get(4)) else {
+    let Some(routine) = place_of(from.look.names(), args.get(4)) else {
         return Ok(bad());
     };
     if is_zero(step) {
@@ -159,5 +147,5 @@ pub fn for_row<K: Look>(
         bound,
         step,
     };
-    begins(alloc, running, first, begun)
+    begins(from.alloc, running, first, begun)
 }

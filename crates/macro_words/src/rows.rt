@@ -1,17 +1,16 @@
 // Words that go, call and stop.
 ghost use Rattle.std.specs.Prelude.{◌≡◌, IfOk};
-ghost use Rattle.formula_eval.specs.Scenes.{outlook_of};
+ghost use Rattle.macro_words.specs.Sources.{outlook_from};
 ghost use Rattle.macro_words.specs.Moves as moving;
 ghost use Rattle.macro_words.specs.Rows as spec;
 
 use crate::going::start_of;
-use crate::{Change, Deed, Handler, Move, Row, Running};
-use formula_eval::{Look, Scene};
+use crate::{Change, Deed, Handler, Move, Row, Running, Source};
+use formula_eval::Look;
 use formula_tree::Value;
 use grid_address::{Cell, LAST_ROW, ROWS, Span};
 use lics_text::Memory;
 use macro_text::{MacroFault, ReadArguments, Spot, TextList, place_of, read_value, text_in};
-use std::alloc::Global;
 
 /// An argument isn't of its kind.
 pub fn bad() -> Row
@@ -38,26 +37,26 @@ fn goes(cell: Cell) -> Row
 }
 
 /// BRANCH.
-pub fn branch_row<K: Look>(look: &K, scene: &Scene, args: &TextList) -> Row
-    ensures { result ≡ spec.branch_row (outlook_of (K.sight look.now) scene.entry.now) args.now }
+pub fn branch_row<K: Look>(from: &Source<'_, K>, args: &TextList) -> Row
+    ensures { result ≡ spec.branch_row (outlook_from K.Look from.now) args.now }
 {
-    match place_of(look.names(), args.get(0)) {
+    match place_of(from.look.names(), args.get(0)) {
         Some(cell) => goes(cell),
         None => bad(),
     }
 }
 
 /// DISPATCH.
-pub fn dispatch_row<K: Look>(look: &K, scene: &Scene, args: &TextList) -> Row
-    ensures { result ≡ spec.dispatch_row (outlook_of (K.sight look.now) scene.entry.now) args.now }
+pub fn dispatch_row<K: Look>(from: &Source<'_, K>, args: &TextList) -> Row
+    ensures { result ≡ spec.dispatch_row (outlook_from K.Look from.now) args.now }
 {
-    let Some(cell) = place_of(look.names(), args.get(0)) else {
+    let Some(cell) = place_of(from.look.names(), args.get(0)) else {
         return bad();
     };
-    let Some(text) = text_in(&look.value(cell)) else {
+    let Some(text) = text_in(&from.look.value(cell)) else {
         return Err(MacroFault::NotText);
     };
-    match place_of(look.names(), text.bytes()) {
+    match place_of(from.look.names(), text.bytes()) {
         Some(cell) => goes(cell),
         None => bad(),
     }
@@ -137,18 +136,16 @@ pub fn is_true(value: &Value) -> bool
 
 /// IF.
 pub fn if_row<K: Look>(
-    alloc: Global,
-    look: &K,
-    scene: &Scene,
+    from: &Source<'_, K>,
     at: &Spot,
     given: &ReadArguments,
 ) -> Result<Row, Memory>
-    ensures { let outlook = outlook_of (K.sight look.now) scene.entry.now in
+    ensures { let outlook = outlook_from K.Look from.now in
         IfOk result (λ r. r ≡ spec.if_row outlook at.now given.now) }
 {
     let text = given.list().get(0);
     let formula = given.formula(0, at.cell);
-    let value = read_value(alloc, text, formula, at.cell, look, scene)?;
+    let value = read_value(from.alloc, text, formula, at.cell, from.look, from.scene)?;
     match &value {
         None => Ok(bad()),
         Some(value) => {
@@ -162,10 +159,10 @@ pub fn if_row<K: Look>(
 }
 
 /// ONERROR.
-pub fn onerror_row<K: Look>(look: &K, scene: &Scene, args: &TextList) -> Row
-    ensures { result ≡ spec.onerror_row (outlook_of (K.sight look.now) scene.entry.now) args.now }
+pub fn onerror_row<K: Look>(from: &Source<'_, K>, args: &TextList) -> Row
+    ensures { result ≡ spec.onerror_row (outlook_from K.Look from.now) args.now }
 {
-    let Some(place) = place_of(look.names(), args.get(0)) else {
+    let Some(place) = place_of(from.look.names(), args.get(0)) else {
         return bad();
     };
     if args.len() < 2 {
@@ -174,7 +171,7 @@ pub fn onerror_row<K: Look>(look: &K, scene: &Scene, args: &TextList) -> Row
             message: None,
         }));
     }
-    match place_of(look.names(), args.get(1)) {
+    match place_of(from.look.names(), args.get(1)) {
         Some(cell) => moves(Move::Handle(Handler {
             place,
             message: Some(cell),

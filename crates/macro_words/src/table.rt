@@ -1,6 +1,6 @@
 // The table of commands.
 ghost use Rattle.std.specs.Prelude.{◌≡◌, IfOk};
-ghost use Rattle.formula_eval.specs.Scenes.{outlook_of};
+ghost use Rattle.macro_words.specs.Sources.{outlook_from};
 ghost use Rattle.lics_text.specs.Bytes.{IsText};
 ghost use Rattle.macro_text.specs.Kept.{arguments_in};
 ghost use Rattle.macro_words.specs.Rows as spec;
@@ -16,13 +16,12 @@ use crate::file_rows::{
 use crate::looping::{break_row, for_row, return_row};
 use crate::rows::{bad, branch_row, call_row, calls, dispatch_row, if_row, moves, onerror_row};
 use crate::writing::{blank_row, contents_row, let_row, put_row, recalc_row};
-use crate::{FileWord, Move, Row, Running, Waiting, Wanted};
-use formula_eval::{Look, Scene};
+use crate::{FileWord, Move, Row, Running, Source, Waiting, Wanted};
+use formula_eval::Look;
 use grid_address::Format;
 use key_words::{Command, MacroWord};
 use lics_text::{MAX_LEN, Memory};
 use macro_text::{KeptWords, ReadArguments, Spot, macro_text, named_span, part, place_of};
-use std::alloc::Global;
 
 // The fewest and the most arguments of a command.
 fn counts(command: Command) -> (usize, usize)
@@ -62,77 +61,71 @@ fn is_taken(command: Command, count: usize) -> bool
 // A command with as many arguments as it takes.
 #[tactic(auto, unfolding(crate::specs::Rows::command_row))]
 fn command_row<K: Look>(
-    alloc: Global,
-    look: &K,
-    scene: &Scene,
-    global: Format,
+    from: &Source<'_, K>,
     running: &Running,
     at: &Spot,
     command: Command,
     given: &ReadArguments,
 ) -> Result<Row, Memory>
-    ensures { let outlook = outlook_of (K.sight look.now) scene.entry.now in
-        IfOk result (λ r. r ≡ spec.command_row outlook global.0 running.now at.now command given.now) }
+    ensures { let outlook = outlook_from K.Look from.now in
+        IfOk result (λ r. r ≡ spec.command_row outlook from.now.global.0 running.now at.now command given.now) }
 {
     match command {
-        Command::Branch => Ok(branch_row(look, scene, given.list())),
-        Command::Dispatch => Ok(dispatch_row(look, scene, given.list())),
-        Command::Define => define_row(alloc, look, scene, running, at, given.list()),
-        Command::Return => return_row(alloc, look, scene, running),
+        Command::Branch => Ok(branch_row(from, given.list())),
+        Command::Dispatch => Ok(dispatch_row(from, given.list())),
+        Command::Define => define_row(from, running, at, given.list()),
+        Command::Return => return_row(from, running),
         Command::Restart => Ok(moves(Move::Forget)),
         Command::Quit => Ok(moves(Move::Stop)),
-        Command::If => if_row(alloc, look, scene, at, given),
-        Command::For => for_row(alloc, look, scene, running, at, given.list()),
+        Command::If => if_row(from, at, given),
+        Command::For => for_row(from, running, at, given.list()),
         Command::ForBreak => Ok(break_row(running)),
-        Command::Let => let_row(alloc, look, scene, at, given),
-        Command::Put => put_row(alloc, look, scene, at, given),
-        Command::Blank => Ok(blank_row(look, scene, given.list())),
-        Command::Contents => contents_row(alloc, look, scene, global, at, given.list()),
-        Command::OnError => Ok(onerror_row(look, scene, given.list())),
-        Command::Recalc => recalc_row(alloc, look, scene, at, false, given.list()),
-        Command::RecalcCol => recalc_row(alloc, look, scene, at, true, given.list()),
-        Command::Get => Ok(get_row(look, scene, given.list())),
-        Command::GetLabel => question_row(alloc, look, scene, at, Wanted::Label, given.list()),
-        Command::GetNumber => question_row(alloc, look, scene, at, Wanted::Number, given.list()),
-        Command::Look => look_row(alloc, look, scene, given.list()),
-        Command::MenuBranch => Ok(menu_row(look, scene, None, given.list())),
-        Command::MenuCall => Ok(menu_row(look, scene, Some(*at), given.list())),
-        Command::Wait => wait_row(alloc, look, scene, running, at, given.list()),
+        Command::Let => let_row(from, at, given),
+        Command::Put => put_row(from, at, given),
+        Command::Blank => Ok(blank_row(from, given.list())),
+        Command::Contents => contents_row(from, at, given.list()),
+        Command::OnError => Ok(onerror_row(from, given.list())),
+        Command::Recalc => recalc_row(from, at, false, given.list()),
+        Command::RecalcCol => recalc_row(from, at, true, given.list()),
+        Command::Get => Ok(get_row(from, given.list())),
+        Command::GetLabel => question_row(from, at, Wanted::Label, given.list()),
+        Command::GetNumber => question_row(from, at, Wanted::Number, given.list()),
+        Command::Look => look_row(from, given.list()),
+        Command::MenuBranch => Ok(menu_row(from, None, given.list())),
+        Command::MenuCall => Ok(menu_row(from, Some(*at), given.list())),
+        Command::Wait => wait_row(from, running, at, given.list()),
         Command::Interact => Ok(awaits(Waiting::Enter)),
         Command::Beep => Ok(moves(Move::Stay)),
-        Command::Indicate => indicate_row(alloc, look, scene, at, given.list()),
+        Command::Indicate => indicate_row(from, at, given.list()),
         Command::PanelOn | Command::PanelOff => Ok(switch_row(running, command)),
         Command::WindowsOn | Command::WindowsOff => Ok(switch_row(running, command)),
         Command::BreakOn | Command::BreakOff => Ok(switch_row(running, command)),
-        Command::Open => open_row(alloc, look, scene, at, given.list()),
+        Command::Open => open_row(from, at, given.list()),
         Command::Close => Ok(asks(at, FileWord::Close)),
-        Command::Read => read_row(alloc, look, scene, at, given.list()),
-        Command::ReadLn => Ok(read_line_row(look, scene, at, given.list())),
-        Command::Write => write_row(alloc, look, scene, at, given.list()),
-        Command::WriteLn => write_line_row(alloc, look, scene, at, given.list()),
-        Command::FileSize => Ok(size_row(look, scene, at, given.list())),
-        Command::GetPos => Ok(position_row(look, scene, at, given.list())),
-        Command::SetPos => set_position_row(alloc, look, scene, at, given.list()),
+        Command::Read => read_row(from, at, given.list()),
+        Command::ReadLn => Ok(read_line_row(from, at, given.list())),
+        Command::Write => write_row(from, at, given.list()),
+        Command::WriteLn => write_line_row(from, at, given.list()),
+        Command::FileSize => Ok(size_row(from, at, given.list())),
+        Command::GetPos => Ok(position_row(from, at, given.list())),
+        Command::SetPos => set_position_row(from, at, given.list()),
     }
 }
 
 // A command, where it takes so many arguments.
 #[tactic(auto, unfolding(crate::specs::Rows::counted_row))]
 fn counted_row<K: Look>(
-    alloc: Global,
-    look: &K,
-    scene: &Scene,
-    global: Format,
+    from: &Source<'_, K>,
     running: &Running,
     at: &Spot,
     command: Command,
     args: &ReadArguments,
 ) -> Result<Row, Memory>
-    ensures { let outlook = outlook_of (K.sight look.now) scene.entry.now in
-        IfOk result (λ r. r ≡ spec.counted_row outlook global.0 running.now at.now command args.now) }
+    ensures { let outlook = outlook_from K.Look from.now in
+        IfOk result (λ r. r ≡ spec.counted_row outlook from.now.global.0 running.now at.now command args.now) }
 {
     if is_taken(command, args.list().len()) {
-        command_row(alloc, look, scene, global, running, at, command, args)
+        command_row(from, running, at, command, args)
     } else {
         Ok(bad())
     }
@@ -140,10 +133,7 @@ fn counted_row<K: Look>(
 
 // What a word of a text does that stands at a place, with these arguments.
 fn word_row<K: Look>(
-    alloc: Global,
-    look: &K,
-    scene: &Scene,
-    global: Format,
+    from: &Source<'_, K>,
     running: &Running,
     at: &Spot,
     text: &[u8],
@@ -152,18 +142,16 @@ fn word_row<K: Look>(
 ) -> Result<Row, Memory>
     requires text { IsText text.now }
     requires args { args.now ≡ arguments_in text.now word }
-    ensures { let outlook = outlook_of (K.sight look.now) scene.entry.now in
-        IfOk result (λ r. r ≡ spec.word_row outlook global.0 running.now at.now text.now word) }
+    ensures { let outlook = outlook_from K.Look from.now in
+        IfOk result (λ r. r ≡ spec.word_row outlook from.now.global.0 running.now at.now text.now word) }
 {
     match word {
-        MacroWord::Command(command, _) => {
-            counted_row(alloc, look, scene, global, running, at, command, args)
-        }
+        MacroWord::Command(command, _) => { counted_row(from, running, at, command, args) }
         MacroWord::Call(name, _) => {
             let name = part(text, name);
-            Ok(call_row(running, at, named_span(look.names(), name)))
+            Ok(call_row(running, at, named_span(from.look.names(), name)))
         }
-        MacroWord::PlaceCall(cut) => match place_of(look.names(), part(text, cut)) {
+        MacroWord::PlaceCall(cut) => match place_of(from.look.names(), part(text, cut)) {
             Some(cell) => Ok(calls(running, at, cell)),
             None => Ok(bad()),
         },
@@ -174,31 +162,28 @@ fn word_row<K: Look>(
     }
 }
 
-/// What the word at a place does, as its text now stands, where the sheet's format is `global`: to the sheet and to the
-/// macro, or why it is a fault; a fault writes nothing. All arguments are read first: one that isn't of its kind, or a
+/// What the word at a place does, as its text now stands: to the sheet and to the macro, or why it is a fault; a fault
+/// writes nothing. All arguments are read first: one that isn't of its kind, or a
 /// wrong number of them, comes before a cell without a text and before a call or loop inside 31 others. A place
 /// without a command or a call is a bad argument. A word that was kept of this very text isn't read again. (Release 2
 /// manual for the words; the order of causes and the nesting of 31 are this project's choice.)
 #[tactic(auto, unfolding(crate::specs::Rows::row))]
 pub fn row<K: Look>(
-    alloc: Global,
-    look: &K,
-    scene: &Scene,
-    global: Format,
+    from: &Source<'_, K>,
     running: &Running,
     kept: &mut KeptWords,
     at: &Spot,
 ) -> Result<Row, Memory>
-    ensures { let outlook = outlook_of (K.sight look.now) scene.entry.now in
-        IfOk result (λ r. r ≡ spec.row outlook global.0 running.now at.now) }
+    ensures { let outlook = outlook_from K.Look from.now in
+        IfOk result (λ r. r ≡ spec.row outlook from.now.global.0 running.now at.now) }
 {
-    let Some(text) = macro_text(look, at.cell) else {
+    let Some(text) = macro_text(from.look, at.cell) else {
         return Ok(bad());
     };
     let bytes = text.bytes();
-    let (word, _) = kept.word_at(alloc, bytes, at.offset, at.cell)?;
+    let (word, _) = kept.word_at(from.alloc, bytes, at.offset, at.cell)?;
     match kept.arguments_at(at.offset) {
-        Some(args) => word_row(alloc, look, scene, global, running, at, bytes, word, args),
+        Some(args) => word_row(from, running, at, bytes, word, args),
         None => Err(Memory),
     }
 }

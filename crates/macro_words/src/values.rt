@@ -1,16 +1,16 @@
 // What is put into cells.
 ghost use Rattle.std.specs.Prelude.{◌≡◌, ◌∷◌, [], IfOk, IfSome};
 ghost use Rattle.block_writes.specs.Writing.{as_content, written};
-ghost use Rattle.formula_eval.specs.Scenes.{outlook_of};
+ghost use Rattle.macro_words.specs.Sources.{outlook_from};
 ghost use Rattle.formula_tree.specs.declared.value.Value.TheVariants as value;
 ghost use Rattle.lics_text.specs.Bytes.{IsText};
 ghost use Rattle.macro_text.specs.Read.{IsRead};
 ghost use Rattle.macro_words.specs.Rows as rows;
 ghost use Rattle.macro_words.specs.Values as spec;
 
-use crate::{Change, Deed, Move, Row};
+use crate::{Change, Deed, Move, Row, Source};
 use block_writes::{content_of, written};
-use formula_eval::{Look, Scene};
+use formula_eval::Look;
 use formula_tree::{Content, Formula, Value};
 use grid_address::Cell;
 use lics_text::{LabelPrefix, Memory, Text};
@@ -91,43 +91,39 @@ fn value_or_bytes(alloc: Global, text: &[u8], value: Option<Value>) -> Result<Va
 
 // The value of a formula; behind `:string`, or where it is none, the bytes.
 fn typed_value<K: Look>(
-    alloc: Global,
-    look: &K,
-    scene: &Scene,
+    from: &Source<'_, K>,
     at: Cell,
     text: &[u8],
     formula: Option<&Formula>,
 ) -> Result<Value, Memory>
     requires text { IsText text.now }
     requires formula { IfSome formula (λ f. IsRead at text.now f.now) }
-    ensures { let outlook = outlook_of (K.sight look.now) scene.entry.now in
+    ensures { let outlook = outlook_from K.Look from.now in
         IfOk result (λ v. v ≡ spec.typed_value outlook at text.now) }
 {
     if ends_in(text, AS_STRING) {
-        return text_value(alloc, without(text, AS_STRING));
+        return text_value(from.alloc, without(text, AS_STRING));
     }
-    let value = read_value(alloc, text, formula, at, look, scene)?;
-    value_or_bytes(alloc, text, value)
+    let value = read_value(from.alloc, text, formula, at, from.look, from.scene)?;
+    value_or_bytes(from.alloc, text, value)
 }
 
 /// What LET puts: an ending `:value` is dropped first; behind it `:string`, or no formula, gives the bytes. The text's
 /// formula may have been read already.
 pub fn let_value<K: Look>(
-    alloc: Global,
-    look: &K,
-    scene: &Scene,
+    from: &Source<'_, K>,
     at: Cell,
     text: &[u8],
     formula: Option<&Formula>,
 ) -> Result<Value, Memory>
     requires text { IsText text.now }
     requires formula { IfSome formula (λ f. IsRead at text.now f.now) }
-    ensures { let outlook = outlook_of (K.sight look.now) scene.entry.now in
+    ensures { let outlook = outlook_from K.Look from.now in
         IfOk result (λ v. v ≡ spec.let_value outlook at text.now) }
 {
     if ends_in(text, AS_VALUE) {
-        typed_value(alloc, look, scene, at, without(text, AS_VALUE), None)
+        typed_value(from, at, without(text, AS_VALUE), None)
     } else {
-        typed_value(alloc, look, scene, at, text, formula)
+        typed_value(from, at, text, formula)
     }
 }

@@ -1,15 +1,15 @@
 // Words that write, erase or recalculate cells.
 ghost use Rattle.std.specs.Prelude.{◌≡◌, IfOk};
-ghost use Rattle.formula_eval.specs.Scenes.{outlook_of};
+ghost use Rattle.macro_words.specs.Sources.{outlook_from};
 ghost use Rattle.macro_words.specs.Rows as spec;
 ghost use Rattle.macro_text.specs.Arguments as arguments;
 
 use crate::rows::bad;
 use crate::shown::shown_cell;
 use crate::values::{let_value, puts_one, puts_value};
-use crate::{Change, Deed, Move, Row, Sweep};
+use crate::{Change, Deed, Move, Row, Source, Sweep};
 use fixed_value::Fixed;
-use formula_eval::{Look, Scene};
+use formula_eval::Look;
 use formula_tree::{Content, Formula};
 use grid_address::{Cell, Format, Span};
 use lics_text::{LabelPrefix, Memory};
@@ -17,26 +17,23 @@ use macro_text::{
     ReadArguments, Spot, TextList, count_of, formula_in, number_of, place_of, range_of,
 };
 use sheet_store::MOST_WIDTH;
-use std::alloc::Global;
 
 /// LET.
 pub fn let_row<K: Look>(
-    alloc: Global,
-    look: &K,
-    scene: &Scene,
+    from: &Source<'_, K>,
     at: &Spot,
     given: &ReadArguments,
 ) -> Result<Row, Memory>
-    ensures { let outlook = outlook_of (K.sight look.now) scene.entry.now in
+    ensures { let outlook = outlook_from K.Look from.now in
         IfOk result (λ r. r ≡ spec.let_row outlook at.now given.now) }
 {
     let args = given.list();
-    let Some(cell) = place_of(look.names(), args.get(0)) else {
+    let Some(cell) = place_of(from.look.names(), args.get(0)) else {
         return Ok(bad());
     };
     let formula = given.formula(1, at.cell);
-    let value = let_value(alloc, look, scene, at.cell, args.get(1), formula)?;
-    puts_value(alloc, cell, &value, Move::Stay)
+    let value = let_value(from, at.cell, args.get(1), formula)?;
+    puts_value(from.alloc, cell, &value, Move::Stay)
 }
 
 // The whole number that a number tells, cut toward zero; none below 0.
@@ -51,16 +48,14 @@ fn count_in(number: Option<Fixed>) -> Option<u32>
 
 /// A whole number that isn't below 0.
 pub fn count_given<K: Look>(
-    alloc: Global,
-    look: &K,
-    scene: &Scene,
+    from: &Source<'_, K>,
     at: Cell,
     text: &[u8],
 ) -> Result<Option<u32>, Memory>
-    ensures { let outlook = outlook_of (K.sight look.now) scene.entry.now in
+    ensures { let outlook = outlook_from K.Look from.now in
         IfOk result (λ n. n ≡ spec.count_in (arguments.number_of outlook at text.now)) }
 {
-    let number = number_of(alloc, text, at, look, scene)?;
+    let number = number_of(from.alloc, text, at, from.look, from.scene)?;
     Ok(count_in(number))
 }
 
@@ -80,38 +75,36 @@ fn cell_in(span: Span, col: u32, row: u32) -> Option<Cell>
 
 /// PUT.
 pub fn put_row<K: Look>(
-    alloc: Global,
-    look: &K,
-    scene: &Scene,
+    from: &Source<'_, K>,
     at: &Spot,
     given: &ReadArguments,
 ) -> Result<Row, Memory>
-    ensures { let outlook = outlook_of (K.sight look.now) scene.entry.now in
+    ensures { let outlook = outlook_from K.Look from.now in
         IfOk result (λ r. r ≡ spec.put_row outlook at.now given.now) }
 {
     let args = given.list();
-    let Some(span) = range_of(look.names(), args.get(0)) else {
+    let Some(span) = range_of(from.look.names(), args.get(0)) else {
         return Ok(bad());
     };
-    let Some(col) = count_given(alloc, look, scene, at.cell, args.get(1))? else {
+    let Some(col) = count_given(from, at.cell, args.get(1))? else {
         return Ok(bad());
     };
-    let Some(row) = count_given(alloc, look, scene, at.cell, args.get(2))? else {
+    let Some(row) = count_given(from, at.cell, args.get(2))? else {
         return Ok(bad());
     };
     let Some(cell) = cell_in(span, col, row) else {
         return Ok(bad());
     };
     let formula = given.formula(3, at.cell);
-    let value = let_value(alloc, look, scene, at.cell, args.get(3), formula)?;
-    puts_value(alloc, cell, &value, Move::Stay)
+    let value = let_value(from, at.cell, args.get(3), formula)?;
+    puts_value(from.alloc, cell, &value, Move::Stay)
 }
 
 /// BLANK.
-pub fn blank_row<K: Look>(look: &K, scene: &Scene, args: &TextList) -> Row
-    ensures { result ≡ spec.blank_row (outlook_of (K.sight look.now) scene.entry.now) args.now }
+pub fn blank_row<K: Look>(from: &Source<'_, K>, args: &TextList) -> Row
+    ensures { result ≡ spec.blank_row (outlook_from K.Look from.now) args.now }
 {
-    match range_of(look.names(), args.get(0)) {
+    match range_of(from.look.names(), args.get(0)) {
         Some(span) => Ok(Deed {
             change: Change::Erase(span),
             after: Move::Stay,
@@ -147,21 +140,19 @@ struct Asked {
 
 // An argument that may be left out: a whole number within bounds.
 fn given_count<K: Look>(
-    alloc: Global,
-    look: &K,
-    scene: &Scene,
+    from: &Source<'_, K>,
     at: &Spot,
     args: &TextList,
     asked: Asked,
 ) -> Result<Option<u8>, Memory>
-    ensures { let outlook = outlook_of (K.sight look.now) scene.entry.now in
+    ensures { let outlook = outlook_from K.Look from.now in
         IfOk result (λ n.
         n ≡ spec.given_count outlook at.now args.now asked.place asked.low asked.high asked.left_out) }
 {
     if args.len() <= asked.place {
         return Ok(Some(asked.left_out));
     }
-    let count = count_given(alloc, look, scene, at.cell, args.get(asked.place))?;
+    let count = count_given(from, at.cell, args.get(asked.place))?;
     Ok(within(asked.low, asked.high, count))
 }
 
@@ -170,14 +161,12 @@ const MOST_PASSES: u8 = 50;
 
 // CONTENTS' width: its third argument, or the column's.
 fn width_given<K: Look>(
-    alloc: Global,
-    look: &K,
-    scene: &Scene,
+    from: &Source<'_, K>,
     at: &Spot,
     args: &TextList,
     cell: Cell,
 ) -> Result<Option<u8>, Memory>
-    ensures { let outlook = outlook_of (K.sight look.now) scene.entry.now in
+    ensures { let outlook = outlook_from K.Look from.now in
         IfOk result
         (λ n. n ≡ spec.given_count outlook at.now args.now 2 1 MOST_WIDTH (outlook.sight.widths cell.col)) }
 {
@@ -185,66 +174,61 @@ fn width_given<K: Look>(
         place: 2,
         low: 1,
         high: MOST_WIDTH,
-        left_out: look.width(cell.col),
+        left_out: from.look.width(cell.col),
     };
-    given_count(alloc, look, scene, at, args, asked)
+    given_count(from, at, args, asked)
 }
 
 // CONTENTS' format: its fourth argument, or the cell's.
 fn format_given<K: Look>(
-    alloc: Global,
-    look: &K,
-    scene: &Scene,
+    from: &Source<'_, K>,
     at: &Spot,
     args: &TextList,
     cell: Cell,
 ) -> Result<Option<u8>, Memory>
-    ensures { let outlook = outlook_of (K.sight look.now) scene.entry.now in
+    ensures { let outlook = outlook_from K.Look from.now in
         IfOk result (λ n. n ≡ spec.given_count outlook at.now args.now 3 0 255 (outlook.sight.formats cell)) }
 {
     let asked = Asked {
         place: 3,
         low: 0,
         high: 255,
-        left_out: look.format(cell).0,
+        left_out: from.look.format(cell).0,
     };
-    given_count(alloc, look, scene, at, args, asked)
+    given_count(from, at, args, asked)
 }
 
 /// CONTENTS; the sheet's format stands in for the default one.
 pub fn contents_row<K: Look>(
-    alloc: Global,
-    look: &K,
-    scene: &Scene,
-    global: Format,
+    from: &Source<'_, K>,
     at: &Spot,
     args: &TextList,
 ) -> Result<Row, Memory>
-    ensures { let outlook = outlook_of (K.sight look.now) scene.entry.now in
-        IfOk result (λ r. r ≡ spec.contents_row outlook global.0 at.now args.now) }
+    ensures { let outlook = outlook_from K.Look from.now in
+        IfOk result (λ r. r ≡ spec.contents_row outlook from.now.global.0 at.now args.now) }
 {
-    let Some(target) = place_of(look.names(), args.get(0)) else {
+    let Some(target) = place_of(from.look.names(), args.get(0)) else {
         return Ok(bad());
     };
-    let Some(cell) = place_of(look.names(), args.get(1)) else {
+    let Some(cell) = place_of(from.look.names(), args.get(1)) else {
         return Ok(bad());
     };
-    let Some(width) = width_given(alloc, look, scene, at, args, cell)? else {
+    let Some(width) = width_given(from, at, args, cell)? else {
         return Ok(bad());
     };
-    let Some(byte) = format_given(alloc, look, scene, at, args, cell)? else {
+    let Some(byte) = format_given(from, at, args, cell)? else {
         return Ok(bad());
     };
     let text = shown_cell(
-        alloc,
-        look,
-        global,
+        from.alloc,
+        from.look,
+        from.global,
         cell,
         width.min(MOST_WIDTH),
         Format(byte),
     )?;
     puts_one(
-        alloc,
+        from.alloc,
         target,
         Content::Label(LabelPrefix::Left, text),
         Move::Stay,
@@ -253,13 +237,11 @@ pub fn contents_row<K: Look>(
 
 // The passes of a recalculation: the third argument, or one without a condition, and with one the most.
 fn passes_given<K: Look>(
-    alloc: Global,
-    look: &K,
-    scene: &Scene,
+    from: &Source<'_, K>,
     at: &Spot,
     args: &TextList,
 ) -> Result<Option<u8>, Memory>
-    ensures { let outlook = outlook_of (K.sight look.now) scene.entry.now in
+    ensures { let outlook = outlook_from K.Look from.now in
         IfOk result
         (λ n. n ≡ spec.given_count outlook at.now args.now 2 1 spec.most_passes (spec.passes_left_out args.now)) }
 {
@@ -269,24 +251,22 @@ fn passes_given<K: Look>(
         high: MOST_PASSES,
         left_out: if args.len() <= 1 { 1 } else { MOST_PASSES },
     };
-    given_count(alloc, look, scene, at, args, asked)
+    given_count(from, at, args, asked)
 }
 
 // The formula of a condition, where one is given.
 fn condition_given<K: Look>(
-    alloc: Global,
-    look: &K,
-    scene: &Scene,
+    from: &Source<'_, K>,
     at: &Spot,
     args: &TextList,
 ) -> Result<Option<Option<Formula>>, Memory>
-    ensures { let outlook = outlook_of (K.sight look.now) scene.entry.now in
+    ensures { let outlook = outlook_from K.Look from.now in
         IfOk result (λ f. f ≡ spec.condition_in outlook at.now args.now) }
 {
     if args.len() <= 1 {
         return Ok(Some(None));
     }
-    match formula_in(alloc, args.get(1), at.cell, look, scene)? {
+    match formula_in(from.alloc, args.get(1), at.cell, from.look, from.scene)? {
         Some(formula) => Ok(Some(Some(formula))),
         None => Ok(None),
     }
@@ -294,23 +274,21 @@ fn condition_given<K: Look>(
 
 /// RECALC, and RECALCCOL by columns.
 pub fn recalc_row<K: Look>(
-    alloc: Global,
-    look: &K,
-    scene: &Scene,
+    from: &Source<'_, K>,
     at: &Spot,
     by_columns: bool,
     args: &TextList,
 ) -> Result<Row, Memory>
-    ensures { let outlook = outlook_of (K.sight look.now) scene.entry.now in
+    ensures { let outlook = outlook_from K.Look from.now in
         IfOk result (λ r. r ≡ spec.recalc_row outlook at.now by_columns args.now) }
 {
-    let Some(span) = range_of(look.names(), args.get(0)) else {
+    let Some(span) = range_of(from.look.names(), args.get(0)) else {
         return Ok(bad());
     };
-    let Some(until) = condition_given(alloc, look, scene, at, args)? else {
+    let Some(until) = condition_given(from, at, args)? else {
         return Ok(bad());
     };
-    let Some(most) = passes_given(alloc, look, scene, at, args)? else {
+    let Some(most) = passes_given(from, at, args)? else {
         return Ok(bad());
     };
     let sweep = Sweep {
