@@ -87,6 +87,7 @@ press key.Query end s r = query_again r.last_query
 press key.Table end s r = carrying_out records.RepeatTable
 press key.Calc end s r = turn.Recalculate
 press (key.Alt letter) end s r = turn.Start letter
+press key.Undo end s r = turn.Undo
 press k end s r = moving (way_of end k)
 
 -- READY is shown alone

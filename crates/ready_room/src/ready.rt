@@ -138,7 +138,8 @@ fn query_again(last: LastQuery, alloc: Global) -> Turn
 /// What a key comes to in READY, where END was pressed before it or not: a slash opens the main menu, any other byte
 /// begins a line, the moving keys move the pointer, END waits for one of them, EDIT edits the pointer's cell, GOTO
 /// asks for a cell, QUERY makes the last query again with the ranges that are kept now, TABLE makes the last table
-/// again, CALC recalculates, and ALT starts its letter's macro. Any other key is passed over (Release 2 manual).
+/// again, CALC recalculates, ALT starts its letter's macro, and UNDO takes the last command back (this project's
+/// choice). Any other key is passed over (Release 2 manual).
 /// `LineTooLong` comes exactly where the cell's text is no line's, and `QueryRangeMissing` where there was no query
 /// yet; where there was no table, the command that the key gives is refused. It takes no memory.
 pub fn press(key: Key, end: bool, sheet: &Worksheet, ranges: &DeskRanges) -> Turn
@@ -156,6 +157,7 @@ pub fn press(key: Key, end: bool, sheet: &Worksheet, ranges: &DeskRanges) -> Tur
         Key::Table => carry_out(DataAction::RepeatTable, sheet.alloc()),
         Key::Calc => Turn::Recalculate,
         Key::Alt(letter) => Turn::Start(letter),
+        Key::Undo => Turn::Undo,
         _ => moving(way_of(end, &key)),
     }
 }

@@ -32,7 +32,7 @@ alone act now told a b v leads none = record {
   answered = subst (λ (cs : List Asked). HaveAnswered cs v v) (sym none) refl;
 }
 
-either_calls : (b : Bool) (o p : Outcome) → o.calls ≡ [] → p.calls ≡ [] → (if b then o else p).calls ≡ []
+pub either_calls : (b : Bool) (o p : Outcome) → o.calls ≡ [] → p.calls ≡ [] → (if b then o else p).calls ≡ []
 either_calls true o p one other = one
 either_calls false o p one other = other
 

@@ -27,13 +27,15 @@ use Rattle.text_channel.specs.declared.attached.Attached.{Attached}
 use Rattle.work_sheet.specs.Seen.{of_worksheet, Sheet}
 use Rattle.work_sheet.specs.Sheets.{Worksheet}
 use Rattle.session_core.specs.Carrying.{behind, carried, looked_as, looking}
+use Rattle.session_core.specs.Keeping.{begun_for}
 use Rattle.session_core.specs.Machine.{afresh, scene_at, sheet_of, with_macro, Outcome, Replies, State}
-use Rattle.session_core.specs.inner.Leading.{BreaksOver}
+use Rattle.session_core.specs.inner.Leading.{BreaksOver, LeadsOver, Worked}
 use Rattle.session_core.specs.Pressing.{turn_of}
 use Rattle.session_core.specs.Step.{by_waiting_macro, by_file, by_word, come_to, event_taken, given, on_file, pressed_key}
 use Rattle.session_core.specs.Step.{protected_target, by_key, typed_into, HasBrokenStep}
 use Rattle.session_core.specs.declared.event.Event.{Event}
-use Rattle.session_core.proofs.Stepping.{over_step, over_steps, pressed_given}
+use Rattle.session_core.proofs.Begun.{begun_beside}
+use Rattle.session_core.proofs.Stepping.{over_step, over_steps, over_work, pressed_given, work_stays}
 
 -- a command that acted broke off behind its calls
 pub acted_broken : (act : Reply → FileActed) (came : CommandEnd) (v w : declared.Desk) (m n : ℕ) (x y : ShelfView)
@@ -80,11 +82,11 @@ looked_breaks command now s x y z reply act came is had broke = record {
 -- memory ran out behind a macro's step, of which nothing is called
 pub stepped_breaks : (made : Scene → Option Running → Sheet → MacroStep) (now : Moment) (s t : State) (scene : Scene)
     (running new_running : Option Running) (came : StepEnd) (v w : Worksheet) (m n : ℕ) (x y : ShelfView)
-    → scene ≡ scene_at s now → running ≡ s.running → of_worksheet v ≡ sheet_of s
-    → t ≡ over_step s (of_worksheet w) new_running
+    → scene ≡ scene_at s now → running ≡ s.running → of_worksheet v ≡ sheet_of s → v.history ≡ s.history
+    → t ≡ over_work s w new_running
     → HasStepped (made scene running (of_worksheet v)) came new_running v w m n → BreaksOver (come_to came) now t x y
     → BreaksOver (over_steps made) now s x y
-stepped_breaks made now s t scene running new_running came v w m n x y scene_is running_is sheet_is state_is h broke =
+stepped_breaks made now s t scene running new_running came v w m n x y scene_is running_is sheet_is history_is state_is h broke =
     let there : Scene = scene_at s now in
     let step : MacroStep = made there s.running (sheet_of s) in
     let here : HasStepped step came new_running v w m n =
@@ -93,7 +95,8 @@ stepped_breaks made now s t scene running new_running came v w m n x y scene_is 
     (subst (λ (c : Scene). HasStepped (made c running (of_worksheet v)) came new_running v w m n) scene_is h)) in
     let behind_it : State = over_step s step.done.sheet step.running in
     let is : t ≡ behind_it =
-    state_is ∙ ap (λ (k : Sheet). over_step s k new_running) here.did.sheet
+    state_is ∙ work_stays s v w new_running here.did.history history_is
+    ∙ ap (λ (k : Sheet). over_step s k new_running) here.did.sheet
     ∙ ap (over_step s step.done.sheet) here.running in
     let next : StepEnd → State → Outcome = λ (e : StepEnd) (u : State). come_to e broke.answers (scene_at u now) u in
     record {
@@ -138,13 +141,21 @@ break_breaks now s t x y is broke =
 
 -- memory ran out in what a key came to
 pub taken_breaks : (k : Key) (turn : Turn) (now : Moment) (s t : State) (x y : ShelfView)
-    → turn ≡ turn_of k s.room s.end s.desk → t ≡ typed_into k s
+    → turn ≡ turn_of k s.room s.end s.desk → t ≡ begun_for turn (typed_into k s)
     → BreaksOver (carried turn) now t x y → BreaksOver (by_key k) now s x y
 taken_breaks k turn now s t x y turn_is is broke =
-    let there : BreaksOver (carried (turn_of k s.room s.end s.desk)) now (typed_into k s) x y =
-    subst (λ (u : State). BreaksOver (carried (turn_of k s.room s.end s.desk)) now u x y) is
+    let came : Turn = turn_of k s.room s.end s.desk in
+    let u : State = begun_for came (typed_into k s) in
+    let state_is : t ≡ u = is ∙ ap (λ (o : Turn). begun_for o (typed_into k s)) turn_is in
+    let there : BreaksOver (carried came) now u x y =
+    subst (λ (v : State). BreaksOver (carried came) now v x y) state_is
     (subst (λ (o : Turn). BreaksOver (carried o) now t x y) turn_is broke) in
-    record { answers = there.answers; broke = there.broke }
+    record {
+      answers = there.answers;
+      broke =
+          subst (λ (c : Scene). HaveBrokenOff (carried came there.answers c u).calls x y)
+          (ap (λ (v : State). scene_at v now) (begun_beside came (typed_into k s)).is) there.broke;
+    }
 
 -- memory ran out in a word on a text file, or behind it
 pub word_breaks : (d : FileDeed) (now : Moment) (s : State) (old : Option Attached) (x y : ShelfView)
@@ -174,6 +185,14 @@ guarded_breaks d now s x y o is broke = record {
   broke =
       subst (λ (p : Option Place). HaveBrokenOff (on_file p d broke.answers (scene_at s now) s).calls x y) is
       broke.broke;
+}
+
+-- memory ran out behind an event, whose calls were made
+pub event_answered : (event : Event) (now : Moment) (told : Bool) (a b : Worked) (x y : ShelfView)
+    → LeadsOver (event_taken event) now told a b x y → BreaksOver (event_taken event) now a.state x y
+event_answered event now told a b x y l = record {
+  answers = l.replies;
+  broke = answered_broken (event_taken event l.replies (scene_at a.state now) a.state).calls x y l.answered;
 }
 
 -- memory ran out in a step

@@ -1,6 +1,6 @@
 -- What no event changes: what stands still.
 use Rattle.std.proofs.Common.{◌≡◌, ℕ, Bool, true, false, Option, Some, None, refl, sym, ap, ◌∙◌}
-use Rattle.std.specs.Prelude.{if◌then◌else◌}
+use Rattle.std.specs.Prelude.{if◌then◌else◌, List, [], ◌∷◌}
 use Rattle.cell_pointer.specs.declared.way.Way.{Way}
 use Rattle.command_desk.specs.declared.ending.CommandEnd.{CommandEnd}
 use Rattle.command_desk.specs.declared.ending.CommandEnd.TheVariants.{Finished, Quits, Refused}
@@ -32,16 +32,19 @@ use Rattle.session_rooms.specs.declared.answers.AnsweredCommand.{AnsweredCommand
 use Rattle.session_rooms.specs.declared.turn.Turn.{Turn}
 use Rattle.session_rooms.specs.declared.turn.Turn.TheVariants as turn
 use Rattle.work_sheet.specs.Doing as doing
+use Rattle.work_sheet.specs.Seen.{Sheet}
 use Rattle.session_core.specs.Act.{act}
-use Rattle.session_core.specs.Carrying.{acted, asked, behind, carried, done_by, entered, failed, finished, finished_as, going, is_pointer_protected, left_by, looked_as, looking, opened, started, started_at}
+use Rattle.session_core.specs.Carrying.{acted, asked, behind, carried, done_by, entered, failed, finished, finished_as, going, is_pointer_protected, left_by, looked_as, looking, opened, started, started_at, undone_to}
 use Rattle.session_core.specs.Entering.{meaning_of}
-use Rattle.session_core.specs.Machine.{and_further, is_running, pointer_of, sheet_of, with_channel, with_done, with_macro, FrozenAreas, Outcome, Replies, State}
+use Rattle.session_core.specs.Keeping.{begun_for}
+use Rattle.session_core.specs.Machine.{and_further, is_running, pointer_of, quiet, sheet_of, with_channel, with_done, with_macro, FrozenAreas, Outcome, Replies, State}
 use Rattle.session_core.specs.Pressing.{turn_of}
-use Rattle.session_core.specs.Step.{by_waiting_macro, come_to, event_taken, given, on_file, pressed_key, protected_target, run_on, seen_from, served_as, stepped, by_key, typed_into}
+use Rattle.session_core.specs.Step.{by_waiting_macro, come_to, event_done, event_taken, given, on_file, pressed_key, protected_target, run_on, seen_from, served_as, stepped, by_key, typed_into}
 use Rattle.session_core.specs.declared.entering.Meant.{Meant}
 use Rattle.session_core.specs.declared.entering.Meant.TheVariants.{Means, Faulty as Misread}
 use Rattle.session_core.specs.declared.event.Event.{Event}
 use Rattle.session_core.specs.declared.event.Event.TheVariants.{Key as KeyEvent, Unit as UnitEvent}
+use Rattle.session_core.proofs.Begun.{begun_beside, ended_beside}
 
 -- of two outcomes that leave it
 either : (b : Bool) (p q : Outcome) (f : FrozenAreas) → p.state.frozen ≡ f → q.state.frozen ≡ f → (if b then p else q).state.frozen ≡ f
@@ -90,6 +93,10 @@ by_starting : (b : Bool) (cell : Option Place) (s : State) → (if b then s else
 by_starting true cell s = refl
 by_starting false cell s = by_start cell s
 
+by_back : (kept : List Sheet) (scene : Scene) (s : State) → (undone_to kept scene s).state.frozen ≡ s.frozen
+by_back [] scene s = by_failing error.NothingToUndo scene s
+by_back (latest ∷ earlier) scene s = refl
+
 by_turn : (t : Turn) (replies : Replies) (scene : Scene) (s : State) → (carried t replies scene s).state.frozen ≡ s.frozen
 by_turn (turn.Become r) replies scene s = refl
 by_turn (turn.Move way) replies scene s = refl
@@ -99,11 +106,15 @@ by_turn (turn.Ask c) replies scene s = by_opening (opening c (pointer_of s) s.de
 by_turn (turn.Act c) replies scene s = by_acting c replies.act scene s
 by_turn turn.Recalculate replies scene s = refl
 by_turn (turn.Start letter) replies scene s = by_starting (is_running s) (macro_named (sheet_of s).names letter) s
-by_turn turn.Undo replies scene s = refl
+by_turn turn.Undo replies scene s =
+    either (is_running s) (quiet s) (undone_to s.history.kept scene s) s.frozen refl (by_back s.history.kept scene s)
 by_turn (turn.Fail e) replies scene s = by_failing e scene s
 
 by_taking : (k : Key) (replies : Replies) (scene : Scene) (s : State) → (by_key k replies scene s).state.frozen ≡ s.frozen
-by_taking k replies scene s = by_turn (turn_of k s.room s.end s.desk) replies scene (typed_into k s)
+by_taking k replies scene s =
+    let t : Turn = turn_of k s.room s.end s.desk in
+    by_turn t replies scene (begun_for t (typed_into k s))
+    ∙ ap (λ (u : State). u.frozen) (begun_beside t (typed_into k s)).is
 
 by_serving : (x : Option Deed) (scene : Scene) (s : State) → (served_as x scene s).state.frozen ≡ s.frozen
 by_serving None scene s = by_failing error.DiskError scene s
@@ -167,3 +178,10 @@ by_pressing key.Undo replies scene s = by_giving key.Undo replies scene s
 pub by_event : (e : Event) (replies : Replies) (scene : Scene) (s : State) → (event_taken e replies scene s).state.frozen ≡ s.frozen
 by_event (KeyEvent k) replies scene s = by_pressing k replies scene s
 by_event UnitEvent replies scene s = by_step (macro_step scene s.running (sheet_of s)) replies scene s
+
+-- and the end of a command
+pub by_done : (e : Event) (replies : Replies) (changed : Bool) (scene : Scene) (s : State) →
+    (event_done e replies changed scene s).state.frozen ≡ s.frozen
+by_done e replies changed scene s =
+    ap (λ (u : State). u.frozen) (ended_beside changed (event_taken e replies scene s).state).is
+    ∙ by_event e replies scene s

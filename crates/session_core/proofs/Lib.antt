@@ -2,6 +2,7 @@ pub mod Acted
 pub mod Afresh
 pub mod Alone
 pub mod Answered
+pub mod Begun
 pub mod Breaking
 pub mod Failing
 pub mod Held
@@ -11,6 +12,7 @@ pub mod OneOutcome
 pub mod OneResult
 pub mod OneServing
 pub mod Prefixed
+pub mod Remembering
 pub mod Reports
 pub mod Settled
 pub mod ShownRows
@@ -18,4 +20,6 @@ pub mod Stepping
 pub mod Still
 pub mod TextFiles
 pub mod Touching
+pub mod TypedKeys
 pub mod TypedOn
+pub mod Undoing

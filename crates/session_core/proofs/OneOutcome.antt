@@ -1,5 +1,5 @@
 -- A step has one outcome, over the files that the shelf holds.
-use Rattle.std.proofs.Common.{◌≡◌, Bool, true, false, List, Option, None, Some, refl, subst, sym}
+use Rattle.std.proofs.Common.{◌≡◌, Bool, true, false, List, Option, None, Some, ap, refl, subst, sym, ◌∙◌}
 use Rattle.std.specs.Prelude.{if◌then◌else◌}
 use Rattle.commands_file.specs.Alike.{HoldAlike}
 use Rattle.commands_file.specs.Calls.{Asked, Reply, ShelfView}
@@ -24,19 +24,23 @@ use Rattle.serial_date.specs.declared.moment.Moment.{Moment}
 use Rattle.session_core.specs.Act.{act}
 use Rattle.session_core.specs.Carrying.{acted, behind, behind_calls, carried, done_by, left_by, looked_as}
 use Rattle.session_core.specs.Carrying.{looking, opened}
+use Rattle.session_core.specs.Keeping.{begun_for, command_ended, is_at_end, TellsChange}
 use Rattle.session_core.specs.Machine.{afresh, and_further, followed_by, pointer_of, scene_at, sheet_of, with_channel}
 use Rattle.session_core.specs.Machine.{with_macro, Outcome, Replies, State}
 use Rattle.session_core.specs.Pressing.{turn_of}
 use Rattle.session_core.specs.Screen.{screen}
 use Rattle.session_core.specs.Step.{by_waiting_macro, behind_word, by_step, by_word, come_to, event_taken, framed}
 use Rattle.session_core.specs.Step.{given, on_file, pressed_key, protected_target, seen_from, served_as, step}
-use Rattle.session_core.specs.Step.{stepped, by_key, typed_into}
+use Rattle.session_core.specs.Step.{stepped, by_key, typed_into, StepTells}
 use Rattle.session_core.specs.Unfailing.{WereAnswered}
 use Rattle.session_core.specs.declared.event.Event.{Event}
 use Rattle.session_core.specs.declared.event.Event.TheVariants.{Key as KeyEvent, Unit as UnitEvent}
 use Rattle.session_rooms.specs.declared.answers.AnsweredCommand.{AnsweredCommand}
 use Rattle.session_rooms.specs.declared.turn.Turn.{Turn}
 use Rattle.session_rooms.specs.declared.turn.Turn.TheVariants as turn
+use Rattle.sheet_undo.specs.Histories.{Tells}
+use Rattle.work_sheet.specs.Seen.{Sheet}
+use Rattle.session_core.proofs.Begun.{not_over}
 use Rattle.session_core.proofs.OneCommand.{act_one, file_calls, look_calls, look_one}
 use Rattle.session_core.proofs.OneResult.{behind_one, by_act, left_alike, made_of, one_by_one, IsOne}
 use Rattle.session_core.proofs.OneServing.{served_calls, served_one}
@@ -87,7 +91,9 @@ carried_one turn.Undo scene s = λ rs qs x y z u alike w w'. refl
 carried_one (turn.Fail e) scene s = λ rs qs x y z u alike w w'. refl
 
 taken_one : (k : Key) (scene : Scene) (s : State) → IsOne outcome_calls (λ (rs : Replies). by_key k rs scene s)
-taken_one k scene s = carried_one (turn_of k s.room s.end s.desk) scene (typed_into k s)
+taken_one k scene s =
+    let t : Turn = turn_of k s.room s.end s.desk in
+    carried_one t scene (begun_for t (typed_into k s))
 
 -- a word on a text file is carried out
 word_one : (d : FileDeed) (scene : Scene) (s : State) → IsOne outcome_calls (λ (rs : Replies). by_word d rs scene s)
@@ -163,19 +169,45 @@ event_one : (event : Event) (scene : Scene) (s : State) →
 event_one (KeyEvent k) scene s = pressed_one k scene s
 event_one UnitEvent scene s = stepped_one (macro_step scene s.running (sheet_of s)) scene s
 
--- a step
-pub step_one : (event : Event) (now : Moment) (s : State) → IsOne outcome_calls (λ (rs : Replies). step event now rs s)
-step_one event now s =
-    made_of outcome_calls outcome_calls (λ (rs : Replies). event_taken event rs (scene_at s now) (afresh s))
-    (λ (o : Outcome). and_further o (framed (screen s) now))
-    (event_one event (scene_at s now) (afresh s)) (λ o. refl)
+-- whether a command changed the sheet has one answer
+tells_one : (p q : Bool) (begun now : Sheet) → Tells p (Some begun) now → Tells q (Some begun) now → p ≡ q
+tells_one true true begun now tells other = refl
+tells_one true false begun now tells other = absurd (tells other)
+tells_one false true begun now tells other = absurd (other tells)
+tells_one false false begun now tells other = refl
 
--- and it leaves the same files
-pub one_outcome : (event : Event) (now : Moment) (s : State) (one other : Replies) (a b c d : ShelfView) →
-    HoldAlike a b → WereAnswered (step event now one s).calls a c → WereAnswered (step event now other s).calls b d →
-    (step event now one s ≡ step event now other s) × HoldAlike c d
-one_outcome event now s one other a b c d alike had had' =
-    let same = step_one event now s one other a b c d alike had had' in
-    let here : WereAnswered (step event now one s).calls b d =
+told_one : (p q : Bool) (begun : Option Sheet) (now : Sheet) → Tells p begun now → Tells q begun now → p ≡ q
+told_one p q None now tells other = absurd tells
+told_one p q (Some begun) now tells other = tells_one p q begun now tells other
+
+-- so it ends in one way
+ended_one : (e p q : Bool) (s : State) → is_at_end s ≡ e → TellsChange p s → TellsChange q s →
+    command_ended p s ≡ command_ended q s
+ended_one true p q s is tells other =
+    ap (λ (c : Bool). command_ended c s) (told_one p q s.history.begun (sheet_of s) (tells is) (other is))
+ended_one false p q s is tells other = not_over p s is ∙ sym (not_over q s is)
+
+-- a step, behind the event and the end of its command
+abbrev finished_step : Moment → State → Bool → Outcome → Outcome
+finished_step now s changed o = and_further (and_further o (command_ended changed)) (framed (screen s) now)
+
+steps_one : (now : Moment) (s : State) (o : Outcome) (p q : Bool) → TellsChange p o.state → TellsChange q o.state →
+    finished_step now s p o ≡ finished_step now s q o
+steps_one now s o p q tells other =
+    ap (λ (t : State). and_further (and_further o (λ u. t)) (framed (screen s) now))
+    (ended_one (is_at_end o.state) p q o.state refl tells other)
+
+-- a step, and it leaves the same files
+pub one_outcome : (event : Event) (now : Moment) (s : State) (one other : Replies) (p q : Bool) (a b c d : ShelfView) →
+    HoldAlike a b → StepTells event now one p s → StepTells event now other q s →
+    WereAnswered (step event now one p s).calls a c → WereAnswered (step event now other q s).calls b d →
+    (step event now one p s ≡ step event now other q s) × HoldAlike c d
+one_outcome event now s one other p q a b c d alike tells tells' had had' =
+    let taken : Replies → Outcome = λ (rs : Replies). event_taken event rs (scene_at s now) (afresh s) in
+    let same : taken one ≡ taken other = event_one event (scene_at s now) (afresh s) one other a b c d alike had had' in
+    let here : WereAnswered (taken one).calls b d =
     subst (λ (o : Outcome). WereAnswered o.calls b d) (sym same) had' in
-    (same, left_alike (step event now one s).calls a b c d alike had.had here.had had.fine)
+    let told : TellsChange q (taken one).state = subst (λ (o : Outcome). TellsChange q o.state) (sym same) tells' in (
+      steps_one now s (taken one) p q tells told ∙ ap (finished_step now s q) same,
+      left_alike (taken one).calls a b c d alike had.had here.had had.fine,
+    )

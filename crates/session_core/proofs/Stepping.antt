@@ -15,6 +15,8 @@ use Rattle.work_sheet.specs.Did.{work_of}
 use Rattle.work_sheet.specs.Seen.{of_worksheet, Sheet}
 use Rattle.work_sheet.specs.Sheets.{Worksheet}
 use Rattle.work_sheet.specs.Work.{HasWorked, Work}
+use Rattle.sheet_undo.specs.Histories.{History}
+use Rattle.session_core.specs.Keeping.{with_history}
 use Rattle.session_core.specs.Machine.{scene_at, sheet_of, with_macro, with_sheet, Outcome, Replies, State}
 use Rattle.session_core.specs.inner.Leading.{Leads, LeadsOver, Worked}
 use Rattle.session_core.specs.Moving.{OnlyMovesByPress, OnlyMovesGiven}
@@ -24,6 +26,15 @@ use Rattle.session_core.specs.Step.{by_waiting_macro, come_to, given, pressed_ke
 abbrev pub over_step : State → Sheet → Option Running → State
 over_step s sheet r = with_sheet sheet (with_macro r s)
 
+-- the same over a worksheet, with its history
+abbrev pub over_work : State → Worksheet → Option Running → State
+over_work s w r = with_history w.history (over_step s (of_worksheet w) r)
+
+-- where the history stays it is no other
+pub work_stays : (s : State) (v w : Worksheet) (r : Option Running) → w.history ≡ v.history → v.history ≡ s.history →
+    over_work s w r ≡ over_step s (of_worksheet w) r
+work_stays s v w r stays is = ap (λ (h : History). with_history h (over_step s (of_worksheet w) r)) (stays ∙ is)
+
 -- the macro's step, made of the moment, the macro and the sheet, and what follows it
 abbrev pub over_steps : (Scene → Option Running → Sheet → MacroStep) → Replies → Scene → State → Outcome
 over_steps made replies scene s = stepped (made scene s.running (sheet_of s)) replies scene s
@@ -31,10 +42,10 @@ over_steps made replies scene s = stepped (made scene s.running (sheet_of s)) re
 -- A macro made a step that came to this end, and what follows by that end leads on.
 pub stepped_over : (made : Scene → Option Running → Sheet → MacroStep) (now : Moment) (told : Bool) (a mid b : Worked) (scene : Scene) (running new_running : Option Running) (came : StepEnd)
     (v w : Worksheet) (m n : ℕ) (x y : ShelfView) → scene ≡ scene_at a.state now → running ≡ a.state.running →
-    of_worksheet v ≡ sheet_of a.state → work_of v m ≡ a.work → mid.state ≡ over_step a.state (of_worksheet w) new_running → mid.work ≡ work_of w n →
+    of_worksheet v ≡ sheet_of a.state → v.history ≡ a.state.history → work_of v m ≡ a.work → mid.state ≡ over_work a.state w new_running → mid.work ≡ work_of w n →
     HasStepped (made scene running (of_worksheet v)) came new_running v w m n → LeadsOver (come_to came) now told mid b x y →
     LeadsOver (over_steps made) now told a b x y
-stepped_over made now told a mid b scene running new_running came v w m n x y scene_is running_is sheet_is work_is mid_is mid_work h l =
+stepped_over made now told a mid b scene running new_running came v w m n x y scene_is running_is sheet_is history_is work_is mid_is mid_work h l =
     let there : Scene = scene_at a.state now in
     let step : MacroStep = made there a.state.running (sheet_of a.state) in
     let here : HasStepped step came new_running v w m n =
@@ -43,7 +54,8 @@ stepped_over made now told a mid b scene running new_running came v w m n x y sc
     (subst (λ (c : Scene). HasStepped (made c running (of_worksheet v)) came new_running v w m n) scene_is h)) in
     let behind : State = over_step a.state step.done.sheet step.running in
     let is : mid.state ≡ behind =
-    mid_is ∙ ap (λ (s : Sheet). over_step a.state s new_running) here.did.sheet ∙ ap (over_step a.state step.done.sheet) here.running in
+    mid_is ∙ work_stays a.state v w new_running here.did.history history_is
+    ∙ ap (λ (s : Sheet). over_step a.state s new_running) here.did.sheet ∙ ap (over_step a.state step.done.sheet) here.running in
     let next : StepEnd → State → Outcome = λ (e : StepEnd) (s : State). come_to e l.replies (scene_at s now) s in
     let later : Leads (next step.end behind) told mid b =
     subst (λ (s : State). Leads (next step.end s) told mid b) is (subst (λ (e : StepEnd). Leads (next e mid.state) told mid b) here.end l.leads) in

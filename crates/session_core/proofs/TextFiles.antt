@@ -16,6 +16,8 @@ use Rattle.work_sheet.specs.Did.{work_of}
 use Rattle.work_sheet.specs.Seen.{of_worksheet, Sheet}
 use Rattle.work_sheet.specs.Sheets.{Worksheet}
 use Rattle.work_sheet.specs.Work.{HasWorked, Work}
+use Rattle.sheet_undo.specs.Histories.{History}
+use Rattle.session_core.specs.Keeping.{with_history}
 use Rattle.session_core.specs.Machine.{scene_at, sheet_of, with_channel, with_macro, with_sheet, State}
 use Rattle.session_core.specs.inner.Leading.{Leads, LeadsOver, Worked}
 use Rattle.session_core.specs.Step.{by_file, by_word, on_file, protected_target, served_as}
@@ -30,17 +32,22 @@ on_ok_map (Err e) f p = p
 abbrev over_deed : State → Sheet → Option Running → State
 over_deed s sheet r = with_sheet sheet (with_macro r s)
 
+-- the same over a worksheet, with its history
+abbrev pub over_carried : State → Worksheet → Option Running → State
+over_carried s w r = with_history w.history (over_deed s (of_worksheet w) r)
+
 -- a deed of the macro leads on
 pub carried_leads : (scene : Scene) (d : Deed) (a b : Worked) (running new_running : Option Running) (came : StepEnd) (v w : Worksheet) (m n : ℕ) →
-    running ≡ a.state.running → of_worksheet v ≡ sheet_of a.state → work_of v m ≡ a.work → b.state ≡ over_deed a.state (of_worksheet w) new_running → b.work ≡ work_of w n →
+    running ≡ a.state.running → of_worksheet v ≡ sheet_of a.state → v.history ≡ a.state.history → work_of v m ≡ a.work → b.state ≡ over_carried a.state w new_running → b.work ≡ work_of w n →
     HasStepped (carried_step scene d running (of_worksheet v)) came new_running v w m n → Leads (served_as (Some d) scene a.state) false a b
-carried_leads scene d a b running new_running came v w m n running_is sheet_is work_is state_is done_is h =
+carried_leads scene d a b running new_running came v w m n running_is sheet_is history_is work_is state_is done_is h =
     let step : MacroStep = carried_step scene d a.state.running (sheet_of a.state) in
     let here : HasStepped step came new_running v w m n =
     subst (λ (s : Sheet). HasStepped (carried_step scene d a.state.running s) came new_running v w m n) sheet_is
     (subst (λ (r : Option Running). HasStepped (carried_step scene d r (of_worksheet v)) came new_running v w m n) running_is h) in
     record {
-      state = state_is ∙ ap (λ (s : Sheet). over_deed a.state s new_running) here.did.sheet ∙ ap (over_deed a.state step.done.sheet) here.running;
+      state = state_is ∙ ap (λ (k : History). with_history k (over_deed a.state (of_worksheet w) new_running)) (here.did.history ∙ history_is)
+          ∙ ap (λ (s : Sheet). over_deed a.state s new_running) here.did.sheet ∙ ap (over_deed a.state step.done.sheet) here.running;
       work = subst (λ (u : Work). HasWorked step.done.log u b.work) work_is
           (subst (λ (u : Work). HasWorked step.done.log (work_of v m) u) (sym done_is) here.did.work);
       ends = refl;

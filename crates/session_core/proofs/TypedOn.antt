@@ -10,12 +10,11 @@ use Rattle.lics_text.specs.Limits.{MAX_LEN}
 use Rattle.commands_file.specs.Calls.{ShelfView}
 use Rattle.session_core.proofs.Alone.{alone, no_replies}
 use Rattle.serial_date.specs.declared.moment.Moment.{Moment}
-use Rattle.session_core.specs.Carrying.{carried}
 use Rattle.session_core.specs.Machine.{idle, quiet, scene_at, Outcome, Replies, State}
 use Rattle.session_core.specs.inner.Leading.{Leads, LeadsOver, Worked}
 use Rattle.session_core.specs.Pressing.{turn_of}
 use Rattle.session_core.specs.Refusing.{key_refused}
-use Rattle.session_core.specs.Step.{by_key}
+use Rattle.session_core.specs.Step.{begun_and_carried, by_key}
 use Rattle.session_core.specs.inner.Typing.{is_line_typed, typed_on, with_byte}
 use Rattle.session_core.specs.declared.refusal.Refusal.TheVariants as refusal
 use Rattle.session_rooms.specs.declared.rooms.Room.{Room}
@@ -43,11 +42,11 @@ byte_pressed Edit b g pointer r = edited_on (nat_lt (length r.line.text) MAX_LEN
 
 -- the same by the room
 byte_carried : (x : Room) (b : ℕ) (replies : Replies) (scene : Scene) (s : State) → is_line_typed x ≡ true →
-    carried (turn_of (key.Byte b) x s.end s.desk) replies scene
+    begun_and_carried (turn_of (key.Byte b) x s.end s.desk) replies scene
     (record (idle s) { refusal = key_refused (key.Byte b) x })
     ≡ quiet (record s { room = with_byte b x; end = false; refusal = refusal.Nothing })
 byte_carried (room.Typing r) b replies scene s typed =
-    ap (λ (t : Turn). carried t replies scene (record (idle s) { refusal = refusal.Nothing }))
+    ap (λ (t : Turn). begun_and_carried t replies scene (record (idle s) { refusal = refusal.Nothing }))
     (byte_pressed r.mode b s.desk.sheet.grid s.desk.sheet.settings.pointer r)
 byte_carried room.Ready b replies scene s typed = absurd (false≢true typed)
 byte_carried (room.Pointing r) b replies scene s typed = absurd (false≢true typed)

@@ -1,5 +1,5 @@
 -- How the session carries out what a key comes to.
-use Rattle.std.specs.Prelude.{ℕ, Bool, true, false, List, ◌++◌, Option, None, Some, if◌then◌else◌}
+use Rattle.std.specs.Prelude.{ℕ, Bool, true, false, List, [], ◌∷◌, ◌++◌, Option, None, Some, if◌then◌else◌}
 use Rattle.cell_pointer.specs.Moves.{moved}
 use Rattle.cell_pointer.specs.declared.way.Way.{Way}
 use Rattle.command_desk.specs.declared.ending.CommandEnd.{CommandEnd}
@@ -38,9 +38,13 @@ use Rattle.session_rooms.specs.declared.turn.Turn.TheVariants as turn
 use Rattle.session_core.specs.Act.{act}
 use Rattle.sheet_edits.specs.Edits.{is_protected}
 use Rattle.work_sheet.specs.Doing as doing
+use Rattle.work_sheet.specs.Kept.{put_back}
+use Rattle.work_sheet.specs.Seen.{Sheet}
 use Rattle.session_core.specs.Entering.{meaning_of}
 use Rattle.session_core.specs.Faults.{fault_message}
-use Rattle.session_core.specs.Machine.{and_further, followed_by, in_room, pointer_of, pointing_at, quiet, sheet_of, is_running, with_done, with_macro, Outcome, Replies, State}
+use Rattle.session_core.specs.Keeping.{with_history}
+use Rattle.session_core.specs.Machine.{and_further, followed_by, in_room, pointer_of, pointing_at, quiet, sheet_of}
+use Rattle.session_core.specs.Machine.{is_running, with_done, with_macro, Outcome, Replies, State}
 use Rattle.session_core.specs.declared.entering.Meant.{Meant}
 use Rattle.session_core.specs.declared.entering.Meant.TheVariants.{Means, Faulty}
 use Rattle.session_core.specs.declared.refusal.Refusal.TheVariants as refusal
@@ -159,7 +163,17 @@ started_at (Some c) s = with_macro (Some (begun_at c)) s
 abbrev pub started : ℕ → State → State
 started letter s = if is_running s then s else started_at (macro_named (sheet_of s).names letter) s
 
--- what a key came to is carried out; no command is taken back yet
+-- the latest kept state takes the sheet's place and is kept no more; where none is kept, that is an error
+abbrev pub undone_to : List Sheet → Scene → State → Outcome
+undone_to [] scene s = failed error.NothingToUndo scene s
+undone_to (latest ∷ earlier) scene s =
+    with_done (put_back latest (sheet_of s)) (with_history (record { kept = earlier; begun = None }) s)
+
+-- the last command is taken back; inside a macro the key is passed over
+abbrev pub undone : Scene → State → Outcome
+undone scene s = if is_running s then quiet s else undone_to s.history.kept scene s
+
+-- what a key came to is carried out
 abbrev pub carried : Turn → Replies → Scene → State → Outcome
 carried (turn.Become r) replies scene s = quiet (in_room r s)
 carried (turn.Move way) replies scene s = quiet (going way s)
@@ -169,5 +183,5 @@ carried (turn.Ask c) replies scene s = asked c replies scene s
 carried (turn.Act c) replies scene s = acted c replies.act scene s
 carried turn.Recalculate replies scene s = recalculated scene s
 carried (turn.Start letter) replies scene s = quiet (started letter s)
-carried turn.Undo replies scene s = quiet s
+carried turn.Undo replies scene s = undone scene s
 carried (turn.Fail e) replies scene s = failed e scene s

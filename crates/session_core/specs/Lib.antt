@@ -3,6 +3,7 @@ pub mod Carrying
 pub mod Entering
 pub mod Faults
 pub mod Frozen
+pub mod Keeping
 pub mod Machine
 pub mod Moving
 pub mod Pressing
@@ -10,6 +11,7 @@ pub mod Refusing
 pub mod Screen
 pub mod Standing
 pub mod Step
+pub mod Undoing
 pub mod Unfailing
 pub mod Waiting
 pub mod inner

@@ -12,6 +12,7 @@ use Rattle.session_rooms.specs.declared.rooms.Room.{Room}
 use Rattle.session_rooms.specs.declared.rooms.Room.TheVariants.{Ready}
 use Rattle.session_core.specs.declared.refusal.Refusal.{Refusal}
 use Rattle.session_core.specs.declared.refusal.Refusal.TheVariants as refusal
+use Rattle.sheet_undo.specs.Histories.{no_history, History}
 use Rattle.text_channel.specs.declared.attached.Attached.{Attached}
 use Rattle.work_sheet.specs.Doing.{with_pointer, Done, Happened}
 use Rattle.work_sheet.specs.Seen.{Sheet}
@@ -25,8 +26,8 @@ pub record FrozenAreas : Type 0 where
 
 -- The desk with the worksheet and its pointer, the cell at the top left of the screen, what the session is doing,
 -- whether END waits for a moving key, the macro that runs, the text file that macros have attached, the text that a
--- macro put in the mode's place, what of the screen stands still, what the last step refused beside an error, and the
--- day and the second of that step.
+-- macro put in the mode's place, what of the screen stands still, what the last step refused beside an error, the
+-- states of the worksheet before the last commands, and the day and the second of the last step.
 pub record State : Type 0 where
   pub desk : Desk
   pub corner : Place
@@ -37,6 +38,7 @@ pub record State : Type 0 where
   pub indicate : List ℕ
   pub frozen : FrozenAreas
   pub refusal : Refusal
+  pub history : History
   pub day : Option ℕ
   pub second : ℕ
 
@@ -62,6 +64,7 @@ begun_with d = record {
   indicate = [];
   frozen = unfrozen;
   refusal = refusal.Nothing;
+  history = no_history;
   day = None;
   second = 0;
 }

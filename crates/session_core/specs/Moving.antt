@@ -51,7 +51,7 @@ abbrev pub OnlyMovesByPress : Key → State → Type 0
 OnlyMovesByPress key.Break s = ⊤
 OnlyMovesByPress k s = OnlyMovesGiven k s
 
--- an event that does no more
+-- an event that does no more, where no command is begun: in READY outside a macro none is
 abbrev pub OnlyMovesBy : Event → State → Type 0
-OnlyMovesBy (KeyEvent k) s = OnlyMovesByPress k s
+OnlyMovesBy (KeyEvent k) s = OnlyMovesByPress k s × (s.history.begun ≡ None)
 OnlyMovesBy UnitEvent s = ⊥

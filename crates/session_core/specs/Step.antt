@@ -18,10 +18,12 @@ use Rattle.sheet_edits.specs.Edits.{is_protected}
 use Rattle.serial_date.specs.declared.moment.Moment.{Moment}
 use Rattle.session_core.specs.Carrying.{behind_calls, carried, failed, recalculated, told}
 use Rattle.session_core.specs.Faults.{fault_message}
+use Rattle.session_core.specs.Keeping.{begun_for, command_ended, TellsChange}
 use Rattle.session_core.specs.Machine.{afresh, and_further, followed_by, idle, pointer_of, quiet, scene_at, sheet_of}
 use Rattle.session_core.specs.Machine.{with_channel, with_done, with_macro, Follows, Outcome, Replies, SessionView, State}
 use Rattle.session_core.specs.Pressing.{turn_of}
 use Rattle.session_core.specs.Refusing.{key_refused}
+use Rattle.session_rooms.specs.declared.turn.Turn.{Turn}
 use Rattle.session_core.specs.Frozen.{frozen_after, switches_of}
 use Rattle.session_core.specs.Screen.{screen}
 use Rattle.session_core.specs.declared.event.Event.{Event}
@@ -31,9 +33,13 @@ use Rattle.session_core.specs.declared.event.Event.TheVariants.{Key as KeyEvent,
 abbrev pub typed_into : Key → State → State
 typed_into k s = record (idle s) { refusal = key_refused k s.room }
 
+-- what a key came to is carried out, where a command is begun if that can change the sheet
+abbrev pub begun_and_carried : Turn → Replies → Scene → State → Outcome
+begun_and_carried t replies scene s = carried t replies scene (begun_for t s)
+
 -- What the key comes to is carried out in READY, without END's mark, whether it is pressed or a macro types it.
 abbrev pub by_key : Key → Replies → Scene → State → Outcome
-by_key k replies scene s = carried (turn_of k s.room s.end s.desk) replies scene (typed_into k s)
+by_key k replies scene s = begun_and_carried (turn_of k s.room s.end s.desk) replies scene (typed_into k s)
 
 -- seen from where the pointer now stands
 abbrev pub seen_from : Scene → State → Scene
@@ -122,10 +128,23 @@ abbrev pub event_taken : Event → Replies → Scene → State → Outcome
 event_taken (KeyEvent k) replies scene s = pressed_key k replies scene s
 event_taken UnitEvent replies scene s = run_on replies scene s
 
--- One step, over what the shelf answers in it, and then the screen follows it.
-abbrev pub step : Event → Moment → Replies → State → Outcome
-step event now replies s =
-    and_further (event_taken event replies (scene_at s now) (afresh s)) (framed (screen s) now)
+-- a step before the screen follows it: where a command is at its end, it is kept if it changed the sheet
+abbrev pub event_done : Event → Replies → Bool → Scene → State → Outcome
+event_done event replies changed scene s = and_further (event_taken event replies scene s) (command_ended changed)
+
+-- the answer tells whether a command that an event ends changed the sheet
+abbrev pub EventTells : Event → Moment → Replies → Bool → State → Type 0
+EventTells event now replies changed s = TellsChange changed (event_taken event replies (scene_at s now) s).state
+
+-- the answer tells whether a command that a step ends changed the sheet
+abbrev pub StepTells : Event → Moment → Replies → Bool → State → Type 0
+StepTells event now replies changed s = EventTells event now replies changed (afresh s)
+
+-- One step, over what the shelf answers in it and whether a command that it ends changed the sheet, and then the screen
+-- follows it.
+abbrev pub step : Event → Moment → Replies → Bool → State → Outcome
+step event now replies changed s =
+    and_further (event_done event replies changed (scene_at s now) (afresh s)) (framed (screen s) now)
 
 -- before the first step the sheet is recalculated, at this moment
 abbrev pub loaded : Moment → State → Outcome
@@ -137,14 +156,16 @@ is_key (KeyEvent k) = true
 is_key UnitEvent = false
 
 -- A session made a step that ends the run or doesn't, over some answers of the shelf, which are those that what the
--- shelf holds gives; its calls leave the shelf so.
+-- shelf holds gives, and over whether a command that it ends changed the sheet; its calls leave the shelf so.
 pub record HasTakenStep (event : Event) (now : Moment) (ending : Bool) (a b : SessionView)
     (before after : ShelfView) : Type 0 where
   pub replies : Replies
-  pub follows : Follows (step event now replies a.state) a b
-  pub ends : (step event now replies a.state).ends ≡ ending
-  pub answered : HaveAnswered (step event now replies a.state).calls before after
+  pub changed : Bool
+  pub tells : StepTells event now replies changed a.state
+  pub follows : Follows (step event now replies changed a.state) a b
+  pub ends : (step event now replies changed a.state).ends ≡ ending
+  pub answered : HaveAnswered (step event now replies changed a.state).calls before after
 
 -- memory ran out in a step of the session, over some answers of the shelf
 abbrev pub HasBrokenStep : Event → Moment → State → ShelfView → ShelfView → Type 0
-HasBrokenStep event now s before after = HasBrokenOver (λ replies. (step event now replies s).calls) before after
+HasBrokenStep event now s before after = HasBrokenOver (λ replies. (step event now replies false s).calls) before after

@@ -18,6 +18,8 @@ mod waiting;
 
 pub use event::{Event, Stepped};
 pub use key_words::Key;
-pub use laws::{a_step_has_one_outcome, only_print_changes_what_reports_need};
+pub use laws::{
+    a_step_has_one_outcome, no_command_is_begun_in_ready, only_print_changes_what_reports_need,
+};
 pub use refusal::RefusedText;
 pub use session::Session;

@@ -9,6 +9,7 @@ ghost use Rattle.session_core.specs.Carrying.{acted, asked, carried, entered, fa
 ghost use Rattle.session_core.specs.Carrying.{is_pointer_protected, looking, recalculated, started, told};
 ghost use Rattle.session_core.specs.inner.Settling.{settling, writing};
 ghost use Rattle.session_core.specs.Frozen.{switches_of};
+ghost use Rattle.sheet_undo.specs.Histories.{no_history};
 ghost use Rattle.session_core.specs.Machine.{afresh, begun_with, in_room, pointer_of, pointing_at, scene_at, sheet_of};
 ghost use Rattle.session_core.specs.Machine.{wants_key, with_macro};
 ghost use Rattle.session_core.specs.inner.Leading.{BreaksOver, Leads, LeadsBy, LeadsOver};
@@ -23,6 +24,7 @@ mod painting;
 mod refusing;
 mod text_files;
 mod typing;
+mod undoing;
 
 use crate::acting::act;
 use crate::entering::{Meant, meaning_of};
@@ -100,6 +102,7 @@ impl Model for Machine {
         indicate = a.indicate;
         frozen = a.frozen;
         refusal = a.refusal;
+        history = a.desk.sheet.history;
         day = a.moment.day;
         second = a.moment.second;
       };
@@ -126,8 +129,9 @@ const WORKED: Taken = Taken {
 };
 
 impl Machine {
-    /// The machine of a session that begins with a desk.
+    /// The machine of a session that begins with a desk whose sheet keeps no states.
     pub fn new(desk: Desk) -> Machine
+        requires { desk.sheet.history ≡ no_history }
         ensures state { result.state ≡ begun_with (of_desk desk) }
         ensures work { result.work ≡ work_of desk.sheet 0 }
     {
@@ -521,7 +525,7 @@ impl Machine {
                 self.start(letter);
                 Ok(WORKED)
             }
-            Turn::Undo => Ok(UNTOUCHED),
+            Turn::Undo => self.undo(now),
             Turn::Fail(error) => {
                 let scene = self.scene(now);
                 let touched = self.fail(error, &scene)?;

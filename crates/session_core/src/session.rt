@@ -11,6 +11,7 @@ ghost use Rattle.session_core.specs.Refusing.{joined};
 ghost use Rattle.session_core.specs.Screen.{screen};
 ghost use Rattle.session_core.specs.Standing.{is_at_rest, left_in, refused};
 ghost use Rattle.session_core.specs.Step.{is_key, loaded, HasBrokenStep, HasTakenStep};
+ghost use Rattle.sheet_undo.specs.Histories.{no_history};
 ghost use Rattle.work_sheet.specs.Did.{work_of};
 
 use crate::glance::changed_lines;
@@ -51,8 +52,9 @@ impl Model for Session {
 }
 
 impl Session {
-    /// A session that begins with a desk, in READY, with A1 at the top left of its screen.
+    /// A session that begins with a desk whose sheet keeps no states, in READY, with A1 at the top left of its screen.
     pub fn new(desk: Desk) -> Session
+        requires { desk.sheet.history ≡ no_history }
         ensures { result ≡ begun (of_desk desk) (work_of desk.sheet 0) }
     {
         let machine = Machine::new(desk);
@@ -114,7 +116,8 @@ impl Session {
 
     /// One step: a key exactly where the session wants one, and else the next unit of the macro that runs. `Quit` comes
     /// exactly where the menu's Quit was confirmed (Release 2 manual). After `Memory` the session is spent. A step that
-    /// only moves the pointer, types, or is passed over, takes no memory and leaves all of the sheet but the pointer.
+    /// only moves the pointer, types, or is passed over, where no command is begun, takes no memory and leaves all of
+    /// the sheet but the pointer.
     /// The shelf is called where a command of files has all its answers, or a report is printed, and once before, where
     /// a command may replace a file; a macro's words on text files call it too. Where memory runs out, the shelf is
     /// left by those of the step's calls that were answered, and by a `put` that wasn't, if one was begun: no other
@@ -145,7 +148,7 @@ impl Session {
     {
         let before = self.machine.glance();
         self.machine.begin();
-        match self.machine.take_event(event, now, shelf) {
+        match self.machine.do_event(event, now, shelf) {
             Ok(taken) => {
                 let stepped = Stepped::of(taken.ends);
                 self.machine.follow(now, &self.shown);

@@ -55,6 +55,7 @@ impl Machine {
         self.end = false;
         self.refusal = key_refused(&key, &room);
         let turn = turn_of(key, room, end, &self.desk)?;
+        self.begin_for(&turn)?;
         self.carry(turn, now, shelf)
     }
 }

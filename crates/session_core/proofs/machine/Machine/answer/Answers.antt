@@ -18,7 +18,7 @@ returns-clause-ok g c =
     (answered_over c.args.key c.args.now.now _ c.args.self.now c.come_to.new.self _ _
     (stepped_over (λ scene. key_step scene c.args.key) c.args.now.now _ (unmarked c.args.self.now) _ c.come_to.new.self c.scene-scene.result c.self.inside.engine c.answer.new.self _
     c.self.inside.desk.sheet c.answer.new.sheet c.self.inside.tally.count c.answer.new.tally.count _ _
-    c.scene-scene.ensures (search rules) (search rules) (search rules) (search rules) (search rules) c.in_ok-end.ensures.step c.in_ok-taken.ensures.ok))
+    c.scene-scene.ensures (search rules) (search rules) (search rules) (search rules) (search rules) (search rules) c.in_ok-end.ensures.step c.in_ok-taken.ensures.ok))
 
 -- where the step left the sheet, what follows touched alone counts
 pub returns-clause-touched : goal.returns-clause-touched
@@ -38,4 +38,4 @@ returns-in_err-taken-clause-memory g c =
     on_err _ (stepped_breaks (λ scene. key_step scene c.args.key) c.args.now.now (record c.args.self.now.state { end = false }) _
     c.scene-scene.result c.self.inside.engine c.answer.new.self _ c.self.inside.desk.sheet c.answer.new.sheet
     c.self.inside.tally.count c.answer.new.tally.count _ _ c.scene-scene.ensures (search rules) (search rules)
-    (search rules) c.in_ok-end.ensures.step c.in_err-taken.ensures.memory)
+    (search rules) (search rules) c.in_ok-end.ensures.step c.in_err-taken.ensures.memory)

@@ -1,8 +1,9 @@
 use Rattle.std.proofs.Common.{rules, refl}
 use Rattle.commands_file.proofs.Broken.{none_over, on_err}
 use Rattle.session_core.specs.Machine.{scene_at}
-use Rattle.session_core.proofs.Alone.{alone, finish_calls, no_replies}
+use Rattle.session_core.proofs.Alone.{alone, finish_calls, no_replies, ok_map}
 use Rattle.session_core.proofs.Failing.{failed_calls}
+use Rattle.session_core.proofs.Undoing.{undo_calls}
 use Rattle.session_core.proofs.machine.Machine.carry.Goals as goal
 
 -- no call was made of the shelf
@@ -36,7 +37,13 @@ pub returns-in-Start-clause-ok : goal.returns-in-Start-clause-ok
 returns-in-Start-clause-ok g c = rw c.in-Start.is (alone _ _ _ _ _ _ (search rules) refl)
 
 pub returns-in-Undo-clause-ok : goal.returns-in-Undo-clause-ok
-returns-in-Undo-clause-ok g c = rw c.in-Undo.is (alone _ _ _ _ _ _ (search rules) refl)
+returns-in-Undo-clause-ok g c =
+    rw c.in-Undo.is (ok_map c.undo.result
+    (λ t l. alone _ _ _ _ _ _ l (undo_calls (scene_at c.args.self.now.state c.args.now.now) c.args.self.now.state))
+    c.undo.ensures.undone)
+
+pub returns-in-Undo-clause-memory : goal.returns-in-Undo-clause-memory
+returns-in-Undo-clause-memory g c = on_err _ (none_over _ no_replies _)
 
 pub returns-in_ok-touched-in-Fail-clause-ok : goal.returns-in_ok-touched-in-Fail-clause-ok
 returns-in_ok-touched-in-Fail-clause-ok g c =

@@ -17,7 +17,7 @@ returns-clause-ok g c =
     ends_as run_on c.args.now.now _ _ c.args.self.now c.come_to.new.self _ _ c.behind.ensures.ends
     (stepped_over macro_step c.args.now.now _ c.args.self.now _ c.come_to.new.self c.scene-scene.result c.self.inside.engine c.step.new.self _
     c.self.inside.desk.sheet c.step.new.sheet c.self.inside.tally.count c.step.new.tally.count _ _
-    c.scene-scene.ensures (search rules) (search rules) (search rules) (search rules) (search rules) c.in_ok-end.ensures.step c.in_ok-taken.ensures.ok)
+    c.scene-scene.ensures (search rules) (search rules) (search rules) (search rules) (search rules) (search rules) c.in_ok-end.ensures.step c.in_ok-taken.ensures.ok)
 
 -- where the step left the sheet, what follows touched alone counts
 pub returns-clause-touched : goal.returns-clause-touched
@@ -37,4 +37,4 @@ returns-in_err-taken-clause-memory g c =
     on_err _ (stepped_breaks macro_step c.args.now.now c.args.self.now.state _
     c.scene-scene.result c.self.inside.engine c.step.new.self _ c.self.inside.desk.sheet c.step.new.sheet
     c.self.inside.tally.count c.step.new.tally.count _ _ c.scene-scene.ensures (search rules) (search rules)
-    (search rules) c.in_ok-end.ensures.step c.in_err-taken.ensures.memory)
+    (search rules) (search rules) c.in_ok-end.ensures.step c.in_err-taken.ensures.memory)

@@ -8,7 +8,7 @@ use Rattle.session_core.specs.Moving.{IsMoved, OnlyMovesBy}
 use Rattle.session_core.specs.Screen.{screen}
 use Rattle.work_sheet.specs.Doing.{with_pointer}
 use Rattle.session_core.proofs.Afresh.{moves_afresh}
-use Rattle.session_core.proofs.Held.{by_event}
+use Rattle.session_core.proofs.Held.{by_done}
 use Rattle.session_core.proofs.Kept.{lines_followed}
 use Rattle.session_core.proofs.Breaking.{event_breaks}
 use Rattle.session_core.proofs.session.Session.step.Goals as goal
@@ -17,14 +17,14 @@ use Rattle.session_core.proofs.session.Session.step.Goals as goal
 pub paint_lines-requires : goal.paint_lines-requires
 paint_lines-requires g c =
     let s : State = c.self.inside.machine.state in
-    let mid : State = c.take_event.new.self.state in
+    let mid : State = c.do_event.new.self.state in
     let t : State = c.follow.new.self.state in
     let fresh : c.self.inside.spent ≡ false = search rules in
     let kept = c.self.invariant fresh in
     let led = c.in-Ok.ensures.ok in
     let b : State = c.begin.new.self.state in
     let held : mid.frozen ≡ s.frozen =
-    ap (λ (u : State). u.frozen) led.leads.state ∙ by_event c.args.event led.replies (scene_at b c.args.now.now) b
+    ap (λ (u : State). u.frozen) led.leads.state ∙ by_done c.args.event led.replies led.changed (scene_at b c.args.now.now) b
     ∙ ap (λ (u : State). u.frozen) c.begin.ensures.state in
     let touch : HasTouched c.in-Ok.taken.touched s mid =
     subst (λ (u : State). HasTouched c.in-Ok.taken.touched u mid) c.begin.ensures.state c.in-Ok.ensures.touched in
@@ -44,14 +44,14 @@ follow-requires g c =
 pub returns-in-Ok-clause-lines : goal.returns-in-Ok-clause-lines
 returns-in-Ok-clause-lines g c is_fresh =
     let s : State = c.self.inside.machine.state in
-    let mid : State = c.take_event.new.self.state in
+    let mid : State = c.do_event.new.self.state in
     let t : State = c.follow.new.self.state in
     let fresh : c.self.inside.spent ≡ false = search rules in
     let kept = c.self.invariant fresh in
     let led = c.in-Ok.ensures.ok in
     let b : State = c.begin.new.self.state in
     let held : mid.frozen ≡ s.frozen =
-    ap (λ (u : State). u.frozen) led.leads.state ∙ by_event c.args.event led.replies (scene_at b c.args.now.now) b
+    ap (λ (u : State). u.frozen) led.leads.state ∙ by_done c.args.event led.replies led.changed (scene_at b c.args.now.now) b
     ∙ ap (λ (u : State). u.frozen) c.begin.ensures.state in
     let touch : HasTouched c.in-Ok.taken.touched s mid =
     subst (λ (u : State). HasTouched c.in-Ok.taken.touched u mid) c.begin.ensures.state c.in-Ok.ensures.touched in
@@ -64,7 +64,7 @@ returns-in-Ok-clause-lines g c is_fresh =
 -- a step that only moves leaves all of the sheet but the pointer, seen from before the step began
 pub returns-in-Ok-clause-sheet : goal.returns-in-Ok-clause-sheet
 returns-in-Ok-clause-sheet g c only =
-    let mid : State = c.take_event.new.self.state in
+    let mid : State = c.do_event.new.self.state in
     let b : State = c.begin.new.self.state in
     let from : b ≡ afresh c.args.self.now.state =
     c.begin.ensures.state ∙ ap (λ (r : SessionView). afresh r.state) c.self.view_is in
