@@ -10,6 +10,7 @@ use Rattle.serial_date.specs.declared.moment.Moment.{Moment}
 use Rattle.session_core.specs.Machine.{begun as fresh_running, Follows, SessionView}
 use Rattle.session_core.specs.Step.{loaded}
 use Rattle.sheet_store.specs.declared.writes.SavedSheet.{SavedSheet}
+use Rattle.sheet_undo.specs.Histories.{no_history}
 use Rattle.work_sheet.specs.Did.{work_of, DidEdit}
 use Rattle.work_sheet.specs.Editing.{restored}
 use Rattle.work_sheet.specs.Seen.{of_worksheet}
@@ -52,6 +53,7 @@ begun asked name saved desk before now is read made = rw is (record {
   answered = (now, read, refl);
   desk_is = made.desk_is;
   worked = made.worked;
+  none_kept = made.none_kept;
 })
 
 -- a desk over a generated sheet, for which the shelf was not asked
@@ -62,16 +64,18 @@ generated_begun asked rows desk shelf is (saved, generated, made) = rw is (recor
   answered = refl;
   desk_is = made.desk_is;
   worked = made.worked;
+  none_kept = made.none_kept;
 })
 
 -- a fresh desk
-pub fresh_begun : (asked : Start) (desk : Desk) (shelf : ShelfView) → asked ≡ given.Fresh → of_desk desk ≡ fresh_desk → desk.sheet.dirty ≡ [] → HasBegun asked desk shelf shelf
-fresh_begun asked desk shelf is made clean = rw is (record {
+pub fresh_begun : (asked : Start) (desk : Desk) (shelf : ShelfView) → asked ≡ given.Fresh → of_desk desk ≡ fresh_desk → desk.sheet.dirty ≡ [] → desk.sheet.history ≡ no_history → HasBegun asked desk shelf shelf
+fresh_begun asked desk shelf is made clean none = rw is (record {
   start = fresh;
   named = tt;
   answered = refl;
   desk_is = made;
   worked = ap (λ (ps : List Place). record { dirty = ps; count = 0 }) clean;
+  none_kept = none;
 })
 
 pub generated_desk : (rows : ℕ) (saved : SavedSheet) (made : Result Desk NoMemory) (n : ℕ) → n ≡ rows → IsGenerated n saved → IfOk made (IsDeskOf saved) → IfOk made (IsGeneratedDesk rows)
@@ -79,9 +83,9 @@ generated_desk rows saved (Ok desk) n is generated made = (saved, subst (λ (m :
 generated_desk rows saved (Err m) n is generated made = tt
 
 -- a desk, or want of memory before one was there
-pub fresh_or : (asked : Start) (made : Result Desk NoMemory) (shelf : ShelfView) → asked ≡ given.Fresh → IfOk made (λ d. of_desk d ≡ fresh_desk) → IfOk made (λ d. d.sheet.dirty ≡ []) → HasBegunOr asked (or_memory made) shelf shelf
-fresh_or asked (Ok desk) shelf is made clean = fresh_begun asked desk shelf is made clean
-fresh_or asked (Err m) shelf is made clean = rw is refl
+pub fresh_or : (asked : Start) (made : Result Desk NoMemory) (shelf : ShelfView) → asked ≡ given.Fresh → IfOk made (λ d. of_desk d ≡ fresh_desk) → IfOk made (λ d. d.sheet.dirty ≡ []) → IfOk made (λ d. d.sheet.history ≡ no_history) → HasBegunOr asked (or_memory made) shelf shelf
+fresh_or asked (Ok desk) shelf is made clean none = fresh_begun asked desk shelf is made clean none
+fresh_or asked (Err m) shelf is made clean none = rw is refl
 
 pub file_or : (asked : Start) (name : List ℕ) (saved : SavedSheet) (made : Result Desk NoMemory) (before now : ShelfView) → asked ≡ given.File name → HasReadFile name (Ok saved) before now → IfOk made (IsDeskOf saved) → HasBegunOr asked (or_memory made) before now
 file_or asked name saved (Ok desk) before now is read made = begun asked name saved desk before now is read made
@@ -92,12 +96,13 @@ rows_or asked rows (Ok desk) shelf is made = generated_begun asked rows desk she
 rows_or asked rows (Err m) shelf is made = rw is refl
 
 -- the sheet of a file on a fresh desk
-pub desk_made : (saved : SavedSheet) (made : Desk) (s : Worksheet) → of_desk made ≡ fresh_desk → made.sheet.dirty ≡ [] → ((before : Worksheet) → DidEdit (restored saved.store saved.names saved.settings) before s) → IsDeskOf saved (record made { sheet = s })
-desk_made saved made s is clean edit =
+pub desk_made : (saved : SavedSheet) (made : Desk) (s : Worksheet) → of_desk made ≡ fresh_desk → made.sheet.dirty ≡ [] → made.sheet.history ≡ no_history → DidEdit (restored saved.store saved.names saved.settings) made.sheet s → IsDeskOf saved (record made { sheet = s })
+desk_made saved made s is clean none edit =
     let no_dirty : work_of made.sheet 0 ≡ no_work = ap (λ (ps : List Place). record { dirty = ps; count = 0 }) clean in
     record {
-      desk_is = ap (λ (d : DeskSeen). on_sheet d (of_worksheet s)) is ∙ ap (on_sheet fresh_desk) (edit made.sheet 0).sheet;
-      worked = subst (λ (w : Work). HasWorked (taken_over saved).log w (work_of s 0)) no_dirty (edit made.sheet 0).work;
+      desk_is = ap (λ (d : DeskSeen). on_sheet d (of_worksheet s)) is ∙ ap (on_sheet fresh_desk) (edit 0).sheet;
+      worked = subst (λ (w : Work). HasWorked (taken_over saved).log w (work_of s 0)) no_dirty (edit 0).work;
+      none_kept = (edit 0).history ∙ none;
     }
 
 -- a session is loaded

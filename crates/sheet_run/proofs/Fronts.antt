@@ -113,7 +113,7 @@ step_before (y ∷ ys) more k x xs s (KeyEvent j) is e fits later =
 
 before_key : (keys more : List Key) (k : Key) (steps : List Step) (s : State) → keys_of steps ≡ keys ++ k ∷ more → Fit s steps → Before keys s steps
 before_key keys more k [] s e fit = absurd (omega (arith, ap length e, length-append keys (k ∷ more)))
-before_key keys more k (x ∷ xs) s e fit = step_before keys more k x xs s x.event refl e fit.0 (λ ks rest. before_key ks more k xs (outcome s x).state rest fit.1)
+before_key keys more k (x ∷ xs) s e fit = step_before keys more k x xs s x.event refl e fit.0.key (λ ks rest. before_key ks more k xs (outcome s x).state rest fit.1)
 
 module _ (answers : Answers) (before : Outside) (start : Beginning) (first : Moment) (limit : ℕ) (all left : List Key) (steps : List Step) (m : MayMake answers before start first all left steps) (keys : List Key)
     (quits : QuitWithin answers before start limit keys) where

@@ -10,7 +10,7 @@ use Rattle.commands_file.specs.Alike.{HoldAlike}
 use Rattle.commands_file.specs.Calls.{Asked, HaveAnswered, ShelfView}
 use Rattle.session_core.specs.Machine.{wants_key, Outcome, Replies, State}
 use Rattle.session_core.specs.Screen.{screen}
-use Rattle.session_core.specs.Step.{is_key, step}
+use Rattle.session_core.specs.Step.{is_key, step, StepTells}
 use Rattle.session_core.specs.Unfailing.{NoneFailed}
 use Rattle.session_core.specs.declared.event.Event.{Event}
 use Rattle.session_core.specs.declared.event.Event.TheVariants.{Key as KeyEvent, Unit as UnitEvent}
@@ -169,7 +169,7 @@ one_last (x ∷ xs) (y ∷ ys) a b e = let rest : xs ++ a ∷ [] ≡ ys ++ b ∷
 -- what is wanted where a step stands among others
 pub fit_at : (front rest : List Step) (x : Step) (s : State) → Fit s (front ++ x ∷ rest) →
     is_key x.event ≡ wants_key (after s front)
-fit_at [] rest x s fit = fit.0
+fit_at [] rest x s fit = fit.0.key
 fit_at (y ∷ ys) rest x s fit = fit_at ys rest x (outcome s y).state fit.1
 
 -- an event, by whether a key is wanted and by the keys
@@ -237,15 +237,19 @@ more_compared s t x y xs ys event moment came (longer front z rest is a) =
     longer (x ∷ front) z rest (ap (λ (l : List Step). x ∷ l) is) (more_alike s t x y front ys event moment came a)
 
 -- the same step from the same state, with other answers of the shelf
-one_outcome : (e f : Event) (m n : Moment) (r q : Replies) (s t : State) (a b c d : ShelfView) → e ≡ f → m ≡ n → s ≡ t →
-    HoldAlike a b →
-    HaveAnswered (step e m r s).calls a c → NoneFailed (step e m r s).calls → HaveAnswered (step f n q t).calls b d →
-    NoneFailed (step f n q t).calls →
-    step e m r s ≡ step f n q t
-one_outcome e f m n r q s t a b c d event moment state alike had fine had' fine' =
-    let same : step e m q s ≡ step f n q t = λ i. step (event i) (moment i) q (state i) in
-    let calls : (step f n q t).calls ≡ (step e m q s).calls = ap (λ (o : Outcome). o.calls) (sym same) in
-    (one_step e m s r q a b c d alike (record { had = had; fine = fine })
+one_outcome : (e f : Event) (m n : Moment) (r q : Replies) (h g : Bool) (s t : State) (a b c d : ShelfView) → e ≡ f → m ≡ n → s ≡ t →
+    HoldAlike a b → StepTells e m r h s → StepTells f n q g t →
+    HaveAnswered (step e m r h s).calls a c → NoneFailed (step e m r h s).calls → HaveAnswered (step f n q g t).calls b d →
+    NoneFailed (step f n q g t).calls →
+    step e m r h s ≡ step f n q g t
+one_outcome e f m n r q h g s t a b c d event moment state alike tells tells' had fine had' fine' =
+    let same : step e m q g s ≡ step f n q g t = λ i. step (event i) (moment i) q g (state i) in
+    let told : StepTells e m q g s =
+    subst (λ (u : State). StepTells e m q g u) (sym state)
+    (subst (λ (v : Moment). StepTells e v q g t) (sym moment)
+    (subst (λ (w : Event). StepTells w n q g t) (sym event) tells')) in
+    let calls : (step f n q g t).calls ≡ (step e m q g s).calls = ap (λ (o : Outcome). o.calls) (sym same) in
+    (one_step e m s r q h g a b c d alike tells told (record { had = had; fine = fine })
     (record { had = subst (λ (l : List Asked). HaveAnswered l b d) calls had'; fine = subst NoneFailed calls fine' })).0
     ∙ same
 
@@ -264,8 +268,8 @@ compare (x ∷ xs) [] s t told read read' a b c d more other same took took' fit
     longer [] x xs refl (record { came = refl; keys = refl; moments = refl })
 compare (x ∷ xs) (y ∷ ys) s t told read read' a b c d more other same took took' fit fit' alike had had' fine fine'
     keys =
-    let e = same_event x.event y.event (keys_of xs ++ more) (keys_of ys ++ other) (fit.0 ∙ ap wants_key same
-    ∙ sym fit'.0) (sym (append_assoc (key_in x.event) (keys_of xs) more) ∙ keys
+    let e = same_event x.event y.event (keys_of xs ++ more) (keys_of ys ++ other) (fit.0.key ∙ ap wants_key same
+    ∙ sym fit'.0.key) (sym (append_assoc (key_in x.event) (keys_of xs) more) ∙ keys
     ∙ append_assoc (key_in y.event) (keys_of ys) other) in
     let m = one_reading told took.0 took'.0 x.moment y.moment took.1 took'.1 in
     let calls = split_answered (outcome s x).calls (calls_of (outcome s x).state xs) a c had in
@@ -273,7 +277,8 @@ compare (x ∷ xs) (y ∷ ys) s t told read read' a b c d more other same took t
     let none = split_fine (outcome s x).calls (calls_of (outcome s x).state xs) fine in
     let none' = split_fine (outcome t y).calls (calls_of (outcome t y).state ys) fine' in
     let came : outcome s x ≡ outcome t y =
-    one_outcome x.event y.event x.moment y.moment x.replies y.replies s t a b calls.0 calls'.0 e.0 m.same same alike
+    one_outcome x.event y.event x.moment y.moment x.replies y.replies x.changed y.changed s t a b calls.0 calls'.0 e.0 m.same same alike
+    fit.0.tells fit'.0.tells
     calls.1 none.0 calls'.1 none'.0 in
     let then_alike : HoldAlike calls.0 calls'.0 =
     left_alike (outcome s x).calls a b calls.0 calls'.0 alike calls.1

@@ -13,6 +13,6 @@ mod outside;
 mod runs;
 mod words;
 
-pub use laws::a_run_has_one_outcome;
+pub use laws::{a_run_has_one_outcome, as_many_undos_give_the_sheet_back};
 pub use runs::{a_run_ends_well, run};
 pub use words::Words;

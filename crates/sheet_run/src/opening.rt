@@ -1,5 +1,6 @@
 // The start of a run: a fresh sheet, that of the start file, or a generated one.
 ghost use Rattle.std.specs.Prelude.{◌≡◌, IfOk};
+ghost use Rattle.sheet_undo.specs.Histories.{no_history};
 ghost use Rattle.sheet_run.specs.Around.{shelf_of};
 ghost use Rattle.sheet_run.specs.inner.Beginning.{or_memory, HasBegunOr, HasLoaded, HasReadFile, HasReadSheet, IsDeskOf, IsGeneratedDesk};
 
@@ -11,7 +12,6 @@ use sheet_gen::generate;
 use sheet_store::SavedSheet;
 use std::alloc::Global;
 use wk1_file::{Wk1Fault, read};
-use work_sheet::Worksheet;
 
 /// Why a start file isn't read as a sheet.
 #[derive(Clone, Copy)]
@@ -63,8 +63,7 @@ fn desk_over(alloc: Global, saved: SavedSheet) -> Result<Desk, Memory>
     ensures { IfOk result (IsDeskOf saved) }
 {
     let mut desk = Desk::new(alloc)?;
-    let sheet = Worksheet::restore(saved)?;
-    desk.sheet = sheet;
+    desk.sheet.take_saved(saved)?;
     Ok(desk)
 }
 
@@ -101,8 +100,9 @@ pub fn begin<S: Shelf>(alloc: Global, start: &Start, shelf: &mut S) -> Result<De
     }
 }
 
-/// The session that begins with a desk, recalculated at a reading of the clock.
+/// The session that begins with a desk whose sheet keeps no states, recalculated at a reading of the clock.
 pub fn load<C: Clock>(desk: Desk, clock: &mut C) -> Result<Session, Memory>
+    requires { desk.sheet.history ≡ no_history }
     ensures { HasLoaded desk (C.readings clock.old) (C.readings clock.new) result }
 {
     let first = clock.read();

@@ -10,6 +10,7 @@ use Rattle.session_core.specs.Machine.{begun, begun_with, Follows, SessionView}
 use Rattle.session_core.specs.Step.{loaded as loaded_at}
 use Rattle.sheet_gen.specs.Rows.{IsGenerated}
 use Rattle.sheet_store.specs.declared.writes.SavedSheet.{SavedSheet}
+use Rattle.sheet_undo.specs.Histories.{no_history}
 use Rattle.work_sheet.specs.Did.{work_of}
 use Rattle.work_sheet.specs.Work.{no_work, HasWorked}
 use Rattle.sheet_run.specs.Opening.{answer_of, asked_for, taken_over, BreaksOff}
@@ -41,6 +42,7 @@ HasReadFile name (Err Memory) before now = BreaksOff (given.File name) before no
 pub record IsDeskOf (saved : SavedSheet) (desk : Desk) : Type 0 where
   pub desk_is : of_desk desk ≡ on_sheet fresh_desk (taken_over saved).sheet
   pub worked : HasWorked (taken_over saved).log no_work (work_of desk.sheet 0)
+  pub none_kept : desk.sheet.history ≡ no_history
 
 -- a fresh desk over a generated sheet of so many rows
 abbrev pub IsGeneratedDesk : ℕ → Desk → Type 0

@@ -4,7 +4,7 @@ use Rattle.sheet_run.proofs.opening.begin.Goals as goal
 
 -- the shelf was not asked
 pub returns-in-Fresh : goal.returns-in-Fresh
-returns-in-Fresh g c = rw c.or_memory.ensures (fresh_or c.args.start.now c.new.result _ (search rules) c.new.ensures.desk c.new.ensures.dirty)
+returns-in-Fresh g c = rw c.or_memory.ensures (fresh_or c.args.start.now c.new.result _ (search rules) c.new.ensures.desk c.new.ensures.dirty c.new.ensures.history)
 
 pub returns-in-Rows : goal.returns-in-Rows
 returns-in-Rows g c = rw c.or_memory-in-Rows.ensures (rows_or c.args.start.now c.in-Rows.rows c.generated_desk.result _ (search rules) c.generated_desk.ensures)

@@ -22,6 +22,10 @@ returns-in-Err-Memory-clause-ran g c =
     (broken_run c.args.options c.kind.result c.in-Err-Memory.field-0 _ _ _ _ _ _ _ _ _ _ _ _ _ c.in-Err-Memory.field-0-is
     c.kind.ensures c.keep_kind.ensures.kept (ap (map _) c.reserve.ensures.items) c.in-Err-Memory.ensures c.tell_memory-in-Err-Memory.ensures.tried)
 
+-- the desk's sheet keeps no states
+pub load-requires : goal.load-requires
+load-requires g c = c.in-Ok.ensures.none_kept
+
 pub returns-in_default-clause-ran : goal.returns-in_default-clause-ran
 returns-in_default-clause-ran g c =
     let begun = c.in-Ok.ensures in
