@@ -4,7 +4,7 @@ from . import macro, menu, session
 # What the program has not built as yet; a word goes when it is built. The menus don't show these paths and no letter
 # takes them, these keys are passed over, and these words are none in a macro.
 NOT_IN_MENUS = set()
-NOT_IN_KEYS = {'undo'}
+NOT_IN_KEYS = set()
 NOT_IN_MACROS = set()
 
 
