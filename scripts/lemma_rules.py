@@ -6,10 +6,11 @@ import re
 MOST_COLUMNS = 120
 # The crates whose proofs are not held to these rules yet.
 UNMENDED = frozenset("""
-    cell_maps depend_graph formula_eval formula_text macro_engine macro_text macro_words menu_room natural_order
-    recalculation range_index session_core sheet_edits sheet_run sheet_store sheet_undo shown_cells text_channel
-    wk1_file wk1_formula wk1_records work_sheet
+    cell_maps depend_graph formula_eval formula_text natural_order recalculation range_index session_core
+    sheet_edits sheet_run sheet_store sheet_undo wk1_file wk1_formula work_sheet
 """.split())
+# What no code calls any more, and goes when its crate is next changed, since all that stands on that is proved again.
+UNCALLED = {("range_names", "reset")}
 WORD = re.compile(r'[^\s(){},;."@«»]+')
 SIGNATURE = re.compile(r'^( *)((?:pub |abbrev |unfoldable |pattern )*)'
                        r'([^\s(){},;:.@"|=→≡×∙⊎]+)(?: \{[^}]*\})? :(?: |$)')
@@ -153,7 +154,8 @@ def check(texts, fault):
             if lemma.file.split("/")[1] not in UNMENDED:
                 fault(f"{lemma.file}:{lemma.line + 1}: {lemma.name}: {what}")
     for file, number, name in unnamed_functions(texts):
-        if file.split("/")[1] not in UNMENDED:
+        crate = file.split("/")[1]
+        if crate not in UNMENDED and (crate, name) not in UNCALLED:
             fault(f"{file}:{number}: no code names {name}")
 
 
