@@ -46,6 +46,7 @@ module _ (values : Place → Value) (s : Extent) (row : ℕ) (low : Option ℤ) 
   least : (x : ℤ) → passes x (values (line_cell false s row 0)) ≡ true → int_lt x n ≡ false
   least x pass = let e : not (int_lt x n) ≡ true = sym (ap (passes x) at) ∙ pass in grind arith
 
+  -- with this row more, what a number passes still stands above what it doesn't
   pub rises_more : RisesTo values s row → RisesTo values s (row + 1)
   rises_more rising = λ x i j up inside pass. elim (cases_Bool (nat_lt j row)) [
     | inl t ↦ rising x i j up (grind (arith, nat_tests)) pass

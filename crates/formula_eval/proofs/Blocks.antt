@@ -4,6 +4,7 @@ use Rattle.std.proofs.lemmas.List.{append-nil}
 use Rattle.grid_address.specs.Place.{Place}
 use Rattle.formula_eval.specs.Outlook.{block_cells, row_cells}
 
+-- a row and a column as a cell
 abbrev pub place : ℕ → ℕ → Place
 place row col = record { row = row; col = col }
 
@@ -34,6 +35,7 @@ pub row_more : (row col count : ℕ)
 row_more row col count =
     ap (row_cells row col) (let e : count + 1 ≡ suc count = omega arith in e) ∙ row_longer row col count
 
+-- one more row of a block
 pub block_more : (row col rows cols : ℕ)
     → block_cells row col (rows + 1) cols ≡ block_cells row col rows cols ++ row_cells (row + rows) col cols
 block_more row col rows cols =

@@ -15,9 +15,11 @@ module _ (values : Place → Value) (col : ℕ) (test : ℕ → Bool) (n count :
   abbrev pub behind : ℕ → List Item
   behind i = items_in values (map (λ row. at row col) (filter test (left n count i)))
 
+  -- before the first row the items of all that match are to come
   pub behind_all : behind 0 ≡ items_in values (map (λ row. at row col) (filter test (numbers_from n count)))
   behind_all = ap (λ l. items_in values (map (λ row. at row col) (filter test l))) (left_first n count)
 
+  -- a row that matches gives its cell's items, and those behind it are to come
   pub put_record : (i row : ℕ) (now new all : List Item) (v : Value) → i < count → row ≡ n + i → test row ≡ true
       → v ≡ values (at row col) → new ≡ now ++ in_range v → now ++ behind i ≡ all → new ++ behind (i + 1) ≡ all
   put_record i row now new all v inside is held there more so_far =
@@ -29,6 +31,7 @@ module _ (values : Place → Value) (col : ℕ) (test : ℕ → Bool) (n count :
       (filter test (left n count (i + 1)))))) (ap test (sym is) ∙ held)))
       ∙ so_far
 
+  -- a row that doesn't match gives none
   pub pass_record : (i row : ℕ) (now all : List Item) → i < count → row ≡ n + i → test row ≡ false
       → now ++ behind i ≡ all → now ++ behind (i + 1) ≡ all
   pass_record i row now all inside is fails so_far =
@@ -38,6 +41,7 @@ module _ (values : Place → Value) (col : ℕ) (test : ℕ → Bool) (n count :
       (filter test (left n count (i + 1)))))) (ap test (sym is) ∙ fails)))
       ∙ so_far
 
+  -- behind the last row none is to come
   pub no_record : (i : ℕ) (now all : List Item) → count ≤ i → now ++ behind i ≡ all → now ≡ all
   no_record i now all past so_far =
       sym (append-nil now)

@@ -1,44 +1,31 @@
--- The numbers of operators and calls, by those of their parts.
+-- The numbers of negations and calls, by those of their parts.
 use Rattle.std.proofs.Common.{◌≡◌, ℕ, ◌≤◌, ◌<◌, false, List, [], ◌∷◌, length, get_or, map, Some, None, sym, ap, ◌∙◌}
 use Rattle.std.proofs.Common.{arith}
 use Rattle.std.specs.Prelude.{ℤ, neg_ℤ, Option, IfSome}
-use Rattle.std.proofs.lemmas.List.{append-nil}
 use Rattle.grid_address.specs.Place.{width_of, Extent, Place}
-use Rattle.formula_tree.specs.Tree.{Tree, binary, neg}
+use Rattle.formula_tree.specs.Tree.{Tree, neg}
 use Rattle.formula_tree.specs.View.{listed, tree_of}
 use Rattle.formula_tree.specs.declared.ast.Expr.{Expr}
 use Rattle.formula_tree.specs.declared.ast.Expr.TheVariants.{Call}
 use Rattle.formula_tree.specs.declared.ast.ExprList.{ExprList}
-use Rattle.formula_tree.specs.declared.ast.Op.{Op}
 use Rattle.formula_tree.specs.declared.function.Function.{Function}
 use Rattle.formula_tree.specs.declared.function.Function.TheVariants as function
 use Rattle.formula_tree.specs.declared.value.Value.TheVariants as value
 use Rattle.formula_tree.proofs.Rows.{tree_of-Call}
-use Rattle.value_functions.specs.Operators.{binary_value, negated}
-use Rattle.value_functions.specs.Values.{answer}
-use Rattle.formula_eval.specs.declared.argument.Argument.{Argument}
-use Rattle.formula_eval.specs.Lists.{items_in, items_of, list_value}
+use Rattle.value_functions.specs.Operators.{negated}
 use Rattle.formula_eval.specs.Lookups.{by_number, lookup_value, on_place, on_range, place_in, range_of}
-use Rattle.formula_eval.specs.inner.Numbers.{ranged, IsCallNumber, IsNumber}
-use Rattle.formula_eval.specs.Outlook.{filled, Outlook, Sight}
+use Rattle.formula_eval.specs.inner.Numbers.{IsCallNumber, IsNumber}
+use Rattle.formula_eval.specs.Outlook.{Sight}
 use Rattle.formula_eval.specs.Parts.{arguments_by, call_value, operand_of, value_by}
 use Rattle.formula_eval.specs.Scenes.{outlook_of}
 
-pub in_binary : (t a b : Tree) (op : Op) (at : Place) (sight : Sight) (x y : ℤ) (found : Option ℤ) → t ≡ binary op a b
-    → IsNumber a at sight x → IsNumber b at sight y
-    → binary_value op (value.Num x) (value.Num y) ≡ answer found → IfSome found (IsNumber t at sight)
-in_binary t a b op at sight x y None is left right so = tt
-in_binary t a b op at sight x y (Some n) is left right so = λ d s.
-    ap (λ u. value_by d u at (outlook_of sight s)) is
-    ∙ ap (λ v. binary_value op v (value_by d b at (outlook_of sight s))) (left d s)
-    ∙ ap (binary_value op (value.Num x)) (right d s)
-    ∙ so
-
+-- where an expression is a number, its negation is the opposite
 pub in_neg : (t a : Tree) (at : Place) (sight : Sight) (x : ℤ) → t ≡ neg a → IsNumber a at sight x
     → IsNumber t at sight (neg_ℤ x)
 unfolding negated
 in_neg t a at sight x is part = λ d s. ap (λ u. value_by d u at (outlook_of sight s)) is ∙ ap negated (part d s)
 
+-- where a call of a function is a number, so is the expression that calls it
 pub in_call : (e : Expr) (f : Function) (args : ExprList) (es : List Expr) (at : Place) (sight : Sight)
     (found : Option ℤ) → e ≡ Call f args → es ≡ args.items.items
     → IfSome found (IsCallNumber f (listed (map tree_of es)) at sight) → IfSome found (IsNumber (tree_of e) at sight)
@@ -49,14 +36,6 @@ in_call e f args es at sight (Some n) is items so = λ d s.
     ∙ ap (λ l. call_value d f (outlook_of sight s) (arguments_by d (listed (map tree_of l)) at (outlook_of sight s)))
     (sym items)
     ∙ so d s
-
--- a function of a list whose only argument is a range
-pub of_range : (f : Function) (w : Outlook) (args : List Argument) (s : Extent) (n : ℤ) → args ≡ ranged s
-    → list_value f (items_in w.sight.values (filled w.sight.values s)) ≡ value.Num n
-    → list_value f (items_of w.sight.values args) ≡ value.Num n
-of_range f w args s n are is =
-    ap (λ (l : List Argument). list_value f (items_of w.sight.values l)) are
-    ∙ ap (list_value f) (append-nil (items_in w.sight.values (filled w.sight.values s))) ∙ is
 
 -- a list of three
 pub three : {X : Type 0} (l : List X) (x y z : X) → 3 ≤ length l → length l < 4 → x ≡ get_or l 0 x → y ≡ get_or l 1 y

@@ -9,6 +9,7 @@ use Rattle.formula_eval.specs.Fields.{field_named}
 use Rattle.formula_eval.specs.Criteria.{fields_of}
 use Rattle.grid_address.proofs.Scans.{made_at}
 
+-- a cell's condition, by the fields that were found before, holds exactly where that of the criterion does
 pub held : (w : Outlook) (input criterion : Extent) (fields : List (Option ℕ))
     (row conditions col place count index : ℕ) (d : Option ℕ) (b : Bool)
     → fields ≡ fields_of w.sight input criterion → col < width_of criterion → place ≡ criterion.first.col + col

@@ -19,6 +19,7 @@ next_line : (values : Place → Value) (across : Bool) (s : Extent) (lines line 
 next_line values across s lines line h =
     ap (firsts values across s line) (let e : lines - line ≡ suc (lines - (line + 1)) = omega (arith, h) in e)
 
+-- before the first line none has passed
 pub none_passed : (p : Value → Bool) (values : Place → Value) (across : Bool) (s : Extent) (lines : ℕ)
     → IsPassed p values across s lines 0
 none_passed p values across s lines =
@@ -73,6 +74,7 @@ found_at p values across s lines line h is =
     ∙ ap (λ n. cond (nat_lt line n) (Some line) None) (firsts_long values across s 0 lines)
     ∙ ap (λ b. cond b (Some line) None) inside
 
+-- where all lines are looked past, none has the label
 pub found_nowhere : (p : Value → Bool) (values : Place → Value) (across : Bool) (s : Extent) (lines : ℕ)
     → prefix_len (λ v. not (p v)) (firsts values across s 0 lines) ≡ lines
     → position p (firsts values across s 0 lines) ≡ None

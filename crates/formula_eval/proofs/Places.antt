@@ -14,6 +14,7 @@ use Rattle.formula_eval.specs.Calls.{choice, chosen, chosen_one, nth_value}
 use Rattle.formula_eval.specs.Outlook.{Outlook}
 use Rattle.formula_eval.specs.Parts.{arguments_by, operand_of, value_by, Database}
 
+-- an argument as a function takes it: its value, and what it names
 abbrev pub argument : Database → Place → Outlook → Tree → Argument
 argument base at w t = record { value = value_by base t at w; operand = operand_of t at }
 
@@ -31,12 +32,14 @@ one_more base at w es i d h =
     ∙ ap (λ (ts : List Tree). arguments_by base (listed ts) at w) (one_taken es i d h)
     ∙ one_behind base at w (map tree_of (take i es)) (tree_of (get_or es i d))
 
+-- an argument of a call is the value of its expression
 pub nth_is : (base : Database) (at : Place) (w : Outlook) (es : List Expr) (k : ℕ) (d : Expr) → k < length es
     → nth_value (arguments_by base (listed (map tree_of es)) at w) k ≡ value_by base (tree_of (get_or es k d)) at w
 nth_is base at w [] k d h = absurd (omega arith)
 nth_is base at w (e ∷ es) zero d h = refl
 nth_is base at w (e ∷ es) (suc k) d h = nth_is base at w es k d (omega arith)
 
+-- an argument past the last one is ERR
 pub nth_past : (base : Database) (at : Place) (w : Outlook) (es : List Expr) (k : ℕ) → length es ≤ k
     → nth_value (arguments_by base (listed (map tree_of es)) at w) k ≡ value.Err
 nth_past base at w [] k h = refl
@@ -58,6 +61,7 @@ by_first base f at w (e ∷ es) d h =
     ap (λ n. chosen_one (choice f (suc n) (value_by base (tree_of e) at w))
     (arguments_by base (listed (map tree_of (e ∷ es))) at w)) (arguments_long base at w es)
 
+-- the argument that the first one chooses is what the function gives
 pub taken : (base : Database) (f : Function) (at : Place) (w : Outlook) (es : List Expr) (d : Expr) (place : ℕ)
     → 0 < length es → choice f (length es) (value_by base (tree_of (get_or es 0 d)) at w) ≡ Ok place
     → chosen f (arguments_by base (listed (map tree_of es)) at w)
@@ -65,6 +69,7 @@ pub taken : (base : Database) (f : Function) (at : Place) (w : Outlook) (es : Li
 taken base f at w es d place some is =
     by_first base f at w es d some ∙ ap (λ r. chosen_one r (arguments_by base (listed (map tree_of es)) at w)) is
 
+-- where the first argument chooses none, the value in its stead is what the function gives
 pub stopped : (base : Database) (f : Function) (at : Place) (w : Outlook) (es : List Expr) (d : Expr) (v : Value)
     → 0 < length es → choice f (length es) (value_by base (tree_of (get_or es 0 d)) at w) ≡ Err v
     → chosen f (arguments_by base (listed (map tree_of es)) at w) ≡ v

@@ -41,6 +41,7 @@ unfiltered values (p ∷ ps) =
     here value.Err l = refl
     here value.Na l = refl
 
+-- the items of two lists of cells are those of the one and then those of the other
 pub items_append : (values : Place → Value) (ps qs : List Place)
     → items_in values (ps ++ qs) ≡ items_in values ps ++ items_in values qs
 items_append values [] qs = refl
@@ -48,6 +49,7 @@ items_append values (p ∷ ps) qs =
     ap (λ (l : List Item). in_range (values p) ++ l) (items_append values ps qs)
     ∙ sym (append_assoc (in_range (values p)) (items_in values ps) (items_in values qs))
 
+-- a cell is told by its row and its column
 pub same_cell : (p : Place) (row col : ℕ) → p.row ≡ row → p.col ≡ col → p ≡ place row col
 same_cell p row col in_row in_col = λ i. place (in_row i) (in_col i)
 

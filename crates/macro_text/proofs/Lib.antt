@@ -2,4 +2,4 @@ pub mod Cutting
 pub mod Keeping
 pub mod Nameless
 pub mod Splitting
-pub mod Turns
+pub mod Units

@@ -12,11 +12,13 @@ abbrev pub Each : {K : Type 0} → (K → Type 0) → List K → Type 0
 Each P [] = Unit {0}
 Each P (x ∷ xs) = P x × Each P xs
 
+-- what is so of every member of a list is so of each in its place
 pub Each-from_has : {K : Type 0} (eq : K → K → Bool) → ((x : K) → eq x x ≡ true) → (P : K → Type 0) (xs : List K)
     → ((x : K) → has eq xs x ≡ true → P x) → Each P xs
 Each-from_has eq r P [] h = tt
 Each-from_has eq r P (x ∷ xs) h = (h x (or_left _ _ (r x)), Each-from_has eq r P xs (λ y m. h y (or_right _ _ m)))
 
+-- a filter of two lists joined is the one's and then the other's
 pub filter-append : {K : Type 0} (p : K → Bool) (xs ys : List K) → filter p (xs ++ ys) ≡ filter p xs ++ filter p ys
 filter-append p [] ys = refl
 filter-append p (x ∷ xs) ys =
@@ -26,6 +28,7 @@ filter-append p (x ∷ xs) ys =
       | false ↦ filter-append p xs ys
     ]
 
+-- a member that passes the filter is in the filtered list exactly where it is in the list
 pub has-filter : {K : Type 0} (eq : K → K → Bool) → ((x y : K) → eq x y ≡ true → x ≡ y) → (p : K → Bool) (c : K)
     → p c ≡ true → (xs : List K) → has eq (filter p xs) c ≡ has eq xs c
 has-filter eq same p c h [] = refl
@@ -39,9 +42,11 @@ has-filter eq same p c h (x ∷ xs) =
     ] refl
 
 module _ {K : Type 0} (eq : K → K → Bool) (pre : K → List K) (dirty : K → Bool) (split : IsSplit eq pre dirty) where
+  -- what a clean cell reads is clean
   pub down : (c d : K) → dirty c ≡ false → has eq (pre c) d ≡ true → dirty d ≡ false
   down c d e m = false_from_ne_true (dirty d) (λ t. true≢false (sym (split.up c d m t) ∙ e))
 
+  -- what reaches a cell reaches what that cell reads
   pub after : {q c d : K} → Reaches eq pre q c → has eq (pre c) d ≡ true → Reaches eq pre q d
   after (one m) n = more m (one n)
   after (more m r) n = more m (after r n)
@@ -61,6 +66,7 @@ module _ {K : Type 0} (eq : K → K → Bool) (pre : K → List K) (dirty : K �
   clean_fold n step path (d ∷ ds) s h =
       clean_fold n step path ds (walk eq pre n path s d) h.1 ∙ step path s d h.0.0 h.0.1
 
+  -- where the clean cells on the path reach a cell, these and the cell reach what it reads
   pub leads_on : (path : List K) (c d : K) → Leads path c → has eq (pre c) d ≡ true → Leads (c ∷ path) d
   leads_on path c d l m q on e = elim (or_cases (eq q c) (has eq path q) on) [
     | inl h ↦ subst (λ t. Reaches eq pre t d) (sym (split.same q c h)) (one m)
@@ -147,6 +153,7 @@ module _ {K : Type 0} (eq : K → K → Bool) (pre : K → List K) (dirty : K �
       (λ b. cond b (cut eq dirty s) (cond (has eq path c) (raised eq (cut eq dirty s)) (appended eq c inner_dirty)))
       (sym here)
 
+-- the order of all without its clean cells is the order of the dirty ones
 pub order_is_cut : {K : Type 0} (eq : K → K → Bool) → OrderIsCut eq
 order_is_cut eq pre dirty split n all =
     dirty_fold eq pre dirty split n (dirty_walk eq pre dirty split n) [] all (unwalked eq)

@@ -24,6 +24,7 @@ module _ (pre : Place → List Place) (n : ℕ) where
   abbrev pub closing : List Place → Frame → Walked Place → Walked Place
   closing path g s = appended same_place g.cell (fold (walk_on pre n (g.cell ∷ path)) s (left g))
 
+  -- the last frame is done first, and then those before it
   pub finish-snoc : (path : List Place) (fs : List Frame) (g : Frame) (s : Walked Place)
       → finish pre n path (fs ++ g ∷ []) s ≡ finish pre n path fs (closing (trail path fs) g s)
   finish-snoc path [] g s = refl
@@ -31,28 +32,28 @@ module _ (pre : Place → List Place) (n : ℕ) where
       ap (λ t. appended same_place f.cell (fold (walk_on pre n (f.cell ∷ path)) t (left f)))
       (finish-snoc (f.cell ∷ path) fs g s)
 
-  pub walk-done : (m : ℕ) (path : List Place) (s : Walked Place) (c : Place) → has same_place s.done c ≡ true
-      → walk same_place pre m path s c ≡ s
-  walk-done zero path s c h = refl
-  walk-done (suc m) path s c h = rw h
-
+  -- a cell on the path that isn't done is a circle, and nothing more is walked
   pub walk-path : (m : ℕ) (path : List Place) (s : Walked Place) (c : Place) → has same_place s.done c ≡ false
       → has same_place path c ≡ true → walk same_place pre (suc m) path s c ≡ raised same_place s
   walk-path m path s c h p = rw (h, p)
 
+  -- a cell that is neither done nor on the path is done behind all that it reads
   pub walk-enter : (m : ℕ) (path : List Place) (s : Walked Place) (c : Place) → has same_place s.done c ≡ false
       → has same_place path c ≡ false
       → walk same_place pre (suc m) path s c ≡ appended same_place c (fold (walk same_place pre m (c ∷ path)) s (pre c))
   walk-enter m path s c h p = rw (h, p)
 
+-- the last frame's cell stands first in the trail
 pub trail-snoc : (path : List Place) (fs : List Frame) (g : Frame) → trail path (fs ++ g ∷ []) ≡ g.cell ∷ trail path fs
 trail-snoc path [] g = refl
 trail-snoc path (f ∷ fs) g = trail-snoc (f.cell ∷ path) fs g
 
+-- a trail has as many cells as frames and the path together
 pub length-trail : (path : List Place) (fs : List Frame) → length (trail path fs) ≡ length fs + length path
 length-trail path [] = omega arith
 length-trail path (f ∷ fs) = let h = length-trail (f.cell ∷ path) fs in omega arith
 
+-- the cells of a trail are those of the frames and those of the path
 pub has-trail : (path : List Place) (fs : List Frame) (c : Place)
     → has same_place (trail path fs) c ≡ (has same_place (map (λ (f : Frame). f.cell) fs) c || has same_place path c)
 has-trail path [] c = refl
@@ -85,6 +86,7 @@ module _ (pre : Place → List Place) (all done path : List Place) (stack : List
       or_none true = refl
       or_none false = refl
 
+  -- the walk of a cell on the path does no more than tell a circle
   pub visited_on_path : (circular : Bool) (c : Place) → has same_place done c ≡ false → has same_place path c ≡ true
       → finish pre (fuel all) [] stack (record { done = done; circular = true })
       ≡ finish pre (fuel all) [] stack
@@ -105,6 +107,7 @@ module _ (pre : Place → List Place) (all done path : List Place) (stack : List
       ∙ sym (ap (λ m. walk same_place pre m (trail [] stack) s c) room
       ∙ walk-enter pre (fuel all) (length all - length (trail [] stack)) (trail [] stack) s c d (on_trail c ∙ p))
 
+  -- with the frame of a new cell, the frames come to what they do where the cell's walk is made first
   pub visited_new : (s : Walked Place) (c : Place) (new : List Frame) → has same_place s.done c ≡ false
       → has same_place path c ≡ false → Entered (pre c) c stack new
       → finish pre (fuel all) [] new s ≡ finish pre (fuel all) [] stack (walk_on pre (fuel all) (trail [] stack) s c)
@@ -159,6 +162,7 @@ module _ (pre : Place → List Place) (all done path : List Place) (stack : List
         | inr i ↦ let k : sum_by g xs + w ≤ sum_by f xs = sum_falls f g w c xs le h i in omega arith
       ]
 
+  -- a new cell's frame is no more work than the cell was before it was met
   pub visited_less : (c : Place) (trod : List Place) (new : List Frame) → has same_place all c ≡ true
       → has same_place done c ≡ false → has same_place path c ≡ false
       → trod ≡ path ++ c ∷ [] → Entered (pre c) c stack new
@@ -223,9 +227,11 @@ EachFrame-push : (P : Frame → Type 0) (fs : List Frame) (g : Frame) → EachFr
 EachFrame-push P [] g h k = (k, tt)
 EachFrame-push P (f ∷ fs) g h k = (h.0, EachFrame-push P fs g h.1 k)
 
+-- the frame behind its next read
 abbrev pub advanced : Frame → Frame
 advanced f = record f { next = f.next + 1 }
 
+-- what is left of a frame is its next read, and what is left behind that
 pub left-advanced : (f : Frame) (d : Place) → f.next < length f.reads.items
     → left f ≡ get_or f.reads.items f.next d ∷ left (advanced f)
 left-advanced f d h =
@@ -235,6 +241,7 @@ left-advanced f d h =
 
 module _ (pre : Place → List Place) (all done path : List Place) (rest : List Frame) (f : Frame)
     (on : IsOnPath pre all done path (rest ++ f ∷ [])) where
+  -- the frames are still those of the path where the last one is past a read
   pub on-advanced : IsOnPath pre all done path (rest ++ advanced f ∷ [])
   on-advanced =
       let r = EachFrame-split (λ g. g.reads.items ≡ pre g.cell) rest f on.reads in
@@ -248,9 +255,11 @@ module _ (pre : Place → List Place) (all done path : List Place) (rest : List 
         distinct = on.distinct;
       }
 
+  -- the last frame reads what its cell reads
   pub reads-last : f.reads.items ≡ pre f.cell
   reads-last = (EachFrame-split (λ g. g.reads.items ≡ pre g.cell) rest f on.reads).1
 
+  -- the frames come to what they do where the walk of the last one's next read is made first
   pub finish-advanced : (s : Walked Place) (d : Place) → left f ≡ d ∷ left (advanced f)
       → finish pre (fuel all) [] (rest ++ f ∷ []) s
       ≡ finish pre (fuel all) [] (rest ++ advanced f ∷ [])
@@ -265,12 +274,14 @@ module _ (pre : Place → List Place) (all done path : List Place) (rest : List 
       ∙ sym (finish-snoc pre (fuel all) [] rest (advanced f)
       (walk_on pre (fuel all) (trail [] (rest ++ advanced f ∷ [])) s d))
 
+  -- where nothing is left of the last frame, its cell is done, and then the frames before it are
   pub finish-closed : (s : Walked Place) → left f ≡ []
       → finish pre (fuel all) [] (rest ++ f ∷ []) s ≡ finish pre (fuel all) [] rest (appended same_place f.cell s)
   finish-closed s e = finish-snoc pre (fuel all) [] rest f s
       ∙ ap (λ ds. finish pre (fuel all) [] rest
       (appended same_place f.cell (fold (walk_on pre (fuel all) (f.cell ∷ trail [] rest)) s ds))) e
 
+  -- the cell that was taken off the path's end is the last frame's
   pub path-front : (front : List Place) (r : Option Place) → path ≡ front ++ option_to_list r → IsSome r
       → path ≡ front ++ f.cell ∷ []
   path-front front None e h = absurd (true≢false (sym h))
@@ -281,11 +292,13 @@ module _ (pre : Place → List Place) (all done path : List Place) (rest : List 
       snoc_front front (map (λ (g : Frame). g.cell) rest) c f.cell (sym e ∙ was) in
       was ∙ ap (λ cs. cs ++ f.cell ∷ []) (sym same)
 
+  -- the last frame's cell isn't done
   pub last-apart : (front : List Place) → path ≡ front ++ f.cell ∷ [] → has same_place done f.cell ≡ false
   last-apart front e =
       on.apart f.cell (ap (λ p. has same_place p f.cell) e ∙ list_any-append (same_place f.cell) front (f.cell ∷ [])
       ∙ or_right _ _ (or_left _ _ (same_place_itself f.cell)))
 
+  -- with the last frame's cell done, less work is left
   pub closed_less : (front : List Place) → path ≡ front ++ f.cell ∷ [] → left f ≡ []
       → work_left pre all (done ++ f.cell ∷ []) front rest < work_left pre all done path (rest ++ f ∷ [])
   closed_less front e l =
@@ -305,6 +318,7 @@ module _ (pre : Place → List Place) (all done path : List Place) (rest : List 
       at_most false true false w = omega arith
       at_most false false false w = omega arith
 
+  -- the frames before the last are those of the path before its cell
   pub on-closed : (front : List Place) → path ≡ front ++ f.cell ∷ [] → IsOnPath pre all (done ++ f.cell ∷ []) front rest
   on-closed front e =
       let apart : IsDistinct same_place (front ++ f.cell ∷ []) = subst (IsDistinct same_place) e on.distinct in
@@ -324,11 +338,13 @@ module _ (pre : Place → List Place) (all done path : List Place) (rest : List 
         distinct = IsDistinct-front front f.cell apart;
       }
 
+-- a list has what stands at one of its places
 pub has_at : (xs : List Place) (i : ℕ) (d : Place) → i < length xs → d ≡ get_or xs i d → has same_place xs d ≡ true
 has_at [] i d h e = absurd (omega arith)
 has_at (x ∷ xs) zero d h e = or_left _ _ (ap (same_place d) (sym e) ∙ same_place_itself d)
 has_at (x ∷ xs) (suc i) d h e = or_right _ _ (has_at xs i d (omega arith) e)
 
+-- no frame is without a cell on the path, so one is taken off its end, the last frame's
 pub path-last : (pre : Place → List Place) (all done path : List Place) (rest : List Frame) (f : Frame)
     → IsOnPath pre all done path (rest ++ f ∷ []) → (front : List Place) (r : Option Place)
     → path ≡ front ++ option_to_list r → (0 < length path → IsSome r) → path ≡ front ++ f.cell ∷ []
@@ -337,10 +353,12 @@ path-last pre all done path rest f on front r e h =
     ap length on.cells ∙ length-map (rest ++ f ∷ []) (λ (g : Frame). g.cell) ∙ length-append rest (f ∷ []) in
     path-front pre all done path rest f on front r e (h (omega arith))
 
+-- a cell that isn't done goes behind those that are
 pub inserted_new : (done : List Place) (c : Place) → has same_place done c ≡ false
     → insert_key same_place done c ≡ done ++ c ∷ []
 inserted_new done c h = rw h
 
+-- an empty stack holds the empty path
 pub on-begun : (pre : Place → List Place) (all done path : List Place) (stack : List Frame) → path ≡ [] → stack ≡ []
     → IsOnPath pre all done path stack
 unfolding IsDistinct
@@ -353,6 +371,7 @@ on-begun pre all done path stack p s =
       distinct = tt;
     }))
 
+-- a list has each of its items
 pub has_get : (xs : List Place) (i : ℕ) (d : Place) → i < length xs → has same_place xs (get_or xs i d) ≡ true
 has_get [] i d h = absurd (omega arith)
 has_get (x ∷ xs) zero d h = or_left _ _ (same_place_itself x)

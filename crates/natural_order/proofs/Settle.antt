@@ -14,6 +14,7 @@ use Rattle.natural_order.specs.Walk.{OrderPrecedes}
 use Rattle.natural_order.specs.Walk.Reaches.{one, more}
 use Rattle.natural_order.proofs.Cut.{Each, Each-from_has}
 
+-- two answers that are yes for one another are the same
 pub same_bools : (a b : Bool) → (a ≡ true → b ≡ true) → (b ≡ true → a ≡ true) → a ≡ b
 same_bools true b f g = sym (f refl)
 same_bools false true f g = g refl
@@ -173,6 +174,7 @@ module _ {K : Type 0} (eq : K → K → Bool) (pre : K → List K) (exact : IsEx
             | inr q ↦ inl (or_left _ _ (all_reached n (c ∷ path) (pre c) s on x q m))
           ]))
 
+-- in the order of the roots a cell stands behind all that it reads, unless it reaches itself
 pub order_precedes : {K : Type 0} (eq : K → K → Bool) → OrderPrecedes eq
 unfolding IsDistinct
 order_precedes eq exact pre all roots closed known =

@@ -40,6 +40,7 @@ or_nothing : (o : Option CellState) → or_else o None ≡ o
 or_nothing None = refl
 or_nothing (Some s) = refl
 
+-- held cells put into an empty map one by one make the map of them all
 pub all_inserted : (hs : List (Held CellState)) → AreOnce (cells_of hs)
     → inserted_all empty (filled hs) ≡ from_entries (filled hs)
 all_inserted hs once =

@@ -12,6 +12,7 @@ use Rattle.sheet_store.proofs.Held.{tied}
 use Rattle.sheet_store.specs.Grid.{formulas_among, holds_formula, is_formula, last_among, picked, AreHeld, Cells}
 use Rattle.sheet_store.specs.State.{CellState}
 
+-- the first entry is found at its place
 pub first_found : (e : Place × CellState) (es : List (Place × CellState)) → find place_cmp e.0 (e ∷ es) ≡ Some e.1
 first_found e es = ap (λ b. cond b (Some e.1) (find place_cmp e.0 es)) (place_tied e.0 e.0 ∙ same_place_itself e.0)
 

@@ -11,7 +11,7 @@ use Rattle.formula_tree.specs.declared.value.Content.TheVariants as content
 use Rattle.formula_tree.specs.declared.value.Value.{Value}
 use Rattle.formula_tree.specs.declared.value.Value.TheVariants as value
 use Rattle.grid_address.specs.declared.format.Format.{Format}
-use Rattle.sheet_store.specs.Grid.{blank_state, formatted, is_blank, is_formula, is_kept, AreHeld, Cells, Fits, IsHeld}
+use Rattle.sheet_store.specs.Grid.{blank_state, formatted, is_blank, is_formula, AreHeld, Cells, Fits, IsHeld}
 use Rattle.sheet_store.specs.Grid.{IsSound}
 use Rattle.sheet_store.specs.State.{CellState}
 use Rattle.grid_address.proofs.Places.{cells_exact, cells_total}
@@ -21,15 +21,18 @@ equal_from Less h = cc
 equal_from Equal h = refl
 equal_from Greater h = cc
 
+-- cells of which neither comes before the other are one
 pub tied : (d c : Place) → eq_by_cmp place_cmp d c ≡ true → d ≡ c
 tied d c h = cells_exact d c (equal_from (place_cmp d c) h)
 
 none_some : {X : Type 0} (x : X) → None ≡ Some x → ⊥
 none_some x h = absurd cc
 
+-- the same answer has the same thing in it
 pub same_some : {X : Type 0} (x y : X) → Some x ≡ Some y → x ≡ y
 same_some x y h = cc
 
+-- all that an empty map holds is as it must be
 pub empty_held : AreHeld empty
 empty_held p s h = absurd (none_some s (sym (get-empty place_cmp p) ∙ h))
 
@@ -39,6 +42,7 @@ put_held true p c s found old same here before h =
     subst (λ x. IsHeld p x) (same_some s found h) (subst (λ q. IsHeld q s) (sym (same refl)) here)
 put_held false p c s found old same here before h = before h
 
+-- with a state put in that is as it must be, all that the map holds is so
 pub inserted_held : (m : Cells) (c : Place) (s : CellState) → IsHeld c s → AreHeld m → AreHeld (insert m c s)
 inserted_held m c s here held p found h =
     put_held (eq_by_cmp place_cmp p c) p c s found (get m p) (tied p c) here (held p found)
@@ -48,6 +52,7 @@ left_over : (b : Bool) (found : CellState) (old : Option CellState) → cond b N
 left_over true found old h = absurd (none_some found h)
 left_over false found old h = h
 
+-- with a cell taken out, all that the map holds is as it must be
 pub removed_held : (m : Cells) (c : Place) → AreHeld m → AreHeld (remove m c)
 removed_held m c held p found h =
     held p found (left_over (eq_by_cmp place_cmp p c) found (get m p) (sym (get-remove cells_total m c p) ∙ h))
@@ -59,6 +64,7 @@ formula_fits (content.Number x) v h some = absurd cc
 formula_fits (content.Label p t) v h some = absurd cc
 formula_fits (content.Formula f) v h some = some
 
+-- a formula's cell takes any value but Blank
 pub valued_held : (p : Place) (s : CellState) (v : Value) → IsHeld p s → is_formula s.content ≡ true
     → (v ≡ value.Blank → ⊥) → IsHeld p (record s { value = v })
 valued_held p s v here formula some = record {
@@ -67,15 +73,7 @@ valued_held p s v here formula some = record {
   kept = here.kept;
 }
 
--- a cell with a content is kept in any format
-pub format_written : (m : Cells) (c : Place) (s : CellState) (f : Format) → get m c ≡ Some s
-    → is_blank s.content ≡ false
-    → insert m c (record s { format = f })
-    ≡ cond (is_kept (formatted (get m c) f)) (insert m c (formatted (get m c) f)) (remove m c)
-format_written m c s f found filled =
-    sym (ap (λ o. cond (is_kept (formatted o f)) (insert m c (formatted o f)) (remove m c)) found
-    ∙ ap (λ b. cond (cond b (not (nat_eq f.0 255)) true) (insert m c (record s { format = f })) (remove m c)) filled)
-
+-- a cell with a content takes any format
 pub formatted_held : (p : Place) (s : CellState) (f : Format) → IsHeld p s → is_blank s.content ≡ false
     → IsHeld p (record s { format = f })
 formatted_held p s f here filled = record {
@@ -92,6 +90,7 @@ blank_fits (content.Number x) v f h fits = absurd cc
 blank_fits (content.Label p t) v f h fits = absurd cc
 blank_fits (content.Formula x) v f h fits = absurd cc
 
+-- a cell without a content comes to a blank one in the format that it is given
 pub blank_there : (s : CellState) (f : Format) → is_blank s.content ≡ true → IsSound s
     → formatted (Some s) f ≡ blank_state f
 blank_there s f h sound = blank_fits s.content s.value f h sound

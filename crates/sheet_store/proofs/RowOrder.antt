@@ -182,6 +182,7 @@ module _ (test : CellState → Bool) (span : Extent) where
       with true a s = (a, s)
       with false a s = s
 
+  -- the places that are picked among held cells, once sorted, are those that are picked in the map
   pub sorted_picked : (hs : List (Held CellState)) (m : Cells) (xs : List Place) → from_entries (filled hs) ≡ m
       → AreOnce (cells_of hs) → IsPermutation (picked test span (filled hs)) xs → IsSorted place_cmp xs
       → xs ≡ picked test span (entries m)

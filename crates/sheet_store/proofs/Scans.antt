@@ -1,7 +1,6 @@
 -- A scan that goes on at the next place of the span picks what lies in it.
 use Rattle.std.specs.Prelude.{◌≤◌, ◌≡◌, ◌<◌, Bool, true, false, cond, ◌&&◌, refl, List, [], ◌∷◌, ◌++◌, Option, None}
 use Rattle.std.specs.Prelude.{Some, IfSome, IfNone}
-use Rattle.std.specs.BTreeMap.Comparable.{le_lt_trans}
 use Rattle.std.specs.declared.cmp.Ordering.{Ordering}
 use Rattle.std.specs.declared.cmp.Ordering.TheVariants.{Less, Equal, Greater}
 use Rattle.std.specs.Ordering.{eq_by_cmp, is_eq, is_le, is_lt, ordering_reverse}
@@ -9,7 +8,7 @@ use Rattle.std.specs.FinMap.{find}
 use Rattle.std.specs.List.{filter, AllByRecursion}
 use Rattle.std.specs.List.Sorted.{IsStrictlySortedBy}
 use Rattle.std.specs.Map.{keys_of}
-use Rattle.std.proofs.Common.{sym, ◌∙◌, ap, subst, inl, inr, append_assoc, arith, rules, IsTrue}
+use Rattle.std.proofs.Common.{sym, ◌∙◌, ap, subst, inl, inr, append_assoc, arith, rules}
 use Rattle.std.proofs.lemmas.Bool.{cases_Bool}
 use Rattle.std.proofs.lemmas.Cmp.{tied_itself}
 use Rattle.grid_address.proofs.Places.{cells_total}
@@ -18,12 +17,6 @@ use Rattle.sheet_store.specs.Grid.{picked}
 use Rattle.sheet_store.specs.inner.Scan.{entries_from, left_from, number_of, passed_at, places_left}
 use Rattle.sheet_store.specs.State.{CellState}
 use Rattle.sheet_store.proofs.Held.{same_some, tied}
-
-heads_are : {A : Type 0} {x y : A} {xs ys : List A} → x ∷ xs ≡ y ∷ ys → x ≡ y
-heads_are h = cc
-
-tails_are : {A : Type 0} {x y : A} {xs ys : List A} → x ∷ xs ≡ y ∷ ys → xs ≡ ys
-tails_are h = cc
 
 module _ (test : CellState → Bool) (span : Extent) where
   -- what is filtered out beside the span doesn't matter
@@ -59,14 +52,9 @@ module _ (test : CellState → Bool) (span : Extent) where
   picked_all [] = refl
   picked_all (e ∷ es) = ap (λ l. cond (is_within span e.0 && test e.1) (e.0 ∷ l) l) (picked_all es)
 
+-- the entries behind a place
 unfoldable pub behind : Place → List (Place × CellState) → List (Place × CellState)
 behind c es = filter (λ e. is_lt (place_cmp c e.0)) es
-
-less_is_le : (c x y : Place) → is_le (place_cmp c x) ≡ true → place_cmp x y ≡ Less → is_le (place_cmp c y) ≡ true
-less_is_le c x y h l = ap is_le (le_lt_trans cells_total c x y (is_true h) l)
-  where
-    is_true : {b : Bool} → b ≡ true → IsTrue b
-    is_true e = e
 
 -- all entries pass
 filter_all : (f : Place → Bool) (es : List (Place × CellState)) → AllByRecursion (λ y. f y ≡ true) (keys_of es)
@@ -152,13 +140,16 @@ none_here c (x ∷ xs) h = elim (cases_Bool (eq_by_cmp place_cmp c x.0)) [
     some_none : (s : CellState) → Some s ≡ None → ⊥
     some_none s h = absurd cc
 
+-- a span has its first cell
 pub first_within : (s : Extent) → s.first.col ≤ s.last.col → s.first.row ≤ s.last.row → is_within s s.first ≡ true
 first_within s h k = search rules
 
+-- no cell of a span is before its first
 pub within_from : (s : Extent) (p : Place) → is_within s p ≡ true → is_le (place_cmp s.first p) ≡ true
 within_from s p h = search rules
 
 module _ (test : CellState → Bool) (span : Extent) (es : List (Place × CellState)) where
+  -- from the span's first cell on, all that is picked in it is left
   pub scan_begins : ((p : Place) → is_within span p ≡ true → is_le (place_cmp span.first p) ≡ true)
       → picked test span (entries_from span.first es) ≡ picked test span es
   scan_begins h =
@@ -194,6 +185,7 @@ module _ (test : CellState → Bool) (span : Extent) (es : List (Place × CellSt
       with None e = ap (picked test span) (none_here c es e)
       with (Some x) e = ap (picked test span) (next_here c x es s e) ∙ passed_first c x (behind c es) within
 
+  -- behind a cell and what is picked there, what is left from the next one on is picked
   pub scan_goes_on : (list new : List Place) (c : Place) (next : Option Place) → is_within span c ≡ true
       → IsStrictlySortedBy place_cmp (keys_of es)
       → IfSome next (λ d. (p : Place) → is_within span p ≡ true → is_lt (place_cmp c p) ≡ is_le (place_cmp d p))

@@ -47,23 +47,8 @@ cell c v f = record { content = c; value = v; format = f }
 
 -- ---- numbers
 
-small : (v : ℤ) → is_integer v ≡ true → nat_abs v / 1000000 < 65536
-small v e =
-    let x =
-    and_parts (nat_abs v % 1000000 == 0)
-    (nat_le (nat_abs v) 32767000000 || (int_lt v (pos 0) && (nat_abs v == 32768000000))) e in
-    elim (or_cases (nat_le (nat_abs v) 32767000000) (int_lt v (pos 0) && (nat_abs v == 32768000000)) x.1) [
-      | inl few ↦ (let l : nat_abs v ≤ 32767000000 = grind (arith, nat_tests, few) in omega (arith, l))
-      | inr least ↦
-          (let y = and_parts (int_lt v (pos 0)) (nat_abs v == 32768000000) least in
-          let l : nat_abs v ≡ 32768000000 = grind (arith, nat_tests, y.1) in omega (arith, l))
-    ]
-
 no_minus : (n : ℕ) → int_lt (pos n) (pos 0) ≡ false
 no_minus n = grind (arith, ints)
-
-a_minus : (n : ℕ) → int_lt (negsuc n) (pos 0) ≡ true
-a_minus n = grind (arith, ints)
 
 -- the number of two bytes of a whole number
 abbrev two_bytes : ℤ → ℕ
@@ -226,6 +211,7 @@ formula_said n p t v f inside ok ranged good short =
     (stored_value (double_of (from_le_bytes w64 (to_le_bytes w64 (value_bits v))))) f))) (head_cell p s rest inside)
     ∙ ap (λ w. Ok (entry.Formula p (cell (content.Formula t) w f))) stored)
 
+-- the records of a cell say its state, and a formula's text
 pub cell_said : (p : Place) (c : Content) (v : Value) (f : Format) → IsCell p (cell c v f)
     → Says (content_pieces p (cell c v f) c) (content_entries p (cell c v f) c)
 cell_said p content.Blank v f h =

@@ -1,6 +1,6 @@
 -- What a record says is within the limits of a sheet.
-use Rattle.std.proofs.Common.{◌≡◌, ℕ, ◌≤◌, ◌+◌, ◌&&◌, true, false, Bool, List, [], ◌∷◌, length, take, drop, refl, ap}
-use Rattle.std.proofs.Common.{◌∙◌, sym, arith, inl, inr, subst}
+use Rattle.std.proofs.Common.{◌≡◌, ℕ, ◌≤◌, ◌&&◌, true, List, length, take, drop, refl}
+use Rattle.std.proofs.Common.{arith, inl, inr, subst}
 use Rattle.std.specs.Prelude.{⊤, not, nat_lt, nat_le, Option, Some, None, Result, Ok, Err}
 use Rattle.std.proofs.lemmas.Bool.{and_parts, cases_Bool}
 use Rattle.std.proofs.lemmas.Bool.Decides.{nat_tests}
@@ -12,47 +12,22 @@ use Rattle.formula_tree.specs.declared.value.Value.TheVariants as value
 use Rattle.range_names.specs.Names.{fault_of}
 use Rattle.range_names.specs.declared.fault.NameFault.{NameFault}
 use Rattle.sheet_store.specs.Choices.{is_global_prefix}
-use Rattle.wk1_formula.specs.Reading.{before_zero, short_at, short_value}
+use Rattle.wk1_formula.specs.Reading.{before_zero, short_at}
 use Rattle.wk1_formula.specs.Stack.{tree_in}
 use Rattle.wk1_formula.specs.declared.fault.CodeFault.{CodeFault}
 use Rattle.wk1_formula.specs.declared.fault.CodeFault.TheVariants as code
 use Rattle.wk1_records.specs.Kinds.{has_head, least_length}
-use Rattle.wk1_records.specs.Meanings.{bits_in, byte_at, cell_of, code_in, constant, double_at, formula_state}
+use Rattle.wk1_records.specs.Meanings.{byte_at, cell_of, code_in, double_at, formula_state}
 use Rattle.wk1_records.specs.Meanings.{global_prefix, if_name, is_inside, is_span, is_width, label_of, label_state}
-use Rattle.wk1_records.specs.Meanings.{meaning_by, name_entry, number_state, order_of, place_at, said, span_entry}
-use Rattle.wk1_records.specs.Meanings.{state_of, stored_value, text_entry, width_entry, window_entry}
+use Rattle.wk1_records.specs.Meanings.{meaning_by, name_entry, number_state, place_at, said, span_entry}
+use Rattle.wk1_records.specs.Meanings.{stored_value, text_entry, width_entry, window_entry}
 use Rattle.wk1_file.specs.inner.Takes.{IsEntry}
 use Rattle.wk1_records.specs.declared.entry.Entry.{Entry}
-use Rattle.wk1_records.specs.declared.entry.Entry.TheVariants as entry
 use Rattle.wk1_records.specs.declared.fault.Wk1Fault.{Wk1Fault}
 use Rattle.wk1_records.specs.declared.kind.RecordKind.{RecordKind}
 use Rattle.wk1_records.specs.declared.kind.RecordKind.TheVariants as kind
 use Rattle.lics_text.specs.Prefixes.{prefix_of}
 use Rattle.lics_text.specs.declared.prefix.LabelPrefix.{LabelPrefix}
-
--- a body with a head has the five bytes of it
-pub head_long : (k : RecordKind) (body : List ℕ) → has_head k ≡ true
-    → nat_lt (length body) (least_length k body) ≡ false → 5 ≤ length body
-head_long kind.Bof body h long = absurd cc
-head_long kind.Eof body h long = absurd cc
-head_long kind.CalcMode body h long = absurd cc
-head_long kind.CalcOrder body h long = absurd cc
-head_long kind.Range body h long = absurd cc
-head_long kind.Window body h long = absurd cc
-head_long kind.ColumnWidth body h long = absurd cc
-head_long kind.Name body h long = absurd cc
-head_long kind.Blank body h long = grind (arith, nat_tests, long)
-head_long kind.Integer body h long = grind (arith, nat_tests, long)
-head_long kind.Number body h long = grind (arith, nat_tests, long)
-head_long kind.Label body h long = grind (arith, nat_tests, long)
-head_long kind.Formula body h long =
-    (let x : 15 + short_at 13 body ≤ length body = grind (arith, nat_tests, long) in omega (arith, x))
-head_long kind.Protection body h long = absurd cc
-head_long kind.LabelFormat body h long = absurd cc
-head_long kind.CalcCount body h long = absurd cc
-head_long kind.Str body h long = grind (arith, nat_tests, long)
-head_long kind.HiddenColumns body h long = absurd cc
-head_long kind.Other body h long = absurd cc
 
 -- an answer that is within the limits, or a fault
 abbrev pub AreEntry : Result Entry Wk1Fault → Type 0

@@ -99,6 +99,7 @@ all_taken s (e ∷ es) m f h =
           ∙ ap (λ r. fold with_entry r (flat_map cell_entries es)) one.1 ∙ rest.1,
     )
 
+-- what the records of a map's cells say, put into an empty map one by one, is the map
 pub cells_taken : (s : SavedSheet) (m : Cells) (f : Option Place) → AllByRecursion IsSavedCell (entries m)
     → (g : Option Place)
     × (fold with_entry (with_cells s empty f) (flat_map cell_entries (entries m)) ≡ with_cells s m g)

@@ -14,6 +14,7 @@ use Rattle.wk1_records.specs.declared.entry.Entry.{Entry}
 use Rattle.wk1_records.specs.declared.kind.RecordKind.{RecordKind}
 use Rattle.wk1_records.specs.declared.kind.RecordKind.TheVariants as kind
 
+-- a place in the sheet passes the test of one
 pub inside_is : (p : Place) → InSheet p → is_inside p ≡ true
 inside_is p h =
     (let row : nat_lt p.row 8192 ≡ true = (let l = h.0 in grind (arith, nat_tests, l)) in

@@ -209,12 +209,14 @@ all_back f bits a (suc n) len each =
     ap (λ l. f a ∷ l) (all_back f bits (a + 1) n (omega (arith, len)) each)
     ∙ ap (λ b. b ∷ drop (a + 1) bits) (each a inside) ∙ sym (drop_at_one bits a inside)
 
+-- the bits of hidden columns are read back from their bytes
 pub bits_back : (bits : List Bool) → length bits ≡ 256 → bits_in (bits_bytes bits) ≡ bits
 unfolding bits_in
 bits_back bits len =
     all_back (bit_at (bits_bytes bits)) bits 0 256 (omega (arith, len))
     (λ c less. bit_back bits c (omega (arith, less, len)))
 
+-- the bits of hidden columns take 32 bytes
 pub bits_long : (bits : List Bool) → length (bits_bytes bits) ≡ 32
 unfolding bits_bytes
 bits_long bits = length-map (range_with_len 0 32) (bits_byte bits) ∙ length-range_with_len 0 32
@@ -226,6 +228,7 @@ hidden_one bits n len =
     ∙ tested n (bits_bytes bits) kind.HiddenColumns (entry.Hidden bits) (omega (arith, bits_long bits)) refl
     (ap (λ l. Ok (entry.Hidden l)) (bits_back bits len))
 
+-- the record of hidden columns says them, and where none is hidden there is no record
 pub hidden_said : (bits : List Bool) → length bits ≡ 256 → Says (hidden_pieces bits) (hidden_entries bits)
 hidden_said bits len =
     elim (cases_Bool (list_any (λ b. b) bits)) [
@@ -233,6 +236,7 @@ hidden_said bits len =
       | inr none ↦ rw none tt
     ]
 
+-- the record of hidden columns is short enough, and no EOF
 pub hidden_records : (bits : List Bool) → AllByRecursion IsRecord (hidden_pieces bits)
 hidden_records bits =
     elim (cases_Bool (list_any (λ b. b) bits)) [

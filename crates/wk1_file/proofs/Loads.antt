@@ -1,47 +1,28 @@
 -- How a file is read, record by record.
-use Rattle.std.proofs.Common.{◌≡◌, ℕ, ◌≤◌, ◌+◌, ◌<◌, Bool, true, false, cond, List, ◌++◌, length, drop, get_or, refl}
+use Rattle.std.proofs.Common.{◌≡◌, ℕ, ◌≤◌, ◌+◌, true, cond, List, ◌++◌, length, drop, get_or, refl}
 use Rattle.std.proofs.Common.{ap, ◌∙◌, sym, subst, arith, length-append, length-drop}
-use Rattle.std.specs.Prelude.{◌⊎◌, fold, Option, Some, None, Result, Ok, Err}
-use Rattle.std.proofs.Common.{inl, inr}
+use Rattle.std.specs.Prelude.{fold, Some, None, Result, Ok, Err}
 use Rattle.std.proofs.lemmas.List.{drop-drop, get_or-drop}
-use Rattle.grid_address.specs.Place.{same_place, Place}
+use Rattle.grid_address.specs.Place.{Place}
 use Rattle.grid_address.proofs.Places.{get_inserted, same_place_itself}
 use Rattle.std.specs.FinMap.{get, insert, remove}
 use Rattle.formula_tree.specs.declared.value.Content.{Content}
 use Rattle.formula_tree.specs.declared.value.Content.TheVariants as content
-use Rattle.sheet_store.specs.Grid.{is_formula, is_kept, put_state, HasFormula}
+use Rattle.sheet_store.specs.Grid.{is_formula, is_kept}
 use Rattle.sheet_store.specs.State.{CellState}
 use Rattle.sheet_store.specs.declared.writes.SavedSheet.{SavedSheet}
-use Rattle.wk1_records.specs.Answers.{Gives}
 use Rattle.wk1_records.specs.Kinds.{kind_of}
 use Rattle.wk1_records.specs.Meanings.{meaning_by}
 use Rattle.wk1_records.specs.Records.{at_cut, at_end, at_piece, cut, ended, piece, piece_bytes, IsBytes, IsFront}
 use Rattle.wk1_records.specs.Records.{IsPiece, Piece, Records, Splits}
-use Rattle.wk1_file.specs.Sheets.{entries_in, entry_then, fault_or, first_fault, sheet_of, unless_fault, with_entry}
+use Rattle.wk1_file.specs.Sheets.{entries_in, entry_then, fault_or, first_fault, unless_fault, with_entry}
 use Rattle.wk1_file.specs.Sheets.{Progress}
-use Rattle.wk1_file.specs.inner.Takes.{sheet_from, Ahead, IsEntry, IsMinded, Makes}
+use Rattle.wk1_file.specs.inner.Takes.{Ahead, IsEntry, IsMinded, Makes}
 use Rattle.wk1_records.specs.declared.entry.Entry.{Entry}
 use Rattle.wk1_records.specs.declared.entry.Entry.TheVariants as entry
 use Rattle.wk1_records.specs.declared.fault.Wk1Fault.{Wk1Fault}
 use Rattle.wk1_records.specs.declared.fault.Wk1Fault.TheVariants as fault
 use Rattle.wk1_file.proofs.Totals.{all_split}
-
--- a fault that is given is the one that is meant, unless memory ran out
-pub fault_given : (f : Wk1Fault) (made : Result Entry Wk1Fault) → Gives (Err f) made
-    → (f ≡ fault.Memory) ⊎ (made ≡ Err f)
-fault_given fault.NoBof made h = inr h
-fault_given (fault.Truncated at) made h = inr h
-fault_given (fault.BadLength n) made h = inr h
-fault_given (fault.CellOutside n) made h = inr h
-fault_given (fault.BadText n) made h = inr h
-fault_given (fault.NumberTooLarge n) made h = inr h
-fault_given (fault.BadCode n at) made h = inr h
-fault_given (fault.FunctionOutside n f) made h = inr h
-fault_given (fault.BadName n) made h = inr h
-fault_given (fault.BadSpan n) made h = inr h
-fault_given fault.FileTooLarge made h = inr h
-fault_given (fault.TooDeep n) made h = inr h
-fault_given fault.Memory made h = inl refl
 
 kept_formula : (c : CellState) → is_formula c.content ≡ true → is_kept c ≡ true
 kept_formula c h = of c.content h
@@ -105,11 +86,13 @@ module _ (bytes : List ℕ) (at n : ℕ) (r : Progress) (kind : ℕ) (body : Lis
       unless_fault (fault_or m (first_fault (n + 1) rs))
       (fold with_entry r (entry_then m (entries_in (n + 1) rs))).sheet
 
+  -- behind a record that says something, the file goes on with what it makes of the sheet
   pub goes_on : (e : Entry) → (kind ≡ 1 → ⊥) → meaning_by n body (kind_of kind) ≡ Ok e
       → Ahead bytes next (n + 1) (with_entry r e)
   unfolding step
   goes_on e other said rs d = subst (Makes bytes) (ap (step rs) said) (ahead (piece this rs) (with_rest rs other d))
 
+  -- where a record has a fault, the file has it
   pub is_fault : (f : Wk1Fault) → IsBytes bytes → (kind ≡ 1 → ⊥) → meaning_by n body (kind_of kind) ≡ Err f
       → Makes bytes (Err f)
   unfolding step
@@ -119,6 +102,7 @@ module _ (bytes : List ℕ) (at n : ℕ) (r : Progress) (kind : ℕ) (body : Lis
       (λ i. rw get_or-drop (small (next + i))) in
       subst (Makes bytes) (ap (step rest.0) said) (ahead (piece this rest.0) (with_rest rest.0 other rest.1))
 
+  -- a whole record ends within the bytes
   pub fits : at ≤ length bytes → next ≤ length bytes
   fits h =
       let rest : List ℕ = drop (4 + length body) (drop at bytes) in
@@ -126,11 +110,13 @@ module _ (bytes : List ℕ) (at n : ℕ) (r : Progress) (kind : ℕ) (body : Lis
       ap length front.is ∙ omega (arith, length-append body rest) in
       omega (arith, size, length-drop at bytes, h)
 
+  -- an EOF ends the file, and what was read is its sheet
   pub is_end : kind ≡ 1 → Makes bytes (Ok r.sheet)
   is_end e =
       ahead ended (subst (λ l. Splits at l ended) (sym front.is)
       (at_end this (drop (4 + length body) (drop at bytes)) e front.fits))
 
+-- where no whole record begins, the file is cut off
 pub is_cut : (bytes : List ℕ) (at n : ℕ) (r : Progress) → Ahead bytes at n r
     → ((p : Piece) (rest : List ℕ) → IsPiece p → drop at bytes ≡ piece_bytes p ++ rest → ⊥)
     → Makes bytes (Err (fault.Truncated at))

@@ -35,6 +35,7 @@ name_back (b ∷ bs) rest =
       | inr z ↦ rw (z, z) (ap (with_byte b) (name_back bs rest))
     ]
 
+-- a name without fault has at most 15 bytes
 pub short_name : (name : List ℕ) → fault_of name ≡ None → length name ≤ 15
 short_name name e =
     elim (cases_Bool (length name == 0)) [
@@ -92,6 +93,7 @@ one_said e n h =
     else Err (fault.BadSpan n)) last
     ∙ rw spans refl)
 
+-- the records of names say the names and their spans
 pub names_said : (es : List (List ℕ × Extent)) → AllByRecursion IsSavedName es
     → Says (map (λ e. name_piece (name_in e.0) e.1) es) (map name_entry_of es)
 names_said [] h = tt
@@ -105,6 +107,7 @@ all_taken s (e ∷ es) m f h =
     let rest = all_taken s es (insert m e.0 e.1) None h.1 in
     (rest.0, ap (λ k. fold with_entry (with_names s (insert m k e.1) None) (map name_entry_of es)) h.0.key ∙ rest.1)
 
+-- what the records of names say, put into an empty map one by one, is the map
 pub names_taken : (s : SavedSheet) (ns : NameMap) (f : Option Place) → AllByRecursion IsSavedName (entries ns)
     → (h : Option Place) × (fold with_entry (with_names s empty f) (map name_entry_of (entries ns)) ≡ with_names s ns h)
 names_taken s ns f h =

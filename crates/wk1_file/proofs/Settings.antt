@@ -100,8 +100,10 @@ module _ (c : Choices) (ok : AreSettings c) where
       (if is_width (short_at 6 window) then short_at 6 window else 9))) pointer
       ∙ ap (λ w. Ok (entry.Window c.pointer (record { 0 = c.format }) w)) wide)
 
+  -- the records of the settings say them in their order
   pub settings_said_of : Says (settings_pieces c) (settings_entries c)
   settings_said_of = (passes_said, (mode_said, (order_said, (protection_said, (prefix_said, (window_said, tt))))))
 
+-- the same of any settings that a sheet may have
 pub settings_said : (c : Choices) → AreSettings c → Says (settings_pieces c) (settings_entries c)
 settings_said c ok = settings_said_of c ok

@@ -9,7 +9,6 @@ use Rattle.std.proofs.lemmas.Bool.Decides.{nat_tests}
 use Rattle.std.proofs.lemmas.List.{length-replicate}
 use Rattle.std.specs.List.{list_all}
 use Rattle.grid_address.specs.Place.{Extent, Place}
-use Rattle.grid_address.specs.declared.format.Format.{Format}
 use Rattle.formula_tree.specs.Ranges.{is_text}
 use Rattle.formula_tree.specs.Shape.{code_size, every, is_fine, IsFormula}
 use Rattle.formula_tree.specs.Tree.{Tree}
@@ -37,9 +36,6 @@ use Rattle.wk1_file.proofs.NamesRead.{short_name}
 use Rattle.wk1_file.proofs.Widths.{each_column}
 use Rattle.lics_text.specs.Prefixes.{prefix_byte}
 
-abbrev cell : Content → Value → Format → CellState
-cell c v f = record { content = c; value = v; format = f }
-
 numbered : (k : RecordKind) → number_of k < 65536
 numbered kind.Bof = omega arith
 numbered kind.Eof = omega arith
@@ -64,22 +60,26 @@ numbered kind.Other = omega arith
 record_of : (k : RecordKind) (body : List ℕ) → (number_of k ≡ 1 → ⊥) → length body < 65536 → IsRecord (made k body)
 record_of k body inner short = record { fits = (numbered k, short); inner = inner }
 
+-- two lists of records that are short enough, and no EOF, are so together
 pub both_records : (ps qs : List Piece) → AllByRecursion IsRecord ps → AllByRecursion IsRecord qs
     → AllByRecursion IsRecord (ps ++ qs)
 both_records [] qs h k = k
 both_records (p ∷ ps) qs h k = (h.0, both_records ps qs h.1 k)
 
+-- so are the records of each of many
 pub each_records : {X : Type 0} (f : X → List Piece) (xs : List X)
     → AllByRecursion (λ x. AllByRecursion IsRecord (f x)) xs → AllByRecursion IsRecord (flat_map f xs)
 each_records f [] h = tt
 each_records f (x ∷ xs) h = both_records (f x) (flat_map f xs) h.0 (each_records f xs h.1)
 
+-- BOF and the range are short enough, and no EOF
 pub head_records : (p : Place) → AllByRecursion IsRecord (bof ∷ range_piece p ∷ [])
 head_records p = (
   record_of kind.Bof _ (λ e. absurd (omega (arith, e))) (omega arith),
   (record_of kind.Range _ (λ e. absurd (omega (arith, e))) (omega arith), tt),
 )
 
+-- so are the records of the settings
 pub settings_records : (c : Choices) → AllByRecursion IsRecord (settings_pieces c)
 settings_records c = (
   record_of kind.CalcCount _ (λ e. absurd (omega (arith, e))) (omega arith),
@@ -102,6 +102,7 @@ width_records : (col : ℕ) (o : Option ℕ) → AllByRecursion IsRecord (width_
 width_records col None = tt
 width_records col (Some w) = (record_of kind.ColumnWidth _ (λ e. absurd (omega (arith, e))) (omega arith), tt)
 
+-- so are those of the own widths
 pub widths_records : (g : Grid) → AllByRecursion IsRecord (width_pieces g)
 widths_records g =
     each_records (λ col. width_piece col (width_of g col)) columns
@@ -124,6 +125,7 @@ name_record e h =
     ) in
     record_of kind.Name body (λ e. absurd (omega (arith, e))) size
 
+-- so are those of the names
 pub names_records : (es : List (List ℕ × Extent)) → AllByRecursion IsSavedName es
     → AllByRecursion IsRecord (map (λ e. name_piece (name_in e.0) e.1) es)
 names_records [] h = tt
@@ -172,6 +174,7 @@ content_records p s (content.Label prefix t) h v = (
 )
 content_records p s (content.Formula t) h v = (formula_record p s t h.0, text_records p s s.value v)
 
+-- so are those of the cells
 pub cells_records : (es : List (Place × CellState)) → AllByRecursion IsSavedCell es
     → AllByRecursion IsRecord (flat_map cell_pieces es)
 cells_records [] h = tt

@@ -8,6 +8,7 @@ use Rattle.wk1_file.specs.Saved.{eof}
 use Rattle.wk1_file.specs.Sheets.{entries_in, entry_then, fault_or, first_fault}
 use Rattle.wk1_records.specs.declared.entry.Entry.{Entry}
 
+-- EOF takes no more than two bytes for its type and its length
 pub eof_piece : IsPiece eof
 eof_piece = (omega arith, omega arith)
 
@@ -26,6 +27,7 @@ no_fault (p ∷ ps) [] n h = absurd h
 no_fault (p ∷ ps) (e ∷ es) n h =
     ap (λ r. fault_or r (first_fault (n + 1) (records_of ps))) (h.0 n) ∙ no_fault ps es (n + 1) h.1
 
+-- the entries of records that each say something are what they say
 pub all_said : (ps : List Piece) (es : List Entry) (n : ℕ) → Says ps es → entries_in n (records_of ps) ≡ es
 all_said [] [] n h = refl
 all_said [] (e ∷ es) n h = absurd h
@@ -33,6 +35,7 @@ all_said (p ∷ ps) [] n h = absurd h
 all_said (p ∷ ps) (e ∷ es) n h =
     ap (λ r. entry_then r (entries_in (n + 1) (records_of ps))) (h.0 n) ∙ ap (λ l. e ∷ l) (all_said ps es (n + 1) h.1)
 
+-- the records of two lists say what the one's and then what the other's say
 pub said_both : (ps qs : List Piece) (es fs : List Entry) → Says ps es → Says qs fs → Says (ps ++ qs) (es ++ fs)
 said_both [] qs [] fs h k = k
 said_both [] qs (e ∷ es) fs h k = absurd h

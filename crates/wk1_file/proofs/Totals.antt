@@ -13,6 +13,7 @@ use Rattle.wk1_records.specs.declared.fault.Wk1Fault.{Wk1Fault}
 use Rattle.wk1_records.specs.declared.fault.Wk1Fault.TheVariants as fault
 use Rattle.wk1_records.proofs.Fronts.{no_piece, too_few, whole_piece}
 
+-- any bytes are records, up to an EOF or to where the next is cut off
 pub all_split : (fuel at : ℕ) (bytes : List ℕ) → length bytes ≤ fuel → IsBytes bytes
     → (rs : Records) × Splits at bytes rs
 all_split zero at bytes few h = (cut at, at_cut (too_few bytes (omega (arith, few))))
@@ -40,6 +41,7 @@ all_split (suc n) at bytes few h =
       ]
     ]
 
+-- any bytes are a file, of a sheet or with a fault
 pub any_file : (bytes : List ℕ) → IsBytes bytes → (x : Result SavedSheet Wk1Fault) × IsFile bytes x
 any_file bytes h =
     elim (cases_lt 67108864 (length bytes)) [

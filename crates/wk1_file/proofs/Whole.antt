@@ -154,6 +154,7 @@ module _ (s : SavedSheet) (h : IsSavedSheet s) where
       ∙ ap (λ f. unless_fault f (fold with_entry start says).sheet) (no_fault pieces says 0 said)
       ∙ ap Ok made_sheet
 
+-- a saved sheet is read back as the sheet
 pub file_read : (s : SavedSheet) → IsSavedSheet s → length (file_bytes s) ≤ 67108864 → IsFile (file_bytes s) (Ok s)
 file_read s h most =
     let begun : has_bof (file_bytes s) ≡ true =

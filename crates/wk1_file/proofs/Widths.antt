@@ -28,6 +28,7 @@ each_number : (P : ℕ → Type 0) (a n : ℕ) → ((k : ℕ) → k < a + n → 
 each_number P a zero h = tt
 each_number P a (suc n) h = (h a (omega arith), each_number P (a + 1) n (λ k less. h k (omega (arith, less))))
 
+-- what is so of every number below 256 is so of every column
 pub each_column : (P : ℕ → Type 0) → ((k : ℕ) → k < 256 → P k) → AllByRecursion P columns
 unfolding columns
 each_column P h = each_number P 0 256 h
@@ -55,6 +56,7 @@ one_said col w inside most =
           )
     ]
 
+-- the records of own widths say them by column
 pub widths_said : (g : Grid) → AreWidths g.widths → Says (width_pieces g) (widths_entries g)
 widths_said g ws =
     said_each (λ col. width_piece col (width_of g col)) (λ col. width_entries col (width_of g col)) columns
@@ -112,6 +114,7 @@ all_taken s W (suc n) a f len =
           ∙ rest.1,
     )
 
+-- what the records of own widths say, put over no widths, is the sheet's widths
 pub widths_taken : (s : SavedSheet) (g : Grid) (f : Option Place) → AreWidths g.widths
     → (h : Option Place)
     × (fold with_entry (with_widths s (replicate 256 0) f) (widths_entries g) ≡ with_widths s g.widths h)

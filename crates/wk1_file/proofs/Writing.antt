@@ -6,20 +6,20 @@ use Rattle.std.proofs.lemmas.List.{append-nil}
 use Rattle.wk1_records.specs.Records.{piece_bytes, pieces_bytes, Piece}
 use Rattle.wk1_file.specs.inner.Written.{Writes}
 
+-- the bytes of two lists of records are those of the one and then those of the other
 pub bytes_both : (ps qs : List Piece) → pieces_bytes (ps ++ qs) ≡ pieces_bytes ps ++ pieces_bytes qs
 bytes_both [] qs = refl
 bytes_both (p ∷ ps) qs =
     ap (λ l. piece_bytes p ++ l) (bytes_both ps qs)
     ∙ sym (append_assoc (piece_bytes p) (pieces_bytes ps) (pieces_bytes qs))
 
-pub bytes_one : (p : Piece) → pieces_bytes (p ∷ []) ≡ piece_bytes p
-bytes_one p = append-nil (piece_bytes p)
-
+-- the bytes of the records of each of many are those of each in their order
 pub bytes_each : {X : Type 0} (f : X → List Piece) (xs : List X)
     → pieces_bytes (flat_map f xs) ≡ flat_map (λ x. pieces_bytes (f x)) xs
 bytes_each f [] = refl
 bytes_each f (x ∷ xs) = bytes_both (f x) (flat_map f xs) ∙ ap (λ l. pieces_bytes (f x) ++ l) (bytes_each f xs)
 
+-- the bytes of one record each of many are those of each in their order
 pub bytes_all : {X : Type 0} (f : X → Piece) (xs : List X)
     → pieces_bytes (map f xs) ≡ flat_map (λ x. piece_bytes (f x)) xs
 bytes_all f [] = refl
@@ -35,9 +35,11 @@ module _ {X : Type 0} (bytes_of : X → List ℕ) (IsGood : X → Type 0) where
   good_end [] x h k = (k, tt)
   good_end (y ∷ xs) x h k = (h.0, good_end xs x h.1 k)
 
+  -- before the first, nothing is written and all is left
   pub begun : (before : List ℕ) (all : List X) → Writes bytes_of IsGood before before all all
   begun before all = record { done = []; parts = refl; bytes = sym (append-nil before); good = tt }
 
+  -- with one more written, one less is left
   pub one_more : (before now next : List ℕ) (x : X) (rest left all : List X)
       → Writes bytes_of IsGood before now left all → left ≡ x ∷ rest → next ≡ now ++ bytes_of x → IsGood x
       → Writes bytes_of IsGood before next rest all
@@ -50,16 +52,19 @@ module _ {X : Type 0} (bytes_of : X → List ℕ) (IsGood : X → Type 0) where
     good = good_end w.done x w.good k;
   }
 
+  -- where nothing is left, the bytes of all are written
   pub all_bytes : (before now : List ℕ) (left all : List X) → left ≡ [] → Writes bytes_of IsGood before now left all
       → now ≡ before ++ flat_map bytes_of all
   all_bytes before now left all none w =
       w.bytes ∙ ap (λ l. before ++ flat_map bytes_of l) (sym (w.parts ∙ ap (λ l. w.done ++ l) none ∙ append-nil w.done))
 
+  -- where nothing is left, each is as it should be
   pub all_good : (before now : List ℕ) (left all : List X) → left ≡ [] → Writes bytes_of IsGood before now left all
       → AllByRecursion IsGood all
   all_good before now left all none w =
       subst (AllByRecursion IsGood) (sym (w.parts ∙ ap (λ l. w.done ++ l) none ∙ append-nil w.done)) w.good
 
+-- what is written behind bytes five times stands behind them in its order
 pub joined : (old a b c d e f w h n k : List ℕ) → a ≡ old ++ f → b ≡ a ++ w → c ≡ b ++ h → d ≡ c ++ n → e ≡ d ++ k
     → e ≡ old ++ (f ++ (w ++ (h ++ (n ++ k))))
 joined old a b c d e f w h n k p q r s t =
@@ -67,6 +72,7 @@ joined old a b c d e f w h n k p q r s t =
     ∙ ap (λ l. l ++ (h ++ (n ++ k))) q ∙ append_assoc a w (h ++ (n ++ k)) ∙ ap (λ l. l ++ (w ++ (h ++ (n ++ k)))) p
     ∙ append_assoc old f (w ++ (h ++ (n ++ k)))
 
+-- the bytes of five lists of records are those of all
 pub five : (f w h n k : List Piece)
     → pieces_bytes f ++ (pieces_bytes w ++ (pieces_bytes h ++ (pieces_bytes n ++ pieces_bytes k)))
     ≡ pieces_bytes (f ++ (w ++ (h ++ (n ++ k))))

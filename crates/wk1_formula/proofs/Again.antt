@@ -88,10 +88,6 @@ number_is : (v : ℤ) → not_negative v ≡ true → number_tree v ≡ num v
 number_is (pos n) e = refl
 number_is (negsuc n) e = absurd cc
 
-one_byte : (b : ℕ) (c : Code) (rest : List ℕ) → front_of (b ∷ rest) ≡ whole c 1
-    → front_of ((b ∷ []) ++ rest) ≡ whole c (length (b ∷ []))
-one_byte b c rest e = e
-
 brackets_front : (rest : List ℕ) → front_of (4 ∷ rest) ≡ whole brackets 1
 unfolding front_of kind_of operator_of front_kind
 brackets_front rest = refl
@@ -178,6 +174,7 @@ finish_front rest = refl
 at_finish : (size k : ℕ) (t : Tree) → IsFormula t → goes size k (3 ∷ []) (t ∷ []) ≡ Ok t
 at_finish size k t f = rw (finish_front [], formula_is t f) refl
 
+-- what is written of a formula's tree in a cell is read back as the tree
 pub code_read : (t : Tree) (at : Place) → IsFormula t → every is_ranged t ≡ true → InSheet at
     → tree_in (code_of t at) ≡ Ok t
 code_read t at f ranged inside =

@@ -21,9 +21,11 @@ at_most : (f : Function) → nat_le (code_of f) 115 ≡ true
 at_most function.Na = refl
 at_most f = refl
 
+-- a function's code is 31 or more
 pub least : (f : Function) → 31 ≤ code_of f
 least f = (let h = at_least f in grind (arith, nat_tests, h))
 
+-- a function's code is 115 or less
 pub most : (f : Function) → code_of f ≤ 115
 most f = (let h = at_most f in grind (arith, nat_tests, h))
 
@@ -49,5 +51,6 @@ among (x ∷ fs) code f h = elim (cases_Bool (code_of x == code)) [
       among fs code f (sym (ap (λ b. cond b (Some x) (found_in (map (λ f. (code_of f, f)) fs) code)) later) ∙ h)
 ]
 
+-- the function that is found for a code has that code
 pub told : (code : ℕ) (f : Function) → function_of code ≡ Some f → code_of f ≡ code
 told code f h = among functions code f h

@@ -33,6 +33,7 @@ use Rattle.formula_tree.specs.declared.table.Counts.{Counts}
 use Rattle.formula_tree.specs.declared.table.Counts.TheVariants.{Exactly, AtLeast}
 use Rattle.wk1_formula.proofs.CodesFound.{found, least}
 
+-- a number isn't below one that is no more than it
 pub no_less : (a b : ℕ) → b ≤ a → nat_lt a b ≡ false
 no_less a b h = grind (arith, nat_tests, h)
 
@@ -52,6 +53,7 @@ zero_bits : (v : ℤ) → nat_abs v ≡ 0 → bits_of v ≡ 0
 unfolding bits_of
 zero_bits v none = rw none refl
 
+-- a number's bits fit eight bytes
 pub bits_most : (v : ℤ) → nat_abs v ≤ 999999999999999 → bits_of v < 2 ^ 64
 bits_most v most =
     elim (cases_Bool (nat_lt 0 (nat_abs v))) [
@@ -61,6 +63,7 @@ bits_most v most =
       | inr none ↦ (let e : bits_of v ≡ 0 = zero_bits v (grind (arith, nat_tests, none)) in omega (arith, e))
     ]
 
+-- two bytes of a number are read back as it
 pub short_again : (n : ℕ) (rest : List ℕ) → n < 65536 → short_at 0 (to_le_bytes w16 n ++ rest) ≡ n
 short_again n rest h = from_le_bytes-to_le_bytes_2 n (omega (arith, h))
 
@@ -80,6 +83,7 @@ short_size v short =
     let few : nat_abs v ≤ 32767000000 = grind (arith, nat_tests, x.1) in
     omega (arith, few)
 
+-- a number's bytes are read as the number
 pub number_front : (v : ℤ) (rest : List ℕ) → not_negative v ≡ true → nat_abs v ≤ 999999999999999
     → front_of (number_bytes v ++ rest) ≡ whole (number v) (length (number_bytes v))
 unfolding front_of kind_of operator_of front_kind
@@ -200,12 +204,14 @@ module _ (r : Reference) (at : Place) (ok : is_reference r ≡ true) (inside : I
   row_back_to : axis_of row 8192 ≡ Some r.row
   row_back_to = axis_back r.row at.row 8192 inside.0 row_in (inr refl)
 
+  -- the first four bytes of a reference are read as it
   pub first_reference : (rest : List ℕ) → reference_at 0 (reference_bytes r at ++ rest) ≡ Some r
   first_reference rest =
       ap (λ n. both_axes (axis_of n 256) (axis_of (from_le_bytes w16 (to_le_bytes w16 row)) 8192)) col_again
       ∙ ap (λ n. both_axes (axis_of col 256) (axis_of n 8192)) row_again
       ∙ ap (λ a. both_axes a (axis_of row 8192)) col_back ∙ ap (both_axes (Some r.col)) row_back_to
 
+  -- the four bytes behind a range's first reference are read as its second
   pub second_reference : (s : Reference) (rest : List ℕ)
       → reference_at 4 ((reference_bytes s at ++ reference_bytes r at) ++ rest) ≡ Some r
   second_reference s rest =
@@ -213,12 +219,14 @@ module _ (r : Reference) (at : Place) (ok : is_reference r ≡ true) (inside : I
       ∙ ap (λ n. both_axes (axis_of col 256) (axis_of n 8192)) row_again
       ∙ ap (λ a. both_axes a (axis_of row 8192)) col_back ∙ ap (both_axes (Some r.col)) row_back_to
 
+-- the bytes of a reference, with their code, are read as it
 pub reference_front_is : (r : Reference) (at : Place) (rest : List ℕ) → is_reference r ≡ true → InSheet at
     → front_of (1 ∷ (reference_bytes r at ++ rest)) ≡ whole (reference r) 5
 unfolding front_of kind_of operator_of front_kind
 reference_front_is r at rest ok inside =
     rw (no_less (length (reference_bytes r at ++ rest)) 4 (omega arith), first_reference r at ok inside rest) refl
 
+-- the bytes of a range, with their code, are read as it
 pub range_front_is : (a b : Reference) (at : Place) (rest : List ℕ) → is_reference a ≡ true → is_reference b ≡ true
     → InSheet at → front_of (2 ∷ ((reference_bytes a at ++ reference_bytes b at) ++ rest)) ≡ whole (range a b) 9
 unfolding front_of kind_of operator_of front_kind
@@ -231,6 +239,7 @@ range_front_is a b at rest first last inside =
 
 -- ---- texts
 
+-- before the first 00 stands the text that was written
 pub before_back : (t rest : List ℕ) → list_all (λ b. nat_le 32 b) t ≡ true
     → before_zero ((t ++ 0 ∷ []) ++ rest) ≡ Some t
 before_back [] rest h = refl
@@ -239,6 +248,7 @@ before_back (b ∷ bs) rest h =
     let some : (b == 0) ≡ false = grind (arith, nat_tests, x.0) in
     rw some (ap (with_byte b) (before_back bs rest x.1))
 
+-- a text's bytes, with their code and the 00, are read as the text
 pub text_front_is : (t rest : List ℕ) → is_text t ≡ true → has_no_quote t ≡ true
     → front_of (6 ∷ ((t ++ 0 ∷ []) ++ rest)) ≡ whole (text t) (length t + 2)
 unfolding front_of kind_of operator_of front_kind
@@ -249,6 +259,7 @@ text_front_is t rest ok plain =
 
 -- ---- operators and functions
 
+-- an operator's code is read as the operator
 pub operator_front_is : (op : Op) (rest : List ℕ) → front_of (op_code op ∷ rest) ≡ whole (operator op) 1
 unfolding front_of kind_of operator_of
 operator_front_is Pow rest = refl
@@ -301,6 +312,7 @@ exactly : (c : Counts) (n : ℕ) → takes c n ≡ true → (counts_size c == 2)
 exactly (Exactly k) n e fixed = grind (arith, nat_tests, e)
 exactly (AtLeast k) n e fixed = absurd cc
 
+-- a function's bytes are read as the function with so many arguments
 pub function_front_is : (f : Function) (n : ℕ) (rest : List ℕ) → takes (counts_of f) n ≡ true
     → front_of (function_bytes f n ++ rest) ≡ whole (function f n) (length (function_bytes f n))
 unfolding front_of

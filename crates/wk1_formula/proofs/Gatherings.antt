@@ -3,7 +3,7 @@ use Rattle.std.proofs.Common.{◌≡◌, ℕ, ◌+◌, ◌≤◌, ◌<◌, max, 
 use Rattle.std.proofs.Common.{reverse, refl, ap, ◌∙◌, sym, subst, append_assoc, arith, inl, inr, length-append}
 use Rattle.std.specs.Option.{ForSome}
 use Rattle.std.specs.Prelude.{Option, Some, None, ◌⊎◌}
-use Rattle.std.proofs.lemmas.List.{append-nil, reverse-append}
+use Rattle.std.proofs.lemmas.List.{reverse-append}
 use Rattle.formula_tree.specs.Shape.{all_sizes, count, depth, every, every_one, greatest_depth, is_fine, nodes_size}
 use Rattle.formula_tree.specs.Table.{call_size, counts_of, takes}
 use Rattle.formula_tree.specs.Tree.{Tree, call}
@@ -38,6 +38,7 @@ fine_more (u ∷ us) t =
     ap (λ b. every is_fine u && b) (fine_more us t)
     ∙ and_step (every is_fine u) (every_one is_fine (listed us)) (every is_fine t)
 
+-- with one argument more, what is kept is that of one tree more
 pub gathered_more : (g new : Gathered) (i : Item) (ts : List Tree) (t : Tree) → new.depth ≡ max g.depth i.depth
     → new.size ≡ min (g.size + i.size) 65520 → ForSome new.exprs (λ l. trees_in l ≡ ts ++ t ∷ [])
     → (new.exprs ≡ None → (256 < greatest_depth (listed ts)) ⊎ (256 < depth t)) → IsGathered g ts → IsItem i t
@@ -54,6 +55,7 @@ count_listed : (ts : List Tree) → count (listed ts) ≡ length ts
 count_listed [] = refl
 count_listed (t ∷ ts) = omega (arith, count_listed ts)
 
+-- what is kept of a call's arguments makes what is kept of the call
 pub call_made : (f : Function) (g : Gathered) (ts : List Tree) (new : Item) → IsGathered g ts
     → takes (counts_of f) (length ts) ≡ true → new.depth ≡ min (g.depth + 1) 257
     → new.size ≡ min (g.size + call_size f) 65520 → new.top ≡ 8 → new.edge ≡ 8
@@ -77,6 +79,7 @@ pub record Parted (is : List Item) (i : Item) (ts : List Tree) : Type 0 where
   pub items : AreItems is front
   pub item : IsItem i last
 
+-- where one more item stands behind others, its tree stands behind theirs
 pub parted : (is : List Item) (i : Item) (ts : List Tree) → AreItems (is ++ i ∷ []) ts → Parted is i ts
 parted [] i [] h = absurd h
 parted [] i (t ∷ []) h = record { front = []; last = t; whole = refl; items = tt; item = h.0 }
@@ -114,9 +117,7 @@ pub record Waits (is : List Item) (g : Gathered) (ts : List Tree) : Type 0 where
   pub items : AreItems is waiting
   pub gathered : IsGathered g (reverse done)
 
-pub waits_first : (is : List Item) (g : Gathered) (ts : List Tree) → AreItems is ts → IsGathered g [] → Waits is g ts
-waits_first is g ts h p = record { waiting = ts; done = []; whole = sym (append-nil ts); items = h; gathered = p }
-
+-- the last of the trees that wait is gathered, and those before it wait
 pub waits_next : (is : List Item) (i : Item) (g new : Gathered) (ts : List Tree) → Waits (is ++ i ∷ []) g ts
     → ((us : List Tree) (t : Tree) → IsGathered g us → IsItem i t → IsGathered new (us ++ t ∷ [])) → Waits is new ts
 waits_next is i g new ts w more =
@@ -131,14 +132,6 @@ waits_next is i g new ts w more =
           (more (reverse w.done) p.last w.gathered p.item);
     }
 
-waited : (g : Gathered) (ts us vs : List Tree) → ts ≡ us ++ vs → AreItems [] us → IsGathered g (reverse vs)
-    → IsGathered g (reverse ts)
-waited g ts [] vs whole items p = subst (λ l. IsGathered g (reverse l)) (sym whole) p
-waited g ts (u ∷ us) vs whole items p = absurd items
-
-pub waits_last : (g : Gathered) (ts : List Tree) → Waits [] g ts → IsGathered g (reverse ts)
-waits_last g ts w = waited g ts w.waiting w.done w.whole w.items w.gathered
-
 some_is : {T : Type 0} (x y : T) → Some x ≡ Some y → x ≡ y
 some_is x y e = cc
 
@@ -148,11 +141,14 @@ none_of T = None
 no_some : {T : Type 0} (x : T) → none_of T ≡ Some x → ⊥
 no_some x e = cc
 
+-- what is so of a thing is so of what an answer has that holds it
 pub for_some : {T : Type 0} (x : T) (P : T → Type 0) → P x → ForSome (Some x) P
 for_some x P p y e = subst P (some_is x y e) p
 
+-- an answer that holds nothing has no thing that could fail
 pub for_none : {T : Type 0} (P : T → Type 0) → ForSome (none_of T) P
 for_none P y e = absurd (no_some y e)
 
+-- an answer that holds a thing isn't empty
 pub some_gone : {T : Type 0} (x : T) (P : Type 0) → Some x ≡ none_of T → P
 some_gone x P e = absurd (no_some x (sym e))

@@ -62,5 +62,6 @@ mutual
   all_long p no_trees = refl
   all_long p (trees t ts) = omega (arith, joined p (postfix t) (postfix_all ts), nodes_long p t, all_long p ts)
 
+-- a tree's code has as many bytes as are counted of the tree
 pub code_long : (t : Tree) (p : Place) → length (code_of t p) ≡ code_size t
 code_long t p = omega (arith, length-append (spelled p (postfix t)) (3 ∷ []), nodes_long p t)

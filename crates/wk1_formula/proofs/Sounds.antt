@@ -115,6 +115,7 @@ by_kind (kind.Function f) code bytes = function_sound f bytes
 by_kind kind.LeftOut code bytes = tt
 by_kind kind.Unknown code bytes = tt
 
+-- a code at the front lies within the bytes, and keeps what a code that is read keeps
 pub sound_front : (bytes : List ℕ) → IsSound (front_of bytes) (length bytes)
 unfolding front_of
 sound_front [] = tt

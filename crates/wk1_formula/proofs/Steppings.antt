@@ -50,11 +50,6 @@ over_does Group t ts = refl
 over_does Neg t ts = refl
 over_does Not t ts = refl
 
-over_lacks : (one : One) → after (code_over one) [] ≡ None
-over_lacks Group = refl
-over_lacks Neg = refl
-over_lacks Not = refl
-
 went_over : (one : One) (i j : Item) (rest now : List Item) → now ≡ j ∷ rest
     → ((t : Tree) → IsItem i t → IsItem j (built one (held one t))) → (ts : List Tree) → AreItems (i ∷ rest) ts
     → HasStepped (code_over one) true now ts
@@ -65,18 +60,11 @@ went_over one i j rest now is makes (t ∷ ts) h = (
   subst (λ l. AreItems l (built one (held one t) ∷ ts)) (sym is) (makes t h.0, h.1),
 )
 
+-- with the last item built over, the stack goes on by the code of what stands over it
 pub over : (one : One) (i j : Item) (old rest now : List Item) → old ≡ i ∷ rest → now ≡ j ∷ rest
     → ((t : Tree) → IsItem i t → IsItem j (built one (held one t))) → (ts : List Tree) → AreItems old ts
     → HasStepped (code_over one) true now ts
 over one i j old rest now was is makes ts h = went_over one i j rest now is makes ts (subst (λ l. AreItems l ts) was h)
-
-lacks_over : (one : One) (ts : List Tree) → AreItems [] ts → after (code_over one) ts ≡ None
-lacks_over one [] h = over_lacks one
-lacks_over one (t ∷ ts) h = absurd h
-
-pub none_over : (one : One) (old : List Item) → old ≡ [] → (ts : List Tree) → AreItems old ts
-    → after (code_over one) ts ≡ None
-none_over one old was ts h = lacks_over one ts (subst (λ l. AreItems l ts) was h)
 
 went_two : (op : Op) (i j k : Item) (rest now : List Item) → now ≡ k ∷ rest
     → ((a b : Tree) → IsItem j a → IsItem i b → IsItem k (binary op (left_operand op a) (right_operand op b)))
@@ -87,29 +75,14 @@ went_two op i j k rest now is makes (b ∷ a ∷ ts) h =
     let t = binary op (left_operand op a) (right_operand op b) in
     (t ∷ ts, refl, subst (λ l. AreItems l (t ∷ ts)) (sym is) (makes a b h.1.0 h.0, h.1.1))
 
+-- with the last two items joined by an operator, the stack goes on by the operator's code
 pub two : (op : Op) (i j k : Item) (old mid rest now : List Item) → old ≡ i ∷ mid → mid ≡ j ∷ rest → now ≡ k ∷ rest
     → ((a b : Tree) → IsItem j a → IsItem i b → IsItem k (binary op (left_operand op a) (right_operand op b)))
     → (ts : List Tree) → AreItems old ts → HasStepped (operator op) true now ts
 two op i j k old mid rest now was then is makes ts h =
     went_two op i j k rest now is makes ts (subst (λ l. AreItems l ts) (was ∙ ap (λ l. i ∷ l) then) h)
 
-lacks_two : (op : Op) (ts : List Tree) → AreItems [] ts → after (operator op) ts ≡ None
-lacks_two op [] h = refl
-lacks_two op (t ∷ ts) h = absurd h
-
-pub none_two : (op : Op) (old : List Item) → old ≡ [] → (ts : List Tree) → AreItems old ts
-    → after (operator op) ts ≡ None
-none_two op old was ts h = lacks_two op ts (subst (λ l. AreItems l ts) was h)
-
-lacks_one : (op : Op) (i : Item) (ts : List Tree) → AreItems (i ∷ []) ts → after (operator op) ts ≡ None
-lacks_one op i [] h = absurd h
-lacks_one op i (t ∷ []) h = refl
-lacks_one op i (t ∷ u ∷ ts) h = absurd h.1
-
-pub one_two : (op : Op) (i : Item) (old mid : List Item) → old ≡ i ∷ mid → mid ≡ [] → (ts : List Tree) → AreItems old ts
-    → after (operator op) ts ≡ None
-one_two op i old mid was then ts h = lacks_one op i ts (subst (λ l. AreItems l ts) (was ∙ ap (λ l. i ∷ l) then) h)
-
+-- there are as many trees as items
 pub same_length : (is : List Item) (ts : List Tree) → AreItems is ts → length is ≡ length ts
 same_length [] [] h = refl
 same_length [] (t ∷ ts) h = absurd h
@@ -123,6 +96,7 @@ first_items [] js ts h = (tt, h)
 first_items (i ∷ is) js [] h = absurd h
 first_items (i ∷ is) js (t ∷ ts) h = (let x = first_items is js ts h.1 in ((h.0, x.0), x.1))
 
+-- a function that takes more arguments than the stack has lacks operands
 pub lacks_call : (f : Function) (n : ℕ) (is : List Item) → length is < n → (ts : List Tree) → AreItems is ts
     → after (function f n) ts ≡ None
 lacks_call f n is few ts h =
@@ -130,6 +104,7 @@ lacks_call f n is few ts h =
     (let l : length ts < n = omega (arith, few, same_length is ts h) in grind (arith, nat_tests, l)) in
     rw short refl
 
+-- with its arguments made a call, the stack goes on by the function's code
 pub went_call : (f : Function) (n : ℕ) (args rest now : List Item) (g : Gathered) (i : Item) → length args ≡ n
     → now ≡ i ∷ rest → takes (counts_of f) n ≡ true
     → ((ts : List Tree) → AreItems args ts → IsGathered g (reverse ts))
@@ -166,12 +141,15 @@ some_plus (i ∷ is) n len (t ∷ ts) h =
     (let some : nat_lt 0 n ≡ true = (let l : 0 < n = omega (arith, len) in grind (arith, nat_tests, l)) in
     rw some (t ∷ ts, refl, h))
 
+-- a plus leaves the stack as it is, and lacks an operand where there is none
 pub plus_went : (stack : List Item) (ts : List Tree) → AreItems (reverse stack) ts
     → HasStepped plus (nat_lt 0 (length stack)) (reverse stack) ts
 plus_went stack ts h = some_plus (reverse stack) (length stack) (length-reverse stack) ts h
 
+-- @ERR takes no argument
 pub bare_error : takes (counts_of function_named.Err) 0 ≡ true
 bare_error = refl
 
+-- @NA takes no argument
 pub bare_missing : takes (counts_of function_named.Na) 0 ≡ true
 bare_missing = refl

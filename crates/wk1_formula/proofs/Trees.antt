@@ -47,21 +47,25 @@ mutual
       (let x = and_parts (p (call f ts)) (every_one p ts) e in
       and_both _ _ (h (call f ts) x.0) (weaker_each p q h ts x.1))
 
+  -- where each node of some trees passes a test, it passes a weaker one
   pub weaker_each : (p q : Tree → Bool) → ((t : Tree) → p t ≡ true → q t ≡ true) → (ts : Trees) → every_one p ts ≡ true
       → every_one q ts ≡ true
   weaker_each p q h no_trees e = refl
   weaker_each p q h (trees t ts) e =
       (let x = and_parts (every p t) (every_one p ts) e in and_both _ _ (weaker p q h t x.0) (weaker_each p q h ts x.1))
 
+-- a node that is fine has a number of arguments that its function takes
 pub fine_counted : (t : Tree) → is_fine t ≡ true → is_counted t ≡ true
 fine_counted t e =
     (and_parts (is_counted t) (is_plain t) (and_parts (is_bracketed t) (is_counted t && is_plain t) e).1).0
 
+-- the nodes of all arguments pass a test where those of each one do
 pub every_listed : (test : Tree → Bool) (es : List Expr)
     → list_all (λ e. every test (tree_of e)) es ≡ every_one test (listed (map tree_of es))
 every_listed test [] = refl
 every_listed test (e ∷ es) = ap (λ b. every test (tree_of e) && b) (every_listed test es)
 
+-- the codes of all arguments are those of each one in their order
 pub spelled_listed : (at : Place) (es : List Expr)
     → flat_map (λ e. spelled at (postfix (tree_of e))) es ≡ spelled at (postfix_all (listed (map tree_of es)))
 spelled_listed at [] = refl
@@ -69,6 +73,7 @@ spelled_listed at (e ∷ es) =
     ap (λ l. spelled at (postfix (tree_of e)) ++ l) (spelled_listed at es)
     ∙ sym (flat_map-append (bytes_of at) (postfix (tree_of e)) (postfix_all (listed (map tree_of es))))
 
+-- where all arguments pass a test, each one does
 pub each_passes : (test : Expr → Bool) (es : List Expr) (i : ℕ) (d : Expr) → list_all test es ≡ true → i < length es
     → test (get_or es i d) ≡ true
 each_passes test [] i d e h = absurd (omega arith)
@@ -89,6 +94,7 @@ most_taken (AtLeast k) n low e = (let x = and_parts (nat_le k n) (nat_le n 255) 
 pub few_arguments : (f : Function) (n : ℕ) → takes (counts_of f) n ≡ true → n ≤ 255
 few_arguments f n e = most_taken (counts_of f) n (few f) e
 
+-- in a tree that has a formula's shape each function has a number of arguments that it takes
 pub shaped_counted : (t : Tree) → has_shape t ≡ true → every is_counted t ≡ true
 shaped_counted t e =
     weaker is_fine is_counted fine_counted t (and_parts (every is_fine t) (nat_le (code_size t) 65520) e).0

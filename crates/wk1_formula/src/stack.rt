@@ -51,7 +51,7 @@ fn plain_number(size: Fixed, number: Fixed) -> Item
 }
 
 // A negative number is a minus in front of its size.
-#[tactic(auto, using(crate::proofs::Numbers::minus_tree, crate::proofs::Numbers::plain_tree))]
+#[tactic(auto, using(crate::proofs::Bracketed::minus_tree, crate::proofs::Bracketed::plain_tree))]
 fn number_item(alloc: Global, number: Fixed) -> Result<Item, Memory>
     ensures { IfOk result (λ i. IsItem i (number_tree number)) }
 {

@@ -1,4 +1,4 @@
-use Rattle.wk1_formula.proofs.Oks.{ok_weaker}
+use Rattle.wk1_formula.proofs.KeptAnswers.{ok_weaker}
 use Rattle.wk1_formula.proofs.Operands.{right_held}
 use Rattle.wk1_formula.proofs.item.right_operand.Goals as goal
 

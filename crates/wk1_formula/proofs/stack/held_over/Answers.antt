@@ -1,6 +1,6 @@
 use Rattle.wk1_formula.specs.inner.Steps.{held}
-use Rattle.wk1_formula.proofs.Numbers.{held_fits}
-use Rattle.wk1_formula.proofs.Oks.{ok_weaker}
+use Rattle.wk1_formula.proofs.Bracketed.{held_fits}
+use Rattle.wk1_formula.proofs.KeptAnswers.{ok_weaker}
 use Rattle.wk1_formula.proofs.stack.held_over.Goals as goal
 
 pub returns : goal.returns
