@@ -78,10 +78,8 @@ impl<T: Copy> PlaceList<T> {
     pub fn copy(&self, alloc: Global) -> Result<PlaceList<T>, AllocError>
         ensures { IfOk result (λ l. l ≡ self.now) }
     {
-        let mut list = PlaceList::new(alloc);
-        for item in self.items.as_slice() {
-            list.push(*item)?;
-        }
-        Ok(list)
+        let mut items = Vec::new(alloc);
+        items.extend_from_slice(self.items.as_slice())?;
+        Ok(PlaceList { items })
     }
 }
