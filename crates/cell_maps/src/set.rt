@@ -128,8 +128,37 @@ impl CellSet {
         }
     }
 
-    /// Adds a cell behind the others, unless it is in the set, which stays as it was where there is no memory.
+    // Whether a cell more, and its number, find room in the memory that the set has. Nothing but time hangs on it.
+    #[inline(always)]
+    fn has_room(&self, cell: Cell) -> bool {
+        self.table.has_page(cell) && self.cells.len() < self.cells.capacity()
+    }
+
+    /// Adds a cell behind the others, unless it is in the set, which stays as it was where there is no memory. Where
+    /// the set has room, which is nearly always, it makes no call.
     pub fn insert(&mut self, cell: Cell) -> Result<(), AllocError>
+        ensures ok { OnOk result (self.new.keys ≡ insert_key same_place self.old.keys cell) }
+        ensures err { OnErr result (self.new.keys ≡ self.old.keys) }
+    {
+        if self.has_room(cell) {
+            self.insert_here(cell)
+        } else {
+            self.insert_apart(cell)
+        }
+    }
+
+    // Adds a cell as `insert` does, by a call of its own: for a set that may have to grow.
+    #[inline(never)]
+    fn insert_apart(&mut self, cell: Cell) -> Result<(), AllocError>
+        ensures ok { OnOk result (self.new.keys ≡ insert_key same_place self.old.keys cell) }
+        ensures err { OnErr result (self.new.keys ≡ self.old.keys) }
+    {
+        self.insert_here(cell)
+    }
+
+    // Adds a cell as `insert` does, within the code around it.
+    #[inline(always)]
+    fn insert_here(&mut self, cell: Cell) -> Result<(), AllocError>
         ensures ok { OnOk result (self.new.keys ≡ insert_key same_place self.old.keys cell) }
         ensures err { OnErr result (self.new.keys ≡ self.old.keys) }
     {

@@ -114,6 +114,12 @@ impl PlaceTable {
         }
     }
 
+    // Whether the page of a cell has room for numbers. Nothing but time hangs on it.
+    #[inline(always)]
+    pub(crate) fn has_page(&self, cell: Cell) -> bool {
+        self.head_of(cell) != 0
+    }
+
     /// The number of a cell.
     pub fn number_at(&self, cell: Cell) -> u32
         ensures { result ≡ number_at self.now cell }

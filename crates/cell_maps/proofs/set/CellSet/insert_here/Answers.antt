@@ -5,7 +5,7 @@ use Rattle.cell_maps.specs.Sets.{has, Cells}
 use Rattle.grid_address.specs.Place.{same_place}
 use Rattle.cell_maps.proofs.Filled.{few_places, number_last}
 use Rattle.cell_maps.proofs.Sets.{no_number}
-use Rattle.cell_maps.proofs.set.CellSet.insert.Goals as goal
+use Rattle.cell_maps.proofs.set.CellSet.insert_here.Goals as goal
 
 pub add-requires-clause-few : goal.add-requires-clause-few
 add-requires-clause-few c =
