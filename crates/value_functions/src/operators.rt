@@ -122,7 +122,8 @@ fn arithmetic(op: Op, x: Fixed, y: Fixed) -> Option<Fixed>
     }
 }
 
-/// The number that an operator makes of two numbers; none exactly where their value by `binary` is ERR.
+/// The number that an operator makes of two numbers; none exactly where their value by `binary` is ERR. A sum or a
+/// difference, of which there are most, takes no further call.
 #[tactic(auto, unfolding(crate::specs::Operators::binary_value))]
 pub fn binary_numbers(op: Op, x: Fixed, y: Fixed) -> Option<Fixed>
     ensures { binary_value op (value.Num x) (value.Num y) ≡ answer result }
@@ -134,9 +135,9 @@ pub fn binary_numbers(op: Op, x: Fixed, y: Fixed) -> Option<Fixed>
         Op::Gt => Some(one_if(order_of_numbers(x, y).is_gt())),
         Op::Le => Some(one_if(order_of_numbers(x, y).is_le())),
         Op::Ge => Some(one_if(order_of_numbers(x, y).is_ge())),
-        Op::Pow | Op::Mul | Op::Div | Op::Add | Op::Sub | Op::And | Op::Or | Op::Join => {
-            arithmetic(op, x, y)
-        }
+        Op::Add => x.add(y),
+        Op::Sub => x.sub(y),
+        Op::Pow | Op::Mul | Op::Div | Op::And | Op::Or | Op::Join => arithmetic(op, x, y),
     }
 }
 
