@@ -290,8 +290,24 @@ pub fn glance<K: Look>(
     Ok(filled_in(value))
 }
 
+// The value of a formula that may not be made of numbers alone. A call of its own, since it takes much of the stack.
+#[inline(never)]
+#[tactic(auto, unfolding(crate::specs::Mean::mean))]
+fn other_value<K: Look>(
+    formula: &Formula,
+    at: Cell,
+    look: &K,
+    scene: &Scene,
+) -> Result<Value, Memory>
+    ensures { IfOk result (λ v. v ≡ mean formula.now at (outlook_of (K.sight look.now) scene.entry.now)) }
+{
+    let value = value_of(formula.alloc(), &Recorded, formula.expr(), at, look, scene)?;
+    Ok(filled_in(value))
+}
+
 /// The value of a formula that stands in a cell, by what it looks at and what was kept of that. The tally rises by one,
-/// or stays at its last.
+/// or stays at its last. A formula of numbers alone is evaluated without the stack that others take.
+#[inline(always)]
 #[tactic(auto, unfolding(crate::specs::Mean::mean))]
 pub fn evaluate<K: Look>(
     formula: &Formula,
@@ -307,10 +323,8 @@ pub fn evaluate<K: Look>(
     ensures kept { IsKept kept.new (K.sight look.now).values }
 {
     tally.count = tally.count.saturating_add(1);
-    let expr = formula.expr();
-    let value = match number_of(expr, at, look, kept) {
-        Some(number) => Value::Num(number),
-        None => value_of(formula.alloc(), &Recorded, expr, at, look, scene)?,
-    };
-    Ok(filled_in(value))
+    match number_of(formula.expr(), at, look, kept) {
+        Some(number) => Ok(Value::Num(number)),
+        None => other_value(formula, at, look, scene),
+    }
 }

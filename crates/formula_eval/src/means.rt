@@ -55,6 +55,7 @@ impl Means for Tally {
 
     ghost reads_alone = { reads_alone };
 
+    #[inline(always)]
     fn evaluate<K: Look>(
         &mut self,
         formula: &Formula,

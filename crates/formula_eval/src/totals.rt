@@ -144,8 +144,13 @@ fn add_row<K: Look>(total: &mut Total, span: Span, row: u16, look: &K) -> bool
     true
 }
 
-// Whether so many rows hold far fewer numbers than cells.
+// Whether so many rows of a band hold far fewer numbers than cells. In a narrow range none do: all its cells of a band
+// may be blank.
+#[inline(always)]
 fn is_sparse(rows: u16, width: u16, count: usize) -> bool {
+    if usize::from(width) <= MOST_BLANK / usize::from(BAND) {
+        return false;
+    }
     let cells = usize::from(rows) * usize::from(width);
     cells.saturating_sub(MOST_BLANK) / 8 > count
 }
