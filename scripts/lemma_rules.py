@@ -9,8 +9,6 @@ UNMENDED = frozenset("""
     cell_maps depend_graph formula_eval formula_text natural_order recalculation range_index session_core
     sheet_edits sheet_run sheet_store sheet_undo wk1_file wk1_formula work_sheet
 """.split())
-# What no code calls any more, and goes when its crate is next changed, since all that stands on that is proved again.
-UNCALLED = {("range_names", "reset")}
 WORD = re.compile(r'[^\s(){},;."@«»]+')
 SIGNATURE = re.compile(r'^( *)((?:pub |abbrev |unfoldable |pattern )*)'
                        r'([^\s(){},;:.@"|=→≡×∙⊎]+)(?: \{[^}]*\})? :(?: |$)')
@@ -155,7 +153,7 @@ def check(texts, fault):
                 fault(f"{lemma.file}:{lemma.line + 1}: {lemma.name}: {what}")
     for file, number, name in unnamed_functions(texts):
         crate = file.split("/")[1]
-        if crate not in UNMENDED and (crate, name) not in UNCALLED:
+        if crate not in UNMENDED:
             fault(f"{file}:{number}: no code names {name}")
 
 

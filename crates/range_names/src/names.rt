@@ -78,13 +78,6 @@ impl Names {
         }
     }
 
-    /// Takes all names away.
-    pub fn reset(&mut self)
-        ensures { self.new ≡ namemap.empty }
-    {
-        self.map.clear();
-    }
-
     /// The span of a name, in letters of either case.
     pub fn find(&self, name: &[u8]) -> Option<Span>
         ensures short { length name.now ≤ 15 → result ≡ namemap.get self.now (key_of name.now) }

@@ -1,8 +1,0 @@
-use Rattle.std.proofs.Common.{ap, sym, subst}
-use Rattle.std.specs.FinMap.{from_entries}
-use Rattle.range_names.specs.Names.{name_cmp, AreKeys}
-use Rattle.range_names.proofs.Named.{none_keyed}
-use Rattle.range_names.proofs.names.Names.reset.Goals as goal
-
-pub invariant_of-self : goal.invariant_of-self
-invariant_of-self c = subst AreKeys (sym (ap (from_entries {R = name_cmp}) c.clear.ensures.empty)) none_keyed
