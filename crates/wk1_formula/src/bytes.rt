@@ -33,6 +33,7 @@ pub fn bytes_from(bytes: &[u8], at: usize) -> &[u8]
 }
 
 /// Adds bytes.
+#[inline(always)]
 pub fn put(bytes: &[u8], into: &mut Vec<u8>) -> Result<(), Memory>
     ensures { OnOk result (into.new.items ≡ into.old.items ++ bytes.now) }
 {
@@ -41,6 +42,7 @@ pub fn put(bytes: &[u8], into: &mut Vec<u8>) -> Result<(), Memory>
 }
 
 /// Adds a number of two bytes, low byte first.
+#[inline(always)]
 pub fn put_short(number: u16, into: &mut Vec<u8>) -> Result<(), Memory>
     ensures { OnOk result (into.new.items ≡ into.old.items ++ to_le_bytes w16 number) }
 {

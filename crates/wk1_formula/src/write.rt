@@ -94,12 +94,13 @@ fn coordinate(axis: Axis, own: u16, count: u16) -> u16
     }
 }
 
-// Adds a reference, the column first.
-fn put_reference(reference: Ref, at: Cell, into: &mut Vec<u8>) -> Result<(), Memory>
-    ensures { OnOk result (into.new.items ≡ into.old.items ++ reference_bytes reference at) }
+// The bytes of a reference, the column first.
+fn placed(reference: Ref, at: Cell) -> [u8; 4]
+    ensures { result ≡ reference_bytes reference at }
 {
-    put_short(coordinate(reference.col, u16::from(at.col), COLUMNS), into)?;
-    put_short(coordinate(reference.row, at.row, ROWS), into)
+    let [left, right] = coordinate(reference.col, u16::from(at.col), COLUMNS).to_le_bytes();
+    let [low, high] = coordinate(reference.row, at.row, ROWS).to_le_bytes();
+    [left, right, low, high]
 }
 
 // A function's code, and the count of its arguments where it is free.
@@ -118,17 +119,30 @@ fn put_function(function: Function, count: u8, into: &mut Vec<u8>) -> Result<(),
 fn put_cell(place: Ref, at: Cell, into: &mut Vec<u8>) -> Result<(), Memory>
     ensures { OnOk result (into.new.items ≡ into.old.items ++ bytes_of at (reference place)) }
 {
-    put_byte(opcodes::REFERENCE, into)?;
-    put_reference(place, at, into)
+    let [left, right, low, high] = placed(place, at);
+    put(&[opcodes::REFERENCE, left, right, low, high], into)
 }
 
 // Adds a range's code.
 fn put_span(first: Ref, last: Ref, at: Cell, into: &mut Vec<u8>) -> Result<(), Memory>
     ensures { OnOk result (into.new.items ≡ into.old.items ++ bytes_of at (range first last)) }
 {
-    put_byte(opcodes::RANGE, into)?;
-    put_reference(first, at, into)?;
-    put_reference(last, at, into)
+    let [left, right, low, high] = placed(first, at);
+    let [last_left, last_right, last_low, last_high] = placed(last, at);
+    put(
+        &[
+            opcodes::RANGE,
+            left,
+            right,
+            low,
+            high,
+            last_left,
+            last_right,
+            last_low,
+            last_high,
+        ],
+        into,
+    )
 }
 
 // The code of what stands over one operand.
