@@ -165,7 +165,7 @@ pub fn take(loading: &mut Loading, entry: Entry) -> Result<(), Memory>
             window(&mut loading.sheet, pointer, format, width)
         }
         Entry::Width(col, own) => width(&mut loading.sheet, col, own),
-        Entry::Hidden(bits) => hidden(&mut loading.sheet, &bits),
+        Entry::Hidden(bits) => hidden(&mut loading.sheet, bits.marks()),
         Entry::Name(bytes, span) => name(&mut loading.sheet, bytes.bytes(), span)?,
         Entry::State(cell, said) => state(&mut loading.sheet, cell, said)?,
         Entry::Formula(cell, said) => {

@@ -1,4 +1,5 @@
 // What a record says.
+use crate::ColumnMarks;
 use grid_address::{Cell, Format, Span};
 use lics_text::{ByteList, LabelPrefix, Text};
 use sheet_store::{CellState, Order};
@@ -15,7 +16,7 @@ pub enum Entry {
     /// A column and its own width.
     Width(u8, u8),
     /// Whether each column is hidden.
-    Hidden([bool; 256]),
+    Hidden(ColumnMarks),
     Name(ByteList<15>, Span),
     /// A cell that is no formula's, or a formula that stands for a number that is ERR or NA.
     State(Cell, CellState),

@@ -1,6 +1,7 @@
 //! The records of worksheet files: how they stand in bytes, and what each says of a sheet (worksheet file format).
 #![tactic(auto)]
 
+mod column_marks;
 mod entry;
 mod fault;
 mod kind;
@@ -13,6 +14,7 @@ mod read_codes;
 mod said;
 mod split;
 
+pub use column_marks::ColumnMarks;
 pub use entry::Entry;
 pub use fault::Wk1Fault;
 pub use kind::{RecordKind, kind_of};

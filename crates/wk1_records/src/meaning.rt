@@ -5,7 +5,7 @@ ghost use Rattle.wk1_records.specs.Answers.{Gives};
 ghost use Rattle.wk1_records.specs.Kinds.{has_head, least_length};
 ghost use Rattle.wk1_records.specs.Meanings.{cell_of, is_inside, meaning_by, said};
 
-use crate::name_said::{bits_in, name_in};
+use crate::name_said::{hidden_in, name_in};
 use crate::order::order_of;
 use crate::said::{
     blank_in, cell_at, column_width, formula_in, integer_in, label_in, number_in, prefix_of,
@@ -62,7 +62,7 @@ fn is_long(kind: RecordKind, body: &[u8]) -> bool
 }
 
 // What a record without a head says.
-fn plain(number: u32, kind: RecordKind, body: &[u8]) -> Result<Entry, Wk1Fault>
+fn plain(alloc: Global, number: u32, kind: RecordKind, body: &[u8]) -> Result<Entry, Wk1Fault>
     requires long { nat_lt (length body.now) (least_length kind body.now) ≡ false }
     requires plain { has_head kind ≡ false }
     ensures { Gives result (said number body.now kind) }
@@ -76,7 +76,7 @@ fn plain(number: u32, kind: RecordKind, body: &[u8]) -> Result<Entry, Wk1Fault>
         RecordKind::Protection => Ok(Entry::Protection(body[0] != 0)),
         RecordKind::LabelFormat => Ok(Entry::Prefix(prefix_of(body[0]))),
         RecordKind::CalcCount => Ok(Entry::Passes(body[0].max(1).min(50))),
-        RecordKind::HiddenColumns => Ok(Entry::Hidden(bits_in(body))),
+        RecordKind::HiddenColumns => hidden_in(alloc, body),
         _ => Ok(Entry::Nothing),
     }
 }
@@ -121,7 +121,7 @@ pub fn entry_of(
         return Err(Wk1Fault::BadLength(number));
     }
     if !has_head(kind) {
-        return plain(number, kind, body);
+        return plain(alloc, number, kind, body);
     }
     match cell_at(body, 1) {
         Some(cell) => headed(alloc, codes, number, kind, body, cell),

@@ -1,15 +1,17 @@
 // What the record of a name says, and that of hidden columns.
-ghost use Rattle.std.specs.Prelude.{◌≡◌, ◌≤◌, ◌<◌, None, length, take};
+ghost use Rattle.std.specs.Prelude.{◌≡◌, ◌≤◌, ◌<◌, None, Ok, length, take};
 ghost use Rattle.range_names.specs.Names.{fault_of};
 ghost use Rattle.wk1_formula.specs.Reading.{before_zero};
 ghost use Rattle.wk1_records.specs.Answers.{Gives};
 ghost use Rattle.wk1_records.specs.Meanings.{bit_at, bits_in, if_name, name_entry};
+ghost use Rattle.wk1_records.specs.declared.entry.Entry.TheVariants as entry;
 
 use crate::said::span_at;
-use crate::{Entry, Wk1Fault};
+use crate::{ColumnMarks, Entry, Wk1Fault};
 use grid_address::COLUMNS;
-use lics_text::ByteList;
+use lics_text::{ByteList, Memory};
 use range_names::fault_of;
+use std::alloc::Global;
 use wk1_formula::before_zero;
 
 // The bytes of the name.
@@ -74,12 +76,23 @@ fn put_bits(body: &[u8], bits: &mut [bool; 256])
     }
 }
 
-/// Which columns are hidden: each bit of 32 bytes is a column, the lowest first.
-pub fn bits_in(body: &[u8]) -> [bool; 256]
+// Which columns are hidden: each bit of 32 bytes is a column, the lowest first.
+fn bits_in(body: &[u8]) -> [bool; 256]
     requires { 32 ≤ length body.now }
     ensures { result ≡ bits_in body.now }
 {
     let mut bits = [false; 256];
     put_bits(body, &mut bits);
     bits
+}
+
+/// What the record of the hidden columns says.
+pub fn hidden_in(alloc: Global, body: &[u8]) -> Result<Entry, Wk1Fault>
+    requires { 32 ≤ length body.now }
+    ensures { Gives result (Ok (entry.Hidden (bits_in body.now))) }
+{
+    match ColumnMarks::of(alloc, bits_in(body)) {
+        Ok(marks) => Ok(Entry::Hidden(marks)),
+        Err(Memory) => Err(Wk1Fault::Memory),
+    }
 }
