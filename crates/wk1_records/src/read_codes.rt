@@ -76,6 +76,8 @@ fn place_of(code: &[u8]) -> usize {
 pub struct ReadCodes {
     alloc: Global,
     places: Vec<Option<Box<ReadCode>>>,
+    // Where the code is that was kept last: it is looked at before a hash is made.
+    last: usize,
 }
 
 impl ReadCodes {
@@ -84,6 +86,17 @@ impl ReadCodes {
         ReadCodes {
             alloc,
             places: Vec::new(alloc),
+            last: 0,
+        }
+    }
+
+    // The formula of a code, if it is kept in this place.
+    fn kept_at(&self, place: usize, code: &[u8]) -> Option<&Formula>
+        ensures { IfSome result (λ f. tree_in code.now ≡ Ok f.now) }
+    {
+        match self.places.get(place) {
+            Some(Some(read)) => read.formula_of(code),
+            Some(None) | None => None,
         }
     }
 
@@ -91,9 +104,9 @@ impl ReadCodes {
     fn kept(&self, code: &[u8]) -> Option<&Formula>
         ensures { IfSome result (λ f. tree_in code.now ≡ Ok f.now) }
     {
-        match self.places.get(place_of(code)) {
-            Some(Some(read)) => read.formula_of(code),
-            Some(None) | None => None,
+        match self.kept_at(self.last, code) {
+            Some(formula) => Some(formula),
+            None => self.kept_at(place_of(code), code),
         }
     }
 
@@ -112,7 +125,9 @@ impl ReadCodes {
         self.make_places()?;
         let read = ReadCode::of(self.alloc, code, formula)?;
         let read = Box::new(self.alloc, read)?;
-        if let Some(place) = self.places.get_mut(place_of(code)) {
+        let at = place_of(code);
+        self.last = at;
+        if let Some(place) = self.places.get_mut(at) {
             drop(replace(place, Some(read)));
         }
         Ok(())
