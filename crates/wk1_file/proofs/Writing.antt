@@ -1,5 +1,6 @@
 -- What is written one by one.
-use Rattle.std.proofs.Common.{◌≡◌, ℕ, List, [], ◌∷◌, ◌++◌, map, refl, ap, ◌∙◌, sym, subst, append_assoc}
+use Rattle.std.proofs.Common.{◌≡◌, ℕ, List, [], ◌∷◌, ◌++◌, length, map, refl, ap, ◌∙◌, sym, subst, append_assoc}
+use Rattle.std.specs.Int.{to_le_bytes, w16}
 use Rattle.std.specs.Prelude.{flat_map}
 use Rattle.std.specs.List.{AllByRecursion}
 use Rattle.std.proofs.lemmas.List.{append-nil}
@@ -80,3 +81,18 @@ five f w h n k =
     sym (bytes_both f (w ++ (h ++ (n ++ k)))
     ∙ ap (λ l. pieces_bytes f ++ l) (bytes_both w (h ++ (n ++ k))
     ∙ ap (λ l. pieces_bytes w ++ l) (bytes_both h (n ++ k) ∙ ap (λ l. pieces_bytes h ++ l) (bytes_both n k))))
+
+-- the bytes of a record are its type, its length and what it begins with, and the rest behind them
+pub record_joined : (old new start rest : List ℕ) (kind size : ℕ)
+    → new ≡ old ++ (to_le_bytes w16 kind ++ (to_le_bytes w16 size ++ start)) → size ≡ length (start ++ rest)
+    → new ++ rest ≡ old ++ piece_bytes (record { kind = kind; body = start ++ rest })
+record_joined old new start rest kind size is long =
+    let k = to_le_bytes w16 kind in
+    let s = to_le_bytes w16 size in
+    ap (λ l. l ++ rest) is ∙ append_assoc old (k ++ (s ++ start)) rest
+    ∙ ap (λ l. old ++ l) (append_assoc k (s ++ start) rest ∙ ap (λ l. k ++ l) (append_assoc s start rest))
+    ∙ ap (λ n. old ++ (k ++ (to_le_bytes w16 n ++ (start ++ rest)))) long
+
+-- three parts behind another are one
+pub behind : (a b c d : List ℕ) → ((a ++ b) ++ c) ++ d ≡ a ++ (b ++ (c ++ d))
+behind a b c d = append_assoc (a ++ b) c d ∙ append_assoc a b (c ++ d)

@@ -22,27 +22,13 @@ use lics_text::{LabelPrefix, Memory, Text};
 use sheet_store::{CellState, Store};
 use std::alloc::Global;
 use wk1_formula::{ERR_BITS, NA_BITS, double_bits, put, put_short, write_code};
-use wk1_records::{RecordKind, put_head, put_piece};
-
-// The body of a record begins with the head of its cell.
-fn begin(cell: Cell, state: &CellState, body: &mut Vec<u8>) -> Result<(), Memory>
-    ensures { OnOk result (body.new.items ≡ head cell state.now) }
-{
-    body.clear();
-    put_head(cell, state, body)
-}
+use wk1_records::{RecordKind, begin_record};
 
 /// Adds the record of a blank cell.
-pub fn put_blank(
-    cell: Cell,
-    state: &CellState,
-    body: &mut Vec<u8>,
-    into: &mut Vec<u8>,
-) -> Result<(), Memory>
+pub fn put_blank(cell: Cell, state: &CellState, into: &mut Vec<u8>) -> Result<(), Memory>
     ensures { OnOk result (into.new.items ≡ into.old.items ++ piece_bytes (made kind.Blank (head cell state.now))) }
 {
-    begin(cell, state, body)?;
-    put_piece(RecordKind::Blank, body.as_slice(), into)
+    begin_record(RecordKind::Blank, 5, cell, state, into)
 }
 
 /// Adds the record of a label.
@@ -51,17 +37,16 @@ pub fn put_label(
     state: &CellState,
     prefix: LabelPrefix,
     text: &Text,
-    body: &mut Vec<u8>,
     into: &mut Vec<u8>,
 ) -> Result<(), Memory>
     ensures { OnOk result (into.new.items ≡ into.old.items
         ++ piece_bytes (made kind.Label (head cell state.now ++ prefix_byte prefix ∷ (text.now ++ 0 ∷ [])))) }
 {
-    begin(cell, state, body)?;
-    put(&[prefix.byte()], body)?;
-    put(text.bytes(), body)?;
-    put(&[0], body)?;
-    put_piece(RecordKind::Label, body.as_slice(), into)
+    let size = text.bytes().len() as u16;
+    begin_record(RecordKind::Label, 7 + size, cell, state, into)?;
+    put(&[prefix.byte()], into)?;
+    put(text.bytes(), into)?;
+    put(&[0], into)
 }
 
 /// Adds the record of a text that is a formula's value.
@@ -69,16 +54,15 @@ pub fn put_text(
     cell: Cell,
     state: &CellState,
     text: &Text,
-    body: &mut Vec<u8>,
     into: &mut Vec<u8>,
 ) -> Result<(), Memory>
     ensures { OnOk result (into.new.items
         ≡ into.old.items ++ piece_bytes (made kind.Str (head cell state.now ++ (text.now ++ 0 ∷ [])))) }
 {
-    begin(cell, state, body)?;
-    put(text.bytes(), body)?;
-    put(&[0], body)?;
-    put_piece(RecordKind::Str, body.as_slice(), into)
+    let size = text.bytes().len() as u16;
+    begin_record(RecordKind::Str, 6 + size, cell, state, into)?;
+    put(text.bytes(), into)?;
+    put(&[0], into)
 }
 
 // The bits of a value that is a text, which stands in a record of its own (as 1-2-3 saves it).
@@ -97,6 +81,17 @@ fn value_bits(state: &CellState) -> u64
     }
 }
 
+// Adds what stands behind the place of a formula: its value, the length of its code, and the code.
+fn put_computed(state: &CellState, code: &[u8], into: &mut Vec<u8>) -> Result<(), Memory>
+    requires { length code.now < 65536 }
+    ensures { OnOk result (into.new.items ≡ into.old.items
+        ++ (to_le_bytes w64 (value_bits state.now.value) ++ (to_le_bytes w16 (length code.now) ++ code.now))) }
+{
+    put(&value_bits(state).to_le_bytes(), into)?;
+    put_short(code.len() as u16, into)?;
+    put(code, into)
+}
+
 // A formula's code alone.
 fn code_alone(formula: &Formula, cell: Cell, code: &mut Vec<u8>) -> Result<(), Memory>
     ensures code { OnOk result (code.new.items ≡ code_of formula.now cell) }
@@ -113,18 +108,16 @@ pub fn put_formula(
     state: &CellState,
     formula: &Formula,
     code: &mut Vec<u8>,
-    body: &mut Vec<u8>,
     into: &mut Vec<u8>,
 ) -> Result<(), Memory>
     ensures { OnOk result (into.new.items
         ≡ into.old.items ++ piece_bytes (formula_piece cell state.now (code_of formula.now cell))) }
 {
     code_alone(formula, cell, code)?;
-    begin(cell, state, body)?;
-    put(&value_bits(state).to_le_bytes(), body)?;
-    put_short(code.len() as u16, body)?;
-    put(code.as_slice(), body)?;
-    put_piece(RecordKind::Formula, body.as_slice(), into)
+    let bytes = code.as_slice();
+    let size = bytes.len() as u16;
+    begin_record(RecordKind::Formula, 15 + size, cell, state, into)?;
+    put_computed(state, bytes, into)
 }
 
 // A whole number of -32768 to 32767.
@@ -155,16 +148,14 @@ fn put_integer(
     cell: Cell,
     state: &CellState,
     number: Fixed,
-    body: &mut Vec<u8>,
     into: &mut Vec<u8>,
 ) -> Result<(), Memory>
     requires { is_integer number ≡ true }
     ensures { OnOk result (into.new.items
         ≡ into.old.items ++ piece_bytes (made kind.Integer (head cell state.now ++ integer_bytes number))) }
 {
-    begin(cell, state, body)?;
-    put_short(whole_of(number), body)?;
-    put_piece(RecordKind::Integer, body.as_slice(), into)
+    begin_record(RecordKind::Integer, 7, cell, state, into)?;
+    put_short(whole_of(number), into)
 }
 
 // Adds the record of a number as a double.
@@ -172,15 +163,13 @@ fn put_double(
     cell: Cell,
     state: &CellState,
     number: Fixed,
-    body: &mut Vec<u8>,
     into: &mut Vec<u8>,
 ) -> Result<(), Memory>
     ensures { OnOk result (into.new.items
         ≡ into.old.items ++ piece_bytes (made kind.Number (head cell state.now ++ to_le_bytes w64 (bits_of number)))) }
 {
-    begin(cell, state, body)?;
-    put(&double_bits(number).to_le_bytes(), body)?;
-    put_piece(RecordKind::Number, body.as_slice(), into)
+    begin_record(RecordKind::Number, 13, cell, state, into)?;
+    put(&double_bits(number).to_le_bytes(), into)
 }
 
 /// Adds the record of a number: INTEGER where two bytes hold it.
@@ -188,30 +177,24 @@ pub fn put_number(
     cell: Cell,
     state: &CellState,
     number: Fixed,
-    body: &mut Vec<u8>,
     into: &mut Vec<u8>,
 ) -> Result<(), Memory>
     ensures { OnOk result (into.new.items ≡ into.old.items ++ piece_bytes (number_piece cell state.now number)) }
 {
     if is_integer(number) {
-        put_integer(cell, state, number, body, into)
+        put_integer(cell, state, number, into)
     } else {
-        put_double(cell, state, number, body, into)
+        put_double(cell, state, number, into)
     }
 }
 
 // Adds the text that is a formula's value, where it is one.
-fn put_value(
-    cell: Cell,
-    state: &CellState,
-    body: &mut Vec<u8>,
-    into: &mut Vec<u8>,
-) -> Result<(), Memory>
+fn put_value(cell: Cell, state: &CellState, into: &mut Vec<u8>) -> Result<(), Memory>
     ensures { OnOk result (into.new.items
         ≡ into.old.items ++ pieces_bytes (text_pieces cell state.now state.now.value)) }
 {
     match state.value() {
-        ValueRef::Str(text) => put_text(cell, state, text, body, into),
+        ValueRef::Str(text) => put_text(cell, state, text, into),
         ValueRef::Blank | ValueRef::Num(_) | ValueRef::Err | ValueRef::Na => Ok(()),
     }
 }
@@ -222,15 +205,14 @@ fn put_formula_value(
     state: &CellState,
     formula: &Formula,
     code: &mut Vec<u8>,
-    body: &mut Vec<u8>,
     into: &mut Vec<u8>,
 ) -> Result<(), Memory>
     ensures { OnOk result (into.new.items ≡ into.old.items
         ++ pieces_bytes (formula_piece cell state.now (code_of formula.now cell)
         ∷ text_pieces cell state.now state.now.value)) }
 {
-    put_formula(cell, state, formula, code, body, into)?;
-    put_value(cell, state, body, into)
+    put_formula(cell, state, formula, code, into)?;
+    put_value(cell, state, into)
 }
 
 /// Adds the records of a cell.
@@ -238,17 +220,16 @@ pub fn put_cell(
     cell: Cell,
     state: &CellState,
     code: &mut Vec<u8>,
-    body: &mut Vec<u8>,
     into: &mut Vec<u8>,
 ) -> Result<(), Memory>
     ensures { OnOk result (into.new.items
         ≡ into.old.items ++ pieces_bytes (content_pieces cell state.now state.now.content)) }
 {
     match state.content() {
-        ContentRef::Blank => put_blank(cell, state, body, into),
-        ContentRef::Number(number) => put_number(cell, state, number, body, into),
-        ContentRef::Label(prefix, text) => put_label(cell, state, prefix, text, body, into),
-        ContentRef::Formula(formula) => put_formula_value(cell, state, formula, code, body, into),
+        ContentRef::Blank => put_blank(cell, state, into),
+        ContentRef::Number(number) => put_number(cell, state, number, into),
+        ContentRef::Label(prefix, text) => put_label(cell, state, prefix, text, into),
+        ContentRef::Formula(formula) => put_formula_value(cell, state, formula, code, into),
     }
 }
 
@@ -293,12 +274,7 @@ fn is_value(state: &CellState)
 }
 
 /// Adds the records of the cells, in row order.
-pub fn put_cells(
-    alloc: Global,
-    store: &Store,
-    body: &mut Vec<u8>,
-    into: &mut Vec<u8>,
-) -> Result<(), Memory>
+pub fn put_cells(alloc: Global, store: &Store, into: &mut Vec<u8>) -> Result<(), Memory>
     ensures bytes { OnOk result (into.new.items
         ≡ into.old.items ++ pieces_bytes (flat_map cell_pieces (finite.entries store.now.cells))) }
     ensures ranged { OnOk result (AllByRecursion (λ e. IsContent e.1.content × IsValue e.1.value)
@@ -309,7 +285,7 @@ pub fn put_cells(
     while let Some(entry) = entries.next() {
         is_content(entry.1);
         is_value(entry.1);
-        put_cell(entry.0, entry.1, &mut code, body, into)?;
+        put_cell(entry.0, entry.1, &mut code, into)?;
     }
     Ok(())
 }

@@ -49,7 +49,7 @@ fn put_records(
     put_widths(&sheet.store, into)?;
     put_hidden(&sheet.store, body, into)?;
     put_names(&sheet.names, body, into)?;
-    put_cells(alloc, &sheet.store, body, into)?;
+    put_cells(alloc, &sheet.store, into)?;
     Ok(())
 }
 

@@ -59,10 +59,39 @@ pub fn put_place(place: Cell, into: &mut Vec<u8>) -> Result<(), Memory>
     put_short(place.row, into)
 }
 
-/// Adds a head: the format byte and the place.
-pub fn put_head(cell: Cell, state: &CellState, into: &mut Vec<u8>) -> Result<(), Memory>
-    ensures { OnOk result (into.new.items ≡ into.old.items ++ head cell state.now) }
+// What the record of a cell begins with: its type, the length of its body, the format byte and the place.
+fn beginning(kind: RecordKind, size: u16, cell: Cell, state: &CellState) -> [u8; 9]
+    ensures { result ≡ to_le_bytes w16 (number_of kind) ++ (to_le_bytes w16 size ++ head cell state.now) }
 {
-    into.push(state.format().0)?;
-    put_place(cell, into)
+    let [kind_low, kind_high] = number_of(kind).to_le_bytes();
+    let [size_low, size_high] = size.to_le_bytes();
+    let [col_low, col_high] = u16::from(cell.col).to_le_bytes();
+    let [row_low, row_high] = cell.row.to_le_bytes();
+    [
+        kind_low,
+        kind_high,
+        size_low,
+        size_high,
+        state.format().0,
+        col_low,
+        col_high,
+        row_low,
+        row_high,
+    ]
+}
+
+/// Begins the record of a cell, whose body takes so many bytes: adds its type, the length of its body, the format byte
+/// and the place.
+#[inline(always)]
+pub fn begin_record(
+    kind: RecordKind,
+    size: u16,
+    cell: Cell,
+    state: &CellState,
+    into: &mut Vec<u8>,
+) -> Result<(), Memory>
+    ensures { OnOk result (into.new.items
+        ≡ into.old.items ++ (to_le_bytes w16 (number_of kind) ++ (to_le_bytes w16 size ++ head cell state.now))) }
+{
+    put(&beginning(kind, size, cell, state), into)
 }
