@@ -169,6 +169,10 @@ content_pieces p s (content.Formula f) = formula_piece p s (code_of f p) ∷ tex
 abbrev pub cell_pieces : Place × CellState → List Piece
 cell_pieces e = content_pieces e.0 e.1 e.1.content
 
+-- a sheet of these cells, names and settings
+abbrev pub of_parts : Grid → NameMap → Choices → SavedSheet
+of_parts store names settings = record { store = store; names = names; settings = settings }
+
 -- the records of a sheet before the EOF, in the one order
 abbrev pub records_before : SavedSheet → List Piece
 records_before s =

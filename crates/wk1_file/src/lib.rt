@@ -14,5 +14,5 @@ pub use laws::{
     names_are_read, records_are_split, settings_are_read, widths_are_read, written_is_read,
 };
 pub use load::read;
-pub use save::write;
+pub use save::{write, write_parts};
 pub use wk1_records::Wk1Fault;

@@ -3,14 +3,14 @@ use Rattle.std.specs.FinMap as finite
 use Rattle.std.specs.Prelude.{flat_map}
 use Rattle.wk1_records.specs.Records.{pieces_bytes, Piece}
 use Rattle.wk1_file.specs.Saved.{bof, cell_pieces, hidden_pieces, names_pieces, range_end, range_piece, settings_pieces}
-use Rattle.wk1_file.specs.Saved.{width_pieces}
+use Rattle.wk1_file.specs.Saved.{of_parts, width_pieces}
 use Rattle.wk1_file.proofs.Kept.{all_cells, all_names}
 use Rattle.wk1_file.proofs.Writing.{five, joined}
 use Rattle.wk1_file.proofs.save.put_records.Goals as goal
 
 pub returns-clause-bytes : goal.returns-clause-bytes
 returns-clause-bytes c =
-    let s = c.args.sheet.now in
+    let s = of_parts c.args.store.now c.args.names.now c.args.settings in
     let f : List Piece = bof ∷ range_piece (range_end s.store) ∷ settings_pieces s.settings in
     let w = width_pieces s.store in
     let h = hidden_pieces s.store.hidden in
@@ -27,6 +27,6 @@ returns-clause-saved c = record {
   settings = c.are_settings.ensures;
   widths = record { all = c.are_columns.ensures.widths; most = c.in_ok-put_widths.ensures.most };
   hidden = c.are_columns.ensures.hidden;
-  names = all_names c.args.sheet.now.names c.are_keyed.ensures c.in_ok-put_names.ensures.spans;
-  cells = all_cells c.args.sheet.now.store.cells c.are_held.ensures c.in_ok-put_cells.ensures.ranged;
+  names = all_names c.args.names.now c.are_keyed.ensures c.in_ok-put_names.ensures.spans;
+  cells = all_cells c.args.store.now.cells c.are_held.ensures c.in_ok-put_cells.ensures.ranged;
 }
