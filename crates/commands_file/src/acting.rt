@@ -11,7 +11,7 @@ ghost use Rattle.wk1_file.specs.Saved.{file_bytes};
 ghost use Rattle.work_sheet.specs.Did.{Did};
 ghost use Rattle.work_sheet.specs.Seen.{of_worksheet};
 
-use crate::calling::{Placed, end_of_placing, put_sheet, remove};
+use crate::calling::{Placed, end_of_placing, place, put_sheet, remove, sheet_bytes};
 use crate::combining::{Combining, combine, pointer_of};
 use crate::extracting::{Extracting, extracted};
 use crate::loading::{Loaded, load};
@@ -105,8 +105,8 @@ fn save<S: Shelf>(name: FileName, desk: &mut Desk, shelf: &mut S) -> Result<Comm
         (saved_as name (of_desk desk.old)) (of_desk desk.old))
         (shelf_view (S.holds shelf.old) (S.faults shelf.old)) (shelf_view (S.holds shelf.new) (S.faults shelf.new))) }
 {
-    let saved = desk.sheet.snapshot()?;
-    let placed = put_sheet(&name, &saved, shelf)?;
+    let bytes = sheet_bytes(&desk.sheet)?;
+    let placed = place(&name, &bytes, shelf)?;
     match placed {
         Placed::Written => {
             desk.file_name = Some(name);

@@ -2,17 +2,19 @@
 ghost use Rattle.std.specs.Prelude.{◌≡◌, IfOk, OnErr};
 ghost use Rattle.commands_file.specs.Calls.{puts, removes, shelf_view, IsUnfinished};
 ghost use Rattle.commands_file.specs.Calls as reply;
-ghost use Rattle.commands_file.specs.Commands.{is_readable};
+ghost use Rattle.commands_file.specs.Commands.{is_readable, sheet_bytes};
 ghost use Rattle.commands_file.specs.Steps.{end_of_put, is_written, HasCalled};
 ghost use Rattle.commands_file.specs.inner.Placing.{end_of_placing, end_of_remove, IsPlaced, IsUnplaced};
 ghost use Rattle.wk1_file.specs.Saved.{file_bytes};
+ghost use Rattle.work_sheet.specs.Seen.{of_worksheet};
 
 use command_desk::CommandEnd;
 use desk_errors::CommandError;
 use outside_world::{ByteBuffer, FileName, Memory, Shelf, ShelfFault};
 use sheet_store::SavedSheet;
 use std::alloc::Global;
-use wk1_file::write;
+use wk1_file::{write, write_parts};
+use work_sheet::Worksheet;
 
 // The most bytes of a worksheet's file that is read.
 const MOST_BYTES: usize = 67_108_864;
@@ -23,6 +25,19 @@ fn bytes_of(alloc: Global, saved: &SavedSheet) -> Result<ByteBuffer, Memory>
 {
     let bytes = write(alloc, saved)?;
     ByteBuffer::from_slice(alloc, bytes.as_slice())
+}
+
+/// The bytes of the file of a sheet as it is.
+pub(crate) fn sheet_bytes(sheet: &Worksheet) -> Result<ByteBuffer, Memory>
+    ensures { IfOk result (λ bytes. bytes ≡ sheet_bytes (of_worksheet sheet.now)) }
+{
+    let bytes = write_parts(
+        sheet.alloc(),
+        sheet.cells(),
+        sheet.names(),
+        *sheet.settings(),
+    )?;
+    ByteBuffer::from_slice(sheet.alloc(), bytes.as_slice())
 }
 
 /// Bytes are written as a file, in the place of one of that name; false tells that the call failed, and the shelf's
@@ -62,8 +77,12 @@ fn is_readable(bytes: &ByteBuffer) -> bool
     bytes.len() <= MOST_BYTES
 }
 
-// The bytes of a worksheet's file are put, where they would be read again.
-fn place<S: Shelf>(name: &FileName, bytes: &ByteBuffer, shelf: &mut S) -> Result<Placed, Memory>
+/// The bytes of a worksheet's file are put, where they would be read again.
+pub(crate) fn place<S: Shelf>(
+    name: &FileName,
+    bytes: &ByteBuffer,
+    shelf: &mut S,
+) -> Result<Placed, Memory>
     ensures placed { IfOk result (λ placed. IsPlaced name.now bytes.now placed
         (shelf_view (S.holds shelf.old) (S.faults shelf.old)) (shelf_view (S.holds shelf.new) (S.faults shelf.new))) }
     ensures memory { OnErr result (IsUnplaced name.now bytes.now
