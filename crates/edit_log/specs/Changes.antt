@@ -4,13 +4,8 @@ use Rattle.std.specs.FinMap.{insert, remove}
 use Rattle.std.specs.List.{IsDistinct}
 use Rattle.cell_maps.specs.Sets.{has}
 use Rattle.grid_address.specs.Place.{same_place, Place}
-use Rattle.sheet_store.specs.Grid.{Cells, Grid, IsHeld}
+use Rattle.sheet_store.specs.Grid.{Cells, Grid}
 use Rattle.sheet_store.specs.State.{CellState}
-
--- a state that a cell of a store may have, or none
-abbrev pub MayHave : Place → Option CellState → Type 0
-MayHave c None = Unit {0}
-MayHave c (Some s) = IsHeld c s
 
 -- a cell has this state, or none
 abbrev pub changed_at : Cells → Place → Option CellState → Cells

@@ -22,7 +22,7 @@ impl Model for Change {
     ghost use Rattle.std.specs.Prelude.{Option};
     ghost use Rattle.grid_address.specs.Place.{Place};
     ghost use Rattle.sheet_store.specs.State.{CellState};
-    ghost use Rattle.edit_log.specs.Changes.{MayHave};
+    ghost use Rattle.edit_log.specs.inner.States.{MayHave};
 
     ghost Value = { Place × Option CellState };
 

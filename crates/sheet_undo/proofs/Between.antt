@@ -10,7 +10,7 @@ use Rattle.sheet_shifts.proofs.Maps.{each, entries_apart, some_is_none}
 use Rattle.sheet_store.specs.Grid.{Cells}
 use Rattle.sheet_store.specs.State.{CellState}
 use Rattle.edit_log.specs.Changes.{all_changed, changed_at}
-use Rattle.sheet_undo.specs.Changes.{AreTaken}
+use Rattle.sheet_undo.specs.inner.Changes.{AreTaken}
 
 -- the last change is made last
 pub all_and : (m : Cells) (es : List (Place × Option CellState)) (e : Place × Option CellState) → all_changed m (es ++ e ∷ []) ≡ changed_at (all_changed m es) e.0 e.1

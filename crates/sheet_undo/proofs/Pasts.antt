@@ -12,7 +12,7 @@ use Rattle.sheet_store.specs.Grid.{Grid}
 use Rattle.sheet_store.specs.State.{CellState}
 use Rattle.sheet_undo.proofs.States.{earlier_same, latest_added}
 use Rattle.sheet_undo.specs.Histories.{ended, no_history, with_kept, History, Sheet}
-use Rattle.sheet_undo.specs.Keeping.{base, before, begun_if, columns_or, earlier, grid_before, history_of, names_or, sheet_with, with_nothing, Before, IsSameBut, Past}
+use Rattle.sheet_undo.specs.inner.Keeping.{base, before, begun_if, columns_or, earlier, grid_before, history_of, names_or, sheet_with, with_nothing, Before, IsSameBut, Past}
 
 -- a history is told by the base, the kept differences and whether a command is begun
 pub told_alike : (p q : Past) (g h : Grid) (m n : NameMap) → q.kept ≡ p.kept → q.is_begun ≡ p.is_begun → base q h n ≡ base p g m → history_of q h n ≡ history_of p g m

@@ -3,7 +3,7 @@ use Rattle.std.specs.Prelude.{◌≡◌, ℕ, zero, suc, refl, length, set, take
 use Rattle.std.specs.List.{insert}
 use Rattle.std.proofs.Common.{ap, ◌∙◌}
 use Rattle.sheet_undo.specs.Histories.{with_kept, Sheet}
-use Rattle.sheet_undo.specs.Keeping.{before, columns_or, earlier, names_or, Before}
+use Rattle.sheet_undo.specs.inner.Keeping.{before, columns_or, earlier, names_or, Before}
 use Rattle.edit_log.specs.Changes.{with_changes}
 
 -- the states before a sheet hang on its cells, columns and names alone

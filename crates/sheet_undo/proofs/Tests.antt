@@ -17,7 +17,7 @@ use Rattle.lics_text.specs.declared.prefix.LabelPrefix.{LabelPrefix}
 use Rattle.lics_text.specs.declared.prefix.LabelPrefix.TheVariants.{Left, Right, Center, Repeat, Unprinted}
 use Rattle.sheet_store.specs.State.{CellState}
 use Rattle.formula_tree.specs.Values.{same_value}
-use Rattle.sheet_undo.specs.Same.{entry, named, same_content, same_entry, same_name, same_state, IsWritten}
+use Rattle.sheet_undo.specs.inner.Same.{entry, named, same_content, same_entry, same_name, same_state, IsWritten}
 use Rattle.wk1_formula.proofs.Again.{code_read}
 use Rattle.wk1_formula.specs.Stack.{tree_in}
 use Rattle.wk1_formula.specs.Written.{code_of}

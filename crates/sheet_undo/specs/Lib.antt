@@ -1,4 +1,2 @@
-pub mod Changes
 pub mod Histories
-pub mod Keeping
-pub mod Same
+pub mod inner

@@ -4,7 +4,7 @@ ghost use Rattle.std.specs.Prelude.{◌≡◌, IfOk};
 ghost use Rattle.std.specs.FinMap as map;
 ghost use Rattle.edit_log.specs.Changes.{all_changed, AreOnce};
 ghost use Rattle.sheet_undo.specs.Histories.{but_pointer};
-ghost use Rattle.sheet_undo.specs.Keeping.{columns_or, names_or};
+ghost use Rattle.sheet_undo.specs.inner.Keeping.{columns_or, names_or};
 
 use crate::cells::are_same_cells;
 use crate::changes::{has_state, is_absent};

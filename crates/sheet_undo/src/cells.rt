@@ -4,7 +4,7 @@ ghost use Rattle.std.specs.Prelude.{◌≡◌, ◌&&◌, [], bytes_eq, nat_eq, I
 ghost use Rattle.lics_text.specs.Prefixes.{prefix_byte};
 ghost use Rattle.grid_address.specs.Place.{same_place};
 ghost use Rattle.formula_tree.specs.Values.{same_value};
-ghost use Rattle.sheet_undo.specs.Same.{entry, same_content, same_entry, same_state, IsWritten};
+ghost use Rattle.sheet_undo.specs.inner.Same.{entry, same_content, same_entry, same_state, IsWritten};
 ghost use Rattle.wk1_formula.specs.Written.{code_of};
 
 use formula_tree::{ContentRef, Formula, ValueRef};

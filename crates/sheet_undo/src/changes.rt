@@ -3,8 +3,8 @@ ghost use Rattle.std.specs.Bool.{Decides};
 ghost use Rattle.std.specs.Prelude.{◌≡◌, None, Some, IfOk, OnErr, OnOk};
 ghost use Rattle.std.specs.FinMap as map;
 ghost use Rattle.edit_log.specs.Changes.{all_changed, with_changes};
-ghost use Rattle.sheet_undo.specs.Changes.{AreTaken};
-ghost use Rattle.sheet_undo.specs.Keeping.{columns_or};
+ghost use Rattle.sheet_undo.specs.inner.Changes.{AreTaken};
+ghost use Rattle.sheet_undo.specs.inner.Keeping.{columns_or};
 
 use crate::cells::is_same_entry;
 use crate::columns::put_own_columns;

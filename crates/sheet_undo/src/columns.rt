@@ -2,8 +2,8 @@
 ghost use Rattle.std.specs.Bool.{Decides};
 ghost use Rattle.std.specs.Prelude.{◌≡◌, get_or, set, false};
 ghost use Rattle.std.specs.FinMap as map;
-ghost use Rattle.sheet_undo.specs.Keeping.{columns_or};
-ghost use Rattle.sheet_undo.specs.Same.{IsSameColumn, SameColumns};
+ghost use Rattle.sheet_undo.specs.inner.Keeping.{columns_or};
+ghost use Rattle.sheet_undo.specs.inner.Same.{IsSameColumn, SameColumns};
 
 use sheet_store::Store;
 

@@ -1,7 +1,7 @@
 // What a state has otherwise than another one.
 ghost use Rattle.std.specs.Prelude.{◌≡◌, [], Bool, IfOk, None, Some, false};
 ghost use Rattle.edit_log.specs.Changes.{with_changes};
-ghost use Rattle.sheet_undo.specs.Keeping.{before, columns_or, names_or, sheet_of, sheet_with};
+ghost use Rattle.sheet_undo.specs.inner.Keeping.{before, columns_or, names_or, sheet_of, sheet_with};
 ghost use Rattle.sheet_store.specs.Choices.{Choices};
 
 use crate::KeptState;
@@ -31,7 +31,7 @@ impl Model for Difference {
     ghost use Rattle.formula_tree.specs.contracts.formula.Formula as formula;
     ghost use Rattle.std.specs.Coded.{codes};
     ghost use Rattle.std.specs.FinMap as map;
-    ghost use Rattle.sheet_undo.specs.Keeping.{Before};
+    ghost use Rattle.sheet_undo.specs.inner.Keeping.{Before};
 
     ghost Value = { Before };
 

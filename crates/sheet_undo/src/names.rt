@@ -2,7 +2,7 @@
 ghost use Rattle.std.specs.Bool.{Decides};
 ghost use Rattle.std.specs.Prelude.{◌≡◌, []};
 ghost use Rattle.range_names.specs.Names.{same_extent};
-ghost use Rattle.sheet_undo.specs.Same.{named, same_name};
+ghost use Rattle.sheet_undo.specs.inner.Same.{named, same_name};
 
 use grid_address::Span;
 use range_names::Names;

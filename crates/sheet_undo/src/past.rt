@@ -8,7 +8,7 @@ ghost use Rattle.range_names.specs.Names.{NameMap};
 ghost use Rattle.sheet_store.specs.Choices.{Choices};
 ghost use Rattle.sheet_store.specs.Grid.{Grid};
 ghost use Rattle.sheet_undo.specs.Histories.{ended, latest, no_history, IsAlike, Sheet, Tells};
-ghost use Rattle.sheet_undo.specs.Keeping.{base, before, earlier, grid_before, grid_or, history_of, names_or, sheet_of, sheet_with, with_nothing, IsSameBut, IsSettled, Past};
+ghost use Rattle.sheet_undo.specs.inner.Keeping.{base, before, earlier, grid_before, grid_or, history_of, names_or, sheet_of, sheet_with, with_nothing, IsSameBut, IsSettled, Past};
 
 use crate::KeptState;
 use crate::alike::{
@@ -56,7 +56,7 @@ impl Model for Past {
     ghost use Rattle.std.specs.Coded.{codes};
     ghost use Rattle.std.specs.FinMap as map;
     ghost use Rattle.std.specs.Prelude.{◌≤◌, length};
-    ghost use Rattle.sheet_undo.specs.Keeping.{Past};
+    ghost use Rattle.sheet_undo.specs.inner.Keeping.{Past};
 
     ghost Value = { Past };
 

@@ -12,7 +12,7 @@ use Rattle.sheet_edits.proofs.Beside.{beside}
 use Rattle.sheet_edits.specs.Spans.{changed, AreGiven, Becomes}
 use Rattle.sheet_store.specs.Grid.{put_state, Cells, Grid}
 use Rattle.sheet_store.specs.State.{CellState}
-use Rattle.sheet_undo.specs.Keeping.{IsSameBut}
+use Rattle.sheet_undo.specs.inner.Keeping.{IsSameBut}
 
 -- a cell outside of one
 not_it : (q c : Place) → has same_place (c ∷ []) q ≡ false → same_place q c ≡ false

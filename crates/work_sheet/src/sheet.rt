@@ -23,7 +23,7 @@ ghost use Rattle.work_sheet.specs.Editing.{all_written, copied, erased, reformat
 ghost use Rattle.range_names.specs.Names.{NameMap};
 ghost use Rattle.sheet_store.specs.Grid.{Grid};
 ghost use Rattle.sheet_undo.specs.Histories.{no_history};
-ghost use Rattle.sheet_undo.specs.Keeping.{history_of, IsSameBut};
+ghost use Rattle.sheet_undo.specs.inner.Keeping.{history_of, IsSameBut};
 ghost use Rattle.work_sheet.specs.Seen.{fresh_sheet, of_worksheet};
 ghost use Rattle.work_sheet.specs.Spans.{span_recalculated};
 ghost use Rattle.work_sheet.specs.Sheets.{value_told, AllDirtyIn, IsFaultOf, IsRefusedBy, Worksheet};
@@ -78,7 +78,7 @@ impl<E: Means> Model for WorksheetOf<E> {
     ghost use Rattle.formula_tree.specs.contracts.formula.Formula as formula;
     ghost use Rattle.std.specs.Coded.{codes};
     ghost use Rattle.std.specs.FinMap as map;
-    ghost use Rattle.sheet_undo.specs.Keeping.{history_of};
+    ghost use Rattle.sheet_undo.specs.inner.Keeping.{history_of};
     ghost use Rattle.work_sheet.specs.Sheets.{Worksheet};
     ghost use Rattle.work_sheet.specs.inner.Keeping.{IsKept};
 

@@ -1,5 +1,5 @@
 use Rattle.std.specs.Prelude.{ℕ, ◌<◌}
-use Rattle.sheet_undo.specs.Same.{IsSameColumn}
+use Rattle.sheet_undo.specs.inner.Same.{IsSameColumn}
 use Rattle.sheet_undo.proofs.columns.are_same_columns.Given as goal
 
 abbrev pub invariant-loop-col : goal.invariant-loop-col

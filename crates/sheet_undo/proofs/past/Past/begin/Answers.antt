@@ -1,6 +1,6 @@
 use Rattle.std.proofs.Common.{ap, sym, true, ◌∙◌}
 use Rattle.sheet_undo.proofs.Pasts.{even_forgotten, even_same, state_begun}
-use Rattle.sheet_undo.specs.Keeping.{earlier, history_of, sheet_with, with_nothing, Past}
+use Rattle.sheet_undo.specs.inner.Keeping.{earlier, history_of, sheet_with, with_nothing, Past}
 use Rattle.sheet_undo.proofs.past.Past.begin.Goals as goal
 use Rattle.sheet_undo.proofs.past.Past.begin.Goals.{then-not-is_even+in_ok-turn_first, else-not-is_even}
 

@@ -1,7 +1,7 @@
 use Rattle.std.specs.Prelude.{drop, false}
 use Rattle.std.proofs.Common.{ap, ◌∙◌}
 use Rattle.sheet_undo.proofs.Pasts.{latest_dropped}
-use Rattle.sheet_undo.specs.Keeping.{history_of, Past}
+use Rattle.sheet_undo.specs.inner.Keeping.{history_of, Past}
 use Rattle.sheet_undo.specs.contracts.past.Past.{the_view}
 use Rattle.sheet_undo.proofs.past.Past.drop_latest.Goals as goal
 

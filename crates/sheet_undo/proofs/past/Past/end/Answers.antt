@@ -4,7 +4,7 @@ use Rattle.std.proofs.lemmas.Bool.{true≢false}
 use Rattle.sheet_undo.proofs.Pasts.{alike_ended, ended_kept}
 use Rattle.sheet_undo.proofs.States.{put_first}
 use Rattle.sheet_undo.specs.Histories.{ended, History, Tells}
-use Rattle.sheet_undo.specs.Keeping.{base, begun_if, earlier, history_of, sheet_with, Past}
+use Rattle.sheet_undo.specs.inner.Keeping.{base, begun_if, earlier, history_of, sheet_with, Past}
 use Rattle.sheet_undo.specs.contracts.past.Past.{the_view}
 use Rattle.sheet_undo.proofs.past.Past.end.Goals as goal
 

@@ -3,7 +3,7 @@ use Rattle.cell_maps.specs.Sets.{has}
 use Rattle.edit_log.specs.Changes.{all_changed}
 use Rattle.grid_address.specs.Place.{same_place}
 use Rattle.sheet_undo.proofs.Pasts.{noted_free, noted_same}
-use Rattle.sheet_undo.specs.Keeping.{history_of, Past}
+use Rattle.sheet_undo.specs.inner.Keeping.{history_of, Past}
 use Rattle.sheet_undo.proofs.past.Past.note.Goals as goal
 
 pub returns-clause-free : goal.returns-clause-free

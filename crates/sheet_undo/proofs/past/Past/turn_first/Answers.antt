@@ -1,6 +1,6 @@
 use Rattle.std.proofs.Common.{ap, arith, refl, slice_set, ◌∙◌}
 use Rattle.sheet_undo.proofs.Pasts.{turned}
-use Rattle.sheet_undo.specs.Keeping.{base, before, earlier, sheet_with, Past}
+use Rattle.sheet_undo.specs.inner.Keeping.{base, before, earlier, sheet_with, Past}
 use Rattle.sheet_undo.proofs.past.Past.turn_first.Goals as goal
 
 pub returns-clause-kept : goal.returns-clause-kept

@@ -1,7 +1,7 @@
 use Rattle.std.specs.Prelude.{length}
 use Rattle.std.proofs.Common.{ap, sym, ◌∙◌}
 use Rattle.sheet_undo.proofs.States.{earlier_long}
-use Rattle.sheet_undo.specs.Keeping.{base}
+use Rattle.sheet_undo.specs.inner.Keeping.{base}
 use Rattle.work_sheet.specs.Sheets.{Worksheet}
 use Rattle.work_sheet.proofs.sheet.WorksheetOf.kept_count.Goals as goal
 

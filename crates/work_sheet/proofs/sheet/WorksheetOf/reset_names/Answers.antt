@@ -1,6 +1,6 @@
 use Rattle.std.proofs.Common.{ap, rules, ◌∙◌}
 use Rattle.range_names.specs.Names.{NameMap}
-use Rattle.sheet_undo.specs.Keeping.{history_of}
+use Rattle.sheet_undo.specs.inner.Keeping.{history_of}
 use Rattle.work_sheet.specs.Sheets.{Worksheet}
 use Rattle.work_sheet.proofs.sheet.WorksheetOf.reset_names.Goals as goal
 

@@ -1,7 +1,7 @@
 use Rattle.std.specs.Prelude.{option_map, refl, true}
 use Rattle.std.proofs.Common.{ap, subst, sym, ◌∙◌}
 use Rattle.sheet_undo.specs.Histories.{latest}
-use Rattle.sheet_undo.specs.Keeping.{history_of, sheet_of, Past}
+use Rattle.sheet_undo.specs.inner.Keeping.{history_of, sheet_of, Past}
 use Rattle.work_sheet.proofs.Undone.{latest_undone}
 use Rattle.work_sheet.specs.Kept.{Undoes}
 use Rattle.work_sheet.specs.Sheets.{Worksheet}

@@ -1,0 +1,4 @@
+-- How the code keeps its books; no definition beside this folder speaks of it.
+pub mod Changes
+pub mod Keeping
+pub mod Same
