@@ -58,12 +58,13 @@ one_front size at (b ∷ bs) rest c stack next some front does = (
   one_code size at b bs rest c stack next front does,
 )
 
--- reading the bytes of codes leads from one stack to another, whatever follows
-abbrev Passes : Place → List Code → List Tree → List Tree → Type 0
-Passes p cs stack next =
+-- reading the bytes of codes makes of one stack another, whatever follows
+abbrev Restacks : Place → List Code → List Tree → List Tree → Type 0
+Restacks p cs stack next =
     (size at : ℕ) (rest : List ℕ) → (k : ℕ) × (goes size at (spelled p cs ++ rest) stack ≡ goes size k rest next)
 
-both : (p : Place) (cs ds : List Code) (a b c : List Tree) → Passes p cs a b → Passes p ds b c → Passes p (cs ++ ds) a c
+both : (p : Place) (cs ds : List Code) (a b c : List Tree) → Restacks p cs a b → Restacks p ds b c
+    → Restacks p (cs ++ ds) a c
 both p cs ds a b c first second size at rest =
     let x = first size at (spelled p ds ++ rest) in
     let y = second size x.0 rest in
@@ -73,7 +74,7 @@ both p cs ds a b c first second size at rest =
 
 alone : (p : Place) (c : Code) (stack next : List Tree) → 1 ≤ length (bytes_of p c)
     → ((rest : List ℕ) → front_of (bytes_of p c ++ rest) ≡ whole c (length (bytes_of p c))) → after c stack ≡ Some next
-    → Passes p (c ∷ []) stack next
+    → Restacks p (c ∷ []) stack next
 alone p c stack next some front does size at rest =
     let x = one_front size at (bytes_of p c) rest c stack next some (front rest) does in
     (x.0, ap (λ l. goes size at (l ++ rest) stack) (append-nil (bytes_of p c)) ∙ x.1)
@@ -106,7 +107,7 @@ text_long t = omega (arith, length-append t (0 ∷ []))
 module _ (p : Place) (inside : InSheet p) where
   mutual
     again : (t : Tree) → every is_fine t ≡ true → every is_ranged t ≡ true → (stack : List Tree)
-        → Passes p (postfix t) stack (t ∷ stack)
+        → Restacks p (postfix t) stack (t ∷ stack)
     again (num v) fine ranged stack =
         let most : nat_abs v ≤ 999999999999999 = grind (arith, nat_tests, ranged) in
         alone p (number v) stack (num v ∷ stack) (some_number v) (λ rest. number_front v rest fine most)
@@ -155,7 +156,7 @@ module _ (p : Place) (inside : InSheet p) where
         (some_function f (count ts)) (λ rest. function_front_is f (count ts) rest taken) (called_piled f ts stack))
 
     again_all : (ts : Trees) → every_one is_fine ts ≡ true → every_one is_ranged ts ≡ true → (stack : List Tree)
-        → Passes p (postfix_all ts) stack (piled ts stack)
+        → Restacks p (postfix_all ts) stack (piled ts stack)
     again_all no_trees fine ranged stack = λ size at rest. (at, refl)
     again_all (trees t ts) fine ranged stack =
         let x = and_parts (every is_fine t) (every_one is_fine ts) fine in
