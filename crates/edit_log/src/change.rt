@@ -1,19 +1,32 @@
 // What a cell has, or had.
-ghost use Rattle.std.specs.Prelude.{◌≡◌, None, Some, IfOk, OnErr, OnOk, option_copied};
+ghost use Rattle.std.specs.Prelude.{◌≡◌, None, Some, IfOk, OnErr, OnOk};
 ghost use Rattle.std.specs.FinMap as map;
 ghost use Rattle.sheet_store.specs.Grid.{IsHeld};
 ghost use Rattle.edit_log.specs.Changes.{changed_at, with_changes};
+ghost use Rattle.edit_log.specs.inner.Had.{state_had};
 
-use grid_address::Cell;
+use fixed_value::Fixed;
+use formula_tree::{ContentRef, Formula, Value, ValueRef};
+use grid_address::{Cell, Format};
 use lics_text::Memory;
 use sheet_store::{CellState, Store};
+use std::alloc::Global;
 use std::marker::Model;
+
+// What a cell has. A formula whose value is a number, as most are that a recalculation evaluates, takes no memory of
+// its own here, as it does in a state.
+#[derive(Drop)]
+pub(crate) enum Had {
+    Nothing,
+    Computed(Format, Formula, Fixed),
+    Other(CellState),
+}
 
 /// A cell, and the state that it has; none where it has none.
 #[derive(Drop)]
 pub struct Change {
     cell: Cell,
-    state: Option<CellState>,
+    had: Had,
 }
 
 impl Model for Change {
@@ -28,9 +41,23 @@ impl Model for Change {
 
     ghost coded = { Prim.hlevel (codes, formula.the_row.coded) };
 
-    ghost view = { λ c. (c.cell, c.state) };
+    ghost use Rattle.edit_log.specs.inner.Had.{state_had};
 
-    ghost invariant = { λ c. MayHave c.cell c.state };
+    ghost view = { λ c. (c.cell, state_had c.had) };
+
+    ghost invariant = { λ c. MayHave c.cell (state_had c.had) };
+}
+
+// What a cell of this state has.
+fn had_of(state: &CellState, alloc: Global) -> Result<Had, Memory>
+    ensures { IfOk result (λ h. state_had h ≡ Some state.now) }
+{
+    match (state.content(), state.value()) {
+        (ContentRef::Formula(formula), ValueRef::Num(number)) => {
+            Ok(Had::Computed(state.format(), formula.copy()?, number))
+        }
+        _ => Ok(Had::Other(state.copy(alloc)?)),
+    }
 }
 
 impl Change {
@@ -38,7 +65,10 @@ impl Change {
     pub fn gone(cell: Cell) -> Change
         ensures { result ≡ (cell, None) }
     {
-        Change { cell, state: None }
+        Change {
+            cell,
+            had: Had::Nothing,
+        }
     }
 
     /// A cell has a state, which a store may hold there.
@@ -48,7 +78,7 @@ impl Change {
     {
         Change {
             cell,
-            state: Some(state),
+            had: Had::Other(state),
         }
     }
 
@@ -58,7 +88,10 @@ impl Change {
     {
         store.are_held();
         match store.get(cell) {
-            Some(state) => Ok(Change::of(cell, state.copy(store.alloc())?)),
+            Some(state) => {
+                let had = had_of(state, store.alloc())?;
+                Ok(Change { cell, had })
+            }
             None => Ok(Change::gone(cell)),
         }
     }
@@ -70,11 +103,21 @@ impl Change {
         self.cell
     }
 
-    /// The state of the cell; none where it has none.
-    pub fn state(&self) -> Option<&CellState>
-        ensures { option_copied result ≡ self.now.1 }
+    /// An equal state to that of the cell; none where it has none.
+    pub fn state(&self, alloc: Global) -> Result<Option<CellState>, Memory>
+        ensures { IfOk result (λ s. s ≡ self.now.1) }
     {
-        self.state.as_ref()
+        match &self.had {
+            Had::Nothing => Ok(None),
+            Had::Computed(format, formula, number) => {
+                let state = CellState::formula(formula.copy()?, Value::Num(*number), *format)?;
+                Ok(Some(state))
+            }
+            Had::Other(state) => {
+                let same = state.copy(alloc)?;
+                Ok(Some(same))
+            }
+        }
     }
 
     // Gives the cell of a store its state, or none.
@@ -83,8 +126,8 @@ impl Change {
             record store.old { cells = changed_at store.old.cells self.now.0 self.now.1 }) }
         ensures err { OnErr result (store.new ≡ store.old) }
     {
-        match &self.state {
-            Some(state) => store.put(self.cell, state.copy(store.alloc())?),
+        match self.state(store.alloc())? {
+            Some(state) => store.put(self.cell, state),
             None => {
                 store.clear(self.cell);
                 Ok(())
