@@ -67,8 +67,8 @@ pub fn are_columns_kept(own: &Option<Store>, store: &Store) -> bool
 fn is_as_changed(change: &Change, store: &Store) -> Result<bool, Memory>
     ensures { IfOk result (λ same. Decides same (map.get store.now.cells change.now.0 ≡ change.now.1)) }
 {
-    match change.state() {
-        Some(state) => has_state(store, change.cell(), state),
+    match change.state(store.alloc())? {
+        Some(state) => has_state(store, change.cell(), &state),
         None => Ok(is_absent(store, change.cell())),
     }
 }

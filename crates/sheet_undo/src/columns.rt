@@ -1,15 +1,53 @@
 // The columns of stores.
 ghost use Rattle.std.specs.Bool.{Decides};
-ghost use Rattle.std.specs.Prelude.{◌≡◌, get_or, set, false};
-ghost use Rattle.std.specs.FinMap as map;
-ghost use Rattle.sheet_undo.specs.inner.Keeping.{columns_or};
+ghost use Rattle.std.specs.Prelude.{◌≡◌, IfOk, get_or, set, false};
+ghost use Rattle.sheet_undo.specs.inner.Keeping.{columns_alone, columns_or};
 ghost use Rattle.sheet_undo.specs.inner.Same.{IsSameColumn, SameColumns};
 
+use lics_text::Memory;
 use sheet_store::Store;
+use std::marker::Model;
+
+/// The columns of a store on the heap, where a list of states that are kept moves them at no cost.
+#[derive(Drop)]
+pub struct KeptColumns {
+    // A store without cells.
+    store: Box<Store>,
+}
+
+impl Model for KeptColumns {
+    ghost use Rattle.formula_tree.specs.contracts.formula.Formula as formula;
+    ghost use Rattle.std.specs.Coded.{codes};
+    ghost use Rattle.std.specs.FinMap as map;
+    ghost use Rattle.sheet_store.specs.Grid.{Grid};
+
+    ghost Value = { Grid };
+
+    ghost coded = { Prim.hlevel (codes, map.code, formula.the_row.coded) };
+
+    ghost view = { λ c. c.store.value };
+}
+
+impl KeptColumns {
+    /// The columns of a store.
+    pub fn of(store: &Store) -> Result<KeptColumns, Memory>
+        ensures { IfOk result (λ c. c ≡ columns_alone store.now) }
+    {
+        let store = Box::new(store.alloc(), columns_of(store))?;
+        Ok(KeptColumns { store })
+    }
+
+    /// Gives a store these columns.
+    pub fn put(&self, into: &mut Store)
+        ensures { into.new ≡ record into.old { widths = self.now.widths; hidden = self.now.hidden } }
+    {
+        put_columns(&self.store, into);
+    }
+}
 
 /// A store without cells that has the columns of another.
 pub fn columns_of(store: &Store) -> Store
-    ensures { result ≡ record store.now { cells = map.empty } }
+    ensures { result ≡ columns_alone store.now }
 {
     let mut columns = Store::new(store.alloc());
     put_columns(store, &mut columns);
@@ -60,8 +98,8 @@ fn put_column(store: &Store, into: &mut Store, col: u8)
     into.set_hidden(col, store.is_hidden(col));
 }
 
-/// Gives a store the columns of another.
-pub fn put_columns(store: &Store, into: &mut Store)
+// Gives a store the columns of another.
+fn put_columns(store: &Store, into: &mut Store)
     ensures { into.new ≡ record into.old { widths = store.now.widths; hidden = store.now.hidden } }
 {
     store.are_columns();

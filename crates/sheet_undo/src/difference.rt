@@ -5,9 +5,9 @@ ghost use Rattle.sheet_undo.specs.inner.Keeping.{before, columns_or, names_or, s
 ghost use Rattle.sheet_store.specs.Choices.{Choices};
 
 use crate::KeptState;
-use crate::changes::{change_store, changes_of};
-use crate::columns::columns_of;
-use edit_log::Change;
+use crate::changes::changes_of;
+use crate::columns::KeptColumns;
+use edit_log::{Change, make_all};
 use lics_text::Memory;
 use range_names::Names;
 use sheet_store::{SavedSheet, Settings, Store};
@@ -19,8 +19,7 @@ use std::marker::Model;
 #[derive(Drop)]
 pub struct Difference {
     changes: Vec<Change>,
-    // A store without cells.
-    columns: Option<Store>,
+    columns: Option<KeptColumns>,
     names: Option<Names>,
     settings: Settings,
     circular: bool,
@@ -82,7 +81,7 @@ impl Difference {
     /// The difference that has these parts.
     pub fn with(
         changes: Vec<Change>,
-        columns: Option<Store>,
+        columns: Option<KeptColumns>,
         names: Option<Names>,
         settings: Settings,
         circular: bool,
@@ -113,10 +112,11 @@ impl Difference {
             before d (sheet_with store.now names.now settings circular stale) ≡ sheet_of kept.now) }
     {
         let changes = changes_of(&kept.saved.store, store)?;
+        let columns = KeptColumns::of(&kept.saved.store)?;
         let own = kept.saved.names.copy()?;
         Ok(Difference {
             changes,
-            columns: Some(columns_of(&kept.saved.store)),
+            columns: Some(columns),
             names: Some(own),
             settings: kept.saved.settings,
             circular: kept.circular,
@@ -129,7 +129,10 @@ impl Difference {
         ensures { IfOk result (λ s. s ≡ columns_or self.now.columns (with_changes next self.now.changes)) }
     {
         let mut store = next;
-        change_store(self.changes.as_slice(), &self.columns, &mut store)?;
+        make_all(self.changes.as_slice(), &mut store)?;
+        if let Some(columns) = &self.columns {
+            columns.put(&mut store);
+        }
         Ok(store)
     }
 

@@ -8,14 +8,14 @@ ghost use Rattle.range_names.specs.Names.{NameMap};
 ghost use Rattle.sheet_store.specs.Choices.{Choices};
 ghost use Rattle.sheet_store.specs.Grid.{Grid};
 ghost use Rattle.sheet_undo.specs.Histories.{ended, latest, no_history, IsAlike, Sheet, Tells};
-ghost use Rattle.sheet_undo.specs.inner.Keeping.{base, before, earlier, grid_before, grid_or, history_of, names_or, sheet_of, sheet_with, with_nothing, IsSameBut, IsSettled, Past};
+ghost use Rattle.sheet_undo.specs.inner.Keeping.{base, before, earlier, grid_before, grid_or, history_of, names_or, own_columns, sheet_of, sheet_with, with_nothing, IsSameBut, IsSettled, Past};
 
 use crate::KeptState;
 use crate::alike::{
     are_changes_made, are_columns_kept, are_names_kept, are_same_settings, is_same_store,
 };
 use crate::changes::{change_store, changes_of};
-use crate::columns::columns_of;
+use crate::columns::{KeptColumns, columns_of};
 use crate::difference::Difference;
 use edit_log::{Change, EditLog};
 use grid_address::Cell;
@@ -368,36 +368,47 @@ impl Past {
         }
     }
 
-    // What the base has otherwise than the sheet, with the changes that were made of its whole.
-    fn take_difference(&mut self, changes: Vec<Change>) -> Difference
-        requires { IsSettled self.old }
+    // The columns that the base has of its own, if it has some.
+    fn own_columns(&self) -> Result<Option<KeptColumns>, Memory>
+        ensures { IfOk result (λ columns. columns ≡ own_columns self.now.whole self.now.columns) }
+    {
+        let own = match &self.whole {
+            Some(whole) => Some(whole),
+            None => self.columns.as_ref(),
+        };
+        match own {
+            Some(store) => {
+                let columns = KeptColumns::of(store)?;
+                Ok(Some(columns))
+            }
+            None => Ok(None),
+        }
+    }
+
+    // What the base has otherwise than the sheet, with the changes that were made of its whole, and its own columns.
+    fn take_difference(&mut self, changes: Vec<Change>, columns: Option<KeptColumns>) -> Difference
+        requires settled { IsSettled self.old }
+        requires columns { columns ≡ own_columns self.old.whole self.old.columns }
         ensures past { self.new ≡ with_nothing self.old }
         ensures difference { (store : Grid) (names : NameMap) (settings : Choices) (circular stale : Bool) →
             ((whole : Grid) → self.old.whole ≡ Some whole →
             all_changed store.cells changes.items ≡ whole.cells) →
             before result (sheet_with store names settings circular stale) ≡ base self.old store names }
     {
+        let is_whole = self.whole.is_some();
         let names = replace(&mut self.names, None);
-        let columns = replace(&mut self.columns, None);
         let log = self.log.take();
-        match replace(&mut self.whole, None) {
-            Some(whole) => Difference::with(
-                changes,
-                Some(columns_of(&whole)),
-                names,
-                self.settings,
-                self.circular,
-                self.stale,
-            ),
-            None => Difference::with(
-                log,
-                columns,
-                names,
-                self.settings,
-                self.circular,
-                self.stale,
-            ),
-        }
+        self.columns = None;
+        self.whole = None;
+        let own = if is_whole { changes } else { log };
+        Difference::with(
+            own,
+            columns,
+            names,
+            self.settings,
+            self.circular,
+            self.stale,
+        )
     }
 
     /// A command ends: the begun state is kept, and past 20 the oldest one is dropped, exactly where the answer is
@@ -421,10 +432,11 @@ impl Past {
             return Ok(false);
         }
         let changes = self.changes_in_whole(store)?;
+        let columns = self.own_columns()?;
         self.kept
             .insert(0, Difference::beside(store.alloc(), self.settings))?;
         self.kept.truncate(MOST_KEPT);
-        let difference = self.take_difference(changes);
+        let difference = self.take_difference(changes, columns);
         self.kept[0] = difference;
         self.is_begun = false;
         Ok(true)

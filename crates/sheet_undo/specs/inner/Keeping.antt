@@ -1,7 +1,7 @@
 -- How the states are kept: each by what it has otherwise than the state after it, and the base, which is the last of
 -- them, by what it has otherwise than the sheet as it stands.
-use Rattle.std.specs.Prelude.{◌≡◌, Bool, true, false, is_some, List, [], ◌∷◌, Option, None, Some}
-use Rattle.std.specs.FinMap.{get}
+use Rattle.std.specs.Prelude.{◌≡◌, Bool, true, false, is_some, List, [], ◌∷◌, Option, None, Some, option_map}
+use Rattle.std.specs.FinMap.{empty, get}
 use Rattle.edit_log.specs.Changes.{with_changes}
 use Rattle.grid_address.specs.Place.{Place}
 use Rattle.range_names.specs.Names.{NameMap}
@@ -25,6 +25,10 @@ pub record Before : Type 0 where
 abbrev pub columns_or : Option Grid → Grid → Grid
 columns_or None g = g
 columns_or (Some own) g = record g { widths = own.widths; hidden = own.hidden }
+
+-- the columns of a grid, without its cells
+abbrev pub columns_alone : Grid → Grid
+columns_alone g = record g { cells = empty }
 
 -- names, or those of the next one where none are kept
 abbrev pub names_or : Option NameMap → NameMap → NameMap
@@ -64,6 +68,11 @@ pub record Past : Type 0 where
 abbrev pub grid_or : Option Grid → Grid → Grid
 grid_or None g = g
 grid_or (Some whole) g = whole
+
+-- the columns that the base has of its own, if it has some
+abbrev pub own_columns : Option Grid → Option Grid → Option Grid
+own_columns None columns = option_map columns_alone columns
+own_columns (Some whole) columns = Some (columns_alone whole)
 
 -- the cells and columns that differ so from those that were replaced, or from a grid
 abbrev pub grid_before : Option Grid → Option Grid → List (Place × Option CellState) → Grid → Grid
