@@ -1,10 +1,10 @@
--- A table's numbers after room is made and after one is set.
-use Rattle.std.specs.Prelude.{ℕ, suc, zero, ◌≡◌, ◌<◌, ◌≤◌, ◌+◌, ◌-◌, ◌*◌, ◌/◌, ◌%◌, nat_lt, ◌++◌, cond, refl, true, false, nat_eq, List, [], ◌∷◌, length, replicate, get_or, set, ◌≢◌}
+-- A table's numbers after room is made, and where a page has none.
+use Rattle.std.specs.Prelude.{ℕ, suc, zero, ◌≡◌, ◌<◌, ◌≤◌, ◌+◌, ◌-◌, ◌*◌, ◌/◌, ◌%◌, nat_lt, ◌++◌, refl, true}
+use Rattle.std.specs.Prelude.{false, nat_eq, List, [], ◌∷◌, length, replicate, get_or, set}
 use Rattle.std.proofs.Common.{sym, ◌∙◌, ap, subst, arith, inl, inr, ◌⊎◌, get_or-set_same, get_or-set_other}
 use Rattle.std.proofs.lemmas.Bool.{cases_Bool, eq-eqb, eqb-true, false≢true, ltb-false, ltb-true}
 use Rattle.std.proofs.lemmas.List.{get_or_past, length-set}
-use Rattle.grid_address.specs.Place.{same_place, InSheet, Place}
-use Rattle.grid_address.proofs.Places.{same_place_is, same_place_itself}
+use Rattle.grid_address.specs.Place.{InSheet, Place}
 use Rattle.cell_maps.specs.Numbers.{band_of, head_of, number_at, number_in, page_of, place_of, HasRoom, Numbers}
 use Rattle.cell_maps.specs.inner.Numbering.{used, AreParted}
 
@@ -31,7 +31,8 @@ used_within [] = omega arith
 used_within (zero ∷ heads) = let k = used_within heads in omega (arith, k)
 used_within (suc n ∷ heads) = let k = used_within heads in omega (arith, k)
 
-used_set : (heads : List ℕ) (i h : ℕ) → i < length heads → get_or heads i 0 ≡ 0 → 0 < h → used (set heads i h) ≡ suc (used heads)
+used_set : (heads : List ℕ) (i h : ℕ) → i < length heads → get_or heads i 0 ≡ 0 → 0 < h
+    → used (set heads i h) ≡ suc (used heads)
 used_set [] i h k z p = absurd (omega (arith, k))
 used_set (x ∷ heads) zero zero k z p = absurd (omega (arith, p))
 used_set (zero ∷ heads) zero (suc h) k z p = refl
@@ -41,31 +42,24 @@ used_set (suc n ∷ heads) (suc i) h k z p = ap suc (used_set heads i h (omega (
 
 -- there are few pages
 pub few_pages : (t : Numbers) → AreParted t → length t.numbers ≤ 2097152
-few_pages t ok = let w = used_within t.heads in let f = ok.full in elim ok.short [ inl s ↦ omega (arith, w, f, s) | inr s ↦ omega (arith, w, f, s) ]
+few_pages t ok = let w = used_within t.heads in let f = ok.full in
+    elim ok.short [ inl s ↦ omega (arith, w, f, s) | inr s ↦ omega (arith, w, f, s) ]
 
 -- where the numbers of a page with room stand
-pub number_in_page : (numbers : List ℕ) (h p : ℕ) → 0 < h → number_in numbers h p ≡ get_or numbers ((h - 1) * 1024 + p) 0
+pub number_in_page : (numbers : List ℕ) (h p : ℕ) → 0 < h
+    → number_in numbers h p ≡ get_or numbers ((h - 1) * 1024 + p) 0
 number_in_page numbers zero p k = absurd (omega (arith, k))
 number_in_page numbers (suc h) p k = ap (λ n. get_or numbers (n * 1024 + p) 0) (omega arith)
 
-in_same : (old new : List ℕ) (h p : ℕ) → ((j : ℕ) → get_or new j 0 ≡ get_or old j 0) → number_in new h p ≡ number_in old h p
+in_same : (old new : List ℕ) (h p : ℕ) → ((j : ℕ) → get_or new j 0 ≡ get_or old j 0)
+    → number_in new h p ≡ number_in old h p
 in_same old new zero p same = refl
 in_same old new (suc h) p same = same (h * 1024 + p)
 
-pub none_parted : AreParted (record { heads = []; numbers = [] })
-none_parted = record {
-  apart = λ i j e h. absurd (let z : ◌≡◌ {A = ℕ} (get_or [] i 0) 0 = get_or_past [] i 0 (omega arith) in omega (arith, h, z));
-  room = λ i. (let z : ◌≡◌ {A = ℕ} (get_or [] i 0) 0 = get_or_past [] i 0 (omega arith) in omega (arith, z));
-  full = refl;
-  short = inl refl;
-}
-
-pub none_at : (d : Place) → number_at (record { heads = []; numbers = [] }) d ≡ 0
-none_at d = refl
-
 -- heads that tell the same
 module _ (t : Numbers) (heads : List ℕ) (same : (j : ℕ) → get_or heads j 0 ≡ get_or t.heads j 0) where
-  parted_heads : used heads ≡ used t.heads → (length heads ≡ 0) ⊎ (length heads ≡ 2048) → AreParted t → AreParted (record { heads = heads; numbers = t.numbers })
+  parted_heads : used heads ≡ used t.heads → (length heads ≡ 0) ⊎ (length heads ≡ 2048) → AreParted t
+      → AreParted (record { heads = heads; numbers = t.numbers })
   parted_heads count short ok = record {
     apart = λ i j e h. ok.apart i j (sym (same i) ∙ e ∙ same j) (subst (λ n. 0 < n) (same i) h);
     room = λ i. subst (λ n. n * 1024 ≤ length t.numbers) (sym (same i)) (ok.room i);
@@ -77,7 +71,8 @@ module _ (t : Numbers) (heads : List ℕ) (same : (j : ℕ) → get_or heads j 0
   same_heads d = ap (λ h. number_in t.numbers h (place_of d)) (same (page_of d))
 
 -- a page without room gets one behind the others
-module _ (t : Numbers) (ok : AreParted t) (i h : ℕ) (numbers : List ℕ) (inside : i < length t.heads) (free : get_or t.heads i 0 ≡ 0) (count : h * 1024 ≡ length t.numbers + 1024)
+module _ (t : Numbers) (ok : AreParted t) (i h : ℕ) (numbers : List ℕ) (inside : i < length t.heads)
+    (free : get_or t.heads i 0 ≡ 0) (count : h * 1024 ≡ length t.numbers + 1024)
     (same : (j : ℕ) → get_or numbers j 0 ≡ get_or t.numbers j 0) (long : length numbers ≡ length t.numbers + 1024) where
   abbrev heads : List ℕ
   heads = set t.heads i h
@@ -94,10 +89,13 @@ module _ (t : Numbers) (ok : AreParted t) (i h : ℕ) (numbers : List ℕ) (insi
   low : (j : ℕ) → get_or t.heads j 0 < h
   low j = let r = ok.room j in let c = count in omega (arith, r, c)
 
-  same_page : (a b : ℕ) → get_or heads a 0 ≡ get_or heads b 0 → 0 < get_or heads a 0 → (nat_eq a i ≡ true) ⊎ (nat_eq a i ≡ false) → (nat_eq b i ≡ true) ⊎ (nat_eq b i ≡ false) → a ≡ b
+  same_page : (a b : ℕ) → get_or heads a 0 ≡ get_or heads b 0 → 0 < get_or heads a 0
+      → (nat_eq a i ≡ true) ⊎ (nat_eq a i ≡ false) → (nat_eq b i ≡ true) ⊎ (nat_eq b i ≡ false) → a ≡ b
   same_page a b e k (inl p) (inl q) = eqb-true a i p ∙ sym (eqb-true b i q)
-  same_page a b e k (inl p) (inr q) = absurd (let l = low b in let z : h ≡ get_or t.heads b 0 = sym (at_i a p) ∙ e ∙ other b q in omega (arith, l, z))
-  same_page a b e k (inr p) (inl q) = absurd (let l = low a in let z : get_or t.heads a 0 ≡ h = sym (other a p) ∙ e ∙ at_i b q in omega (arith, l, z))
+  same_page a b e k (inl p) (inr q) =
+      absurd (let l = low b in let z : h ≡ get_or t.heads b 0 = sym (at_i a p) ∙ e ∙ other b q in omega (arith, l, z))
+  same_page a b e k (inr p) (inl q) =
+      absurd (let l = low a in let z : get_or t.heads a 0 ≡ h = sym (other a p) ∙ e ∙ at_i b q in omega (arith, l, z))
   same_page a b e k (inr p) (inr q) = ok.apart a b (sym (other a p) ∙ e ∙ other b q) (subst (λ n. 0 < n) (other a p) k)
 
   room_of : (j : ℕ) → (nat_eq j i ≡ true) ⊎ (nat_eq j i ≡ false) → get_or heads j 0 * 1024 ≤ length numbers
@@ -108,27 +106,33 @@ module _ (t : Numbers) (ok : AreParted t) (i h : ℕ) (numbers : List ℕ) (insi
   parted_page = record {
     apart = λ a b e k. same_page a b e k (cases_Bool (nat_eq a i)) (cases_Bool (nat_eq b i));
     room = λ j. room_of j (cases_Bool (nat_eq j i));
-    full = (let c = count in let u = used_set t.heads i h inside free (omega (arith, c)) in let f = ok.full in let l = long in omega (arith, u, f, l));
+    full = (let c = count in let u = used_set t.heads i h inside free (omega (arith, c)) in let f = ok.full in
+        let l = long in omega (arith, u, f, l));
     short = subst (λ n. (n ≡ 0) ⊎ (n ≡ 2048)) (sym (length-set t.heads i h)) ok.short;
   }
 
   same_paged : (d : Place) → number_at (record { heads = set t.heads i h; numbers = numbers }) d ≡ number_at t d
   same_paged d = with (cases_Bool (nat_eq (page_of d) i))
     where
-      with : (nat_eq (page_of d) i ≡ true) ⊎ (nat_eq (page_of d) i ≡ false) → number_at (record { heads = set t.heads i h; numbers = numbers }) d ≡ number_at t d
+      with : (nat_eq (page_of d) i ≡ true) ⊎ (nat_eq (page_of d) i ≡ false)
+          → number_at (record { heads = set t.heads i h; numbers = numbers }) d ≡ number_at t d
       with (inl p) =
           let c = count in
           let e = eqb-true (page_of d) i p in
           ap (λ n. number_in numbers n (place_of d)) (at_i (page_of d) p)
           ∙ number_in_page numbers h (place_of d) (omega (arith, c))
-          ∙ same ((h - 1) * 1024 + place_of d) ∙ get_or_past t.numbers ((h - 1) * 1024 + place_of d) 0 (omega (arith, c))
+          ∙ same ((h - 1) * 1024 + place_of d)
+          ∙ get_or_past t.numbers ((h - 1) * 1024 + place_of d) 0 (omega (arith, c))
           ∙ sym (ap (λ n. number_in t.numbers n (place_of d)) (ap (λ x. get_or t.heads x 0) e ∙ free))
-      with (inr q) = ap (λ n. number_in numbers n (place_of d)) (other (page_of d) q) ∙ in_same t.numbers numbers (head_of t d) (place_of d) same
+      with (inr q) = ap (λ n. number_in numbers n (place_of d)) (other (page_of d) q)
+          ∙ in_same t.numbers numbers (head_of t d) (place_of d) same
 
 -- a table whose page without room gets one, after heads that tell the same
-module _ (t : Numbers) (ok : AreParted t) (heads numbers : List ℕ) (i pages : ℕ) (same : (j : ℕ) → get_or heads j 0 ≡ get_or t.heads j 0) (alike : used heads ≡ used t.heads) (all : length heads ≡ 2048)
+module _ (t : Numbers) (ok : AreParted t) (heads numbers : List ℕ) (i pages : ℕ) (same : (j : ℕ)
+    → get_or heads j 0 ≡ get_or t.heads j 0) (alike : used heads ≡ used t.heads) (all : length heads ≡ 2048)
     (inside : i < length heads) (free : get_or t.heads i 0 ≡ 0) (count : pages ≡ length t.numbers / 1024)
-    (filled : (j : ℕ) → get_or numbers j 0 ≡ get_or t.numbers j 0) (long : length numbers ≡ length t.numbers + 1024) where
+    (filled : (j : ℕ) → get_or numbers j 0 ≡ get_or t.numbers j 0)
+    (long : length numbers ≡ length t.numbers + 1024) where
   abbrev between : Numbers
   between = record { heads = heads; numbers = t.numbers }
 
@@ -138,79 +142,35 @@ module _ (t : Numbers) (ok : AreParted t) (heads numbers : List ℕ) (i pages : 
   exact : (pages + 1) * 1024 ≡ length t.numbers + 1024
   exact = let f = ok.full in let c = count in omega (arith, f, c)
 
+  -- with room made for a page, each page with room has numbers of its own
   pub parted_grown : AreParted (record { heads = set heads i (pages + 1); numbers = numbers })
   parted_grown = parted_page between parted i (pages + 1) numbers inside (same i ∙ free) exact filled long
 
-  pub same_grown : (d : Place) → number_at (record { heads = set heads i (pages + 1); numbers = numbers }) d ≡ number_at t d
-  same_grown d = same_paged between parted i (pages + 1) numbers inside (same i ∙ free) exact filled long d ∙ same_heads t heads same d
-
-same_numbers : (c d : Place) → InSheet c → InSheet d → page_of d ≡ page_of c → place_of d ≡ place_of c → same_place c d ≡ true
-same_numbers c d hc hd b p =
-    let r : c.row ≡ d.row = omega (arith, b, p, hc.1, hd.1, hc.0, hd.0) in
-    let s : c.col ≡ d.col = omega (arith, b, p, hc.1, hd.1, hc.0, hd.0) in
-    let q : c ≡ d = λ i. record { row = r i; col = s i } in
-    ap (same_place c) (sym q) ∙ same_place_itself c
-
-pub place_below : (c : Place) → InSheet c → place_of c < 1024
-place_below c h = omega (arith, h.0, h.1)
-
--- the number of a cell is set
-module _ (t : Numbers) (ok : AreParted t) (c : Place) (n : ℕ) (inside : InSheet c) (room : HasRoom t c) where
-  abbrev pub at : ℕ
-  at = (head_of t c - 1) * 1024 + place_of c
-
-  abbrev pub with_number : Numbers
-  with_number = record { heads = t.heads; numbers = set t.numbers at n }
-
-  pub at_within : at < length t.numbers
-  at_within = let r = ok.room (page_of c) in let p = place_below c inside in let h = room in omega (arith, r, p, h)
-
-  pub parted_number : AreParted with_number
-  parted_number = record {
-    apart = ok.apart;
-    room = λ j. subst (λ m. get_or t.heads j 0 * 1024 ≤ m) (sym (length-set t.numbers at n)) (ok.room j);
-    full = length-set t.numbers at n ∙ ok.full;
-    short = ok.short;
-  }
-
-  pub put_number : (d : Place) → InSheet d → number_at with_number d ≡ cond (same_place c d) n (number_at t d)
-  put_number d hd = elim (cases_Bool (same_place c d)) [
-    | inl same ↦
-        ap (number_at with_number) (sym (same_place_is c d same))
-        ∙ number_in_page (set t.numbers at n) (head_of t c) (place_of c) room ∙ get_or-set_same t.numbers at n 0 at_within
-        ∙ ap (λ b. cond b n (number_at t d)) (sym same)
-    | inr apart ↦ away apart (cases_Bool (nat_lt 0 (head_of t d))) ∙ ap (λ b. cond b n (number_at t d)) (sym apart)
-  ]
-    where
-      away : same_place c d ≡ false → (nat_lt 0 (head_of t d) ≡ true) ⊎ (nat_lt 0 (head_of t d) ≡ false) → number_at with_number d ≡ number_at t d
-      away f (inl some) =
-          let h : 0 < head_of t d = ltb-true 0 (head_of t d) some in
-          let low = place_below c inside in
-          let low' = place_below d hd in
-          let r = room in
-          let further : (head_of t d - 1) * 1024 + place_of d ≢ at = λ e. false≢true (sym f ∙ same_numbers c d inside hd
-          (ok.apart (page_of d) (page_of c) (omega (arith, e, h, r, low, low')) h) (omega (arith, e, h, r, low, low'))) in
-          number_in_page (set t.numbers at n) (head_of t d) (place_of d) h
-          ∙ get_or-set_other t.numbers at ((head_of t d - 1) * 1024 + place_of d) n 0 further
-          ∙ sym (number_in_page t.numbers (head_of t d) (place_of d) h)
-      away f (inr none) =
-          let z : head_of t d ≡ 0 = let l = ltb-false 0 (head_of t d) none in omega (arith, l) in
-          ap (λ h. number_in (set t.numbers at n) h (place_of d)) z ∙ sym (ap (λ h. number_in t.numbers h (place_of d)) z)
+  -- room for a page changes no number
+  pub same_grown : (d : Place)
+      → number_at (record { heads = set heads i (pages + 1); numbers = numbers }) d ≡ number_at t d
+  same_grown d = same_paged between parted i (pages + 1) numbers inside (same i ∙ free) exact filled long d
+      ∙ same_heads t heads same d
 
 -- no place has a number from the column of a page without room on, where none has one behind that page
-pub none_behind : (t : Numbers) (c : Place) (col : ℕ) → ((d : Place) → InSheet d → band_of d ≡ band_of c → col ≤ d.col → number_at t d ≡ 0) → col % 4 ≡ 0 → 0 < col
-    → head_of t (record { row = c.row; col = col - 4 }) ≡ 0 → (d : Place) → InSheet d → band_of d ≡ band_of c → col - 4 ≤ d.col → number_at t d ≡ 0
+pub none_behind : (t : Numbers) (c : Place) (col : ℕ)
+    → ((d : Place) → InSheet d → band_of d ≡ band_of c → col ≤ d.col → number_at t d ≡ 0) → col % 4 ≡ 0 → 0 < col
+    → head_of t (record { row = c.row; col = col - 4 }) ≡ 0 → (d : Place) → InSheet d → band_of d ≡ band_of c
+    → col - 4 ≤ d.col → number_at t d ≡ 0
 none_behind t c col behind even some empty d inside same from = elim (cases_Bool (nat_lt d.col col)) [
   | inl t' ↦
       let below : d.col < col = ltb-true d.col col t' in
-      let page : page_of d ≡ page_of (record { row = c.row; col = col - 4 }) = omega (arith, same, below, from, even, some) in
+      let page : page_of d ≡ page_of (record { row = c.row; col = col - 4 }) =
+      omega (arith, same, below, from, even, some) in
       ap (λ h. number_in t.numbers h (place_of d)) (ap (λ p. get_or t.heads p 0) page ∙ empty)
   | inr f ↦ behind d inside same (ltb-false d.col col f)
 ]
 
 -- no place has a number up to the end of a page without room, where none has one before the column in it
-pub none_further : (t : Numbers) (c : Place) (col : ℕ) → ((d : Place) → InSheet d → band_of d ≡ band_of c → c.col ≤ d.col → d.col < col → number_at t d ≡ 0)
-    → head_of t (record { row = c.row; col = col }) ≡ 0 → (d : Place) → InSheet d → band_of d ≡ band_of c → c.col ≤ d.col → d.col < col / 4 * 4 + 4 → number_at t d ≡ 0
+pub none_further : (t : Numbers) (c : Place) (col : ℕ)
+    → ((d : Place) → InSheet d → band_of d ≡ band_of c → c.col ≤ d.col → d.col < col → number_at t d ≡ 0)
+    → head_of t (record { row = c.row; col = col }) ≡ 0 → (d : Place) → InSheet d → band_of d ≡ band_of c
+    → c.col ≤ d.col → d.col < col / 4 * 4 + 4 → number_at t d ≡ 0
 none_further t c col before empty d inside same from below = elim (cases_Bool (nat_lt d.col col)) [
   | inl t' ↦ before d inside same from (ltb-true d.col col t')
   | inr f ↦

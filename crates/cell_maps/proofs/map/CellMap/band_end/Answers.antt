@@ -5,4 +5,5 @@ use Rattle.cell_maps.proofs.map.CellMap.band_end.Goals as goal
 
 pub returns-clause-none : goal.returns-clause-none
 returns-clause-none g c d inside same from =
-    ap (λ m. get m d) (sym c.self.view_is) ∙ got_none c.self.inside.table c.self.inside.held.items c.self.invariant d inside (c.band_end.ensures.none d inside same from)
+    ap (λ m. get m d) (sym c.self.view_is) ∙ got_none c.self.inside.table c.self.inside.held.items c.self.invariant d
+    inside (c.band_end.ensures.none d inside same from)

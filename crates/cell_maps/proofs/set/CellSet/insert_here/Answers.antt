@@ -15,8 +15,10 @@ add-requires-clause-few c =
 
 pub add-requires-clause-fresh : goal.add-requires-clause-fresh
 add-requires-clause-fresh c =
-    let absent = ap (λ (s : Cells). has same_place s.keys c.args.cell) c.self.view_is ∙ sym c.contains.ensures ∙ c.if-contains.false in
-    no_number (above c.self.inside.gone c.self.inside.table) c.self.inside.cells.items c.self.invariant.1 c.args.cell c.is_on_sheet.ensures absent
+    let absent = ap (λ (s : Cells). has same_place s.keys c.args.cell) c.self.view_is ∙ sym c.contains.ensures
+    ∙ c.if-contains.false in
+    no_number (above c.self.inside.gone c.self.inside.table) c.self.inside.cells.items c.self.invariant.1 c.args.cell
+    c.is_on_sheet.ensures absent
 
 pub invariant_of-self-2 : goal.invariant_of-self-2
 invariant_of-self-2 c =
@@ -25,8 +27,10 @@ invariant_of-self-2 c =
     let new = above gone c.add.new.table in
     let cells = c.self.inside.cells.items in
     let inside = c.is_on_sheet.ensures in
-    let absent = ap (λ (s : Cells). has same_place s.keys c.args.cell) c.self.view_is ∙ sym c.contains.ensures ∙ c.if-contains.false in (
+    let absent = ap (λ (s : Cells). has same_place s.keys c.args.cell) c.self.view_is ∙ sym c.contains.ensures
+    ∙ c.if-contains.false in (
       c.self.invariant.0,
       subst (AreNumbered new) (sym c.in_ok-add.ensures.cells)
-          (number_last old new cells c.args.cell c.self.invariant.1 inside (no_number old cells c.self.invariant.1 c.args.cell inside absent) c.in_ok-add.ensures.numbers),
+          (number_last old new cells c.args.cell c.self.invariant.1 inside
+          (no_number old cells c.self.invariant.1 c.args.cell inside absent) c.in_ok-add.ensures.numbers),
     )

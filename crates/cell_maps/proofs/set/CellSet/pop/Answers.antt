@@ -11,7 +11,8 @@ pub set-requires : goal.set-requires
 set-requires c =
     let old = above c.self.inside.gone c.self.inside.table in
     let ok = subst (AreNumbered old) c.in-Some.ensures.items c.self.invariant.1 in
-    room old c.in-Some.cell (length c.pop.new.self.items) (ok.told (length c.pop.new.self.items) c.in-Some.cell (last_is c.pop.new.self.items c.in-Some.cell))
+    room old c.in-Some.cell (length c.pop.new.self.items)
+    (ok.told (length c.pop.new.self.items) c.in-Some.cell (last_is c.pop.new.self.items c.in-Some.cell))
 
 pub invariant_of-self : goal.invariant_of-self
 invariant_of-self c =

@@ -10,7 +10,8 @@ loop-end-preserved c =
     let i = c.loop-end.invariant in
     let some = c.loop-end-test.true in
     let row = ap (λ (p : Place). p.row) (sym c.cell.view_is) in
-    let empty = ap (λ r. head_of c.args.self.now (record { row = r; col = c.loop-end.end - 4 })) row ∙ sym c.head_of.ensures ∙ c.if-head_of-ne0.false in
+    let empty = ap (λ r. head_of c.args.self.now (record { row = r; col = c.loop-end.end - 4 })) row
+    ∙ sym c.head_of.ensures ∙ c.if-head_of-ne0.false in
     let within = i.within in
     let even = i.even in
     record {

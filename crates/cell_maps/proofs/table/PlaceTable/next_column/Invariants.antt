@@ -7,7 +7,8 @@ abbrev pub invariant-loop-col : goal.invariant-loop-col
 invariant-loop-col l = record {
   from : l.fn.cell.col ≤ l.col;
   within : l.col ≤ 256;
-  none : (d : Place) → InSheet d → d.row ≡ l.fn.cell.row → l.fn.cell.col ≤ d.col → d.col < l.col → number_at l.self d ≡ 0;
+  none : (d : Place) → InSheet d → d.row ≡ l.fn.cell.row → l.fn.cell.col ≤ d.col → d.col < l.col
+      → number_at l.self d ≡ 0;
 }
 
 abbrev pub decreases-loop-col : goal.decreases-loop-col
