@@ -6,8 +6,10 @@ use Rattle.range_index.specs.inner.Registered.{has_registration, registration_cm
 use Rattle.range_index.proofs.register.enter.Goals as goal
 
 pub returns-clause-done : goal.returns-clause-done
-returns-clause-done c = entered _ c.insert.new.self.keys _ c.insert-2.new.self.keys c.size_of-size.result c.place_of.result c.args.owner c.args.span
-    c.is_on_sheet.ensures c.size_of-size.ensures.one c.size_of-size.ensures.is c.place_of.ensures c.in_ok-insert.ensures.updates.0 c.in_ok-insert-2.ensures.updates.0
+returns-clause-done c = entered _ c.insert.new.self.keys _ c.insert-2.new.self.keys c.size_of-size.result
+    c.place_of.result c.args.owner c.args.span
+    c.is_on_sheet.ensures c.size_of-size.ensures.one c.size_of-size.ensures.is c.place_of.ensures
+    c.in_ok-insert.ensures.updates.0 c.in_ok-insert-2.ensures.updates.0
 
 pub returns-clause-kept : goal.returns-clause-kept
 returns-clause-kept c = stays _ _ _ _

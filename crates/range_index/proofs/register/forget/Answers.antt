@@ -6,4 +6,6 @@ use Rattle.range_index.specs.declared.register.Registration.{Registration}
 use Rattle.range_index.proofs.register.forget.Goals as goal
 
 pub loop-span-preserved : goal.loop-span-preserved
-loop-span-preserved c = λ r a e. other_stays c.loop-span.registrations.keys c.remove.new.self.keys c.place_of.result r (c.remove.ensures.updates.0 r) (subst (λ (k : Registration). same_place r.owner k.owner ≡ false) (sym c.place_of.ensures) a) (c.loop-span.invariant r a e)
+loop-span-preserved c = λ r a e. other_stays c.loop-span.registrations.keys c.remove.new.self.keys c.place_of.result r
+    (c.remove.ensures.updates.0 r) (subst (λ (k : Registration). same_place r.owner k.owner ≡ false)
+    (sym c.place_of.ensures) a) (c.loop-span.invariant r a e)

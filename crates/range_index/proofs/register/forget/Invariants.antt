@@ -5,4 +5,5 @@ use Rattle.range_index.specs.declared.register.Registration.{Registration}
 use Rattle.range_index.proofs.register.forget.Given as goal
 
 abbrev pub invariant-loop-span : goal.invariant-loop-span
-invariant-loop-span l = (r : Registration) → same_place r.owner l.owner ≡ false → has_registration l.fn.registrations.keys r ≡ true → has_registration l.registrations.keys r ≡ true
+invariant-loop-span l = (r : Registration) → same_place r.owner l.owner ≡ false
+    → has_registration l.fn.registrations.keys r ≡ true → has_registration l.registrations.keys r ≡ true

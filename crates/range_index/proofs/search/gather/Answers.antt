@@ -14,12 +14,15 @@ use Rattle.range_index.proofs.search.gather.Goals as goal
 
 pub loop-registration-init : goal.loop-registration-init
 loop-registration-init c =
-    let between = λ (a b : Registration). filter (range_contains registration_cmp (Included a) (Included b)) c.args.registrations.now.keys in
+    let between = λ (a b : Registration). filter (range_contains registration_cmp (Included a) (Included b))
+    c.args.registrations.now.keys in
     record {
       owners = c.requires;
       kept = λ o h. h;
-      left = all_left (from_entries c.args.owners.now.entries) c.args.cell c.args.registrations.now.keys c.args.block.now c.args.found.now.keys _
-          (c.into_iter-registration-iterator.ensures.into_iter_gives ∙ c.range-registration-items.ensures.between (search rules)
+      left = all_left (from_entries c.args.owners.now.entries) c.args.cell c.args.registrations.now.keys
+          c.args.block.now c.args.found.now.keys _
+          (c.into_iter-registration-iterator.ensures.into_iter_gives ∙ c.range-registration-items.ensures.between
+          (search rules)
           ∙ ap (λ a. between a (range_inclusive_end c.new.result)) (c.new.ensures.start ∙ c.first_in.ensures)
           ∙ ap (between (owned c.args.block.now whole.first)) (c.new.ensures.end ∙ c.last_in.ensures));
     }
@@ -28,25 +31,31 @@ pub loop-registration-preserved-in-Continue-1 : goal.loop-registration-preserved
 loop-registration-preserved-in-Continue-1 c =
     let m : Owners = from_entries c.args.owners.now.entries in
     let r : Registration = c.in-Some.registration.now in
-    let left : AreFoundOrLeft m c.args.cell c.args.registrations.now.keys c.args.block.now c.loop-registration.found.keys (r ∷ c.next.new.self) =
-    subst (λ (l : List Registration). AreFoundOrLeft m c.args.cell c.args.registrations.now.keys c.args.block.now c.loop-registration.found.keys l) c.in-Some.ensures.steps c.loop-registration.invariant.left in
+    let left : AreFoundOrLeft m c.args.cell c.args.registrations.now.keys c.args.block.now
+    c.loop-registration.found.keys (r ∷ c.next.new.self) =
+    subst (λ (l : List Registration). AreFoundOrLeft m c.args.cell c.args.registrations.now.keys c.args.block.now
+    c.loop-registration.found.keys l) c.in-Some.ensures.steps c.loop-registration.invariant.left in
     record {
       owners = λ o h. elim (c.in_ok-add.ensures.only o h) [
         | inl k ↦ c.loop-registration.invariant.owners o k
         | inr e ↦ subst (λ (q : Place). hold (spans_in (get m q)) c.args.cell ≡ true) (sym e) (sym c.if-owns.ensures)
       ];
       kept = λ o h. c.in_ok-add.ensures.kept o (c.loop-registration.invariant.kept o h);
-      left = one_found m c.args.cell c.args.registrations.now.keys c.args.block.now c.loop-registration.found.keys c.add.new.found.keys r _ left c.in_ok-add.ensures.kept c.in_ok-add.ensures.has;
+      left = one_found m c.args.cell c.args.registrations.now.keys c.args.block.now c.loop-registration.found.keys
+          c.add.new.found.keys r _ left c.in_ok-add.ensures.kept c.in_ok-add.ensures.has;
     }
 
 pub loop-registration-preserved : goal.loop-registration-preserved
 loop-registration-preserved c =
     let m : Owners = from_entries c.args.owners.now.entries in
     let r : Registration = c.in-Some.registration.now in
-    let left : AreFoundOrLeft m c.args.cell c.args.registrations.now.keys c.args.block.now c.loop-registration.found.keys (r ∷ c.next.new.self) =
-    subst (λ (l : List Registration). AreFoundOrLeft m c.args.cell c.args.registrations.now.keys c.args.block.now c.loop-registration.found.keys l) c.in-Some.ensures.steps c.loop-registration.invariant.left in
+    let left : AreFoundOrLeft m c.args.cell c.args.registrations.now.keys c.args.block.now
+    c.loop-registration.found.keys (r ∷ c.next.new.self) =
+    subst (λ (l : List Registration). AreFoundOrLeft m c.args.cell c.args.registrations.now.keys c.args.block.now
+    c.loop-registration.found.keys l) c.in-Some.ensures.steps c.loop-registration.invariant.left in
     record {
       owners = c.loop-registration.invariant.owners;
       kept = c.loop-registration.invariant.kept;
-      left = one_passed m c.args.cell c.args.registrations.now.keys c.args.block.now c.loop-registration.found.keys r _ left (sym c.if-owns.ensures);
+      left = one_passed m c.args.cell c.args.registrations.now.keys c.args.block.now c.loop-registration.found.keys r _
+          left (sym c.if-owns.ensures);
     }

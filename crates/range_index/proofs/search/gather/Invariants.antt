@@ -6,5 +6,6 @@ abbrev pub invariant-loop-registration : goal.invariant-loop-registration
 invariant-loop-registration l = record {
   owners : AreOwners (from_entries l.owners.entries) l.cell l.found.keys;
   kept : AreAmong l.fn.found.keys l.found.keys;
-  left : AreFoundOrLeft (from_entries l.owners.entries) l.cell l.registrations.keys l.block l.found.keys l.registration-iterator;
+  left : AreFoundOrLeft
+      (from_entries l.owners.entries) l.cell l.registrations.keys l.block l.found.keys l.registration-iterator;
 }

@@ -14,9 +14,11 @@ use Rattle.range_index.proofs.search.has_owner_in.Goals as goal
 
 pub loop-registration-init : goal.loop-registration-init
 loop-registration-init c =
-    let between = λ (a b : Registration). filter (range_contains registration_cmp (Included a) (Included b)) c.args.registrations.now.keys in
+    let between = λ (a b : Registration). filter (range_contains registration_cmp (Included a) (Included b))
+    c.args.registrations.now.keys in
     all_left (from_entries c.args.owners.now.entries) c.args.cell c.args.registrations.now.keys c.args.block.now [] _
-    (c.into_iter-registration-iterator.ensures.into_iter_gives ∙ c.range-registration-items.ensures.between (search rules)
+    (c.into_iter-registration-iterator.ensures.into_iter_gives ∙ c.range-registration-items.ensures.between
+    (search rules)
     ∙ ap (λ a. between a (range_inclusive_end c.new.result)) (c.new.ensures.start ∙ c.first_in.ensures)
     ∙ ap (between (owned c.args.block.now whole.first)) (c.new.ensures.end ∙ c.last_in.ensures))
 
@@ -25,5 +27,6 @@ loop-registration-preserved c =
     let m : Owners = from_entries c.args.owners.now.entries in
     let r : Registration = c.in-Some.registration.now in
     let left : AreFoundOrLeft m c.args.cell c.args.registrations.now.keys c.args.block.now [] (r ∷ c.next.new.self) =
-    subst (λ (l : List Registration). AreFoundOrLeft m c.args.cell c.args.registrations.now.keys c.args.block.now [] l) c.in-Some.ensures.steps c.loop-registration.invariant in
+    subst (λ (l : List Registration). AreFoundOrLeft m c.args.cell c.args.registrations.now.keys c.args.block.now [] l)
+    c.in-Some.ensures.steps c.loop-registration.invariant in
     one_passed m c.args.cell c.args.registrations.now.keys c.args.block.now [] r _ left (sym c.if-owns.ensures)
