@@ -10,10 +10,13 @@ use Rattle.depend_graph.specs.declared.node.Node.{Node}
 use Rattle.depend_graph.specs.declared.slots.Part.{Part}
 use Rattle.depend_graph.specs.declared.slots.Slot.{Slot}
 
-pub get_placed : {X : Type 0} (m : FinMap place_cmp X) (c : Place) (o : Option X) (q : Place) → get (placed m c o) q ≡ cond (same_place q c) o (get m q)
+-- what was put at a place is found there, and elsewhere what was there
+pub get_placed : {X : Type 0} (m : FinMap place_cmp X) (c : Place) (o : Option X) (q : Place)
+    → get (placed m c o) q ≡ cond (same_place q c) o (get m q)
 get_placed m c None q = get_removed m c q
 get_placed m c (Some x) q = get_inserted m c x q
 
+-- what is put where it is already changes nothing
 pub placed_same : {X : Type 0} (m : FinMap place_cmp X) (c : Place) (o : Option X) → get m c ≡ o → placed m c o ≡ m
 placed_same m c o e = same_places _ _ (λ q. get_placed m c o q ∙ elim (cases_Bool (same_place q c)) [
   | inl t ↦ ap (λ b. cond b o (get m q)) t ∙ sym (ap (get m) (same_place_is q c t) ∙ e)

@@ -15,29 +15,35 @@ use Rattle.depend_graph.specs.inner.Within.Within.{reader, seed}
 use Rattle.depend_graph.specs.declared.closure.Search.{Search}
 use Rattle.depend_graph.proofs.Growth.{reader_known, small}
 
-snoc_is : (xs : List Place) (c d : Place) → has same_place (xs ++ c ∷ []) d ≡ true → (has same_place xs d ≡ true) ⊎ (same_place d c ≡ true)
-snoc_is xs c d m = elim (or_cases (has same_place xs d) (same_place d c || false) (sym (list_any-append (same_place d) xs (c ∷ [])) ∙ m)) [
-  | inl h ↦ inl h
-  | inr h ↦ elim (or_cases (same_place d c) false h) [ inl q ↦ inr q | inr q ↦ absurd (false≢true q) ]
-]
+snoc_is : (xs : List Place) (c d : Place) → has same_place (xs ++ c ∷ []) d ≡ true
+    → (has same_place xs d ≡ true) ⊎ (same_place d c ≡ true)
+snoc_is xs c d m = elim
+    (or_cases (has same_place xs d) (same_place d c || false) (sym (list_any-append (same_place d) xs (c ∷ [])) ∙ m)) [
+      | inl h ↦ inl h
+      | inr h ↦ elim (or_cases (same_place d c) false h) [ inl q ↦ inr q | inr q ↦ absurd (false≢true q) ]
+    ]
 
 snoc_in : (xs : List Place) (c d : Place) → has same_place xs d ≡ true → has same_place (xs ++ c ∷ []) d ≡ true
 snoc_in xs c d h = list_any-append (same_place d) xs (c ∷ []) ∙ or_left _ _ h
 
 snoc_last : (xs : List Place) (c d : Place) → same_place d c ≡ true → has same_place (xs ++ c ∷ []) d ≡ true
-snoc_last xs c d h = list_any-append (same_place d) xs (c ∷ []) ∙ or_right (has same_place xs d) (same_place d c || false) (or_left _ _ h)
+snoc_last xs c d h = list_any-append (same_place d) xs (c ∷ [])
+    ∙ or_right (has same_place xs d) (same_place d c || false) (or_left _ _ h)
 
 turned : (c d : Place) (b : Bool) → same_place c d ≡ b → same_place d c ≡ b
 turned c d b h = sym (same_place_laws.symm c d) ∙ h
 
-snoc_not : (xs : List Place) (c d : Place) → has same_place xs d ≡ false → same_place d c ≡ false → has same_place (xs ++ c ∷ []) d ≡ false
-snoc_not xs c d h k = false_from_ne_true _ (λ m. elim (snoc_is xs c d m) [ inl n ↦ true≢false (sym n ∙ h) | inr n ↦ true≢false (sym n ∙ k) ])
+snoc_not : (xs : List Place) (c d : Place) → has same_place xs d ≡ false → same_place d c ≡ false
+    → has same_place (xs ++ c ∷ []) d ≡ false
+snoc_not xs c d h k = false_from_ne_true _
+    (λ m. elim (snoc_is xs c d m) [ inl n ↦ true≢false (sym n ∙ h) | inr n ↦ true≢false (sym n ∙ k) ])
 
 apart_none : IsDistinct same_place []
 unfolding IsDistinct
 apart_none = tt
 
-apart_snoc : (xs : List Place) (c : Place) → IsDistinct same_place xs → has same_place xs c ≡ false → IsDistinct same_place (xs ++ c ∷ [])
+apart_snoc : (xs : List Place) (c : Place) → IsDistinct same_place xs → has same_place xs c ≡ false
+    → IsDistinct same_place (xs ++ c ∷ [])
 unfolding IsDistinct
 apart_snoc [] c d h = (tt, tt)
 apart_snoc (x ∷ xs) c d h = (
@@ -45,13 +51,15 @@ apart_snoc (x ∷ xs) c d h = (
   apart_snoc xs c d.1 (false_from_ne_true _ (λ k. true≢false (sym (or_right (same_place c x) _ k) ∙ h))),
 )
   where
-    all_snoc : (ys : List Place) → same_place x c ≡ false → AllByRecursion (λ y. same_place x y ≡ false) ys → AllByRecursion (λ y. same_place x y ≡ false) (ys ++ c ∷ [])
+    all_snoc : (ys : List Place) → same_place x c ≡ false → AllByRecursion (λ y. same_place x y ≡ false) ys
+        → AllByRecursion (λ y. same_place x y ≡ false) (ys ++ c ∷ [])
     all_snoc [] e a = (e, tt)
     all_snoc (y ∷ ys) e a = (a.0, all_snoc ys e a.1)
 
 module _ (g : Network) (cells : List Place) where
   -- nothing is met, and the cells are on the stack
-  pub searched_none : (s : Search) → ((d : Place) → number_at s.marks d ≡ 0) → s.met.items ≡ [] → s.left.items ≡ [] → s.stack.items ≡ cells → IsSearched g cells s
+  pub searched_none : (s : Search) → ((d : Place) → number_at s.marks d ≡ 0) → s.met.items ≡ [] → s.left.items ≡ []
+      → s.stack.items ≡ cells → IsSearched g cells s
   searched_none s marks met left stack = record {
     unmet = λ c i z. ap (λ xs. has same_place xs c) met;
     marked = λ c i n. absurd (n (marks c));
@@ -68,23 +76,28 @@ module _ (g : Network) (cells : List Place) where
       none : {xs : List Place} (c : Place) → xs ≡ [] → has same_place xs c ≡ true → ⊥
       none c e m = true≢false (sym m ∙ ap (λ ys. has same_place ys c) e)
 
-  module _ (s t : Search) (rest : List Place) (c : Place) (h : IsSearched g cells s) (st : s.stack.items ≡ rest ++ c ∷ []) (inside : InSheet c) where
+  module _ (s t : Search) (rest : List Place) (c : Place) (h : IsSearched g cells s)
+      (st : s.stack.items ≡ rest ++ c ∷ []) (inside : InSheet c) where
     within_here : Within g cells c
     within_here = h.stacked c (ap (λ xs. has same_place xs c) st ∙ snoc_last rest c c (same_place_itself c))
 
-    old_stack : (d : Place) → has same_place s.stack.items d ≡ true → (has same_place rest d ≡ true) ⊎ (same_place d c ≡ true)
+    old_stack : (d : Place) → has same_place s.stack.items d ≡ true
+        → (has same_place rest d ≡ true) ⊎ (same_place d c ≡ true)
     old_stack d m = snoc_is rest c d (sym (ap (λ xs. has same_place xs d) st) ∙ m)
 
     in_old : (d : Place) → has same_place rest d ≡ true → has same_place s.stack.items d ≡ true
     in_old d m = ap (λ xs. has same_place xs d) st ∙ snoc_in rest c d m
 
     -- a cell is met
-    pub entered : number_at s.marks c ≡ 0 → ((d : Place) → InSheet d → number_at t.marks d ≡ cond (same_place c d) 1 (number_at s.marks d))
-        → t.met.items ≡ s.met.items ++ c ∷ [] → t.left.items ≡ s.left.items → IsDeeper g c rest t.stack.items → IsSearched g cells t
+    pub entered : number_at s.marks c ≡ 0
+        → ((d : Place) → InSheet d → number_at t.marks d ≡ cond (same_place c d) 1 (number_at s.marks d))
+        → t.met.items ≡ s.met.items ++ c ∷ [] → t.left.items ≡ s.left.items → IsDeeper g c rest t.stack.items
+        → IsSearched g cells t
     entered zero_here marks met left deep = record {
       unmet = λ d i z. elim (cases_Bool (same_place c d)) [
         | inl e ↦ absurd (one_not (sym (at_here d i e) ∙ z))
-        | inr n ↦ ap (λ xs. has same_place xs d) met ∙ snoc_not s.met.items c d (h.unmet d i (sym (at_other d i n) ∙ z)) (turned c d false n)
+        | inr n ↦ ap (λ xs. has same_place xs d) met
+            ∙ snoc_not s.met.items c d (h.unmet d i (sym (at_other d i n) ∙ z)) (turned c d false n)
       ];
       marked = λ d i n. elim (cases_Bool (same_place c d)) [
         | inl e ↦ ap (λ xs. has same_place xs d) met ∙ snoc_last s.met.items c d (turned c d true e)
@@ -92,7 +105,8 @@ module _ (g : Network) (cells : List Place) where
       ];
       over = λ d i n k. elim (cases_Bool (same_place c d)) [
         | inl e ↦ absurd (k (at_here d i e))
-        | inr f ↦ ap (λ xs. has same_place xs d) left ∙ h.over d i (λ z. n (at_other d i f ∙ z)) (λ z. k (at_other d i f ∙ z))
+        | inr f ↦ ap (λ xs. has same_place xs d) left
+            ∙ h.over d i (λ z. n (at_other d i f ∙ z)) (λ z. k (at_other d i f ∙ z))
       ];
       begun = λ d m. elim (met_is d m) [
         | inl k ↦ elim (h.begun d k) [ inl l ↦ inl (ap (λ xs. has same_place xs d) left ∙ l) | inr w ↦ inr (kept d w) ]
@@ -104,12 +118,18 @@ module _ (g : Network) (cells : List Place) where
         | inl k ↦ elim (h.readers_in x d k r) [ inl l ↦ inl (met_in d l) | inr w ↦ inr (kept d w) ]
         | inr q ↦ inr ((deep.members d).1 (inr (inr (subst (λ y. reads g d y ≡ true) (same_place_is x c q) r))))
       ];
-      met = λ d m. elim (met_is d m) [ inl k ↦ h.met d k | inr q ↦ subst (Within g cells) (sym (same_place_is d c q)) within_here ];
+      met = λ d m. elim
+          (met_is d m) [ inl k ↦ h.met d k | inr q ↦ subst (Within g cells) (sym (same_place_is d c q)) within_here ];
       stacked = λ d m. elim ((deep.members d).0 m) [
         | inl k ↦ h.stacked d (in_old d k)
-        | inr k ↦ elim k [ inl q ↦ subst (Within g cells) (sym (same_place_is d c q)) within_here | inr r ↦ reader within_here r ]
+        | inr k ↦ elim k [
+          | inl q ↦ subst (Within g cells) (sym (same_place_is d c q)) within_here
+          | inr r ↦
+              reader within_here r
+        ]
       ];
-      distinct = subst (IsDistinct same_place) (sym met) (apart_snoc s.met.items c h.distinct (h.unmet c inside zero_here));
+      distinct =
+          subst (IsDistinct same_place) (sym met) (apart_snoc s.met.items c h.distinct (h.unmet c inside zero_here));
     }
       where
         one_not : ◌≡◌ {A = ℕ} 1 0 → ⊥
@@ -124,25 +144,34 @@ module _ (g : Network) (cells : List Place) where
         met_in : (d : Place) → has same_place s.met.items d ≡ true → has same_place t.met.items d ≡ true
         met_in d m = ap (λ xs. has same_place xs d) met ∙ snoc_in s.met.items c d m
 
-        met_is : (d : Place) → has same_place t.met.items d ≡ true → (has same_place s.met.items d ≡ true) ⊎ (same_place d c ≡ true)
+        met_is : (d : Place) → has same_place t.met.items d ≡ true
+            → (has same_place s.met.items d ≡ true) ⊎ (same_place d c ≡ true)
         met_is d m = snoc_is s.met.items c d (sym (ap (λ xs. has same_place xs d) met) ∙ m)
 
         kept : (d : Place) → has same_place s.stack.items d ≡ true → has same_place t.stack.items d ≡ true
-        kept d m = elim (old_stack d m) [ inl k ↦ (deep.members d).1 (inl k) | inr q ↦ (deep.members d).1 (inr (inl q)) ]
+        kept d m =
+            elim (old_stack d m) [ inl k ↦ (deep.members d).1 (inl k) | inr q ↦ (deep.members d).1 (inr (inl q)) ]
 
     -- a cell that was met is off the stack
-    shortened : t.met.items ≡ s.met.items → t.stack.items ≡ rest → has same_place t.left.items c ≡ true → has same_place s.met.items c ≡ true
-        → ((d : Place) → has same_place s.left.items d ≡ true → has same_place t.left.items d ≡ true) → ((d : Place) → has same_place t.left.items d ≡ true → has same_place s.met.items d ≡ true)
+    shortened : t.met.items ≡ s.met.items → t.stack.items ≡ rest → has same_place t.left.items c ≡ true
+        → has same_place s.met.items c ≡ true
+        → ((d : Place) → has same_place s.left.items d ≡ true → has same_place t.left.items d ≡ true)
+        → ((d : Place) → has same_place t.left.items d ≡ true → has same_place s.met.items d ≡ true)
         → ((d : Place) → InSheet d → number_at t.marks d ≡ 0 → has same_place s.met.items d ≡ false)
         → ((d : Place) → InSheet d → (number_at t.marks d ≡ 0 → ⊥) → has same_place s.met.items d ≡ true)
-        → ((d : Place) → InSheet d → (number_at t.marks d ≡ 0 → ⊥) → (number_at t.marks d ≡ 1 → ⊥) → has same_place t.left.items d ≡ true) → IsSearched g cells t
+        → ((d : Place) → InSheet d → (number_at t.marks d ≡ 0 → ⊥) → (number_at t.marks d ≡ 1 → ⊥)
+        → has same_place t.left.items d ≡ true) → IsSearched g cells t
     shortened met stack here known more only unmet marked over = record {
       unmet = λ d i z. ap (λ xs. has same_place xs d) met ∙ unmet d i z;
       marked = λ d i n. met_in d (marked d i n);
       over = over;
       begun = λ d m. elim (h.begun d (met_is d m)) [
         | inl l ↦ inl (more d l)
-        | inr w ↦ elim (old_stack d w) [ inl k ↦ inr (stack_in d k) | inr q ↦ inl (subst (λ y. has same_place t.left.items y ≡ true) (sym (same_place_is d c q)) here) ]
+        | inr w ↦ elim (old_stack d w) [
+          | inl k ↦ inr (stack_in d k)
+          | inr q ↦
+              inl (subst (λ y. has same_place t.left.items y ≡ true) (sym (same_place_is d c q)) here)
+        ]
       ];
       left = λ d m. met_in d (only d m);
       cells_in = λ d m. off d (h.cells_in d m);
@@ -161,7 +190,8 @@ module _ (g : Network) (cells : List Place) where
         stack_in : (d : Place) → has same_place rest d ≡ true → has same_place t.stack.items d ≡ true
         stack_in d m = ap (λ xs. has same_place xs d) stack ∙ m
 
-        off : (d : Place) → (has same_place s.met.items d ≡ true) ⊎ (has same_place s.stack.items d ≡ true) → (has same_place t.met.items d ≡ true) ⊎ (has same_place t.stack.items d ≡ true)
+        off : (d : Place) → (has same_place s.met.items d ≡ true) ⊎ (has same_place s.stack.items d ≡ true)
+            → (has same_place t.met.items d ≡ true) ⊎ (has same_place t.stack.items d ≡ true)
         off d (inl m) = inl (met_in d m)
         off d (inr w) = elim (old_stack d w) [
           | inl k ↦ inr (stack_in d k)
@@ -169,8 +199,10 @@ module _ (g : Network) (cells : List Place) where
         ]
 
     -- a cell is left
-    pub left_now : (number_at s.marks c ≡ 0 → ⊥) → ((d : Place) → InSheet d → number_at t.marks d ≡ cond (same_place c d) 2 (number_at s.marks d))
-        → t.met.items ≡ s.met.items → t.left.items ≡ s.left.items ++ c ∷ [] → t.stack.items ≡ rest → IsSearched g cells t
+    pub left_now : (number_at s.marks c ≡ 0 → ⊥)
+        → ((d : Place) → InSheet d → number_at t.marks d ≡ cond (same_place c d) 2 (number_at s.marks d))
+        → t.met.items ≡ s.met.items → t.left.items ≡ s.left.items ++ c ∷ [] → t.stack.items ≡ rest
+        → IsSearched g cells t
     left_now some marks met left stack = shortened met stack (last c (same_place_itself c)) known more only
         (λ d i z. elim (cases_Bool (same_place c d)) [
           | inl e ↦ absurd (two_not (sym (at_here d i e) ∙ z))
@@ -210,23 +242,20 @@ module _ (g : Network) (cells : List Place) where
         ]
 
     -- a cell that was left before is off the stack
-    pub passed : (number_at s.marks c ≡ 0 → ⊥) → (number_at s.marks c ≡ 1 → ⊥) → t.marks ≡ s.marks → t.met.items ≡ s.met.items → t.left.items ≡ s.left.items → t.stack.items ≡ rest → IsSearched g cells t
-    passed some gone marks met left stack = shortened met stack (ap (λ xs. has same_place xs c) left ∙ h.over c inside some gone) (h.marked c inside some)
+    pub passed : (number_at s.marks c ≡ 0 → ⊥) → (number_at s.marks c ≡ 1 → ⊥) → t.marks ≡ s.marks
+        → t.met.items ≡ s.met.items → t.left.items ≡ s.left.items → t.stack.items ≡ rest → IsSearched g cells t
+    passed some gone marks met left stack =
+        shortened met stack (ap (λ xs. has same_place xs c) left ∙ h.over c inside some gone) (h.marked c inside some)
         (λ d m. ap (λ xs. has same_place xs d) left ∙ m)
         (λ d m. h.left d (sym (ap (λ xs. has same_place xs d) left) ∙ m))
         (λ d i z. h.unmet d i (sym (ap (λ m. number_at m d) marks) ∙ z))
         (λ d i n. h.marked d i (λ z. n (ap (λ m. number_at m d) marks ∙ z)))
-        (λ d i n k. ap (λ xs. has same_place xs d) left ∙ h.over d i (λ z. n (ap (λ m. number_at m d) marks ∙ z)) (λ z. k (ap (λ m. number_at m d) marks ∙ z)))
+        (λ d i n k. ap (λ xs. has same_place xs d) left
+        ∙ h.over d i (λ z. n (ap (λ m. number_at m d) marks ∙ z)) (λ z. k (ap (λ m. number_at m d) marks ∙ z)))
 
-    pub shortened_less : t.met.items ≡ s.met.items → t.stack.items ≡ rest → work_left g cells t < work_left g cells s
-    shortened_less met stack =
-        let a = ap length met in
-        let b = ap length stack in
-        let k = ap length st in
-        let l = length-append rest (c ∷ []) in
-        omega (arith, a, b, k, l)
-
-    pub entered_less : IsSearched g cells t → t.met.items ≡ s.met.items ++ c ∷ [] → IsDeeper g c rest t.stack.items → work_left g cells t < work_left g cells s
+    -- a step that meets a new cell leaves less work, whatever it puts on the stack
+    pub entered_less : IsSearched g cells t → t.met.items ≡ s.met.items ++ c ∷ [] → IsDeeper g c rest t.stack.items
+        → work_left g cells t < work_left g cells s
     entered_less new met deep =
         let a = ap length met in
         let b = length-append s.met.items (c ∷ []) in
@@ -236,15 +265,21 @@ module _ (g : Network) (cells : List Place) where
       where
         within_known : {d : Place} → Within g cells d → has same_place (cells ++ all g) d ≡ true
         within_known {d} (seed m) = list_any-append (same_place d) cells (all g) ∙ or_left _ _ m
-        within_known {d} (reader {c = e} w r) = list_any-append (same_place d) cells (all g) ∙ or_right (has same_place cells d) _ (reader_known g d e r)
+        within_known {d} (reader {c = e} w r) = list_any-append (same_place d) cells (all g)
+            ∙ or_right (has same_place cells d) _ (reader_known g d e r)
 
-  met_all : (s : Search) → IsSearched g cells s → s.stack.items ≡ [] → {c : Place} → Within g cells c → has same_place s.met.items c ≡ true
-  met_all s h e {c} (seed m) = elim (h.cells_in c m) [ inl k ↦ k | inr w ↦ absurd (true≢false (sym w ∙ ap (λ xs. has same_place xs c) e)) ]
-  met_all s h e {c} (reader {c = d} w r) = elim (h.readers_in d c (met_all s h e w) r) [ inl k ↦ k | inr w ↦ absurd (true≢false (sym w ∙ ap (λ xs. has same_place xs c) e)) ]
+  met_all : (s : Search) → IsSearched g cells s → s.stack.items ≡ [] → {c : Place} → Within g cells c
+      → has same_place s.met.items c ≡ true
+  met_all s h e {c} (seed m) =
+      elim (h.cells_in c m) [ inl k ↦ k | inr w ↦ absurd (true≢false (sym w ∙ ap (λ xs. has same_place xs c) e)) ]
+  met_all s h e {c} (reader {c = d} w r) = elim (h.readers_in d c (met_all s h e w) r)
+      [ inl k ↦ k | inr w ↦ absurd (true≢false (sym w ∙ ap (λ xs. has same_place xs c) e)) ]
 
   -- with nothing on the stack, what was left is all that is within
-  pub searched_all : (s : Search) → IsSearched g cells s → s.stack.items ≡ [] → (c : Place) → (has same_place s.left.items c ≡ true) ↔ Within g cells c
+  pub searched_all : (s : Search) → IsSearched g cells s → s.stack.items ≡ [] → (c : Place)
+      → (has same_place s.left.items c ≡ true) ↔ Within g cells c
   searched_all s h e c = (
     (λ m. h.met c (h.left c m)),
-    (λ w. elim (h.begun c (met_all s h e w)) [ inl k ↦ k | inr m ↦ absurd (true≢false (sym m ∙ ap (λ xs. has same_place xs c) e)) ]),
+    (λ w. elim (h.begun c (met_all s h e w))
+        [ inl k ↦ k | inr m ↦ absurd (true≢false (sym m ∙ ap (λ xs. has same_place xs c) e)) ]),
   )

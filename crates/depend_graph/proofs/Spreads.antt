@@ -16,11 +16,15 @@ use Rattle.depend_graph.specs.declared.spread.LastSpreads.{LastSpreads}
 use Rattle.depend_graph.specs.declared.spread.Spread.{Spread}
 
 -- which cells a formula reaches hangs on the formulas alone
-reaches_along : (a b : Network) → a.formulas ≡ b.formulas → {c d : Place} → ReachesCell (reads a) c d → ReachesCell (reads b) c d
+reaches_along : (a b : Network) → a.formulas ≡ b.formulas → {c d : Place} → ReachesCell (reads a) c d
+    → ReachesCell (reads b) c d
 reaches_along a b e {c} {d} (direct r) = direct (sym (ap (λ f. holds (get f c) d) e) ∙ r)
-reaches_along a b e {c} {d} (through {e = x} r q) = through (sym (ap (λ f. holds (get f c) x) e) ∙ r) (reaches_along a b e q)
+reaches_along a b e {c} {d} (through {e = x} r q) =
+    through (sym (ap (λ f. holds (get f c) x) e) ∙ r) (reaches_along a b e q)
 
-pub spread_along : (a b : Network) → a.formulas ≡ b.formulas → (cells : List Place) (c : Place) → IsSpread a cells c → IsSpread b cells c
+-- graphs with the same formulas spread to the same
+pub spread_along : (a b : Network) → a.formulas ≡ b.formulas → (cells : List Place) (c : Place) → IsSpread a cells c
+    → IsSpread b cells c
 spread_along a b e cells c p = record {
   formula = sym (ap (λ f. is_some (get f c)) e) ∙ p.formula;
   way = elim p.way [
@@ -29,13 +33,15 @@ spread_along a b e cells c p = record {
   ];
 }
 
-first_along : (a b : Network) → a.formulas ≡ b.formulas → (cells : List Place) (c : Place) → StandsFirst (is_volatile_at a) (reads a) cells c → StandsFirst (is_volatile_at b) (reads b) cells c
+first_along : (a b : Network) → a.formulas ≡ b.formulas → (cells : List Place) (c : Place)
+    → StandsFirst (is_volatile_at a) (reads a) cells c → StandsFirst (is_volatile_at b) (reads b) cells c
 first_along a b e cells c h = record {
   steady = ap (λ f. is_volatile (get f c)) (sym e) ∙ h.steady;
   ahead = λ d m. ap (λ f. holds (get f c) d) (sym e) ∙ h.ahead d m;
 }
 
-order_along : (a b : Network) → a.formulas ≡ b.formulas → (cells : List Place) → GoesInOrder a cells → GoesInOrder b cells
+order_along : (a b : Network) → a.formulas ≡ b.formulas → (cells : List Place) → GoesInOrder a cells
+    → GoesInOrder b cells
 order_along a b e [] h = tt
 order_along a b e (c ∷ cs) h = (first_along a b e (c ∷ cs) c h.0, order_along a b e cs h.1)
 
@@ -68,7 +74,8 @@ none_of (Some n) h = absurd (true≢false h)
 none_removed : (m : Nodes) (c : Place) → is_some (get m c) ≡ false → m ≡ remove m c
 none_removed m c f = same_places _ _ (λ d. with d (cases_Bool (same_place d c)) ∙ sym (get_removed m c d))
   where
-    with : (d : Place) → (same_place d c ≡ true) ⊎ (same_place d c ≡ false) → get m d ≡ cond (same_place d c) None (get m d)
+    with : (d : Place) → (same_place d c ≡ true) ⊎ (same_place d c ≡ false)
+        → get m d ≡ cond (same_place d c) None (get m d)
     with d (inl t) = ap (get m) (same_place_is d c t) ∙ none_of (get m c) f ∙ ap (λ b. cond b None (get m d)) (sym t)
     with d (inr n) = ap (λ b. cond b None (get m d)) (sym n)
 
@@ -81,6 +88,8 @@ pub none_withdrawn : (g : Network) (c : Place) → is_some (get g.offers c) ≡ 
 none_withdrawn g c f = ap {B = Network} (λ (m : Nodes). record g { offers = m }) (none_removed g.offers c f)
 
 -- what is kept of a cell is what it spreads to
-pub kept_is : (g : Network) (kept : Option Spread) (cell : Place) → IsKept g kept → is_of kept cell ≡ true → (c : Place) → (has same_place (list_of kept) c ≡ true) ↔ IsSpread g (cell ∷ []) c
+pub kept_is : (g : Network) (kept : Option Spread) (cell : Place) → IsKept g kept → is_of kept cell ≡ true → (c : Place)
+    → (has same_place (list_of kept) c ≡ true) ↔ IsSpread g (cell ∷ []) c
 kept_is g None cell h t = absurd (false≢true t)
-kept_is g (Some s) cell h t = subst (λ (x : Place). (c : Place) → (has same_place s.list c ≡ true) ↔ IsSpread g (x ∷ []) c) (same_place_is s.cell cell t) ((h s refl).members)
+kept_is g (Some s) cell h t = subst (λ (x : Place). (c : Place)
+    → (has same_place s.list c ≡ true) ↔ IsSpread g (x ∷ []) c) (same_place_is s.cell cell t) ((h s refl).members)

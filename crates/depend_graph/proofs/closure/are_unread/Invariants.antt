@@ -5,4 +5,5 @@ use Rattle.depend_graph.specs.Network.{reads}
 use Rattle.depend_graph.proofs.closure.are_unread.Given as goal
 
 abbrev pub invariant-loop-cell : goal.invariant-loop-cell
-invariant-loop-cell l = (c : Place) → has same_place (take l.cell-index l.fn.cells) c ≡ true → (d : Place) → reads l.fn.graph d c ≡ false
+invariant-loop-cell l = (c : Place) → has same_place (take l.cell-index l.fn.cells) c ≡ true → (d : Place)
+    → reads l.fn.graph d c ≡ false

@@ -7,7 +7,8 @@ use Rattle.depend_graph.proofs.closure.formulas_backward.Given as goal
 abbrev pub invariant-back : goal.invariant-back
 invariant-back l = record {
   within : l.next ≤ length l.cells;
-  members : (c : Place) → (has same_place l.list c ≡ true) ↔ ((has same_place (drop l.next l.cells) c ≡ true) × (is_formula l.graph c ≡ true));
+  members : (c : Place) → (has same_place l.list c ≡ true) ↔ ((has same_place (drop l.next l.cells) c ≡ true)
+      × (is_formula l.graph c ≡ true));
 }
 
 abbrev pub decreases-back : goal.decreases-back

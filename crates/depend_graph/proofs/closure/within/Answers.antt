@@ -10,7 +10,9 @@ steps-preserved c = c.in_ok-step.ensures.searched c.args.cells.now c.steps.invar
 pub returns : goal.returns
 returns c =
     let over : c.is_empty.result ≡ true = search rules in
-    let last : ◌≡◌ {A = ℕ} (vec_len c.steps.search.stack) 0 = eqb-true (vec_len c.steps.search.stack) 0 (sym c.is_empty.ensures ∙ over) in
+    let last : ◌≡◌ {A = ℕ} (vec_len c.steps.search.stack) 0 =
+    eqb-true (vec_len c.steps.search.stack) 0 (sym c.is_empty.ensures ∙ over) in
     let ok = c.steps.search.stack.ok.0 in
     let none : length c.steps.search.stack.items ≡ 0 = omega (arith, last, ok) in
-    λ x. searched_all c.args.graph.now c.args.cells.now c.steps.search c.steps.invariant (nil_from_length c.steps.search.stack.items none) x
+    λ x. searched_all c.args.graph.now c.args.cells.now c.steps.search c.steps.invariant
+    (nil_from_length c.steps.search.stack.items none) x

@@ -13,11 +13,14 @@ use Rattle.depend_graph.proofs.lists.add.Goals as goal
 pub returns-in-Some-clause-kept : goal.returns-in-Some-clause-kept
 returns-in-Some-clause-kept c =
     let m : Lists = c.args.lists.now in
-    kept_inserted m (insert m c.args.cell c.put.new.list) c.args.cell c.put.new.list (λ d. get_inserted m c.args.cell c.put.new.list d)
-    (λ d h. c.put.ensures.kept d (ap (λ (o : Option (Vec Place)). has same_place (items_in o) d) c.in-Some.ensures.value ∙ h))
+    kept_inserted m (insert m c.args.cell c.put.new.list) c.args.cell c.put.new.list
+    (λ d. get_inserted m c.args.cell c.put.new.list d)
+    (λ d h. c.put.ensures.kept d
+    (ap (λ (o : Option (Vec Place)). has same_place (items_in o) d) c.in-Some.ensures.value ∙ h))
 
 pub returns-in-Some-clause-here : goal.returns-in-Some-clause-here
-returns-in-Some-clause-here c = subst (λ (l : List Place). OnOk c.put.result (has same_place l c.args.formula ≡ true)) (sym (list_inserted c.args.lists.now c.args.cell c.put.new.list)) c.put.ensures.here
+returns-in-Some-clause-here c = subst (λ (l : List Place). OnOk c.put.result (has same_place l c.args.formula ≡ true))
+    (sym (list_inserted c.args.lists.now c.args.cell c.put.new.list)) c.put.ensures.here
 
 pub returns-in_ok-insert-in-None-clause-kept : goal.returns-in_ok-insert-in-None-clause-kept
 returns-in_ok-insert-in-None-clause-kept c =
@@ -25,9 +28,11 @@ returns-in_ok-insert-in-None-clause-kept c =
     let v : Vec Place = c.in_ok-list-in-None.list in
     subst (AreKept m) (sym c.in_ok-insert-in-None.ensures.ok)
     (kept_inserted m (insert m c.args.cell v) c.args.cell v (λ d. get_inserted m c.args.cell v d)
-    (λ d h. absurd (false≢true (ap (λ (o : Option (Vec Place)). has same_place (items_in o) d) c.in-None.ensures.value ∙ h))))
+    (λ d h.
+    absurd (false≢true (ap (λ (o : Option (Vec Place)). has same_place (items_in o) d) c.in-None.ensures.value ∙ h))))
 
 pub returns-in_ok-insert-in-None-clause-here : goal.returns-in_ok-insert-in-None-clause-here
 returns-in_ok-insert-in-None-clause-here c =
     ap (λ (m : Lists). has same_place (list_at m c.args.cell) c.args.formula) c.in_ok-insert-in-None.ensures.ok
-    ∙ ap (λ l. has same_place l c.args.formula) (list_inserted c.args.lists.now c.args.cell c.in_ok-list-in-None.list) ∙ c.in_ok-list-in-None.ensures
+    ∙ ap (λ l. has same_place l c.args.formula) (list_inserted c.args.lists.now c.args.cell c.in_ok-list-in-None.list)
+    ∙ c.in_ok-list-in-None.ensures

@@ -19,7 +19,8 @@ no_entry = nil_from_length (entries nothing) (sym (len-entries nothing) ∙ len-
 pub returns-then-is_empty : goal.returns-then-is_empty
 returns-then-is_empty c = λ d.
     (let is : c.args.index.now ≡ nothing = c.is_empty.ensures c.if-is_empty.true in
-    let none : owners_of c.args.index.now c.args.cell ≡ [] = ap (λ (m : Owners). owners_of m c.args.cell) is ∙ ap (owners_among c.args.cell) no_entry in (
+    let none : owners_of c.args.index.now c.args.cell ≡ [] = ap (λ (m : Owners). owners_of m c.args.cell) is
+    ∙ ap (owners_among c.args.cell) no_entry in (
       (λ h. inl h),
       (λ h. elim h [
         | inl k ↦ k

@@ -15,7 +15,8 @@ returns c = λ d.
     let first = c.in_ok-add_listed.ensures d in
     let second = c.in_ok-add_owners.ensures d in
     let third = c.in_ok-add_owners-2.ensures d in
-    let same : reads (network_of m) d c.args.cell ≡ holds (had node_in (get m d)) c.args.cell = ap (λ (o : Option Node). holds o c.args.cell) (get_picked node_in m d) in (
+    let same : reads (network_of m) d c.args.cell ≡ holds (had node_in (get m d)) c.args.cell =
+    ap (λ (o : Option Node). holds o c.args.cell) (get_picked node_in m d) in (
       (λ h. elim (third.0 h) [
         | inl k ↦ elim (second.0 k) [
           | inl l ↦ elim (first.0 l) [ inl old ↦ inl old | inr r ↦ inr (same ∙ r.1) ]
@@ -25,12 +26,13 @@ returns c = λ d.
       ]),
       (λ h. elim h [
         | inl old ↦ third.1 (inl (second.1 (inl (first.1 (inl old)))))
-        | inr r ↦ elim (found m c.args.lists.now c.args.banks.now.even c.args.banks.now.odd c.requires.registered c.requires.listed c.args.cell d (sym same ∙ r)) [
-          | inl k ↦ third.1 (inl (second.1 (inl (first.1 (inr (k, sym same ∙ r))))))
-          | inr q ↦ elim q [
-            | inl k ↦ third.1 (inl (second.1 (inr (k, sym same ∙ r))))
-            | inr k ↦ third.1 (inr (k, sym same ∙ r))
-          ]
-        ]
+        | inr r ↦ elim (found m c.args.lists.now c.args.banks.now.even c.args.banks.now.odd c.requires.registered
+            c.requires.listed c.args.cell d (sym same ∙ r)) [
+              | inl k ↦ third.1 (inl (second.1 (inl (first.1 (inr (k, sym same ∙ r))))))
+              | inr q ↦ elim q [
+                | inl k ↦ third.1 (inl (second.1 (inr (k, sym same ∙ r))))
+                | inr k ↦ third.1 (inr (k, sym same ∙ r))
+              ]
+            ]
       ]),
     )

@@ -6,6 +6,7 @@ use Rattle.depend_graph.proofs.sets.insert_all.Given as goal
 
 abbrev pub invariant-loop-cell : goal.invariant-loop-cell
 invariant-loop-cell l = record {
-  members : (c : Place) → has same_place l.set.keys c ≡ (has same_place l.fn.set.keys c || has same_place (take l.cell-index l.cells) c);
+  members : (c : Place)
+      → has same_place l.set.keys c ≡ (has same_place l.fn.set.keys c || has same_place (take l.cell-index l.cells) c);
   extends : Extends l.fn.set.keys l.set.keys;
 }

@@ -17,11 +17,14 @@ returns-in-Some c =
     let m : Slots = c.args.slots.now in
     let s : Slot = c.in-Some.slot.now in
     let found : get m c.args.cell ≡ Some s = sym c.in-Some.ensures.value in
-    let some : is_some (had (other_in c.args.part) (Some s)) ≡ true = ap (λ (o : Option Slot). is_some (had (other_in c.args.part) o)) (sym found) ∙ sym c.if-not-has_other.ensures in
-    ap (λ (x : Slot). placed m c.args.cell (Some x)) c.clear.ensures ∙ sym (ap (λ (o : Option Slot). placed m c.args.cell (without c.args.part o)) found ∙ ap (placed m c.args.cell) (part_cleared c.args.part s some))
+    let some : is_some (had (other_in c.args.part) (Some s)) ≡ true =
+    ap (λ (o : Option Slot). is_some (had (other_in c.args.part) o)) (sym found) ∙ sym c.if-not-has_other.ensures in
+    ap (λ (x : Slot). placed m c.args.cell (Some x)) c.clear.ensures ∙ sym (ap (λ (o : Option Slot). placed m
+    c.args.cell (without c.args.part o)) found ∙ ap (placed m c.args.cell) (part_cleared c.args.part s some))
 
 pub returns-in-None : goal.returns-in-None
 returns-in-None c =
     let m : Slots = c.args.slots.now in
     let found : get m c.args.cell ≡ None = sym c.in-None.ensures.value in
-    sym (ap (λ (o : Option Slot). placed m c.args.cell (without c.args.part o)) found ∙ placed_same m c.args.cell None found)
+    sym (ap (λ (o : Option Slot). placed m c.args.cell (without c.args.part o)) found
+    ∙ placed_same m c.args.cell None found)

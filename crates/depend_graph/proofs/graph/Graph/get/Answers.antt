@@ -6,4 +6,5 @@ use Rattle.depend_graph.specs.inner.Slots.{node_in}
 use Rattle.depend_graph.proofs.graph.Graph.get.Goals as goal
 
 pub returns : goal.returns
-returns c = c.node_of.ensures ∙ sym (get_picked node_in c.self.inside.slots c.args.cell) ∙ ap (λ (g : Network). get g.formulas c.args.cell) c.self.view_is
+returns c = c.node_of.ensures ∙ sym (get_picked node_in c.self.inside.slots c.args.cell)
+    ∙ ap (λ (g : Network). get g.formulas c.args.cell) c.self.view_is
