@@ -1,10 +1,12 @@
 -- Why a pass along an order of the dirty formulas is a pass along all formulas in their natural order.
-use Rattle.std.specs.Prelude.{ℕ, zero, suc, ◌≡◌, ◌<◌, ◌&&◌, ◌||◌, Bool, true, false, cond, not, List, [], ◌∷◌, Option, None, Some}
+use Rattle.std.specs.Prelude.{ℕ, zero, suc, ◌≡◌, ◌<◌, ◌&&◌, ◌||◌, Bool, true, false, cond, not, List, [], ◌∷◌, Option}
+use Rattle.std.specs.Prelude.{None, Some}
 use Rattle.std.specs.FinMap.{get}
 use Rattle.std.specs.List.{filter}
 use Rattle.std.specs.Option.{is_some}
 use Rattle.std.proofs.Common.{sym, ◌∙◌, ap, subst, refl, inl, inr, arith}
-use Rattle.std.proofs.lemmas.Bool.{and_parts, true≢false, false≢true, cases_Bool, false_from_ne_true, or_cases, or_left, or_right}
+use Rattle.std.proofs.lemmas.Bool.{and_parts, true≢false, false≢true, cases_Bool, false_from_ne_true, or_cases, or_left}
+use Rattle.std.proofs.lemmas.Bool.{or_right}
 use Rattle.grid_address.proofs.Places.{same_place_is, same_place_itself, same_places}
 use Rattle.grid_address.specs.Place.{same_place, Place}
 use Rattle.formula_tree.specs.Spans.{is_volatile, spans_of}
@@ -23,12 +25,14 @@ use Rattle.recalculation.proofs.Cut.{pass_is_cut, value_revalued}
 use Rattle.recalculation.proofs.Ends.{none_stays}
 use Rattle.recalculation.proofs.First.{rest_of, what_stays_along}
 use Rattle.recalculation.proofs.Members.{has_pre}
-use Rattle.recalculation.proofs.Rest.{formulas_all, further, onto, onto-has, onto-seen, right_all, settled_pass, IsRight}
+use Rattle.recalculation.proofs.Rest.{formulas_all, further, onto, onto-has, onto-seen, right_all, settled_pass}
+use Rattle.recalculation.proofs.Rest.{IsRight}
 use Rattle.recalculation.proofs.Valued.{told_valued, with_value}
 use Rattle.recalculation.specs.Context.{formula_at, outlook_at, value_at, value_of, Context}
 use Rattle.recalculation.specs.InOrder.{GoesInOrder}
 use Rattle.recalculation.specs.inner.Laws.{has_formula}
-use Rattle.recalculation.specs.Passes.{evaluated, pass, passes, revalued, IsPlain, IsRest, IsSound, IsWhatStays, Meaning, SameContents}
+use Rattle.recalculation.specs.Passes.{evaluated, pass, passes, revalued, IsPlain, IsRest, IsSound, IsWhatStays}
+use Rattle.recalculation.specs.Passes.{Meaning, SameContents}
 use Rattle.recalculation.specs.inner.Meanings.{IsMeaning}
 use Rattle.recalculation.specs.Reading.{is_formula_at, natural_order, pre, spans_at, spans_in, volatile_of}
 
@@ -45,14 +49,18 @@ abbrev place_in : List Place → Place → ℕ
 place_in [] c = 0
 place_in (x ∷ xs) c = cond (same_place c x) 0 (suc (place_in xs c))
 
-read_held : (g : Grid) (c d : Place) → has same_place (pre g c) d ≡ true → (is_formula_at g d ≡ true) × (hold (spans_at g c) d ≡ true)
+read_held : (g : Grid) (c d : Place) → has same_place (pre g c) d ≡ true
+    → (is_formula_at g d ≡ true) × (hold (spans_at g c) d ≡ true)
 read_held g c d m = and_parts (is_formula_at g d) (hold (spans_at g c) d) (sym (has_pre g c d) ∙ m)
 
-rest_has : (x : Place) (xs : List Place) (c : Place) → same_place c x ≡ false → has same_place (x ∷ xs) c ≡ true → has same_place xs c ≡ true
-rest_has x xs c f m = elim (or_cases (same_place c x) (has same_place xs c) m) [ inl h ↦ absurd (true≢false (sym h ∙ f)) | inr h ↦ h ]
+rest_has : (x : Place) (xs : List Place) (c : Place) → same_place c x ≡ false → has same_place (x ∷ xs) c ≡ true
+    → has same_place xs c ≡ true
+rest_has x xs c f m =
+    elim (or_cases (same_place c x) (has same_place xs c) m) [ inl h ↦ absurd (true≢false (sym h ∙ f)) | inr h ↦ h ]
 
 -- what a formula reads of the list stands before it
-earlier : (g : Grid) (cs : List Place) → GoesInOrder g cs → (c d : Place) → has same_place cs c ≡ true → has same_place cs d ≡ true → hold (spans_at g c) d ≡ true → place_in cs d < place_in cs c
+earlier : (g : Grid) (cs : List Place) → GoesInOrder g cs → (c d : Place) → has same_place cs c ≡ true
+    → has same_place cs d ≡ true → hold (spans_at g c) d ≡ true → place_in cs d < place_in cs c
 earlier g [] o c d mc md h = absurd (false≢true mc)
 earlier g (x ∷ cs) o c d mc md h = elim (cases_Bool (same_place c x)) [
   | inl e ↦ absurd (true≢false (sym h ∙ ap (λ y. hold (spans_at g y) d) (same_place_is c x e) ∙ o.0.ahead d md))
@@ -68,13 +76,15 @@ earlier g (x ∷ cs) o c d mc md h = elim (cases_Bool (same_place c x)) [
         let b : place_in (x ∷ cs) c ≡ suc (place_in cs c) = ap (λ b. cond b 0 (suc (place_in cs c))) f in
         omega (arith, a, b)
 
-    later : same_place d x ≡ false → same_place c x ≡ false → place_in cs d < place_in cs c → place_in (x ∷ cs) d < place_in (x ∷ cs) c
+    later : same_place d x ≡ false → same_place c x ≡ false → place_in cs d < place_in cs c
+        → place_in (x ∷ cs) d < place_in (x ∷ cs) c
     later k f h =
         let a : place_in (x ∷ cs) d ≡ suc (place_in cs d) = ap (λ b. cond b 0 (suc (place_in cs d))) k in
         let b : place_in (x ∷ cs) c ≡ suc (place_in cs c) = ap (λ b. cond b 0 (suc (place_in cs c))) f in
         omega (arith, a, b, h)
 
-steady_in : (g : Grid) (cs : List Place) → GoesInOrder g cs → (c : Place) → has same_place cs c ≡ true → volatile_of (formula_at g c) ≡ false
+steady_in : (g : Grid) (cs : List Place) → GoesInOrder g cs → (c : Place) → has same_place cs c ≡ true
+    → volatile_of (formula_at g c) ≡ false
 steady_in g [] o c m = absurd (false≢true m)
 steady_in g (x ∷ cs) o c m = elim (or_cases (same_place c x) (has same_place cs c) m) [
   | inl e ↦ ap (λ y. volatile_of (formula_at g y)) (same_place_is c x e) ∙ o.0.steady
@@ -82,7 +92,8 @@ steady_in g (x ∷ cs) o c m = elim (or_cases (same_place c x) (has same_place c
 ]
 
 -- along the order each formula comes after those that it reads, where the others were seen before
-precedes : (g : Grid) (cs seen : List Place) → GoesInOrder g cs → ((d : Place) → is_formula_at g d ≡ true → has same_place cs d ≡ false → has same_place seen d ≡ true) → Precedes same_place (pre g) seen cs
+precedes : (g : Grid) (cs seen : List Place) → GoesInOrder g cs → ((d : Place) → is_formula_at g d ≡ true
+    → has same_place cs d ≡ false → has same_place seen d ≡ true) → Precedes same_place (pre g) seen cs
 precedes g [] seen o h = tt
 precedes g (c ∷ cs) seen o h = (
   λ d m.
@@ -104,39 +115,47 @@ value_blind v None w = refl
 value_blind v (Some s) w = refl
 
 module _ (mean : Meaning) (ctx : Context) where
-  rest_evaluated : (v : Value) (g : Grid) (c : Place) (o : Option Tree) (d : Place) → with_value (get (revalued mean ctx g c o).cells d) v ≡ with_value (get g.cells d) v
+  rest_evaluated : (v : Value) (g : Grid) (c : Place) (o : Option Tree) (d : Place)
+      → with_value (get (revalued mean ctx g c o).cells d) v ≡ with_value (get g.cells d) v
   rest_evaluated v g c None d = refl
-  rest_evaluated v g c (Some t) d = told_valued (λ o. with_value o v) (value_blind v) g.cells (get g.cells c) c (mean t c (outlook_at ctx g)) d refl
+  rest_evaluated v g c (Some t) d =
+      told_valued (λ o. with_value o v) (value_blind v) g.cells (get g.cells c) c (mean t c (outlook_at ctx g)) d refl
 
   -- a pass writes values alone
-  rest_passed : (v : Value) (cs : List Place) (g : Grid) (d : Place) → with_value (get (pass mean ctx cs g).cells d) v ≡ with_value (get g.cells d) v
+  rest_passed : (v : Value) (cs : List Place) (g : Grid) (d : Place)
+      → with_value (get (pass mean ctx cs g).cells d) v ≡ with_value (get g.cells d) v
   rest_passed v [] g d = refl
   rest_passed v (c ∷ cs) g d = rest_passed v cs (evaluated mean ctx g c) d ∙ rest_evaluated v g c (formula_at g c) d
 
   -- and those of its cells
-  others_passed : (cs : List Place) (g : Grid) (d : Place) → has same_place cs d ≡ false → value_at (pass mean ctx cs g) d ≡ value_at g d
+  others_passed : (cs : List Place) (g : Grid) (d : Place) → has same_place cs d ≡ false
+      → value_at (pass mean ctx cs g) d ≡ value_at g d
   others_passed [] g d h = refl
   others_passed (c ∷ cs) g d h = elim (cases_Bool (same_place d c)) [
     | inl e ↦ absurd (true≢false (sym (or_left _ _ e) ∙ h))
-    | inr n ↦ others_passed cs (evaluated mean ctx g c) d (false_from_ne_true _ (λ k. true≢false (sym (or_right _ _ k) ∙ h))) ∙ value_revalued mean ctx g c (formula_at g c) d n
+    | inr n ↦ others_passed cs (evaluated mean ctx g c) d (false_from_ne_true _
+        (λ k. true≢false (sym (or_right _ _ k) ∙ h))) ∙ value_revalued mean ctx g c (formula_at g c) d n
   ]
 
   same_passed : (cs : List Place) (g : Grid) → SameContents g (pass mean ctx cs g)
   same_passed [] g = same_itself g
-  same_passed (c ∷ cs) g = same_on g (evaluated mean ctx g c) (pass mean ctx cs (evaluated mean ctx g c)) (same_evaluated mean ctx g c) (same_passed cs (evaluated mean ctx g c))
+  same_passed (c ∷ cs) g = same_on g (evaluated mean ctx g c) (pass mean ctx cs (evaluated mean ctx g c))
+      (same_evaluated mean ctx g c) (same_passed cs (evaluated mean ctx g c))
 
   passes_nothing : (n : ℕ) (g : Grid) → passes mean ctx n [] g ≡ g
   passes_nothing zero g = refl
   passes_nothing (suc n) g = passes_nothing n g
 
-  module _ (meaning : IsMeaning mean) (g : Grid) (keys : List Place) (sound : IsSound mean ctx g (has same_place keys)) (goes : GoesInOrder g keys) where
+  module _ (meaning : IsMeaning mean) (g : Grid) (keys : List Place) (sound : IsSound mean ctx g (has same_place keys))
+      (goes : GoesInOrder g keys) where
     steady : (c : Place) (t : Tree) → formula_at g c ≡ Some t → is_volatile t ≡ false
     steady c t e = elim (cases_Bool (has same_place keys c)) [
       | inl m ↦ sym (ap volatile_of e) ∙ steady_in g keys goes c m
       | inr k ↦ sound.calm c t e k
     ]
 
-    reached : {c d : Place} → Reaches same_place (pre g) c d → has same_place keys d ≡ true → (has same_place keys c ≡ true) × (place_in keys d < place_in keys c)
+    reached : {c d : Place} → Reaches same_place (pre g) c d → has same_place keys d ≡ true
+        → (has same_place keys c ≡ true) × (place_in keys d < place_in keys c)
     reached {c} {d} (one m) t =
         let k : has same_place keys c ≡ true = sound.up c d m t in
         (k, earlier g keys goes c d k t (read_held g c d m).1)
@@ -163,12 +182,20 @@ module _ (mean : Meaning) (ctx : Context) where
     rest_none = rest_of g none none_left
 
     no_split : IsSplit same_place (pre g) none
-    no_split = record { same = same_place_is; refl_eq = same_place_itself; up = λ c d m t. absurd (false≢true t); acyclic = λ c e. acyclic c }
+    no_split = record {
+      same = same_place_is;
+      refl_eq = same_place_itself;
+      up = λ c d m t. absurd (false≢true t);
+      acyclic = λ c e. acyclic c;
+    }
 
+    -- where all dirty formulas go in an order, no circle is told
     pub not_circular : (natural_order g).circular ≡ false
     not_circular =
-        ap (λ (s : Walked Place). s.circular) (order_is_cut same_place (pre g) none no_split (fuel (formulas g)) (formulas g))
-        ∙ ap (λ (xs : List Place). (order same_place (λ c. filter none (pre g c)) (fuel (formulas g)) xs).circular) (filter_none (formulas g))
+        ap (λ (s : Walked Place). s.circular)
+        (order_is_cut same_place (pre g) none no_split (fuel (formulas g)) (formulas g))
+        ∙ ap (λ (xs : List Place). (order same_place (λ c. filter none (pre g c)) (fuel (formulas g)) xs).circular)
+        (filter_none (formulas g))
 
     abbrev clean : List Place
     clean = filter (λ c. not (has same_place keys c)) (formulas g)
@@ -181,10 +208,12 @@ module _ (mean : Meaning) (ctx : Context) where
     not_false false h = refl
 
     clean_is : (c : Place) → has same_place clean c ≡ true → has same_place keys c ≡ false
-    clean_is c m = not_false (has same_place keys c) (filter_passes same_place same_place_is (λ x. not (has same_place keys x)) (formulas g) c m)
+    clean_is c m = not_false (has same_place keys c)
+        (filter_passes same_place same_place_is (λ x. not (has same_place keys x)) (formulas g) c m)
 
     clean_has : (c : Place) → is_formula_at g c ≡ true → has same_place keys c ≡ false → has same_place clean c ≡ true
-    clean_has c f k = has-filter same_place same_place_is (λ x. not (has same_place keys x)) c (not_true (has same_place keys c) k) (formulas g) ∙ has_formula g c ∙ f
+    clean_has c f k = has-filter same_place same_place_is (λ x. not (has same_place keys x)) c
+        (not_true (has same_place keys c) k) (formulas g) ∙ has_formula g c ∙ f
 
     right_first : IsRight mean ctx none meaning clean g
     right_first = record {
@@ -200,12 +229,15 @@ module _ (mean : Meaning) (ctx : Context) where
     abbrev whole_pass : Grid
     whole_pass = pass mean ctx (natural_order g).done g
 
-    same_formulas : (cs : List Place) (c : Place) (t : Tree) → formula_at g c ≡ Some t → formula_at (pass mean ctx cs g) c ≡ Some t
+    same_formulas : (cs : List Place) (c : Place) (t : Tree) → formula_at g c ≡ Some t
+        → formula_at (pass mean ctx cs g) c ≡ Some t
     same_formulas cs c t e = ap (λ (k : Place → Option Tree). k c) (formulas_all mean ctx none meaning cs g) ∙ e
 
-    right_one : (c : Place) (t : Tree) → formula_at g c ≡ Some t → value_at one_pass c ≡ mean t c (outlook_at ctx one_pass)
+    right_one : (c : Place) (t : Tree) → formula_at g c ≡ Some t
+        → value_at one_pass c ≡ mean t c (outlook_at ctx one_pass)
     right_one c t e =
-        let right = right_all mean ctx none meaning keys clean g rest_none right_first (precedes g keys clean goes clean_has) in
+        let right =
+        right_all mean ctx none meaning keys clean g rest_none right_first (precedes g keys clean goes clean_has) in
         let seen : has same_place (onto mean ctx none meaning keys clean) c ≡ true =
         elim (cases_Bool (has same_place keys c)) [
           | inl m ↦ onto-has mean ctx none meaning keys clean c m
@@ -216,7 +248,8 @@ module _ (mean : Meaning) (ctx : Context) where
     settled : IsSound mean ctx whole_pass none
     settled = settled_pass mean ctx none meaning g rest_none
 
-    right_whole : (c : Place) (t : Tree) → formula_at g c ≡ Some t → value_at whole_pass c ≡ mean t c (outlook_at ctx whole_pass)
+    right_whole : (c : Place) (t : Tree) → formula_at g c ≡ Some t
+        → value_at whole_pass c ≡ mean t c (outlook_at ctx whole_pass)
     right_whole c t e = settled.right c t (same_formulas (natural_order g).done c t e) refl
 
     -- a clean cell keeps its value in both
@@ -224,17 +257,23 @@ module _ (mean : Meaning) (ctx : Context) where
     same_clean d k =
         others_passed keys g d k
         ∙ sym (others_passed (filter (has same_place keys) (natural_order g).done) g d
-        (false_from_ne_true _ (λ m. true≢false (sym (filter_passes same_place same_place_is (has same_place keys) (natural_order g).done d m) ∙ k))))
-        ∙ sym (ap (λ (h : Grid). value_at h d) (pass_is_cut mean ctx meaning g (has same_place keys) sound (natural_order g).done))
+        (false_from_ne_true _ (λ m. true≢false
+        (sym (filter_passes same_place same_place_is (has same_place keys) (natural_order g).done d m) ∙ k))))
+        ∙ sym (ap (λ (h : Grid). value_at h d)
+        (pass_is_cut mean ctx meaning g (has same_place keys) sound (natural_order g).done))
 
     -- and each of the others takes its meaning over the same values
-    same_along : (cs : List Place) → GoesInOrder g cs → ((c : Place) → has same_place cs c ≡ true → is_formula_at g c ≡ true)
-        → ((d : Place) → has same_place cs d ≡ false → value_at one_pass d ≡ value_at whole_pass d) → (d : Place) → value_at one_pass d ≡ value_at whole_pass d
+    same_along : (cs : List Place) → GoesInOrder g cs
+        → ((c : Place) → has same_place cs c ≡ true → is_formula_at g c ≡ true)
+        → ((d : Place) → has same_place cs d ≡ false → value_at one_pass d ≡ value_at whole_pass d) → (d : Place)
+        → value_at one_pass d ≡ value_at whole_pass d
     same_along [] o f h d = h d refl
-    same_along (c ∷ cs) o f h d = same_along cs o.1 (λ x m. f x (or_right _ _ m)) (λ x k. elim (cases_Bool (same_place x c)) [
-      | inl e ↦ ap (value_at one_pass) (same_place_is x c e) ∙ here (formula_at g c) refl ∙ sym (ap (value_at whole_pass) (same_place_is x c e))
-      | inr n ↦ h x (ap (λ b. b || has same_place cs x) n ∙ k)
-    ]) d
+    same_along (c ∷ cs) o f h d =
+        same_along cs o.1 (λ x m. f x (or_right _ _ m)) (λ x k. elim (cases_Bool (same_place x c)) [
+          | inl e ↦ ap (value_at one_pass) (same_place_is x c e) ∙ here (formula_at g c) refl
+              ∙ sym (ap (value_at whole_pass) (same_place_is x c e))
+          | inr n ↦ h x (ap (λ b. b || has same_place cs x) n ∙ k)
+        ]) d
       where
         formed : (o : Option Tree) → formula_at g c ≡ o → is_some o ≡ true
         formed o e = sym (ap is_some e) ∙ f c (or_left _ _ (same_place_itself c))
@@ -247,7 +286,8 @@ module _ (mean : Meaning) (ctx : Context) where
             (λ x m. h x (false_from_ne_true _ (λ k. true≢false (sym (read t e x m) ∙ o.0.ahead x k))))
             ∙ sym (right_whole c t e)
           where
-            read : (t : Tree) → formula_at g c ≡ Some t → (x : Place) → hold (spans_of t c) x ≡ true → hold (spans_at g c) x ≡ true
+            read : (t : Tree) → formula_at g c ≡ Some t → (x : Place) → hold (spans_of t c) x ≡ true
+                → hold (spans_at g c) x ≡ true
             read t e x m = ap (λ (q : Option Tree). hold (spans_in q c) x) e ∙ m
 
     same_values : (d : Place) → value_at one_pass d ≡ value_at whole_pass d
@@ -261,6 +301,7 @@ module _ (mean : Meaning) (ctx : Context) where
         ∙ sym (rest_passed (value_at whole_pass d) (natural_order g).done g d)
         ∙ own_value (get whole_pass.cells d)
 
+    -- one pass along the order is one along all formulas in their natural order
     pub same_pass : one_pass ≡ whole_pass
     same_pass =
         let a = same_passed keys g in
@@ -284,5 +325,7 @@ module _ (mean : Meaning) (ctx : Context) where
     pub sound_after : IsSound mean ctx (pass mean ctx keys g) none
     sound_after = subst (λ h. IsSound mean ctx h none) (sym same_pass) settled
 
+    -- after one pass along the order nothing stays dirty
     pub stays_after : IsWhatStays (pass mean ctx keys g) none
-    stays_after = what_stays_along g (pass mean ctx keys g) (sym (formulas_all mean ctx none meaning keys g)) none none_left
+    stays_after =
+        what_stays_along g (pass mean ctx keys g) (sym (formulas_all mean ctx none meaning keys g)) none none_left

@@ -11,17 +11,24 @@ use Rattle.sheet_store.specs.Grid.{formulas, is_formula, picked, Grid}
 use Rattle.sheet_store.specs.State.{CellState}
 use Rattle.recalculation.specs.inner.Laws.{among_chosen, chosen, chosen_above, entries_ascend, picked_chosen, Ascends}
 
-pub chosen_ascends : (p : Place × CellState → Bool) (es : List (Place × CellState)) → Ascends (keys_of es) → Ascends (chosen p es)
+-- of entries in row order those that pass a test stand in it
+pub chosen_ascends : (p : Place × CellState → Bool) (es : List (Place × CellState)) → Ascends (keys_of es)
+    → Ascends (chosen p es)
 unfolding IsStrictlySortedBy
 chosen_ascends p [] h = tt
 chosen_ascends p (e ∷ es) h = with (p e) (chosen_above p e.0 es h.0) (chosen_ascends p es h.1)
   where
-    with : (b : Bool) → AllByRecursion (λ y. place_cmp e.0 y ≡ Less) (chosen p es) → Ascends (chosen p es) → Ascends (cond b (e.0 ∷ chosen p es) (chosen p es))
+    with : (b : Bool) → AllByRecursion (λ y. place_cmp e.0 y ≡ Less) (chosen p es) → Ascends (chosen p es)
+        → Ascends (cond b (e.0 ∷ chosen p es) (chosen p es))
     with true a s = (a, s)
     with false a s = s
 
+-- what is picked among a sheet's cells stands in row order
 pub picked_ascends : (test : CellState → Bool) (g : Grid) (s : Extent) → Ascends (picked test s (entries g.cells))
-picked_ascends test g s = subst Ascends (sym (picked_chosen test s (entries g.cells))) (chosen_ascends (λ e. is_within s e.0 && test e.1) (entries g.cells) (entries_ascend g))
+picked_ascends test g s = subst Ascends (sym (picked_chosen test s (entries g.cells)))
+    (chosen_ascends (λ e. is_within s e.0 && test e.1) (entries g.cells) (entries_ascend g))
 
+-- all formulas of a sheet stand in row order
 pub formulas_ascend : (g : Grid) → Ascends (formulas g)
-formulas_ascend g = subst Ascends (sym (among_chosen (entries g.cells))) (chosen_ascends (λ e. is_formula e.1.content) (entries g.cells) (entries_ascend g))
+formulas_ascend g = subst Ascends (sym (among_chosen (entries g.cells)))
+    (chosen_ascends (λ e. is_formula e.1.content) (entries g.cells) (entries_ascend g))

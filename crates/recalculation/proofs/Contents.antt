@@ -13,9 +13,11 @@ use Rattle.recalculation.specs.Context.{content_of, format_of, formula_at, formu
 use Rattle.recalculation.specs.Passes.{evaluated, revalued, Meaning, SameContents}
 use Rattle.recalculation.specs.Reading.{node_of, Matches}
 
+-- a grid has its own contents
 pub same_itself : (g : Grid) → SameContents g g
 same_itself g = record { contents = λ c. refl; formats = λ c. refl; widths = refl; hidden = refl }
 
+-- what two steps leave, both together leave
 pub same_on : (a b d : Grid) → SameContents a b → SameContents b d → SameContents a d
 same_on a b d s t = record {
   contents = λ c. t.contents c ∙ s.contents c;
@@ -25,14 +27,17 @@ same_on a b d s t = record {
 }
 
 module _ (mean : Meaning) (ctx : Context) where
+  -- an evaluation leaves contents, formats, widths and marks
   pub same_evaluated : (g : Grid) (c : Place) → SameContents g (evaluated mean ctx g c)
   same_evaluated g c = with (formula_at g c)
     where
       with : (o : Option Tree) → SameContents g (revalued mean ctx g c o)
       with None = same_itself g
       with (Some t) = record {
-        contents = λ d. told_valued content_of content_blind g.cells (get g.cells c) c (mean t c (outlook_at ctx g)) d refl;
-        formats = λ d. told_valued format_of format_blind g.cells (get g.cells c) c (mean t c (outlook_at ctx g)) d refl;
+        contents =
+            λ d. told_valued content_of content_blind g.cells (get g.cells c) c (mean t c (outlook_at ctx g)) d refl;
+        formats =
+            λ d. told_valued format_of format_blind g.cells (get g.cells c) c (mean t c (outlook_at ctx g)) d refl;
         widths = refl;
         hidden = refl;
       }

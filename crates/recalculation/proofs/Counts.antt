@@ -9,6 +9,7 @@ raised_some n k h =
     let e : nat_eq n 0 ≡ false = grind (arith, nat_tests, h) in
     ap (λ b. cond b k (min (k + n) (2 ^ 64 - 1))) e
 
+-- some evaluations and then more are so many together
 pub raised_more : (a b k : ℕ) → raised_by b (raised_by a k) ≡ raised_by (a + b) k
 raised_more zero b k = let e : b ≡ 0 + b = omega arith in ap (λ n. raised_by n k) e
 raised_more (suc a) zero k = let e : suc a ≡ suc a + 0 = omega arith in ap (λ n. raised_by n k) e
@@ -21,13 +22,6 @@ raised_more (suc a) (suc b) k =
     added : (a b k : ℕ) → min (min (k + a) (2 ^ 64 - 1) + b) (2 ^ 64 - 1) ≡ min (k + (a + b)) (2 ^ 64 - 1)
     added a b k = omega arith
 
+-- some turns and one more are one turn more
 pub one_more_turn : (n k : ℕ) → n * k + k ≡ (n + 1) * k
 one_more_turn n k = omega arith
-
--- one turn and the others
-pub turns : (n k : ℕ) → 1 ≤ n → k + (n - 1) * k ≡ n * k
-turns n k h =
-    let m : ℕ = n - 1 in
-    let e : m + 1 ≡ n = omega arith in
-    let a : k + m * k ≡ m * k + k = omega arith in
-    a ∙ one_more_turn m k ∙ ap (λ x. x * k) e

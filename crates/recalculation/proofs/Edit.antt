@@ -26,12 +26,14 @@ module _ (old new : Grid) (written dirty spread : Place → Bool) (s : IsSpread 
   same_reads : (c d : Place) → written c ≡ false → hold (spans_at new c) d ≡ true → hold (spans_at old c) d ≡ true
   same_reads c d h m = sym (ap (λ o. hold (spans_in o c) d) (formula_other c h)) ∙ m
 
-  old_pre : (c d : Place) → written c ≡ false → written d ≡ false → has same_place (pre new c) d ≡ true → has same_place (pre old c) d ≡ true
+  old_pre : (c d : Place) → written c ≡ false → written d ≡ false → has same_place (pre new c) d ≡ true
+      → has same_place (pre old c) d ≡ true
   old_pre c d h k m = pre_of_read old c d (same_reads c d h (read_of_pre new c d m))
       (sym (ap is_some (formula_other d k)) ∙ (and_parts _ _ (sym (has_pre new c d) ∙ m)).0)
 
   -- a way in the new sheet meets a written cell, or is one of the old sheet
-  meets : {c d : Place} → Reaches same_place (pre new) c d → written c ≡ false → ((w : Place) × (written w ≡ true) × ReachesCell (reads_at new) c w) ⊎ Reaches same_place (pre old) c d
+  meets : {c d : Place} → Reaches same_place (pre new) c d → written c ≡ false
+      → ((w : Place) × (written w ≡ true) × ReachesCell (reads_at new) c w) ⊎ Reaches same_place (pre old) c d
   meets {c} {d} (one m) h = elim (cases_Bool (written d)) [
     | inl t ↦ inl (d, t, direct (read_of_pre new c d m))
     | inr k ↦ inr (one (old_pre c d h k m))
@@ -45,8 +47,12 @@ module _ (old new : Grid) (written dirty spread : Place → Bool) (s : IsSpread 
   ]
 
   calm_old : (c : Place) → is_formula_at new c ≡ true → spread c ≡ false → (written c ≡ false) × (dirty c ≡ false)
-  calm_old c f h = (false_from_ne_true _ (λ t. true≢false (sym (s.written_too c t f) ∙ h)), false_from_ne_true _ (λ t. true≢false (sym (s.kept c t f) ∙ h)))
+  calm_old c f h = (
+    false_from_ne_true _ (λ t. true≢false (sym (s.written_too c t f) ∙ h)),
+    false_from_ne_true _ (λ t. true≢false (sym (s.kept c t f) ∙ h)),
+  )
 
+-- an edit that spreads keeps what holds of the dirty formulas
 pub edit_keeps_sound : (mean : Meaning) (ctx : Context) → IsMeaning mean → EditKeepsSound mean ctx
 edit_keeps_sound mean ctx meaning old new written dirty spread sound s = record {
   only = s.only;
@@ -78,8 +84,10 @@ edit_keeps_sound mean ctx meaning old new written dirty spread sound s = record 
       let p = calm_old old new written dirty spread s c (ap is_some here) e in
       let there : formula_at old c ≡ Some f = sym (formula_other old new written dirty spread s c p.0) ∙ here in
       ap value_of (s.others c p.0) ∙ sound.right c f there p.1
-      ∙ meaning.reads f c (outlook_at ctx old) (outlook_at ctx new) (sound.calm c f there p.1) (λ d m. sym (ap value_of (s.others d
-      (false_from_ne_true _ (λ w. true≢false (sym (s.reaching c d w (direct (ap (λ o. hold (spans_in o c) d) here ∙ m))) ∙ e))))));
+      ∙ meaning.reads f c (outlook_at ctx old) (outlook_at ctx new) (sound.calm c f there p.1)
+      (λ d m. sym (ap value_of (s.others d
+      (false_from_ne_true _
+      (λ w. true≢false (sym (s.reaching c d w (direct (ap (λ o. hold (spans_in o c) d) here ∙ m))) ∙ e))))));
 }
   where
     start : (c : Place) → {d : Place} → Reaches same_place (pre new) c d → is_formula_at new c ≡ true

@@ -24,13 +24,18 @@ use Rattle.recalculation.specs.Reading.{is_formula_at, natural_order, pre, spans
 use Rattle.recalculation.specs.Reading.StaysDirty.{volatile, circle, reading}
 
 -- what holds of the dirty formulas splits the order
-pub split_of : (mean : Meaning) (ctx : Context) (g : Grid) (dirty : Place → Bool) → IsSound mean ctx g dirty → IsSplit same_place (pre g) dirty
-split_of mean ctx g dirty sound = record { same = same_place_is; refl_eq = same_place_itself; up = sound.up; acyclic = sound.acyclic }
+pub split_of : (mean : Meaning) (ctx : Context) (g : Grid) (dirty : Place → Bool) → IsSound mean ctx g dirty
+    → IsSplit same_place (pre g) dirty
+split_of mean ctx g dirty sound =
+    record { same = same_place_is; refl_eq = same_place_itself; up = sound.up; acyclic = sound.acyclic }
 
 -- what stays dirty is dirty
-pub stays_in : (mean : Meaning) (ctx : Context) (g : Grid) (dirty : Place → Bool) → IsSound mean ctx g dirty → {c : Place} → StaysDirty g c → dirty c ≡ true
-stays_in mean ctx g dirty sound {c} (volatile {t = t} e v) = elim (cases_Bool (dirty c)) [ inl h ↦ h | inr k ↦ absurd (true≢false (sym v ∙ sound.calm c t e k)) ]
-stays_in mean ctx g dirty sound {c} (circle r) = elim (cases_Bool (dirty c)) [ inl h ↦ h | inr k ↦ absurd (sound.acyclic c k r) ]
+pub stays_in : (mean : Meaning) (ctx : Context) (g : Grid) (dirty : Place → Bool) → IsSound mean ctx g dirty
+    → {c : Place} → StaysDirty g c → dirty c ≡ true
+stays_in mean ctx g dirty sound {c} (volatile {t = t} e v) =
+    elim (cases_Bool (dirty c)) [ inl h ↦ h | inr k ↦ absurd (true≢false (sym v ∙ sound.calm c t e k)) ]
+stays_in mean ctx g dirty sound {c} (circle r) =
+    elim (cases_Bool (dirty c)) [ inl h ↦ h | inr k ↦ absurd (sound.acyclic c k r) ]
 stays_in mean ctx g dirty sound {c} (reading {d = d} m s) = sound.up c d m (stays_in mean ctx g dirty sound s)
 
 exact : IsExact same_place
@@ -40,17 +45,22 @@ exact = record { same = same_place_is; refl_eq = same_place_itself }
 abbrev pub walked_dirty : Grid → (Place → Bool) → Walked Place
 walked_dirty g dirty = order same_place (λ c. filter dirty (pre g c)) (fuel (formulas g)) (filter dirty (formulas g))
 
-module _ (g : Grid) (dirty : Place → Bool) (split : IsSplit same_place (pre g) dirty) (only : (c : Place) → dirty c ≡ true → is_formula_at g c ≡ true) where
+module _ (g : Grid) (dirty : Place → Bool) (split : IsSplit same_place (pre g) dirty)
+    (only : (c : Place) → dirty c ≡ true → is_formula_at g c ≡ true) where
   -- it gives the natural order without the clean ones
   pub dirty_done : (walked_dirty g dirty).done ≡ filter dirty (natural_order g).done
-  dirty_done = sym (ap (λ (s : Walked Place). s.done) (order_is_cut same_place (pre g) dirty split (fuel (formulas g)) (formulas g)))
+  dirty_done = sym
+      (ap (λ (s : Walked Place). s.done) (order_is_cut same_place (pre g) dirty split (fuel (formulas g)) (formulas g)))
 
+  -- the walk over the dirty formulas tells a circle where the natural order does
   pub dirty_circular : (walked_dirty g dirty).circular ≡ (natural_order g).circular
-  dirty_circular = sym (ap (λ (s : Walked Place). s.circular) (order_is_cut same_place (pre g) dirty split (fuel (formulas g)) (formulas g)))
+  dirty_circular = sym (ap (λ (s : Walked Place). s.circular)
+      (order_is_cut same_place (pre g) dirty split (fuel (formulas g)) (formulas g)))
 
   -- it has each dirty formula
   order_has : (c : Place) → dirty c ≡ true → has same_place (filter dirty (natural_order g).done) c ≡ true
-  order_has c t = has-filter same_place same_place_is dirty c t (natural_order g).done ∙ order_covers same_place exact (pre g) (formulas g) (formulas g) c (has_formula g c ∙ only c t)
+  order_has c t = has-filter same_place same_place_is dirty c t (natural_order g).done
+      ∙ order_covers same_place exact (pre g) (formulas g) (formulas g) c (has_formula g c ∙ only c t)
 
   -- and no other
   pub order_same : (c : Place) → has same_place (filter dirty (natural_order g).done) c ≡ dirty c
@@ -59,17 +69,23 @@ module _ (g : Grid) (dirty : Place → Bool) (split : IsSplit same_place (pre g)
   -- along it what a formula reads comes first, unless it reaches itself
   pub order_goes : Precedes same_place (λ c. filter dirty (pre g c)) [] (walked_dirty g dirty).done
   order_goes = order_precedes same_place exact (λ c. filter dirty (pre g c)) (formulas g) (filter dirty (formulas g))
-      (λ c d m. pre_formulas g c d (filter_in same_place same_place_is dirty (pre g c) d m)) (λ c m. filter_in same_place same_place_is dirty (formulas g) c m)
+      (λ c d m. pre_formulas g c d (filter_in same_place same_place_is dirty (pre g c) d m))
+      (λ c m. filter_in same_place same_place_is dirty (formulas g) c m)
 
 -- distinct cells with the same members are as many
-pub as_many : (xs ys : List Place) → IsDistinct same_place xs → IsDistinct same_place ys → ((c : Place) → has same_place xs c ≡ has same_place ys c) → length xs ≡ length ys
+pub as_many : (xs ys : List Place) → IsDistinct same_place xs → IsDistinct same_place ys
+    → ((c : Place) → has same_place xs c ≡ has same_place ys c) → length xs ≡ length ys
 as_many xs ys d e h = length-from_same_keys same_place_laws xs ys d e h
 
+-- what stays dirty stays so in a grid with the same formulas
 pub stays_along : (a b : Grid) → formula_at a ≡ formula_at b → {c : Place} → StaysDirty a c → StaysDirty b c
 stays_along a b e {c} (volatile h v) = volatile (sym (ap (λ (k : Place → Option Tree). k c) e) ∙ h) v
-stays_along a b e {c} (circle r) = circle (subst (λ (p : Place → List Place). Reaches same_place p c c) (pre_along a b e) r)
-stays_along a b e {c} (reading {d = d} m s) = reading (sym (ap (λ (p : Place → List Place). has same_place (p c) d) (pre_along a b e)) ∙ m) (stays_along a b e s)
+stays_along a b e {c} (circle r) =
+    circle (subst (λ (p : Place → List Place). Reaches same_place p c c) (pre_along a b e) r)
+stays_along a b e {c} (reading {d = d} m s) =
+    reading (sym (ap (λ (p : Place → List Place). has same_place (p c) d) (pre_along a b e)) ∙ m) (stays_along a b e s)
 
+-- a cell that reads a formula holds one
 pub reads_formula : (g : Grid) (c d : Place) → has same_place (pre g c) d ≡ true → is_formula_at g c ≡ true
 reads_formula g c d m = formed (formula_at g c) (sym (has_in g (spans_at g c) d) ∙ m)
   where
@@ -81,6 +97,7 @@ reads_formula g c d m = formed (formula_at g c) (sym (has_in g (spans_at g c) d)
     formed None h = none (is_formula_at g d) h
     formed (Some t) h = refl
 
+-- what stays dirty is a formula
 pub stays_formula : (g : Grid) → {c : Place} → StaysDirty g c → is_formula_at g c ≡ true
 stays_formula g (volatile e v) = ap is_some e
 stays_formula g {c} (circle (one m)) = reads_formula g c _ m
@@ -96,12 +113,18 @@ rest_of g rest w = record {
   acyclic = λ c k r. true≢false (sym ((w c).1 (circle r)) ∙ k);
 }
 
-pub what_stays_along : (a b : Grid) → formula_at a ≡ formula_at b → (rest : Place → Bool) → IsWhatStays a rest → IsWhatStays b rest
+-- what stays dirty is the same in a grid with the same formulas
+pub what_stays_along : (a b : Grid) → formula_at a ≡ formula_at b → (rest : Place → Bool) → IsWhatStays a rest
+    → IsWhatStays b rest
 what_stays_along a b e rest w = λ c. (λ t. stays_along a b e ((w c).0 t), λ s. (w c).1 (stays_along b a (sym e) s))
 
-pub filter_twice : (p q : Place → Bool) → ((c : Place) → q c ≡ true → p c ≡ true) → (xs : List Place) → filter q (filter p xs) ≡ filter q xs
+-- a filter by a weaker test and then by a stronger one is one by the stronger
+pub filter_twice : (p q : Place → Bool) → ((c : Place) → q c ≡ true → p c ≡ true) → (xs : List Place)
+    → filter q (filter p xs) ≡ filter q xs
 filter_twice p q h [] = refl
-filter_twice p q h (x ∷ xs) = elim (p x) as (λ b. p x ≡ b → filter q (cond b (x ∷ filter p xs) (filter p xs)) ≡ cond (q x) (x ∷ filter q xs) (filter q xs)) [
-  | true ↦ λ e. ap (λ (ys : List Place). cond (q x) (x ∷ ys) ys) (filter_twice p q h xs)
-  | false ↦ λ e. filter_twice p q h xs ∙ sym (cond-false (q x) (x ∷ filter q xs) (filter q xs) (false_from_ne_true _ (λ t. true≢false (sym (h x t) ∙ e))))
-] refl
+filter_twice p q h (x ∷ xs) = elim (p x) as
+    (λ b. p x ≡ b → filter q (cond b (x ∷ filter p xs) (filter p xs)) ≡ cond (q x) (x ∷ filter q xs) (filter q xs)) [
+      | true ↦ λ e. ap (λ (ys : List Place). cond (q x) (x ∷ ys) ys) (filter_twice p q h xs)
+      | false ↦ λ e. filter_twice p q h xs ∙ sym
+          (cond-false (q x) (x ∷ filter q xs) (filter q xs) (false_from_ne_true _ (λ t. true≢false (sym (h x t) ∙ e))))
+    ] refl

@@ -24,5 +24,6 @@ module _ (n : Network) (g : Grid) (m : Matches n g) where
 
   module _ (dirty : Place → Bool) where
     -- a walk by the graph is the walk over the dirty formulas
-    pub walk_told : (roots : List Place) → roots ≡ filter dirty (formulas g) → order same_place (λ c. filter dirty (formulas_in g (spans_told (get n.formulas c)))) (fuel (formulas g)) roots ≡ walked_dirty g dirty
+    pub walk_told : (roots : List Place) → roots ≡ filter dirty (formulas g) → order same_place (λ c.
+        filter dirty (formulas_in g (spans_told (get n.formulas c)))) (fuel (formulas g)) roots ≡ walked_dirty g dirty
     walk_told roots e = λ i. order same_place (λ c. filter dirty (formulas_in g (told c i))) (fuel (formulas g)) (e i)

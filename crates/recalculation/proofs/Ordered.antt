@@ -21,12 +21,15 @@ held_told : (o : Option Tree) (c d : Place) → holds (node_of o c) d ≡ hold (
 held_told None c d = refl
 held_told (Some t) c d = refl
 
-stands_first : (n : Network) (g : Grid) → Matches n g → (cells : List Place) (c : Place) → StandsFirst (graph.is_volatile_at n) (reads n) cells c → StandsFirst (is_volatile_at g) (reads_at g) cells c
+stands_first : (n : Network) (g : Grid) → Matches n g → (cells : List Place) (c : Place)
+    → StandsFirst (graph.is_volatile_at n) (reads n) cells c → StandsFirst (is_volatile_at g) (reads_at g) cells c
 stands_first n g m cells c h = record {
   steady = sym (volatile_told (formula_at g c) c) ∙ ap graph.is_volatile (sym (m c)) ∙ h.steady;
   ahead = λ d k. sym (held_told (formula_at g c) c d) ∙ ap (λ o. holds o d) (sym (m c)) ∙ h.ahead d k;
 }
 
-pub in_order : (n : Network) (g : Grid) → Matches n g → (cells : List Place) → graph.GoesInOrder n cells → GoesInOrder g cells
+-- formulas in order by what the graph tells are so by what the grid holds
+pub in_order : (n : Network) (g : Grid) → Matches n g → (cells : List Place) → graph.GoesInOrder n cells
+    → GoesInOrder g cells
 in_order n g m [] h = tt
 in_order n g m (c ∷ cs) h = (stands_first n g m (c ∷ cs) c h.0, in_order n g m cs h.1)

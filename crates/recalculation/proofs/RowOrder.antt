@@ -12,9 +12,14 @@ use Rattle.recalculation.proofs.Filled.{has_filtered}
 use Rattle.recalculation.specs.inner.Laws.{has_formula, Ascends}
 use Rattle.recalculation.specs.Reading.{is_formula_at}
 
-pub dirty_sorted : (g : Grid) (dirty : Place → Bool) (xs : List Place) → Ascends xs → ((c : Place) → has same_place xs c ≡ dirty c) → ((c : Place) → dirty c ≡ true → is_formula_at g c ≡ true) → xs ≡ filter dirty (formulas g)
-dirty_sorted g dirty xs a m only = same_members xs (filter dirty (formulas g)) a (IsStrictlySortedBy-filter place_cmp dirty (formulas g) (formulas_ascend g))
-    (λ c. m c ∙ both (dirty c) (is_formula_at g c) (only c) ∙ sym (has_filtered dirty (formulas g) c ∙ ap (λ b. dirty c && b) (has_formula g c)))
+-- the dirty formulas in row order are those among all formulas
+pub dirty_sorted : (g : Grid) (dirty : Place → Bool) (xs : List Place) → Ascends xs
+    → ((c : Place) → has same_place xs c ≡ dirty c) → ((c : Place) → dirty c ≡ true → is_formula_at g c ≡ true)
+    → xs ≡ filter dirty (formulas g)
+dirty_sorted g dirty xs a m only = same_members xs (filter dirty (formulas g)) a
+    (IsStrictlySortedBy-filter place_cmp dirty (formulas g) (formulas_ascend g))
+    (λ c. m c ∙ both (dirty c) (is_formula_at g c) (only c)
+    ∙ sym (has_filtered dirty (formulas g) c ∙ ap (λ b. dirty c && b) (has_formula g c)))
   where
     both : (d f : Bool) → (d ≡ true → f ≡ true) → d ≡ (d && f)
     both true f h = sym (h refl)

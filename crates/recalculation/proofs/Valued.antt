@@ -10,10 +10,12 @@ use Rattle.sheet_store.specs.Grid.{valued, Cells}
 use Rattle.sheet_store.specs.State.{CellState}
 use Rattle.recalculation.specs.Context.{content_of, format_of, formula_of, value_of}
 
+-- what is held of a cell, with another value
 abbrev pub with_value : Option CellState → Value → Option CellState
 with_value None v = None
 with_value (Some s) v = Some (record s { value = v })
 
+-- a cell whose value was set has it, and the others are as they were
 pub get_valued : (m : Cells) (o : Option CellState) (c : Place) (v : Value) (d : Place) → get m c ≡ o
     → get (valued o m c v) d ≡ cond (same_place d c) (with_value o v) (get m d)
 get_valued m None c v d e = elim (same_place d c) as (λ b. same_place d c ≡ b → get m d ≡ cond b None (get m d)) [
@@ -23,7 +25,8 @@ get_valued m None c v d e = elim (same_place d c) as (λ b. same_place d c ≡ b
 get_valued m (Some s) c v d e = get_inserted m c (record s { value = v }) d
 
 -- what doesn't look at the value is the same at each place
-pub told_valued : {A : Type 0} (f : Option CellState → A) → ((o : Option CellState) (v : Value) → f (with_value o v) ≡ f o) → (m : Cells) (o : Option CellState) (c : Place) (v : Value) (d : Place) → get m c ≡ o
+pub told_valued : {A : Type 0} (f : Option CellState → A) → ((o : Option CellState) (v : Value)
+    → f (with_value o v) ≡ f o) → (m : Cells) (o : Option CellState) (c : Place) (v : Value) (d : Place) → get m c ≡ o
     → f (get (valued o m c v) d) ≡ f (get m d)
 told_valued f blind m o c v d e = ap f (get_valued m o c v d e)
     ∙ elim (same_place d c) as (λ b. same_place d c ≡ b → f (cond b (with_value o v) (get m d)) ≡ f (get m d)) [
@@ -31,19 +34,24 @@ told_valued f blind m o c v d e = ap f (get_valued m o c v d e)
       | false ↦ λ h. refl
     ] refl
 
+-- a value leaves the formula
 pub formula_blind : (o : Option CellState) (v : Value) → formula_of (with_value o v) ≡ formula_of o
 formula_blind None v = refl
 formula_blind (Some s) v = refl
 
+-- a value leaves the content
 pub content_blind : (o : Option CellState) (v : Value) → content_of (with_value o v) ≡ content_of o
 content_blind None v = refl
 content_blind (Some s) v = refl
 
+-- a value leaves the format
 pub format_blind : (o : Option CellState) (v : Value) → format_of (with_value o v) ≡ format_of o
 format_blind None v = refl
 format_blind (Some s) v = refl
 
-pub value_valued : (m : Cells) (o : Option CellState) (c : Place) (v : Value) (d : Place) → get m c ≡ o → same_place d c ≡ false
+-- a value of one cell leaves the values of the others
+pub value_valued : (m : Cells) (o : Option CellState) (c : Place) (v : Value) (d : Place) → get m c ≡ o
+    → same_place d c ≡ false
     → value_of (get (valued o m c v) d) ≡ value_of (get m d)
 value_valued m o c v d e h = ap value_of (get_valued m o c v d e ∙ cond-false _ (with_value o v) (get m d) h)
 

@@ -10,4 +10,5 @@ returns-clause-kept g c =
     let old : Grid = c.args.store.now in
     let cell = c.args.cell in
     c.forget.ensures (value_at old) (value_at c.set_value.new.self) c.in_ok-value.ensures.kept (λ d other.
-    ap (λ (h : Grid). value_at h d) c.set_value.ensures ∙ value_valued old.cells (get old.cells cell) cell c.in_ok-value.value d refl other)
+    ap (λ (h : Grid). value_at h d) c.set_value.ensures
+    ∙ value_valued old.cells (get old.cells cell) cell c.in_ok-value.value d refl other)

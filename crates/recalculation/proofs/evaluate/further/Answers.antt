@@ -21,7 +21,8 @@ loop-turn-init g c =
     let all : c.args.times - 0 ≡ c.args.times = omega arith in
     let none : 0 ≡ 0 * n = omega arith in
     record {
-      values = ap (λ k. passes g.E.Means.meaning (context_of c.args.names.now c.args.settings.now c.args.scene.now) k c.args.cells.now c.args.store.now) all;
+      values = ap (λ k. passes g.E.Means.meaning (context_of c.args.names.now c.args.settings.now c.args.scene.now) k
+          c.args.cells.now c.args.store.now) all;
       formulas = λ _. refl;
       sound = λ d s. s;
       contents = same_itself c.args.store.now;
@@ -35,16 +36,21 @@ loop-turn-preserved g c =
     let ctx : Context = context_of c.args.names.now c.args.settings.now c.args.scene.now in
     let meaning : IsMeaning mean = record { reads = g.met.E.Means.reads_alone } in
     let n : ℕ = length c.args.cells.now in
-    let e : c.args.times - c.loop-turn._turn ≡ suc (c.args.times - (c.loop-turn._turn + 1)) = let h = c.loop-turn-test.true in omega arith in
+    let e : c.args.times - c.loop-turn._turn ≡ suc (c.args.times - (c.loop-turn._turn + 1)) = let h =
+    c.loop-turn-test.true in omega arith in
     record {
-      values = ap (passes mean ctx (c.args.times - (c.loop-turn._turn + 1)) c.args.cells.now) c.in_ok-pass_over.ensures.values
+      values = ap (passes mean ctx (c.args.times - (c.loop-turn._turn + 1)) c.args.cells.now)
+          c.in_ok-pass_over.ensures.values
           ∙ sym (ap (λ n. passes mean ctx n c.args.cells.now c.loop-turn.store) e) ∙ c.loop-turn.invariant.values;
       formulas = λ x. ap (λ (h : Grid). is_formula_at h x) c.in_ok-pass_over.ensures.values
-          ∙ ap (λ (k : Place → Option Tree). is_some (k x)) (formulas_all mean ctx (λ _. true) meaning c.args.cells.now c.loop-turn.store)
+          ∙ ap (λ (k : Place → Option Tree). is_some (k x))
+          (formulas_all mean ctx (λ _. true) meaning c.args.cells.now c.loop-turn.store)
           ∙ c.loop-turn.invariant.formulas x;
       sound = λ d s. c.pass_over.ensures.sound d (c.loop-turn.invariant.sound d s);
       contents = same_on _ _ _ c.loop-turn.invariant.contents c.pass_over.ensures.contents;
-      outside = outside_both (has same_place c.args.cells.now) c.args.store.now c.loop-turn.store c.pass_over.new.store c.loop-turn.invariant.outside c.pass_over.ensures.outside;
-      count = c.in_ok-pass_over.ensures.count ∙ ap (raised_by n) c.loop-turn.invariant.count ∙ raised_more (c.loop-turn._turn * n) n (g.E.Means.count c.args.tally.now)
+      outside = outside_both (has same_place c.args.cells.now) c.args.store.now c.loop-turn.store c.pass_over.new.store
+          c.loop-turn.invariant.outside c.pass_over.ensures.outside;
+      count = c.in_ok-pass_over.ensures.count ∙ ap (raised_by n) c.loop-turn.invariant.count
+          ∙ raised_more (c.loop-turn._turn * n) n (g.E.Means.count c.args.tally.now)
           ∙ ap (λ k. raised_by k (g.E.Means.count c.args.tally.now)) (one_more_turn c.loop-turn._turn n);
     }

@@ -16,7 +16,16 @@ use Rattle.recalculation.specs.Reading.{is_formula_at}
 use Rattle.recalculation.proofs.evaluate.pass_over.Goals as goal
 
 pub loop-cell-init : goal.loop-cell-init
-loop-cell-init g c = record { values = refl; formulas = λ _. refl; sound = λ d s. s; contents = same_itself c.args.store.now; outside = outside_itself (has same_place c.args.cells.now) c.args.store.now; kept = c.new-kept.ensures (value_at c.args.store.now); count = refl }
+loop-cell-init g c = record {
+  values = refl;
+  formulas = λ _. refl;
+  sound = λ d s. s;
+  contents =
+      same_itself c.args.store.now;
+  outside = outside_itself (has same_place c.args.cells.now) c.args.store.now;
+  kept = c.new-kept.ensures (value_at c.args.store.now);
+  count = refl;
+}
 
 pub loop-cell-preserved : goal.loop-cell-preserved
 loop-cell-preserved g c =
@@ -24,17 +33,24 @@ loop-cell-preserved g c =
     let ctx : Context = context_of c.args.names.now c.args.settings.now c.args.scene.now in
     let meaning : IsMeaning mean = record { reads = g.met.E.Means.reads_alone } in
     record {
-      values = ap (pass mean ctx (drop (c.loop-cell.cell-index + 1) c.args.cells.now)) c.in_ok-evaluate_next.ensures.value
-          ∙ ap (λ x. pass mean ctx (drop (c.loop-cell.cell-index + 1) c.args.cells.now) (evaluated mean ctx c.loop-cell.store x)) c.cell-item.is
-          ∙ sym (pass_step mean ctx c.args.cells.now c.loop-cell.cell-index c.cell-item.result c.loop-cell.store c.loop-cell-test.true)
+      values =
+          ap (pass mean ctx (drop (c.loop-cell.cell-index + 1) c.args.cells.now)) c.in_ok-evaluate_next.ensures.value
+          ∙ ap (λ x. pass mean ctx (drop (c.loop-cell.cell-index + 1) c.args.cells.now)
+          (evaluated mean ctx c.loop-cell.store x)) c.cell-item.is
+          ∙ sym (pass_step mean ctx c.args.cells.now c.loop-cell.cell-index c.cell-item.result c.loop-cell.store
+          c.loop-cell-test.true)
           ∙ c.loop-cell.invariant.values;
       formulas = λ x. ap (λ (h : Grid). is_formula_at h x) c.in_ok-evaluate_next.ensures.value
           ∙ ap (λ (k : Place → Option Tree). is_some (k x)) (formulas_stay mean ctx c.loop-cell.store _)
           ∙ c.loop-cell.invariant.formulas x;
       sound = λ d s. subst (λ (h : Grid). IsSound mean ctx h d) (sym c.in_ok-evaluate_next.ensures.value)
           (sound_all mean ctx d meaning c.loop-cell.store (c.loop-cell.invariant.sound d s) (c.cell-item.result ∷ []));
-      contents = same_on _ _ _ c.loop-cell.invariant.contents (subst (SameContents c.loop-cell.store) (sym c.in_ok-evaluate_next.ensures.value) (same_evaluated mean ctx c.loop-cell.store c.cell-item.result));
-      outside = outside_more mean ctx c.args.cells.now c.loop-cell.cell-index c.cell-item.result c.cell-item.is c.loop-cell-test.true c.args.store.now c.loop-cell.store c.evaluate_next.new.store c.in_ok-evaluate_next.ensures.value c.loop-cell.invariant.outside;
+      contents = same_on _ _ _ c.loop-cell.invariant.contents (subst (SameContents c.loop-cell.store)
+          (sym c.in_ok-evaluate_next.ensures.value) (same_evaluated mean ctx c.loop-cell.store c.cell-item.result));
+      outside = outside_more mean ctx c.args.cells.now c.loop-cell.cell-index c.cell-item.result
+          c.cell-item.is c.loop-cell-test.true c.args.store.now c.loop-cell.store c.evaluate_next.new.store
+          c.in_ok-evaluate_next.ensures.value c.loop-cell.invariant.outside;
       kept = c.in_ok-evaluate_next.ensures.kept;
-      count = c.in_ok-evaluate_next.ensures.count ∙ ap (raised_by 1) c.loop-cell.invariant.count ∙ raised_more c.loop-cell.cell-index 1 (g.E.Means.count c.args.tally.now);
+      count = c.in_ok-evaluate_next.ensures.count ∙ ap (raised_by 1) c.loop-cell.invariant.count
+          ∙ raised_more c.loop-cell.cell-index 1 (g.E.Means.count c.args.tally.now);
     }

@@ -5,4 +5,5 @@ use Rattle.recalculation.specs.inner.Leaving.{LeftSoFar}
 use Rattle.recalculation.proofs.leave.leave.Given as goal
 
 abbrev pub invariant-loop-cell : goal.invariant-loop-cell
-invariant-loop-cell l = LeftSoFar l.store (has same_place l.fn.dirty.keys) (take l.cell-index l.order) (has same_place l.dirty.keys)
+invariant-loop-cell l =
+    LeftSoFar l.store (has same_place l.fn.dirty.keys) (take l.cell-index l.order) (has same_place l.dirty.keys)

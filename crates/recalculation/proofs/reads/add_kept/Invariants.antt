@@ -5,4 +5,5 @@ use Rattle.cell_maps.specs.Sets.{has}
 use Rattle.recalculation.proofs.reads.add_kept.Given as goal
 
 abbrev pub invariant-loop-cell : goal.invariant-loop-cell
-invariant-loop-cell l = l.list.items ++ filter (has same_place l.set.keys) (drop l.cell-index l.cells) ≡ l.fn.list.items ++ filter (has same_place l.set.keys) l.cells
+invariant-loop-cell l = l.list.items ++ filter (has same_place l.set.keys)
+    (drop l.cell-index l.cells) ≡ l.fn.list.items ++ filter (has same_place l.set.keys) l.cells

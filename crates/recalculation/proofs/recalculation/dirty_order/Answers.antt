@@ -22,26 +22,36 @@ pub returns-clause-done : goal.returns-clause-done
 returns-clause-done c =
     let g : Grid = c.args.store.now in
     let dirty : Place → Bool = has same_place c.args.dirty.now.keys in
-    let w : walked c.in_ok-order.order.done c.in_ok-order.order.circular ≡ walked_dirty g dirty = c.in_ok-order.ensures.order ∙ walk_told c.args.graph.now g c.requires.matches dirty _ (c.as_slice.ensures.value ∙ c.in_ok-roots.ensures) in
+    let w : walked c.in_ok-order.order.done c.in_ok-order.order.circular ≡ walked_dirty g dirty =
+    c.in_ok-order.ensures.order ∙ walk_told c.args.graph.now g c.requires.matches dirty _
+    (c.as_slice.ensures.value ∙ c.in_ok-roots.ensures) in
     ap (λ (s : Walked Place). s.done) w ∙ dirty_done g dirty c.requires.split c.requires.only
 
 pub returns-clause-circular : goal.returns-clause-circular
 returns-clause-circular c =
     let g : Grid = c.args.store.now in
     let dirty : Place → Bool = has same_place c.args.dirty.now.keys in
-    let w : walked c.in_ok-order.order.done c.in_ok-order.order.circular ≡ walked_dirty g dirty = c.in_ok-order.ensures.order ∙ walk_told c.args.graph.now g c.requires.matches dirty _ (c.as_slice.ensures.value ∙ c.in_ok-roots.ensures) in
+    let w : walked c.in_ok-order.order.done c.in_ok-order.order.circular ≡ walked_dirty g dirty =
+    c.in_ok-order.ensures.order ∙ walk_told c.args.graph.now g c.requires.matches dirty _
+    (c.as_slice.ensures.value ∙ c.in_ok-roots.ensures) in
     ap (λ (s : Walked Place). s.circular) w ∙ dirty_circular g dirty c.requires.split c.requires.only
 
 pub returns-clause-precedes : goal.returns-clause-precedes
 returns-clause-precedes c =
     let g : Grid = c.args.store.now in
     let dirty : Place → Bool = has same_place c.args.dirty.now.keys in
-    let w : walked c.in_ok-order.order.done c.in_ok-order.order.circular ≡ walked_dirty g dirty = c.in_ok-order.ensures.order ∙ walk_told c.args.graph.now g c.requires.matches dirty _ (c.as_slice.ensures.value ∙ c.in_ok-roots.ensures) in
-    subst (λ (s : Walked Place). Precedes same_place (λ x. filter dirty (pre g x)) [] s.done) (sym w) (order_goes g dirty c.requires.split c.requires.only)
+    let w : walked c.in_ok-order.order.done c.in_ok-order.order.circular ≡ walked_dirty g dirty =
+    c.in_ok-order.ensures.order ∙ walk_told c.args.graph.now g c.requires.matches dirty _
+    (c.as_slice.ensures.value ∙ c.in_ok-roots.ensures) in
+    subst (λ (s : Walked Place). Precedes same_place (λ x. filter dirty (pre g x)) [] s.done) (sym w)
+    (order_goes g dirty c.requires.split c.requires.only)
 
 pub returns-clause-same : goal.returns-clause-same
 returns-clause-same c =
     let g : Grid = c.args.store.now in
     let dirty : Place → Bool = has same_place c.args.dirty.now.keys in
-    let w : walked c.in_ok-order.order.done c.in_ok-order.order.circular ≡ walked_dirty g dirty = c.in_ok-order.ensures.order ∙ walk_told c.args.graph.now g c.requires.matches dirty _ (c.as_slice.ensures.value ∙ c.in_ok-roots.ensures) in
-    λ x. ap (λ (s : Walked Place). has same_place s.done x) w ∙ ap (λ cs. has same_place cs x) (dirty_done g dirty c.requires.split c.requires.only) ∙ order_same g dirty c.requires.split c.requires.only x
+    let w : walked c.in_ok-order.order.done c.in_ok-order.order.circular ≡ walked_dirty g dirty =
+    c.in_ok-order.ensures.order ∙ walk_told c.args.graph.now g c.requires.matches dirty _
+    (c.as_slice.ensures.value ∙ c.in_ok-roots.ensures) in
+    λ x. ap (λ (s : Walked Place). has same_place s.done x) w ∙ ap (λ cs. has same_place cs x)
+    (dirty_done g dirty c.requires.split c.requires.only) ∙ order_same g dirty c.requires.split c.requires.only x

@@ -12,10 +12,12 @@ use Rattle.recalculation.specs.Reading.{natural_order}
 use Rattle.recalculation.proofs.recalculation.first_pass.Goals as goal
 
 pub dirty_order-requires-clause-split : goal.dirty_order-requires-clause-split
-dirty_order-requires-clause-split g c = split_of g.E.Means.meaning (context_of c.args.names.now c.args.settings.now c.args.scene.now) c.args.store.now (has same_place c.args.dirty.now.keys) c.requires.sound
+dirty_order-requires-clause-split g c = split_of g.E.Means.meaning (context_of c.args.names.now c.args.settings.now
+    c.args.scene.now) c.args.store.now (has same_place c.args.dirty.now.keys) c.requires.sound
 
 pub pass_over-requires : goal.pass_over-requires
-pass_over-requires g c = λ x m. c.requires.sound.only x (sym (c.in_ok-order.ensures.same x) ∙ sym (ap (λ ks. has same_place ks x) c.as_slice.ensures.keys) ∙ m)
+pass_over-requires g c = λ x m. c.requires.sound.only x
+    (sym (c.in_ok-order.ensures.same x) ∙ sym (ap (λ ks. has same_place ks x) c.as_slice.ensures.keys) ∙ m)
 
 pub returns-clause-values : goal.returns-clause-values
 returns-clause-values g c =
@@ -23,17 +25,22 @@ returns-clause-values g c =
     let ctx : Context = context_of c.args.names.now c.args.settings.now c.args.scene.now in
     let meaning : IsMeaning mean = record { reads = g.met.E.Means.reads_alone } in
     let s : Grid = c.args.store.now in
-    c.in_ok-pass_over.ensures.values ∙ ap (λ cs. pass mean ctx cs s) (c.as_slice.ensures.keys ∙ c.in_ok-order.ensures.done)
-    ∙ sym (pass_is_cut mean ctx meaning s (has same_place c.args.dirty.now.keys) c.requires.sound (natural_order s).done)
+    c.in_ok-pass_over.ensures.values ∙ ap (λ cs. pass mean ctx cs s)
+    (c.as_slice.ensures.keys ∙ c.in_ok-order.ensures.done)
+    ∙ sym
+    (pass_is_cut mean ctx meaning s (has same_place c.args.dirty.now.keys) c.requires.sound (natural_order s).done)
 
 pub returns-clause-count : goal.returns-clause-count
 returns-clause-count g c =
     let n : length c.as_slice.result.now ≡ length c.args.dirty.now.keys =
-    ap length c.as_slice.ensures.keys ∙ as_many c.in_ok-order.order.done.keys c.args.dirty.now.keys c.in_ok-order.ensures.unique c.len-len.ensures.unique c.in_ok-order.ensures.same in
+    ap length c.as_slice.ensures.keys ∙ as_many c.in_ok-order.order.done.keys c.args.dirty.now.keys
+    c.in_ok-order.ensures.unique c.len-len.ensures.unique c.in_ok-order.ensures.same in
     c.in_ok-pass_over.ensures.count ∙ ap (λ k. raised_by k (g.E.Means.count c.args.tally.now)) n
 
 pub returns-in_err-pass_over-clause-outside : goal.returns-in_err-pass_over-clause-outside
-returns-in_err-pass_over-clause-outside g c = λ q f. c.pass_over.ensures.outside q (ap (λ ks. has same_place ks q) c.as_slice.ensures.keys ∙ c.in_ok-order.ensures.same q ∙ f)
+returns-in_err-pass_over-clause-outside g c = λ q f. c.pass_over.ensures.outside q
+    (ap (λ ks. has same_place ks q) c.as_slice.ensures.keys ∙ c.in_ok-order.ensures.same q ∙ f)
 
 pub returns-clause-outside : goal.returns-clause-outside
-returns-clause-outside g c = λ q f. c.pass_over.ensures.outside q (ap (λ ks. has same_place ks q) c.as_slice.ensures.keys ∙ c.in_ok-order.ensures.same q ∙ f)
+returns-clause-outside g c = λ q f. c.pass_over.ensures.outside q
+    (ap (λ ks. has same_place ks q) c.as_slice.ensures.keys ∙ c.in_ok-order.ensures.same q ∙ f)

@@ -11,5 +11,6 @@ pub returns-clause-list : goal.returns-clause-list
 returns-clause-list c =
     let g : Grid = c.args.store.now in
     let dirty : Place → Bool = has same_place c.args.dirty.now.keys in
-    c.in_ok-list.ensures.list ∙ ap by_columns (c.as_slice.ensures.value ∙ c.in_ok-cells.ensures) ∙ sym (filter_columns dirty (formulas g))
+    c.in_ok-list.ensures.list ∙ ap by_columns (c.as_slice.ensures.value ∙ c.in_ok-cells.ensures)
+    ∙ sym (filter_columns dirty (formulas g))
     ∙ ap (λ b. filter dirty (plain_order b g)) (sym c.if-not-is_by_column.false)

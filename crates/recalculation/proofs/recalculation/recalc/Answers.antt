@@ -6,5 +6,8 @@ use Rattle.recalculation.specs.Context.{context_of}
 use Rattle.recalculation.proofs.recalculation.recalc.Goals as goal
 
 pub returns-in_ok-circular-in-Natural-clause-right : goal.returns-in_ok-circular-in-Natural-clause-right
-returns-in_ok-circular-in-Natural-clause-right g c = λ _ plain. right_plain g.E.Means.meaning (context_of c.args.names.now c.args.settings.now c.args.scene.now) c.args.store.now c.recalc_natural.new.store (has same_place c.recalc_natural.new.dirty.keys)
-    (formulas_same c.args.store.now c.recalc_natural.new.store c.recalc_natural.ensures.contents) c.in_ok-circular-in-Natural.ensures.stays c.recalc_natural.ensures.sound plain
+returns-in_ok-circular-in-Natural-clause-right g c =
+    λ _ plain. right_plain g.E.Means.meaning (context_of c.args.names.now c.args.settings.now c.args.scene.now)
+    c.args.store.now c.recalc_natural.new.store (has same_place c.recalc_natural.new.dirty.keys)
+    (formulas_same c.args.store.now c.recalc_natural.new.store c.recalc_natural.ensures.contents)
+    c.in_ok-circular-in-Natural.ensures.stays c.recalc_natural.ensures.sound plain

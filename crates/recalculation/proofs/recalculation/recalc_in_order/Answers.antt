@@ -22,8 +22,10 @@ returns-clause-values g c =
     let ctx : Context = context_of c.args.names.now c.args.settings.now c.args.scene.now in
     let meaning : IsMeaning mean = record { reads = g.met.E.Means.reads_alone } in
     let e : c.args.times ≡ suc (c.args.times - 1) = let h = c.requires.times in omega arith in
-    c.in_ok-pass_over.ensures.values ∙ ap (λ (cs : List Place). pass mean ctx cs c.args.store.now) c.as_slice.ensures.keys
-    ∙ values mean ctx meaning c.args.store.now c.args.dirty.now.keys c.requires.sound c.requires.order c.args.times (c.args.times - 1) e
+    c.in_ok-pass_over.ensures.values ∙ ap (λ (cs : List Place). pass mean ctx cs c.args.store.now)
+    c.as_slice.ensures.keys
+    ∙ values mean ctx meaning c.args.store.now c.args.dirty.now.keys c.requires.sound c.requires.order c.args.times
+    (c.args.times - 1) e
 
 pub returns-clause-circular : goal.returns-clause-circular
 returns-clause-circular g c =
@@ -37,21 +39,29 @@ returns-clause-stays g c =
     let mean : Meaning = g.E.Means.meaning in
     let ctx : Context = context_of c.args.names.now c.args.settings.now c.args.scene.now in
     let meaning : IsMeaning mean = record { reads = g.met.E.Means.reads_alone } in
-    let is : c.pass_over.new.store ≡ pass mean ctx c.args.dirty.now.keys c.args.store.now = c.in_ok-pass_over.ensures.values ∙ ap (λ (cs : List Place). pass mean ctx cs c.args.store.now) c.as_slice.ensures.keys in
+    let is : c.pass_over.new.store ≡ pass mean ctx c.args.dirty.now.keys c.args.store.now =
+    c.in_ok-pass_over.ensures.values
+    ∙ ap (λ (cs : List Place). pass mean ctx cs c.args.store.now) c.as_slice.ensures.keys in
     subst (λ (ks : List Place). IsWhatStays c.pass_over.new.store (has same_place ks)) (sym c.truncate.ensures)
-    (subst (λ (h : Grid). IsWhatStays h (has same_place [])) (sym is) (stays_after mean ctx meaning c.args.store.now c.args.dirty.now.keys c.requires.sound c.requires.order))
+    (subst (λ (h : Grid). IsWhatStays h (has same_place [])) (sym is)
+    (stays_after mean ctx meaning c.args.store.now c.args.dirty.now.keys c.requires.sound c.requires.order))
 
 pub returns-clause-sound : goal.returns-clause-sound
 returns-clause-sound g c =
     let mean : Meaning = g.E.Means.meaning in
     let ctx : Context = context_of c.args.names.now c.args.settings.now c.args.scene.now in
     let meaning : IsMeaning mean = record { reads = g.met.E.Means.reads_alone } in
-    let is : c.pass_over.new.store ≡ pass mean ctx c.args.dirty.now.keys c.args.store.now = c.in_ok-pass_over.ensures.values ∙ ap (λ (cs : List Place). pass mean ctx cs c.args.store.now) c.as_slice.ensures.keys in
+    let is : c.pass_over.new.store ≡ pass mean ctx c.args.dirty.now.keys c.args.store.now =
+    c.in_ok-pass_over.ensures.values
+    ∙ ap (λ (cs : List Place). pass mean ctx cs c.args.store.now) c.as_slice.ensures.keys in
     subst (λ (ks : List Place). IsSound mean ctx c.pass_over.new.store (has same_place ks)) (sym c.truncate.ensures)
-    (subst (λ (h : Grid). IsSound mean ctx h (has same_place [])) (sym is) (sound_after mean ctx meaning c.args.store.now c.args.dirty.now.keys c.requires.sound c.requires.order))
+    (subst (λ (h : Grid). IsSound mean ctx h (has same_place [])) (sym is)
+    (sound_after mean ctx meaning c.args.store.now c.args.dirty.now.keys c.requires.sound c.requires.order))
 
 pub returns-in_err-pass_over-clause-outside : goal.returns-in_err-pass_over-clause-outside
-returns-in_err-pass_over-clause-outside g c = λ q f. c.pass_over.ensures.outside q (ap (λ ks. has same_place ks q) c.as_slice.ensures.keys ∙ f)
+returns-in_err-pass_over-clause-outside g c =
+    λ q f. c.pass_over.ensures.outside q (ap (λ ks. has same_place ks q) c.as_slice.ensures.keys ∙ f)
 
 pub returns-clause-outside : goal.returns-clause-outside
-returns-clause-outside g c = λ q f. c.pass_over.ensures.outside q (ap (λ ks. has same_place ks q) c.as_slice.ensures.keys ∙ f)
+returns-clause-outside g c =
+    λ q f. c.pass_over.ensures.outside q (ap (λ ks. has same_place ks q) c.as_slice.ensures.keys ∙ f)

@@ -13,14 +13,18 @@ of-requires c = subst (IsDistinct same_place) (sym c.as_slice-cells.ensures.keys
 pub leave-requires-clause-order : goal.leave-requires-clause-order
 leave-requires-clause-order c =
     let cells : List Place = c.as_slice-cells.result.now in
-    subst (λ (ks : List Place). Precedes same_place (λ x. filter (has same_place ks) (pre c.args.store.now x)) [] cells) (sym c.in_ok-rest.ensures)
-    (subst (λ (ks : List Place). Precedes same_place (λ x. filter (has same_place ks) (pre c.args.store.now x)) [] ks) (sym c.as_slice-cells.ensures.keys) c.requires.order)
+    subst (λ (ks : List Place). Precedes same_place (λ x. filter (has same_place ks) (pre c.args.store.now x)) [] cells)
+    (sym c.in_ok-rest.ensures)
+    (subst (λ (ks : List Place). Precedes same_place (λ x. filter (has same_place ks) (pre c.args.store.now x)) [] ks)
+    (sym c.as_slice-cells.ensures.keys) c.requires.order)
 
 pub leave-requires-clause-covers : goal.leave-requires-clause-covers
 leave-requires-clause-covers c = λ x m. ap (λ ks. has same_place ks x) (sym c.in_ok-rest.ensures) ∙ m
 
 pub leave-requires-clause-all : goal.leave-requires-clause-all
-leave-requires-clause-all c = λ x m. ap (λ ks. has same_place ks x) (c.in_ok-rest.ensures ∙ c.as_slice-cells.ensures.keys) ∙ c.requires.all x m
+leave-requires-clause-all c =
+    λ x m. ap (λ ks. has same_place ks x) (c.in_ok-rest.ensures ∙ c.as_slice-cells.ensures.keys) ∙ c.requires.all x m
 
 pub returns-clause-cells : goal.returns-clause-cells
-returns-clause-cells c = c.in_ok-again.ensures ∙ ap (filter (has same_place c.leave.new.dirty.keys)) c.as_slice-cells.ensures.keys
+returns-clause-cells c =
+    c.in_ok-again.ensures ∙ ap (filter (has same_place c.leave.new.dirty.keys)) c.as_slice-cells.ensures.keys

@@ -7,4 +7,5 @@ use Rattle.recalculation.specs.Context.{value_at}
 use Rattle.recalculation.proofs.view.ViewLook.filled.Goals as goal
 
 pub returns : goal.returns
-returns c = c.in_ok-list.ensures ∙ ap (filter (λ (p : Place). is_filled (value_at c.args.self.now.store.now p))) (c.as_slice.ensures ∙ c.in_ok-cells.ensures) ∙ filled_is c.args.self.now.store.now c.args.span
+returns c = c.in_ok-list.ensures ∙ ap (filter (λ (p : Place). is_filled (value_at c.args.self.now.store.now p)))
+    (c.as_slice.ensures ∙ c.in_ok-cells.ensures) ∙ filled_is c.args.self.now.store.now c.args.span
