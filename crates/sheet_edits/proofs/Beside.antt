@@ -8,8 +8,12 @@ use Rattle.grid_address.specs.Place.{same_place, Place}
 use Rattle.sheet_store.specs.Grid.{is_kept, put_state, Grid}
 use Rattle.sheet_store.specs.State.{CellState}
 
-pub beside : (g : Grid) (cell : Place) (s : CellState) (c : Place) → same_place c cell ≡ false → get (put_state g cell s).cells c ≡ get g.cells c
+-- the other cells hold what they held where a cell's state is put
+pub beside : (g : Grid) (cell : Place) (s : CellState) (c : Place) → same_place c cell ≡ false
+    → get (put_state g cell s).cells c ≡ get g.cells c
 beside g cell s c h = elim (cases_Bool (is_kept s)) [
-  | inl k ↦ ap (λ b. get (cond b (insert g.cells cell s) (remove g.cells cell)) c) k ∙ get_inserted g.cells cell s c ∙ ap (λ b. cond b (Some s) (get g.cells c)) h
-  | inr k ↦ ap (λ b. get (cond b (insert g.cells cell s) (remove g.cells cell)) c) k ∙ get_removed g.cells cell c ∙ ap (λ b. cond b None (get g.cells c)) h
+  | inl k ↦ ap (λ b. get (cond b (insert g.cells cell s) (remove g.cells cell)) c) k ∙ get_inserted g.cells cell s c
+      ∙ ap (λ b. cond b (Some s) (get g.cells c)) h
+  | inr k ↦ ap (λ b. get (cond b (insert g.cells cell s) (remove g.cells cell)) c) k ∙ get_removed g.cells cell c
+      ∙ ap (λ b. cond b None (get g.cells c)) h
 ]

@@ -1,7 +1,7 @@
 -- The states that cells are given are such as a store may have.
 use Rattle.std.specs.Prelude.{ℕ, ℤ, pos, ◌≡◌, Bool, true, false, cond, not, nat_eq, refl, Option, None, Some}
 use Rattle.std.specs.FinMap.{get}
-use Rattle.std.proofs.Common.{sym, ◌∙◌, ap, subst}
+use Rattle.std.proofs.Common.{sym, ◌∙◌, ap}
 use Rattle.std.proofs.lemmas.Bool.{true≢false}
 use Rattle.grid_address.specs.Formats.{default_format}
 use Rattle.grid_address.specs.Place.{Place}
@@ -11,12 +11,13 @@ use Rattle.formula_tree.specs.declared.value.Content.TheVariants as content
 use Rattle.formula_tree.specs.declared.value.Value.{Value}
 use Rattle.formula_tree.specs.declared.value.Value.TheVariants as value
 use Rattle.recalculation.specs.Context.{formula_of, value_of}
-use Rattle.sheet_store.specs.Grid.{blank_state, AreHeld, Cells, Fits, IsSound}
+use Rattle.sheet_store.specs.Grid.{AreHeld, Cells, Fits, IsSound}
 use Rattle.sheet_store.specs.State.{CellState}
 use Rattle.sheet_edits.proofs.Overlaid.{formula_kept, none_not_some}
 use Rattle.sheet_edits.specs.Edits.{first_value}
-use Rattle.sheet_edits.specs.Spans.{blanked, copied_state, kept_of, reformatted, reformatted_state, AreGiven, AreSound}
+use Rattle.sheet_edits.specs.Spans.{copied_state, kept_of, reformatted, AreGiven, AreSound}
 
+-- two answers that are the same have the same thing in them
 pub the_same : {A : Type 0} (a b : A) → Some a ≡ Some b → a ≡ b
 the_same {A} a b e = ap (λ o. pick o) e
   where
@@ -24,16 +25,14 @@ the_same {A} a b e = ap (λ o. pick o) e
     pick None = a
     pick (Some x) = x
 
-pub given_sound : (m : Cells) (written : Place → Bool) (told : Place → Option CellState) → AreGiven m written told → ((c : Place) (s : CellState) → told c ≡ Some s → IsSound s) → AreSound m
+-- the states that cells are given are such as a store may have, where those that are told are
+pub given_sound : (m : Cells) (written : Place → Bool) (told : Place → Option CellState) → AreGiven m written told
+    → ((c : Place) (s : CellState) → told c ≡ Some s → IsSound s) → AreSound m
 given_sound m written told given sound c s e = by (written c) (sym (given c) ∙ e)
   where
     by : (b : Bool) → cond b (told c) None ≡ Some s → IsSound s
     by true h = sound c s h
     by false h = absurd (none_not_some s h)
-
-pub blank_sound : (o : Option CellState) (s : CellState) → blanked o ≡ Some s → IsSound s
-blank_sound None s e = absurd (none_not_some s e)
-blank_sound (Some x) s e = subst IsSound (the_same (blank_state x.format) s e) refl
 
 num_not_blank : (x : ℤ) → value.Num x ≡ value.Blank → ⊥
 num_not_blank x e = true≢false (ap is_num e)
@@ -53,19 +52,13 @@ first_sound (content.Label b t) = refl
 first_sound (content.Formula f) = num_not_blank (pos 0)
 
 module _ (m : Cells) (held : AreHeld m) where
+  -- a copied state is one that a store may have
   pub copied_sound : (c : Place) → IsSound (copied_state (get m c))
   copied_sound c = by (get m c) refl
     where
       by : (o : Option CellState) → get m c ≡ o → IsSound (copied_state o)
       by None e = refl
       by (Some s) e = first_sound s.content
-
-  pub reformatted_sound : (rule : ℕ → ℕ) (c : Place) → IsSound (reformatted_state rule (get m c))
-  reformatted_sound rule c = by (get m c) refl
-    where
-      by : (o : Option CellState) → get m c ≡ o → IsSound (reformatted_state rule o)
-      by None e = refl
-      by (Some s) e = (held c s e).sound
 
   -- another format leaves formulas and values
   pub same_formula : (rule : ℕ → ℕ) (c : Place) → formula_of (reformatted rule (get m c)) ≡ formula_of (get m c)
@@ -75,12 +68,15 @@ module _ (m : Cells) (held : AreHeld m) where
       by None = formula_kept content.Blank value.Blank (record { 0 = rule default_format })
       by (Some s) = formula_kept s.content s.value (record { 0 = rule s.format.0 })
 
-  value_kept : (x : Content) (v : Value) (f : Format) → Fits x v → value_of (kept_of (record { content = x; value = v; format = f })) ≡ v
-  value_kept content.Blank v f h = elim (not (nat_eq f.0 255)) as (λ b. value_of (cond b (Some (record { content = content.Blank; value = v; format = f })) None) ≡ v) [ true ↦ refl | false ↦ sym h ]
+  value_kept : (x : Content) (v : Value) (f : Format) → Fits x v
+      → value_of (kept_of (record { content = x; value = v; format = f })) ≡ v
+  value_kept content.Blank v f h = elim (not (nat_eq f.0 255)) as (λ b. value_of (cond b
+      (Some (record { content = content.Blank; value = v; format = f })) None) ≡ v) [ true ↦ refl | false ↦ sym h ]
   value_kept (content.Number n) v f h = refl
   value_kept (content.Label b t) v f h = refl
   value_kept (content.Formula t) v f h = refl
 
+  -- a change of format leaves the value
   pub same_value : (rule : ℕ → ℕ) (c : Place) → value_of (reformatted rule (get m c)) ≡ value_of (get m c)
   same_value rule c = by (get m c) refl
     where

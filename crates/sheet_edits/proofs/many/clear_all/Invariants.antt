@@ -6,7 +6,8 @@ use Rattle.sheet_edits.proofs.many.clear_all.Given as goal
 
 abbrev pub invariant-loop-cell : goal.invariant-loop-cell
 invariant-loop-cell l = record {
-  cells : (c : Place) → map.get l.store.cells c ≡ cond (has same_place (take l.cell-index l.cells) c) None (map.get l.fn.store.cells c);
+  cells : (c : Place)
+      → map.get l.store.cells c ≡ cond (has same_place (take l.cell-index l.cells) c) None (map.get l.fn.store.cells c);
   widths : l.store.widths ≡ l.fn.store.widths;
   hidden : l.store.hidden ≡ l.fn.store.hidden;
 }

@@ -7,6 +7,8 @@ use Rattle.sheet_edits.proofs.many.put_all.Given as goal
 
 abbrev pub invariant-loop-cell : goal.invariant-loop-cell
 invariant-loop-cell l = record {
-  store : Becomes l.fn.store (λ c. cond (has same_place (take l.cell-index l.cells) c) (changed (map.get l.fn.changes c) (map.get l.fn.store.cells c)) (map.get l.fn.store.cells c)) l.store;
-  changes : (c : Place) → map.get l.changes c ≡ cond (has same_place (take l.cell-index l.cells) c) None (map.get l.fn.changes c);
+  store : Becomes l.fn.store (λ c. cond (has same_place (take l.cell-index l.cells) c)
+      (changed (map.get l.fn.changes c) (map.get l.fn.store.cells c)) (map.get l.fn.store.cells c)) l.store;
+  changes : (c : Place)
+      → map.get l.changes c ≡ cond (has same_place (take l.cell-index l.cells) c) None (map.get l.fn.changes c);
 }

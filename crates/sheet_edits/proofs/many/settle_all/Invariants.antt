@@ -9,8 +9,11 @@ use Rattle.sheet_edits.proofs.many.settle_all.Given as goal
 
 abbrev pub invariant-loop-cell : goal.invariant-loop-cell
 invariant-loop-cell l = record {
-  done : (c : Place) → has same_place (take l.cell-index l.cells) c ≡ true → map.get l.graph.formulas c ≡ node_of (formula_at l.store c) c;
+  done : (c : Place) → has same_place (take l.cell-index l.cells) c ≡ true
+      → map.get l.graph.formulas c ≡ node_of (formula_at l.store c) c;
   offered : (c : Place) → has same_place l.cells c ≡ true → IsOffered l.graph l.store c;
-  others : (c : Place) → has same_place l.cells c ≡ false → map.get l.graph.formulas c ≡ node_of (formula_at l.store c) c;
-  dirty : (c : Place) → has same_place l.dirty.keys c ≡ cond (has same_place (take l.cell-index l.cells) c) (has same_place l.fn.dirty.keys c && is_formula_at l.store c) (has same_place l.fn.dirty.keys c);
+  others : (c : Place) → has same_place l.cells c ≡ false
+      → map.get l.graph.formulas c ≡ node_of (formula_at l.store c) c;
+  dirty : (c : Place) → has same_place l.dirty.keys c ≡ cond (has same_place (take l.cell-index l.cells) c)
+      (has same_place l.fn.dirty.keys c && is_formula_at l.store c) (has same_place l.fn.dirty.keys c);
 }

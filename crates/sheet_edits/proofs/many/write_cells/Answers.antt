@@ -16,9 +16,16 @@ pub returns-in-Ok-clause-store : goal.returns-in-Ok-clause-store
 returns-in-Ok-clause-store c =
     let left : Cells = c.prepare_all.new.changes in
     let mid : Grid = c.prepare_all.new.store in
-    let put = subst (λ (l : List Place). Becomes mid (λ x. cond (has same_place l x) (changed (get left x) (get mid.cells x)) (get mid.cells x)) c.put_all.new.store) c.as_slice.ensures
-    (record { cells = c.put_all.ensures.cells; widths = c.put_all.ensures.widths; hidden = c.put_all.ensures.hidden }) in
-    put_whole c.args.cells.now c.args.changes left c.args.store.now mid c.put_all.new.store c.requires.given c.in-Ok.ensures.put put
+    let put = subst (λ (l : List Place). Becomes mid (λ x. cond (has same_place l x)
+    (changed (get left x) (get mid.cells x)) (get mid.cells x)) c.put_all.new.store) c.as_slice.ensures
+    (record {
+      cells = c.put_all.ensures.cells;
+      widths = c.put_all.ensures.widths;
+      hidden =
+          c.put_all.ensures.hidden;
+    }) in
+    put_whole c.args.cells.now c.args.changes left c.args.store.now mid c.put_all.new.store c.requires.given
+    c.in-Ok.ensures.put put
 
 pub returns-in-Ok-clause-dirty : goal.returns-in-Ok-clause-dirty
 returns-in-Ok-clause-dirty c =
@@ -27,8 +34,17 @@ returns-in-Ok-clause-dirty c =
     let left : Cells = c.prepare_all.new.changes in
     let mid : Grid = c.prepare_all.new.store in
     let keys : List Place = c.prepare_all.new.dirty.keys in
-    let put = subst (λ (l : List Place). Becomes mid (λ x. cond (has same_place l x) (changed (get left x) (get mid.cells x)) (get mid.cells x)) c.put_all.new.store) c.as_slice.ensures
-    (record { cells = c.put_all.ensures.cells; widths = c.put_all.ensures.widths; hidden = c.put_all.ensures.hidden }) in
-    dirtied_all changes c.args.store.now c.put_all.new.store (put_whole cells changes left c.args.store.now mid c.put_all.new.store c.requires.given c.in-Ok.ensures.put put).cells cells c.requires.given c.args.graph.now c.requires.matches
+    let put = subst (λ (l : List Place). Becomes mid (λ x. cond (has same_place l x)
+    (changed (get left x) (get mid.cells x)) (get mid.cells x)) c.put_all.new.store) c.as_slice.ensures
+    (record {
+      cells = c.put_all.ensures.cells;
+      widths = c.put_all.ensures.widths;
+      hidden =
+          c.put_all.ensures.hidden;
+    }) in
+    dirtied_all changes c.args.store.now c.put_all.new.store (put_whole cells changes left c.args.store.now mid
+    c.put_all.new.store c.requires.given c.in-Ok.ensures.put put).cells cells c.requires.given c.args.graph.now
+    c.requires.matches
     c.args.dirty.now.keys keys c.settle_all.new.dirty.keys c.requires.only c.in-Ok.ensures.dirty
-    (λ x. c.settle_all.ensures.dirty x ∙ ap (λ (l : List Place). cond (has same_place l x) (has same_place keys x && is_formula_at c.put_all.new.store x) (has same_place keys x)) c.as_slice-in-Ok.ensures)
+    (λ x. c.settle_all.ensures.dirty x ∙ ap (λ (l : List Place). cond (has same_place l x) (has same_place keys x
+    && is_formula_at c.put_all.new.store x) (has same_place keys x)) c.as_slice-in-Ok.ensures)

@@ -6,4 +6,5 @@ use Rattle.sheet_edits.specs.Spans.{copied_state, source_of, AreGiven}
 use Rattle.sheet_edits.proofs.spans.copied.Given as goal
 
 abbrev pub invariant-loop-cell : goal.invariant-loop-cell
-invariant-loop-cell l = AreGiven l.changes (has same_place (take l.cell-index l.cells)) (λ c. Some (copied_state (get l.store.cells (source_of l.fn.from l.first c))))
+invariant-loop-cell l = AreGiven l.changes (has same_place (take l.cell-index l.cells))
+    (λ c. Some (copied_state (get l.store.cells (source_of l.fn.from l.first c))))

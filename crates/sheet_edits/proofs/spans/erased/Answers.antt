@@ -8,4 +8,6 @@ pub loop-cell-init : goal.loop-cell-init
 loop-cell-init c = nothing_given c.new-changes.result c.new-changes.ensures
 
 pub loop-cell-preserved : goal.loop-cell-preserved
-loop-cell-preserved c = given_more c.args.cells.now c.loop-cell.cell-index c.cell-item.result c.cell-item.is c.loop-cell-test.true c.loop-cell.changes c.erase_at.new.changes (λ x. blanked (get c.args.store.now.cells x)) c.in_ok-erase_at.ensures c.loop-cell.invariant
+loop-cell-preserved c = given_more c.args.cells.now c.loop-cell.cell-index c.cell-item.result
+    c.cell-item.is c.loop-cell-test.true c.loop-cell.changes c.erase_at.new.changes
+    (λ x. blanked (get c.args.store.now.cells x)) c.in_ok-erase_at.ensures c.loop-cell.invariant

@@ -6,4 +6,5 @@ use Rattle.sheet_edits.specs.Spans.{blanked, AreGiven}
 use Rattle.sheet_edits.proofs.spans.erased.Given as goal
 
 abbrev pub invariant-loop-cell : goal.invariant-loop-cell
-invariant-loop-cell l = AreGiven l.changes (has same_place (take l.cell-index l.cells)) (λ c. blanked (get l.store.cells c))
+invariant-loop-cell l =
+    AreGiven l.changes (has same_place (take l.cell-index l.cells)) (λ c. blanked (get l.store.cells c))

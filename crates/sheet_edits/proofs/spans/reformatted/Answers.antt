@@ -10,4 +10,7 @@ pub loop-cell-init : goal.loop-cell-init
 loop-cell-init c = nothing_given c.new-changes.result c.new-changes.ensures
 
 pub loop-cell-preserved : goal.loop-cell-preserved
-loop-cell-preserved c = given_more c.args.cells.now c.loop-cell.cell-index c.cell-item.result c.cell-item.is c.loop-cell-test.true c.loop-cell.changes c.set.new.self (λ x. Some (reformatted_state (rule_of c.args.change) (get c.args.store.now.cells x))) (c.in_ok-set.ensures ∙ ap (λ s. insert c.loop-cell.changes c.cell-item.result s) c.in_ok-state.ensures) c.loop-cell.invariant
+loop-cell-preserved c = given_more c.args.cells.now c.loop-cell.cell-index c.cell-item.result
+    c.cell-item.is c.loop-cell-test.true c.loop-cell.changes c.set.new.self
+    (λ x. Some (reformatted_state (rule_of c.args.change) (get c.args.store.now.cells x))) (c.in_ok-set.ensures
+    ∙ ap (λ s. insert c.loop-cell.changes c.cell-item.result s) c.in_ok-state.ensures) c.loop-cell.invariant

@@ -6,4 +6,5 @@ use Rattle.sheet_edits.specs.Spans.{reformatted_state, rule_of, AreGiven}
 use Rattle.sheet_edits.proofs.spans.reformatted.Given as goal
 
 abbrev pub invariant-loop-cell : goal.invariant-loop-cell
-invariant-loop-cell l = AreGiven l.changes (has same_place (take l.cell-index l.cells)) (λ c. Some (reformatted_state (rule_of l.change) (get l.store.cells c)))
+invariant-loop-cell l = AreGiven l.changes (has same_place (take l.cell-index l.cells))
+    (λ c. Some (reformatted_state (rule_of l.change) (get l.store.cells c)))

@@ -5,11 +5,15 @@ use Rattle.sheet_edits.proofs.writes.gathered.Goals as goal
 use Rattle.sheet_edits.proofs.writes.gathered.Goals.{in-Some+in_ok-gather, in_default}
 
 pub loop-place-init : goal.loop-place-init
-loop-place-init c = nothing_gathered c.args.store.now c.args.cells.now c.args.changes.now c.requires.cells c.requires.changes
+loop-place-init c =
+    nothing_gathered c.args.store.now c.args.cells.now c.args.changes.now c.requires.cells c.requires.changes
 
 pub loop-place-preserved : goal.loop-place-preserved
 loop-place-preserved c = elim c.match-get.branch [
-  | in-Some+in_ok-gather w ↦ one_gathered c.args.store.now c.args.writes.now c.loop-place.place w.in-Some.write.now (sym (get_or_from_slice_get c.args.writes.now c.loop-place.place w.in-Some.write.now w.in-Some.write.now w.in-Some.ensures.some.1)) w.in-Some.ensures.some.0
-      c.loop-place.cells c.match-get.cells c.loop-place.changes c.match-get.changes c.loop-place.invariant (w.cells-is ∙ w.in_ok-gather.ensures.cells) (w.changes-is ∙ w.in_ok-gather.ensures.changes)
+  | in-Some+in_ok-gather w ↦ one_gathered c.args.store.now c.args.writes.now c.loop-place.place w.in-Some.write.now
+      (sym (get_or_from_slice_get c.args.writes.now c.loop-place.place w.in-Some.write.now w.in-Some.write.now
+      w.in-Some.ensures.some.1)) w.in-Some.ensures.some.0
+      c.loop-place.cells c.match-get.cells c.loop-place.changes c.match-get.changes c.loop-place.invariant
+      (w.cells-is ∙ w.in_ok-gather.ensures.cells) (w.changes-is ∙ w.in_ok-gather.ensures.changes)
   | in_default w ↦ absurd (omega (arith, c.loop-place-test.true, c.len-place-end.ensures, w.in_default.ensures.none))
 ]
