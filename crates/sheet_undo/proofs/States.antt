@@ -30,11 +30,13 @@ put_front x [] = refl
 put_front x (y ∷ ys) = refl
 
 -- a difference that was put in front, and the first one then given its parts
-pub put_first : {X : Type 0} (x y : X) (old inserted cut new : List X) → inserted ≡ insert old 0 x → cut ≡ take 20 inserted → new ≡ set cut 0 y → new ≡ y ∷ take 19 old
+pub put_first : {X : Type 0} (x y : X) (old inserted cut new : List X) → inserted ≡ insert old 0 x
+    → cut ≡ take 20 inserted → new ≡ set cut 0 y → new ≡ y ∷ take 19 old
 put_first x y old inserted cut new i t n = n ∙ ap (λ l. set l 0 y) (t ∙ ap (take 20) (i ∙ put_front x old))
 
 -- the begun state becomes the latest
-pub latest_added : (now b : Sheet) (d : Before) (ds : List Before) → before d now ≡ b → earlier now (d ∷ take 19 ds) ≡ with_kept b (earlier b ds)
+pub latest_added : (now b : Sheet) (d : Before) (ds : List Before) → before d now ≡ b
+    → earlier now (d ∷ take 19 ds) ≡ with_kept b (earlier b ds)
 latest_added now b d ds is = ap (λ s. s ∷ earlier s (take 19 ds)) is ∙ ap (λ l. b ∷ l) (earlier_taken 19 b ds)
 
 -- how many they are

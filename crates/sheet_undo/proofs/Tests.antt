@@ -22,10 +22,6 @@ use Rattle.wk1_formula.proofs.Again.{code_read}
 use Rattle.wk1_formula.specs.Stack.{tree_in}
 use Rattle.wk1_formula.specs.Written.{code_of}
 
--- what passes a test that only equal things pass, and that each passes with itself
-decides : {X : Type 0} (test : X → X → Bool) (x y : X) → (test x y ≡ true → x ≡ y) → test x x ≡ true → Decides (test x y) (x ≡ y)
-decides test x y is itself = (is, λ e. subst (λ z. test x z ≡ true) e itself)
-
 bytes_itself : (xs : List ℕ) → bytes_eq xs xs ≡ true
 bytes_itself xs = (bytes_eq-Decides xs xs).1 refl
 
@@ -80,7 +76,8 @@ prefix_is p q e = let both : Some p ≡ Some q = sym (prefix_read p) ∙ ap pref
 label_is : (p q : LabelPrefix) (s t : List ℕ) → p ≡ q → s ≡ t → content.Label p s ≡ content.Label q t
 label_is p q s t e f = λ i. content.Label (e i) (f i)
 
-tree_is : (f g : Tree) (at : Place) → InSheet at → IsWritten (content.Formula f) → IsWritten (content.Formula g) → code_of f at ≡ code_of g at → f ≡ g
+tree_is : (f g : Tree) (at : Place) → InSheet at → IsWritten (content.Formula f) → IsWritten (content.Formula g)
+    → code_of f at ≡ code_of g at → f ≡ g
 tree_is f g at inside v w e =
     let both : Ok f ≡ Ok g = sym (code_read f at v.0 v.1 inside) ∙ ap tree_in e ∙ code_read g at w.0 w.1 inside in cc
 
@@ -95,12 +92,14 @@ content_is at (content.Number x) (content.Label q t) inside v w h = absurd (fals
 content_is at (content.Number x) (content.Formula g) inside v w h = absurd (false≢true h)
 content_is at (content.Label p s) content.Blank inside v w h = absurd (false≢true h)
 content_is at (content.Label p s) (content.Number y) inside v w h = absurd (false≢true h)
-content_is at (content.Label p s) (content.Label q t) inside v w h = let both = and_parts _ _ h in label_is p q s t (prefix_is p q ((Decides-eqb (prefix_byte p) (prefix_byte q)).0 both.0)) ((bytes_eq-Decides s t).0 both.1)
+content_is at (content.Label p s) (content.Label q t) inside v w h = let both = and_parts _ _ h in label_is p q s t
+    (prefix_is p q ((Decides-eqb (prefix_byte p) (prefix_byte q)).0 both.0)) ((bytes_eq-Decides s t).0 both.1)
 content_is at (content.Label p s) (content.Formula g) inside v w h = absurd (false≢true h)
 content_is at (content.Formula f) content.Blank inside v w h = absurd (false≢true h)
 content_is at (content.Formula f) (content.Number y) inside v w h = absurd (false≢true h)
 content_is at (content.Formula f) (content.Label q t) inside v w h = absurd (false≢true h)
-content_is at (content.Formula f) (content.Formula g) inside v w h = ap content.Formula (tree_is f g at inside v w ((bytes_eq-Decides (code_of f at) (code_of g at)).0 h))
+content_is at (content.Formula f) (content.Formula g) inside v w h =
+    ap content.Formula (tree_is f g at inside v w ((bytes_eq-Decides (code_of f at) (code_of g at)).0 h))
 
 content_itself : (at : Place) (x : Content) → same_content at x x ≡ true
 content_itself at content.Blank = refl
@@ -108,7 +107,8 @@ content_itself at (content.Number x) = (Decides-int_eq x x).1 refl
 content_itself at (content.Label p s) = and_from _ _ (nat_itself (prefix_byte p)) (bytes_itself s)
 content_itself at (content.Formula f) = bytes_itself (code_of f at)
 
-state_is : (at : Place) (s t : CellState) → InSheet at → IsWritten s.content → IsWritten t.content → same_state at s t ≡ true → s ≡ t
+state_is : (at : Place) (s t : CellState) → InSheet at → IsWritten s.content → IsWritten t.content
+    → same_state at s t ≡ true → s ≡ t
 state_is at s t inside v w h =
     let both = and_parts _ _ h in
     let rest = and_parts _ _ both.1 in
@@ -118,20 +118,25 @@ state_is at s t inside v w h =
     λ i. record { content = content i; value = value i; format = record { 0 = format i } }
 
 state_itself : (at : Place) (s : CellState) → same_state at s s ≡ true
-state_itself at s = and_from _ _ (content_itself at s.content) (and_from _ _ (value_itself s.value) (nat_itself s.format.0))
+state_itself at s =
+    and_from _ _ (content_itself at s.content) (and_from _ _ (value_itself s.value) (nat_itself s.format.0))
 
 -- entries of stores
-entry_decides : (b : Bool) (c d : Place) (s t : CellState) → InSheet c → IsWritten s.content → IsWritten t.content → b ≡ same_entry c s d t → Decides b (entry c s ≡ entry d t)
+entry_decides : (b : Bool) (c d : Place) (s t : CellState) → InSheet c → IsWritten s.content → IsWritten t.content
+    → b ≡ same_entry c s d t → Decides b (entry c s ≡ entry d t)
 entry_decides b c d s t inside v w is = (
   λ e.
       let both = and_parts _ _ (sym is ∙ e) in
       let place = same_place_is c d both.0 in
       let state = state_is c s t inside v w both.1 in
       λ i. (place i, state i),
-  λ e. is ∙ subst (λ (z : Place × CellState). same_entry c s z.0 z.1 ≡ true) e (and_from _ _ (same_place_itself c) (state_itself c s)),
+  λ e. is ∙ subst (λ (z : Place × CellState). same_entry c s z.0 z.1 ≡ true) e
+      (and_from _ _ (same_place_itself c) (state_itself c s)),
 )
 
-pub entry_told : {E : Type 0} (r : Result Bool E) (c d : Place) (s t : CellState) → InSheet c → IsWritten s.content → IsWritten t.content → IfOk r (λ b. b ≡ same_entry c s d t) → IfOk r (λ b. Decides b (entry c s ≡ entry d t))
+-- where the test of two entries answers, it tells whether they are one
+pub entry_told : {E : Type 0} (r : Result Bool E) (c d : Place) (s t : CellState) → InSheet c → IsWritten s.content
+    → IsWritten t.content → IfOk r (λ b. b ≡ same_entry c s d t) → IfOk r (λ b. Decides b (entry c s ≡ entry d t))
 entry_told (Ok b) c d s t inside v w h = entry_decides b c d s t inside v w h
 entry_told (Err e) c d s t inside v w h = h
 

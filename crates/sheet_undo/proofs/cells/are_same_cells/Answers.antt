@@ -4,4 +4,5 @@ use Rattle.sheet_undo.proofs.cells.are_same_cells.Goals as goal
 
 pub returns : goal.returns
 returns c = maps_decided c.is_over.result c.args.one.now.cells c.args.other.now.cells
-    (twins_over (entries c.args.one.now.cells) (entries c.args.other.now.cells) c.loop-entry.left c.loop-entry.right c.is_over.result c.loop-entry.invariant c.in_default.ensures.none c.is_over.ensures)
+    (twins_over (entries c.args.one.now.cells) (entries c.args.other.now.cells) c.loop-entry.left c.loop-entry.right
+    c.is_over.result c.loop-entry.invariant c.in_default.ensures.none c.is_over.ensures)

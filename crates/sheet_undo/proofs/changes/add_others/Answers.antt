@@ -6,15 +6,18 @@ use Rattle.edit_log.specs.Changes.{all_changed, changed_at}
 use Rattle.sheet_undo.proofs.changes.add_others.Goals as goal
 
 pub loop-entry-init : goal.loop-entry-init
-loop-entry-init c = giving_begun c.args.kept.now.cells c.args.next.now.cells (all_changed c.args.next.now.cells c.args.changes.now.items) c.entries-left.result c.requires c.entries-left.ensures
+loop-entry-init c = giving_begun c.args.kept.now.cells c.args.next.now.cells
+    (all_changed c.args.next.now.cells c.args.changes.now.items) c.entries-left.result c.requires c.entries-left.ensures
 
 pub of-requires : goal.of-requires
 of-requires c =
     let kept = c.args.kept.now.cells in
     let next = c.args.next.now.cells in
     let now = all_changed next c.loop-entry.changes.items in
-    let giving : IsGiving kept next now ((c.in-Some.entry.0, c.in-Some.entry.1.now) ∷ c.next.new.self) = subst (IsGiving kept next now) c.in-Some.ensures.some c.loop-entry.invariant in
-    c.are_held.ensures c.in-Some.entry.0 c.in_ok-copy.field-0 (giving.told.0 ∙ ap (λ s. Some s) (sym c.in_ok-copy.ensures))
+    let giving : IsGiving kept next now ((c.in-Some.entry.0, c.in-Some.entry.1.now) ∷ c.next.new.self) =
+    subst (IsGiving kept next now) c.in-Some.ensures.some c.loop-entry.invariant in
+    c.are_held.ensures c.in-Some.entry.0 c.in_ok-copy.field-0
+    (giving.told.0 ∙ ap (λ s. Some s) (sym c.in_ok-copy.ensures))
 
 pub loop-entry-preserved-in_ok-push : goal.loop-entry-preserved-in_ok-push
 loop-entry-preserved-in_ok-push c =
@@ -22,12 +25,15 @@ loop-entry-preserved-in_ok-push c =
     let next = c.args.next.now.cells in
     let now = all_changed next c.loop-entry.changes.items in
     let is : all_changed next c.push.new.self.items ≡ insert now c.in-Some.entry.0 c.in-Some.entry.1.now =
-    ap (all_changed next) c.in_ok-push.ensures.items ∙ all_and next c.loop-entry.changes.items c.of.result ∙ ap (λ e. changed_at now e.0 e.1) c.of.ensures ∙ ap (insert now c.in-Some.entry.0) c.in_ok-copy.ensures in
-    given_other kept next now (all_changed next c.push.new.self.items) (c.in-Some.entry.0, c.in-Some.entry.1.now) c.next.new.self is
+    ap (all_changed next) c.in_ok-push.ensures.items ∙ all_and next c.loop-entry.changes.items c.of.result
+    ∙ ap (λ e. changed_at now e.0 e.1) c.of.ensures ∙ ap (insert now c.in-Some.entry.0) c.in_ok-copy.ensures in
+    given_other kept next now (all_changed next c.push.new.self.items)
+    (c.in-Some.entry.0, c.in-Some.entry.1.now) c.next.new.self is
     (subst (IsGiving kept next now) c.in-Some.ensures.some c.loop-entry.invariant)
 
 pub returns : goal.returns
 returns c =
     let kept = c.args.kept.now.cells in
     let next = c.args.next.now.cells in
-    all_given kept next (all_changed next c.loop-entry.changes.items) c.loop-entry.left c.in_default.ensures.none c.loop-entry.invariant
+    all_given kept next (all_changed next c.loop-entry.changes.items) c.loop-entry.left c.in_default.ensures.none
+    c.loop-entry.invariant

@@ -12,7 +12,8 @@ returns-clause-ok c =
     let settings = c.args.settings.now in
     let sheet = sheet_with store names settings c.args.circular c.args.stale in
     ap (λ (p : Past). history_of
-    (record p { is_begun = true; settings = settings; circular = c.args.circular; stale = c.args.stale }) store names) c.self-2.view_is
+    (record p { is_begun = true; settings = settings; circular = c.args.circular; stale = c.args.stale }) store names)
+    c.self-2.view_is
     ∙ elim c.if-not-is_even.branch [
       | then-not-is_even+in_ok-turn_first w ↦
           state_begun old c.if-not-is_even.self store names settings c.args.circular c.args.stale

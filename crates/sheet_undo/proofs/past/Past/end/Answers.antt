@@ -24,7 +24,8 @@ returns-then-branch-clause-ok c =
     let names = c.args.names.now in
     let settled : Past = c.settle.new.self in
     let alike = (c.in_ok-is_alike.ensures false false).0 c.if-branch.true in
-    ap (λ (p : Past). history_of (record p { is_begun = false }) store names) (c.self-then-branch.view_is ∙ c.forget.ensures)
+    ap (λ (p : Past). history_of (record p { is_begun = false }) store names)
+    (c.self-then-branch.view_is ∙ c.forget.ensures)
     ∙ alike_ended settled store names (c.settle.ensures.begun ∙ c.requires) alike.grid alike.names
     ∙ ap (λ (h : History). ended false h.begun h.kept) (c.settle.ensures.history store names)
 
@@ -52,5 +53,6 @@ returns-clause-ok c =
     (c.take_difference-difference.ensures.difference store names settled.settings settled.circular settled.stale
     (λ whole is. c.in_ok-changes.ensures whole (sym (ap (λ (p : Past). p.whole) c.self.view_is) ∙ is)))
     (ap (λ (p : Past). p.is_begun) c.self.view_is ∙ c.settle.ensures.begun ∙ c.requires)
-    ∙ ap (λ (p : Past). ended true (begun_if p.is_begun (base p store names)) (earlier (base p store names) p.kept)) c.self.view_is
+    ∙ ap (λ (p : Past). ended true (begun_if p.is_begun (base p store names)) (earlier (base p store names) p.kept))
+    c.self.view_is
     ∙ ap (λ (h : History). ended true h.begun h.kept) (c.settle.ensures.history store names)

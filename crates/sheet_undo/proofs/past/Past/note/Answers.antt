@@ -9,7 +9,8 @@ use Rattle.sheet_undo.proofs.past.Past.note.Goals as goal
 pub returns-clause-free : goal.returns-clause-free
 returns-clause-free c = λ g n same.
     ap (λ (p : Past). history_of (record p { log = c.note_all.new.self }) g n) c.self.view_is
-    ∙ noted_free c.args.self.now c.note_all.new.self (has same_place c.args.cells.now) c.args.store.now g n (search rules)
+    ∙ noted_free c.args.self.now c.note_all.new.self (has same_place c.args.cells.now) c.args.store.now g n
+    (search rules)
     (c.note_all.ensures.before ∙ ap (λ (p : Past). all_changed c.args.store.now.cells p.log) c.self.view_is)
     c.in_ok-note_all.ensures.noted same
 
