@@ -30,25 +30,34 @@ use Rattle.work_sheet.specs.inner.Keeping.{IsKept}
 
 module _ (mean : Meaning) (meaning : IsMeaning mean) where
   -- what holds in one context holds in each, where formulas and values are the same
-  pub same_sound : (g h : Grid) (dirty : Place → Bool) (x y : Context) → ((c : Place) → formula_at h c ≡ formula_at g c) → ((c : Place) → value_of (get h.cells c) ≡ value_of (get g.cells c)) → IsSound mean x g dirty → IsSound mean y h dirty
+  pub same_sound : (g h : Grid) (dirty : Place → Bool) (x y : Context) → ((c : Place) → formula_at h c ≡ formula_at g c)
+      → ((c : Place) → value_of (get h.cells c) ≡ value_of (get g.cells c)) → IsSound mean x g dirty
+      → IsSound mean y h dirty
   same_sound g h dirty x y formula_same values s =
       let formulas : formula_at h ≡ formula_at g = λ i c. formula_same c i in
       record {
         only = λ c t. ap is_some (formula_same c) ∙ s.only c t;
-        up = λ c d m t. s.up c d (sym (ap (λ (p : Place → List Place). has same_place (p c) d) (pre_along h g formulas)) ∙ m) t;
+        up = λ c d m t.
+            s.up c d (sym (ap (λ (p : Place → List Place). has same_place (p c) d) (pre_along h g formulas)) ∙ m) t;
         calm = λ c t here k. s.calm c t (sym (formula_same c) ∙ here) k;
-        acyclic = λ c k r. s.acyclic c k (subst (λ (p : Place → List Place). Reaches same_place p c c) (pre_along h g formulas) r);
+        acyclic = λ c k r. s.acyclic c k
+            (subst (λ (p : Place → List Place). Reaches same_place p c c) (pre_along h g formulas) r);
         right = λ c t here k.
             let there : formula_at g c ≡ Some t = sym (formula_same c) ∙ here in
-            values c ∙ s.right c t there k ∙ meaning.reads t c (outlook_at x g) (outlook_at y h) (s.calm c t there k) (λ d _. sym (values d));
+            values c ∙ s.right c t there k
+            ∙ meaning.reads t c (outlook_at x g) (outlook_at y h) (s.calm c t there k) (λ d _. sym (values d));
       }
 
   -- so it does whatever the columns are
-  pub anywhere : (g h : Grid) (dirty : Place → Bool) (x y : Context) → h.cells ≡ g.cells → IsSound mean x g dirty → IsSound mean y h dirty
-  anywhere g h dirty x y e = same_sound g h dirty x y (λ c. ap (λ (m : Cells). formula_of (get m c)) e) (λ c. ap (λ (m : Cells). value_of (get m c)) e)
+  pub anywhere : (g h : Grid) (dirty : Place → Bool) (x y : Context) → h.cells ≡ g.cells → IsSound mean x g dirty
+      → IsSound mean y h dirty
+  anywhere g h dirty x y e = same_sound g h dirty x y (λ c. ap (λ (m : Cells). formula_of (get m c)) e)
+      (λ c. ap (λ (m : Cells). value_of (get m c)) e)
 
   -- cells were written, and the others are as they were
-  module _ (g h : Grid) (written : Place → Bool) (others : (c : Place) → written c ≡ false → get h.cells c ≡ get g.cells c) (old new : List Place) (d : AreDirtied h (has same_place old) written (has same_place new)) where
+  module _ (g h : Grid) (written : Place → Bool)
+      (others : (c : Place) → written c ≡ false → get h.cells c ≡ get g.cells c) (old new : List Place)
+      (d : AreDirtied h (has same_place old) written (has same_place new)) where
     spreads : IsSpread g h written (has same_place old) (has same_place new)
     spreads = record {
       others = others;
@@ -62,10 +71,12 @@ module _ (mean : Meaning) (meaning : IsMeaning mean) where
       ];
     }
 
-    stays : (c : Place) → (is_formula_at g c ≡ true → has same_place old c ≡ true) → is_formula_at h c ≡ true → has same_place new c ≡ true
+    stays : (c : Place) → (is_formula_at g c ≡ true → has same_place old c ≡ true) → is_formula_at h c ≡ true
+        → has same_place new c ≡ true
     stays c all f = elim (cases_Bool (written c)) [
       | inl t ↦ (d c).1 (record { formula = f; why = inr (inl t) })
-      | inr e ↦ (d c).1 (record { formula = f; why = inl (all (sym (ap (λ o. is_some (formula_of o)) (others c e)) ∙ f)) })
+      | inr e ↦
+          (d c).1 (record { formula = f; why = inl (all (sym (ap (λ o. is_some (formula_of o)) (others c e)) ∙ f)) })
     ]
 
     whole : (order : Order) → AllDirtyIn order g old → AllDirtyIn order h new
@@ -74,26 +85,33 @@ module _ (mean : Meaning) (meaning : IsMeaning mean) where
     whole orders.Rowwise a = λ c. stays c (a c)
 
     -- after an edit
-    pub kept_changed : (order : Order) (n o : Network) → IsKept mean n g old order → Matches o h → IsKept mean o h new order
+    pub kept_changed : (order : Order) (n o : Network) → IsKept mean n g old order → Matches o h
+        → IsKept mean o h new order
     kept_changed order n o k after = record {
       matches = after;
       only = λ c t. ((d c).0 t).formula;
-      sound = λ x. edit_keeps_sound mean x meaning g h written (has same_place old) (has same_place new) (k.sound x) spreads;
+      sound = λ x. edit_keeps_sound mean x meaning g h written (has same_place old) (has same_place new)
+          (k.sound x) spreads;
       whole = whole order k.whole;
     }
 
   -- after an edit of one cell, told of the grid that there is
-  pub kept_edit : (g h : Grid) (cell : Place) (s : CellState) (old new : List Place) → h ≡ put_state g cell s → AreDirtied h (has same_place old) (just cell) (has same_place new)
+  pub kept_edit : (g h : Grid) (cell : Place) (s : CellState) (old new : List Place) → h ≡ put_state g cell s
+      → AreDirtied h (has same_place old) (just cell) (has same_place new)
       → (order : Order) (n o : Network) → IsKept mean n g old order → Matches o h → IsKept mean o h new order
-  kept_edit g h cell s old new e d = kept_changed g h (just cell) (λ c k. ap (λ (x : Grid). get x.cells c) e ∙ beside g cell s c k) old new d
+  kept_edit g h cell s old new e d =
+      kept_changed g h (just cell) (λ c k. ap (λ (x : Grid). get x.cells c) e ∙ beside g cell s c k) old new d
 
-  all_along : (order : Order) (g h : Grid) (dirty : List Place) → ((c : Place) → is_formula_at h c ≡ is_formula_at g c) → AllDirtyIn order g dirty → AllDirtyIn order h dirty
+  all_along : (order : Order) (g h : Grid) (dirty : List Place) → ((c : Place) → is_formula_at h c ≡ is_formula_at g c)
+      → AllDirtyIn order g dirty → AllDirtyIn order h dirty
   all_along orders.Natural g h dirty e a = tt
   all_along orders.Columnwise g h dirty e a = λ c f. a c (sym (e c) ∙ f)
   all_along orders.Rowwise g h dirty e a = λ c f. a c (sym (e c) ∙ f)
 
   -- where formulas and values stay
-  pub kept_values : (n : Network) (g h : Grid) (dirty : List Place) (order : Order) → ((c : Place) → formula_at h c ≡ formula_at g c) → ((c : Place) → value_of (get h.cells c) ≡ value_of (get g.cells c)) → IsKept mean n g dirty order → IsKept mean n h dirty order
+  pub kept_values : (n : Network) (g h : Grid) (dirty : List Place) (order : Order) → ((c : Place)
+      → formula_at h c ≡ formula_at g c) → ((c : Place) → value_of (get h.cells c) ≡ value_of (get g.cells c))
+      → IsKept mean n g dirty order → IsKept mean n h dirty order
   kept_values n g h dirty order formulas values k = record {
     matches = λ c. k.matches c ∙ ap (λ o. node_of o c) (sym (formulas c));
     only = λ c t. ap is_some (formulas c) ∙ k.only c t;
@@ -102,16 +120,23 @@ module _ (mean : Meaning) (meaning : IsMeaning mean) where
   }
 
   -- where columns change
-  pub kept_beside : (n : Network) (g h : Grid) (dirty : List Place) (order : Order) → h.cells ≡ g.cells → IsKept mean n g dirty order → IsKept mean n h dirty order
-  kept_beside n g h dirty order e = kept_values n g h dirty order (λ c. ap (λ (m : Cells). formula_of (get m c)) e) (λ c. ap (λ (m : Cells). value_of (get m c)) e)
+  pub kept_beside : (n : Network) (g h : Grid) (dirty : List Place) (order : Order) → h.cells ≡ g.cells
+      → IsKept mean n g dirty order → IsKept mean n h dirty order
+  kept_beside n g h dirty order e = kept_values n g h dirty order (λ c. ap (λ (m : Cells). formula_of (get m c)) e)
+      (λ c. ap (λ (m : Cells). value_of (get m c)) e)
 
-  after_order : (order : Order) (g h : Grid) (old new : List Place) → formula_at h ≡ formula_at g → IsDirtyAfter order h (has same_place old) (has same_place new) → AllDirtyIn order g old → AllDirtyIn order h new
+  after_order : (order : Order) (g h : Grid) (old new : List Place) → formula_at h ≡ formula_at g
+      → IsDirtyAfter order h (has same_place old) (has same_place new) → AllDirtyIn order g old → AllDirtyIn order h new
   after_order orders.Natural g h old new e d a = tt
-  after_order orders.Columnwise g h old new e d a = λ c f. d c ∙ a c (sym (ap (λ (k : Place → Option Tree). is_some (k c)) e) ∙ f)
-  after_order orders.Rowwise g h old new e d a = λ c f. d c ∙ a c (sym (ap (λ (k : Place → Option Tree). is_some (k c)) e) ∙ f)
+  after_order orders.Columnwise g h old new e d a =
+      λ c f. d c ∙ a c (sym (ap (λ (k : Place → Option Tree). is_some (k c)) e) ∙ f)
+  after_order orders.Rowwise g h old new e d a =
+      λ c f. d c ∙ a c (sym (ap (λ (k : Place → Option Tree). is_some (k c)) e) ∙ f)
 
   -- after a recalculation
-  pub kept_after : (n : Network) (g h : Grid) (old new : List Place) (order : Order) (x : Context) → SameContents g h → Matches n h → IsSound mean x h (has same_place new) → IsDirtyAfter order h (has same_place old) (has same_place new)
+  pub kept_after : (n : Network) (g h : Grid) (old new : List Place) (order : Order) (x : Context)
+      → SameContents g h → Matches n h → IsSound mean x h (has same_place new)
+      → IsDirtyAfter order h (has same_place old) (has same_place new)
       → IsKept mean n g old order → IsKept mean n h new order
   kept_after n g h old new order x same m s d k = record {
     matches = m;
@@ -121,33 +146,42 @@ module _ (mean : Meaning) (meaning : IsMeaning mean) where
   }
 
   -- after one that found no memory
-  pub kept_same : (n : Network) (g h : Grid) (old new : List Place) (order : Order) (x : Context) → SameContents g h → Matches n h → IsSound mean x h (has same_place new) → new ≡ old
+  pub kept_same : (n : Network) (g h : Grid) (old new : List Place) (order : Order) (x : Context) → SameContents g h
+      → Matches n h → IsSound mean x h (has same_place new) → new ≡ old
       → IsKept mean n g old order → IsKept mean n h new order
   kept_same n g h old new order x same m s e k = record {
     matches = m;
     only = s.only;
     sound = λ y. anywhere h h (has same_place new) x y refl s;
-    whole = subst (AllDirtyIn order h) (sym e) (all_along order g h old (λ c. ap (λ (f : Place → Option Tree). is_some (f c)) (formulas_same g h same)) k.whole);
+    whole = subst (AllDirtyIn order h) (sym e) (all_along order g h old
+        (λ c. ap (λ (f : Place → Option Tree). is_some (f c)) (formulas_same g h same)) k.whole);
   }
 
   -- after a formula was evaluated in its cell
-  pub kept_evaluated : (n : Network) (g : Grid) (dirty : List Place) (order : Order) (x : Context) (cell : Place) → IsKept mean n g dirty order → IsKept mean n (evaluated mean x g cell) dirty order
+  pub kept_evaluated : (n : Network) (g : Grid) (dirty : List Place) (order : Order) (x : Context) (cell : Place)
+      → IsKept mean n g dirty order → IsKept mean n (evaluated mean x g cell) dirty order
   kept_evaluated n g dirty order x cell k =
       let h : Grid = evaluated mean x g cell in
       let same : SameContents g h = same_evaluated mean x g cell in
-      let formula : (c : Place) → is_formula_at h c ≡ is_formula_at g c = λ c. ap (λ (f : Place → Option Tree). is_some (f c)) (formulas_same g h same) in
+      let formula : (c : Place) → is_formula_at h c ≡ is_formula_at g c =
+      λ c. ap (λ (f : Place → Option Tree). is_some (f c)) (formulas_same g h same) in
       record {
         matches = matches_on n g h same k.matches;
         only = λ c t. formula c ∙ k.only c t;
-        sound = λ y. anywhere h h (has same_place dirty) x y refl (sound_all mean x (has same_place dirty) meaning g (k.sound x) (cell ∷ []));
+        sound = λ y. anywhere h h (has same_place dirty) x y refl
+            (sound_all mean x (has same_place dirty) meaning g (k.sound x) (cell ∷ []));
         whole = all_along order g h dirty formula k.whole;
       }
 
   -- after an entry that is evaluated once
-  pub kept_line : (g h : Grid) (cell : Place) (s : CellState) (old new : List Place) (x : Context) → h ≡ evaluated mean x (put_state g cell s) cell → AreDirtied (put_state g cell s) (has same_place old) (just cell) (has same_place new)
-      → (order : Order) (n o : Network) → IsKept mean n g old order → Matches o (put_state g cell s) → IsKept mean o h new order
+  pub kept_line : (g h : Grid) (cell : Place) (s : CellState) (old new : List Place) (x : Context)
+      → h ≡ evaluated mean x (put_state g cell s) cell
+      → AreDirtied (put_state g cell s) (has same_place old) (just cell) (has same_place new)
+      → (order : Order) (n o : Network) → IsKept mean n g old order → Matches o (put_state g cell s)
+      → IsKept mean o h new order
   kept_line g h cell s old new x e d order n o k after = subst (λ (y : Grid). IsKept mean o y new order) (sym e)
-      (kept_evaluated o (put_state g cell s) new order x cell (kept_edit g (put_state g cell s) cell s old new refl d order n o k after))
+      (kept_evaluated o (put_state g cell s) new order x cell
+      (kept_edit g (put_state g cell s) cell s old new refl d order n o k after))
 
   -- where there is no cell
   module _ (g : Grid) (none : g.cells ≡ empty) where
@@ -166,7 +200,9 @@ module _ (mean : Meaning) (meaning : IsMeaning mean) where
     nothing_whole orders.Columnwise dirty = λ c f. absurd (not_formula c f)
     nothing_whole orders.Rowwise dirty = λ c f. absurd (not_formula c f)
 
-    pub kept_empty : (n : Network) (dirty : List Place) (order : Order) → n.formulas ≡ empty → dirty ≡ [] → IsKept mean n g dirty order
+    -- with no formula in the graph and none that is dirty, a sheet without cells keeps what it is to keep
+    pub kept_empty : (n : Network) (dirty : List Place) (order : Order) → n.formulas ≡ empty → dirty ≡ []
+        → IsKept mean n g dirty order
     kept_empty n dirty order e clean = record {
       matches = λ c. ap (λ f. get f c) e ∙ get-empty place_cmp c ∙ sym (ap (λ o. node_of o c) (no_formula c));
       only = λ c t. absurd (true≢false (sym t ∙ ap (λ ks. has same_place ks c) clean));

@@ -15,18 +15,23 @@ use Rattle.sheet_edits.proofs.Sound.{same_formula, same_value}
 use Rattle.work_sheet.specs.inner.Keeping.{IsKept}
 use Rattle.sheet_edits.specs.Spans.{changed, reformatted, reformatted_state, AreGiven, Becomes}
 
-module _ (g h : Grid) (rule : ℕ → ℕ) (cells : List Place) (changes : Cells) (held : AreHeld g.cells) (given : AreGiven changes (has same_place cells) (λ c. Some (reformatted_state rule (get g.cells c)))) (b : Becomes g (λ c. changed (get changes c) (get g.cells c)) h) where
-  cell_is : (c : Place) → get h.cells c ≡ cond (has same_place cells c) (reformatted rule (get g.cells c)) (get g.cells c)
+module _ (g h : Grid) (rule : ℕ → ℕ) (cells : List Place) (changes : Cells) (held : AreHeld g.cells)
+    (given : AreGiven changes (has same_place cells) (λ c. Some (reformatted_state rule (get g.cells c))))
+    (b : Becomes g (λ c. changed (get changes c) (get g.cells c)) h) where
+  cell_is : (c : Place)
+      → get h.cells c ≡ cond (has same_place cells c) (reformatted rule (get g.cells c)) (get g.cells c)
   cell_is c = b.cells c ∙ ap (λ o. changed o (get g.cells c)) (given c) ∙ by (has same_place cells c)
     where
-      by : (t : Bool) → changed (cond t (Some (reformatted_state rule (get g.cells c))) None) (get g.cells c) ≡ cond t (reformatted rule (get g.cells c)) (get g.cells c)
+      by : (t : Bool) → changed (cond t (Some (reformatted_state rule (get g.cells c))) None) (get g.cells c)
+          ≡ cond t (reformatted rule (get g.cells c)) (get g.cells c)
       by true = refl
       by false = refl
 
   formula_is : (c : Place) → formula_of (get h.cells c) ≡ formula_of (get g.cells c)
   formula_is c = ap formula_of (cell_is c) ∙ by (has same_place cells c)
     where
-      by : (t : Bool) → formula_of (cond t (reformatted rule (get g.cells c)) (get g.cells c)) ≡ formula_of (get g.cells c)
+      by : (t : Bool)
+          → formula_of (cond t (reformatted rule (get g.cells c)) (get g.cells c)) ≡ formula_of (get g.cells c)
       by true = same_formula g.cells held rule c
       by false = refl
 
@@ -37,6 +42,11 @@ module _ (g h : Grid) (rule : ℕ → ℕ) (cells : List Place) (changes : Cells
       by true = same_value g.cells held rule c
       by false = refl
 
-pub kept_reformatted : (mean : Meaning) → IsMeaning mean → (n : Network) (g h : Grid) (dirty : List Place) (order : Order) (rule : ℕ → ℕ) (cells : List Place) (changes : Cells) → AreHeld g.cells
-    → AreGiven changes (has same_place cells) (λ c. Some (reformatted_state rule (get g.cells c))) → Becomes g (λ c. changed (get changes c) (get g.cells c)) h → IsKept mean n g dirty order → IsKept mean n h dirty order
-kept_reformatted mean meaning n g h dirty order rule cells changes held given b = kept_values mean meaning n g h dirty order (formula_is g h rule cells changes held given b) (value_is g h rule cells changes held given b)
+-- cells that get other formats alone leave what a sheet keeps
+pub kept_reformatted : (mean : Meaning) → IsMeaning mean → (n : Network) (g h : Grid) (dirty : List Place)
+    (order : Order) (rule : ℕ → ℕ) (cells : List Place) (changes : Cells) → AreHeld g.cells
+    → AreGiven changes (has same_place cells) (λ c. Some (reformatted_state rule (get g.cells c)))
+    → Becomes g (λ c. changed (get changes c) (get g.cells c)) h → IsKept mean n g dirty order
+    → IsKept mean n h dirty order
+kept_reformatted mean meaning n g h dirty order rule cells changes held given b = kept_values mean meaning n g h dirty
+    order (formula_is g h rule cells changes held given b) (value_is g h rule cells changes held given b)

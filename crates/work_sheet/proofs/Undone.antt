@@ -15,7 +15,8 @@ use Rattle.work_sheet.specs.Sheets.{Worksheet}
 -- a sheet that is the latest state, with what was kept before it
 pub latest_undone : (kept : List Sheet) (s : Sheet) (a b : Worksheet) → Some s ≡ latest kept → of_worksheet b ≡ s
     → ((c : Place) → has same_place b.dirty c ≡ is_formula_at b.grid c) → IsDistinct same_place b.dirty
-    → ((x : Sheet) (rest : List Sheet) → kept ≡ x ∷ rest → b.grid ≡ x.grid → b.names ≡ x.names → b.history ≡ record { kept = rest; begun = None })
+    → ((x : Sheet) (rest : List Sheet) → kept ≡ x ∷ rest → b.grid ≡ x.grid → b.names ≡ x.names
+    → b.history ≡ record { kept = rest; begun = None })
     → Undoes kept true a b
 latest_undone [] s a b e sheet dirty distinct history = absurd (none_not_some s (sym e))
 latest_undone (x ∷ rest) s a b e sheet dirty distinct history =

@@ -10,6 +10,8 @@ use Rattle.work_sheet.proofs.sheet.WorksheetOf.copy_span.Goals as goal
 
 pub returns-clause-did : goal.returns-clause-did
 returns-clause-did g c = on_ok c.copy_onto.result
-    (λ (did : (n : ℕ) → Did (copied c.args.from c.in-Some.target (of_worksheet c.args.self.now)) c.args.self.now c.copy_onto.new.self n n) target is.
-    subst (λ (t : Extent). (n : ℕ) → Did (copied c.args.from t (of_worksheet c.args.self.now)) c.args.self.now c.copy_onto.new.self n n) (the_same c.in-Some.target target (sym c.in-Some.is ∙ c.target_of.ensures ∙ is)) did)
+    (λ (did : (n : ℕ) → Did (copied c.args.from c.in-Some.target (of_worksheet c.args.self.now)) c.args.self.now
+    c.copy_onto.new.self n n) target is.
+    subst (λ (t : Extent). (n : ℕ) → Did (copied c.args.from t (of_worksheet c.args.self.now)) c.args.self.now
+    c.copy_onto.new.self n n) (the_same c.in-Some.target target (sym c.in-Some.is ∙ c.target_of.ensures ∙ is)) did)
     c.copy_onto.ensures.did

@@ -6,5 +6,6 @@ pub returns-clause-did : goal.returns-clause-did
 returns-clause-did g c = λ n. record {
   sheet = search rules;
   work = search rules;
-  history = c.in-Ok.ensures.free c.self.inside.store c.delete.new.self ∙ ap (λ (w : Worksheet). w.history) c.self.view_is;
+  history =
+      c.in-Ok.ensures.free c.self.inside.store c.delete.new.self ∙ ap (λ (w : Worksheet). w.history) c.self.view_is;
 }

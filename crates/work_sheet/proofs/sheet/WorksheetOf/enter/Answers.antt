@@ -13,8 +13,10 @@ pub invariant_of-self-in-Ok : goal.invariant_of-self-in-Ok
 invariant_of-self-in-Ok g c =
     let mean : Meaning = g.E.Means.meaning in
     let meaning : IsMeaning mean = record { reads = g.met.E.Means.reads_alone } in
-    kept_edit mean meaning c.self.inside.store c.write_cell.new.store c.args.cell c.in_ok-state.state c.self.inside.dirty.keys c.write_cell.new.dirty.keys
-    c.in-Ok.ensures.store c.in-Ok.ensures.dirty c.self.inside.settings.order c.self.inside.graph c.write_cell.new.graph c.self.invariant c.write_cell.ensures.matches
+    kept_edit mean meaning c.self.inside.store c.write_cell.new.store c.args.cell c.in_ok-state.state
+    c.self.inside.dirty.keys c.write_cell.new.dirty.keys
+    c.in-Ok.ensures.store c.in-Ok.ensures.dirty c.self.inside.settings.order c.self.inside.graph c.write_cell.new.graph
+    c.self.invariant c.write_cell.ensures.matches
 
 pub returns-in-Ok-clause-did : goal.returns-in-Ok-clause-did
 returns-in-Ok-clause-did g c = λ n. record {

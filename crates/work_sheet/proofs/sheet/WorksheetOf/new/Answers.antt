@@ -8,7 +8,8 @@ pub invariant_of-result : goal.invariant_of-result
 invariant_of-result g c =
     let mean : Meaning = g.E.Means.meaning in
     let meaning : IsMeaning mean = record { reads = g.met.E.Means.reads_alone } in
-    kept_empty mean meaning c.new.result c.new.ensures.cells c.new-2.result c.new-3.result.keys c.fresh.result.order c.new-2.ensures.formulas c.new-3.ensures
+    kept_empty mean meaning c.new.result c.new.ensures.cells c.new-2.result c.new-3.result.keys c.fresh.result.order
+    c.new-2.ensures.formulas c.new-3.ensures
 
 -- no cell, no name, and fresh settings
 pub returns-clause-sheet : goal.returns-clause-sheet

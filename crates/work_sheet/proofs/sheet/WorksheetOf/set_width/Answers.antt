@@ -10,7 +10,8 @@ pub invariant_of-self : goal.invariant_of-self
 invariant_of-self g c =
     let mean : Meaning = g.E.Means.meaning in
     let meaning : IsMeaning mean = record { reads = g.met.E.Means.reads_alone } in
-    kept_beside mean meaning c.self.inside.graph c.self.inside.store c.set_width.new.self c.self.inside.dirty.keys c.self.inside.settings.order (ap (λ (x : Grid). x.cells) c.set_width.ensures) c.self.invariant
+    kept_beside mean meaning c.self.inside.graph c.self.inside.store c.set_width.new.self c.self.inside.dirty.keys
+    c.self.inside.settings.order (ap (λ (x : Grid). x.cells) c.set_width.ensures) c.self.invariant
 
 pub returns : goal.returns
 returns g c = λ n. record {

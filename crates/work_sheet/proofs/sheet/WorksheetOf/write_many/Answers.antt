@@ -10,9 +10,13 @@ use Rattle.work_sheet.proofs.sheet.WorksheetOf.write_many.Goals as goal
 
 pub returns-in-Ok-clause-did : goal.returns-in-Ok-clause-did
 returns-in-Ok-clause-did g c =
-    let gathered = subst (λ (x : Grid). AreGathered x c.args.writes.now c.gathered.new.cells c.gathered.new.changes) (ap (λ (w : Worksheet). w.grid) c.self.view_is) c.in-Ok.ensures in
+    let gathered = subst (λ (x : Grid). AreGathered x c.args.writes.now c.gathered.new.cells c.gathered.new.changes)
+    (ap (λ (w : Worksheet). w.grid) c.self.view_is) c.in-Ok.ensures in
     on_all c.put_changes.result
-    (λ grid dirty distinct stale n. edited_did c.args.self.now c.put_changes.new.self (has same_place c.gathered.new.cells) (has same_place (written_cells c.args.writes.now)) (written_all c.args.self.now.grid c.args.writes.now) n
-    (λ x. ap (λ l. has same_place l x) gathered.listed_all) (written_is c.args.self.now.grid c.put_changes.new.self.grid c.args.writes.now c.gathered.new.cells c.gathered.new.changes gathered grid)
+    (λ grid dirty distinct stale n. edited_did c.args.self.now c.put_changes.new.self
+    (has same_place c.gathered.new.cells) (has same_place (written_cells c.args.writes.now))
+    (written_all c.args.self.now.grid c.args.writes.now) n
+    (λ x. ap (λ l. has same_place l x) gathered.listed_all) (written_is c.args.self.now.grid c.put_changes.new.self.grid
+    c.args.writes.now c.gathered.new.cells c.gathered.new.changes gathered grid)
     dirty distinct stale c.put_changes.ensures.beside c.put_changes.ensures.history)
     c.put_changes.ensures.grid c.put_changes.ensures.dirty c.put_changes.ensures.distinct c.put_changes.ensures.stale

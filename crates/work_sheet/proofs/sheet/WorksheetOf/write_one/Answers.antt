@@ -21,12 +21,16 @@ pub invariant_of-self-in-Ok-write_cell : goal.invariant_of-self-in-Ok-write_cell
 invariant_of-self-in-Ok-write_cell g c =
     let mean : Meaning = g.E.Means.meaning in
     let meaning : IsMeaning mean = record { reads = g.met.E.Means.reads_alone } in
-    kept_edit mean meaning c.self.inside.store c.write_cell.new.store c.args.write.now.cell c.in-Ok.state c.self.inside.dirty.keys c.write_cell.new.dirty.keys
-    c.in-Ok-write_cell.ensures.store c.in-Ok-write_cell.ensures.dirty c.self.inside.settings.order c.self.inside.graph c.write_cell.new.graph c.self.invariant c.write_cell.ensures.matches
+    kept_edit mean meaning c.self.inside.store c.write_cell.new.store c.args.write.now.cell c.in-Ok.state
+    c.self.inside.dirty.keys c.write_cell.new.dirty.keys
+    c.in-Ok-write_cell.ensures.store c.in-Ok-write_cell.ensures.dirty c.self.inside.settings.order c.self.inside.graph
+    c.write_cell.new.graph c.self.invariant c.write_cell.ensures.matches
 
 pub returns-in-Ok-write_cell-clause-did : goal.returns-in-Ok-write_cell-clause-did
-returns-in-Ok-write_cell-clause-did g c = λ n. edited_did c.args.self.now _ (just c.args.write.now.cell) (has same_place (c.args.write.now.cell ∷ [])) (written_all c.args.self.now.grid (c.args.write.now ∷ [])) n
+returns-in-Ok-write_cell-clause-did g c = λ n. edited_did c.args.self.now _ (just c.args.write.now.cell)
+    (has same_place (c.args.write.now.cell ∷ [])) (written_all c.args.self.now.grid (c.args.write.now ∷ [])) n
     (only_cell c.args.write.now.cell) (search rules) (search rules) (search rules) (search rules) (search rules)
     (c.in_ok-note.ensures.free c.write_cell.new.store c.self.inside.names
-    (one_changed c.self.inside.store c.write_cell.new.store c.args.write.now.cell c.in-Ok.state c.in-Ok-write_cell.ensures.store)
+    (one_changed c.self.inside.store c.write_cell.new.store c.args.write.now.cell c.in-Ok.state
+    c.in-Ok-write_cell.ensures.store)
     ∙ ap (λ (w : Worksheet). w.history) c.self.view_is)
