@@ -7,10 +7,15 @@ same_sign : (text : List ℕ) → sign_for (take 240 text) ≡ sign_for text
 same_sign [] = refl
 same_sign (b ∷ bs) = refl
 
-pub printed_line : (text shown : List ℕ) → shown ≡ take 240 text → take 240 (sign_for shown ++ shown) ≡ take 240 (sign_for text ++ text)
-printed_line text shown h = ap (λ x. take 240 (sign_for x ++ x)) h ∙ ap (λ s. take 240 (s ++ take 240 text)) (same_sign text) ∙ cut_behind (sign_for text) text
+-- the sign and the text, cut off, are the same where the text was cut off before
+pub printed_line : (text shown : List ℕ) → shown ≡ take 240 text
+    → take 240 (sign_for shown ++ shown) ≡ take 240 (sign_for text ++ text)
+printed_line text shown h = ap (λ x. take 240 (sign_for x ++ x)) h
+    ∙ ap (λ s. take 240 (s ++ take 240 text)) (same_sign text) ∙ cut_behind (sign_for text) text
 
-pub printed_whole : (text shown : List ℕ) → shown ≡ take 240 text → (nat_le (length (sign_for shown ++ shown)) 240 && nat_le (length text) 240) ≡ nat_le (length (sign_for text ++ text)) 240
+-- the sign and the text fit in the same cases where the text was cut off before
+pub printed_whole : (text shown : List ℕ) → shown ≡ take 240 text → (nat_le
+    (length (sign_for shown ++ shown)) 240 && nat_le (length text) 240) ≡ nat_le (length (sign_for text ++ text)) 240
 printed_whole text shown h =
     ap (λ x. nat_le (length (sign_for x ++ x)) 240 && nat_le (length text) 240) h
     ∙ ap (λ s. nat_le (length (s ++ take 240 text)) 240 && nat_le (length text) 240) (same_sign text)

@@ -1,6 +1,8 @@
 -- Numbers and texts that are written are read.
 use Rattle.std.specs.Char.{is_ascii_digit}
-use Rattle.std.proofs.Common.{◌≡◌, ℕ, ◌+◌, ◌≤◌, ◌<◌, Bool, true, false, not, ◌&&◌, ◌||◌, cond, ◌==◌, nat_le, nat_lt, List, [], ◌∷◌, ◌++◌, take, length, get_or, Some, None, Ok, refl, sym, ap, ◌∙◌, arith, append_assoc, length-append, pos}
+use Rattle.std.proofs.Common.{◌≡◌, ℕ, ◌+◌, ◌≤◌, ◌<◌, Bool, true, false, not, ◌&&◌, ◌||◌, cond, ◌==◌, nat_le, nat_lt}
+use Rattle.std.proofs.Common.{List, [], ◌∷◌, ◌++◌, take, length, get_or, Some, None, Ok, refl, sym, ap, ◌∙◌, arith}
+use Rattle.std.proofs.Common.{append_assoc, length-append, pos}
 use Rattle.std.specs.Prelude.{codes, position}
 use Rattle.std.specs.List.{list_all, list_any, prefix_len}
 use Rattle.std.specs.Int.RustNames.{int_lt}
@@ -25,16 +27,22 @@ point_none : (rest : List ℕ) → (get_or rest 0 0 == 46) ≡ false → point_l
 point_none [] h = refl
 point_none (b ∷ bs) h = rw h refl
 
-point_is : (ds rest : List ℕ) → list_all is_ascii_digit ds ≡ true → Stops rest → point_len (pointed ds ++ rest) ≡ length (pointed ds)
+point_is : (ds rest : List ℕ) → list_all is_ascii_digit ds ≡ true → Stops rest
+    → point_len (pointed ds ++ rest) ≡ length (pointed ds)
 point_is [] rest all stops = point_none rest stops.point
 point_is (d ∷ ds) rest all stops =
-    ap (λ (l : List ℕ). 1 + length l) (front_digits (d ∷ ds) rest all (no_digit (get_or rest 0 0) stops.word)).0 ∙ (let e : 1 + length (d ∷ ds) ≡ length (46 ∷ d ∷ ds) = omega arith in e)
+    ap (λ (l : List ℕ). 1 + length l) (front_digits (d ∷ ds) rest all (no_digit (get_or rest 0 0) stops.word)).0
+    ∙ (let e : 1 + length (d ∷ ds) ≡ length (46 ∷ d ∷ ds) = omega arith in e)
 
 some_digits : (w p : ℕ) → 0 < w → digits_len w p ≡ w + p
 some_digits w p h = (let none : (w == 0) ≡ false = grind (arith, nat_tests, h) in rw none refl)
 
 starts_digit : (d : ℕ) → is_ascii_digit d ≡ true → Starts d
-starts_digit d h = record { space = grind (arith, nat_tests, h); equal = grind (arith, nat_tests, h); greater = grind (arith, nat_tests, h) }
+starts_digit d h = record {
+  space = grind (arith, nat_tests, h);
+  equal = grind (arith, nat_tests, h);
+  greater = grind (arith, nat_tests, h);
+}
 
 digit_first : (ds rest : List ℕ) → 0 < length ds → list_all is_ascii_digit ds ≡ true → Starts (get_or (ds ++ rest) 0 0)
 digit_first [] rest h all = absurd (omega arith)
@@ -45,60 +53,79 @@ no_minus n =
     let plus : int_lt (pos n) (pos 0) ≡ false = grind (arith, ints) in
     ap (λ b. minus_sign (b && not (scaled (pos n) 6 == 0)) ++ (whole (pos n) 6 ++ pointed (shown (pos n) 6))) plus
 
-long : (names : NameMap) (cell : Place) (at len : ℕ) (bytes : List ℕ) → number_len bytes ≡ len → 0 < len → part_found names cell at bytes ≡ record { kind = number_kind at (decimal_of (take len bytes)); len = len }
+long : (names : NameMap) (cell : Place) (at len : ℕ) (bytes : List ℕ) → number_len bytes ≡ len → 0 < len
+    → part_found names cell at bytes ≡ record { kind = number_kind at (decimal_of (take len bytes)); len = len }
 unfolding part_found
-long names cell at len bytes is more = (let some_len : nat_lt 0 len ≡ true = grind (arith, nat_tests, more) in rw (is, some_len) refl)
+long names cell at len bytes is more =
+    (let some_len : nat_lt 0 len ≡ true = grind (arith, nat_tests, more) in rw (is, some_len) refl)
 
-digits_part : (names : NameMap) (cell : Place) (text ds ps : List ℕ) (n : ℕ) → text ≡ ds ++ pointed ps → 0 < length ds → list_all is_ascii_digit ds ≡ true → list_all is_ascii_digit ps ≡ true → decimal_of text ≡ decimal (pos n) → IsPart names cell text (Num (pos n))
+digits_part : (names : NameMap) (cell : Place) (text ds ps : List ℕ) (n : ℕ) → text ≡ ds ++ pointed ps → 0 < length ds
+    → list_all is_ascii_digit ds ≡ true → list_all is_ascii_digit ps ≡ true → decimal_of text ≡ decimal (pos n)
+    → IsPart names cell text (Num (pos n))
 digits_part names cell text ds ps n is some_ds all later value =
     let size : length text ≡ length ds + length (pointed ps) = ap length is ∙ length-append ds (pointed ps) in
     record {
       some = omega (arith, size, some_ds);
-      first = λ rest. (let at_front : text ++ rest ≡ ds ++ (pointed ps ++ rest) = ap (λ (l : List ℕ). l ++ rest) is ∙ append_assoc ds (pointed ps) rest in rw at_front (digit_first ds (pointed ps ++ rest) some_ds all));
+      first = λ rest. (let at_front : text ++ rest ≡ ds ++ (pointed ps ++ rest) = ap (λ (l : List ℕ). l ++ rest) is
+          ∙ append_assoc ds (pointed ps) rest in rw at_front (digit_first ds (pointed ps ++ rest) some_ds all));
       found = λ rest at stops. (
-          let front : text ++ rest ≡ ds ++ (pointed ps ++ rest) = ap (λ (l : List ℕ). l ++ rest) is ∙ append_assoc ds (pointed ps) rest in
-          let digits = front_digits ds (pointed ps ++ rest) all (point_stops ps rest (no_digit (get_or rest 0 0) stops.word)) in
+          let front : text ++ rest ≡ ds ++ (pointed ps ++ rest) = ap (λ (l : List ℕ). l ++ rest) is
+          ∙ append_assoc ds (pointed ps) rest in
+          let digits =
+          front_digits ds (pointed ps ++ rest) all (point_stops ps rest (no_digit (get_or rest 0 0) stops.word)) in
           let counted : number_len (text ++ rest) ≡ length text =
-          ap number_len front ∙ ap (λ (l : List ℕ). digits_len (length l) (point_len (behind_digits (ds ++ (pointed ps ++ rest))))) digits.0
-          ∙ ap (λ (l : List ℕ). digits_len (length ds) (point_len l)) digits.1 ∙ ap (digits_len (length ds)) (point_is ps rest later stops)
+          ap number_len front
+          ∙ ap (λ (l : List ℕ). digits_len (length l) (point_len (behind_digits (ds ++ (pointed ps ++ rest))))) digits.0
+          ∙ ap (λ (l : List ℕ). digits_len (length ds) (point_len l)) digits.1
+          ∙ ap (digits_len (length ds)) (point_is ps rest later stops)
           ∙ some_digits (length ds) (length (pointed ps)) some_ds ∙ sym size in
           long names cell at (length text) (text ++ rest) counted (omega (arith, size, some_ds))
-          ∙ ap (λ (l : List ℕ). record { kind = number_kind at (decimal_of l); len = length text }) (take_front text rest)
+          ∙ ap (λ (l : List ℕ). record { kind = number_kind at (decimal_of l); len = length text })
+          (take_front text rest)
           ∙ ap (λ v. record { kind = number_kind at v; len = length text }) value);
     }
 
-pub number_part : (names : NameMap) (cell : Place) (n : ℕ) → n ≤ 999999999999999 → IsPart names cell (short (pos n) 6) (Num (pos n))
+-- the text of a whole number of at most 15 digits that isn't negative is one part, the number
+pub number_part : (names : NameMap) (cell : Place) (n : ℕ) → n ≤ 999999999999999
+    → IsPart names cell (short (pos n) 6) (Num (pos n))
 number_part names cell n h =
     let six : 6 ≤ 6 = omega arith in
-    digits_part names cell (short (pos n) 6) (whole (pos n) 6) (shown (pos n) 6) n (no_minus n) (some (pos n) 6 h six) (all_whole (pos n) 6 h six) (all_shown (pos n) 6 h six) (read_back (pos n) 6 h six)
+    digits_part names cell (short (pos n) 6) (whole (pos n) 6) (shown (pos n) 6) n (no_minus n) (some (pos n) 6 h six)
+    (all_whole (pos n) 6 h six) (all_shown (pos n) 6 h six) (read_back (pos n) 6 h six)
 
 -- texts
 abbrev is_quote : ℕ → Bool
 is_quote b = b == 34
 
-none_quote : (b : ℕ) (bs : List ℕ) → list_any is_quote (b ∷ bs) ≡ false → ((b == 34) ≡ false) × (list_any is_quote bs ≡ false)
+none_quote : (b : ℕ) (bs : List ℕ) → list_any is_quote (b ∷ bs) ≡ false
+    → ((b == 34) ≡ false) × (list_any is_quote bs ≡ false)
 none_quote b bs h = (parts (b == 34) (list_any is_quote bs) h)
   where
     parts : (x y : Bool) → (x || y) ≡ false → (x ≡ false) × (y ≡ false)
     parts true y h = absurd cc
     parts false y h = (refl, h)
 
-pub free_len : (t rest : List ℕ) → list_any is_quote t ≡ false → prefix_len (λ b. not (is_quote b)) (t ++ 34 ∷ rest) ≡ length t
+-- a text without quotes is as long as what stands before the quote behind it
+pub free_len : (t rest : List ℕ) → list_any is_quote t ≡ false
+    → prefix_len (λ b. not (is_quote b)) (t ++ 34 ∷ rest) ≡ length t
 free_len [] rest h = refl
 free_len (b ∷ bs) rest h =
     let n = none_quote b bs h in
-    ap (λ c. cond (not c) (1 + prefix_len (λ b. not (is_quote b)) (bs ++ 34 ∷ rest)) 0) n.0 ∙ ap (λ k. 1 + k) (free_len bs rest n.1) ∙ (let e : 1 + length bs ≡ length (b ∷ bs) = omega arith in e)
+    ap (λ c. cond (not c) (1 + prefix_len (λ b. not (is_quote b)) (bs ++ 34 ∷ rest)) 0) n.0
+    ∙ ap (λ k. 1 + k) (free_len bs rest n.1) ∙ (let e : 1 + length bs ≡ length (b ∷ bs) = omega arith in e)
 
 quote_at : (t rest : List ℕ) → list_any is_quote t ≡ false → position is_quote (t ++ 34 ∷ rest) ≡ Some (length t)
 quote_at t rest h =
     let n = free_len t rest h in
-    let inside : nat_lt (length t) (length (t ++ 34 ∷ rest)) ≡ true = (let less : length t < length (t ++ 34 ∷ rest) = omega (arith, length-append t (34 ∷ rest)) in grind (arith, nat_tests, less)) in
+    let inside : nat_lt (length t) (length (t ++ 34 ∷ rest)) ≡ true = (let less : length t < length (t ++ 34 ∷ rest) =
+    omega (arith, length-append t (34 ∷ rest)) in grind (arith, nat_tests, less)) in
     ap (λ k. cond (nat_lt k (length (t ++ 34 ∷ rest))) (Some k) None) n ∙ ap (λ c. cond c (Some (length t)) None) inside
 
 all_len : (p : ℕ → Bool) (t : List ℕ) → list_all p t ≡ true → prefix_len p t ≡ length t
 all_len p [] h = refl
 all_len p (b ∷ bs) h =
-    ap (λ c. cond c (1 + prefix_len p bs) 0) (and_parts (p b) (list_all p bs) h).0 ∙ ap (λ k. 1 + k) (all_len p bs (and_parts (p b) (list_all p bs) h).1) ∙ (let e : 1 + length bs ≡ length (b ∷ bs) = omega arith in e)
+    ap (λ c. cond c (1 + prefix_len p bs) 0) (and_parts (p b) (list_all p bs) h).0 ∙ ap (λ k. 1 + k)
+    (all_len p bs (and_parts (p b) (list_all p bs) h).1) ∙ (let e : 1 + length bs ≡ length (b ∷ bs) = omega arith in e)
 
 not_low : (t : List ℕ) → list_all (λ b. nat_le 32 b) t ≡ true → list_all (λ b. not (nat_lt b 32)) t ≡ true
 not_low [] h = refl
@@ -110,7 +137,8 @@ not_low (b ∷ bs) h =
 none_low : (t : List ℕ) → list_all (λ b. nat_le 32 b) t ≡ true → position (λ b. nat_lt b 32) t ≡ None
 none_low t h =
     let past : nat_lt (length t) (length t) ≡ false = grind (arith, nat_tests) in
-    ap (λ k. cond (nat_lt k (length t)) (Some k) None) (all_len (λ b. not (nat_lt b 32)) t (not_low t h)) ∙ ap (λ c. cond c (Some (length t)) None) past
+    ap (λ k. cond (nat_lt k (length t)) (Some k) None) (all_len (λ b. not (nat_lt b 32)) t (not_low t h))
+    ∙ ap (λ c. cond c (Some (length t)) None) past
 
 kept : (t : List ℕ) → is_text t ≡ true → text_of t ≡ Ok t
 kept t h =
@@ -119,14 +147,17 @@ kept t h =
     let fits : nat_lt 240 (length t) ≡ false = grind (arith, nat_tests, short) in
     rw (fits, low) refl
 
-quoted : (names : NameMap) (cell : Place) (at : ℕ) (bytes : List ℕ) → part_found names cell at (34 ∷ bytes) ≡ closed at bytes (position is_quote bytes)
+quoted : (names : NameMap) (cell : Place) (at : ℕ) (bytes : List ℕ)
+    → part_found names cell at (34 ∷ bytes) ≡ closed at bytes (position is_quote bytes)
 unfolding part_found found_by
 quoted names cell at bytes = refl
 
 no_quote : (t : List ℕ) → has_no_quote t ≡ true → list_any is_quote t ≡ false
 no_quote t h = grind arith
 
-pub text_part : (names : NameMap) (cell : Place) (t : List ℕ) → is_text t ≡ true → has_no_quote t ≡ true → IsPart names cell (codes "\"" ++ (t ++ codes "\"")) (Str t)
+-- a text in quotes is one part, the text
+pub text_part : (names : NameMap) (cell : Place) (t : List ℕ) → is_text t ≡ true → has_no_quote t ≡ true
+    → IsPart names cell (codes "\"" ++ (t ++ codes "\"")) (Str t)
 text_part names cell t h q =
     let size : length (t ++ 34 ∷ []) ≡ length t + 1 = length-append t (34 ∷ []) in
     record {
@@ -134,7 +165,10 @@ text_part names cell t h q =
       first = λ rest. record { space = refl; equal = refl; greater = refl };
       found = λ rest at stops. (
           let behind : (t ++ 34 ∷ []) ++ rest ≡ t ++ 34 ∷ rest = append_assoc t (34 ∷ []) rest in
-          quoted names cell at ((t ++ 34 ∷ []) ++ rest) ∙ ap (λ (l : List ℕ). closed at l (position is_quote l)) behind ∙ ap (closed at (t ++ 34 ∷ rest)) (quote_at t rest (no_quote t q))
-          ∙ ap (λ (l : List ℕ). record { kind = text_kind at (text_of l); len = length t + 2 }) (take_front t (34 ∷ rest)) ∙ ap (λ x. record { kind = text_kind at x; len = length t + 2 }) (kept t h)
-          ∙ ap (λ k. record { kind = Str t; len = k }) (let e : length t + 2 ≡ length (34 ∷ (t ++ 34 ∷ [])) = omega (arith, size) in e));
+          quoted names cell at ((t ++ 34 ∷ []) ++ rest) ∙ ap (λ (l : List ℕ). closed at l (position is_quote l)) behind
+          ∙ ap (closed at (t ++ 34 ∷ rest)) (quote_at t rest (no_quote t q))
+          ∙ ap (λ (l : List ℕ). record { kind = text_kind at (text_of l); len = length t + 2 })
+          (take_front t (34 ∷ rest)) ∙ ap (λ x. record { kind = text_kind at x; len = length t + 2 }) (kept t h)
+          ∙ ap (λ k. record { kind = Str t; len = k })
+          (let e : length t + 2 ≡ length (34 ∷ (t ++ 34 ∷ [])) = omega (arith, size) in e));
     }

@@ -1,9 +1,11 @@
 -- What the tree of tokens is.
-use Rattle.std.proofs.Common.{◌≡◌, ℕ, ◌≤◌, ◌<◌, min, Bool, true, false, cond, ◌&&◌, nat_le, nat_lt, List, [], ◌∷◌, ◌++◌, refl, sym, ap, ◌∙◌, arith, append_assoc, append-nil}
+use Rattle.std.proofs.Common.{◌≡◌, ℕ, ◌≤◌, ◌<◌, min, Bool, true, false, cond, ◌&&◌, nat_le, nat_lt, List, [], ◌∷◌, ◌++◌}
+use Rattle.std.proofs.Common.{refl, sym, ap, ◌∙◌, arith, append_assoc, append-nil}
 use Rattle.std.proofs.lemmas.Bool.Decides.{nat_tests}
 use Rattle.std.proofs.lemmas.Bool.{and_parts}
 use Rattle.formula_tree.specs.declared.ast.Op.{Op}
-use Rattle.formula_tree.specs.declared.ast.Op.TheVariants.{Pow, Mul, Div, Add, Sub, Eq, Ne, Lt, Gt, Le, Ge, And, Or, Join}
+use Rattle.formula_tree.specs.declared.ast.Op.TheVariants.{Pow, Mul, Div, Add, Sub, Eq, Ne, Lt, Gt, Le, Ge, And, Or}
+use Rattle.formula_tree.specs.declared.ast.Op.TheVariants.{Join}
 use Rattle.formula_tree.specs.declared.function.Function.{Function as AtFunction}
 use Rattle.formula_tree.specs.Tree.{Tree, num, str, cell, span, group, neg, not, binary, call, Trees, no_trees, trees}
 use Rattle.formula_tree.specs.Shape.{every, every_one, is_bracketed, level, lowest, top}
@@ -20,9 +22,6 @@ le_false a b h = grind (arith, nat_tests)
 at_most : (a b : ℕ) → nat_le a b ≡ true → a ≤ b
 at_most a b h = grind (arith, nat_tests)
 
-is_more : (a b : ℕ) → nat_le a b ≡ false → b < a
-is_more a b h = grind (arith, nat_tests)
-
 is_below : (a b : ℕ) → nat_lt a b ≡ true → a < b
 is_below a b h = grind (arith, nat_tests)
 
@@ -36,17 +35,20 @@ lower op (group a) x = omega arith
 lower op (call f ts) x = omega arith
 lower op (neg a) x = either (nat_le (level op) (lowest (neg a))) (lower op a x)
   where
-    either : (b : Bool) → lowest (beside op a x) ≤ min (lowest x) (level op) → lowest (cond b (binary op (neg a) x) (neg (beside op a x))) ≤ min (lowest x) (level op)
+    either : (b : Bool) → lowest (beside op a x) ≤ min (lowest x) (level op)
+        → lowest (cond b (binary op (neg a) x) (neg (beside op a x))) ≤ min (lowest x) (level op)
     either true h = omega arith
     either false h = omega (arith, h)
 lower op (not a) x = either (nat_le (level op) (lowest (not a))) (lower op a x)
   where
-    either : (b : Bool) → lowest (beside op a x) ≤ min (lowest x) (level op) → lowest (cond b (binary op (not a) x) (not (beside op a x))) ≤ min (lowest x) (level op)
+    either : (b : Bool) → lowest (beside op a x) ≤ min (lowest x) (level op)
+        → lowest (cond b (binary op (not a) x) (not (beside op a x))) ≤ min (lowest x) (level op)
     either true h = omega arith
     either false h = omega (arith, h)
 lower op (binary o a b) x = either (nat_le (level op) (lowest (binary o a b))) (lower op b x)
   where
-    either : (c : Bool) → lowest (beside op b x) ≤ min (lowest x) (level op) → lowest (cond c (binary op (binary o a b) x) (binary o a (beside op b x))) ≤ min (lowest x) (level op)
+    either : (c : Bool) → lowest (beside op b x) ≤ min (lowest x) (level op)
+        → lowest (cond c (binary op (binary o a b) x) (binary o a (beside op b x))) ≤ min (lowest x) (level op)
     either true h = omega arith
     either false h = omega (arith, h)
 
@@ -62,19 +64,26 @@ taken op (cell v) x h = refl
 taken op (span v w) x h = refl
 taken op (group a) x h = refl
 taken op (call f ts) x h = refl
-taken op (neg a) x h = ap (λ c. cond c (binary op (neg a) x) (neg (beside op a x))) (le_true (level op) (lowest (neg a)) h)
-taken op (not a) x h = ap (λ c. cond c (binary op (not a) x) (not (beside op a x))) (le_true (level op) (lowest (not a)) h)
-taken op (binary o a b) x h = ap (λ c. cond c (binary op (binary o a b) x) (binary o a (beside op b x))) (le_true (level op) (lowest (binary o a b)) h)
+taken op (neg a) x h =
+    ap (λ c. cond c (binary op (neg a) x) (neg (beside op a x))) (le_true (level op) (lowest (neg a)) h)
+taken op (not a) x h =
+    ap (λ c. cond c (binary op (not a) x) (not (beside op a x))) (le_true (level op) (lowest (not a)) h)
+taken op (binary o a b) x h = ap (λ c. cond c (binary op (binary o a b) x) (binary o a (beside op b x)))
+    (le_true (level op) (lowest (binary o a b)) h)
 
 -- and goes inside otherwise
 inside_neg : (op : Op) (a x : Tree) → lowest (neg a) < level op → beside op (neg a) x ≡ neg (beside op a x)
-inside_neg op a x h = ap (λ c. cond c (binary op (neg a) x) (neg (beside op a x))) (le_false (level op) (lowest (neg a)) h)
+inside_neg op a x h =
+    ap (λ c. cond c (binary op (neg a) x) (neg (beside op a x))) (le_false (level op) (lowest (neg a)) h)
 
 inside_not : (op : Op) (a x : Tree) → lowest (not a) < level op → beside op (not a) x ≡ not (beside op a x)
-inside_not op a x h = ap (λ c. cond c (binary op (not a) x) (not (beside op a x))) (le_false (level op) (lowest (not a)) h)
+inside_not op a x h =
+    ap (λ c. cond c (binary op (not a) x) (not (beside op a x))) (le_false (level op) (lowest (not a)) h)
 
-inside_binary : (op o : Op) (a b x : Tree) → lowest (binary o a b) < level op → beside op (binary o a b) x ≡ binary o a (beside op b x)
-inside_binary op o a b x h = ap (λ c. cond c (binary op (binary o a b) x) (binary o a (beside op b x))) (le_false (level op) (lowest (binary o a b)) h)
+inside_binary : (op o : Op) (a b x : Tree) → lowest (binary o a b) < level op
+    → beside op (binary o a b) x ≡ binary o a (beside op b x)
+inside_binary op o a b x h = ap (λ c. cond c (binary op (binary o a b) x) (binary o a (beside op b x)))
+    (le_false (level op) (lowest (binary o a b)) h)
 
 -- behind an operator a tighter one takes a part of its right operand
 passes : (p : Op) (t : Tree) → Lets (beside p t) (level p)
@@ -86,17 +95,24 @@ passes p (group c) = λ op a b h. inside_binary op p (group c) a b h
 passes p (call f ts) = λ op a b h. inside_binary op p (call f ts) a b h
 passes p (neg c) = λ op a b h. either (nat_le (level p) (lowest (neg c))) op a b h (passes p c op a b h)
   where
-    either : (s : Bool) → (op : Op) (a b : Tree) → min (lowest a) (level p) < level op → beside op (beside p c a) b ≡ beside p c (beside op a b) → beside op (cond s (binary p (neg c) a) (neg (beside p c a))) b ≡ cond s (binary p (neg c) (beside op a b)) (neg (beside p c (beside op a b)))
+    either : (s : Bool) → (op : Op) (a b : Tree) → min (lowest a) (level p) < level op
+        → beside op (beside p c a) b ≡ beside p c (beside op a b) → beside op (cond s (binary p (neg c) a)
+        (neg (beside p c a))) b ≡ cond s (binary p (neg c) (beside op a b)) (neg (beside p c (beside op a b)))
     either true op a b h r = inside_binary op p (neg c) a b h
     either false op a b h r = inside_neg op (beside p c a) b (omega (arith, lower p c a, h)) ∙ ap neg r
 passes p (not c) = λ op a b h. either (nat_le (level p) (lowest (not c))) op a b h (passes p c op a b h)
   where
-    either : (s : Bool) → (op : Op) (a b : Tree) → min (lowest a) (level p) < level op → beside op (beside p c a) b ≡ beside p c (beside op a b) → beside op (cond s (binary p (not c) a) (not (beside p c a))) b ≡ cond s (binary p (not c) (beside op a b)) (not (beside p c (beside op a b)))
+    either : (s : Bool) → (op : Op) (a b : Tree) → min (lowest a) (level p) < level op
+        → beside op (beside p c a) b ≡ beside p c (beside op a b) → beside op (cond s (binary p (not c) a)
+        (not (beside p c a))) b ≡ cond s (binary p (not c) (beside op a b)) (not (beside p c (beside op a b)))
     either true op a b h r = inside_binary op p (not c) a b h
     either false op a b h r = inside_not op (beside p c a) b (omega (arith, lower p c a, h)) ∙ ap not r
 passes p (binary o c d) = λ op a b h. either (nat_le (level p) (lowest (binary o c d))) op a b h (passes p d op a b h)
   where
-    either : (s : Bool) → (op : Op) (a b : Tree) → min (lowest a) (level p) < level op → beside op (beside p d a) b ≡ beside p d (beside op a b) → beside op (cond s (binary p (binary o c d) a) (binary o c (beside p d a))) b ≡ cond s (binary p (binary o c d) (beside op a b)) (binary o c (beside p d (beside op a b)))
+    either : (s : Bool) → (op : Op) (a b : Tree) → min (lowest a) (level p) < level op
+        → beside op (beside p d a) b ≡ beside p d (beside op a b)
+        → beside op (cond s (binary p (binary o c d) a) (binary o c (beside p d a))) b
+        ≡ cond s (binary p (binary o c d) (beside op a b)) (binary o c (beside p d (beside op a b)))
     either true op a b h r = inside_binary op p (binary o c d) a b h
     either false op a b h r = inside_binary op o c (beside p d a) b (omega (arith, lower p d a, h)) ∙ ap (binary o c) r
 
@@ -183,7 +199,8 @@ all_further us (trees t ts) = all_further (us ++ t ∷ []) ts ∙ behind_more us
 
 mutual
   -- a well bracketed tree is found again from its tokens
-  found : (t : Tree) (f : Tree → Tree) (n : ℕ) (outer : List Open) (rest : List Token) → every is_bracketed t ≡ true → Lets f n → n < top t →
+  found : (t : Tree) (f : Tree → Tree) (n : ℕ) (outer : List Open) (rest : List Token) → every is_bracketed t ≡ true
+      → Lets f n → n < top t →
       wanting f outer (tokens t ++ rest) ≡ having (f t) outer rest
   found (num v) f n outer rest w p h = refl
   found (str v) f n outer rest w p h = refl
@@ -212,14 +229,17 @@ mutual
       ∙ more_found ts a f g [] outer rest q.1
       ∙ ap (λ x. having (f (call g x)) outer rest) (all_further (a ∷ []) ts)
 
-  more_found : (ts : Trees) (a : Tree) (f : Tree → Tree) (g : AtFunction) (us : List Tree) (outer : List Open) (rest : List Token) → every_one is_bracketed ts ≡ true →
-      having a (function f g us ∷ outer) (more_tokens ts ++ rest) ≡ having (f (call g (listed (further (us ++ a ∷ []) ts)))) outer rest
+  more_found : (ts : Trees) (a : Tree) (f : Tree → Tree) (g : AtFunction) (us : List Tree) (outer : List Open)
+      (rest : List Token) → every_one is_bracketed ts ≡ true → having a (function f g us ∷ outer) (more_tokens ts
+      ++ rest) ≡ having (f (call g (listed (further (us ++ a ∷ []) ts)))) outer rest
   more_found no_trees a f g us outer rest w = refl
   more_found (trees b ts) a f g us outer rest w =
       let q = and_parts (every is_bracketed b) (every_one is_bracketed ts) w in
-      ap (λ vs. wanting (λ x. x) (function f g (us ++ a ∷ []) ∷ outer) vs) (append_assoc (tokens b) (more_tokens ts) rest)
+      ap (λ vs. wanting (λ x. x) (function f g (us ++ a ∷ []) ∷ outer) vs)
+      (append_assoc (tokens b) (more_tokens ts) rest)
       ∙ found b (λ x. x) 0 (function f g (us ++ a ∷ []) ∷ outer) (more_tokens ts ++ rest) q.0 passes_none (one_top b)
       ∙ more_found ts b f g (us ++ a ∷ []) outer rest q.1
 
+-- the tree of a well-bracketed tree's tokens is that tree
 pub found_again : (t : Tree) → every is_bracketed t ≡ true → tree_of_tokens (tokens t) ≡ t
 found_again t w = ap tree_of_tokens (sym (append-nil (tokens t))) ∙ found t (λ x. x) 0 [] [] w passes_none (one_top t)

@@ -1,7 +1,9 @@
 -- A number without a sign isn't negative.
-use Rattle.std.proofs.Common.{◌≡◌, ℕ, suc, zero, ◌<◌, ◌==◌, Bool, true, false, cond, List, [], ◌∷◌, take, Option, Some, None, refl, sym, ◌∙◌, subst, arith}
+use Rattle.std.proofs.Common.{◌≡◌, ℕ, suc, zero, ◌<◌, ◌==◌, Bool, true, false, cond, List, [], ◌∷◌, take, Option, Some}
+use Rattle.std.proofs.Common.{None, refl, sym, ◌∙◌, subst, arith}
 use Rattle.std.proofs.lemmas.Bool.Decides.{nat_tests}
-use Rattle.fixed_value.specs.Decimals.{decimal_from, decimal_of, is_minus, places_of, whole_digits, behind_digits, without_sign}
+use Rattle.fixed_value.specs.Decimals.{decimal_from, decimal_of, is_minus, places_of, whole_digits, behind_digits}
+use Rattle.fixed_value.specs.Decimals.{without_sign}
 use Rattle.fixed_value.specs.Numbers.{signed}
 use Rattle.fixed_value.specs.declared.decimal.Decimal.TheVariants.{Num as decimal, TooLarge}
 use Rattle.formula_text.specs.inner.Fine.{is_fine_kind}
@@ -11,7 +13,8 @@ in_range : (b : Bool) (at n : ℕ) → is_fine_kind (number_kind at (cond b (dec
 in_range true at n = refl
 in_range false at n = refl
 
-from_fine : (at : ℕ) (whole : List ℕ) (places : Option (List ℕ)) → is_fine_kind (number_kind at (decimal_from false whole places)) ≡ true
+from_fine : (at : ℕ) (whole : List ℕ) (places : Option (List ℕ))
+    → is_fine_kind (number_kind at (decimal_from false whole places)) ≡ true
 from_fine at whole None = refl
 from_fine at [] (Some []) = refl
 from_fine at [] (Some (p ∷ ps)) = in_range _ at _
@@ -19,7 +22,9 @@ from_fine at (w ∷ ws) (Some places) = in_range _ at _
 
 unsigned : (at : ℕ) (bytes : List ℕ) → is_minus bytes ≡ false → is_fine_kind (number_kind at (decimal_of bytes)) ≡ true
 unsigned at bytes h =
-    subst (λ m. is_fine_kind (number_kind at (decimal_from m (whole_digits (without_sign bytes)) (places_of (behind_digits (without_sign bytes))))) ≡ true) (sym h) (from_fine at (whole_digits (without_sign bytes)) (places_of (behind_digits (without_sign bytes))))
+    subst (λ m. is_fine_kind (number_kind at
+    (decimal_from m (whole_digits (without_sign bytes)) (places_of (behind_digits (without_sign bytes))))) ≡ true)
+    (sym h) (from_fine at (whole_digits (without_sign bytes)) (places_of (behind_digits (without_sign bytes))))
 
 not_true : (c : Bool) → (c ≡ true → ⊥) → c ≡ false
 not_true true h = absurd (h refl)
@@ -41,4 +46,5 @@ front_minus (suc n) (b ∷ bs) h = refl
 
 -- the number that stands first
 pub number_is_fine : (at : ℕ) (bytes : List ℕ) → 0 < number_len bytes → is_fine_kind (number_found at bytes).kind ≡ true
-number_is_fine at bytes h = unsigned at (take (number_len bytes) bytes) (front_minus (number_len bytes) bytes h ∙ no_minus bytes h)
+number_is_fine at bytes h =
+    unsigned at (take (number_len bytes) bytes) (front_minus (number_len bytes) bytes h ∙ no_minus bytes h)

@@ -19,10 +19,19 @@ loop-at-preserved c =
     let f = c.from.ensures in
     let found = c.in_ok-found.ensures.found ∙ ap (part_found names cell at) f in
     let high : len ≤ length (drop at text) = omega (arith, c.in_ok-found.ensures.high, ap length f) in
-    let here = one_part names cell text at len c.loop-at-test.true c.if-text-at-eq32.false (ap (λ p. p.len) found) c.in_ok-found.ensures.low high in (
+    let here = one_part names cell text at len c.loop-at-test.true c.if-text-at-eq32.false
+    (ap (λ p. p.len) found) c.in_ok-found.ensures.low high in (
       omega (arith, high, length-drop at text),
       ap (λ x. x ++ rest) (c.in_ok-add.ensures.ok ∙ ap (λ k. before ++ part k ∷ []) (ap (λ p. p.kind) found))
-          ∙ kept before (part (part_found names cell at (drop at text)).kind) rest (lexed names cell 0 at (drop at text)) (lexed names cell 0 0 text) c.loop-at.invariant.1 here,
-      ap are_fine c.in_ok-add.ensures.ok ∙ all_fine before (part c.in_ok-found.found.kind) c.loop-at.invariant.2 c.in_ok-found.ensures.fine,
-      omega (arith, c.loop-at.invariant.3, c.in_ok-found.ensures.low, ap length c.in_ok-add.ensures.ok, length-append before (part c.in_ok-found.found.kind ∷ [])),
+          ∙ kept before (part (part_found names cell at (drop at text)).kind) rest
+          (lexed names cell 0 at (drop at text)) (lexed names cell 0 0 text) c.loop-at.invariant.1 here,
+      ap are_fine c.in_ok-add.ensures.ok
+          ∙ all_fine before (part c.in_ok-found.found.kind) c.loop-at.invariant.2 c.in_ok-found.ensures.fine,
+      omega (
+        arith,
+        c.loop-at.invariant.3,
+        c.in_ok-found.ensures.low,
+        ap length c.in_ok-add.ensures.ok,
+        length-append before (part c.in_ok-found.found.kind ∷ []),
+      ),
     )

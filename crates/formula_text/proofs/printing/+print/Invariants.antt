@@ -14,4 +14,6 @@ decreases-put_call g l = 2 * all_nodes (listed (map tree_of l.arguments.now)) + 
 
 abbrev pub invariant-put_call-loop-argument : goal.invariant-put_call-loop-argument
 invariant-put_call-loop-argument g l =
-    Puts g.S.Sink.has_put l.fn.out (codes "@" ++ (name_of l.fn.function ++ opened l.names l.at (map tree_of (take l.argument-index l.arguments)))) l.out × (l.mark ≡ mark_before (map tree_of (take l.argument-index l.arguments)))
+    Puts g.S.Sink.has_put l.fn.out
+    (codes "@" ++ (name_of l.fn.function ++ opened l.names l.at (map tree_of (take l.argument-index l.arguments))))
+    l.out × (l.mark ≡ mark_before (map tree_of (take l.argument-index l.arguments)))

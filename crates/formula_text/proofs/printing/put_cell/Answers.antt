@@ -10,10 +10,12 @@ returns-in-Some g c =
     let fixed = is_fixed reference.col in
     let name = c.in-Some.name.now in
     let mark_is : c.is_fixed.result ≡ fixed = search rules in
-    put_as (two_put c.args.out.now c.put_mark.new.out c.put.new.out (mark fixed) name (put_as c.put_mark.ensures (ap mark mark_is)) c.put.ensures)
+    put_as (two_put c.args.out.now c.put_mark.new.out c.put.new.out (mark fixed) name
+    (put_as c.put_mark.ensures (ap mark mark_is)) c.put.ensures)
     (ap (named_or fixed (reference_text c.args.at reference)) (sym c.in-Some.ensures.some))
 
 pub returns-in-None : goal.returns-in-None
 returns-in-None g c =
     let reference = c.args.reference in
-    put_as c.put_reference.ensures (ap (named_or (is_fixed reference.col) (reference_text c.args.at reference)) (sym c.in-None.ensures.none))
+    put_as c.put_reference.ensures
+    (ap (named_or (is_fixed reference.col) (reference_text c.args.at reference)) (sym c.in-None.ensures.none))

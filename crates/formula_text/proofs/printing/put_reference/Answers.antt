@@ -14,5 +14,7 @@ returns g c =
     let digits : c.bytes-2.result.now ≡ decimal (cell.row + 1) = search rules in
     let col : c.is_fixed.result ≡ is_fixed reference.col = search rules in
     let row : c.is_fixed-2.result ≡ is_fixed reference.row = search rules in
-    four_put c.args.out.now c.put_mark.new.out c.put.new.out c.put_mark-2.new.out c.put-2.new.out (mark (is_fixed reference.col)) (column_name cell.col) (mark (is_fixed reference.row)) (decimal (cell.row + 1))
-    (put_as c.put_mark.ensures (ap mark col)) (put_as c.put.ensures letters) (put_as c.put_mark-2.ensures (ap mark row)) (put_as c.put-2.ensures digits)
+    four_put c.args.out.now c.put_mark.new.out c.put.new.out c.put_mark-2.new.out c.put-2.new.out
+    (mark (is_fixed reference.col)) (column_name cell.col) (mark (is_fixed reference.row)) (decimal (cell.row + 1))
+    (put_as c.put_mark.ensures (ap mark col)) (put_as c.put.ensures letters) (put_as c.put_mark-2.ensures (ap mark row))
+    (put_as c.put-2.ensures digits)

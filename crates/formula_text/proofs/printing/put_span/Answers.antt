@@ -10,11 +10,14 @@ returns-in-Some g c =
     let fixed = is_fixed c.args.one.col in
     let name = c.in-Some.name.now in
     let mark_is : c.is_fixed.result ≡ fixed = search rules in
-    put_as (two_put c.args.out.now c.put_mark.new.out c.put.new.out (mark fixed) name (put_as c.put_mark.ensures (ap mark mark_is)) c.put.ensures)
-    (ap (named_or fixed (reference_text at c.args.one ++ (codes ".." ++ reference_text at c.args.other))) (sym c.in-Some.ensures.some))
+    put_as (two_put c.args.out.now c.put_mark.new.out c.put.new.out (mark fixed) name
+    (put_as c.put_mark.ensures (ap mark mark_is)) c.put.ensures)
+    (ap (named_or fixed (reference_text at c.args.one ++ (codes ".." ++ reference_text at c.args.other)))
+    (sym c.in-Some.ensures.some))
 
 pub returns-in-None : goal.returns-in-None
 returns-in-None g c =
     let at = c.args.at in
     put_as c.put_corners.ensures
-    (ap (named_or (is_fixed c.args.one.col) (reference_text at c.args.one ++ (codes ".." ++ reference_text at c.args.other))) (sym c.in-None.ensures.none))
+    (ap (named_or (is_fixed c.args.one.col)
+    (reference_text at c.args.one ++ (codes ".." ++ reference_text at c.args.other))) (sym c.in-None.ensures.none))

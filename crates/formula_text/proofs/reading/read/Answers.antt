@@ -14,7 +14,8 @@ formula-requires c =
     let items = c.in_ok-lexemes.lexemes.items in
     let t = tree_of c.in_ok-expr.expr in
     let s = subst (λ ls. ArePartsOf ls t) c.as_slice.ensures.value c.in_ok-expr.ensures.found in
-    is_formula items t (omega (arith, c.in_ok-lexemes.ensures.few)) c.in_ok-lexemes.ensures.fine s.same s.well c.in_ok-expr.ensures.called
+    is_formula items t (omega (arith, c.in_ok-lexemes.ensures.few)) c.in_ok-lexemes.ensures.fine s.same s.well
+    c.in_ok-expr.ensures.called
 
 pub returns-then-text-gt-MAX_LEN-clause-fault : goal.returns-then-text-gt-MAX_LEN-clause-fault
 returns-then-text-gt-MAX_LEN-clause-fault c = inr (too_long c.args.names.now c.args.at c.args.text.now (omega arith))
@@ -23,11 +24,18 @@ pub returns-in_err-expr-clause-fault : goal.returns-in_err-expr-clause-fault
 returns-in_err-expr-clause-fault c =
     let p = err_from_is_err_and c.from_residual-in_err-expr.result c.from_residual-in_err-expr.ensures.1 in
     let names = c.args.names.now in
-    let same : operand_first (lexed names c.args.at 0 0 c.args.text.now) [] ≡ operand_first c.as_slice.result.now [] = ap (λ ls. operand_first ls []) (sym (c.as_slice.ensures.value ∙ c.in_ok-lexemes.ensures.ok)) in
-    rw p.1 (elim c.in_err-expr.ensures.fault [ inl m ↦ inl (p.2 ∙ m) | inr e ↦ inr (first_fault names c.args.at c.args.text.now _ (omega arith) (same ∙ e) ∙ ap Err (sym p.2)) ])
+    let same : operand_first (lexed names c.args.at 0 0 c.args.text.now) [] ≡ operand_first c.as_slice.result.now [] =
+    ap (λ ls. operand_first ls []) (sym (c.as_slice.ensures.value ∙ c.in_ok-lexemes.ensures.ok)) in
+    rw p.1 (elim c.in_err-expr.ensures.fault [
+      | inl m ↦ inl (p.2 ∙ m)
+      | inr e ↦
+          inr (first_fault names c.args.at c.args.text.now _ (omega arith) (same ∙ e) ∙ ap Err (sym p.2))
+    ])
 
 pub returns-clause-found : goal.returns-clause-found
 returns-clause-found c =
     let t = tree_of c.in_ok-expr.expr in
-    let s = subst (λ ls. ArePartsOf ls t) (c.as_slice.ensures.value ∙ c.in_ok-lexemes.ensures.ok) c.in_ok-expr.ensures.found in
-    tree_read c.formula.result (reading c.args.names.now c.args.at c.args.text.now) t c.formula.ensures.ok (reads c.args.names.now c.args.at c.args.text.now t (omega arith, s))
+    let s = subst (λ ls. ArePartsOf ls t) (c.as_slice.ensures.value ∙ c.in_ok-lexemes.ensures.ok)
+    c.in_ok-expr.ensures.found in
+    tree_read c.formula.result (reading c.args.names.now c.args.at c.args.text.now) t c.formula.ensures.ok
+    (reads c.args.names.now c.args.at c.args.text.now t (omega arith, s))
