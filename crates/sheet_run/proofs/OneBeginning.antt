@@ -76,6 +76,7 @@ one_cause DiskError other fine fine' same = absurd (fine refl)
 no_disk_error : (name : List ℕ) (why : NotRead) → NoneFailed (asked_for name (answer_of why)) → why ≡ DiskError → ⊥
 no_disk_error name why fine is = fine.0 (ap answer_of is)
 
+-- shelves with the same files refuse a start file for the same cause
 pub one_refusal : (name : List ℕ) (why other : NotRead) (a b c d : ShelfView) → HoldAlike a b →
     HaveAnswered (asked_for name (answer_of why)) a c → HaveAnswered (asked_for name (answer_of other)) b d →
     NoneFailed (asked_for name (answer_of why)) → NoneFailed (asked_for name (answer_of other)) → why ≡ other

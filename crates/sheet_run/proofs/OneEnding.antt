@@ -43,10 +43,10 @@ pub data Ends (bounds : Bounds) (s : State) (steps : List Step) (taken rest : Li
   by_stop : (last : EndAtLast bounds.strict s steps) → SpellsUpTo taken (keys_of steps) →
       ending ≡ stop_ending (outcome (after s last.front) last.last).ends (length steps) (length taken) →
       Ends bounds s steps taken rest ending
-  by_rest : AllGo bounds.strict (outcomes s steps) → wants_key (after s steps) ≡ true → SpellsKeys taken (keys_of steps) →
-      AtTheEnd taken rest → ending ≡ rested_as (leaves_undone bounds.strict (after s steps)) (length steps)
-      (length taken) →
-      Ends bounds s steps taken rest ending
+  by_rest : AllGo bounds.strict (outcomes s steps) → wants_key (after s steps) ≡ true
+      → SpellsKeys taken (keys_of steps) → AtTheEnd taken rest
+      → ending ≡ rested_as (leaves_undone bounds.strict (after s steps)) (length steps) (length taken)
+      → Ends bounds s steps taken rest ending
   by_word : AllGo bounds.strict (outcomes s steps) → wants_key (after s steps) ≡ true → HasKeys taken (keys_of steps) →
       IsNoText taken → AtTheEnd taken rest → ending ≡ BadWord (length taken) → Ends bounds s steps taken rest ending
   by_bad : (front : List ℕ) (bad : ℕ) → taken ≡ front ++ bad ∷ [] → AllGo bounds.strict (outcomes s steps) →
@@ -120,10 +120,12 @@ no_more_keys bytes keys (KeyEvent k) rest read behind no_more wanted parts short
     let more = no_more read behind (keys ++ k ∷ rest) parts short give in
     omega (arith, ap length more.1, length-append (keys ++ k ∷ rest) more.0, length-append keys (k ∷ rest))
 
+-- lists that begin with the same items and are the same go on with the same
 pub cancel : {X : Type 0} (xs a b : List X) → xs ++ a ≡ xs ++ b → a ≡ b
 cancel [] a b e = e
 cancel (x ∷ xs) a b e = let rest : xs ++ a ≡ xs ++ b = cc in cancel xs a b rest
 
+-- a list of length 0 is empty
 pub no_items : {X : Type 0} (xs : List X) → length xs ≡ 0 → xs ≡ []
 no_items [] e = refl
 no_items (x ∷ xs) e = absurd (omega (arith, e))
@@ -454,6 +456,7 @@ pub record OneEnd (s t : State) (xs ys : List Step) (e f : Ending) (taken taken'
   pub ending : e ≡ f
   pub bytes : taken ≡ taken'
 
+-- runs of the same bytes that were compared step by step end in one way
 pub one_end : (bounds : Bounds) (s t : State) (xs ys : List Step) (bytes taken taken' rest rest' : List ℕ)
     (e f : Ending) → s ≡ t → Closing bounds s xs bytes taken rest e → Closing bounds t ys bytes taken' rest' f →
     Compared s t xs ys → OneEnd s t xs ys e f taken taken'

@@ -58,11 +58,10 @@ record OneNote (c d : Surroundings) (m n : ℕ) : Type 0 where
   status : m ≡ n
   notes : c.notes ≡ d.notes
 
-one_note : (a b c d : Surroundings) (m n found found' : ℕ) (text text' : List ℕ) → a.notes ≡ b.notes → found ≡ found' →
-    text ≡ text' →
-    Tells text found a.notes c.notes a.note_faults c.note_faults m → Tells text' found' b.notes d.notes b.note_faults
-    d.note_faults n →
-    (Rose a.note_faults c.note_faults → ⊥) → (Rose b.note_faults d.note_faults → ⊥) → OneNote c d m n
+one_note : (a b c d : Surroundings) (m n found found' : ℕ) (text text' : List ℕ) → a.notes ≡ b.notes
+    → found ≡ found' → text ≡ text' → Tells text found a.notes c.notes a.note_faults c.note_faults m
+    → Tells text' found' b.notes d.notes b.note_faults d.note_faults n → (Rose a.note_faults c.note_faults → ⊥)
+    → (Rose b.note_faults d.note_faults → ⊥) → OneNote c d m n
 one_note a b c d m n found found' text text' same founds texts told told' fine fine' =
     let one = told_well text found a.notes c.notes a.note_faults c.note_faults m told fine in
     let other = told_well text' found' b.notes d.notes b.note_faults d.note_faults n told' fine' in
@@ -79,8 +78,8 @@ state_of start first = (opening start first).state
 -- one of two runs that went well to an ending
 record Half (o : Options) (before now : Outside) (found : ℕ) (text : List ℕ) (bytes : List ℕ)
     (fin : HasFinished o before now found text) : Type 0 where
-  closed : Closed (bounds_of o) (state_of fin.start fin.first) fin.steps fin.left fin.out fin.begun fin.middle bytes
-      fin.ending
+  closed : Closed (bounds_of o)
+      (state_of fin.start fin.first) fin.steps fin.left fin.out fin.begun fin.middle bytes fin.ending
   had : HaveAnswered (calls_of (state_of fin.start fin.first) fin.steps) fin.opened.shelf now.shelf
   fine_start : NoneFailed (calls_from fin.start)
   fine_steps : NoneFailed (calls_of (state_of fin.start fin.first) fin.steps)
@@ -259,11 +258,11 @@ both_finished o a b c d m n found found' text text' x y alike well well' =
     (half o b d n found' text' alike.keys.0 y alike.keys.2 well')
 
 -- what two runs with options come to
-record WithOne {o p : Options} {a b c d : Surroundings} {m n : ℕ} (r : RunsWith o a c m) (q : RunsWith p b d n) : Type 0
-  where
-    alike : AreAlike c d
-    status : m ≡ n
-    count : evaluated_with r ≡ evaluated_with q
+record WithOne {o p : Options} {a b c d : Surroundings} {m n : ℕ} (r : RunsWith o a c m)
+    (q : RunsWith p b d n) : Type 0 where
+  alike : AreAlike c d
+  status : m ≡ n
+  count : evaluated_with r ≡ evaluated_with q
 
 -- alike surroundings, seen from the other
 turned : (a b : ShelfView) → HoldAlike a b → HoldAlike b a

@@ -84,6 +84,7 @@ give_words bytes keys behind words spelled is = record {
   begins = ([], words, subst (λ (b : List ℕ). SpellsWords b words) (sym (append-nil bytes)) spelled);
 }
 
+-- bytes that spell keys up to the last one's word give them
 pub give_up_to : (bytes : List ℕ) (keys : List Key) → SpellsUpTo bytes keys → Give bytes keys
 give_up_to bytes keys (inl spelled) =
     let i = spelled.into in

@@ -75,12 +75,14 @@ length_is : (xs : List Step) (s : State) → length xs ≡ length (outcomes s xs
 length_is [] s = refl
 length_is (x ∷ xs) s = omega (arith, length_is xs (outcome s x).state)
 
-pub outcomes-append : (front back : List Step) (s : State) → outcomes s (front ++ back) ≡ outcomes s front ++ outcomes
-    (after s front) back
+-- the outcomes of steps behind others are those of the ones and then of the others
+pub outcomes-append : (front back : List Step) (s : State)
+    → outcomes s (front ++ back) ≡ outcomes s front ++ outcomes (after s front) back
 outcomes-append [] back s = refl
 outcomes-append (x ∷ xs) back s =
     ap (λ (l : List Outcome). outcome s x ∷ l) (outcomes-append xs back (outcome s x).state)
 
+-- the keys of steps behind others are those of the ones and then of the others
 pub keys-append : (front back : List Step) → keys_of (front ++ back) ≡ keys_of front ++ keys_of back
 keys-append [] back = refl
 keys-append (x ∷ xs) back = ap (λ (l : List Key). key_in x.event ++ l) (keys-append xs back)
@@ -88,18 +90,23 @@ keys-append (x ∷ xs) back = ap (λ (l : List Key). key_in x.event ++ l) (keys-
 
 -- steps that come to the same from one state leave the same
 module _ (s t : State) (xs ys : List Step) (same : s ≡ t) (a : Alike s t xs ys) where
+  -- they leave the same state
   pub same_after : after s xs ≡ after t ys
   same_after = after_is xs s ∙ (λ i. last_state (same i) (a.came i)) ∙ sym (after_is ys t)
 
+  -- the same happened in them
   pub same_happened : happened s xs ≡ happened t ys
   same_happened = happened_is xs s ∙ (λ i. logs (a.came i)) ∙ sym (happened_is ys t)
 
+  -- they made the same calls of the shelf
   pub same_calls : calls_of s xs ≡ calls_of t ys
   same_calls = calls_is xs s ∙ (λ i. all_calls (a.came i)) ∙ sym (calls_is ys t)
 
+  -- they came to the same screens
   pub same_screens : screens s xs ≡ screens t ys
   same_screens = screens_is xs s ∙ (λ i. map (λ (o : Outcome). screen o.state) (a.came i)) ∙ sym (screens_is ys t)
 
+  -- they are as many
   pub same_length : length xs ≡ length ys
   same_length = length_is xs s ∙ (λ i. length (a.came i)) ∙ sym (length_is ys t)
 
@@ -115,6 +122,7 @@ pub record StopsLast (strict : Bool) (all : List Outcome) : Type 0 where
   pub all_are : all ≡ front ++ last ∷ []
   pub ends : stops strict last ≡ true
 
+-- none of the outcomes of steps that go on ends the run
 pub all_go : (strict : Bool) (xs : List Step) (s : State) → GoOn strict s xs → AllGo strict (outcomes s xs)
 all_go strict [] s on = tt
 all_go strict (x ∷ xs) s on = (on.0, all_go strict xs (outcome s x).state on.1)
@@ -128,9 +136,11 @@ abbrev pub GoBefore : Bool → State → List Step → Type 0
 GoBefore strict s steps = (front : List Step) (x : Step) (rest : List Step) → steps ≡ front ++ x ∷ rest →
     GoOn strict s front
 
+-- before any of steps that go on, the run goes on
 pub go_before : (strict : Bool) (s : State) (steps : List Step) → GoOn strict s steps → GoBefore strict s steps
 go_before strict s steps on front x rest is = go_front strict front (x ∷ rest) s (subst (GoOn strict s) is on)
 
+-- before any of steps whose last ends the run, it goes on
 pub last_before : (strict : Bool) (s : State) (steps : List Step) → EndAtLast strict s steps → GoBefore strict s steps
 last_before strict s steps last front x rest is =
     let both : front ++ x ∷ rest ≡ last.front ++ last.last ∷ [] = sym is ∙ last.steps_are in
@@ -139,6 +149,7 @@ last_before strict s steps last front x rest is =
     let more = shorter_begins front (x ∷ rest) last.front (last.last ∷ []) both count in
     go_front strict front more.0 s (subst (GoOn strict s) more.1 last.go_on)
 
+-- of the outcomes of steps whose last ends the run, the last ends it
 abbrev pub stops_last : (strict : Bool) (s : State) (steps : List Step) → (last : EndAtLast strict s steps) →
     StopsLast strict (outcomes s steps)
 stops_last strict s steps last = record {
@@ -160,6 +171,7 @@ stop_or_go strict some other same stop go =
     let all : AllGo strict (stop.front ++ stop.last ∷ []) = subst (AllGo strict) (sym same ∙ stop.all_are) go in
     true≢false (sym stop.ends ∙ last_goes strict stop.front stop.last all)
 
+-- lists that are the same have the same last item
 pub one_last : {X : Type 0} (xs ys : List X) (a b : X) → xs ++ a ∷ [] ≡ ys ++ b ∷ [] → a ≡ b
 one_last [] [] a b e = cc
 one_last [] (y ∷ ys) a b e = absurd (omega (arith, ap length e, length-append ys (b ∷ [])))
@@ -188,6 +200,7 @@ pub record OneReading (m n : Moment) (one other : Option (List Moment)) : Type 0
   pub one_is : one ≡ Some rest
   pub other_is : other ≡ Some rest
 
+-- a clock that tells the same gives the same reading, and then tells the same
 pub one_reading : (told : List Moment) (one other : Option (List Moment)) (m n : Moment) →
     TakesReading (Some told) one m → TakesReading (Some told) other n → OneReading m n one other
 one_reading [] one other m n a b = absurd a
@@ -200,9 +213,9 @@ one_reading (x ∷ y ∷ more) one other m n a b = record {
 }
 
 -- readings of what a clock tells, one after another
-pub same_readings : (ms : List Moment) (told : List Moment) (one other : Option (List Moment)) →
-    TakesReadings (Some told) ms one → TakesReadings (Some told) ms other → (rest : List Moment) × (one ≡ Some rest) ×
-    (other ≡ Some rest)
+pub same_readings : (ms : List Moment) (told : List Moment) (one other : Option (List Moment))
+    → TakesReadings (Some told) ms one → TakesReadings (Some told) ms other
+    → (rest : List Moment) × (one ≡ Some rest) × (other ≡ Some rest)
 same_readings [] told one other a b = (told, a, b)
 same_readings (m ∷ ms) told one other a b =
     let r = one_reading told a.0 b.0 m m a.1 b.1 in
@@ -215,6 +228,7 @@ split_answered [] other a c h = (a, refl, h)
 split_answered (k ∷ ks) other a c h = let later = split_answered ks other h.0 c h.2 in
     (later.0, (h.0, h.1, later.1), later.2)
 
+-- calls of which none failed have none that failed before and behind any of them
 pub split_fine : (one other : List Asked) → NoneFailed (one ++ other) → NoneFailed one × NoneFailed other
 split_fine [] other fine = (tt, fine)
 split_fine (k ∷ ks) other fine = let later = split_fine ks other fine.1 in ((fine.0, later.0), later.1)
@@ -237,9 +251,11 @@ more_compared s t x y xs ys event moment came (longer front z rest is a) =
     longer (x ∷ front) z rest (ap (λ (l : List Step). x ∷ l) is) (more_alike s t x y front ys event moment came a)
 
 -- the same step from the same state, with other answers of the shelf
-one_outcome : (e f : Event) (m n : Moment) (r q : Replies) (h g : Bool) (s t : State) (a b c d : ShelfView) → e ≡ f → m ≡ n → s ≡ t →
+one_outcome : (e f : Event) (m n : Moment) (r q : Replies) (h g : Bool) (s t : State) (a b c d : ShelfView) → e ≡ f
+    → m ≡ n → s ≡ t →
     HoldAlike a b → StepTells e m r h s → StepTells f n q g t →
-    HaveAnswered (step e m r h s).calls a c → NoneFailed (step e m r h s).calls → HaveAnswered (step f n q g t).calls b d →
+    HaveAnswered (step e m r h s).calls a c → NoneFailed (step e m r h s).calls
+    → HaveAnswered (step f n q g t).calls b d →
     NoneFailed (step f n q g t).calls →
     step e m r h s ≡ step f n q g t
 one_outcome e f m n r q h g s t a b c d event moment state alike tells tells' had fine had' fine' =
@@ -277,7 +293,8 @@ compare (x ∷ xs) (y ∷ ys) s t told read read' a b c d more other same took t
     let none = split_fine (outcome s x).calls (calls_of (outcome s x).state xs) fine in
     let none' = split_fine (outcome t y).calls (calls_of (outcome t y).state ys) fine' in
     let came : outcome s x ≡ outcome t y =
-    one_outcome x.event y.event x.moment y.moment x.replies y.replies x.changed y.changed s t a b calls.0 calls'.0 e.0 m.same same alike
+    one_outcome x.event y.event x.moment y.moment x.replies y.replies x.changed y.changed s t a b calls.0 calls'.0 e.0
+    m.same same alike
     fit.0.tells fit'.0.tells
     calls.1 none.0 calls'.1 none'.0 in
     let then_alike : HoldAlike calls.0 calls'.0 =

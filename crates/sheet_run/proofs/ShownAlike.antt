@@ -43,11 +43,10 @@ one_closed screens v v' w w' same a b =
     λ i. (kind i, told i)
 
 -- of alike displays of which none failed the closed ones are alike
-pub all_alike : (screens : List Screen) (ds ks fs ds' ks' fs' : List Watched) →
-    Partitions (HasClosed screens) (HasFailed screens) ds ks fs → Partitions (HasClosed screens) (HasFailed screens) ds' ks'
-    fs' →
-    fs ≡ [] → fs' ≡ [] → map shown_on (befores ds) ≡ map shown_on (befores ds') →
-    map shown_on (views_of ks) ≡ map shown_on (views_of ks')
+pub all_alike : (screens : List Screen) (ds ks fs ds' ks' fs' : List Watched)
+    → Partitions (HasClosed screens) (HasFailed screens) ds ks fs
+    → Partitions (HasClosed screens) (HasFailed screens) ds' ks' fs' → fs ≡ [] → fs' ≡ []
+    → map shown_on (befores ds) ≡ map shown_on (befores ds') → map shown_on (views_of ks) ≡ map shown_on (views_of ks')
 all_alike screens ds ks fs ds' ks' fs' pass_none pass_none none none' same = refl
 all_alike screens ds ks fs ds' ks' fs' pass_none (pass_kept had rest) none none' same =
     absurd (omega (arith, ap length same))
@@ -71,7 +70,8 @@ starts_before : (vs : List View) → befores (map (λ v. watched v v) vs) ≡ vs
 starts_before [] = refl
 starts_before (v ∷ vs) = ap (λ (l : List View). v ∷ l) (starts_before vs)
 
-pass_before : {Kept Failing : View → View → Type 0} (ds ks fs : List Watched) → Partitions Kept Failing ds ks fs → fs ≡ [] →
+pass_before : {Kept Failing : View → View → Type 0} (ds ks fs : List Watched)
+    → Partitions Kept Failing ds ks fs → fs ≡ [] →
     befores ks ≡ befores ds
 pass_before ds ks fs pass_none none = refl
 pass_before ds ks fs (pass_kept {d} had rest) none = ap (λ (l : List View). d.before ∷ l) (pass_before _ _ _ rest none)

@@ -1,5 +1,5 @@
 -- A run to which nothing is typed, in which nothing fails and memory lasts.
-use Rattle.std.proofs.Common.{◌+◌, List, [], ◌∷◌, ◌++◌, Some, refl}
+use Rattle.std.proofs.Common.{◌+◌, [], ◌∷◌, ◌++◌, Some, refl}
 use Rattle.std.proofs.Common.{arith, inl}
 use Rattle.std.specs.FinMap as map
 use Rattle.commands_file.specs.Calls.{shelf_view}
@@ -8,7 +8,6 @@ use Rattle.outside_world.specs.Causes.{Rose}
 use Rattle.outside_world.specs.Shelf.{on_shelf}
 use Rattle.serial_date.specs.declared.moment.Moment.{Moment}
 use Rattle.work_sheet.proofs.EveryLog.{every_log}
-use Rattle.work_sheet.specs.Doing.{Happened}
 use Rattle.work_sheet.specs.Work.{no_work}
 use Rattle.sheet_run.specs.Displays.{no_screen, none as no_display}
 use Rattle.sheet_run.specs.Opening.{fresh, opening}
@@ -24,10 +23,6 @@ silent first = outside (Some []) 0 (Some (first ∷ [])) (shelf_view (Some (on_s
 
 around : Moment → Surroundings
 around first = surroundings (silent first) (Some []) 0
-
--- what happens at the beginning
-begins : Moment → List Happened
-begins first = (opening fresh first).log ++ []
 
 never_rose : Rose 0 0 → ⊥
 never_rose rose = omega (arith, rose)
@@ -112,6 +107,6 @@ went_well first = record {
 }
 
 -- there are runs that begin alike and go well
-pub such_a_run : (first : Moment) → (before : Surroundings) × (now : Surroundings) × IsRun [] before now 0 × AreAlike
-    before before × WentWell before now 0
+pub such_a_run : (first : Moment) → (before : Surroundings) × (now : Surroundings) × IsRun [] before now 0
+    × AreAlike before before × WentWell before now 0
 such_a_run first = (around first, around first, ends_at_once first, alike_itself first, went_well first)

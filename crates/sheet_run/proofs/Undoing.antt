@@ -1,5 +1,6 @@
 -- As many undos as commands.
-use Rattle.std.proofs.Common.{◌≡◌, ℕ, zero, suc, ◌+◌, ◌≤◌, Bool, true, false, List, [], ◌∷◌, ◌++◌, length, Option, None, Some, refl, ap, sym, subst, ◌∙◌, arith, inr}
+use Rattle.std.proofs.Common.{◌≡◌, ℕ, zero, suc, ◌+◌, ◌≤◌, Bool, true, false, List, [], ◌∷◌, ◌++◌, length, Option, None}
+use Rattle.std.proofs.Common.{Some, refl, ap, sym, subst, ◌∙◌, arith, inr}
 use Rattle.std.proofs.lemmas.Bool.{false≢true}
 use Rattle.std.specs.Prelude.{◌&&◌, if◌then◌else◌, not, take}
 use Rattle.command_desk.specs.Desks.{on_sheet, Desk}
@@ -87,7 +88,8 @@ steps_kept (x ∷ xs) last s b kept g fit forward way rest differs =
     steps_kept xs last (outcome s x).state b kept next fit.1 forward.1 way.1 rest differs
 
 -- in READY outside a macro none runs
-not_runs : (r : Option Running) (s : State) (x : Room) → (is_ready x && not (is_running (record s { running = r }))) ≡ true →
+not_runs : (r : Option Running) (s : State) (x : Room)
+    → (is_ready x && not (is_running (record s { running = r }))) ≡ true →
     r ≡ None
 not_runs None s x rest = refl
 not_runs (Some r) s room.Ready rest = absurd (false≢true rest)
@@ -167,9 +169,11 @@ undo_taken s x rests is =
     let u : State = typed_into key.Undo (afresh s) in
     let none = no_macro s rests.ready in
     ap (λ (e : Event). event_taken e x.replies scene (afresh s)) is
-    ∙ ap (λ (r : Option Running). if takes_key key.Undo r then by_waiting_macro key.Undo x.replies scene (afresh s) else by_key key.Undo x.replies scene (afresh s)) none
+    ∙ ap (λ (r : Option Running). if takes_key key.Undo r then by_waiting_macro key.Undo x.replies scene
+    (afresh s) else by_key key.Undo x.replies scene (afresh s)) none
     ∙ ap (λ (t : Turn). carried t x.replies scene (begun_for t u)) (undo_turn s s.room rests.ready)
-    ∙ ap (λ (r : Option Running). if is_running (record u { running = r }) then quiet u else undone_to s.history.kept scene u) none
+    ∙ ap (λ (r : Option Running). if is_running (record u { running = r }) then quiet u else undone_to s.history.kept
+    scene u) none
 
 undo_back : (s : State) (x : Step) (b : Sheet) (kept : List Sheet) → Rests s → x.event ≡ KeyEvent key.Undo →
     s.history.kept ≡ b ∷ kept → IsBack b kept s (outcome s x)
@@ -229,7 +233,8 @@ kept_long (s ∷ ss) kept n there few =
     omega (arith, kept_long ss (with_kept s kept) (suc n) more (omega (arith, few)))
 
 -- As many undos as commands, at most 20, give back the sheet before the first.
-sheet_back : (s : State) (c : List Step) (cs : List (List Step)) (undos : List Step) → Rests s → AreCommands s (c ∷ cs) →
+sheet_back : (s : State) (c : List Step) (cs : List (List Step)) (undos : List Step) → Rests s
+    → AreCommands s (c ∷ cs) →
     length (c ∷ cs) ≤ 20 → AreUndos undos → length undos ≡ length (c ∷ cs) → GiveBack s (after_all s (c ∷ cs)) undos
 sheet_back s c cs undos rests are few undo as_many =
     let t : State = after_all s (c ∷ cs) in
@@ -240,7 +245,8 @@ sheet_back s c cs undos rests are few undo as_many =
     let most : 0 + length (sheet_of s ∷ ss) ≤ 20 = omega (arith, short) in
     let enough : length undos ≤ length kept =
     omega (arith, long, kept_long (sheet_of s ∷ ss) s.history.kept 0 (omega arith) most) in
-    let back = undos_back undos t kept (all_rest s (c ∷ cs) rests are) undo (commands_kept s (c ∷ cs) rests are) enough in
+    let back =
+    undos_back undos t kept (all_rest s (c ∷ cs) rests are) undo (commands_kept s (c ∷ cs) rests are) enough in
     let first : undone (length undos) kept (sheet_of t) ≡ sheet_of s =
     ap (λ (n : ℕ). undone n kept (sheet_of t)) long ∙ first_back (sheet_of s) ss s.history.kept (sheet_of t) short in
     record {

@@ -5,4 +5,5 @@ use Rattle.sheet_run.proofs.notes.tell_row_count.Goals as goal
 
 pub returns : goal.returns
 returns g c =
-    written_as _ _ _ _ _ _ c.write.result (sym (c.bytes.ensures.bytes ∙ c.number_line-line.ensures ∙ ap (λ (n : ℕ). row_count_note n) c.from.ensures)) c.write.ensures
+    written_as _ _ _ _ _ _ c.write.result (sym (c.bytes.ensures.bytes ∙ c.number_line-line.ensures
+    ∙ ap (λ (n : ℕ). row_count_note n) c.from.ensures)) c.write.ensures

@@ -8,4 +8,5 @@ pub returns : goal.returns
 returns g c =
     told_as _ _ _ _ _ _ _ _ _
     (sym (c.bytes.ensures.bytes ∙ c.stop_line-line.ensures
-    ∙ ap (λ (l : List ℕ). stop_note c.args.steps c.args.at (codes "ended in " ++ l)) c.left_in.ensures.text)) refl c.tell_line.ensures
+    ∙ ap (λ (l : List ℕ). stop_note c.args.steps c.args.at (codes "ended in " ++ l)) c.left_in.ensures.text)) refl
+    c.tell_line.ensures

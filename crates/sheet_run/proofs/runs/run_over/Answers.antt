@@ -11,5 +11,6 @@ returns-in-Ok-clause-ran g c =
 
 pub returns-in-Err-clause-ran : goal.returns-in-Err-clause-ran
 returns-in-Err-clause-ran g c =
-    let is = refused_run c.args.words.now c.in-Err.refused c.refused_text.result.now _ _ _ c.in-Err.ensures.1 c.refused_text.ensures refl c.tell_refused.ensures in
+    let is = refused_run c.args.words.now c.in-Err.refused c.refused_text.result.now _ _ _ c.in-Err.ensures.1
+    c.refused_text.ensures refl c.tell_refused.ensures in
     record { is_run = is; complete = completes c.args.words.now _ _ _ is }

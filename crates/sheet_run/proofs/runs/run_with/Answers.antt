@@ -1,26 +1,34 @@
 use Rattle.std.proofs.Common.{map, refl, ap, ◌∙◌}
 use Rattle.sheet_run.specs.Status.{no_room, no_session}
-use Rattle.sheet_run.proofs.Endings.{broken_run, by_lengths, finish, leaves_unless, loaded_so, nine, only_a_file, opened_is, ran_out, same_failed, unread_run}
+use Rattle.sheet_run.proofs.Endings.{broken_run, by_lengths, finish, leaves_unless, loaded_so, nine, only_a_file}
+use Rattle.sheet_run.proofs.Endings.{opened_is, ran_out, same_failed, unread_run}
 use Rattle.sheet_run.proofs.runs.run_with.Goals as goal
 
 pub returns-then-is_err-clause-ran : goal.returns-then-is_err-clause-ran
 returns-then-is_err-clause-ran g c =
-    nine _ _ _ _ c.tell_memory.ensures.status (no_room (same_failed _ _ _ _ _ _ _ (ap (map _) c.reserve.ensures.items)) c.tell_memory.ensures.tried)
+    nine _ _ _ _ c.tell_memory.ensures.status
+    (no_room (same_failed _ _ _ _ _ _ _ (ap (map _) c.reserve.ensures.items)) c.tell_memory.ensures.tried)
 
 pub tell_start-requires : goal.tell_start-requires
-tell_start-requires g c = only_a_file c.args.options.start c.in-Err-NotRead.field-0 c.in-Err-NotRead.why _ _ c.in-Err-NotRead.field-0-is c.in-Err-NotRead.ensures
+tell_start-requires g c = only_a_file c.args.options.start c.in-Err-NotRead.field-0 c.in-Err-NotRead.why _ _
+    c.in-Err-NotRead.field-0-is c.in-Err-NotRead.ensures
 
 pub returns-in-Err-NotRead-clause-ran : goal.returns-in-Err-NotRead-clause-ran
 returns-in-Err-NotRead-clause-ran g c =
-    unread_run c.args.options c.kind.result c.in-Err-NotRead.field-0 c.in-Err-NotRead.why _ _ _ _ _ _ _ _ _ (g.N.Notes.written c.args.notes.now) (g.N.Notes.written c.tell_start.new.notes)
-    (g.N.Notes.faults c.args.notes.now) (g.N.Notes.faults c.tell_start.new.notes) c.tell_start.result c.in-Err-NotRead.field-0-is
-    c.kind.ensures c.keep_kind.ensures.kept (ap (map _) c.reserve.ensures.items) c.in-Err-NotRead.ensures (λ name is. rw (← c.in-Err-NotRead.why-is) (c.tell_start.ensures name is))
+    unread_run c.args.options c.kind.result c.in-Err-NotRead.field-0 c.in-Err-NotRead.why _ _ _ _ _ _ _ _ _
+    (g.N.Notes.written c.args.notes.now) (g.N.Notes.written c.tell_start.new.notes)
+    (g.N.Notes.faults c.args.notes.now) (g.N.Notes.faults c.tell_start.new.notes) c.tell_start.result
+    c.in-Err-NotRead.field-0-is
+    c.kind.ensures c.keep_kind.ensures.kept (ap (map _) c.reserve.ensures.items) c.in-Err-NotRead.ensures
+    (λ name is. rw (← c.in-Err-NotRead.why-is) (c.tell_start.ensures name is))
 
 pub returns-in-Err-Memory-clause-ran : goal.returns-in-Err-Memory-clause-ran
 returns-in-Err-Memory-clause-ran g c =
     nine _ _ _ _ c.tell_memory-in-Err-Memory.ensures.status
-    (broken_run c.args.options c.kind.result c.in-Err-Memory.field-0 _ _ _ _ _ _ _ _ _ _ _ _ _ c.in-Err-Memory.field-0-is
-    c.kind.ensures c.keep_kind.ensures.kept (ap (map _) c.reserve.ensures.items) c.in-Err-Memory.ensures c.tell_memory-in-Err-Memory.ensures.tried)
+    (broken_run c.args.options c.kind.result c.in-Err-Memory.field-0 _ _ _ _ _ _ _ _ _ _ _ _ _
+    c.in-Err-Memory.field-0-is
+    c.kind.ensures c.keep_kind.ensures.kept (ap (map _) c.reserve.ensures.items) c.in-Err-Memory.ensures
+    c.tell_memory-in-Err-Memory.ensures.tried)
 
 -- the desk's sheet keeps no states
 pub load-requires : goal.load-requires
@@ -32,7 +40,8 @@ returns-in_default-clause-ran g c =
     let read = c.in_default.ensures in
     nine _ _ _ _ c.tell_memory-in_default.ensures.status
     (no_session begun.start read.0
-    (opened_is c.args.options c.kind.result begun.start read.0 _ _ _ _ _ _ _ _ _ _ c.kind.ensures c.keep_kind.ensures.kept (ap (map _) c.reserve.ensures.items) begun.named begun.answered read.1)
+    (opened_is c.args.options c.kind.result begun.start read.0 _ _ _ _ _ _ _ _ _ _ c.kind.ensures
+    c.keep_kind.ensures.kept (ap (map _) c.reserve.ensures.items) begun.named begun.answered read.1)
     c.tell_memory-in_default.ensures.tried)
 
 pub returns-in-NoMemory-clause-ran : goal.returns-in-NoMemory-clause-ran
@@ -40,16 +49,24 @@ returns-in-NoMemory-clause-ran g c =
     let begun = c.in-Ok.ensures in
     let read = c.in-Ok-load.ensures in
     nine _ _ _ _ c.tell_memory-in-NoMemory.ensures.status
-    (ran_out c.args.options c.bounds-bounds.result begun.start read.0 c.in-Ok-load.session c.drive-ending.new.session _ _ _ c.bounds-bounds.ensures
-    (opened_is c.args.options c.kind.result begun.start read.0 _ _ _ _ _ _ _ _ _ _ c.kind.ensures c.keep_kind.ensures.kept (ap (map _) c.reserve.ensures.items) begun.named begun.answered read.1)
-    (loaded_so _ c.in-Ok.desk _ _ begun c.in-Ok-load.session read.0 read.2) c.in-NoMemory.ensures.driven c.tell_memory-in-NoMemory.ensures.tried)
+    (ran_out c.args.options c.bounds-bounds.result begun.start read.0 c.in-Ok-load.session c.drive-ending.new.session _
+    _ _ c.bounds-bounds.ensures
+    (opened_is c.args.options c.kind.result begun.start read.0 _ _ _ _ _ _ _ _ _ _ c.kind.ensures
+    c.keep_kind.ensures.kept (ap (map _) c.reserve.ensures.items) begun.named begun.answered read.1)
+    (loaded_so _ c.in-Ok.desk _ _ begun c.in-Ok-load.session read.0 read.2) c.in-NoMemory.ensures.driven
+    c.tell_memory-in-NoMemory.ensures.tried)
 
 pub returns-clause-ran : goal.returns-clause-ran
 returns-clause-ran g c =
     let begun = c.in-Ok.ensures in
     let read = c.in-Ok-load.ensures in
-    finish c.args.options c.bounds-bounds.result begun.start read.0 c.in-Ok-load.session c.drive-ending.new.session c.drive-ending.result _ _ _ _ _ _ _ _ c.bounds-bounds.ensures
-    (opened_is c.args.options c.kind.result begun.start read.0 _ _ _ _ _ _ _ _ _ _ c.kind.ensures c.keep_kind.ensures.kept (ap (map _) c.reserve.ensures.items) begun.named begun.answered read.1)
+    finish c.args.options c.bounds-bounds.result begun.start read.0 c.in-Ok-load.session c.drive-ending.new.session
+    c.drive-ending.result _ _ _ _ _ _ _ _ c.bounds-bounds.ensures
+    (opened_is c.args.options c.kind.result begun.start read.0 _ _ _ _ _ _ _ _ _ _ c.kind.ensures
+    c.keep_kind.ensures.kept (ap (map _) c.reserve.ensures.items) begun.named begun.answered read.1)
     (loaded_so _ c.in-Ok.desk _ _ begun c.in-Ok-load.session read.0 read.2)
-    (leaves_unless c.drive-ending.result c.in_default-ending.not-NoMemory) c.drive-ending.ensures.driven c.work_on_all.ensures.passed refl
-    (by_lengths _ _ c.args.outside.now.failed.now.items c.work_on_all.new.failed.items c.len-failed_before.result c.len-2.result (c.len-failed_before.ensures ∙ c.args.outside.now.failed.now.ok.0) (c.len-2.ensures ∙ c.work_on_all.new.failed.ok.0)) c.tell.ensures
+    (leaves_unless c.drive-ending.result c.in_default-ending.not-NoMemory) c.drive-ending.ensures.driven
+    c.work_on_all.ensures.passed refl
+    (by_lengths _ _ c.args.outside.now.failed.now.items c.work_on_all.new.failed.items c.len-failed_before.result
+    c.len-2.result (c.len-failed_before.ensures ∙ c.args.outside.now.failed.now.ok.0)
+    (c.len-2.ensures ∙ c.work_on_all.new.failed.ok.0)) c.tell.ensures

@@ -10,6 +10,7 @@ one_name a b is = cc
 
 pub returns : goal.returns
 returns g c = λ name is.
-    subst (λ (n : List ℕ). Tells (file_note n c.args.why) (file_status c.args.why) (g.N.Notes.written c.args.notes.now) (g.N.Notes.written c.tell_unread.new.notes)
+    subst (λ (n : List ℕ). Tells (file_note n c.args.why) (file_status c.args.why) (g.N.Notes.written c.args.notes.now)
+    (g.N.Notes.written c.tell_unread.new.notes)
     (g.N.Notes.faults c.args.notes.now) (g.N.Notes.faults c.tell_unread.new.notes) c.tell_unread.result)
     (one_name c.in-File.name name (sym c.in-File.is ∙ is)) c.tell_unread.ensures
