@@ -1,10 +1,10 @@
-pub mod Again
+pub mod FormulasRead
 pub mod Arguments
-pub mod Ends
+pub mod CutTexts
 pub mod FunctionsRead
 pub mod Grows
 pub mod Lexing
-pub mod Leaves
+pub mod LiteralsRead
 pub mod Outputs
 pub mod Calls
 pub mod Cuts

@@ -6,9 +6,9 @@ use Rattle.std.proofs.lemmas.Bool.{and_parts}
 use Rattle.formula_tree.specs.Shape.{code_size, every, is_fine}
 use Rattle.formula_text.specs.Printed.{printed, text_of}
 use Rattle.formula_text.specs.Texts.{Spells}
-use Rattle.formula_text.proofs.Again.{spelled}
+use Rattle.formula_text.proofs.FormulasRead.{spelled}
 use Rattle.formula_text.proofs.Spelling.{reads}
-use Rattle.formula_text.proofs.Ends.{printed_line, printed_whole}
+use Rattle.formula_text.proofs.CutTexts.{printed_line, printed_whole}
 use Rattle.formula_text.proofs.printing.print.Goals as goal
 
 pub returns-then-out-clause-line : goal.returns-then-out-clause-line

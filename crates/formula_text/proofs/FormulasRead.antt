@@ -30,7 +30,7 @@ use Rattle.formula_text.specs.Tokens.{opening, tokens}
 use Rattle.formula_text.proofs.Cuts.{part_cut, IsPart, Starts, Stops}
 use Rattle.formula_text.proofs.FunctionsRead.{function_part, kind_of, some_taken}
 use Rattle.formula_text.proofs.Grows.{after-after}
-use Rattle.formula_text.proofs.Leaves.{number_part, text_part}
+use Rattle.formula_text.proofs.LiteralsRead.{number_part, text_part}
 use Rattle.formula_text.proofs.PlacesRead.{cell_part, span_part}
 use Rattle.formula_text.proofs.SignsRead.{close_cut, comma_cut, minus_read, not_read, op_read, op_stops, open_cut}
 use Rattle.formula_text.proofs.SignsRead.{plus_read}
