@@ -196,8 +196,7 @@ mutual
       → every is_called t ≡ true → Bounded t
   bounded (num v) p w c = record {
     fine = (and_parts (not_negative v) true p).0;
-    sized =
-        omega (arith, three_or_nine (is_short v));
+    sized = omega (arith, three_or_nine (is_short v));
     shallow = omega arith;
   }
   bounded (str t) p w c =
@@ -219,16 +218,14 @@ mutual
   bounded (neg a) p w c =
       let r = bounded a p (and_parts (is_bracketed (neg a)) (every is_bracketed a) w).1 c in
       record {
-        fine = and_from _ _ (and_from _ _ (and_parts (is_bracketed (neg a)) (every is_bracketed a) w).0 refl)
-            r.fine;
+        fine = and_from _ _ (and_from _ _ (and_parts (is_bracketed (neg a)) (every is_bracketed a) w).0 refl) r.fine;
         sized = omega (arith, r.sized);
         shallow = omega (arith, r.shallow);
       }
   bounded (not a) p w c =
       let r = bounded a p (and_parts (is_bracketed (not a)) (every is_bracketed a) w).1 c in
       record {
-        fine = and_from _ _ (and_from _ _ (and_parts (is_bracketed (not a)) (every is_bracketed a) w).0 refl)
-            r.fine;
+        fine = and_from _ _ (and_from _ _ (and_parts (is_bracketed (not a)) (every is_bracketed a) w).0 refl) r.fine;
         sized = omega (arith, r.sized);
         shallow = omega (arith, r.shallow);
       }

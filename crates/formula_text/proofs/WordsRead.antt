@@ -60,8 +60,7 @@ reference_back r cell inside h =
     let small = low (number_of r.col) (number_of r.row) 256 8192 h in
     λ i. record {
       col = axis_back r.col cell.col 256 inside.1 small.0 i;
-      row =
-          axis_back r.row cell.row 8192 inside.0 small.1 i;
+      row = axis_back r.row cell.row 8192 inside.0 small.1 i;
     }
 
 -- where a reference leads is in the sheet

@@ -53,8 +53,7 @@ module _ (g h : Grid) (cells : List Place) (written changed given : Place → Bo
           | inl t ↦ absurd (true≢false (sym (gives c t) ∙ f))
           | inr p ↦ elim p.way [
             | inl a ↦ record {
-              formula = formula_after c f ∙ sym (formula_same c)
-                  ∙ p.formula;
+              formula = formula_after c f ∙ sym (formula_same c) ∙ p.formula;
               why = inr (inl ((same c).1 a));
             }
             | inr q ↦
@@ -84,8 +83,7 @@ module _ (g h : Grid) (cells : List Place) (written changed given : Place → Bo
               let o = to_old g h written changed sub beside n m q.2 q.1 f in
               (w c).1 (inr (inr (record {
                 formula = formula_before f d.formula;
-                way =
-                    inr (record { cell = o.0; among = (same o.0).0 o.1; reached = o.2 });
+                way = inr (record { cell = o.0; among = (same o.0).0 o.1; reached = o.2 });
               })))
         ]
       ]

@@ -188,7 +188,6 @@ reordered_did a b order n other sheet dirty distinct history =
   where
     by : Bool → Done
     by t = if t then quiet (of_worksheet a) else record {
-      sheet =
-          record (of_worksheet a) { settings = record a.settings { order = order } };
+      sheet = record (of_worksheet a) { settings = record a.settings { order = order } };
       log = all_dirty a.grid ∷ [];
     }

@@ -40,8 +40,7 @@ one_mark cells g w v w' v' same p q =
     record {
       dirty = dirty;
       long = as_long w'.dirty v'.dirty p.distinct q.distinct dirty;
-      count = p.count ∙ same.count
-          ∙ sym q.count;
+      count = p.count ∙ same.count ∙ sym q.count;
     }
 
 after_same : (o : Order) (g : Grid) (old before new now : Place → Bool) → ((c : Place) → old c ≡ before c)
@@ -89,8 +88,7 @@ one_all g w v w' v' same p q =
     record {
       dirty = dirty;
       long = as_long w'.dirty v'.dirty p.distinct q.distinct dirty;
-      count = p.count ∙ same.count
-          ∙ sym q.count;
+      count = p.count ∙ same.count ∙ sym q.count;
     }
 
 one_thing : (h : Happened) (w v w' v' : Work) → IsSameWork w v → Works h w w' → Works h v v' → IsSameWork w' v'

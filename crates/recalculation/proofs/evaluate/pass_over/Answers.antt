@@ -20,8 +20,7 @@ loop-cell-init g c = record {
   values = refl;
   formulas = λ _. refl;
   sound = λ d s. s;
-  contents =
-      same_itself c.args.store.now;
+  contents = same_itself c.args.store.now;
   outside = outside_itself (has same_place c.args.cells.now) c.args.store.now;
   kept = c.new-kept.ensures (value_at c.args.store.now);
   count = refl;

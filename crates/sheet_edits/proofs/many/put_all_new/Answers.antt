@@ -29,8 +29,7 @@ loop-cell-preserved c =
     record {
       are_grown = c.loop-cell.invariant.grown;
       are_put = c.loop-cell.invariant.put;
-      have_room =
-          c.loop-cell.invariant.room;
+      have_room = c.loop-cell.invariant.room;
     } in
     let next : Putting given old (take (c.loop-cell.cell-index + 1) c.args.cells.now) c.if-is_new.grown
     c.if-is_new.changes c.if-is_new.store = elim c.if-is_new.branch [

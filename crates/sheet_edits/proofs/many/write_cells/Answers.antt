@@ -21,8 +21,7 @@ returns-in-Ok-clause-store c =
     (record {
       cells = c.put_all.ensures.cells;
       widths = c.put_all.ensures.widths;
-      hidden =
-          c.put_all.ensures.hidden;
+      hidden = c.put_all.ensures.hidden;
     }) in
     put_whole c.args.cells.now c.args.changes left c.args.store.now mid c.put_all.new.store c.requires.given
     c.in-Ok.ensures.put put
@@ -39,8 +38,7 @@ returns-in-Ok-clause-dirty c =
     (record {
       cells = c.put_all.ensures.cells;
       widths = c.put_all.ensures.widths;
-      hidden =
-          c.put_all.ensures.hidden;
+      hidden = c.put_all.ensures.hidden;
     }) in
     dirtied_all changes c.args.store.now c.put_all.new.store (put_whole cells changes left c.args.store.now mid
     c.put_all.new.store c.requires.given c.in-Ok.ensures.put put).cells cells c.requires.given c.args.graph.now

@@ -20,8 +20,7 @@ loop-col-preserved c =
     c.put_column.ensures
     ∙ ap (λ (g : Grid). record g {
       widths = set g.widths at (get_or from.widths at 0);
-      hidden =
-          set g.hidden at (get_or from.hidden at false);
+      hidden = set g.hidden at (get_or from.hidden at false);
     }) c.loop-col.invariant
     ∙ (λ i. record into { widths = widths i; hidden = hidden i })
 
