@@ -12,9 +12,6 @@ UNMENDED = {
     "data_query": "push_records extracted_cells fields_extracted extract records_of",
     "formula_eval": "row_holds chosen listed_value call_value binary_value items_of_records over_column by_column",
     "macro_text": "word_outcome",
-    "recalculation": "evaluate_next further first_pass recalc recalc_in_order recalc_walked recalc_natural"
-                      " recalc_plain recalc_span",
-    "sheet_edits": "write_evaluated",
     "sheet_run": "run",
 }
 HEAD = re.compile(r"^ *(?:pub(?:\([a-z]+\))? )?(?:(?:const|unsafe|ghost) )*fn (\w+)", re.MULTILINE)

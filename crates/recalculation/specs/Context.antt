@@ -15,6 +15,7 @@ use Rattle.sheet_store.specs.State.{CellState}
 use Rattle.formula_eval.specs.Outlook.{Outlook, Sight}
 use Rattle.formula_eval.specs.Scenes.{outlook_of}
 use Rattle.formula_eval.specs.declared.look.Scene.{Scene}
+use Rattle.recalculation.specs.declared.context.ContextRef.{ContextRef}
 
 -- what formulas look at beside the cells and the columns
 pub record Context : Type 0 where
@@ -25,6 +26,10 @@ pub record Context : Type 0 where
 -- names, settings and what the outside tells, as formulas look at them together
 abbrev pub context_of : NameMap → Choices → Scene → Context
 context_of names settings scene = record { names = names; settings = settings; scene = scene }
+
+-- what a borrowed context tells
+abbrev pub seen_context : ContextRef → Context
+seen_context x = context_of x.names.now x.settings.now x.scene.now
 
 -- the value of what is held of a cell, blank where nothing is
 abbrev pub value_of : Option CellState → Value

@@ -3,36 +3,33 @@ ghost use Rattle.std.specs.Prelude.{◌≡◌, ◌*◌, Bool, length, OnErr, OnO
 ghost use Rattle.grid_address.specs.Place.{same_place, Place};
 ghost use Rattle.cell_maps.specs.Sets.{has};
 ghost use Rattle.formula_eval.specs.inner.Kept.{IsKept};
-ghost use Rattle.recalculation.specs.Context.{context_of, value_at};
+ghost use Rattle.recalculation.specs.Context.{seen_context, value_at};
 ghost use Rattle.recalculation.specs.Passes.{evaluated, pass, passes, raised_by, IsSound, SameContents, SameOutside};
 ghost use Rattle.recalculation.specs.Reading.{is_formula_at};
 
 use crate::View;
-use formula_eval::{Kept, Means, Scene};
+use crate::context::ContextRef;
+use formula_eval::{Kept, Means};
 use formula_tree::ContentRef;
 use grid_address::Cell;
 use lics_text::Memory;
-use range_names::Names;
-use sheet_store::{Settings, Store};
+use sheet_store::Store;
 
 /// Gives a cell the meaning of its formula over the values as they stand. Where there is no memory the store is as it
 /// was.
 pub fn evaluate_at<E: Means>(
     store: &mut Store,
     cell: Cell,
-    names: &Names,
-    settings: &Settings,
-    scene: &Scene,
+    context: &ContextRef<'_>,
     tally: &mut E,
 ) -> Result<(), Memory>
     requires { is_formula_at store.old cell ≡ true }
-    ensures value { OnOk result
-        (store.new ≡ evaluated E.meaning (context_of names.now settings.now scene.entry.now) store.old cell) }
+    ensures value { OnOk result (store.new ≡ evaluated E.meaning (seen_context context.now) store.old cell) }
     ensures err { OnErr result (store.new ≡ store.old) }
     ensures count { OnOk result (E.count tally.new ≡ raised_by 1 (E.count tally.old)) }
 {
     let mut kept = Kept::new();
-    evaluate_next(store, cell, names, settings, scene, tally, &mut kept)
+    evaluate_next(store, cell, context, tally, &mut kept)
 }
 
 // The same behind other evaluations, with what they kept of the values as they stand.
@@ -40,16 +37,13 @@ pub fn evaluate_at<E: Means>(
 fn evaluate_next<E: Means>(
     store: &mut Store,
     cell: Cell,
-    names: &Names,
-    settings: &Settings,
-    scene: &Scene,
+    context: &ContextRef<'_>,
     tally: &mut E,
     kept: &mut Kept,
 ) -> Result<(), Memory>
     requires formula { is_formula_at store.old cell ≡ true }
     requires kept { IsKept kept.old (value_at store.old) }
-    ensures value { OnOk result
-        (store.new ≡ evaluated E.meaning (context_of names.now settings.now scene.entry.now) store.old cell) }
+    ensures value { OnOk result (store.new ≡ evaluated E.meaning (seen_context context.now) store.old cell) }
     ensures err { OnErr result (store.new ≡ store.old) }
     ensures count { OnOk result (E.count tally.new ≡ raised_by 1 (E.count tally.old)) }
     ensures kept { OnOk result (IsKept kept.new (value_at store.new)) }
@@ -62,10 +56,10 @@ fn evaluate_next<E: Means>(
     };
     let view = View {
         store,
-        names,
-        settings,
+        names: context.names,
+        settings: context.settings,
     };
-    let value = tally.evaluate(formula, cell, &view, scene, kept)?;
+    let value = tally.evaluate(formula, cell, &view, context.scene, kept)?;
     store.set_value(cell, value);
     kept.forget(cell);
     Ok(())
@@ -75,24 +69,20 @@ fn evaluate_next<E: Means>(
 pub fn pass_over<E: Means>(
     store: &mut Store,
     cells: &[Cell],
-    names: &Names,
-    settings: &Settings,
-    scene: &Scene,
+    context: &ContextRef<'_>,
     tally: &mut E,
 ) -> Result<(), Memory>
     requires { (c : Place) → has same_place cells.now c ≡ true → is_formula_at store.old c ≡ true }
-    ensures values { OnOk result
-        (store.new ≡ pass E.meaning (context_of names.now settings.now scene.entry.now) cells.now store.old) }
+    ensures values { OnOk result (store.new ≡ pass E.meaning (seen_context context.now) cells.now store.old) }
     ensures count { OnOk result (E.count tally.new ≡ raised_by (length cells.now) (E.count tally.old)) }
-    ensures sound { (dirty : Place → Bool) →
-        IsSound E.meaning (context_of names.now settings.now scene.entry.now) store.old dirty
-        → IsSound E.meaning (context_of names.now settings.now scene.entry.now) store.new dirty }
+    ensures sound { (dirty : Place → Bool) → IsSound E.meaning (seen_context context.now) store.old dirty
+        → IsSound E.meaning (seen_context context.now) store.new dirty }
     ensures contents { SameContents store.old store.new }
     ensures outside { SameOutside (has same_place cells.now) store.old store.new }
 {
     let mut kept = Kept::new();
     for cell in cells {
-        evaluate_next(store, *cell, names, settings, scene, tally, &mut kept)?;
+        evaluate_next(store, *cell, context, tally, &mut kept)?;
     }
     Ok(())
 }
@@ -102,23 +92,19 @@ pub fn further<E: Means>(
     store: &mut Store,
     cells: &[Cell],
     times: u8,
-    names: &Names,
-    settings: &Settings,
-    scene: &Scene,
+    context: &ContextRef<'_>,
     tally: &mut E,
 ) -> Result<(), Memory>
     requires { (c : Place) → has same_place cells.now c ≡ true → is_formula_at store.old c ≡ true }
-    ensures values { OnOk result
-        (store.new ≡ passes E.meaning (context_of names.now settings.now scene.entry.now) times cells.now store.old) }
+    ensures values { OnOk result (store.new ≡ passes E.meaning (seen_context context.now) times cells.now store.old) }
     ensures count { OnOk result (E.count tally.new ≡ raised_by (times * length cells.now) (E.count tally.old)) }
-    ensures sound { (dirty : Place → Bool) →
-        IsSound E.meaning (context_of names.now settings.now scene.entry.now) store.old dirty
-        → IsSound E.meaning (context_of names.now settings.now scene.entry.now) store.new dirty }
+    ensures sound { (dirty : Place → Bool) → IsSound E.meaning (seen_context context.now) store.old dirty
+        → IsSound E.meaning (seen_context context.now) store.new dirty }
     ensures contents { SameContents store.old store.new }
     ensures outside { SameOutside (has same_place cells.now) store.old store.new }
 {
     for _turn in 0..times {
-        pass_over(store, cells, names, settings, scene, tally)?;
+        pass_over(store, cells, context, tally)?;
     }
     Ok(())
 }

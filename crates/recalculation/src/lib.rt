@@ -3,6 +3,7 @@
 
 mod cells;
 mod columns;
+mod context;
 mod evaluate;
 mod laws;
 mod leave;
@@ -13,6 +14,7 @@ mod view;
 mod whole;
 
 pub use cells::{content_of, format_of, value_of, width_of};
+pub use context::ContextRef;
 pub use evaluate::evaluate_at;
 pub use laws::{any_order_serves, edit_keeps_sound, recalculation_is_cut};
 pub use recalculation::{Circ, recalc};

@@ -8,24 +8,23 @@ ghost use Rattle.cell_maps.specs.Sets.{has};
 ghost use Rattle.natural_order.specs.Walk.{IsSplit, Precedes};
 ghost use Rattle.sheet_store.specs.Grid.{formulas};
 ghost use Rattle.sheet_store.specs.declared.order.Order.TheVariants.{Natural};
-ghost use Rattle.recalculation.specs.Context.{context_of};
+ghost use Rattle.recalculation.specs.Context.{seen_context};
 ghost use Rattle.recalculation.specs.InOrder.{GoesInOrder};
-ghost use Rattle.recalculation.specs.Passes as whole;
 ghost use Rattle.recalculation.specs.Passes.{pass, passes, raised_by, IsDirtyAfter, IsPlain, IsRight, IsSound, IsWhatStays, SameContents, SameOutside};
 ghost use Rattle.recalculation.specs.Reading.{is_formula_at, natural_order, order_in, plain_order, pre, Matches, StaysDirty};
 
 use crate::columns::by_columns;
+use crate::context::ContextRef;
 use crate::evaluate::{further, pass_over};
 use crate::leave::leave;
 use crate::reads::{DirtyReads, add_kept};
 use cell_maps::CellSet;
 use depend_graph::Graph;
-use formula_eval::{Means, Scene};
+use formula_eval::Means;
 use grid_address::Cell;
 use lics_text::Memory;
 use natural_order::{FormulaOrder, order_of};
-use range_names::Names;
-use sheet_store::{Order, Settings, Store};
+use sheet_store::{Order, Store};
 use std::alloc::Global;
 
 /// Whether a circle is told after a recalculation.
@@ -114,16 +113,12 @@ fn first_pass<E: Means>(
     store: &mut Store,
     graph: &Graph,
     dirty: &CellSet,
-    names: &Names,
-    settings: &Settings,
-    scene: &Scene,
+    context: &ContextRef<'_>,
     tally: &mut E,
 ) -> Result<FormulaOrder, Memory>
     requires matches { Matches graph.now store.old }
-    requires sound { IsSound E.meaning (context_of names.now settings.now scene.now) store.old
-        (has same_place dirty.now.keys) }
-    ensures values { OnOk result
-        (store.new ≡ pass E.meaning (context_of names.now settings.now scene.entry.now)
+    requires sound { IsSound E.meaning (seen_context context.now) store.old (has same_place dirty.now.keys) }
+    ensures values { OnOk result (store.new ≡ pass E.meaning (seen_context context.now)
         (natural_order store.old).done store.old) }
     ensures done { IfOk result
         (λ o. o.done.keys ≡ filter (has same_place dirty.now.keys) (natural_order store.old).done) }
@@ -133,15 +128,14 @@ fn first_pass<E: Means>(
         (λ o. Precedes same_place (λ c. filter (has same_place dirty.now.keys) (pre store.old c)) [] o.done.keys) }
     ensures same { IfOk result (λ o. (c : Place) → has same_place o.done.keys c ≡ has same_place dirty.now.keys c) }
     ensures count { OnOk result (E.count tally.new ≡ raised_by (length dirty.now.keys) (E.count tally.old)) }
-    ensures sound { IsSound E.meaning (context_of names.now settings.now scene.entry.now) store.new
-        (has same_place dirty.now.keys) }
+    ensures sound { IsSound E.meaning (seen_context context.now) store.new (has same_place dirty.now.keys) }
     ensures contents { SameContents store.old store.new }
     ensures outside { SameOutside (has same_place dirty.now.keys) store.old store.new }
 {
     // `len` is called for its clause that no cell is in the set twice.
     let _len = dirty.len();
     let order = dirty_order(store, graph, dirty)?;
-    pass_over(store, order.done.as_slice(), names, settings, scene, tally)?;
+    pass_over(store, order.done.as_slice(), context, tally)?;
     Ok(order)
 }
 
@@ -174,29 +168,24 @@ fn recalc_in_order<E: Means>(
     store: &mut Store,
     dirty: &mut CellSet,
     times: u8,
-    names: &Names,
-    settings: &Settings,
-    scene: &Scene,
+    context: &ContextRef<'_>,
     tally: &mut E,
 ) -> Result<(), Memory>
-    requires sound { IsSound E.meaning (context_of names.now settings.now scene.now)
-        store.old (has same_place dirty.old.keys) }
+    requires sound { IsSound E.meaning (seen_context context.now) store.old (has same_place dirty.old.keys) }
     requires order { GoesInOrder store.old dirty.old.keys }
     requires times { 1 ≤ times }
     ensures values { OnOk result (store.new
-        ≡ passes E.meaning (context_of names.now settings.now scene.entry.now) times (natural_order store.old).done
-        store.old) }
+        ≡ passes E.meaning (seen_context context.now) times (natural_order store.old).done store.old) }
     ensures circular { (natural_order store.old).circular ≡ false }
     ensures stays { OnOk result (IsWhatStays store.new (has same_place dirty.new.keys)) }
-    ensures sound { IsSound E.meaning (context_of names.now settings.now scene.entry.now)
-        store.new (has same_place dirty.new.keys) }
+    ensures sound { IsSound E.meaning (seen_context context.now) store.new (has same_place dirty.new.keys) }
     ensures contents { SameContents store.old store.new }
     ensures outside { SameOutside (has same_place dirty.old.keys) store.old store.new }
     ensures err { OnErr result (dirty.new.keys ≡ dirty.old.keys) }
     ensures none { OnOk result (dirty.new.keys ≡ []) }
     ensures count { OnOk result (E.count tally.new ≡ raised_by (length dirty.old.keys) (E.count tally.old)) }
 {
-    pass_over(store, dirty.as_slice(), names, settings, scene, tally)?;
+    pass_over(store, dirty.as_slice(), context, tally)?;
     dirty.truncate(0);
     Ok(())
 }
@@ -207,40 +196,27 @@ fn recalc_walked<E: Means>(
     graph: &Graph,
     dirty: &mut CellSet,
     times: u8,
-    names: &Names,
-    settings: &Settings,
-    scene: &Scene,
+    context: &ContextRef<'_>,
     tally: &mut E,
 ) -> Result<bool, Memory>
     requires matches { Matches graph.now store.old }
-    requires sound { IsSound E.meaning (context_of names.now settings.now scene.now)
-        store.old (has same_place dirty.old.keys) }
+    requires sound { IsSound E.meaning (seen_context context.now) store.old (has same_place dirty.old.keys) }
     requires times { 1 ≤ times }
     ensures values { OnOk result (store.new
-        ≡ passes E.meaning (context_of names.now settings.now scene.entry.now) times (natural_order store.old).done
-        store.old) }
+        ≡ passes E.meaning (seen_context context.now) times (natural_order store.old).done store.old) }
     ensures circular { IfOk result (λ c. c ≡ (natural_order store.old).circular) }
     ensures stays { OnOk result (IsWhatStays store.new (has same_place dirty.new.keys)) }
-    ensures sound { IsSound E.meaning (context_of names.now settings.now scene.entry.now)
-        store.new (has same_place dirty.new.keys) }
+    ensures sound { IsSound E.meaning (seen_context context.now) store.new (has same_place dirty.new.keys) }
     ensures contents { SameContents store.old store.new }
     ensures outside { SameOutside (has same_place dirty.old.keys) store.old store.new }
     ensures err { OnErr result (dirty.new.keys ≡ dirty.old.keys) }
     ensures count { OnOk result (E.count tally.new
         ≡ raised_by (length dirty.old.keys + (times - 1) * length dirty.new.keys) (E.count tally.old)) }
 {
-    let order = first_pass(store, graph, dirty, names, settings, scene, tally)?;
+    let order = first_pass(store, graph, dirty, context, tally)?;
     let circular = order.circular;
     let (rest, again) = rest_of(store, graph, order)?;
-    further(
-        store,
-        again.as_slice(),
-        times - 1,
-        names,
-        settings,
-        scene,
-        tally,
-    )?;
+    further(store, again.as_slice(), times - 1, context, tally)?;
     *dirty = rest;
     Ok(circular)
 }
@@ -251,22 +227,17 @@ fn recalc_natural<E: Means>(
     graph: &Graph,
     dirty: &mut CellSet,
     times: u8,
-    names: &Names,
-    settings: &Settings,
-    scene: &Scene,
+    context: &ContextRef<'_>,
     tally: &mut E,
 ) -> Result<bool, Memory>
     requires matches { Matches graph.now store.old }
-    requires sound { IsSound E.meaning (context_of names.now settings.now scene.now)
-        store.old (has same_place dirty.old.keys) }
+    requires sound { IsSound E.meaning (seen_context context.now) store.old (has same_place dirty.old.keys) }
     requires times { 1 ≤ times }
     ensures values { OnOk result (store.new
-        ≡ passes E.meaning (context_of names.now settings.now scene.entry.now) times (natural_order store.old).done
-        store.old) }
+        ≡ passes E.meaning (seen_context context.now) times (natural_order store.old).done store.old) }
     ensures circular { IfOk result (λ c. c ≡ (natural_order store.old).circular) }
     ensures stays { OnOk result (IsWhatStays store.new (has same_place dirty.new.keys)) }
-    ensures sound { IsSound E.meaning (context_of names.now settings.now scene.entry.now)
-        store.new (has same_place dirty.new.keys) }
+    ensures sound { IsSound E.meaning (seen_context context.now) store.new (has same_place dirty.new.keys) }
     ensures contents { SameContents store.old store.new }
     ensures outside { SameOutside (has same_place dirty.old.keys) store.old store.new }
     ensures err { OnErr result (dirty.new.keys ≡ dirty.old.keys) }
@@ -275,10 +246,10 @@ fn recalc_natural<E: Means>(
 {
     let is_in_order = graph.is_in_order(dirty.as_slice())?;
     if is_in_order {
-        recalc_in_order(store, dirty, times, names, settings, scene, tally)?;
+        recalc_in_order(store, dirty, times, context, tally)?;
         return Ok(false);
     }
-    let circular = recalc_walked(store, graph, dirty, times, names, settings, scene, tally)?;
+    let circular = recalc_walked(store, graph, dirty, times, context, tally)?;
     Ok(circular)
 }
 
@@ -288,19 +259,14 @@ fn recalc_plain<E: Means>(
     dirty: &CellSet,
     is_by_column: bool,
     times: u8,
-    names: &Names,
-    settings: &Settings,
-    scene: &Scene,
+    context: &ContextRef<'_>,
     tally: &mut E,
 ) -> Result<Circ, Memory>
-    requires sound { IsSound E.meaning (context_of names.now settings.now scene.now) store.old
-        (has same_place dirty.now.keys) }
-    ensures values { OnOk result
-        (store.new ≡ passes E.meaning (context_of names.now settings.now scene.entry.now) times
+    requires sound { IsSound E.meaning (seen_context context.now) store.old (has same_place dirty.now.keys) }
+    ensures values { OnOk result (store.new ≡ passes E.meaning (seen_context context.now) times
         (plain_order is_by_column store.old) store.old) }
     ensures circular { IfOk result (λ c. c.0 ≡ false) }
-    ensures sound { IsSound E.meaning (context_of names.now settings.now scene.entry.now) store.new
-        (has same_place dirty.now.keys) }
+    ensures sound { IsSound E.meaning (seen_context context.now) store.new (has same_place dirty.now.keys) }
     ensures contents { SameContents store.old store.new }
     ensures outside { SameOutside (has same_place dirty.now.keys) store.old store.new }
     ensures count { OnOk result (E.count tally.new ≡ raised_by (times * length dirty.now.keys) (E.count tally.old)) }
@@ -308,15 +274,7 @@ fn recalc_plain<E: Means>(
     // `len` is called for its clause that no cell is in the set twice.
     let _len = dirty.len();
     let cells = plain_dirty(store, dirty, is_by_column)?;
-    further(
-        store,
-        cells.as_slice(),
-        times,
-        names,
-        settings,
-        scene,
-        tally,
-    )?;
+    further(store, cells.as_slice(), times, context, tally)?;
     Ok(Circ(false))
 }
 
@@ -330,49 +288,42 @@ pub fn recalc<E: Means>(
     store: &mut Store,
     graph: &Graph,
     dirty: &mut CellSet,
-    passes: u8,
-    names: &Names,
-    settings: &Settings,
-    scene: &Scene,
+    context: &ContextRef<'_>,
     tally: &mut E,
 ) -> Result<Circ, Memory>
     requires matches { Matches graph.now store.old }
-    requires sound { IsSound E.meaning (context_of names.now settings.now scene.now) store.old
-        (has same_place dirty.old.keys) }
-    requires passes { passes ≡ settings.now.passes }
-    ensures values { OnOk result
-        (store.new ≡ whole.passes E.meaning (context_of names.now settings.now scene.entry.now) passes
-        (order_in settings.now.order store.old).done store.old) }
-    ensures circular { IfOk result (λ c. c.0 ≡ (order_in settings.now.order store.old).circular) }
-    ensures dirty { OnOk result
-        (IsDirtyAfter settings.now.order store.new (has same_place dirty.old.keys) (has same_place dirty.new.keys)) }
-    ensures sound { IsSound E.meaning (context_of names.now settings.now scene.entry.now) store.new
-        (has same_place dirty.new.keys) }
+    requires sound { IsSound E.meaning (seen_context context.now) store.old (has same_place dirty.old.keys) }
+    ensures values { let settings = context.now.settings.now in
+        OnOk result (store.new ≡ passes E.meaning (seen_context context.now) settings.passes
+        (order_in settings.order store.old).done store.old) }
+    ensures circular { IfOk result (λ c. c.0 ≡ (order_in context.now.settings.now.order store.old).circular) }
+    ensures dirty { let order = context.now.settings.now.order in
+        OnOk result (IsDirtyAfter order store.new (has same_place dirty.old.keys) (has same_place dirty.new.keys)) }
+    ensures sound { IsSound E.meaning (seen_context context.now) store.new (has same_place dirty.new.keys) }
     ensures contents { SameContents store.old store.new }
     ensures outside { SameOutside (has same_place dirty.old.keys) store.old store.new }
     ensures matches { Matches graph.now store.new }
     ensures err { OnErr result (dirty.new.keys ≡ dirty.old.keys) }
-    ensures count { OnOk result
-        (E.count tally.new ≡ raised_by (length dirty.old.keys + (passes - 1) * length dirty.new.keys)
+    ensures count { let further = context.now.settings.now.passes - 1 in
+        OnOk result (E.count tally.new ≡ raised_by (length dirty.old.keys + further * length dirty.new.keys)
         (E.count tally.old)) }
-    ensures right { OnOk result
-        (settings.now.order ≡ Natural → IsPlain store.old →
-        IsRight E.meaning (context_of names.now settings.now scene.entry.now) store.new) }
+    ensures right { OnOk result (context.now.settings.now.order ≡ Natural → IsPlain store.old →
+        IsRight E.meaning (seen_context context.now) store.new) }
 {
+    let settings = context.settings;
     settings.are_within();
+    let passes = settings.passes;
     match settings.order {
         Order::Natural => {
-            let circular = recalc_natural(
-                store, graph, dirty, passes, names, settings, scene, tally,
-            )?;
+            let circular = recalc_natural(store, graph, dirty, passes, context, tally)?;
             Ok(Circ(circular))
         }
         Order::Columnwise => {
-            let circ = recalc_plain(store, dirty, true, passes, names, settings, scene, tally)?;
+            let circ = recalc_plain(store, dirty, true, passes, context, tally)?;
             Ok(circ)
         }
         Order::Rowwise => {
-            let circ = recalc_plain(store, dirty, false, passes, names, settings, scene, tally)?;
+            let circ = recalc_plain(store, dirty, false, passes, context, tally)?;
             Ok(circ)
         }
     }

@@ -4,19 +4,19 @@ ghost use Rattle.std.specs.List.{filter};
 ghost use Rattle.grid_address.specs.Place.{same_place, Place};
 ghost use Rattle.cell_maps.specs.Sets.{has};
 ghost use Rattle.sheet_store.specs.Grid.{formulas_within};
-ghost use Rattle.recalculation.specs.Context.{context_of};
+ghost use Rattle.recalculation.specs.Context.{seen_context};
 ghost use Rattle.recalculation.specs.Passes.{pass, raised_by, IsSound, SameContents, SameOutside};
 ghost use Rattle.recalculation.specs.Spans.{span_order};
 
 use crate::columns::by_columns;
+use crate::context::ContextRef;
 use crate::evaluate::pass_over;
 use crate::reads::add_kept;
 use cell_maps::CellSet;
-use formula_eval::{Means, Scene};
+use formula_eval::Means;
 use grid_address::{Cell, Span};
 use lics_text::Memory;
-use range_names::Names;
-use sheet_store::{Settings, Store};
+use sheet_store::Store;
 
 // The dirty formulas of a span, by row and then by column.
 fn dirty_within(store: &Store, dirty: &CellSet, span: Span) -> Result<Vec<Cell>, Memory>
@@ -57,23 +57,19 @@ pub fn recalc_span<E: Means>(
     dirty: &CellSet,
     span: Span,
     is_by_column: bool,
-    names: &Names,
-    settings: &Settings,
-    scene: &Scene,
+    context: &ContextRef<'_>,
     tally: &mut E,
 ) -> Result<(), Memory>
-    requires { let context = context_of names.now settings.now scene.now in
-        IsSound E.meaning context store.old (has same_place dirty.now.keys) }
-    ensures values { let context = context_of names.now settings.now scene.entry.now in
-        OnOk result (store.new ≡ pass E.meaning context (span_order is_by_column span store.old) store.old) }
-    ensures sound { let context = context_of names.now settings.now scene.entry.now in
-        IsSound E.meaning context store.new (has same_place dirty.now.keys) }
+    requires { IsSound E.meaning (seen_context context.now) store.old (has same_place dirty.now.keys) }
+    ensures values { OnOk result (store.new ≡ pass E.meaning (seen_context context.now)
+        (span_order is_by_column span store.old) store.old) }
+    ensures sound { IsSound E.meaning (seen_context context.now) store.new (has same_place dirty.now.keys) }
     ensures contents { SameContents store.old store.new }
     ensures outside { SameOutside (has same_place (formulas_within store.old span)) store.old store.new }
     ensures count { let within = filter (has same_place dirty.now.keys) (formulas_within store.old span) in
         OnOk result (E.count tally.new ≡ raised_by (length within) (E.count tally.old)) }
 {
     let cells = dirty_ordered(store, dirty, span, is_by_column)?;
-    pass_over(store, cells.as_slice(), names, settings, scene, tally)?;
+    pass_over(store, cells.as_slice(), context, tally)?;
     Ok(())
 }

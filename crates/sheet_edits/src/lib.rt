@@ -5,6 +5,7 @@ mod changes;
 mod edit;
 mod line;
 mod many;
+mod parts;
 mod spans;
 mod states;
 mod writes;
@@ -13,6 +14,7 @@ pub use changes::Changes;
 pub use edit::write_cell;
 pub use line::write_evaluated;
 pub use many::{change_cells, write_cells};
+pub use parts::Parts;
 pub use spans::{
     FormatChange, cells_of, copied, erased, first_of, reformatted, refusing, target_of,
 };

@@ -4,22 +4,22 @@ ghost use Rattle.std.specs.FinMap as map;
 ghost use Rattle.std.specs.Option.{ForSome};
 ghost use Rattle.grid_address.specs.Place.{same_place, Place};
 ghost use Rattle.cell_maps.specs.Sets.{has};
-ghost use Rattle.recalculation.specs.Context.{context_of};
+ghost use Rattle.recalculation.specs.Context.{seen_context};
 ghost use Rattle.recalculation.specs.Passes.{evaluated, raised_by};
 ghost use Rattle.recalculation.specs.Reading.{is_formula_at, Matches};
 ghost use Rattle.sheet_store.specs.Grid.{is_formula, is_kept, put_state, IsSound};
 ghost use Rattle.sheet_edits.specs.Edits.{just, AreDirtied};
+ghost use Rattle.sheet_edits.specs.inner.Parts.{IsSame};
 ghost use Rattle.sheet_edits.specs.inner.Undoing.{put_back, IsOldState};
 
 use crate::edit::{prepare, settle};
-use cell_maps::CellSet;
-use depend_graph::{Graph, cut_back};
-use formula_eval::{Means, Scene};
+use crate::parts::Parts;
+use depend_graph::cut_back;
+use formula_eval::Means;
 use grid_address::Cell;
 use lics_text::Memory;
-use range_names::Names;
-use recalculation::evaluate_at;
-use sheet_store::{CellState, Settings, Store};
+use recalculation::{ContextRef, evaluate_at};
+use sheet_store::{CellState, Store};
 
 // A copy of a cell's state.
 fn copy_of(store: &Store, cell: Cell) -> Result<Option<CellState>, Memory>
@@ -51,50 +51,47 @@ fn put_back(store: &mut Store, cell: Cell, old: Option<CellState>)
 /// Writes a formula into a cell and evaluates it over the values as they then stand. Where there is no memory, the
 /// store and the dirty set are as before, and so are the formulas of the graph.
 pub fn write_evaluated<E: Means>(
-    store: &mut Store,
-    graph: &mut Graph,
-    dirty: &mut CellSet,
+    parts: &mut Parts<'_>,
     cell: Cell,
     state: CellState,
-    names: &Names,
-    settings: &Settings,
-    scene: &Scene,
+    context: &ContextRef<'_>,
     tally: &mut E,
 ) -> Result<(), Memory>
     requires state { IsSound state }
     requires formula { is_formula state.content ≡ true }
     requires kept { is_kept state ≡ true }
-    requires matches { Matches graph.old store.old }
-    requires only { (c : Place) → has same_place dirty.old.keys c ≡ true → is_formula_at store.old c ≡ true }
-    ensures store { OnOk result
-        (store.new ≡ evaluated E.meaning (context_of names.now settings.now scene.entry.now)
-        (put_state store.old cell state) cell) }
+    requires matches { Matches parts.old.graph.now parts.old.store.now }
+    requires only { let dirty = parts.old.dirty.now.keys in
+        (c : Place) → has same_place dirty c ≡ true → is_formula_at parts.old.store.now c ≡ true }
+    ensures store { OnOk result (parts.new.store.now
+        ≡ evaluated E.meaning (seen_context context.now) (put_state parts.old.store.now cell state) cell) }
     ensures dirty { OnOk result
-        (AreDirtied (put_state store.old cell state) (has same_place dirty.old.keys) (just cell)
-        (has same_place dirty.new.keys)) }
-    ensures matches { OnOk result (Matches graph.new (put_state store.old cell state)) }
+        (AreDirtied (put_state parts.old.store.now cell state) (has same_place parts.old.dirty.now.keys) (just cell)
+        (has same_place parts.new.dirty.now.keys)) }
+    ensures matches { OnOk result (Matches parts.new.graph.now (put_state parts.old.store.now cell state)) }
     ensures count { OnOk result (E.count tally.new ≡ raised_by 1 (E.count tally.old)) }
-    ensures store_err { OnErr result (store.new ≡ store.old) }
-    ensures dirty_err { OnErr result (dirty.new.keys ≡ dirty.old.keys) }
-    ensures matches_err { OnErr result (Matches graph.new store.old) }
+    ensures store_err { OnErr result (parts.new.store.now ≡ parts.old.store.now) }
+    ensures dirty_err { OnErr result (parts.new.dirty.now.keys ≡ parts.old.dirty.now.keys) }
+    ensures matches_err { OnErr result (Matches parts.new.graph.now parts.old.store.now) }
+    ensures same { IsSame parts.old parts.new }
 {
-    let count = dirty.len();
-    let old = copy_of(store, cell)?;
-    match prepare(store, graph, dirty, cell, state) {
+    let count = parts.dirty.len();
+    let old = copy_of(parts.store, cell)?;
+    match prepare(parts.store, parts.graph, parts.dirty, cell, state) {
         Ok(()) => {}
         Err(Memory) => {
-            cut_back(dirty, count);
+            cut_back(parts.dirty, count);
             return Err(Memory);
         }
     }
-    match evaluate_at(store, cell, names, settings, scene, tally) {
+    match evaluate_at(parts.store, cell, context, tally) {
         Ok(()) => {
-            settle(graph, dirty, cell, true);
+            settle(parts.graph, parts.dirty, cell, true);
             Ok(())
         }
         Err(Memory) => {
-            put_back(store, cell, old);
-            cut_back(dirty, count);
+            put_back(parts.store, cell, old);
+            cut_back(parts.dirty, count);
             Err(Memory)
         }
     }

@@ -40,11 +40,12 @@ use grid_address::{Cell, CellList, Format, Span};
 use lics_text::{Line, MAX_LEN, Memory};
 use range_names::{NameFault, Names};
 use recalculation::{
-    View, all_dirty, content_of, format_of, graph_of, recalc, recalc_span, value_of, width_of,
+    ContextRef, View, all_dirty, content_of, format_of, graph_of, recalc, recalc_span, value_of,
+    width_of,
 };
 use sheet_edits::{
-    Changes, FormatChange, cells_of, change_cells, copied, erased, first_of, gathered, is_marked,
-    reformatted, refusing, state_of, state_written, target_of, write_cell, write_cells,
+    Changes, FormatChange, Parts, cells_of, change_cells, copied, erased, first_of, gathered,
+    is_marked, reformatted, refusing, state_of, state_written, target_of, write_cell, write_cells,
     write_evaluated,
 };
 use sheet_shifts::{Shift, names_after, refusal, store_after};
@@ -377,17 +378,17 @@ impl<E: Means> WorksheetOf<E> {
         }
         let state = entry_state(&self.store, &settings, cell, content)?;
         note(&mut self.past, &self.store, &[cell])?;
-        match write_evaluated(
-            &mut self.store,
-            &mut self.graph,
-            &mut self.dirty,
-            cell,
-            state,
-            &self.names,
-            &settings,
+        let mut parts = Parts {
+            store: &mut self.store,
+            graph: &mut self.graph,
+            dirty: &mut self.dirty,
+        };
+        let context = ContextRef {
+            names: &self.names,
+            settings: &settings,
             scene,
-            tally,
-        ) {
+        };
+        match write_evaluated(&mut parts, cell, state, &context, tally) {
             Ok(()) => {
                 let _ = self.dirty.len();
                 mark(&mut self.stale);
@@ -637,14 +638,16 @@ impl<E: Means> WorksheetOf<E> {
     {
         let settings = self.settings;
         self.past.note(&self.store, self.dirty.as_slice())?;
+        let context = ContextRef {
+            names: &self.names,
+            settings: &settings,
+            scene,
+        };
         let circ = recalc(
             &mut self.store,
             &self.graph,
             &mut self.dirty,
-            settings.passes,
-            &self.names,
-            &settings,
-            scene,
+            &context,
             tally,
         )?;
         let _ = self.dirty.len();
@@ -672,14 +675,17 @@ impl<E: Means> WorksheetOf<E> {
         let settings = self.settings;
         let formulas = self.store.formulas_in(span)?;
         self.past.note(&self.store, formulas.as_slice())?;
+        let context = ContextRef {
+            names: &self.names,
+            settings: &settings,
+            scene,
+        };
         recalc_span(
             &mut self.store,
             &self.dirty,
             span,
             by_columns,
-            &self.names,
-            &settings,
-            scene,
+            &context,
             tally,
         )?;
         Ok(())

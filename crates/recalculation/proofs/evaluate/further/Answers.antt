@@ -9,7 +9,7 @@ use Rattle.recalculation.proofs.Contents.{same_itself, same_on}
 use Rattle.recalculation.proofs.Counts.{one_more_turn, raised_more}
 use Rattle.recalculation.proofs.Outside.{outside_both, outside_itself}
 use Rattle.recalculation.proofs.Rest.{formulas_all}
-use Rattle.recalculation.specs.Context.{context_of, Context}
+use Rattle.recalculation.specs.Context.{seen_context, Context}
 use Rattle.recalculation.specs.Passes.{passes, raised_by, Meaning}
 use Rattle.recalculation.specs.inner.Meanings.{IsMeaning}
 use Rattle.recalculation.specs.Reading.{is_formula_at}
@@ -21,7 +21,7 @@ loop-turn-init g c =
     let all : c.args.times - 0 ≡ c.args.times = omega arith in
     let none : 0 ≡ 0 * n = omega arith in
     record {
-      values = ap (λ k. passes g.E.Means.meaning (context_of c.args.names.now c.args.settings.now c.args.scene.now) k
+      values = ap (λ k. passes g.E.Means.meaning (seen_context c.args.context.now) k
           c.args.cells.now c.args.store.now) all;
       formulas = λ _. refl;
       sound = λ d s. s;
@@ -33,7 +33,7 @@ loop-turn-init g c =
 pub loop-turn-preserved : goal.loop-turn-preserved
 loop-turn-preserved g c =
     let mean : Meaning = g.E.Means.meaning in
-    let ctx : Context = context_of c.args.names.now c.args.settings.now c.args.scene.now in
+    let ctx : Context = seen_context c.args.context.now in
     let meaning : IsMeaning mean = record { reads = g.met.E.Means.reads_alone } in
     let n : ℕ = length c.args.cells.now in
     let e : c.args.times - c.loop-turn._turn ≡ suc (c.args.times - (c.loop-turn._turn + 1)) = let h =

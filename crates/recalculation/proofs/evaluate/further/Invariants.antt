@@ -1,7 +1,7 @@
 use Rattle.std.specs.Prelude.{Bool, ◌≡◌, ◌-◌, ◌*◌, length}
 use Rattle.cell_maps.specs.Sets.{has}
 use Rattle.grid_address.specs.Place.{same_place, Place}
-use Rattle.recalculation.specs.Context.{context_of}
+use Rattle.recalculation.specs.Context.{seen_context}
 use Rattle.recalculation.specs.Passes.{passes, raised_by, IsSound, SameContents, SameOutside}
 use Rattle.recalculation.specs.Reading.{is_formula_at}
 use Rattle.recalculation.proofs.evaluate.further.Given as goal
@@ -9,7 +9,7 @@ use Rattle.recalculation.proofs.evaluate.further.Given as goal
 abbrev pub invariant-loop-turn : goal.invariant-loop-turn
 invariant-loop-turn g l =
     let mean = g.E.Means.meaning in
-    let ctx = context_of l.names l.settings l.scene in
+    let ctx = seen_context l.context in
     record {
       values : passes mean ctx (l.times - l._turn) l.cells l.store ≡ passes mean ctx l.times l.cells l.fn.store;
       formulas : (c : Place) → is_formula_at l.store c ≡ is_formula_at l.fn.store c;

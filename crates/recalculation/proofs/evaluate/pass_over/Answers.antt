@@ -9,7 +9,7 @@ use Rattle.recalculation.proofs.Contents.{same_evaluated, same_itself, same_on}
 use Rattle.recalculation.proofs.Counts.{raised_more}
 use Rattle.recalculation.proofs.Outside.{outside_itself, outside_more}
 use Rattle.recalculation.proofs.Cut.{formulas_stay, pass_step, sound_all}
-use Rattle.recalculation.specs.Context.{context_of, value_at, Context}
+use Rattle.recalculation.specs.Context.{seen_context, value_at, Context}
 use Rattle.recalculation.specs.Passes.{evaluated, pass, raised_by, IsSound, Meaning, SameContents}
 use Rattle.recalculation.specs.inner.Meanings.{IsMeaning}
 use Rattle.recalculation.specs.Reading.{is_formula_at}
@@ -29,7 +29,7 @@ loop-cell-init g c = record {
 pub loop-cell-preserved : goal.loop-cell-preserved
 loop-cell-preserved g c =
     let mean : Meaning = g.E.Means.meaning in
-    let ctx : Context = context_of c.args.names.now c.args.settings.now c.args.scene.now in
+    let ctx : Context = seen_context c.args.context.now in
     let meaning : IsMeaning mean = record { reads = g.met.E.Means.reads_alone } in
     record {
       values =

@@ -2,7 +2,7 @@ use Rattle.std.specs.Prelude.{◌≡◌, drop, Bool}
 use Rattle.cell_maps.specs.Sets.{has}
 use Rattle.grid_address.specs.Place.{same_place, Place}
 use Rattle.formula_eval.specs.inner.Kept.{IsKept}
-use Rattle.recalculation.specs.Context.{context_of, value_at}
+use Rattle.recalculation.specs.Context.{seen_context, value_at}
 use Rattle.recalculation.specs.Passes.{pass, raised_by, IsSound, SameContents, SameOutside}
 use Rattle.recalculation.specs.Reading.{is_formula_at}
 use Rattle.recalculation.proofs.evaluate.pass_over.Given as goal
@@ -10,7 +10,7 @@ use Rattle.recalculation.proofs.evaluate.pass_over.Given as goal
 abbrev pub invariant-loop-cell : goal.invariant-loop-cell
 invariant-loop-cell g l =
     let mean = g.E.Means.meaning in
-    let ctx = context_of l.names l.settings l.scene in
+    let ctx = seen_context l.context in
     record {
       values : pass mean ctx (drop l.cell-index l.cells) l.store ≡ pass mean ctx l.cells l.fn.store;
       formulas : (c : Place) → is_formula_at l.store c ≡ is_formula_at l.fn.store c;

@@ -5,15 +5,16 @@ use Rattle.cell_maps.specs.Sets.{has}
 use Rattle.sheet_store.specs.Grid.{Grid}
 use Rattle.recalculation.proofs.Cut.{pass_is_cut}
 use Rattle.recalculation.proofs.First.{as_many, split_of}
-use Rattle.recalculation.specs.Context.{context_of, Context}
+use Rattle.recalculation.specs.Context.{seen_context, Context}
 use Rattle.recalculation.specs.Passes.{pass, raised_by, Meaning}
 use Rattle.recalculation.specs.inner.Meanings.{IsMeaning}
 use Rattle.recalculation.specs.Reading.{natural_order}
 use Rattle.recalculation.proofs.recalculation.first_pass.Goals as goal
 
 pub dirty_order-requires-clause-split : goal.dirty_order-requires-clause-split
-dirty_order-requires-clause-split g c = split_of g.E.Means.meaning (context_of c.args.names.now c.args.settings.now
-    c.args.scene.now) c.args.store.now (has same_place c.args.dirty.now.keys) c.requires.sound
+dirty_order-requires-clause-split g c =
+    split_of g.E.Means.meaning (seen_context c.args.context.now) c.args.store.now
+    (has same_place c.args.dirty.now.keys) c.requires.sound
 
 pub pass_over-requires : goal.pass_over-requires
 pass_over-requires g c = λ x m. c.requires.sound.only x
@@ -22,7 +23,7 @@ pass_over-requires g c = λ x m. c.requires.sound.only x
 pub returns-clause-values : goal.returns-clause-values
 returns-clause-values g c =
     let mean : Meaning = g.E.Means.meaning in
-    let ctx : Context = context_of c.args.names.now c.args.settings.now c.args.scene.now in
+    let ctx : Context = seen_context c.args.context.now in
     let meaning : IsMeaning mean = record { reads = g.met.E.Means.reads_alone } in
     let s : Grid = c.args.store.now in
     c.in_ok-pass_over.ensures.values ∙ ap (λ cs. pass mean ctx cs s)

@@ -4,7 +4,7 @@ use Rattle.grid_address.specs.Place.{same_place, Place}
 use Rattle.cell_maps.specs.Sets.{has}
 use Rattle.sheet_store.specs.Grid.{Grid}
 use Rattle.recalculation.proofs.Along.{not_circular, sound_after, stays_after, values}
-use Rattle.recalculation.specs.Context.{context_of, Context}
+use Rattle.recalculation.specs.Context.{seen_context, Context}
 use Rattle.recalculation.specs.Passes.{pass, IsSound, IsWhatStays, Meaning}
 use Rattle.recalculation.specs.inner.Meanings.{IsMeaning}
 use Rattle.recalculation.proofs.recalculation.recalc_in_order.Goals as goal
@@ -12,14 +12,14 @@ use Rattle.recalculation.proofs.recalculation.recalc_in_order.Goals as goal
 pub returns-in_err-pass_over-clause-circular : goal.returns-in_err-pass_over-clause-circular
 returns-in_err-pass_over-clause-circular g c =
     let mean : Meaning = g.E.Means.meaning in
-    let ctx : Context = context_of c.args.names.now c.args.settings.now c.args.scene.now in
+    let ctx : Context = seen_context c.args.context.now in
     let meaning : IsMeaning mean = record { reads = g.met.E.Means.reads_alone } in
     not_circular mean ctx meaning c.args.store.now c.args.dirty.now.keys c.requires.sound c.requires.order
 
 pub returns-clause-values : goal.returns-clause-values
 returns-clause-values g c =
     let mean : Meaning = g.E.Means.meaning in
-    let ctx : Context = context_of c.args.names.now c.args.settings.now c.args.scene.now in
+    let ctx : Context = seen_context c.args.context.now in
     let meaning : IsMeaning mean = record { reads = g.met.E.Means.reads_alone } in
     let e : c.args.times ≡ suc (c.args.times - 1) = let h = c.requires.times in omega arith in
     c.in_ok-pass_over.ensures.values ∙ ap (λ (cs : List Place). pass mean ctx cs c.args.store.now)
@@ -30,14 +30,14 @@ returns-clause-values g c =
 pub returns-clause-circular : goal.returns-clause-circular
 returns-clause-circular g c =
     let mean : Meaning = g.E.Means.meaning in
-    let ctx : Context = context_of c.args.names.now c.args.settings.now c.args.scene.now in
+    let ctx : Context = seen_context c.args.context.now in
     let meaning : IsMeaning mean = record { reads = g.met.E.Means.reads_alone } in
     not_circular mean ctx meaning c.args.store.now c.args.dirty.now.keys c.requires.sound c.requires.order
 
 pub returns-clause-stays : goal.returns-clause-stays
 returns-clause-stays g c =
     let mean : Meaning = g.E.Means.meaning in
-    let ctx : Context = context_of c.args.names.now c.args.settings.now c.args.scene.now in
+    let ctx : Context = seen_context c.args.context.now in
     let meaning : IsMeaning mean = record { reads = g.met.E.Means.reads_alone } in
     let is : c.pass_over.new.store ≡ pass mean ctx c.args.dirty.now.keys c.args.store.now =
     c.in_ok-pass_over.ensures.values
@@ -49,7 +49,7 @@ returns-clause-stays g c =
 pub returns-clause-sound : goal.returns-clause-sound
 returns-clause-sound g c =
     let mean : Meaning = g.E.Means.meaning in
-    let ctx : Context = context_of c.args.names.now c.args.settings.now c.args.scene.now in
+    let ctx : Context = seen_context c.args.context.now in
     let meaning : IsMeaning mean = record { reads = g.met.E.Means.reads_alone } in
     let is : c.pass_over.new.store ≡ pass mean ctx c.args.dirty.now.keys c.args.store.now =
     c.in_ok-pass_over.ensures.values

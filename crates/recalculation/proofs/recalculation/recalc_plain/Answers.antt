@@ -8,7 +8,7 @@ use Rattle.sheet_store.specs.Grid.{Grid}
 use Rattle.recalculation.proofs.Rest.{further}
 use Rattle.recalculation.proofs.Ends.{as_many_dirty}
 use Rattle.recalculation.proofs.Outside.{passed_out}
-use Rattle.recalculation.specs.Context.{context_of, Context}
+use Rattle.recalculation.specs.Context.{seen_context, Context}
 use Rattle.recalculation.specs.Passes.{passes, raised_by, Meaning}
 use Rattle.recalculation.specs.inner.Meanings.{IsMeaning}
 use Rattle.recalculation.specs.Reading.{plain_order}
@@ -24,7 +24,7 @@ further-requires g c =
 pub returns-clause-values : goal.returns-clause-values
 returns-clause-values g c =
     let mean : Meaning = g.E.Means.meaning in
-    let ctx : Context = context_of c.args.names.now c.args.settings.now c.args.scene.now in
+    let ctx : Context = seen_context c.args.context.now in
     let meaning : IsMeaning mean = record { reads = g.met.E.Means.reads_alone } in
     let s : Grid = c.args.store.now in
     c.in_ok-further.ensures.values ∙ ap (λ cs. passes mean ctx c.args.times cs s)

@@ -8,7 +8,7 @@ use Rattle.recalculation.proofs.Contents.{matches_on}
 use Rattle.recalculation.proofs.Counts.{raised_more}
 use Rattle.recalculation.proofs.Ends.{all1, as_many_rest, formulas_rest, order1, sound_end, stays_end, values}
 use Rattle.recalculation.proofs.Outside.{filtered_out}
-use Rattle.recalculation.specs.Context.{context_of, Context}
+use Rattle.recalculation.specs.Context.{seen_context, Context}
 use Rattle.recalculation.specs.Passes.{raised_by, IsWhatStays, Meaning}
 use Rattle.recalculation.specs.inner.Meanings.{IsMeaning}
 use Rattle.recalculation.specs.Reading.{pre}
@@ -21,7 +21,7 @@ rest_of-requires-clause-matches g c =
 pub rest_of-requires-clause-order : goal.rest_of-requires-clause-order
 rest_of-requires-clause-order g c =
     let mean : Meaning = g.E.Means.meaning in
-    let ctx : Context = context_of c.args.names.now c.args.settings.now c.args.scene.now in
+    let ctx : Context = seen_context c.args.context.now in
     let meaning : IsMeaning mean = record { reads = g.met.E.Means.reads_alone } in
     let s1 : Grid = c.first_pass.new.store in
     let keys : List Place = c.in_ok-order.order.done.keys in
@@ -33,7 +33,7 @@ rest_of-requires-clause-order g c =
 pub rest_of-requires-clause-all : goal.rest_of-requires-clause-all
 rest_of-requires-clause-all g c =
     let mean : Meaning = g.E.Means.meaning in
-    let ctx : Context = context_of c.args.names.now c.args.settings.now c.args.scene.now in
+    let ctx : Context = seen_context c.args.context.now in
     let meaning : IsMeaning mean = record { reads = g.met.E.Means.reads_alone } in
     λ x s. c.in_ok-order.ensures.same x ∙ all1 mean ctx meaning c.args.store.now c.first_pass.new.store
     (has same_place c.args.dirty.now.keys) c.requires.sound c.in_ok-order.ensures.values x s
@@ -41,7 +41,7 @@ rest_of-requires-clause-all g c =
 pub further-requires : goal.further-requires
 further-requires g c =
     let mean : Meaning = g.E.Means.meaning in
-    let ctx : Context = context_of c.args.names.now c.args.settings.now c.args.scene.now in
+    let ctx : Context = seen_context c.args.context.now in
     let meaning : IsMeaning mean = record { reads = g.met.E.Means.reads_alone } in
     λ x m. formulas_rest mean ctx meaning c.args.store.now c.first_pass.new.store
     (has same_place c.args.dirty.now.keys) c.requires.sound c.in_ok-order.ensures.values
@@ -52,7 +52,7 @@ further-requires g c =
 pub returns-clause-values : goal.returns-clause-values
 returns-clause-values g c =
     let mean : Meaning = g.E.Means.meaning in
-    let ctx : Context = context_of c.args.names.now c.args.settings.now c.args.scene.now in
+    let ctx : Context = seen_context c.args.context.now in
     let meaning : IsMeaning mean = record { reads = g.met.E.Means.reads_alone } in
     let e : c.args.times ≡ suc (c.args.times - 1) = let h = c.requires.times in omega arith in
     c.in_ok-further.ensures.values
@@ -65,7 +65,7 @@ returns-clause-values g c =
 pub returns-clause-stays : goal.returns-clause-stays
 returns-clause-stays g c =
     let mean : Meaning = g.E.Means.meaning in
-    let ctx : Context = context_of c.args.names.now c.args.settings.now c.args.scene.now in
+    let ctx : Context = seen_context c.args.context.now in
     let meaning : IsMeaning mean = record { reads = g.met.E.Means.reads_alone } in
     subst (λ (h : Grid). IsWhatStays h (has same_place c.in_ok-rest.rest.keys)) (sym c.in_ok-further.ensures.values)
     (stays_end mean ctx meaning c.args.store.now c.first_pass.new.store
@@ -75,7 +75,7 @@ returns-clause-stays g c =
 pub returns-clause-sound : goal.returns-clause-sound
 returns-clause-sound g c =
     let mean : Meaning = g.E.Means.meaning in
-    let ctx : Context = context_of c.args.names.now c.args.settings.now c.args.scene.now in
+    let ctx : Context = seen_context c.args.context.now in
     let meaning : IsMeaning mean = record { reads = g.met.E.Means.reads_alone } in
     c.further.ensures.sound (has same_place c.in_ok-rest.rest.keys)
     (sound_end mean ctx meaning c.args.store.now c.first_pass.new.store
@@ -85,7 +85,7 @@ returns-clause-sound g c =
 pub returns-clause-count : goal.returns-clause-count
 returns-clause-count g c =
     let mean : Meaning = g.E.Means.meaning in
-    let ctx : Context = context_of c.args.names.now c.args.settings.now c.args.scene.now in
+    let ctx : Context = seen_context c.args.context.now in
     let meaning : IsMeaning mean = record { reads = g.met.E.Means.reads_alone } in
     let rest : List Place = c.in_ok-rest.rest.keys in
     let more : ℕ = c.args.times - 1 in
