@@ -10,8 +10,9 @@ UNMENDED = {
     "commands_range": "push_value",
     "data_blocks": "try_row try_cell try_rows",
     "data_query": "push_records extracted_cells fields_extracted extract records_of",
-    "formula_eval": "row_holds chosen listed_value call_value binary_value items_of_records over_column by_column",
+    "formula_parts": "chosen listed_value call_value binary_value",
     "macro_text": "word_outcome",
+    "record_match": "row_holds items_of_records over_column by_column",
     "sheet_run": "run",
 }
 HEAD = re.compile(r"^ *(?:pub(?:\([a-z]+\))? )?(?:(?:const|unsafe|ghost) )*fn (\w+)", re.MULTILINE)

@@ -10,7 +10,7 @@ use Rattle.formula_tree.specs.declared.value.Content.{Content}
 use Rattle.formula_tree.specs.declared.value.Content.TheVariants as content
 use Rattle.formula_tree.specs.declared.value.Value.{Value}
 use Rattle.formula_tree.specs.declared.value.Value.TheVariants as value
-use Rattle.formula_eval.specs.Outlook.{Sight}
+use Rattle.formula_parts.specs.Outlook.{Sight}
 use Rattle.sheet_store.specs.declared.writes.Write.{Write}
 pub use Rattle.grid_address.specs.Lines.{at, columns_of, numbers_from, rows_below, rows_of}
 

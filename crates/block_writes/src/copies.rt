@@ -1,10 +1,10 @@
 // Writes of contents, and copies of cells.
 ghost use Rattle.std.specs.Prelude.{◌≡◌, ◌≤◌, ◌<◌, ◌+◌, ◌++◌, ◌∷◌, [], length, map, IfOk, OnOk};
 ghost use Rattle.grid_address.specs.Place.{height_of, width_of, Place};
-ghost use Rattle.formula_eval.specs.Outlook.{Sight};
+ghost use Rattle.formula_parts.specs.Outlook.{Sight};
 ghost use Rattle.block_writes.specs.Writing.{at, columns_of, content_or_blank, copied, row_copied, rows_copied, rows_of, written};
 
-use formula_eval::Look;
+use formula_parts::Look;
 use formula_tree::Content;
 use grid_address::{Cell, Span, column_at};
 use lics_text::Memory;

@@ -4,10 +4,10 @@ ghost use Rattle.formula_tree.specs.Formulas.{formula_of};
 ghost use Rattle.formula_tree.specs.Seen.{seen_value};
 ghost use Rattle.formula_tree.specs.Tree.{call, no_trees};
 ghost use Rattle.formula_tree.specs.View.{tree_of};
-ghost use Rattle.formula_eval.specs.Outlook.{Sight};
+ghost use Rattle.formula_parts.specs.Outlook.{Sight};
 ghost use Rattle.block_writes.specs.Writing.{as_content, value_copied};
 
-use formula_eval::Look;
+use formula_parts::Look;
 use formula_tree::{Content, Expr, ExprList, Formula, Function, ValueRef};
 use grid_address::Cell;
 use lics_text::{LabelPrefix, Memory};

@@ -2,7 +2,8 @@
 
 use crate::stop::Stop;
 use crate::words::{Words, sum_of, worksheet_of};
-use formula_eval::{Scene, Tally};
+use formula_eval::Tally;
+use formula_parts::Scene;
 use grid_address::{Cell, Span};
 use lics_text::Memory;
 use serial_date::Moment;

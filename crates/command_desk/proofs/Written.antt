@@ -3,7 +3,7 @@ use Rattle.std.specs.Prelude.{ℕ, ◌≡◌, refl, List, Option, None, Some, On
 use Rattle.std.proofs.Common.{sym, subst}
 use Rattle.desk_errors.specs.declared.error.CommandError.TheVariants as error
 use Rattle.formula_eval.specs.Mean.{mean}
-use Rattle.formula_eval.specs.declared.look.Scene.{Scene}
+use Rattle.formula_parts.specs.declared.look.Scene.{Scene}
 use Rattle.grid_address.specs.Place.{same_place, Place}
 use Rattle.cell_maps.specs.Sets.{has}
 use Rattle.sheet_edits.specs.Edits.{is_protected}

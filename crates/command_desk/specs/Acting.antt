@@ -4,7 +4,7 @@ use Rattle.std.specs.List.{find}
 use Rattle.desk_errors.specs.declared.error.CommandError.{CommandError}
 use Rattle.desk_errors.specs.declared.error.CommandError.TheVariants as error
 use Rattle.formula_eval.specs.Mean.{mean}
-use Rattle.formula_eval.specs.declared.look.Scene.{Scene}
+use Rattle.formula_parts.specs.declared.look.Scene.{Scene}
 use Rattle.grid_address.specs.Place.{Place}
 use Rattle.sheet_edits.specs.Edits.{is_protected}
 use Rattle.sheet_shifts.specs.Refusals.{refusal}

@@ -6,7 +6,8 @@ ghost use Rattle.sheet_store.specs.declared.writes.SheetFault.TheVariants as she
 
 use crate::settling::settle;
 use desk_errors::CommandError;
-use formula_eval::{Scene, Tally};
+use formula_eval::Tally;
+use formula_parts::Scene;
 use lics_text::Memory;
 use sheet_store::SheetFault;
 use work_sheet::Worksheet;

@@ -4,7 +4,8 @@ ghost use Rattle.command_desk.specs.Acting.{moved_by, HasActedBy};
 ghost use Rattle.sheet_shifts.specs.Refusals.{AreInSheet};
 
 use crate::ending::{CommandEnd, settled};
-use formula_eval::{Scene, Tally};
+use formula_eval::Tally;
+use formula_parts::Scene;
 use lics_text::Memory;
 use sheet_shifts::Shift;
 use work_sheet::Worksheet;

@@ -5,7 +5,8 @@ ghost use Rattle.work_sheet.specs.Did.{Did};
 ghost use Rattle.work_sheet.specs.Doing.{settled};
 ghost use Rattle.work_sheet.specs.Seen.{of_worksheet};
 
-use formula_eval::{Scene, Tally};
+use formula_eval::Tally;
+use formula_parts::Scene;
 use lics_text::Memory;
 use work_sheet::Worksheet;
 

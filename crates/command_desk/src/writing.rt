@@ -4,7 +4,8 @@ ghost use Rattle.command_desk.specs.Acting.{HasActedBy};
 ghost use Rattle.command_desk.specs.Writing.{all_made};
 
 use crate::ending::{CommandEnd, settled};
-use formula_eval::{Scene, Tally};
+use formula_eval::Tally;
+use formula_parts::Scene;
 use lics_text::Memory;
 use sheet_store::Writes;
 use work_sheet::Worksheet;

@@ -8,7 +8,7 @@ use Rattle.commands_data.specs.inner.Benched.{contents_behind, keep_formats, IsS
 use Rattle.commands_data.specs.Trying.{content_at}
 use Rattle.data_blocks.specs.Benches as bench
 use Rattle.formula_eval.specs.Mean.{mean}
-use Rattle.formula_eval.specs.declared.look.Scene.{Scene}
+use Rattle.formula_parts.specs.declared.look.Scene.{Scene}
 use Rattle.formula_tree.specs.declared.value.Content.{Content}
 use Rattle.grid_address.specs.Place.{same_place, Place}
 use Rattle.lics_text.specs.declared.faults.Memory.{Memory}

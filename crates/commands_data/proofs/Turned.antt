@@ -9,7 +9,7 @@ use Rattle.commands_data.specs.declared.bench.TableBench.{TableBench}
 use Rattle.data_blocks.specs.Benches as bench
 use Rattle.data_blocks.specs.Benches.{values_on, IsTable}
 use Rattle.data_blocks.specs.Tables.{after_trials, after_scenarios, answer_written, scenarios_written, Trial, Scenario}
-use Rattle.formula_eval.specs.declared.look.Scene.{Scene}
+use Rattle.formula_parts.specs.declared.look.Scene.{Scene}
 use Rattle.formula_eval.specs.declared.meaning.Tally.{Tally}
 use Rattle.formula_tree.specs.declared.value.Value.{Value}
 use Rattle.grid_address.specs.Place.{Place}

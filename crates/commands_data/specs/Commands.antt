@@ -24,9 +24,9 @@ use Rattle.desk_errors.specs.declared.error.CommandError.TheVariants as error
 use Rattle.data_blocks.specs.declared.ranges.DeskRanges.{DeskRanges}
 use Rattle.data_blocks.specs.declared.ranges.LastQuery.{LastQuery}
 use Rattle.data_blocks.specs.declared.ranges.LastQuery.TheVariants as query
-use Rattle.formula_eval.specs.Outlook.{Outlook}
-use Rattle.formula_eval.specs.Scenes.{outlook_of}
-use Rattle.formula_eval.specs.declared.look.Scene.{Scene}
+use Rattle.formula_parts.specs.Outlook.{Outlook}
+use Rattle.formula_parts.specs.Scenes.{outlook_of}
+use Rattle.formula_parts.specs.declared.look.Scene.{Scene}
 use Rattle.grid_address.specs.Place.{Extent}
 use Rattle.menu_tree.specs.declared.menu.DataAction.{DataAction}
 use Rattle.menu_tree.specs.declared.menu.DataAction.TheVariants as records

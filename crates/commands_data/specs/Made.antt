@@ -7,7 +7,7 @@ use Rattle.data_query.specs.declared.fault.QueryFault.{QueryFault}
 use Rattle.data_query.specs.declared.fault.QueryFault.TheVariants as query
 use Rattle.desk_errors.specs.declared.error.CommandError.{CommandError}
 use Rattle.desk_errors.specs.declared.error.CommandError.TheVariants as error
-use Rattle.formula_eval.specs.declared.look.Scene.{Scene}
+use Rattle.formula_parts.specs.declared.look.Scene.{Scene}
 use Rattle.sheet_store.specs.declared.writes.Write.{Write}
 use Rattle.work_sheet.specs.Seen.{Sheet}
 

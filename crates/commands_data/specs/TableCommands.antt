@@ -17,7 +17,7 @@ use Rattle.data_blocks.specs.declared.fault.BlockFault.{BlockFault}
 use Rattle.data_blocks.specs.declared.fault.BlockFault.TheVariants as fault
 use Rattle.desk_errors.specs.declared.error.CommandError.{CommandError}
 use Rattle.desk_errors.specs.declared.error.CommandError.TheVariants as error
-use Rattle.formula_eval.specs.declared.look.Scene.{Scene}
+use Rattle.formula_parts.specs.declared.look.Scene.{Scene}
 use Rattle.grid_address.specs.Place.{Extent, Place}
 use Rattle.work_sheet.specs.Doing.{Done}
 use Rattle.work_sheet.specs.Seen.{Sheet}

@@ -5,7 +5,7 @@ use Rattle.block_writes.specs.Writing.{as_content, content_or_blank, written}
 use Rattle.data_blocks.specs.Benches.{value_or_blank}
 use Rattle.data_blocks.specs.Tables.{after_scenarios, scenarios_one, scenarios_two, scenarios_written, Trial, Scenario}
 use Rattle.formula_eval.specs.Mean.{mean}
-use Rattle.formula_eval.specs.declared.look.Scene.{Scene}
+use Rattle.formula_parts.specs.declared.look.Scene.{Scene}
 use Rattle.formula_tree.specs.declared.value.Content.{Content}
 use Rattle.formula_tree.specs.declared.value.Value.{Value}
 use Rattle.grid_address.specs.Place.{Extent, Place}

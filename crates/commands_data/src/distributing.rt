@@ -5,7 +5,8 @@ ghost use Rattle.commands_data.specs.Commands.{distributed, distributed_in};
 
 use crate::faults::make_block;
 use command_desk::{CommandEnd, span_at};
-use formula_eval::{Scene, Tally};
+use formula_eval::Tally;
+use formula_parts::Scene;
 use grid_address::Span;
 use lics_text::Memory;
 use session_rooms::Answers;

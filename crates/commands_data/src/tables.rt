@@ -6,7 +6,8 @@ ghost use Rattle.commands_data.specs.TableCommands.{forgotten, made_on, repeated
 
 use crate::making::make;
 use command_desk::{CommandEnd, Desk, LastTable, cell_at, span_at};
-use formula_eval::{Scene, Tally};
+use formula_eval::Tally;
+use formula_parts::Scene;
 use lics_text::Memory;
 use session_rooms::Answers;
 

@@ -11,7 +11,8 @@ ghost use Rattle.work_sheet.specs.Did.{Did};
 ghost use Rattle.work_sheet.specs.Seen.{of_worksheet};
 
 use block_writes::{copied, written};
-use formula_eval::{Scene, Tally};
+use formula_eval::Tally;
+use formula_parts::Scene;
 use formula_tree::Content;
 use grid_address::Cell;
 use lics_text::Memory;

@@ -10,7 +10,7 @@ use Rattle.command_desk.specs.declared.ending.CommandEnd.TheVariants.{Refused}
 use Rattle.commands_file.specs.Combined.{combined, leaves_sheet, used_span, written_in}
 use Rattle.commands_file.specs.declared.combining.Combining.{Combining}
 use Rattle.desk_errors.specs.declared.error.CommandError.TheVariants as error
-use Rattle.formula_eval.specs.declared.look.Scene.{Scene}
+use Rattle.formula_parts.specs.declared.look.Scene.{Scene}
 use Rattle.sheet_store.specs.Grid.{Grid}
 use Rattle.work_sheet.specs.Seen.{of_worksheet}
 use Rattle.work_sheet.specs.Sheets.{Worksheet}

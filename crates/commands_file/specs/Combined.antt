@@ -9,7 +9,7 @@ use Rattle.commands_file.specs.declared.combining.Combining.{Combining}
 use Rattle.commands_file.specs.declared.combining.Combining.TheVariants.{Copy, Subtract}
 use Rattle.desk_errors.specs.declared.error.CommandError.TheVariants as error
 use Rattle.fixed_value.specs.Numbers.{within}
-use Rattle.formula_eval.specs.declared.look.Scene.{Scene}
+use Rattle.formula_parts.specs.declared.look.Scene.{Scene}
 use Rattle.formula_tree.specs.declared.value.Content.{Content}
 use Rattle.formula_tree.specs.declared.value.Content.TheVariants as content
 use Rattle.formula_tree.specs.declared.value.Value.{Value}

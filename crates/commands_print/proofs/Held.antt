@@ -12,7 +12,7 @@ use Rattle.command_desk.specs.declared.ending.CommandEnd.TheVariants.{Finished, 
 use Rattle.commands_file.specs.Calls.{failed, fetched, loaded, there, written, HaveAnswered, Reply, ShelfView}
 use Rattle.commands_file.specs.Commands.{HasActedOver}
 use Rattle.commands_print.specs.Commands.{printed, report_of, reported, written_to, HoldsReport}
-use Rattle.formula_eval.specs.declared.look.Scene.{Scene}
+use Rattle.formula_parts.specs.declared.look.Scene.{Scene}
 use Rattle.grid_address.specs.Place.{Extent}
 use Rattle.outside_world.specs.Shelf.{file_in, held_as, Files, HasPut, OnShelf}
 use Rattle.print_report.specs.declared.settings.PrintFault.{PrintFault}

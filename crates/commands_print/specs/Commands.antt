@@ -10,7 +10,7 @@ use Rattle.commands_print.specs.declared.keeping.NumberSetting.TheVariants.{Left
 use Rattle.commands_print.specs.declared.keeping.TextSetting.TheVariants.{Header, Footer}
 use Rattle.desk_errors.specs.declared.error.CommandError.{CommandError}
 use Rattle.desk_errors.specs.declared.error.CommandError.TheVariants as error
-use Rattle.formula_eval.specs.declared.look.Scene.{Scene}
+use Rattle.formula_parts.specs.declared.look.Scene.{Scene}
 use Rattle.grid_address.specs.Place.{Extent}
 use Rattle.menu_tree.specs.declared.menu.PrintAction.{PrintAction}
 use Rattle.menu_tree.specs.declared.menu.PrintAction.TheVariants as print

@@ -8,7 +8,7 @@ ghost use Rattle.commands_print.specs.Commands.{act, HoldsReport};
 use crate::keeping::{NumberSetting, TextSetting, keep_file, keep_number, keep_range, keep_text};
 use crate::printing::print;
 use command_desk::{CommandEnd, Desk};
-use formula_eval::Scene;
+use formula_parts::Scene;
 use menu_tree::PrintAction;
 use outside_world::{Memory, Shelf};
 use session_rooms::Answers;

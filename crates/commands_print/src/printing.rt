@@ -9,7 +9,7 @@ ghost use Rattle.print_report.specs.Pages.{Gives};
 use command_desk::{CommandEnd, Desk};
 use commands_file::{end_of_put, put_bytes};
 use desk_errors::CommandError;
-use formula_eval::Scene;
+use formula_parts::Scene;
 use grid_address::Span;
 use outside_world::{ByteBuffer, Memory, Shelf};
 use print_report::{PrintFault, PrintedSheet, report};

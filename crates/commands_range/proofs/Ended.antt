@@ -8,14 +8,14 @@ use Rattle.command_desk.specs.declared.ending.CommandEnd.{CommandEnd}
 use Rattle.command_desk.specs.declared.ending.CommandEnd.TheVariants.{Refused}
 use Rattle.commands_range.specs.Commands.{copied_onto}
 use Rattle.desk_errors.specs.declared.error.CommandError.TheVariants as error
-use Rattle.formula_eval.specs.declared.look.Scene.{Scene}
+use Rattle.formula_parts.specs.declared.look.Scene.{Scene}
 use Rattle.grid_address.specs.Place.{is_within, Extent}
 use Rattle.sheet_edits.proofs.Gathering.{on_ok}
 use Rattle.sheet_edits.specs.Spans.{IsAnswered}
 use Rattle.sheet_store.specs.declared.writes.SheetFault.{SheetFault}
 use Rattle.sheet_store.specs.declared.writes.SheetFault.TheVariants as fault
 use Rattle.recalculation.proofs.Filled.{has_cells, span_ascends}
-use Rattle.formula_eval.specs.Outlook.{cells_of}
+use Rattle.formula_parts.specs.Outlook.{cells_of}
 use Rattle.work_sheet.specs.Did.{DidEdit}
 use Rattle.work_sheet.specs.Editing.{copied}
 use Rattle.work_sheet.specs.Seen.{of_worksheet}

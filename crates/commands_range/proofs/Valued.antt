@@ -4,8 +4,8 @@ use Rattle.std.proofs.Common.{append_assoc, ap, sym, ◌∙◌}
 use Rattle.std.proofs.lemmas.List.{append-nil, map-append}
 use Rattle.commands_range.specs.Valued.{value_of, values_of}
 use Rattle.commands_range.specs.declared.values.Layout.{Layout}
-use Rattle.formula_eval.proofs.Blocks.{block_more, place, row_more}
-use Rattle.formula_eval.specs.Outlook.{block_cells, cells_of, row_cells, Sight}
+use Rattle.formula_parts.proofs.Blocks.{block_more, place, row_more}
+use Rattle.formula_parts.specs.Outlook.{block_cells, cells_of, row_cells, Sight}
 use Rattle.grid_address.specs.Place.{Extent, Place}
 use Rattle.sheet_edits.specs.Spans.{written_cells}
 use Rattle.sheet_store.specs.declared.writes.Write.{Write}

@@ -11,7 +11,7 @@ use Rattle.commands_range.specs.declared.values.Layout.{Layout}
 use Rattle.commands_range.specs.declared.values.Layout.TheVariants as layout
 use Rattle.desk_errors.specs.declared.error.CommandError.{CommandError}
 use Rattle.desk_errors.specs.declared.error.CommandError.TheVariants as error
-use Rattle.formula_eval.specs.declared.look.Scene.{Scene}
+use Rattle.formula_parts.specs.declared.look.Scene.{Scene}
 use Rattle.formula_tree.specs.declared.value.Content.{Content}
 use Rattle.formula_tree.specs.declared.value.Content.TheVariants as content
 use Rattle.grid_address.specs.Place.{Extent, Place}
@@ -27,7 +27,7 @@ use Rattle.sheet_shifts.specs.declared.shift.Shift.TheVariants.{Block}
 use Rattle.sheet_store.specs.Grid.{cells_within, Grid}
 use Rattle.sheet_store.specs.State.{CellState}
 use Rattle.sheet_store.specs.declared.writes.Write.{Write}
-use Rattle.formula_eval.specs.Outlook.{cells_of}
+use Rattle.formula_parts.specs.Outlook.{cells_of}
 use Rattle.work_sheet.specs.Doing.{Done}
 use Rattle.work_sheet.specs.Editing as editing
 use Rattle.work_sheet.specs.Seen.{Sheet}

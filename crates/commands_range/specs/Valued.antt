@@ -6,8 +6,8 @@ use Rattle.command_desk.specs.Writing.{sight_in}
 use Rattle.commands_range.specs.declared.values.Layout.{Layout}
 use Rattle.commands_range.specs.declared.values.Layout.TheVariants as layout
 use Rattle.desk_errors.specs.declared.error.CommandError.TheVariants as error
-use Rattle.formula_eval.specs.Outlook.{cells_of, Sight}
-use Rattle.formula_eval.specs.declared.look.Scene.{Scene}
+use Rattle.formula_parts.specs.Outlook.{cells_of, Sight}
+use Rattle.formula_parts.specs.declared.look.Scene.{Scene}
 use Rattle.grid_address.specs.Place.{height_of, width_of, Extent, Place}
 use Rattle.sheet_edits.specs.Spans.{block_at}
 use Rattle.sheet_store.specs.declared.writes.Write.{Write}

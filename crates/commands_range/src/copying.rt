@@ -7,7 +7,8 @@ ghost use Rattle.sheet_edits.specs.Spans.{target_of};
 
 use crate::work::Work;
 use command_desk::{CommandEnd, settled, span_at};
-use formula_eval::{Scene, Tally};
+use formula_eval::Tally;
+use formula_parts::Scene;
 use grid_address::Span;
 use lics_text::Memory;
 use session_rooms::Answers;

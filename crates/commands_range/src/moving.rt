@@ -7,7 +7,8 @@ ghost use Rattle.sheet_shifts.specs.declared.shift.Shift.TheVariants.{Block};
 
 use crate::work::Work;
 use command_desk::{CommandEnd, cell_at, move_cells, span_at};
-use formula_eval::{Scene, Tally};
+use formula_eval::Tally;
+use formula_parts::Scene;
 use grid_address::{Cell, Span};
 use lics_text::Memory;
 use session_rooms::Answers;

@@ -5,7 +5,7 @@ ghost use Rattle.command_desk.specs.Writing.{sight_in};
 ghost use Rattle.commands_range.specs.Valued.{cols_in, inside, rows_in, source_at, target_of};
 ghost use Rattle.commands_range.specs.Valued.{value_of, valued_from, valued_into, values_of};
 ghost use Rattle.commands_range.specs.inner.Works.{HasActedOn};
-ghost use Rattle.formula_eval.specs.Outlook.{row_cells};
+ghost use Rattle.formula_parts.specs.Outlook.{row_cells};
 ghost use Rattle.grid_address.specs.Place.{height_of, width_of};
 ghost use Rattle.sheet_edits.specs.Spans.{block_at};
 ghost use Rattle.work_sheet.specs.Seen.{of_worksheet};

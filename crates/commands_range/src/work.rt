@@ -1,5 +1,6 @@
 // What commands work on.
-use formula_eval::{Scene, Tally};
+use formula_eval::Tally;
+use formula_parts::Scene;
 use work_sheet::Worksheet;
 
 /// A worksheet that is worked on at a scene, and the count of its evaluations.

@@ -6,7 +6,7 @@ use Rattle.std.proofs.Common.{ap, subst, sym, ◌∙◌}
 use Rattle.command_desk.specs.Acting.{HasActedBy}
 use Rattle.command_desk.specs.declared.ending.CommandEnd.TheVariants.{Finished}
 use Rattle.formula_eval.specs.Mean.{mean}
-use Rattle.formula_eval.specs.declared.look.Scene.{Scene}
+use Rattle.formula_parts.specs.declared.look.Scene.{Scene}
 use Rattle.grid_address.specs.Place.{place_cmp, same_place, Place}
 use Rattle.cell_maps.specs.Sets.{has}
 use Rattle.recalculation.specs.Context.{formula_of}

@@ -9,7 +9,7 @@ use Rattle.command_desk.specs.declared.formats.FormatChoice.TheVariants as choic
 use Rattle.commands_worksheet.specs.declared.lines.LineEdit.{LineEdit}
 use Rattle.commands_worksheet.specs.declared.lines.LineEdit.TheVariants as lines
 use Rattle.desk_errors.specs.declared.error.CommandError.{CommandError}
-use Rattle.formula_eval.specs.declared.look.Scene.{Scene}
+use Rattle.formula_parts.specs.declared.look.Scene.{Scene}
 use Rattle.grid_address.specs.Place.{height_of, width_of, Extent}
 use Rattle.lics_text.specs.declared.prefix.LabelPrefix.TheVariants.{Left, Right, Center}
 use Rattle.menu_tree.specs.declared.menu.Action.TheVariants as action

@@ -6,7 +6,8 @@ ghost use Rattle.ref_adjust.specs.Lines.{IsChange};
 ghost use Rattle.sheet_shifts.specs.declared.shift.Shift.TheVariants.{Lines};
 
 use command_desk::{CommandEnd, move_cells, span_at};
-use formula_eval::{Scene, Tally};
+use formula_eval::Tally;
+use formula_parts::Scene;
 use grid_address::Span;
 use lics_text::Memory;
 use ref_adjust::Change;

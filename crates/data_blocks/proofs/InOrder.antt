@@ -10,7 +10,7 @@ use Rattle.std.proofs.Common.{inl, inr}
 use Rattle.std.proofs.lemmas.Bool.{cases_Bool, false≢true, true≢false}
 use Rattle.std.proofs.lemmas.List.MinMax.{ranks_by}
 use Rattle.grid_address.specs.Place.{Extent}
-use Rattle.formula_eval.specs.Outlook.{Sight}
+use Rattle.formula_parts.specs.Outlook.{Sight}
 use Rattle.block_writes.specs.Writing.{columns_of, rows_copied, rows_of}
 use Rattle.sheet_store.specs.declared.writes.Write.{Write}
 use Rattle.data_blocks.specs.Sorting.{in_order, order_of_rows, placed, rows_sorted, IsSort, IsStableSort}

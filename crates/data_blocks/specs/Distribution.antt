@@ -6,7 +6,7 @@ use Rattle.grid_address.specs.Limits.{LAST_COLUMN, LAST_ROW}
 use Rattle.grid_address.specs.Place.{height_of, Extent, Place}
 use Rattle.formula_tree.specs.declared.value.Value.{Value}
 use Rattle.formula_tree.specs.declared.value.Value.TheVariants as value
-use Rattle.formula_eval.specs.Outlook.{filled, Sight}
+use Rattle.formula_parts.specs.Outlook.{filled, Sight}
 use Rattle.value_functions.specs.Values.{counted}
 use Rattle.block_writes.specs.Writing.{as_content, down, numbers_from, rows_of, written}
 use Rattle.sheet_store.specs.declared.writes.SheetFault.TheVariants as sheet_fault

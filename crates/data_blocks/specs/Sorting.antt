@@ -9,7 +9,7 @@ use Rattle.grid_address.specs.Place.{Extent, Place}
 use Rattle.formula_tree.specs.declared.value.Value.{Value}
 use Rattle.formula_tree.specs.declared.value.Value.TheVariants as value
 use Rattle.value_functions.specs.Operators.{order_of_texts}
-use Rattle.formula_eval.specs.Outlook.{Sight}
+use Rattle.formula_parts.specs.Outlook.{Sight}
 use Rattle.block_writes.specs.Writing.{at, columns_of, rows_copied, rows_of}
 use Rattle.sheet_store.specs.declared.writes.Write.{Write}
 use Rattle.data_blocks.specs.declared.key.SortKey.{SortKey}

@@ -7,7 +7,7 @@ ghost use Rattle.std.specs.Ordering.{int_cmp};
 ghost use Rattle.grid_address.specs.Place.{height_of};
 ghost use Rattle.formula_tree.specs.Seen.{seen_value};
 ghost use Rattle.value_functions.specs.Values.{counted};
-ghost use Rattle.formula_eval.specs.Outlook.{filled, Sight};
+ghost use Rattle.formula_parts.specs.Outlook.{filled, Sight};
 ghost use Rattle.block_writes.specs.Writing.{as_content, at, written};
 ghost use Rattle.data_blocks.specs.Distribution.{bin_of, distributed, distribution, has_no_room, is_above, is_in_bin, number_of, numbers_in};
 
@@ -15,7 +15,7 @@ use crate::BlockFault;
 use crate::rows::row_cell;
 use block_writes::{content_of, written};
 use fixed_value::Fixed;
-use formula_eval::Look;
+use formula_parts::Look;
 use formula_tree::ValueRef;
 use grid_address::{Cell, LAST_COLUMN, LAST_ROW, Span};
 use lics_text::Memory;

@@ -3,14 +3,14 @@ ghost use Rattle.std.specs.Prelude.{◌≡◌, OnOk, IfOk, IfErr, map};
 ghost use Rattle.std.specs.List.Sorted.{IsPermutation, IsSortedBy, IsStableBy};
 ghost use Rattle.std.specs.Ordering.{is_lt, ordering_reverse};
 ghost use Rattle.grid_address.specs.Place.{Place};
-ghost use Rattle.formula_eval.specs.Outlook.{Sight};
+ghost use Rattle.formula_parts.specs.Outlook.{Sight};
 ghost use Rattle.block_writes.specs.Writing.{down, rows_of};
 ghost use Rattle.data_blocks.specs.Sorting.{order_by_key, order_of_rows, rows_sorted, turned, IsSort};
 
 use crate::rows::row_cell;
 use crate::{BlockFault, SortKey, order_of_values};
 use block_writes::rows_copied;
-use formula_eval::Look;
+use formula_parts::Look;
 use grid_address::{Cell, Span};
 use lics_text::Memory;
 use sheet_store::Writes;

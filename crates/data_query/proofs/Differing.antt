@@ -3,9 +3,9 @@ use Rattle.std.proofs.Common.{◌≡◌, ℕ, ◌-◌, ◌≤◌, List, map, len
 use Rattle.std.specs.Prelude.{Bool, true, false}
 use Rattle.std.proofs.lemmas.List.{length-map}
 use Rattle.grid_address.specs.Place.{Extent, Place}
-use Rattle.formula_eval.specs.Outlook.{Outlook}
+use Rattle.formula_parts.specs.Outlook.{Outlook}
 use Rattle.block_writes.specs.Writing.{at}
-use Rattle.formula_eval.specs.Criteria.{record_matches}
+use Rattle.record_match.specs.Criteria.{record_matches}
 use Rattle.data_query.specs.Extraction.{extracted_rows, same_record, without_repeats}
 use Rattle.grid_address.specs.Lines.{last_row}
 use Rattle.data_query.specs.Selection.{chosen}

@@ -13,7 +13,7 @@ use Rattle.grid_address.specs.Place.{Place}
 use Rattle.formula_tree.specs.Values.{same_value}
 use Rattle.formula_tree.specs.declared.value.Value.{Value}
 use Rattle.formula_tree.specs.declared.value.Value.TheVariants as value
-use Rattle.formula_eval.specs.Outlook.{Sight}
+use Rattle.formula_parts.specs.Outlook.{Sight}
 use Rattle.block_writes.specs.Writing.{at}
 use Rattle.data_query.specs.Extraction.{same_record, without_repeats}
 use Rattle.data_query.specs.declared.output.OutputField.{OutputField}

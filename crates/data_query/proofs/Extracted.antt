@@ -6,7 +6,7 @@ use Rattle.std.specs.Result.{result_and}
 use Rattle.std.proofs.lemmas.Bool.{le-ltb, lt-ltb}
 use Rattle.std.proofs.lemmas.List.{append-nil, drop_all, drop_more}
 use Rattle.grid_address.specs.Place.{Extent}
-use Rattle.formula_eval.specs.Outlook.{Outlook, Sight}
+use Rattle.formula_parts.specs.Outlook.{Outlook, Sight}
 use Rattle.sheet_store.specs.declared.writes.Write.{Write}
 use Rattle.data_query.specs.Extraction.{extraction, fields_extracted, labelled, output_written, room_of, rows_extracted}
 use Rattle.data_query.specs.Extraction.{taken_fields}

@@ -9,7 +9,7 @@ use Rattle.std.proofs.lemmas.List.{map-append}
 use Rattle.grid_address.specs.Place.{Place}
 use Rattle.formula_tree.specs.Values.{same_value}
 use Rattle.formula_tree.specs.declared.value.Value.{Value}
-use Rattle.formula_eval.specs.Outlook.{Sight}
+use Rattle.formula_parts.specs.Outlook.{Sight}
 use Rattle.block_writes.specs.Writing.{at}
 use Rattle.data_query.specs.Extraction.{same_record}
 use Rattle.data_query.specs.inner.Keys.{all_keyed, keyed, record_values, same_values}

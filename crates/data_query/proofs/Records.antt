@@ -5,7 +5,7 @@ use Rattle.std.specs.Prelude.{Bool, true, false}
 use Rattle.std.specs.List.{filter}
 use Rattle.std.proofs.lemmas.List.{length-map}
 use Rattle.grid_address.specs.Place.{Extent, Place}
-use Rattle.formula_eval.specs.Outlook.{Outlook, Sight}
+use Rattle.formula_parts.specs.Outlook.{Outlook, Sight}
 use Rattle.block_writes.specs.Writing.{at, columns_of, numbers_from, rows_below, rows_copied, rows_of}
 use Rattle.sheet_store.specs.declared.writes.Write.{Write}
 use Rattle.data_query.specs.inner.Plans.{behind_first, records}

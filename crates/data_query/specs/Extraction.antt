@@ -4,10 +4,10 @@ use Rattle.std.specs.List.{filter, filter_map, find, flat_map, list_all, zip}
 use Rattle.std.specs.Result.{result_and}
 use Rattle.grid_address.specs.Place.{Extent}
 use Rattle.formula_tree.specs.Values.{same_value}
-use Rattle.formula_eval.specs.Outlook.{Outlook, Sight}
+use Rattle.formula_parts.specs.Outlook.{Outlook, Sight}
 use Rattle.block_writes.specs.Writing.{at, columns_of, numbers_from, value_copied}
 use Rattle.sheet_store.specs.declared.writes.Write.{Write}
-use Rattle.formula_eval.specs.Fields.{field_named, is_label_at, is_no_field}
+use Rattle.record_match.specs.Fields.{field_named, is_label_at, is_no_field}
 use Rattle.grid_address.specs.Lines.{last_row}
 use Rattle.data_query.specs.Selection.{asked, chosen, rows_erased}
 use Rattle.data_query.specs.declared.fault.QueryFault.{QueryFault}

@@ -2,11 +2,11 @@
 use Rattle.std.specs.Prelude.{ℕ, ◌+◌, ◌-◌, not, Option, None, Some, List, ◌++◌, length, map, Result, Ok, Err, if◌then◌else◌}
 use Rattle.std.specs.List.{filter, flat_map}
 use Rattle.grid_address.specs.Place.{Extent, Place}
-use Rattle.formula_eval.specs.Outlook.{Outlook, Sight}
+use Rattle.formula_parts.specs.Outlook.{Outlook, Sight}
 use Rattle.block_writes.specs.Writing.{across, at, columns_of, erased, numbers_from, rows_below, rows_copied}
 use Rattle.sheet_store.specs.declared.writes.Write.{Write}
-use Rattle.formula_eval.specs.Criteria.{missing, record_matches}
-use Rattle.formula_eval.specs.Fields.{has_fields}
+use Rattle.record_match.specs.Criteria.{missing, record_matches}
+use Rattle.record_match.specs.Fields.{has_fields}
 use Rattle.data_query.specs.declared.fault.QueryFault.{QueryFault}
 use Rattle.data_query.specs.declared.fault.QueryFault.TheVariants as fault
 

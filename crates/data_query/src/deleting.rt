@@ -1,8 +1,8 @@
 // What deleting the records that match writes.
 ghost use Rattle.std.specs.Prelude.{◌≡◌, ◌⊎◌, ◌<◌, ◌≤◌, ◌+◌, ◌-◌, IfOk, IfErr, Ok, Err, length, map};
 ghost use Rattle.grid_address.specs.Place.{Place};
-ghost use Rattle.formula_eval.specs.Outlook.{Sight};
-ghost use Rattle.formula_eval.specs.Scenes.{outlook_of};
+ghost use Rattle.formula_parts.specs.Outlook.{Sight};
+ghost use Rattle.formula_parts.specs.Scenes.{outlook_of};
 ghost use Rattle.data_query.specs.inner.Plans.{behind_first};
 ghost use Rattle.data_query.specs.Selection.{deletion, kept, moved_up};
 
@@ -11,7 +11,7 @@ use crate::erasing::push_rows_erased;
 use crate::missing::asked;
 use crate::plan::records;
 use block_writes::rows_copied;
-use formula_eval::{Look, Scene};
+use formula_parts::{Look, Scene};
 use grid_address::{Cell, CellList, Span, count_below, row_below};
 use lics_text::Memory;
 use sheet_store::Writes;

@@ -2,8 +2,8 @@
 ghost use Rattle.std.specs.Prelude.{◌≡◌, ◌⊎◌, ◌≤◌, ◌+◌, ◌++◌, ◌∷◌, [], IfOk, IfErr, OnOk, Ok, Err, length, map};
 ghost use Rattle.grid_address.specs.Place.{Place};
 ghost use Rattle.grid_address.specs.Lines.{last_row};
-ghost use Rattle.formula_eval.specs.Outlook.{Sight};
-ghost use Rattle.formula_eval.specs.Scenes.{outlook_of};
+ghost use Rattle.formula_parts.specs.Outlook.{Sight};
+ghost use Rattle.formula_parts.specs.Scenes.{outlook_of};
 ghost use Rattle.block_writes.specs.Writing.{at, numbers_from, value_copied};
 ghost use Rattle.data_query.specs.Extraction.{extracted_rows, extraction, fields_extracted, output_written, record_written, records_written, room_of, rows_extracted};
 
@@ -14,7 +14,7 @@ use crate::output::{OutputField, labelled, room_of, taken_fields};
 use crate::repeats::without_repeats;
 use crate::selecting::chosen;
 use block_writes::value_copied;
-use formula_eval::{Look, Scene};
+use formula_parts::{Look, Scene};
 use grid_address::{Cell, CellList, Span, row_below};
 use lics_text::Memory;
 use sheet_store::Writes;

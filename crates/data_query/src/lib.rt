@@ -14,7 +14,7 @@ mod selecting;
 pub use deleting::deletion;
 pub use extracting::extract;
 pub use fault::QueryFault;
-pub use formula_eval::{Match, content_holds, matches};
 pub use grid_address::rows_down;
+pub use record_match::{Match, content_holds, matches};
 pub use selecting::select;
 pub use value_functions::{equals_number, fits, is_true, value_is_like};

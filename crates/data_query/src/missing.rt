@@ -1,11 +1,12 @@
 // What a query is refused for: its input names no fields, or a header of its criterion names none of them.
 ghost use Rattle.std.specs.Prelude.{◌≡◌};
-ghost use Rattle.formula_eval.specs.Outlook.{Sight};
+ghost use Rattle.formula_parts.specs.Outlook.{Sight};
 ghost use Rattle.data_query.specs.Selection.{asked};
 
 use crate::QueryFault;
-use formula_eval::{Look, has_fields, missing};
+use formula_parts::Look;
 use grid_address::{Cell, Span};
+use record_match::{has_fields, missing};
 
 /// Why a query is refused before its records are looked at.
 pub fn asked<K: Look>(look: &K, input: Span, criterion: Span) -> Result<(), QueryFault>

@@ -2,15 +2,16 @@
 ghost use Rattle.std.specs.Prelude.{◌≡◌, ◌≤◌, ◌<◌, ◌+◌, ◌++◌, IfOk, OnOk, option_to_list};
 ghost use Rattle.grid_address.specs.Place.{width_of};
 ghost use Rattle.grid_address.specs.Lines.{last_row};
-ghost use Rattle.formula_eval.specs.Fields.{field_named};
-ghost use Rattle.formula_eval.specs.Outlook.{Sight};
+ghost use Rattle.record_match.specs.Fields.{field_named};
+ghost use Rattle.formula_parts.specs.Outlook.{Sight};
 ghost use Rattle.block_writes.specs.Writing.{at};
 ghost use Rattle.data_query.specs.Extraction.{is_unknown, labelled, room_of, output_field, taken_fields, unknown_label};
 
 use crate::QueryFault;
-use formula_eval::{Look, field_named, is_label_at, is_no_field};
+use formula_parts::Look;
 use grid_address::{Cell, LAST_ROW, Span, column_at, header};
 use lics_text::Memory;
+use record_match::{field_named, is_label_at, is_no_field};
 use std::alloc::Global;
 
 /// A field that an output takes: its column in the input, and the column of the output.

@@ -1,14 +1,15 @@
 // The records that match a criterion, or the others.
 ghost use Rattle.std.specs.Prelude.{◌≡◌, IfOk, map};
 ghost use Rattle.grid_address.specs.Lines.{at};
-ghost use Rattle.formula_eval.specs.Criteria.{fields_of};
-ghost use Rattle.formula_eval.specs.Outlook.{Sight};
-ghost use Rattle.formula_eval.specs.Scenes.{outlook_of};
+ghost use Rattle.record_match.specs.Criteria.{fields_of};
+ghost use Rattle.formula_parts.specs.Outlook.{Sight};
+ghost use Rattle.formula_parts.specs.Scenes.{outlook_of};
 ghost use Rattle.data_query.specs.inner.Plans.{is_wanted, records};
 
-use formula_eval::{Look, Scene, fields_of, record_matches};
+use formula_parts::{Look, Scene};
 use grid_address::{CellList, Span, cell_below, count_below, row_below};
 use lics_text::Memory;
+use record_match::{fields_of, record_matches};
 use std::alloc::Global;
 
 // Whether the records that match are wanted, or the others.

@@ -2,14 +2,14 @@
 ghost use Rattle.std.specs.Prelude.{◌≡◌, ◌++◌, ◌∷◌, [], map, IfOk, OnOk, if◌then◌else◌};
 ghost use Rattle.std.specs.List.{list_any};
 ghost use Rattle.grid_address.specs.Place.{Place};
-ghost use Rattle.formula_eval.specs.Outlook.{Sight};
+ghost use Rattle.formula_parts.specs.Outlook.{Sight};
 ghost use Rattle.formula_tree.specs.Seen.{seen_value};
 ghost use Rattle.block_writes.specs.Writing.{at};
 ghost use Rattle.data_query.specs.Extraction.{same_record, without_repeats};
 ghost use Rattle.data_query.specs.inner.Keys.{all_keyed, keyed, record_values, same_values};
 
 use crate::output::OutputField;
-use formula_eval::Look;
+use formula_parts::Look;
 use formula_tree::ValueRef;
 use grid_address::{Cell, CellList};
 use indexmap::IndexSet;

@@ -1,14 +1,14 @@
 // The records that a criterion chooses.
 ghost use Rattle.std.specs.Prelude.{◌≡◌, ◌⊎◌, IfOk, IfErr, Ok, Err, map};
-ghost use Rattle.formula_eval.specs.Outlook.{Sight};
-ghost use Rattle.formula_eval.specs.Scenes.{outlook_of};
+ghost use Rattle.formula_parts.specs.Outlook.{Sight};
+ghost use Rattle.formula_parts.specs.Scenes.{outlook_of};
 ghost use Rattle.block_writes.specs.Writing.{at};
 ghost use Rattle.data_query.specs.Selection.{chosen, selection};
 
 use crate::QueryFault;
 use crate::missing::asked;
 use crate::plan::records;
-use formula_eval::{Look, Scene};
+use formula_parts::{Look, Scene};
 use grid_address::{CellList, Span};
 use lics_text::Memory;
 use std::alloc::Global;

@@ -1,12 +1,2 @@
-pub mod Attributes
-pub mod Calls
-pub mod Criteria
-pub mod Databases
-pub mod Fields
-pub mod Lists
-pub mod Lookups
 pub mod Mean
-pub mod Outlook
-pub mod Parts
-pub mod Scenes
 pub mod inner

@@ -5,9 +5,9 @@ use Rattle.grid_address.specs.Place.{is_within, Place}
 use Rattle.formula_tree.specs.Spans.{spans_of}
 use Rattle.formula_tree.specs.Tree.{Tree}
 use Rattle.formula_tree.specs.declared.value.Value.{Value}
-use Rattle.formula_eval.specs.Databases.{database_value}
-use Rattle.formula_eval.specs.Outlook.{Outlook}
-use Rattle.formula_eval.specs.Parts.{filled_in, value_by}
+use Rattle.record_match.specs.Databases.{database_value}
+use Rattle.formula_parts.specs.Outlook.{Outlook}
+use Rattle.formula_parts.specs.Parts.{filled_in, value_by}
 
 -- its value, with the records that its functions of records speak of
 unfoldable pub mean : Tree → Place → Outlook → Value

@@ -2,7 +2,7 @@
 use Rattle.std.specs.Prelude.{ℕ, suc, ◌≡◌, Bool, true, false, if◌then◌else◌, refl}
 use Rattle.std.proofs.Common.{subst, sym}
 use Rattle.formula_eval.specs.Mean.{mean}
-use Rattle.formula_eval.specs.declared.look.Scene.{Scene}
+use Rattle.formula_parts.specs.declared.look.Scene.{Scene}
 use Rattle.macro_words.specs.declared.running.Sweep.{Sweep}
 use Rattle.work_sheet.proofs.Done.{did_both}
 use Rattle.work_sheet.specs.Did.{Did}

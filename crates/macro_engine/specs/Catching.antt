@@ -1,7 +1,7 @@
 -- Errors that a macro catches by ONERROR.
 use Rattle.std.specs.Prelude.{◌≡◌, ℕ, Bool, is_some, List, [], ◌∷◌, Option, None, Some, if◌then◌else◌}
 use Rattle.block_writes.specs.Writing.{written}
-use Rattle.formula_eval.specs.declared.look.Scene.{Scene}
+use Rattle.formula_parts.specs.declared.look.Scene.{Scene}
 use Rattle.grid_address.specs.Place.{Place}
 use Rattle.macro_text.specs.Units.{start_of}
 use Rattle.macro_words.specs.Moves.{going}

@@ -2,8 +2,8 @@
 use Rattle.std.specs.Option.{option_map_or}
 use Rattle.std.specs.Prelude.{ℕ, zero, suc, Bool, false, List, [], ◌∷◌, Option, None, if◌then◌else◌}
 use Rattle.formula_eval.specs.Mean.{mean}
-use Rattle.formula_eval.specs.Outlook.{Outlook}
-use Rattle.formula_eval.specs.declared.look.Scene.{Scene}
+use Rattle.formula_parts.specs.Outlook.{Outlook}
+use Rattle.formula_parts.specs.declared.look.Scene.{Scene}
 use Rattle.grid_address.specs.Place.{Place}
 use Rattle.macro_text.specs.Arguments.{meaning_of}
 use Rattle.macro_words.specs.Rows.{is_true}
@@ -13,7 +13,7 @@ use Rattle.macro_words.specs.declared.running.Sweep.{Sweep}
 use Rattle.recalculation.specs.Context.{outlook_at}
 use Rattle.sheet_edits.specs.Spans.{sooner, written_cells}
 use Rattle.sheet_store.specs.Grid.{Grid}
-use Rattle.formula_eval.specs.Outlook.{cells_of}
+use Rattle.formula_parts.specs.Outlook.{cells_of}
 use Rattle.work_sheet.specs.Doing.{and_then, context_in, quiet, settled, Done}
 use Rattle.work_sheet.specs.Editing.{all_written, erased}
 use Rattle.work_sheet.specs.Seen.{Sheet}

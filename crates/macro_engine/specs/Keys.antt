@@ -1,6 +1,6 @@
 -- A key that a macro takes which waits for one.
 use Rattle.std.specs.Prelude.{not, Bool, true, false, Option, None, Some, if◌then◌else◌}
-use Rattle.formula_eval.specs.declared.look.Scene.{Scene}
+use Rattle.formula_parts.specs.declared.look.Scene.{Scene}
 use Rattle.key_words.specs.declared.key.Key.{Key}
 use Rattle.key_words.specs.declared.key.Key.TheVariants as key
 use Rattle.macro_words.specs.Keys.{key_row}

@@ -1,7 +1,7 @@
 -- One step of a macro: its next unit, carried out over the sheet.
 use Rattle.std.specs.Prelude.{◌≡◌, ℕ, Bool, true, false, [], ◌∷◌, Option, None, Some, Ok, Err, option_map}
 use Rattle.lics_text.specs.Ascii as ascii
-use Rattle.formula_eval.specs.declared.look.Scene.{Scene}
+use Rattle.formula_parts.specs.declared.look.Scene.{Scene}
 use Rattle.formula_text.specs.Words.{named_span}
 use Rattle.grid_address.specs.Place.{Place}
 use Rattle.macro_text.specs.Units.{next_unit, Next}

@@ -10,7 +10,8 @@ ghost use Rattle.work_sheet.specs.Seen.{of_worksheet};
 
 use crate::changes::carry_out;
 use block_writes::written;
-use formula_eval::{Scene, Tally};
+use formula_eval::Tally;
+use formula_parts::Scene;
 use formula_tree::Content;
 use grid_address::Cell;
 use lics_text::{LabelPrefix, Memory, Text};

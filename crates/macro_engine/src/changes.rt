@@ -8,7 +8,8 @@ ghost use Rattle.work_sheet.specs.Seen.{of_worksheet};
 ghost use Rattle.macro_engine.specs.inner.Carried.{HasCarried, HasSettled, WasRefused};
 
 use crate::sweeping::sweep_span;
-use formula_eval::{Scene, Tally};
+use formula_eval::Tally;
+use formula_parts::Scene;
 use grid_address::{Cell, Span};
 use lics_text::Memory;
 use macro_words::Change;

@@ -12,7 +12,8 @@ ghost use Rattle.work_sheet.specs.Seen.{of_worksheet};
 
 use crate::catching::caught;
 use crate::steps::{Outcome, StepEnd, deed_stepped, key_stepped, stepped};
-use formula_eval::{Scene, Tally};
+use formula_eval::Tally;
+use formula_parts::Scene;
 use grid_address::Cell;
 use key_words::{Key, Letter};
 use lics_text::Memory;

@@ -10,7 +10,8 @@ ghost use Rattle.macro_words.specs.Moves as moving;
 ghost use Rattle.work_sheet.specs.Seen.{of_worksheet};
 
 use crate::changes::carry_out;
-use formula_eval::{Scene, Tally};
+use formula_eval::Tally;
+use formula_parts::Scene;
 use grid_address::Cell;
 use key_words::Key;
 use lics_text::{Memory, Text};

@@ -4,7 +4,8 @@ ghost use Rattle.macro_engine.specs.Changes as spec;
 ghost use Rattle.work_sheet.specs.Did.{Did};
 ghost use Rattle.work_sheet.specs.Seen.{of_worksheet};
 
-use formula_eval::{Scene, Tally, glance};
+use formula_eval::{Tally, glance};
+use formula_parts::Scene;
 use lics_text::Memory;
 use macro_words::{Sweep, is_true};
 use work_sheet::Worksheet;

@@ -1,6 +1,6 @@
 -- The next unit of a macro, one word at a time.
 use Rattle.std.proofs.Common.{◌≡◌, ℕ, zero, suc, ◌<◌, sym, ap, ◌∙◌, arith}
-use Rattle.formula_eval.specs.Outlook.{Outlook}
+use Rattle.formula_parts.specs.Outlook.{Outlook}
 use Rattle.macro_text.specs.Units.{go_on, outcome_at, unit_within}
 use Rattle.macro_text.specs.declared.position.Position.{Position}
 use Rattle.macro_text.specs.declared.unit.Unit.{Unit}

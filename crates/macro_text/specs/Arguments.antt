@@ -1,7 +1,7 @@
 -- What an argument tells that is an expression.
 use Rattle.std.specs.Prelude.{ℕ, ℤ, List, Option, Some, None, Result, Ok, Err}
 use Rattle.formula_eval.specs.Mean.{mean}
-use Rattle.formula_eval.specs.Outlook.{Outlook}
+use Rattle.formula_parts.specs.Outlook.{Outlook}
 use Rattle.formula_text.specs.declared.fault.ParseFault.{ParseFault}
 use Rattle.formula_text.specs.Reading.{reading}
 use Rattle.formula_tree.specs.Tree.{Tree}

@@ -1,6 +1,6 @@
 -- The text of a macro, and its parts.
 use Rattle.std.specs.Prelude.{ℕ, List, take, drop, Option, Some, None}
-use Rattle.formula_eval.specs.Outlook.{Sight}
+use Rattle.formula_parts.specs.Outlook.{Sight}
 use Rattle.formula_tree.specs.declared.value.Content.{Content}
 use Rattle.formula_tree.specs.declared.value.Content.TheVariants as content
 use Rattle.formula_tree.specs.declared.value.Value.{Value}

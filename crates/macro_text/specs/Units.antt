@@ -1,7 +1,7 @@
 -- The next unit of a macro, as its text now stands.
 use Rattle.std.specs.Prelude.{ℕ, zero, suc, ℤ, ◌+◌, Bool, true, false, nat_lt, List, Option, Some, None, if◌then◌else◌}
 use Rattle.at_functions.specs.Numbers.{count_of}
-use Rattle.formula_eval.specs.Outlook.{Outlook}
+use Rattle.formula_parts.specs.Outlook.{Outlook}
 use Rattle.formula_text.specs.Words.{named_span}
 use Rattle.grid_address.specs.Place.{Extent, Place}
 use Rattle.grid_address.specs.Limits.{LAST_ROW}

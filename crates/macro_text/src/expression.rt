@@ -1,13 +1,14 @@
 // Arguments that are expressions.
 ghost use Rattle.std.specs.Prelude.{◌≡◌, ◌≤◌, IfOk, IfSome};
 ghost use Rattle.at_functions.specs.Numbers as numbers;
-ghost use Rattle.formula_eval.specs.Scenes.{outlook_of};
+ghost use Rattle.formula_parts.specs.Scenes.{outlook_of};
 ghost use Rattle.macro_text.specs.Arguments as spec;
 ghost use Rattle.macro_text.specs.Read.{IsRead};
 
 use at_functions::whole;
 use fixed_value::Fixed;
-use formula_eval::{Look, Scene, glance};
+use formula_eval::glance;
+use formula_parts::{Look, Scene};
 use formula_text::{ParseFault, read};
 use formula_tree::{Formula, Value};
 use grid_address::Cell;

@@ -5,7 +5,7 @@ ghost use Rattle.lics_text.specs.Bytes.{IsText};
 ghost use Rattle.macro_text.specs.Texts as spec;
 ghost use Rattle.value_functions.specs.Values.{text_in};
 
-use formula_eval::Look;
+use formula_parts::Look;
 use formula_tree::{ContentRef, ValueRef};
 use grid_address::Cell;
 use key_words::Cut;

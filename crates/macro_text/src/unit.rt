@@ -1,6 +1,6 @@
 // The next unit of a macro.
 ghost use Rattle.std.specs.Prelude.{◌≡◌, IfOk};
-ghost use Rattle.formula_eval.specs.Scenes.{outlook_of};
+ghost use Rattle.formula_parts.specs.Scenes.{outlook_of};
 ghost use Rattle.formula_text.specs.Words.{named_span};
 ghost use Rattle.lics_text.specs.Bytes.{IsText};
 ghost use Rattle.macro_text.specs.Units as spec;
@@ -9,7 +9,7 @@ use crate::expression::{count_of, number_of};
 use crate::pieces::{macro_text, part};
 use crate::{KeptWords, Position, Spot};
 use fixed_value::Fixed;
-use formula_eval::{Look, Scene};
+use formula_parts::{Look, Scene};
 use grid_address::{Cell, LAST_ROW};
 use key_words::{Key, MacroWord};
 use lics_text::Memory;

@@ -1,7 +1,7 @@
 -- The items of a menu, counted and looked through one by one.
 use Rattle.std.proofs.Common.{◌≡◌, ℕ, suc, ◌+◌, Bool, true, false, None, Some, ap, ◌∙◌}
 use Rattle.std.specs.Prelude.{is_some, if◌then◌else◌}
-use Rattle.formula_eval.specs.Outlook.{Sight}
+use Rattle.formula_parts.specs.Outlook.{Sight}
 use Rattle.grid_address.specs.Place.{Place}
 use Rattle.macro_words.specs.Items.{begins_with, chosen_from, item_text, items_from}
 

@@ -1,8 +1,8 @@
 -- The items of a macro's menu: labels side by side in cells, as they now stand.
 use Rattle.std.specs.Char.{to_ascii_uppercase}
 use Rattle.std.specs.Prelude.{ℕ, zero, suc, ◌+◌, ◌==◌, nat_lt, min, Bool, false, List, ◌∷◌, Option, None, Some, if◌then◌else◌, is_some}
-use Rattle.formula_eval.specs.Fields.{label_in}
-use Rattle.formula_eval.specs.Outlook.{Sight}
+use Rattle.record_match.specs.Fields.{label_in}
+use Rattle.formula_parts.specs.Outlook.{Sight}
 use Rattle.grid_address.specs.Place.{Place}
 use Rattle.grid_address.specs.Limits.{COLUMNS, LAST_COLUMN}
 use Rattle.macro_words.specs.declared.waiting.MacroMenu.{MacroMenu}

@@ -1,7 +1,7 @@
 -- What a key does to a macro that waits.
 use Rattle.std.specs.Prelude.{ℕ, List, [], ◌∷◌, ◌++◌, codes, Option, None, Some}
 use Rattle.entry_line.specs.Line.{after}
-use Rattle.formula_eval.specs.Outlook.{Outlook}
+use Rattle.formula_parts.specs.Outlook.{Outlook}
 use Rattle.formula_tree.specs.declared.value.Value.{Value}
 use Rattle.formula_tree.specs.declared.value.Value.TheVariants as value
 use Rattle.grid_address.specs.Place.{Place}

@@ -5,7 +5,7 @@ use Rattle.std.specs.Str.{str_eq_ignore_ascii_case}
 use Rattle.at_functions.specs.Numbers.{count_of}
 use Rattle.block_writes.specs.Writing.{as_content, written}
 use Rattle.entry_line.specs.Line.{nothing}
-use Rattle.formula_eval.specs.Outlook.{Outlook}
+use Rattle.formula_parts.specs.Outlook.{Outlook}
 use Rattle.formula_text.specs.Words.{named_span}
 use Rattle.formula_tree.specs.Tree.{Tree}
 use Rattle.formula_tree.specs.declared.ast.Op.TheVariants.{Add}

@@ -1,7 +1,7 @@
 -- What words read.
-use Rattle.formula_eval.specs.Outlook.{Outlook}
-use Rattle.formula_eval.specs.Scenes.{outlook_of}
-use Rattle.formula_eval.specs.declared.look.Look
+use Rattle.formula_parts.specs.Outlook.{Outlook}
+use Rattle.formula_parts.specs.Scenes.{outlook_of}
+use Rattle.formula_parts.specs.declared.look.Look
 use Rattle.macro_words.specs.declared.source.Source.{Source}
 
 -- what formulas look at from there

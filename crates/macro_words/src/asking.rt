@@ -14,7 +14,7 @@ use crate::{
 };
 use entry_line::EntryLine;
 use fixed_value::Fixed;
-use formula_eval::Look;
+use formula_parts::Look;
 use formula_tree::{Function, Value};
 use grid_address::Cell;
 use key_words::Command;

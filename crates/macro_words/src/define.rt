@@ -9,7 +9,7 @@ use crate::rows::bad;
 use crate::values::{AS_STRING, AS_VALUE, ends_in, text_value, without};
 use crate::{Change, Deed, Frame, Move, Row, Running, Source};
 use block_writes::{content_of, written};
-use formula_eval::Look;
+use formula_parts::Look;
 use formula_tree::Value;
 use grid_address::Cell;
 use key_words::{MacroWord, unit_at};

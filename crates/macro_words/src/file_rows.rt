@@ -7,7 +7,7 @@ use crate::asking::text_given;
 use crate::rows::{bad, below, moves};
 use crate::writing::{count_given, within};
 use crate::{FileDeed, FileWord, Move, Row, Source};
-use formula_eval::Look;
+use formula_parts::Look;
 use lics_text::{MAX_LEN, Memory};
 use macro_text::{Spot, TextList, place_of};
 use outside_world::{Ext, FileName};

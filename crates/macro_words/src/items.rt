@@ -1,10 +1,10 @@
 // The items of a macro's menu.
 ghost use Rattle.std.specs.Prelude.{◌≡◌, ◌≤◌, IfNone, IfSome, None, Some};
-ghost use Rattle.formula_eval.specs.Fields.{label_in};
+ghost use Rattle.record_match.specs.Fields.{label_in};
 ghost use Rattle.macro_words.specs.Items as spec;
 
 use crate::MacroMenu;
-use formula_eval::Look;
+use formula_parts::Look;
 use formula_tree::ContentRef;
 use grid_address::{COLUMNS, Cell, LAST_COLUMN};
 use lics_text::Text;

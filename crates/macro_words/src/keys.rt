@@ -9,7 +9,7 @@ use crate::items::{beside, chosen_by};
 use crate::rows::{below, calls_at, moves};
 use crate::values::{puts_text, puts_value};
 use crate::{KeptQuestion, MacroMenu, Move, Question, Row, Running, Source, Waiting, Wanted};
-use formula_eval::Look;
+use formula_parts::Look;
 use formula_tree::Value;
 use grid_address::Cell;
 use item_ring::highlighted;

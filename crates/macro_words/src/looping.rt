@@ -11,7 +11,7 @@ use crate::rows::{bad, has_room, moves};
 use crate::values::{puts_one, puts_value};
 use crate::{Frame, Loop, Move, Row, Running, Source};
 use fixed_value::Fixed;
-use formula_eval::Look;
+use formula_parts::Look;
 use formula_tree::{Content, Op, Value};
 use lics_text::Memory;
 use macro_text::{MacroFault, Spot, TextList, number_of, place_of};

@@ -6,7 +6,7 @@ ghost use Rattle.macro_words.specs.Rows as spec;
 
 use crate::going::start_of;
 use crate::{Change, Deed, Handler, Move, Row, Running, Source};
-use formula_eval::Look;
+use formula_parts::Look;
 use formula_tree::Value;
 use grid_address::{Cell, LAST_ROW, ROWS, Span};
 use lics_text::Memory;

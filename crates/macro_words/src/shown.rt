@@ -4,7 +4,7 @@ ghost use Rattle.macro_words.specs.Shown as spec;
 ghost use Rattle.shown_cells.specs.Cells.{padded, shown_byte};
 ghost use Rattle.shown_cells.specs.Parts.{fitting_text, shown_text};
 
-use formula_eval::Look;
+use formula_parts::Look;
 use grid_address::{Cell, Format};
 use lics_text::{Line, MAX_LEN, Memory, Text};
 use shown_cells::{Fitting, Shown, format_in, put_blanks, put_fitting, shown_byte, shown_content};

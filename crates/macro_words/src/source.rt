@@ -1,5 +1,5 @@
 // What words read.
-use formula_eval::{Look, Scene};
+use formula_parts::{Look, Scene};
 use grid_address::Format;
 use std::alloc::Global;
 

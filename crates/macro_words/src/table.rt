@@ -17,7 +17,7 @@ use crate::looping::{break_row, for_row, return_row};
 use crate::rows::{bad, branch_row, call_row, calls, dispatch_row, if_row, moves, onerror_row};
 use crate::writing::{blank_row, contents_row, let_row, put_row, recalc_row};
 use crate::{FileWord, Move, Row, Running, Source, Waiting, Wanted};
-use formula_eval::Look;
+use formula_parts::Look;
 use grid_address::Format;
 use key_words::{Command, MacroWord};
 use lics_text::{MAX_LEN, Memory};

@@ -10,7 +10,7 @@ ghost use Rattle.macro_words.specs.Values as spec;
 
 use crate::{Change, Deed, Move, Row, Source};
 use block_writes::{content_of, written};
-use formula_eval::Look;
+use formula_parts::Look;
 use formula_tree::{Content, Formula, Value};
 use grid_address::Cell;
 use lics_text::{LabelPrefix, Memory, Text};

@@ -9,7 +9,7 @@ use crate::shown::shown_cell;
 use crate::values::{let_value, puts_one, puts_value};
 use crate::{Change, Deed, Move, Row, Source, Sweep};
 use fixed_value::Fixed;
-use formula_eval::Look;
+use formula_parts::Look;
 use formula_tree::{Content, Formula};
 use grid_address::{Cell, Format, Span};
 use lics_text::{LabelPrefix, Memory};

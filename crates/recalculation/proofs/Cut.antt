@@ -9,7 +9,7 @@ use Rattle.std.proofs.Common.{sym, ◌∙◌, ap, subst, refl, inl, inr, arith, 
 use Rattle.std.proofs.lemmas.Bool.{true≢false, cases_Bool, false_from_ne_true}
 use Rattle.grid_address.proofs.Places.{same_place_is}
 use Rattle.grid_address.specs.Place.{same_place, Place}
-use Rattle.formula_eval.specs.Outlook.{Outlook}
+use Rattle.formula_parts.specs.Outlook.{Outlook}
 use Rattle.formula_tree.specs.Spans.{spans_of}
 use Rattle.formula_tree.specs.Tree.{Tree}
 use Rattle.cell_maps.specs.Sets.{has}

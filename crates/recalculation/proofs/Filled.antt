@@ -15,7 +15,7 @@ use Rattle.std.proofs.lemmas.List.Kept.{IsStrictlySortedBy-filter}
 use Rattle.grid_address.proofs.Places.{same_place_is}
 use Rattle.grid_address.specs.Place.{height_of, is_within, place_cmp, same_place, width_of, Extent, Place}
 use Rattle.formula_tree.specs.Values.{is_filled}
-use Rattle.formula_eval.specs.Outlook.{block_cells, cells_of, row_cells}
+use Rattle.formula_parts.specs.Outlook.{block_cells, cells_of, row_cells}
 use Rattle.natural_order.proofs.Cut.{filter_passes, has-filter}
 use Rattle.cell_maps.specs.Sets.{has}
 use Rattle.sheet_store.proofs.RowOrder.{same_members}

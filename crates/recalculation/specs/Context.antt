@@ -12,9 +12,9 @@ use Rattle.formula_tree.specs.declared.value.Value.TheVariants as value
 use Rattle.sheet_store.specs.Choices.{Choices}
 use Rattle.sheet_store.specs.Grid.{width_of, Grid}
 use Rattle.sheet_store.specs.State.{CellState}
-use Rattle.formula_eval.specs.Outlook.{Outlook, Sight}
-use Rattle.formula_eval.specs.Scenes.{outlook_of}
-use Rattle.formula_eval.specs.declared.look.Scene.{Scene}
+use Rattle.formula_parts.specs.Outlook.{Outlook, Sight}
+use Rattle.formula_parts.specs.Scenes.{outlook_of}
+use Rattle.formula_parts.specs.declared.look.Scene.{Scene}
 use Rattle.recalculation.specs.declared.context.ContextRef.{ContextRef}
 
 -- what formulas look at beside the cells and the columns

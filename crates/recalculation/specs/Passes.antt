@@ -6,7 +6,7 @@ use Rattle.grid_address.specs.Place.{same_place, Place}
 use Rattle.formula_tree.specs.Spans.{is_volatile}
 use Rattle.formula_tree.specs.Tree.{Tree}
 use Rattle.formula_tree.specs.declared.value.Value.{Value}
-use Rattle.formula_eval.specs.Outlook.{Outlook}
+use Rattle.formula_parts.specs.Outlook.{Outlook}
 use Rattle.depend_graph.specs.Network.{ReachesCell}
 use Rattle.cell_maps.specs.Sets.{has}
 use Rattle.natural_order.specs.Walk.{Reaches}

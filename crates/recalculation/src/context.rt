@@ -1,5 +1,5 @@
 // What formulas look at beside the cells and the columns.
-use formula_eval::Scene;
+use formula_parts::Scene;
 use range_names::Names;
 use sheet_store::Settings;
 

@@ -2,14 +2,15 @@
 ghost use Rattle.std.specs.Prelude.{◌≡◌, ◌*◌, Bool, length, OnErr, OnOk, true};
 ghost use Rattle.grid_address.specs.Place.{same_place, Place};
 ghost use Rattle.cell_maps.specs.Sets.{has};
-ghost use Rattle.formula_eval.specs.inner.Kept.{IsKept};
+ghost use Rattle.formula_parts.specs.inner.Kept.{IsKept};
 ghost use Rattle.recalculation.specs.Context.{seen_context, value_at};
 ghost use Rattle.recalculation.specs.Passes.{evaluated, pass, passes, raised_by, IsSound, SameContents, SameOutside};
 ghost use Rattle.recalculation.specs.Reading.{is_formula_at};
 
 use crate::View;
 use crate::context::ContextRef;
-use formula_eval::{Kept, Means};
+use formula_eval::Means;
+use formula_parts::Kept;
 use formula_tree::ContentRef;
 use grid_address::Cell;
 use lics_text::Memory;

@@ -6,7 +6,7 @@ ghost use Rattle.formula_tree.specs.Values.{is_filled};
 ghost use Rattle.recalculation.specs.Context.{sight_of, value_at};
 
 use crate::cells::{content_of, format_of, value_of, width_of};
-use formula_eval::Look;
+use formula_parts::Look;
 use formula_tree::{ContentRef, ValueRef};
 use grid_address::{Cell, CellList, Format, Span};
 use lics_text::Memory;

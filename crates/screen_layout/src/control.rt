@@ -14,7 +14,7 @@ use crate::painted_line::PaintedLine;
 use crate::panel_view::PanelView;
 use cell_format::indicator;
 use control_panel::Mode;
-use formula_eval::Look;
+use formula_parts::Look;
 use grid_address::{Cell, Format, cell_text, decimal_text};
 use lics_text::Line;
 use work_sheet::Worksheet;

@@ -5,7 +5,7 @@ use Rattle.command_desk.specs.declared.desk.Desk as declared
 use Rattle.command_desk.specs.declared.ending.CommandEnd.{CommandEnd}
 use Rattle.commands_file.specs.Calls.{failed, Asked, HaveAnswered, Reply, ShelfView}
 use Rattle.commands_file.specs.Commands.{FileActed, HasActedOver}
-use Rattle.formula_eval.specs.declared.look.Scene.{Scene}
+use Rattle.formula_parts.specs.declared.look.Scene.{Scene}
 use Rattle.menu_tree.specs.declared.menu.Action.{Action}
 use Rattle.serial_date.specs.declared.moment.Moment.{Moment}
 use Rattle.work_sheet.proofs.OneWork.{worked_both}

@@ -6,7 +6,7 @@ use Rattle.commands_file.specs.Calls.{failed, Asked, HaveAnswered, Reply, ShelfV
 use Rattle.commands_file.specs.Commands.{looked}
 use Rattle.commands_file.specs.declared.looking.Looked.{Looked}
 use Rattle.entry_line.specs.Line.{Entry}
-use Rattle.formula_eval.specs.declared.look.Scene.{Scene}
+use Rattle.formula_parts.specs.declared.look.Scene.{Scene}
 use Rattle.serial_date.specs.declared.moment.Moment.{Moment}
 use Rattle.session_core.specs.Carrying.{behind_calls, finished, finished_as, looked_as, looking}
 use Rattle.session_core.specs.Entering.{meaning_of}

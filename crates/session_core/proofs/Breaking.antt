@@ -9,7 +9,7 @@ use Rattle.commands_file.specs.Calls.{failed, HasBrokenOver, HaveAnswered, HaveB
 use Rattle.commands_file.specs.Commands.{looked, FileActed, HasActedOver, HasBrokenIn}
 use Rattle.commands_file.specs.declared.looking.Looked.{Looked}
 use Rattle.file_words.specs.Serving.{served_word, target_of, HasBrokenWord, Served, WasServed}
-use Rattle.formula_eval.specs.declared.look.Scene.{Scene}
+use Rattle.formula_parts.specs.declared.look.Scene.{Scene}
 use Rattle.grid_address.specs.Place.{Place}
 use Rattle.key_words.specs.declared.key.Key.{Key}
 use Rattle.key_words.specs.declared.key.Key.TheVariants as key

@@ -7,7 +7,7 @@ use Rattle.command_desk.specs.declared.ending.CommandEnd.TheVariants.{Finished, 
 use Rattle.commands_file.specs.Calls.{HaveAnswered, ShelfView}
 use Rattle.desk_errors.specs.declared.error.CommandError.{CommandError}
 use Rattle.desk_errors.specs.Messages.{message_of}
-use Rattle.formula_eval.specs.declared.look.Scene.{Scene}
+use Rattle.formula_parts.specs.declared.look.Scene.{Scene}
 use Rattle.macro_engine.specs.Catching.{caught, caught_by, handles_errors, Caught}
 use Rattle.macro_words.specs.declared.running.Handler.{Handler}
 use Rattle.macro_words.specs.declared.running.Running.{Running}

@@ -7,7 +7,7 @@ use Rattle.commands_file.specs.Commands.{looked, Looking}
 use Rattle.commands_file.specs.declared.looking.Looked.{Looked}
 use Rattle.commands_file.specs.declared.looking.Looked.TheVariants.{There, Unknown}
 use Rattle.file_words.specs.Serving.{served_word, target_of, Served}
-use Rattle.formula_eval.specs.declared.look.Scene.{Scene}
+use Rattle.formula_parts.specs.declared.look.Scene.{Scene}
 use Rattle.grid_address.specs.Place.{Place}
 use Rattle.key_words.specs.declared.key.Key.{Key}
 use Rattle.key_words.specs.declared.key.Key.TheVariants as key

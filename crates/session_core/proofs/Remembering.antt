@@ -15,7 +15,7 @@ use Rattle.desk_errors.specs.declared.error.CommandError.TheVariants as error
 use Rattle.desk_errors.specs.Messages.{message_of}
 use Rattle.entry_line.specs.Line.{Entry}
 use Rattle.file_words.specs.Serving.{served_word, target_of, Served}
-use Rattle.formula_eval.specs.declared.look.Scene.{Scene}
+use Rattle.formula_parts.specs.declared.look.Scene.{Scene}
 use Rattle.grid_address.specs.Place.{Place}
 use Rattle.key_words.specs.declared.key.Key.{Key}
 use Rattle.key_words.specs.declared.key.Key.TheVariants as key

@@ -2,7 +2,7 @@
 use Rattle.std.specs.Prelude.{if◌then◌else◌}
 use Rattle.std.proofs.Common.{◌≡◌, ℕ, Bool, false, true, refl, Option, ap, sym, subst, ◌∙◌}
 use Rattle.commands_file.specs.Calls.{HaveAnswered, ShelfView}
-use Rattle.formula_eval.specs.declared.look.Scene.{Scene}
+use Rattle.formula_parts.specs.declared.look.Scene.{Scene}
 use Rattle.key_words.specs.declared.key.Key.{Key}
 use Rattle.key_words.specs.declared.key.Key.TheVariants as key
 use Rattle.macro_engine.specs.Keys.{broken_off, key_step, takes_key}

@@ -3,7 +3,7 @@ use Rattle.std.proofs.Common.{◌≡◌, ℕ, Bool, false, List, [], OnOk, Optio
 use Rattle.commands_file.specs.Calls.{Asked, HaveAnswered, ShelfView}
 use Rattle.desk_errors.specs.declared.error.CommandError.TheVariants as error
 use Rattle.file_words.specs.Serving.{served_word, target_of, Served, WasServed}
-use Rattle.formula_eval.specs.declared.look.Scene.{Scene}
+use Rattle.formula_parts.specs.declared.look.Scene.{Scene}
 use Rattle.grid_address.specs.Place.{Place}
 use Rattle.macro_engine.specs.Steps.{carried_step, HasStepped, MacroStep}
 use Rattle.macro_engine.specs.declared.steps.StepEnd.{StepEnd}

@@ -10,7 +10,7 @@ use Rattle.commands_file.specs.Commands as on_file
 use Rattle.commands_print.specs.Commands as on_print
 use Rattle.commands_range.specs.Commands as on_range
 use Rattle.commands_worksheet.specs.Commands as on_worksheet
-use Rattle.formula_eval.specs.declared.look.Scene.{Scene}
+use Rattle.formula_parts.specs.declared.look.Scene.{Scene}
 use Rattle.menu_tree.specs.declared.menu.Action.{Action}
 use Rattle.menu_tree.specs.declared.menu.Action.TheVariants as action
 use Rattle.menu_tree.specs.declared.menu.CommonAction.{CommonAction}

@@ -3,7 +3,7 @@ use Rattle.std.specs.Prelude.{◌≡◌, ℕ, Bool, false, is_some, not, ◌||�
 use Rattle.cell_pointer.specs.Moves.{home}
 use Rattle.command_desk.specs.Desks.{on_sheet, Desk}
 use Rattle.commands_file.specs.Calls.{Asked, Reply}
-use Rattle.formula_eval.specs.declared.look.Scene.{Scene}
+use Rattle.formula_parts.specs.declared.look.Scene.{Scene}
 use Rattle.grid_address.specs.Place.{Place}
 use Rattle.macro_engine.specs.Keys.{awaits_key}
 use Rattle.macro_words.specs.declared.running.Running.{Running}

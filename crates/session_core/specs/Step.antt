@@ -2,7 +2,7 @@
 use Rattle.std.specs.Prelude.{◌≡◌, ℕ, Bool, true, false, List, Option, None, Some, if◌then◌else◌}
 use Rattle.commands_file.specs.Calls.{HasBrokenOver, HaveAnswered, ShelfView}
 use Rattle.desk_errors.specs.declared.error.CommandError.TheVariants as error
-use Rattle.formula_eval.specs.declared.look.Scene.{Scene}
+use Rattle.formula_parts.specs.declared.look.Scene.{Scene}
 use Rattle.key_words.specs.declared.key.Key.{Key}
 use Rattle.key_words.specs.declared.key.Key.TheVariants as key
 use Rattle.macro_engine.specs.Keys.{broken_off, key_step, takes_key}

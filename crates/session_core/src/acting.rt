@@ -7,7 +7,8 @@ ghost use Rattle.commands_file.specs.Commands.{HasActedOver, HasBrokenIn};
 ghost use Rattle.session_core.specs.Act.{act, act_common, gone_to};
 
 use command_desk::{CommandEnd, Desk, cell_at};
-use formula_eval::{Scene, Tally};
+use formula_eval::Tally;
+use formula_parts::Scene;
 use lics_text::Memory;
 use menu_tree::{Action, CommonAction};
 use outside_world::Shelf;

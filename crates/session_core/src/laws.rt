@@ -3,7 +3,7 @@ ghost use Rattle.std.specs.Prelude.{◌≡◌, ℕ, Bool, false, true, List, Non
 ghost use Rattle.command_desk.specs.Desks.{Desk};
 ghost use Rattle.commands_file.specs.Alike.{HoldAlike};
 ghost use Rattle.commands_file.specs.Calls.{Reply, ShelfView};
-ghost use Rattle.formula_eval.specs.declared.look.Scene.{Scene};
+ghost use Rattle.formula_parts.specs.declared.look.Scene.{Scene};
 ghost use Rattle.menu_tree.specs.declared.menu.Action.{Action};
 ghost use Rattle.serial_date.specs.declared.moment.Moment.{Moment};
 ghost use Rattle.session_core.specs.Act.{act, is_print};

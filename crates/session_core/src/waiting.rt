@@ -7,7 +7,7 @@ ghost use Rattle.session_core.specs.inner.Showing.{shows_waiting};
 ghost use Rattle.work_sheet.specs.Seen.{of_worksheet};
 
 use control_panel::{Mode, Panel};
-use formula_eval::Look;
+use formula_parts::Look;
 use grid_address::{Cell, ROWS};
 use lics_text::{Line, MAX_LEN};
 use macro_text::macro_text;

@@ -5,7 +5,7 @@ use Rattle.std.proofs.lemmas.Bool.{false≢true}
 use Rattle.std.specs.Prelude.{◌&&◌, if◌then◌else◌, not, take}
 use Rattle.command_desk.specs.Desks.{on_sheet, Desk}
 use Rattle.commands_file.specs.Calls.{Asked}
-use Rattle.formula_eval.specs.declared.look.Scene.{Scene}
+use Rattle.formula_parts.specs.declared.look.Scene.{Scene}
 use Rattle.key_words.specs.declared.key.Key.TheVariants as key
 use Rattle.macro_engine.specs.Keys.{takes_key}
 use Rattle.macro_words.specs.declared.running.Running.{Running}

@@ -4,7 +4,7 @@ use Rattle.std.specs.Prelude.{Option, Some, OnOk, Result, Ok, Err}
 use Rattle.std.specs.FinMap.{get}
 use Rattle.std.specs.List.{IsDistinct}
 use Rattle.std.proofs.Common.{ap, subst, sym, ◌∙◌}
-use Rattle.formula_eval.specs.declared.look.Scene.{Scene}
+use Rattle.formula_parts.specs.declared.look.Scene.{Scene}
 use Rattle.formula_tree.specs.declared.value.Content.{Content}
 use Rattle.grid_address.specs.Place.{is_within, same_place, Extent, Place}
 use Rattle.cell_maps.specs.Sets.{has}

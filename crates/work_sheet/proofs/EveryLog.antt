@@ -29,7 +29,7 @@ use Rattle.sheet_store.specs.declared.order.Order.TheVariants as orders
 use Rattle.recalculation.proofs.Filled.{has_cells}
 use Rattle.work_sheet.proofs.Leading.{any_at, leading, some_at, Leads}
 use Rattle.work_sheet.proofs.Leading.Leads.{here, there}
-use Rattle.formula_eval.specs.Outlook.{cells_of}
+use Rattle.formula_parts.specs.Outlook.{cells_of}
 use Rattle.work_sheet.specs.Doing.{all_dirty, evaluated_once, passed, swept, wrote, Happened}
 use Rattle.work_sheet.specs.Work.{dirty_within, HasWorked, Work, Works}
 

@@ -9,7 +9,7 @@ use Rattle.sheet_edits.proofs.Overlaid.{same_grid}
 use Rattle.sheet_edits.specs.Spans.{changed, AreGiven, Becomes}
 use Rattle.sheet_store.specs.Grid.{Cells, Grid}
 use Rattle.sheet_store.specs.State.{CellState}
-use Rattle.formula_eval.specs.Outlook.{cells_of}
+use Rattle.formula_parts.specs.Outlook.{cells_of}
 use Rattle.recalculation.proofs.Filled.{has_cells}
 use Rattle.work_sheet.specs.Cells.{with_cell, with_cells, with_cells_in}
 

@@ -1,7 +1,7 @@
 -- Cells that are told what they hold.
 use Rattle.std.specs.Prelude.{List, [], ◌∷◌, Option, None, Some}
 use Rattle.std.specs.FinMap as map
-use Rattle.formula_eval.specs.Outlook.{cells_of}
+use Rattle.formula_parts.specs.Outlook.{cells_of}
 use Rattle.grid_address.specs.Place.{Extent, Place}
 use Rattle.sheet_store.specs.Grid.{Cells, Grid}
 use Rattle.sheet_store.specs.State.{CellState}

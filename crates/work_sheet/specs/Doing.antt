@@ -1,6 +1,6 @@
 -- What an entry, a recalculation and a move of the pointer leave of a sheet, and what happens to its formulas.
 use Rattle.std.specs.Prelude.{ℕ, Bool, true, false, List, [], ◌∷◌, ◌++◌, if◌then◌else◌}
-use Rattle.formula_eval.specs.declared.look.Scene.{Scene}
+use Rattle.formula_parts.specs.declared.look.Scene.{Scene}
 use Rattle.formula_tree.specs.declared.value.Content.{Content}
 use Rattle.grid_address.specs.Place.{Extent, Place}
 use Rattle.natural_order.specs.Walk.{Walked}

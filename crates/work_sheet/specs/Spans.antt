@@ -1,6 +1,6 @@
 -- What a recalculation of a span leaves of a sheet.
 use Rattle.std.specs.Prelude.{Bool, [], ◌∷◌}
-use Rattle.formula_eval.specs.declared.look.Scene.{Scene}
+use Rattle.formula_parts.specs.declared.look.Scene.{Scene}
 use Rattle.grid_address.specs.Place.{Extent}
 use Rattle.recalculation.specs.Passes.{pass, Meaning}
 use Rattle.recalculation.specs.Spans.{span_order}

@@ -3,7 +3,7 @@ use Rattle.std.specs.Prelude.{◌≡◌}
 use Rattle.command_desk.specs.Acting.{Acted, HasActedBy}
 use Rattle.command_desk.specs.declared.ending.CommandEnd.{CommandEnd}
 use Rattle.commands_range.specs.declared.work.Work.{Work}
-use Rattle.formula_eval.specs.declared.look.Scene.{Scene}
+use Rattle.formula_parts.specs.declared.look.Scene.{Scene}
 use Rattle.work_sheet.specs.Seen.{Sheet}
 
 -- the same worksheet and count, at the same scene

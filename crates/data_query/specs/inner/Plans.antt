@@ -3,8 +3,8 @@ use Rattle.std.specs.Prelude.{ℕ, ◌+◌, not, Bool, true, false, List}
 use Rattle.std.specs.List.{filter}
 use Rattle.grid_address.specs.Place.{Extent}
 use Rattle.grid_address.specs.Lines.{at, rows_below}
-use Rattle.formula_eval.specs.Criteria.{record_matches}
-use Rattle.formula_eval.specs.Outlook.{Outlook}
+use Rattle.record_match.specs.Criteria.{record_matches}
+use Rattle.formula_parts.specs.Outlook.{Outlook}
 
 -- a range without its first row
 abbrev pub behind_first : Extent → Extent

@@ -6,12 +6,12 @@ use Rattle.std.proofs.lemmas.Bool.{and_from, and_parts, cases_Bool}
 use Rattle.std.proofs.lemmas.Bool.Decides.{nat_tests}
 use Rattle.grid_address.specs.Place.{height_of, is_within, spanned, width_of, Extent, Place}
 use Rattle.formula_tree.specs.declared.value.Value.{Value}
-use Rattle.formula_eval.specs.declared.argument.Argument.{Argument}
-use Rattle.formula_eval.specs.declared.argument.Operand.{Operand}
-use Rattle.formula_eval.specs.declared.argument.Operand.TheVariants as operand
-use Rattle.formula_eval.specs.Lists.{alone, in_range, items_by, items_in, items_of}
+use Rattle.formula_parts.specs.declared.argument.Argument.{Argument}
+use Rattle.formula_parts.specs.declared.argument.Operand.{Operand}
+use Rattle.formula_parts.specs.declared.argument.Operand.TheVariants as operand
+use Rattle.formula_parts.specs.Lists.{alone, in_range, items_by, items_in, items_of}
 use Rattle.formula_tree.specs.Values.{is_filled}
-use Rattle.formula_eval.specs.Outlook.{block_cells, cells_of, row_cells}
+use Rattle.formula_parts.specs.Outlook.{block_cells, cells_of, row_cells}
 
 -- a place is in the range of an argument
 abbrev pub in_operand : Operand → Place → Bool

@@ -12,18 +12,18 @@ use Rattle.formula_tree.specs.declared.function.Function.TheVariants as function
 use Rattle.formula_tree.specs.Tree.{Tree, num, str, cell, span, group, neg, not, binary, call, Trees, no_trees, trees}
 use Rattle.formula_tree.specs.declared.value.Value.{Value}
 use Rattle.formula_tree.specs.declared.value.Value.TheVariants as value
-use Rattle.formula_eval.specs.declared.argument.Argument.{Argument}
+use Rattle.formula_parts.specs.declared.argument.Argument.{Argument}
 use Rattle.formula_eval.specs.inner.Agreement.{in_arguments, in_operand, same_of, within_itself}
-use Rattle.formula_eval.specs.Lists.{items_of, list_value}
+use Rattle.formula_parts.specs.Lists.{items_of, list_value}
 use Rattle.formula_eval.specs.inner.Lookalike.{same_index, same_lookup}
-use Rattle.formula_eval.specs.Lookups.{lookup_value}
-use Rattle.formula_eval.specs.Calls.{called, one_value, three_value, two_value}
-use Rattle.formula_eval.specs.Databases.{database_value}
+use Rattle.formula_parts.specs.Lookups.{lookup_value}
+use Rattle.formula_parts.specs.Calls.{called, one_value, three_value, two_value}
+use Rattle.record_match.specs.Databases.{database_value}
 use Rattle.formula_eval.specs.Mean.{mean, Reads}
-use Rattle.formula_eval.specs.Parts.{arguments_by, call_value, filled_in, operand_of, value_by, Database}
+use Rattle.formula_parts.specs.Parts.{arguments_by, call_value, filled_in, operand_of, value_by, Database}
 use Rattle.value_functions.specs.Operators.{binary_value, denied, negated}
 use Rattle.value_functions.specs.Scalars.{constant_value}
-use Rattle.formula_eval.specs.Outlook.{Outlook}
+use Rattle.formula_parts.specs.Outlook.{Outlook}
 
 not_blank : (v : Value) → filled_in v ≡ value.Blank → ⊥
 not_blank value.Blank h = absurd cc

@@ -7,10 +7,10 @@ use Rattle.grid_address.specs.Place.{height_of, is_within, spanned, width_of, Ex
 use Rattle.at_functions.specs.Numbers.{count_of}
 use Rattle.formula_tree.specs.declared.value.Value.{Value}
 use Rattle.formula_tree.specs.declared.value.Value.TheVariants as value
-use Rattle.formula_eval.specs.declared.argument.Operand.{Operand}
-use Rattle.formula_eval.specs.declared.argument.Operand.TheVariants as operand
+use Rattle.formula_parts.specs.declared.argument.Operand.{Operand}
+use Rattle.formula_parts.specs.declared.argument.Operand.TheVariants as operand
 use Rattle.formula_eval.specs.inner.Agreement.{Agree, AgreeIn}
-use Rattle.formula_eval.specs.Lookups.{by_number, by_passed, by_place, by_text, depth_of, firsts, index_value, is_label, line_cell, lines_of, looked_up, lookup_value, on_place, passes, place_by, place_in}
+use Rattle.formula_parts.specs.Lookups.{by_number, by_passed, by_place, by_text, depth_of, firsts, index_value, is_label, line_cell, lines_of, looked_up, lookup_value, on_place, passes, place_by, place_in}
 use Rattle.value_functions.specs.Values.{counted, number_in, on_number, stop_two, unless_stopped}
 
 corner : (s : Extent) (row col : ℕ) → row < height_of s → col < width_of s →

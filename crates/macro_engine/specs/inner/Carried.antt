@@ -1,7 +1,7 @@
 -- How the code goes on behind an edit: with the first protected cell, or without one.
 use Rattle.std.specs.Prelude.{◌≡◌, ℕ, Option, None, Some, Result, Ok, Err}
 use Rattle.formula_eval.specs.Mean.{mean}
-use Rattle.formula_eval.specs.declared.look.Scene.{Scene}
+use Rattle.formula_parts.specs.declared.look.Scene.{Scene}
 use Rattle.grid_address.specs.Place.{Place}
 use Rattle.macro_words.specs.declared.running.Change.{Change}
 use Rattle.sheet_store.specs.declared.writes.SheetFault.{SheetFault}

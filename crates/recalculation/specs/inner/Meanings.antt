@@ -4,7 +4,7 @@ use Rattle.grid_address.specs.Place.{Place}
 use Rattle.formula_tree.specs.Spans.{is_volatile}
 use Rattle.formula_tree.specs.Tree.{Tree}
 use Rattle.formula_eval.specs.Mean.{Reads}
-use Rattle.formula_eval.specs.Outlook.{Outlook}
+use Rattle.formula_parts.specs.Outlook.{Outlook}
 use Rattle.recalculation.specs.Passes.{Meaning}
 
 -- a meaning that hangs on the values that are read alone, where the formula isn't volatile

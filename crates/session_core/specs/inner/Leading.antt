@@ -1,7 +1,7 @@
 -- What the machine's own calls lead to.
 use Rattle.std.specs.Prelude.{◌≡◌, Bool}
 use Rattle.commands_file.specs.Calls.{HasBrokenOver, HaveAnswered, ShelfView}
-use Rattle.formula_eval.specs.declared.look.Scene.{Scene}
+use Rattle.formula_parts.specs.declared.look.Scene.{Scene}
 use Rattle.serial_date.specs.declared.moment.Moment.{Moment}
 use Rattle.work_sheet.specs.Work.{HasWorked, Work}
 use Rattle.session_core.specs.Machine.{State, scene_at, Outcome, Replies}

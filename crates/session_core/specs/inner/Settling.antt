@@ -1,6 +1,6 @@
 -- What the machine calls where it settles an edit, or writes.
 use Rattle.formula_eval.specs.Mean.{mean}
-use Rattle.formula_eval.specs.declared.look.Scene.{Scene}
+use Rattle.formula_parts.specs.declared.look.Scene.{Scene}
 use Rattle.formula_tree.specs.declared.value.Content.{Content}
 use Rattle.work_sheet.specs.Doing as doing
 use Rattle.session_core.specs.Machine.{pointer_of, sheet_of, with_done, Outcome, State}

@@ -1,7 +1,7 @@
 -- How the session keeps in mind what a key may have touched of the sheet: it paints no line that shows none of that.
 use Rattle.std.specs.Prelude.{◌≡◌, ℕ, ◌+◌, ◌-◌, ◌&&◌, Bool, true, false, get_or, if◌then◌else◌, nat_le, nat_lt, List}
 use Rattle.formula_eval.specs.Mean.{mean}
-use Rattle.formula_eval.specs.declared.look.Scene.{Scene}
+use Rattle.formula_parts.specs.declared.look.Scene.{Scene}
 use Rattle.screen_layout.specs.inner.Alike.{AreAlike}
 use Rattle.work_sheet.specs.Doing.{recalculated}
 use Rattle.work_sheet.specs.Seen.{Sheet}

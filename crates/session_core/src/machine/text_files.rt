@@ -9,7 +9,7 @@ use crate::machine::{Machine, UNTOUCHED, WORKED};
 use crate::touched::Taken;
 use desk_errors::CommandError;
 use file_words::{serve, target_of};
-use formula_eval::{Look, Scene};
+use formula_parts::{Look, Scene};
 use grid_address::Cell;
 use lics_text::Memory;
 use macro_words::{Deed, FileDeed};

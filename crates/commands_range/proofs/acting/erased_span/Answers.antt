@@ -2,7 +2,7 @@ use Rattle.std.specs.Prelude.{refl}
 use Rattle.command_desk.proofs.Edited.{if_ok, edit_acted}
 use Rattle.grid_address.specs.Place.{is_within}
 use Rattle.recalculation.proofs.Filled.{has_cells, span_ascends}
-use Rattle.formula_eval.specs.Outlook.{cells_of}
+use Rattle.formula_parts.specs.Outlook.{cells_of}
 use Rattle.work_sheet.specs.Editing.{erased}
 use Rattle.commands_range.proofs.acting.erased_span.Goals as goal
 

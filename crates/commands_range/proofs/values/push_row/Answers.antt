@@ -2,7 +2,7 @@ use Rattle.std.specs.Prelude.{ℕ, ◌+◌}
 use Rattle.commands_range.proofs.Valued.{none_of_row, pushed}
 use Rattle.command_desk.specs.Writing.{sight_in}
 use Rattle.commands_range.specs.Valued.{value_of}
-use Rattle.formula_eval.specs.Outlook.{Sight}
+use Rattle.formula_parts.specs.Outlook.{Sight}
 use Rattle.grid_address.specs.Place.{Place}
 use Rattle.sheet_store.specs.declared.writes.Write.{Write}
 use Rattle.work_sheet.specs.Seen.{of_worksheet}

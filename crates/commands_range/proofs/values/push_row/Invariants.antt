@@ -1,7 +1,7 @@
 use Rattle.std.specs.Prelude.{◌≡◌, ◌+◌, ◌++◌, map}
 use Rattle.command_desk.specs.Writing.{sight_in}
 use Rattle.commands_range.specs.Valued.{value_of}
-use Rattle.formula_eval.specs.Outlook.{row_cells}
+use Rattle.formula_parts.specs.Outlook.{row_cells}
 use Rattle.grid_address.specs.Place.{width_of}
 use Rattle.work_sheet.specs.Seen.{of_worksheet}
 use Rattle.commands_range.proofs.values.push_row.Given as goal

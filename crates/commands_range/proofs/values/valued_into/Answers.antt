@@ -11,7 +11,7 @@ use Rattle.grid_address.specs.Place.{same_place, Place}
 use Rattle.cell_maps.specs.Sets.{has}
 use Rattle.sheet_edits.specs.Spans.{written_cells}
 use Rattle.sheet_store.specs.declared.writes.Write.{Write}
-use Rattle.formula_eval.specs.Outlook.{cells_of}
+use Rattle.formula_parts.specs.Outlook.{cells_of}
 use Rattle.work_sheet.specs.Editing.{all_written}
 use Rattle.work_sheet.specs.Seen.{of_worksheet, Sheet}
 use Rattle.commands_range.proofs.values.valued_into.Goals as goal

@@ -1,7 +1,7 @@
 use Rattle.std.specs.Prelude.{◌≡◌, map}
 use Rattle.command_desk.specs.Writing.{sight_in}
 use Rattle.commands_range.specs.Valued.{value_of}
-use Rattle.formula_eval.specs.Outlook.{block_cells}
+use Rattle.formula_parts.specs.Outlook.{block_cells}
 use Rattle.grid_address.specs.Place.{height_of, width_of}
 use Rattle.work_sheet.specs.Seen.{of_worksheet}
 use Rattle.commands_range.proofs.values.values_of.Given as goal

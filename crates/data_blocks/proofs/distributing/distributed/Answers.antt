@@ -3,7 +3,7 @@ use Rattle.std.specs.List.Sorted.{IsPermutation}
 use Rattle.grid_address.specs.Place.{height_of, Place}
 use Rattle.value_functions.specs.Values.{counted}
 use Rattle.block_writes.specs.Writing.{as_content, at, written}
-use Rattle.formula_eval.specs.Outlook.{filled}
+use Rattle.formula_parts.specs.Outlook.{filled}
 use Rattle.data_blocks.specs.Distribution.{bin_of, distributed, is_above, is_in_bin, numbers_in}
 use Rattle.data_blocks.proofs.Halves.{same_count}
 use Rattle.data_blocks.proofs.Shares.{left_last, left_step}

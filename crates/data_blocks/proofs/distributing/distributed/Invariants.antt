@@ -1,6 +1,6 @@
 use Rattle.std.proofs.Common.{◌≡◌, ◌++◌}
 use Rattle.grid_address.specs.Place.{height_of}
-use Rattle.formula_eval.specs.Outlook.{filled}
+use Rattle.formula_parts.specs.Outlook.{filled}
 use Rattle.data_blocks.specs.Distribution.{distributed, numbers_in}
 use Rattle.data_blocks.proofs.Shares.{left}
 use Rattle.data_blocks.proofs.distributing.distributed.Given as goal

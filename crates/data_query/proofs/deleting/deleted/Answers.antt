@@ -1,7 +1,7 @@
 use Rattle.std.proofs.Common.{ℕ, List, map, ap, ◌∙◌}
 use Rattle.std.specs.Prelude.{false}
-use Rattle.formula_eval.specs.Scenes.{outlook_of}
-use Rattle.formula_eval.specs.Criteria.{record_matches}
+use Rattle.formula_parts.specs.Scenes.{outlook_of}
+use Rattle.record_match.specs.Criteria.{record_matches}
 use Rattle.data_query.specs.inner.Plans.{is_wanted, records}
 use Rattle.data_query.specs.Selection.{moved_up}
 use Rattle.data_query.proofs.Records.{cells_fit, row_of, rows_back}

@@ -1,5 +1,5 @@
 use Rattle.std.proofs.Common.{◌≡◌, List, inr, sym, ap, ◌∙◌}
-use Rattle.formula_eval.specs.Scenes.{outlook_of}
+use Rattle.formula_parts.specs.Scenes.{outlook_of}
 use Rattle.data_query.specs.Extraction.{fields_extracted}
 use Rattle.data_query.proofs.Extracted.{fault_as, found_as, goes_on, not_asked, not_labelled}
 use Rattle.data_query.proofs.extracting.extract.Goals as goal

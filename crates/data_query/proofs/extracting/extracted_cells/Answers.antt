@@ -1,5 +1,5 @@
 use Rattle.std.proofs.Common.{arith}
-use Rattle.formula_eval.specs.Scenes.{outlook_of}
+use Rattle.formula_parts.specs.Scenes.{outlook_of}
 use Rattle.data_query.proofs.Differing.{all_rows, few_cells, few_kept, rows_that_differ}
 use Rattle.data_query.proofs.extracting.extracted_cells.Goals as goal
 

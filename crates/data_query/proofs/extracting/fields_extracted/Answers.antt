@@ -1,6 +1,6 @@
 use Rattle.std.proofs.Common.{◌≡◌, ◌≤◌, List, length, map, sym, ap, ◌∙◌, subst}
 use Rattle.grid_address.specs.Place.{Place}
-use Rattle.formula_eval.specs.Scenes.{outlook_of}
+use Rattle.formula_parts.specs.Scenes.{outlook_of}
 use Rattle.data_query.specs.Extraction.{rows_extracted}
 use Rattle.grid_address.specs.Lines.{last_row}
 use Rattle.data_query.proofs.Extracted.{fault_as, found_as}

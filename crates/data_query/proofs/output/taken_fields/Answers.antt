@@ -4,7 +4,7 @@ use Rattle.std.specs.List.{filter_map}
 use Rattle.grid_address.specs.Place.{width_of}
 use Rattle.block_writes.specs.Writing.{at}
 use Rattle.data_query.specs.Extraction.{output_field, taken_fields}
-use Rattle.formula_eval.specs.Fields.{field_named}
+use Rattle.record_match.specs.Fields.{field_named}
 use Rattle.data_query.specs.declared.output.OutputField.{OutputField}
 use Rattle.grid_address.proofs.Scans.{left_first, taken_of, took_all, took_next}
 use Rattle.data_query.proofs.output.taken_fields.Goals as goal

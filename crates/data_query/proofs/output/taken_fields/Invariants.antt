@@ -3,7 +3,7 @@ use Rattle.std.specs.List.{filter_map}
 use Rattle.grid_address.specs.Place.{width_of}
 use Rattle.block_writes.specs.Writing.{at}
 use Rattle.data_query.specs.Extraction.{output_field, taken_fields}
-use Rattle.formula_eval.specs.Fields.{field_named}
+use Rattle.record_match.specs.Fields.{field_named}
 use Rattle.grid_address.proofs.Scans.{taken_of}
 use Rattle.data_query.proofs.output.taken_fields.Given as goal
 

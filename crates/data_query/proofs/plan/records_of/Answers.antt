@@ -1,9 +1,9 @@
 use Rattle.std.proofs.Common.{ℕ, ◌≡◌, ◌<◌, ◌+◌, ◌-◌, ◌++◌, List, map, sym, ap, ◌∙◌, arith}
 use Rattle.std.specs.List.{filter}
 use Rattle.grid_address.specs.Place.{Place}
-use Rattle.formula_eval.specs.Scenes.{outlook_of}
+use Rattle.formula_parts.specs.Scenes.{outlook_of}
 use Rattle.block_writes.specs.Writing.{at}
-use Rattle.formula_eval.specs.Criteria.{record_matches}
+use Rattle.record_match.specs.Criteria.{record_matches}
 use Rattle.data_query.specs.inner.Plans.{is_wanted, records}
 use Rattle.grid_address.proofs.Scans.{left_first, passed, put_all, put_none, put_one}
 use Rattle.data_query.proofs.plan.records_of.Goals as goal

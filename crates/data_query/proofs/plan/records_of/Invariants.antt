@@ -1,7 +1,7 @@
 use Rattle.std.proofs.Common.{◌≡◌, ◌+◌, ◌-◌, ◌++◌, map}
-use Rattle.formula_eval.specs.Scenes.{outlook_of}
+use Rattle.formula_parts.specs.Scenes.{outlook_of}
 use Rattle.block_writes.specs.Writing.{at}
-use Rattle.formula_eval.specs.Criteria.{record_matches}
+use Rattle.record_match.specs.Criteria.{record_matches}
 use Rattle.data_query.specs.inner.Plans.{is_wanted, records}
 use Rattle.grid_address.proofs.Scans.{passed}
 use Rattle.data_query.proofs.plan.records_of.Given as goal

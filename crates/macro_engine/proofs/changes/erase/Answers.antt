@@ -2,7 +2,7 @@ use Rattle.std.specs.Prelude.{refl}
 use Rattle.grid_address.specs.Place.{is_within}
 use Rattle.macro_words.specs.declared.running.Change.TheVariants as change
 use Rattle.recalculation.proofs.Filled.{has_cells}
-use Rattle.formula_eval.specs.Outlook.{cells_of}
+use Rattle.formula_parts.specs.Outlook.{cells_of}
 use Rattle.work_sheet.specs.Editing.{erased}
 use Rattle.macro_engine.proofs.Carrying.{edit_carried, if_ok}
 use Rattle.macro_engine.proofs.changes.erase.Goals as goal

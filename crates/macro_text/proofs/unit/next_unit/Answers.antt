@@ -1,5 +1,5 @@
 use Rattle.std.proofs.Common.{◌≡◌, suc, ◌+◌, ◌-◌, ◌<◌, refl, sym, ◌∙◌, arith}
-use Rattle.formula_eval.specs.Scenes.{outlook_of}
+use Rattle.formula_parts.specs.Scenes.{outlook_of}
 use Rattle.macro_text.proofs.Units.{within_none, within_now, within_passed}
 use Rattle.macro_text.proofs.unit.next_unit.Goals as goal
 

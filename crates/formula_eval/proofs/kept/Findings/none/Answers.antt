@@ -1,4 +1,0 @@
-use Rattle.formula_eval.proofs.kept.Findings.none.Goals as goal
-
-pub returns : goal.returns
-returns c = λ values. record { last = tt; before = tt; rising = tt }

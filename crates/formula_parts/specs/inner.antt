@@ -1,0 +1,4 @@
+-- How the code keeps its books; no definition beside this folder speaks of it.
+pub mod Kept
+pub mod Numbers
+pub mod Totals

@@ -1,0 +1,3 @@
+pub mod Criteria
+pub mod Databases
+pub mod Fields
