@@ -1,8 +1,10 @@
 -- Names one after another in a line that is cut.
-use Rattle.std.specs.Prelude.{ℕ, zero, suc, ◌≡◌, ◌+◌, ◌<◌, ◌≤◌, nat_eq, refl, List, [], ◌∷◌, ◌++◌, codes, get_or}
-use Rattle.std.specs.Prelude.{length, map, take}
-use Rattle.std.proofs.Common.{ap, sym, ◌∙◌, arith}
-use Rattle.std.proofs.lemmas.List.{append-nil, append_assoc, length-map, length-take-le, map_more}
+use Rattle.std.specs.Prelude.{ℕ, zero, suc, ◌≡◌, ◌+◌, ◌<◌, ◌≤◌, nat_eq, nat_lt, refl, List, [], ◌∷◌, ◌++◌, codes}
+use Rattle.std.specs.Prelude.{get_or, length, map, take}
+use Rattle.std.proofs.Common.{ap, sym, ◌∙◌, arith, false, inl, inr, length-append}
+use Rattle.std.proofs.lemmas.Bool.{cases_lt, false_from_ne_true, lt-ltb, ltb-true}
+use Rattle.std.proofs.lemmas.List.{append-nil, append_assoc, length-map, length-take-le, map_more, take_all, take_at}
+use Rattle.lics_text.specs.Texts.{line_with}
 use Rattle.menu_room.specs.Ring.{marked, marked_from, set_off}
 
 -- what was cut, went on and is cut again
@@ -10,6 +12,18 @@ pub cut_again : (n : ℕ) (xs ys : List ℕ) → take n (take n xs ++ ys) ≡ ta
 cut_again zero xs ys = refl
 cut_again (suc n) [] ys = refl
 cut_again (suc n) (x ∷ xs) ys = ap (λ l. x ∷ l) (cut_again n xs ys)
+
+-- a byte that is put where there is room is cut where there is none
+pub byte_cut : (text : List ℕ) (b : ℕ) → length text ≤ 240 → line_with text b ≡ take 240 (text ++ b ∷ [])
+byte_cut text b short = elim (cases_lt (length text) 240) [
+  | inl room ↦ (rw (lt-ltb (length text) 240 room)
+      (sym (take_all 240 (text ++ b ∷ []) (omega (arith, room, length-append text (b ∷ []))))))
+  | inr full ↦
+      (let past : nat_lt (length text) 240 ≡ false =
+      false_from_ne_true (nat_lt (length text) 240)
+      (λ h. let low : length text < 240 = ltb-true (length text) 240 h in omega (arith, full, low)) in
+      rw past (sym (take_at text (b ∷ []) 240 (omega (arith, full, short)))))
+]
 
 -- two parts, each put behind what was cut
 pub two_parts : (n : ℕ) (xs a b one two : List ℕ) → one ≡ take n (xs ++ a) → two ≡ take n (one ++ b)

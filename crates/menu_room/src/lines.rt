@@ -1,5 +1,5 @@
 // The lines of items that a menu shows.
-ghost use Rattle.std.specs.Prelude.{◌≡◌, ◌++◌, codes, map, nat_eq, take};
+ghost use Rattle.std.specs.Prelude.{◌≡◌, ◌∷◌, ◌++◌, [], codes, map, nat_eq, take};
 ghost use Rattle.menu_room.specs.Ring.{items_line, listed, marked, set_off};
 ghost use Rattle.menu_tree.specs.Tree.{item_name};
 
@@ -14,18 +14,27 @@ fn put_cut(line: &mut Line, bytes: &[u8])
     line.put_all(&bytes[..room]);
 }
 
+// Adds a byte where there is room.
+fn put_byte(line: &mut Line, byte: u8)
+    ensures { line.new ≡ take MAX_LEN (line.old ++ byte ∷ []) }
+{
+    // `bytes` is called for its clause that the line has at most 240.
+    line.bytes();
+    line.put(byte);
+}
+
 /// Adds a name, between brackets where it is highlighted and else between spaces; what goes past 240 bytes is cut.
 pub fn put_item(line: &mut Line, name: &[u8], is_highlighted: bool)
     ensures { line.new ≡ take MAX_LEN (line.old ++ marked is_highlighted name.now) }
 {
     if is_highlighted {
-        put_cut(line, b"[");
+        put_byte(line, b'[');
         put_cut(line, name);
-        put_cut(line, b"]");
+        put_byte(line, b']');
     } else {
-        put_cut(line, b" ");
+        put_byte(line, b' ');
         put_cut(line, name);
-        put_cut(line, b" ");
+        put_byte(line, b' ');
     }
 }
 
