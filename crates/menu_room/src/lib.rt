@@ -6,4 +6,4 @@ mod menu;
 
 pub use item_ring::highlighted;
 pub use lines::put_item;
-pub use menu::{lacks_item, menu_or_ready, opened, panel, press};
+pub use menu::{lacks_item, menu_or_ready, opened, panel, press, shown_below, shown_items};

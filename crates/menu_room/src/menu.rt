@@ -8,6 +8,7 @@ use crate::lines::{items_line, listed};
 use control_panel::{Mode, Panel};
 use item_ring::highlighted;
 use key_words::Key;
+use lics_text::Line;
 use menu_tree::{Item, Menu, choose, items, parent};
 use session_rooms::{AnsweredCommand, Answers, MenuRoom, Room, Turn};
 use std::alloc::Global;
@@ -94,13 +95,28 @@ fn items_below(item: Option<Item>) -> &'static [Item]
     }
 }
 
+/// The items of the menu, the highlighted one between brackets and the others between spaces; what goes past 240 bytes
+/// is cut (Release 2 manual, second line of the control panel).
+pub fn shown_items(room: &MenuRoom) -> Line
+    ensures { result ≡ (panel room.now).menu }
+{
+    items_line(items(room.menu), room.highlight)
+}
+
+/// The items of the menu that the highlighted item opens, with two spaces between them; nothing where it opens none.
+/// What goes past 240 bytes is cut (Release 2 manual, third line of the control panel).
+pub fn shown_below(room: &MenuRoom) -> Line
+    ensures { result ≡ (panel room.now).below }
+{
+    listed(items_below(item_at(items(room.menu), room.highlight)))
+}
+
 /// What is shown in MENU: the items, of which the highlighted one is marked, and below them what it leads to.
 pub fn panel(room: &MenuRoom) -> Panel
     ensures { result ≡ panel room.now }
 {
-    let items = items(room.menu);
     let mut panel = Panel::of(Mode::Menu);
-    panel.menu = items_line(items, room.highlight);
-    panel.below = listed(items_below(item_at(items, room.highlight)));
+    panel.menu = shown_items(room);
+    panel.below = shown_below(room);
     panel
 }
