@@ -27,7 +27,7 @@ use Rattle.session_rooms.specs.declared.rooms.TypingMode.TheVariants.{Label, Val
 use Rattle.typing_room.specs.Room.{told_mode}
 use Rattle.work_sheet.specs.Seen.{Sheet}
 use Rattle.session_core.specs.Frozen.{frozen_after, frozen_by, held_at, line_over}
-use Rattle.session_core.specs.inner.Glances.{glance_of, is_plain, marks_of, plain_mode, told_plainly, ArePlain, IsKept, KeepsLetters, KeepsPointer, KeepsRow, KeepsTyped, Stays}
+use Rattle.session_core.specs.inner.Glances.{glance_of, is_plain, lacks_menu, marks_of, plain_mode, told_plainly, IsKept, KeepsBelow, KeepsLetters, KeepsPointer, KeepsRow, KeepsTyped, Stays}
 use Rattle.session_core.specs.Machine.{is_running, sheet_of, FrozenAreas, State}
 use Rattle.session_core.specs.Pressing.{room_panel}
 use Rattle.session_core.specs.Screen.{painted_screen, panel_of, screen}
@@ -42,7 +42,7 @@ use Rattle.session_core.specs.declared.touched.Touched.TheVariants as touched
 use Rattle.session_core.proofs.Still.{area_kept, long, shown_at, shown_in}
 use Rattle.session_core.proofs.Touching.{touched_alike}
 
--- whether a room is READY, or a line is typed there
+-- whether a room is READY, or a line is typed or a menu is shown there
 abbrev IsPlainRoom : Room → Type 0
 IsPlainRoom r = is_some (plain_mode r) ≡ true
 
@@ -109,7 +109,7 @@ mode_told : (r : Room) → IsPlainRoom r → mode_text [] (room_panel r).mode �
 mode_told room.Ready plain = refl
 mode_told (room.Typing r) plain = refl
 mode_told (room.Pointing r) plain = no_room plain
-mode_told (room.Menu r) plain = no_room plain
+mode_told (room.Menu r) plain = refl
 mode_told (room.Asking r) plain = no_room plain
 mode_told (room.Failed message) plain = no_room plain
 
@@ -128,12 +128,15 @@ typed_ready Label h = let no : mode.Label ≡ mode.Ready = cc in absurd cc
 typed_ready Value h = let no : mode.Value ≡ mode.Ready = cc in absurd cc
 typed_ready Edit h = let no : mode.Edit ≡ mode.Ready = cc in absurd cc
 
+menu_ready : Some mode.Menu ≡ Some mode.Ready → ⊥
+menu_ready h = let no : mode.Menu ≡ mode.Ready = cc in absurd cc
+
 -- in READY no line is typed
 typed_none : (r : Room) (end running : Bool) → plain_mode r ≡ Some mode.Ready → entry_line (plainly_shown r end running) ≡ []
 typed_none room.Ready end running ready = refl
 typed_none (room.Typing r) end running ready = absurd (typed_ready r.mode ready)
 typed_none (room.Pointing r) end running ready = absurd (let no : None ≡ Some mode.Ready = ready in cc)
-typed_none (room.Menu r) end running ready = absurd (let no : None ≡ Some mode.Ready = ready in cc)
+typed_none (room.Menu r) end running ready = absurd (menu_ready ready)
 typed_none (room.Asking r) end running ready = absurd (let no : None ≡ Some mode.Ready = ready in cc)
 typed_none (room.Failed message) end running ready = absurd (let no : None ≡ Some mode.Ready = ready in cc)
 
@@ -142,14 +145,14 @@ below_typed Label p = refl
 below_typed Value p = refl
 below_typed Edit p = refl
 
--- no menu stands there
-below_none : (r : Room) (end running : Bool) → IsPlainRoom r → below_line (plainly_shown r end running) ≡ []
-below_none room.Ready end running plain = refl
-below_none (room.Typing r) end running plain = below_typed r.mode (plainly_shown (room.Typing r) end running)
-below_none (room.Pointing r) end running plain = no_room plain
-below_none (room.Menu r) end running plain = no_room plain
-below_none (room.Asking r) end running plain = no_room plain
-below_none (room.Failed message) end running plain = no_room plain
+-- where no menu stands, nothing is below it
+below_none : (r : Room) (end running : Bool) → lacks_menu (plain_mode r) ≡ true → below_line (plainly_shown r end running) ≡ []
+below_none room.Ready end running lacks = refl
+below_none (room.Typing r) end running lacks = below_typed r.mode (plainly_shown (room.Typing r) end running)
+below_none (room.Pointing r) end running lacks = no_room lacks
+below_none (room.Menu r) end running lacks = no_room lacks
+below_none (room.Asking r) end running lacks = no_room lacks
+below_none (room.Failed message) end running lacks = no_room lacks
 
 first_typed : (m : TypingMode) (message : List ℕ) (day : Option ℕ) (second : ℕ) → first_part (told_mode m) message day second ≡ moment_text day second
 first_typed Label message day second = refl
@@ -161,7 +164,7 @@ first_moment : (r : Room) (day : Option ℕ) (second : ℕ) → IsPlainRoom r �
 first_moment room.Ready day second plain = refl
 first_moment (room.Typing r) day second plain = first_typed r.mode [] day second
 first_moment (room.Pointing r) day second plain = no_room plain
-first_moment (room.Menu r) day second plain = no_room plain
+first_moment (room.Menu r) day second plain = refl
 first_moment (room.Asking r) day second plain = no_room plain
 first_moment (room.Failed message) day second plain = no_room plain
 
@@ -185,9 +188,16 @@ typed_is s ready =
     let plain : IsPlain s = ap (λ (m : Option Mode). is_some m) ready in
     ap entry_line (panel_is s plain) ∙ typed_none s.room s.end (is_running s) (sym (told_is s plain) ∙ ready)
 
--- and no menu below it, nor where a line is typed
-below_is : (s : State) → IsPlain s → below_line (panel_of s) ≡ []
-below_is s plain = ap below_line (panel_is s plain) ∙ below_none s.room s.end (is_running s) (room_plain s plain)
+-- a mode without a menu is told
+mode_is_told : (m : Option Mode) → lacks_menu m ≡ true → is_some m ≡ true
+mode_is_told None h = h
+mode_is_told (Some m) h = refl
+
+-- and nothing below it, nor where a line is typed
+below_is : (s : State) → lacks_menu (told_plainly s) ≡ true → below_line (panel_of s) ≡ []
+below_is s lacks =
+    let plain : IsPlain s = mode_is_told (told_plainly s) lacks in
+    ap below_line (panel_is s plain) ∙ below_none s.room s.end (is_running s) (ap lacks_menu (sym (told_is s plain)) ∙ lacks)
 
 -- a line of the screen, as it is painted
 abbrev line_of : State → ℕ → List ℕ
@@ -210,7 +220,7 @@ module _ (s t : State) (x : Touched) (touch : Touches x s.corner.row (sheet_of s
   typed_kept : KeepsTyped (glance_of s) (glance_of t) → line_of s 1 ≡ line_of t 1
   typed_kept is = ap shown_line (typed_is s is.0 ∙ sym (typed_is t is.1))
 
-  below_kept : ArePlain (glance_of s) (glance_of t) → line_of s 2 ≡ line_of t 2
+  below_kept : KeepsBelow (glance_of s) (glance_of t) → line_of s 2 ≡ line_of t 2
   below_kept is = ap shown_line (below_is s is.0 ∙ sym (below_is t is.1))
 
   letters_kept : KeepsLetters x (glance_of s) (glance_of t) → line_of s 3 ≡ line_of t 3
@@ -272,7 +282,7 @@ module _ (s t : State) (x : Touched) (touch : Touches x s.corner.row (sheet_of s
     line_kept : (n : ℕ) → n < 25 → IsKept x (glance_of s) (glance_of t) n → get_or (screen s) n [] ≡ get_or (screen t) n []
     line_kept zero inside kept = panel_line 0 (KeepsPointer x (glance_of s) (glance_of t)) inside refl refl pointer_kept (kept.pointer refl)
     line_kept (suc zero) inside kept = panel_line 1 (KeepsTyped (glance_of s) (glance_of t)) inside refl refl typed_kept (kept.typed refl)
-    line_kept (suc (suc zero)) inside kept = panel_line 2 (ArePlain (glance_of s) (glance_of t)) inside refl refl below_kept (kept.below refl)
+    line_kept (suc (suc zero)) inside kept = panel_line 2 (KeepsBelow (glance_of s) (glance_of t)) inside refl refl below_kept (kept.below refl)
     line_kept (suc (suc (suc zero))) inside kept = windows_line 3 (KeepsLetters x (glance_of s) (glance_of t)) inside refl refl letters_kept (kept.letters refl)
     line_kept (suc (suc (suc (suc k)))) inside kept = elim (cases_lt (suc (suc (suc (suc k)))) 24) [
       | inl below ↦

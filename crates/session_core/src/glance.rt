@@ -1,7 +1,7 @@
 // Which lines of the screen may be others after a step.
 ghost use Rattle.std.specs.Prelude.{◌≡◌, ◌≤◌, ◌<◌, ℕ, false, true, is_some, slice_get, Some};
 ghost use Rattle.control_panel.specs.declared.panel.Mode.TheVariants.{Ready};
-ghost use Rattle.session_core.specs.inner.Glances.{IsKept, KeepsRow, Stays};
+ghost use Rattle.session_core.specs.inner.Glances.{lacks_menu, IsKept, KeepsBelow, KeepsRow, Stays};
 
 use crate::rows::{FOOT, insert_rows};
 use crate::touched::Touched;
@@ -40,8 +40,9 @@ pub struct Still {
     pub windows: bool,
 }
 
-/// What the lines of the screen hang on beside the cells and the line that is typed: the cell at the top left, which
-/// areas stand still, the mode in READY and while a line is typed, and what the last line then shows.
+/// What the lines of the screen hang on beside the cells, the line that is typed and the menu: the cell at the top
+/// left, which areas stand still, the mode in READY, while a line is typed and in a menu, and what the last line then
+/// shows.
 #[derive(Clone, Copy)]
 pub struct Glance {
     pub corner: Cell,
@@ -65,11 +66,28 @@ fn keeps_typed(before: &Glance, after: &Glance) -> bool
     before.mode == Some(Mode::Ready) && after.mode == Some(Mode::Ready)
 }
 
-// Whether it is READY or a line is typed, before and after.
+// Whether it is READY, a line is typed or a menu is shown, before and after.
 fn are_plain(before: &Glance, after: &Glance) -> bool
     ensures { result ≡ true → (is_some before.now.mode ≡ true) × (is_some after.now.mode ≡ true) }
 {
     before.mode.is_some() && after.mode.is_some()
+}
+
+// Whether the mode is told, and no menu stands there.
+fn lacks_menu(mode: Option<Mode>) -> bool
+    ensures { result ≡ lacks_menu mode }
+{
+    match mode {
+        Some(Mode::Menu) | None => false,
+        Some(_) => true,
+    }
+}
+
+// Whether nothing stands below the line that is typed, before and after.
+fn keeps_below(before: &Glance, after: &Glance) -> bool
+    ensures { result ≡ true → KeepsBelow before.now after.now }
+{
+    lacks_menu(before.mode) && lacks_menu(after.mode)
 }
 
 // Whether the columns' letters are the same.
@@ -146,7 +164,7 @@ pub fn changed_lines(touched: Touched, before: &Glance, after: &Glance) -> LineS
     let now = after.still;
     let pointer = stays(was.panel, now.panel, keeps_pointer(&touched, before, after));
     let typed = stays(was.panel, now.panel, keeps_typed(before, after));
-    let below = stays(was.panel, now.panel, are_plain(before, after));
+    let below = stays(was.panel, now.panel, keeps_below(before, after));
     let letters = stays(
         was.windows,
         now.windows,

@@ -1,6 +1,7 @@
 // What a key comes to, and what is shown, by what the session is doing.
 ghost use Rattle.std.specs.Prelude.{◌≡◌, IfOk, IfSome, IsOk};
 ghost use Rattle.command_desk.specs.Desks.{of_desk};
+ghost use Rattle.menu_room.specs.Room as menu;
 ghost use Rattle.screen_layout.specs.Views.{viewed};
 ghost use Rattle.session_core.specs.inner.Glances.{plain_mode};
 ghost use Rattle.session_core.specs.inner.Typing.{is_line_typed, with_byte};
@@ -12,7 +13,7 @@ use control_panel::{Mode, Panel};
 use key_words::Key;
 use lics_text::{Memory, TextByte};
 use screen_layout::PanelView;
-use session_rooms::{Room, Turn};
+use session_rooms::{MenuRoom, Room, Turn};
 use typing_room::told_mode;
 
 // What a key comes to in a room.
@@ -82,14 +83,27 @@ pub(crate) fn room_panel(room: &Room) -> Panel
     }
 }
 
-/// The mode that is told in READY and while a line is typed into a cell; none elsewhere.
+/// The mode that is told in READY, while a line is typed into a cell and in a menu; none elsewhere.
 pub(crate) fn plain_mode(room: &Room) -> Option<Mode>
     ensures { result ≡ plain_mode room.now }
 {
     match room {
         Room::Ready => Some(Mode::Ready),
         Room::Typing(room) => Some(told_mode(room.mode)),
-        Room::Pointing(_) | Room::Menu(_) | Room::Asking(_) | Room::Failed(_) => None,
+        Room::Menu(_) => Some(Mode::Menu),
+        Room::Pointing(_) | Room::Asking(_) | Room::Failed(_) => None,
+    }
+}
+
+/// The menu that is shown; none in another room.
+pub(crate) fn plain_menu(room: &Room) -> Option<&MenuRoom>
+    ensures { IfSome result (λ r. menu.panel r.now ≡ room_panel room.now) }
+{
+    match room {
+        Room::Menu(room) => Some(room),
+        Room::Ready | Room::Typing(_) | Room::Pointing(_) | Room::Asking(_) | Room::Failed(_) => {
+            None
+        }
     }
 }
 

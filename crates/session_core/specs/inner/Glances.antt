@@ -2,7 +2,7 @@
 -- which that is otherwise than before.
 use Rattle.std.specs.Prelude.{◌≡◌, ⊤, ℕ, ◌+◌, ◌-◌, ◌/◌, ◌%◌, ◌≤◌, ◌<◌, ◌&&◌, nat_eq, length, Bool, true, false, not, is_some, if◌then◌else◌, Option, None, Some}
 use Rattle.control_panel.specs.declared.panel.Mode.{Mode}
-use Rattle.control_panel.specs.declared.panel.Mode.TheVariants.{Ready}
+use Rattle.control_panel.specs.declared.panel.Mode.TheVariants.{Ready, Menu}
 use Rattle.screen_layout.specs.Foot.{wants_recalculation}
 use Rattle.session_rooms.specs.declared.rooms.Room.{Room}
 use Rattle.session_rooms.specs.declared.rooms.Room.TheVariants as room
@@ -17,13 +17,13 @@ use Rattle.session_core.specs.declared.glance.Minute.{Minute}
 use Rattle.session_core.specs.declared.touched.Touched.{Touched}
 use Rattle.session_core.specs.declared.touched.Touched.TheVariants.{Nothing, Anything}
 
--- the mode that is told in READY and while a line is typed into a cell, where the panel shows nothing else of the room
--- but that line
+-- the mode that is told in READY, while a line is typed into a cell and in a menu, where the panel shows nothing else
+-- of the room but that line or the menu
 abbrev pub plain_mode : Room → Option Mode
 plain_mode room.Ready = Some Ready
 plain_mode (room.Typing r) = Some (told_mode r.mode)
 plain_mode (room.Pointing r) = None
-plain_mode (room.Menu r) = None
+plain_mode (room.Menu r) = Some Menu
 plain_mode (room.Asking r) = None
 plain_mode (room.Failed message) = None
 
@@ -48,7 +48,7 @@ marks_of s = record {
   running = is_running s;
 }
 
--- what the lines hang on beside the cells and the line that is typed
+-- what the lines hang on beside the cells, the line that is typed and the menu
 abbrev pub glance_of : State → Glance
 glance_of s = record {
   corner = s.corner;
@@ -72,9 +72,15 @@ KeepsPointer x a b = (x ≡ Nothing) × ((is_some a.mode ≡ true) × (b.mode �
 abbrev pub KeepsTyped : Glance → Glance → Type 0
 KeepsTyped a b = (a.mode ≡ Some Ready) × (b.mode ≡ Some Ready)
 
--- it is READY or a line is typed
-abbrev pub ArePlain : Glance → Glance → Type 0
-ArePlain a b = (is_some a.mode ≡ true) × (is_some b.mode ≡ true)
+-- the mode is told, and no menu stands there
+abbrev pub lacks_menu : Option Mode → Bool
+lacks_menu None = false
+lacks_menu (Some Menu) = false
+lacks_menu (Some mode) = true
+
+-- nothing stands below the line that is typed
+abbrev pub KeepsBelow : Glance → Glance → Type 0
+KeepsBelow a b = (lacks_menu a.mode ≡ true) × (lacks_menu b.mode ≡ true)
 
 -- what the columns' letters hang on is the same
 abbrev pub KeepsLetters : Touched → Glance → Glance → Type 0
@@ -88,7 +94,7 @@ KeepsRow x a b n = (touches_row x a.corner.row (a.corner.row + (n - 4)) ≡ fals
 pub record IsKept (touched : Touched) (a b : Glance) (n : ℕ) : Type 0 where
   pub pointer : n ≡ 0 → Stays a.still.panel b.still.panel (KeepsPointer touched a b)
   pub typed : n ≡ 1 → Stays a.still.panel b.still.panel (KeepsTyped a b)
-  pub below : n ≡ 2 → Stays a.still.panel b.still.panel (ArePlain a b)
+  pub below : n ≡ 2 → Stays a.still.panel b.still.panel (KeepsBelow a b)
   pub letters : n ≡ 3 → Stays a.still.windows b.still.windows (KeepsLetters touched a b)
   pub rows : 4 ≤ n → n < 24 → Stays a.still.windows b.still.windows (KeepsRow touched a b n)
   pub foot : n ≡ 24 → (is_some a.mode ≡ true) × ((is_some b.mode ≡ true) × (b.foot ≡ a.foot))

@@ -1,5 +1,6 @@
 // What is painted of a session.
 ghost use Rattle.std.specs.Prelude.{◌≡◌, ◌≤◌, IfSome, [], get_or, slice_set};
+ghost use Rattle.menu_room.specs.Room as menu;
 ghost use Rattle.screen_layout.specs.Views.{viewed};
 ghost use Rattle.screen_show.specs.Changes.{Unchanged};
 ghost use Rattle.session_core.specs.inner.Glances.{glance_of, is_plain, marks_of, minute_of, told_plainly};
@@ -8,12 +9,14 @@ ghost use Rattle.session_core.specs.inner.Showing.{HasShown};
 
 use super::Machine;
 use crate::glance::{Foot, Glance, Marks, Minute};
-use crate::pressing::{plain_mode, plain_view, room_panel};
+use crate::pressing::{plain_menu, plain_mode, plain_view, room_panel};
 use crate::waiting::{shows_waiting, waiting_panel};
 use control_panel::{Mode, Panel};
+use menu_room::{shown_below, shown_items};
 use screen_layout::{PanelView, line_at, wants_recalculation};
 use screen_show::{LineSet, Screen};
 use serial_date::Moment;
+use session_rooms::MenuRoom;
 
 impl Machine {
     // The minute of the last step.
@@ -47,7 +50,7 @@ impl Machine {
         !shows_waiting(self.engine.running()) && self.indicate.bytes().is_empty()
     }
 
-    // The mode, where the panel shows nothing else but a line that is typed.
+    // The mode, where the panel shows nothing else but a line that is typed or a menu.
     fn plain_mode(&self) -> Option<Mode>
         ensures { result ≡ told_plainly self.now.state }
     {
@@ -58,7 +61,7 @@ impl Machine {
         }
     }
 
-    /// What the lines of the screen hang on beside the cells and the line that is typed.
+    /// What the lines of the screen hang on beside the cells, the line that is typed and the menu.
     pub fn glance(&self) -> Glance
         ensures { result ≡ glance_of self.now.state }
     {
@@ -147,6 +150,42 @@ impl Machine {
         }
     }
 
+    // The menu that is shown; none in another room, and where a macro shows its own.
+    fn plain_menu(&self) -> Option<&MenuRoom>
+        ensures { IfSome result (λ r. menu.panel r.now ≡ shown_panel self.now.state) }
+    {
+        if shows_waiting(self.engine.running()) {
+            return None;
+        }
+        match plain_menu(&self.room) {
+            Some(room) => Some(room),
+            None => None,
+        }
+    }
+
+    // Paints lines of the screen with a menu.
+    fn paint_menu(&self, room: &MenuRoom, lines: &LineSet, shown: &mut Screen)
+        requires panel { menu.panel room.now ≡ shown_panel self.now.state }
+        requires unchanged { Unchanged lines.now shown.old (screen self.now.state) }
+        ensures { shown.new ≡ screen self.now.state }
+    {
+        let items = shown_items(room);
+        let below = shown_below(room);
+        let view = PanelView {
+            mode: Mode::Menu,
+            prompt: b"",
+            typed: b"",
+            cursor: 0,
+            menu: items.bytes(),
+            below: below.bytes(),
+            message: b"",
+            end: false,
+            running: false,
+            indicate: b"",
+        };
+        self.paint_with(view, lines, shown);
+    }
+
     // Paints lines of the screen with the panel of the macro's line or menu, or else of the room.
     fn paint_shown(&self, lines: &LineSet, shown: &mut Screen)
         requires { Unchanged lines.now shown.old (screen self.now.state) }
@@ -160,6 +199,10 @@ impl Machine {
         requires { Unchanged lines.now shown.old (screen self.now.state) }
         ensures { shown.new ≡ screen self.now.state }
     {
+        if let Some(room) = self.plain_menu() {
+            self.paint_menu(room, lines, shown);
+            return;
+        }
         match self.plain_view() {
             Some(view) => self.paint_with(view, lines, shown),
             None => self.paint_shown(lines, shown),

@@ -23,7 +23,7 @@ returns c n out =
     record {
       pointer = λ is. stays_by _ _ _ _ c.keeps_pointer.ensures (c.stays-pointer.ensures (c.insert_unless.ensures.told (at_line _ n 0 is pointer_out)));
       typed = λ is. stays_by _ _ _ _ c.keeps_typed.ensures (c.stays-typed.ensures (c.insert_unless-2.ensures.told (at_line _ n 1 is typed_out)));
-      below = λ is. stays_by _ _ _ _ c.are_plain.ensures (c.stays-below.ensures (c.insert_unless-3.ensures.told (at_line _ n 2 is below_out)));
+      below = λ is. stays_by _ _ _ _ c.keeps_below.ensures (c.stays-below.ensures (c.insert_unless-3.ensures.told (at_line _ n 2 is below_out)));
       letters = λ is. stays_by _ _ _ _ c.keeps_letters.ensures (c.stays-letters.ensures (c.insert_unless-4.ensures.told (at_line _ n 3 is letters_out)));
       rows = λ least most. c.row_lines-lines.ensures n least most (c.insert_unless.ensures.stay n pointer_out);
       foot = λ is. c.keeps_foot.ensures (c.insert_unless-5.ensures.told (at_line _ n 24 is out));
