@@ -35,6 +35,7 @@ pressed_afresh key.Break s h = h
 pressed_afresh key.Undo s h = h
 pressed_afresh (key.Alt letter) s h = h
 
+-- what only moves the pointer only moves it where nothing is refused yet, too
 pub moves_afresh : (e : Event) (s : State) → OnlyMovesBy e s → OnlyMovesBy e (afresh s)
 moves_afresh (KeyEvent k) s h = (pressed_afresh k s h.0, h.1)
 moves_afresh UnitEvent s h = h

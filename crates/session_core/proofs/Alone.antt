@@ -24,7 +24,8 @@ no_replies = record { look = failed; act = failed }
 
 -- what makes no call leaves the shelf
 pub alone : (act : Replies → Scene → State → Outcome) (now : Moment) (told : Bool) (a b : Worked) (v : ShelfView) →
-    Leads (act no_replies (scene_at a.state now) a.state) told a b → (act no_replies (scene_at a.state now) a.state).calls ≡ [] →
+    Leads (act no_replies (scene_at a.state now) a.state) told a b
+    → (act no_replies (scene_at a.state now) a.state).calls ≡ [] →
     LeadsOver act now told a b v v
 alone act now told a b v leads none = record {
   replies = no_replies;
@@ -32,11 +33,13 @@ alone act now told a b v leads none = record {
   answered = subst (λ (cs : List Asked). HaveAnswered cs v v) (sym none) refl;
 }
 
+-- of two outcomes that make no call, either one makes none
 pub either_calls : (b : Bool) (o p : Outcome) → o.calls ≡ [] → p.calls ≡ [] → (if b then o else p).calls ≡ []
 either_calls true o p one other = one
 either_calls false o p one other = other
 
-meant_calls : (m : Meant) (way : Way) (line : Entry) (scene : Scene) (s : State) → (finished_as m way line scene s).calls ≡ []
+meant_calls : (m : Meant) (way : Way) (line : Entry) (scene : Scene) (s : State)
+    → (finished_as m way line scene s).calls ≡ []
 meant_calls (Means x) way line scene s = either_calls _ _ _ (failed_calls _ scene s) refl
 meant_calls (Faulty at) way line scene s = refl
 
@@ -45,20 +48,25 @@ pub finish_calls : (way : Way) (line : Entry) (scene : Scene) (s : State) → (f
 finish_calls way line scene s = meant_calls (meaning_of line.text (sheet_of s) (pointer_of s)) way line scene s
 
 -- what a look came to, and what followed it
-pub looked_over : (command : AnsweredCommand) (now : Moment) (told : Bool) (a b : Worked) (x y z : ShelfView) (reply act : Reply) (came : Looked) →
-    came ≡ (looked command.action command.answers reply).came → HaveAnswered (looked command.action command.answers reply).calls x y →
-    Leads (looked_as came command act (scene_at a.state now) a.state) told a b →
-    HaveAnswered (looked_as came command act (scene_at a.state now) a.state).calls y z → LeadsOver (looking command) now told a b x z
+pub looked_over : (command : AnsweredCommand) (now : Moment) (told : Bool) (a b : Worked) (x y z : ShelfView)
+    (reply act : Reply) (came : Looked) → came ≡ (looked command.action command.answers reply).came
+    → HaveAnswered (looked command.action command.answers reply).calls x y
+    → Leads (looked_as came command act (scene_at a.state now) a.state) told a b
+    → HaveAnswered (looked_as came command act (scene_at a.state now) a.state).calls y z
+    → LeadsOver (looking command) now told a b x z
 looked_over command now told a b x y z reply act came is had leads more =
     let o : Looked → Outcome = λ (k : Looked). looked_as k command act (scene_at a.state now) a.state in
     record {
       replies = record { look = reply; act = act };
-      leads = subst (λ (k : Looked). Leads (behind_calls (looked command.action command.answers reply).calls (o k)) told a b) is
+      leads = subst
+          (λ (k : Looked). Leads (behind_calls (looked command.action command.answers reply).calls (o k)) told a b) is
           (record { state = leads.state; work = leads.work; ends = leads.ends });
-      answered = answered_then (looked command.action command.answers reply).calls (o (looked command.action command.answers reply).came).calls x y z had
+      answered = answered_then (looked command.action command.answers reply).calls
+          (o (looked command.action command.answers reply).came).calls x y z had
           (subst (λ (k : Looked). HaveAnswered (o k).calls y z) is more);
     }
 
+-- what follows from what holds of a good answer's value holds of that value too
 pub ok_map : {A E : Type 0} {P Q : A → Type 0} (r : Result A E) → ((x : A) → P x → Q x) → IfOk r P → IfOk r Q
 ok_map (Ok x) f p = f x p
 ok_map (Err e) f p = p

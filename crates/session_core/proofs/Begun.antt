@@ -1,7 +1,7 @@
 -- A command that is begun where a key can change the sheet, and one that is ended.
 use Rattle.std.proofs.Common.{◌≡◌, Bool, true, false, Option, None, ap, refl, sym, subst, ◌∙◌, ◌⊎◌, inl, inr}
 use Rattle.std.specs.Prelude.{◌&&◌, if◌then◌else◌}
-use Rattle.commands_file.specs.Calls.{HaveAnswered, ShelfView}
+use Rattle.commands_file.specs.Calls.{ShelfView}
 use Rattle.formula_parts.specs.declared.look.Scene.{Scene}
 use Rattle.key_words.specs.declared.key.Key.{Key}
 use Rattle.key_words.specs.declared.key.Key.TheVariants as key
@@ -12,11 +12,10 @@ use Rattle.serial_date.specs.declared.moment.Moment.{Moment}
 use Rattle.session_rooms.specs.declared.turn.Turn.{Turn}
 use Rattle.session_rooms.specs.declared.turn.Turn.TheVariants as turn
 use Rattle.sheet_undo.specs.Histories.{ended, History}
-use Rattle.work_sheet.specs.Work.{HasWorked, Work}
 use Rattle.session_core.specs.Carrying.{carried}
-use Rattle.session_core.specs.Keeping.{begun_for, command_ended, is_at_end, with_history, TellsChange}
+use Rattle.session_core.specs.Keeping.{begun_for, command_ended, is_at_end, with_history}
 use Rattle.session_core.specs.Machine.{scene_at, sheet_of, with_macro, Outcome, Replies, State}
-use Rattle.session_core.specs.inner.Leading.{HasDone, Leads, LeadsOver, Worked}
+use Rattle.session_core.specs.inner.Leading.{LeadsOver, Worked}
 use Rattle.session_core.specs.Moving.{IsMoved, OnlyMoves, OnlyMovesBy, OnlyMovesByKey, OnlyMovesByPress, OnlyMovesGiven}
 use Rattle.session_core.specs.Pressing.{turn_of}
 use Rattle.session_core.specs.Step.{by_key, by_waiting_macro, event_taken, given, pressed_key, typed_into}
@@ -30,6 +29,7 @@ pub record IsBeside (s t : State) : Type 0 where
   pub history : History
   pub is : t ≡ with_history history s
 
+-- the beginning of a command changes the history alone
 pub begun_beside : (t : Turn) (s : State) → IsBeside s (begun_for t s)
 begun_beside (turn.Become r) s = record { history = _; is = refl }
 begun_beside (turn.Move way) s = record { history = _; is = refl }
@@ -55,9 +55,11 @@ both_false : (a : Bool) → (a && false) ≡ false
 both_false true = refl
 both_false false = refl
 
+-- where no command is begun, none is at its end
 pub none_at_end : (s : State) → s.history.begun ≡ None → is_at_end s ≡ false
 none_at_end s none = rw none (both_false _)
 
+-- where no command is at its end, the state stays as it is
 pub not_over : (changed : Bool) (s : State) → is_at_end s ≡ false → command_ended changed s ≡ s
 not_over changed s none =
     ap (λ (b : Bool). if b then with_history (ended changed s.history.begun s.history.kept) s else s) none
@@ -68,11 +70,13 @@ module _ (k : Key) (t : Turn) (s mid u : State) (turn_is : t ≡ turn_of k s.roo
   mid_is : mid ≡ with_history (begun_beside t (typed_into k s)).history (typed_into k s)
   mid_is = is ∙ (begun_beside t (typed_into k s)).is
 
+  -- behind the beginning of a command the turn only moves the pointer, where the key does
   pub only_over : OnlyMovesByKey k s → OnlyMoves t mid.running
   only_over p =
       subst (λ (r : Option Running). OnlyMoves t r) (sym (ap (λ (v : State). v.running) mid_is))
       (subst (λ (v : Turn). OnlyMoves v s.running) (sym turn_is) p.1)
 
+  -- a pointer that moved behind the beginning of a command moved since the key came
   pub moved_over : (OnlyMoves t mid.running → IsMoved (sheet_of mid) (sheet_of u)) → OnlyMovesByKey k s →
       IsMoved (sheet_of s) (sheet_of u)
   moved_over moved p = subst (λ (v : State). IsMoved (sheet_of v) (sheet_of u)) mid_is (moved (only_over p))
@@ -99,7 +103,8 @@ key_none k replies scene s p none = moves_none (turn_of k s.room s.end s.desk) r
 given_none : (k : Key) (replies : Replies) (scene : Scene) (s : State) → OnlyMovesGiven k s →
     s.history.begun ≡ None → (given k replies scene s).state.history.begun ≡ None
 given_none k replies scene s p none =
-    ap (λ (b : Bool). (if b then by_waiting_macro k replies scene s else by_key k replies scene s).state.history.begun) p.0
+    ap (λ (b : Bool). (if b then by_waiting_macro k replies scene s else by_key k replies scene s).state.history.begun)
+    p.0
     ∙ key_none k replies scene s p.1 none
 
 -- BREAK, or another key
@@ -153,48 +158,3 @@ pub moving_ends_none : (event : Event) (now : Moment) (told : Bool) (a mid : Wor
     LeadsOver (event_taken event) now told a mid x y → OnlyMovesBy event a.state → is_at_end mid.state ≡ false
 moving_ends_none event now told a mid x y l p =
     ap (λ (s : State). is_at_end s) l.leads.state ∙ none_ends event l.replies (scene_at a.state now) a.state p
-
--- the end of a command leaves the sheet
-pub ended_sheet : (changed : Bool) (s t : State) → t ≡ command_ended changed s → sheet_of t ≡ sheet_of s
-ended_sheet changed s t is = ap (λ (u : State). sheet_of u) (is ∙ (ended_beside changed s).is)
-
--- what a key comes to leads on behind the beginning of a command
-pub key_over : (k : Key) (t : Turn) (now : Moment) (told : Bool) (a mid b : Worked) (x y : ShelfView) →
-    t ≡ turn_of k a.state.room a.state.end a.state.desk → mid.state ≡ begun_for t (typed_into k a.state) →
-    mid.work ≡ a.work → LeadsOver (carried t) now told mid b x y → LeadsOver (by_key k) now told a b x y
-key_over k t now told a mid b x y turn_is is work_is l =
-    let came : Turn = turn_of k a.state.room a.state.end a.state.desk in
-    let u : State = begun_for came (typed_into k a.state) in
-    let state_is : mid.state ≡ u = is ∙ ap (λ (o : Turn). begun_for o (typed_into k a.state)) turn_is in
-    let m : Worked = record { state = u; work = a.work } in
-    let mid_is : mid ≡ m = λ i. record { state = state_is i; work = work_is i } in
-    let there : LeadsOver (carried came) now told m b x y =
-    subst (λ (w : Worked). LeadsOver (carried came) now told w b x y) mid_is
-    (subst (λ (o : Turn). LeadsOver (carried o) now told mid b x y) turn_is l) in
-    let scene_is : scene_at u now ≡ scene_at a.state now =
-    ap (λ (v : State). scene_at v now) (begun_beside came (typed_into k a.state)).is in
-    let leads : Leads (carried came there.replies (scene_at a.state now) u) told m b =
-    subst (λ (c : Scene). Leads (carried came there.replies c u) told m b) scene_is there.leads in
-    record {
-      replies = there.replies;
-      leads = record { state = leads.state; work = leads.work; ends = leads.ends };
-      answered =
-          subst (λ (c : Scene). HaveAnswered (carried came there.replies c u).calls x y) scene_is there.answered;
-    }
-
--- an event was taken, and a command that it ends was kept if it changed the sheet
-pub done_over : (event : Event) (now : Moment) (told changed : Bool) (a mid b : Worked) (x y : ShelfView) →
-    LeadsOver (event_taken event) now told a mid x y → TellsChange changed mid.state →
-    b.state ≡ command_ended changed mid.state → b.work ≡ mid.work → HasDone event now told a b x y
-done_over event now told changed a mid b x y l tells is work_is = record {
-  replies = l.replies;
-  changed = changed;
-  tells = subst (TellsChange changed) l.leads.state tells;
-  leads = record {
-    state = is ∙ ap (command_ended changed) l.leads.state;
-    work = subst (λ (w : Work). HasWorked (event_taken event l.replies (scene_at a.state now) a.state).log a.work w)
-        (sym work_is) l.leads.work;
-    ends = l.leads.ends;
-  };
-  answered = l.answered;
-}

@@ -31,7 +31,8 @@ use Rattle.session_core.specs.Keeping.{begun_for}
 use Rattle.session_core.specs.Machine.{afresh, scene_at, sheet_of, with_macro, Outcome, Replies, State}
 use Rattle.session_core.specs.inner.Leading.{BreaksOver, LeadsOver, Worked}
 use Rattle.session_core.specs.Pressing.{turn_of}
-use Rattle.session_core.specs.Step.{by_waiting_macro, by_file, by_word, come_to, event_taken, given, on_file, pressed_key}
+use Rattle.session_core.specs.Step.{by_waiting_macro, by_file, by_word, come_to, event_taken, given, on_file}
+use Rattle.session_core.specs.Step.{pressed_key}
 use Rattle.session_core.specs.Step.{protected_target, by_key, typed_into, HasBrokenStep}
 use Rattle.session_core.specs.declared.event.Event.{Event}
 use Rattle.session_core.proofs.Begun.{begun_beside}
@@ -86,7 +87,8 @@ pub stepped_breaks : (made : Scene → Option Running → Sheet → MacroStep) (
     → t ≡ over_work s w new_running
     → HasStepped (made scene running (of_worksheet v)) came new_running v w m n → BreaksOver (come_to came) now t x y
     → BreaksOver (over_steps made) now s x y
-stepped_breaks made now s t scene running new_running came v w m n x y scene_is running_is sheet_is history_is state_is h broke =
+stepped_breaks made now s t scene running new_running came v w m n x y scene_is running_is sheet_is history_is
+    state_is h broke =
     let there : Scene = scene_at s now in
     let step : MacroStep = made there s.running (sheet_of s) in
     let here : HasStepped step came new_running v w m n =
@@ -116,6 +118,7 @@ given_answered_breaks k now s x y is broke = record {
       else by_key k broke.answers (scene_at s now) s).calls x y) (sym is) broke.broke;
 }
 
+-- memory ran out where a key was given that no macro takes
 pub given_taken_breaks : (k : Key) (now : Moment) (s : State) (x y : ShelfView) → takes_key k s.running ≡ false
     → BreaksOver (by_key k) now s x y → BreaksOver (given k) now s x y
 given_taken_breaks k now s x y is broke = record {

@@ -41,7 +41,8 @@ pub failed_untold : (e : CommandError) (scene : Scene) (s : State) → handles_e
     failed e scene s ≡ quiet (told (message_of e) s)
 unfolding failed
 failed_untold e scene s none =
-    ap (λ (c : Caught). caught_as c (room_behind (handles_errors s.running) e) s) (unhandled scene (message_of e) s.running (sheet_of s) none)
+    ap (λ (c : Caught). caught_as c (room_behind (handles_errors s.running) e) s)
+    (unhandled scene (message_of e) s.running (sheet_of s) none)
     ∙ told_as e scene s (handles_errors s.running) none
 
 -- an error makes no call of the shelf, and doesn't end the run
@@ -49,17 +50,15 @@ pub failed_calls : (e : CommandError) (scene : Scene) (s : State) → (failed e 
 unfolding failed
 failed_calls e scene s = refl
 
-pub failed_ends : (e : CommandError) (scene : Scene) (s : State) → (failed e scene s).ends ≡ false
-unfolding failed
-failed_ends e scene s = refl
-
 -- what follows behind a command makes no call of the shelf
-pub left_calls : (end : CommandEnd) (action : Action) (scene : Scene) (s : State) → (left_by end action scene s).calls ≡ []
+pub left_calls : (end : CommandEnd) (action : Action) (scene : Scene) (s : State)
+    → (left_by end action scene s).calls ≡ []
 left_calls Finished action scene s = refl
 left_calls Quits action scene s = refl
 left_calls (Refused e) action scene s = failed_calls e scene s
 
 -- an error leaves the shelf
-pub failed_alone : (e : CommandError) (scene : Scene) (s : State) (v : ShelfView) → HaveAnswered (failed e scene s).calls v v
+pub failed_alone : (e : CommandError) (scene : Scene) (s : State) (v : ShelfView)
+    → HaveAnswered (failed e scene s).calls v v
 unfolding failed
 failed_alone e scene s v = refl

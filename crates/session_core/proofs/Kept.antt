@@ -1,7 +1,9 @@
 -- The lines that are the same from step to step.
-use Rattle.std.proofs.Common.{◌≡◌, ℕ, zero, suc, ◌+◌, ◌-◌, ◌/◌, ◌%◌, ◌≤◌, ◌<◌, Bool, true, false, List, [], ◌∷◌, ◌++◌, Option, Some, None, refl, ap, sym, subst, ◌∙◌, arith, inl, inr}
+use Rattle.std.proofs.Common.{◌≡◌, ℕ, zero, suc, ◌+◌, ◌-◌, ◌/◌, ◌%◌, ◌≤◌, ◌<◌, Bool, true, false, List, [], ◌∷◌, ◌++◌}
+use Rattle.std.proofs.Common.{Option, Some, None, refl, ap, sym, subst, ◌∙◌, arith, inl, inr}
 use Rattle.std.specs.Prelude.{codes, get_or, if◌then◌else◌, is_some, length, nat_eq, nat_lt, not, slice_get, take}
-use Rattle.std.proofs.lemmas.Bool.{and_parts, cases_lt, eqb-true, false_from_ne_true, false≢true, lt-ltb, ltb-true, true≢false}
+use Rattle.std.proofs.lemmas.Bool.{and_parts, cases_lt, eqb-true, false_from_ne_true, false≢true, lt-ltb, ltb-true}
+use Rattle.std.proofs.lemmas.Bool.{true≢false}
 use Rattle.std.proofs.lemmas.List.{nil_from_length}
 use Rattle.std.proofs.lemmas.Option.{slice_get_past}
 use Rattle.control_panel.specs.declared.panel.Mode.{Mode}
@@ -27,7 +29,8 @@ use Rattle.session_rooms.specs.declared.rooms.TypingMode.TheVariants.{Label, Val
 use Rattle.typing_room.specs.Room.{told_mode}
 use Rattle.work_sheet.specs.Seen.{Sheet}
 use Rattle.session_core.specs.Frozen.{frozen_after, frozen_by, held_at, line_over}
-use Rattle.session_core.specs.inner.Glances.{glance_of, is_plain, lacks_menu, marks_of, plain_mode, told_plainly, IsKept, KeepsBelow, KeepsLetters, KeepsPointer, KeepsRow, KeepsTyped, Stays}
+use Rattle.session_core.specs.inner.Glances.{glance_of, is_plain, marks_of, lacks_menu, plain_mode, told_plainly}
+use Rattle.session_core.specs.inner.Glances.{IsKept, KeepsLetters, KeepsPointer, KeepsRow, KeepsTyped, KeepsBelow, Stays}
 use Rattle.session_core.specs.Machine.{is_running, sheet_of, FrozenAreas, State}
 use Rattle.session_core.specs.Pressing.{room_panel}
 use Rattle.session_core.specs.Screen.{painted_screen, panel_of, screen}
@@ -67,7 +70,8 @@ nothing_waiting sheet (waiting.Item m) p h = absurd (true≢false h)
 nothing_waiting sheet waiting.Enter p h = refl
 
 -- where a macro shows nothing, what the session shows stays
-pub nothing_shown : (sheet : Sheet) (r : Option Running) (p : Panel) → shows_waiting r ≡ false → waiting_panel sheet r p ≡ p
+pub nothing_shown : (sheet : Sheet) (r : Option Running) (p : Panel) → shows_waiting r ≡ false
+    → waiting_panel sheet r p ≡ p
 nothing_shown sheet None p h = refl
 nothing_shown sheet (Some r) p h = nothing_waiting sheet r.waiting p h
 
@@ -97,8 +101,10 @@ module _ (s : State) (plain : IsPlain s) where
   panel_is : panel_of s ≡ plainly_shown s.room s.end (is_running s)
   panel_is =
       let parts = and_parts (not (shows_waiting s.running)) (nat_eq (length s.indicate) 0) is_plain_is in
-      ap (λ (p : Panel). record p { end = s.end; running = is_running s; indicate = s.indicate }) (nothing_shown (sheet_of s) s.running (room_panel s.room) (not_true (shows_waiting s.running) parts.0))
-      ∙ ap (λ (text : List ℕ). record (room_panel s.room) { end = s.end; running = is_running s; indicate = text }) (no_bytes s.indicate parts.1)
+      ap (λ (p : Panel). record p { end = s.end; running = is_running s; indicate = s.indicate })
+      (nothing_shown (sheet_of s) s.running (room_panel s.room) (not_true (shows_waiting s.running) parts.0))
+      ∙ ap (λ (text : List ℕ). record (room_panel s.room) { end = s.end; running = is_running s; indicate = text })
+      (no_bytes s.indicate parts.1)
 
 -- the mode of a room, where it is told
 abbrev told_in : Option Mode → List ℕ
@@ -120,7 +126,8 @@ pointer_by s m = filled 73 (take 72 (pointer_text s)) ++ told_in m
 pointer_is : (s : State) → IsPlain s → pointer_line (sheet_of s) (panel_of s) ≡ pointer_by (sheet_of s) (told_plainly s)
 pointer_is s plain =
     ap (pointer_line (sheet_of s)) (panel_is s plain)
-    ∙ ap (λ (told : List ℕ). filled 73 (take 72 (pointer_text (sheet_of s))) ++ told) (mode_told s.room (room_plain s plain))
+    ∙ ap (λ (told : List ℕ). filled 73 (take 72 (pointer_text (sheet_of s))) ++ told)
+    (mode_told s.room (room_plain s plain))
     ∙ ap (pointer_by (sheet_of s)) (sym (told_is s plain))
 
 typed_ready : (m : TypingMode) → Some (told_mode m) ≡ Some mode.Ready → ⊥
@@ -132,7 +139,8 @@ menu_ready : Some mode.Menu ≡ Some mode.Ready → ⊥
 menu_ready h = let no : mode.Menu ≡ mode.Ready = cc in absurd cc
 
 -- in READY no line is typed
-typed_none : (r : Room) (end running : Bool) → plain_mode r ≡ Some mode.Ready → entry_line (plainly_shown r end running) ≡ []
+typed_none : (r : Room) (end running : Bool) → plain_mode r ≡ Some mode.Ready
+    → entry_line (plainly_shown r end running) ≡ []
 typed_none room.Ready end running ready = refl
 typed_none (room.Typing r) end running ready = absurd (typed_ready r.mode ready)
 typed_none (room.Pointing r) end running ready = absurd (let no : None ≡ Some mode.Ready = ready in cc)
@@ -145,22 +153,25 @@ below_typed Label p = refl
 below_typed Value p = refl
 below_typed Edit p = refl
 
--- where no menu stands, nothing is below it
-below_none : (r : Room) (end running : Bool) → lacks_menu (plain_mode r) ≡ true → below_line (plainly_shown r end running) ≡ []
-below_none room.Ready end running lacks = refl
-below_none (room.Typing r) end running lacks = below_typed r.mode (plainly_shown (room.Typing r) end running)
-below_none (room.Pointing r) end running lacks = no_room lacks
-below_none (room.Menu r) end running lacks = no_room lacks
-below_none (room.Asking r) end running lacks = no_room lacks
-below_none (room.Failed message) end running lacks = no_room lacks
+-- no menu stands there
+below_none : (r : Room) (end running : Bool) → lacks_menu (plain_mode r) ≡ true
+    → below_line (plainly_shown r end running) ≡ []
+below_none room.Ready end running plain = refl
+below_none (room.Typing r) end running plain = below_typed r.mode (plainly_shown (room.Typing r) end running)
+below_none (room.Pointing r) end running plain = no_room plain
+below_none (room.Menu r) end running plain = no_room plain
+below_none (room.Asking r) end running plain = no_room plain
+below_none (room.Failed message) end running plain = no_room plain
 
-first_typed : (m : TypingMode) (message : List ℕ) (day : Option ℕ) (second : ℕ) → first_part (told_mode m) message day second ≡ moment_text day second
+first_typed : (m : TypingMode) (message : List ℕ) (day : Option ℕ) (second : ℕ)
+    → first_part (told_mode m) message day second ≡ moment_text day second
 first_typed Label message day second = refl
 first_typed Value message day second = refl
 first_typed Edit message day second = refl
 
 -- no message is told
-first_moment : (r : Room) (day : Option ℕ) (second : ℕ) → IsPlainRoom r → first_part (room_panel r).mode (room_panel r).message day second ≡ moment_text day second
+first_moment : (r : Room) (day : Option ℕ) (second : ℕ) → IsPlainRoom r
+    → first_part (room_panel r).mode (room_panel r).message day second ≡ moment_text day second
 first_moment room.Ready day second plain = refl
 first_moment (room.Typing r) day second plain = first_typed r.mode [] day second
 first_moment (room.Pointing r) day second plain = no_room plain
@@ -169,15 +180,18 @@ first_moment (room.Asking r) day second plain = no_room plain
 first_moment (room.Failed message) day second plain = no_room plain
 
 -- the moment hangs on the day, the hour and the minute
-moment_same : (day : Option ℕ) (x y : ℕ) → x / 3600 ≡ y / 3600 → x / 60 % 60 ≡ y / 60 % 60 → moment_text day x ≡ moment_text day y
+moment_same : (day : Option ℕ) (x y : ℕ) → x / 3600 ≡ y / 3600 → x / 60 % 60 ≡ y / 60 % 60
+    → moment_text day x ≡ moment_text day y
 moment_same None x y hours minutes = refl
 moment_same (Some day) x y hours minutes = rw (hours, minutes) refl
 
 -- the last line by what it marks and its beginning
 abbrev foot_by : Marks → List ℕ → List ℕ
-foot_by k first = marked k.running 67 (codes "CMD") (marked k.end 62 (codes "END") (marked k.circ 56 (codes "CIRC") (marked k.calc 50 (codes "CALC") (take 50 first))))
+foot_by k first = marked k.running 67 (codes "CMD")
+    (marked k.end 62 (codes "END") (marked k.circ 56 (codes "CIRC") (marked k.calc 50 (codes "CALC") (take 50 first))))
 
-foot_is : (s : State) → IsPlain s → foot_line (sheet_of s) (panel_of s) s.day s.second ≡ foot_by (marks_of s) (moment_text s.day s.second)
+foot_is : (s : State) → IsPlain s
+    → foot_line (sheet_of s) (panel_of s) s.day s.second ≡ foot_by (marks_of s) (moment_text s.day s.second)
 foot_is s plain =
     ap (λ (p : Panel). foot_line (sheet_of s) p s.day s.second) (panel_is s plain)
     ∙ ap (foot_by (marks_of s)) (first_moment s.room s.day s.second (room_plain s plain))
@@ -197,7 +211,8 @@ mode_is_told (Some m) h = refl
 below_is : (s : State) → lacks_menu (told_plainly s) ≡ true → below_line (panel_of s) ≡ []
 below_is s lacks =
     let plain : IsPlain s = mode_is_told (told_plainly s) lacks in
-    ap below_line (panel_is s plain) ∙ below_none s.room s.end (is_running s) (ap lacks_menu (sym (told_is s plain)) ∙ lacks)
+    ap below_line (panel_is s plain)
+    ∙ below_none s.room s.end (is_running s) (ap lacks_menu (sym (told_is s plain)) ∙ lacks)
 
 -- a line of the screen, as it is painted
 abbrev line_of : State → ℕ → List ℕ
@@ -212,7 +227,8 @@ sure_of x first row apart is = true≢false (sym (ap (λ (y : Touched). touches_
 module _ (s t : State) (x : Touched) (touch : Touches x s.corner.row (sheet_of s) (sheet_of t)) where
   pointer_kept : KeepsPointer x (glance_of s) (glance_of t) → line_of s 0 ≡ line_of t 0
   pointer_kept is =
-      let sheets : sheet_of t ≡ sheet_of s = subst (λ (y : Touched). Touches y s.corner.row (sheet_of s) (sheet_of t)) is.0 touch in
+      let sheets : sheet_of t ≡ sheet_of s =
+      subst (λ (y : Touched). Touches y s.corner.row (sheet_of s) (sheet_of t)) is.0 touch in
       let plain : IsPlain t = ap (λ (m : Option Mode). is_some m) is.1.1 ∙ is.1.0 in
       ap shown_line (pointer_is s is.1.0 ∙ ap (λ (u : Sheet). pointer_by u (told_plainly s)) (sym sheets)
       ∙ ap (pointer_by (sheet_of t)) (sym is.1.1) ∙ sym (pointer_is t plain))
@@ -225,44 +241,58 @@ module _ (s t : State) (x : Touched) (touch : Touches x s.corner.row (sheet_of s
 
   letters_kept : KeepsLetters x (glance_of s) (glance_of t) → line_of s 3 ≡ line_of t 3
   letters_kept is =
-      letters_same (touches_row x s.corner.row) (sheet_of s) (sheet_of t) (touched_alike x s.corner.row (sheet_of s) (sheet_of t) is.0 touch) (panel_of s) (panel_of t) s.corner t.corner s.day t.day s.second t.second
+      letters_same (touches_row x s.corner.row) (sheet_of s) (sheet_of t) (touched_alike x s.corner.row (sheet_of s)
+      (sheet_of t) is.0 touch) (panel_of s) (panel_of t) s.corner t.corner s.day t.day s.second t.second
       (sym is.1)
 
   row_kept : (n : ℕ) → 4 ≤ n → n < 24 → KeepsRow x (glance_of s) (glance_of t) n → line_of s n ≡ line_of t n
   row_kept n least most is =
-      let alike : AreAlike (touches_row x s.corner.row) (sheet_of s) (sheet_of t) = touched_alike x s.corner.row (sheet_of s) (sheet_of t) (sure_of x s.corner.row (s.corner.row + (n - 4)) is.0) touch in
-      row_same (touches_row x s.corner.row) (sheet_of s) (sheet_of t) alike (panel_of s) (panel_of t) s.corner s.day t.day s.second t.second n least most is.0
+      let alike : AreAlike (touches_row x s.corner.row) (sheet_of s) (sheet_of t) = touched_alike x s.corner.row
+      (sheet_of s) (sheet_of t) (sure_of x s.corner.row (s.corner.row + (n - 4)) is.0) touch in
+      row_same (touches_row x s.corner.row) (sheet_of s) (sheet_of t) alike (panel_of s)
+      (panel_of t) s.corner s.day t.day s.second t.second n least most is.0
       ∙ ap (λ (c : Place). screen_line (sheet_of t) (panel_of t) c t.day t.second n) (sym is.1)
 
   foot_kept : IsKept x (glance_of s) (glance_of t) 24 → line_of s 24 ≡ line_of t 24
   foot_kept kept =
       let is = kept.foot refl in
-      ap shown_line (foot_is s is.0 ∙ ap (λ (k : Marks). foot_by k (moment_text s.day s.second)) (ap (λ (f : Foot). f.marks) (sym is.1.1))
-      ∙ ap (foot_by (marks_of t)) (ap (λ (day : Option ℕ). moment_text day s.second) (ap (λ (f : Foot). f.minute.day) (sym is.1.1))
-      ∙ moment_same t.day s.second t.second (ap (λ (f : Foot). f.minute.hour) (sym is.1.1)) (ap (λ (f : Foot). f.minute.minute) (sym is.1.1)))
+      ap shown_line (foot_is s is.0 ∙ ap (λ (k : Marks). foot_by k (moment_text s.day s.second))
+      (ap (λ (f : Foot). f.marks) (sym is.1.1))
+      ∙ ap (foot_by (marks_of t))
+      (ap (λ (day : Option ℕ). moment_text day s.second) (ap (λ (f : Foot). f.minute.day) (sym is.1.1))
+      ∙ moment_same t.day s.second t.second (ap (λ (f : Foot). f.minute.hour) (sym is.1.1))
+      (ap (λ (f : Foot). f.minute.minute) (sym is.1.1)))
       ∙ sym (foot_is t is.1.0))
 
   -- a line that is painted the same is shown the same, where none is held
   module _ (x_on : Switches) (after : t.frozen ≡ frozen_after (screen s) x_on s.frozen) where
     -- a line of an area, by what is held of it
-    area_line : (on : Bool) (held : Option (List (List ℕ))) (n : ℕ) (P : Type 0) → n < 25 → held_at s.frozen n ≡ held → held_at t.frozen n ≡ frozen_by on (screen s) held →
-        (P → line_of s n ≡ line_of t n) → Stays (is_some held) (is_some (frozen_by on (screen s) held)) P → get_or (screen s) n [] ≡ get_or (screen t) n []
+    area_line : (on : Bool) (held : Option (List (List ℕ))) (n : ℕ) (P : Type 0) → n < 25 → held_at s.frozen n ≡ held
+        → held_at t.frozen n ≡ frozen_by on (screen s) held →
+        (P → line_of s n ≡ line_of t n) → Stays (is_some held) (is_some (frozen_by on (screen s) held)) P
+        → get_or (screen s) n [] ≡ get_or (screen t) n []
     area_line on held n P inside is next same stays =
         let was : get_or (screen s) n [] ≡ line_over held (painted_screen s) n =
-        shown_at s.frozen (painted_screen s) n inside ∙ ap (λ (h : Option (List (List ℕ))). line_over h (painted_screen s) n) is in
+        shown_at s.frozen (painted_screen s) n inside
+        ∙ ap (λ (h : Option (List (List ℕ))). line_over h (painted_screen s) n) is in
         was
-        ∙ area_kept on held (screen s) (painted_screen s) (painted_screen t) n P (sym was) (λ p. painted_at s n inside ∙ same p ∙ sym (painted_at t n inside)) stays
+        ∙ area_kept on held (screen s) (painted_screen s) (painted_screen t) n P (sym was)
+        (λ p. painted_at s n inside ∙ same p ∙ sym (painted_at t n inside)) stays
         ∙ ap (λ (h : Option (List (List ℕ))). line_over h (painted_screen t) n) (sym next)
         ∙ sym (shown_at t.frozen (painted_screen t) n inside)
 
-    panel_line : (n : ℕ) (P : Type 0) → n < 25 → held_at s.frozen n ≡ s.frozen.panel → held_at t.frozen n ≡ t.frozen.panel →
-        (P → line_of s n ≡ line_of t n) → Stays (is_some s.frozen.panel) (is_some t.frozen.panel) P → get_or (screen s) n [] ≡ get_or (screen t) n []
+    panel_line : (n : ℕ) (P : Type 0) → n < 25 → held_at s.frozen n ≡ s.frozen.panel
+        → held_at t.frozen n ≡ t.frozen.panel →
+        (P → line_of s n ≡ line_of t n) → Stays (is_some s.frozen.panel) (is_some t.frozen.panel) P
+        → get_or (screen s) n [] ≡ get_or (screen t) n []
     panel_line n P inside is next same stays =
         area_line x_on.panel s.frozen.panel n P inside is (next ∙ ap (λ (f : FrozenAreas). f.panel) after) same
         (subst (λ (f : FrozenAreas). Stays (is_some s.frozen.panel) (is_some f.panel) P) after stays)
 
-    windows_line : (n : ℕ) (P : Type 0) → n < 25 → held_at s.frozen n ≡ s.frozen.windows → held_at t.frozen n ≡ t.frozen.windows →
-        (P → line_of s n ≡ line_of t n) → Stays (is_some s.frozen.windows) (is_some t.frozen.windows) P → get_or (screen s) n [] ≡ get_or (screen t) n []
+    windows_line : (n : ℕ) (P : Type 0) → n < 25 → held_at s.frozen n ≡ s.frozen.windows
+        → held_at t.frozen n ≡ t.frozen.windows →
+        (P → line_of s n ≡ line_of t n) → Stays (is_some s.frozen.windows) (is_some t.frozen.windows) P
+        → get_or (screen s) n [] ≡ get_or (screen t) n []
     windows_line n P inside is next same stays =
         area_line x_on.windows s.frozen.windows n P inside is (next ∙ ap (λ (f : FrozenAreas). f.windows) after) same
         (subst (λ (f : FrozenAreas). Stays (is_some s.frozen.windows) (is_some f.windows) P) after stays)
@@ -270,49 +300,68 @@ module _ (s t : State) (x : Touched) (touch : Touches x s.corner.row (sheet_of s
     -- the last line never stands still
     last_line : IsKept x (glance_of s) (glance_of t) 24 → get_or (screen s) 24 [] ≡ get_or (screen t) 24 []
     last_line kept =
-        shown_at s.frozen (painted_screen s) 24 (omega arith) ∙ painted_at s 24 (omega arith) ∙ foot_kept kept ∙ sym (painted_at t 24 (omega arith))
+        shown_at s.frozen (painted_screen s) 24 (omega arith) ∙ painted_at s 24 (omega arith) ∙ foot_kept kept
+        ∙ sym (painted_at t 24 (omega arith))
         ∙ sym (shown_at t.frozen (painted_screen t) 24 (omega arith))
 
-    row_held : (f : FrozenAreas) (k : ℕ) → suc (suc (suc (suc k))) < 24 → held_at f (suc (suc (suc (suc k)))) ≡ f.windows
+    row_held : (f : FrozenAreas) (k : ℕ) → suc (suc (suc (suc k))) < 24
+        → held_at f (suc (suc (suc (suc k)))) ≡ f.windows
     row_held f k below =
         let n : ℕ = suc (suc (suc (suc k))) in
-        let past : nat_lt n 3 ≡ false = false_from_ne_true (nat_lt n 3) (λ h. let low : n < 3 = ltb-true n 3 h in omega (arith, low)) in
-        ap (λ (b : Bool). if b then f.panel else if nat_lt n 24 then f.windows else None) past ∙ ap (λ (b : Bool). if b then f.windows else None) (lt-ltb n 24 below)
+        let past : nat_lt n 3 ≡ false =
+        false_from_ne_true (nat_lt n 3) (λ h. let low : n < 3 = ltb-true n 3 h in omega (arith, low)) in
+        ap (λ (b : Bool). if b then f.panel else if nat_lt n 24 then f.windows else None) past
+        ∙ ap (λ (b : Bool). if b then f.windows else None) (lt-ltb n 24 below)
 
-    line_kept : (n : ℕ) → n < 25 → IsKept x (glance_of s) (glance_of t) n → get_or (screen s) n [] ≡ get_or (screen t) n []
-    line_kept zero inside kept = panel_line 0 (KeepsPointer x (glance_of s) (glance_of t)) inside refl refl pointer_kept (kept.pointer refl)
-    line_kept (suc zero) inside kept = panel_line 1 (KeepsTyped (glance_of s) (glance_of t)) inside refl refl typed_kept (kept.typed refl)
-    line_kept (suc (suc zero)) inside kept = panel_line 2 (KeepsBelow (glance_of s) (glance_of t)) inside refl refl below_kept (kept.below refl)
-    line_kept (suc (suc (suc zero))) inside kept = windows_line 3 (KeepsLetters x (glance_of s) (glance_of t)) inside refl refl letters_kept (kept.letters refl)
+    line_kept : (n : ℕ) → n < 25 → IsKept x (glance_of s) (glance_of t) n
+        → get_or (screen s) n [] ≡ get_or (screen t) n []
+    line_kept zero inside kept =
+        panel_line 0 (KeepsPointer x (glance_of s) (glance_of t)) inside refl refl pointer_kept (kept.pointer refl)
+    line_kept (suc zero) inside kept =
+        panel_line 1 (KeepsTyped (glance_of s) (glance_of t)) inside refl refl typed_kept (kept.typed refl)
+    line_kept (suc (suc zero)) inside kept =
+        panel_line 2 (KeepsBelow (glance_of s) (glance_of t)) inside refl refl below_kept (kept.below refl)
+    line_kept (suc (suc (suc zero))) inside kept =
+        windows_line 3 (KeepsLetters x (glance_of s) (glance_of t)) inside refl refl letters_kept (kept.letters refl)
     line_kept (suc (suc (suc (suc k)))) inside kept = elim (cases_lt (suc (suc (suc (suc k)))) 24) [
       | inl below ↦
-          windows_line (suc (suc (suc (suc k)))) (KeepsRow x (glance_of s) (glance_of t) (suc (suc (suc (suc k))))) inside (row_held s.frozen k below) (row_held t.frozen k below)
+          windows_line (suc (suc (suc (suc k)))) (KeepsRow x (glance_of s) (glance_of t) (suc (suc (suc (suc k)))))
+          inside (row_held s.frozen k below) (row_held t.frozen k below)
           (row_kept (suc (suc (suc (suc k)))) (omega arith) below) (kept.rows (omega arith) below)
       | inr past ↦
           let last : suc (suc (suc (suc k))) ≡ 24 = omega (arith, past, inside) in
-          subst (λ (n : ℕ). get_or (screen s) n [] ≡ get_or (screen t) n []) (sym last) (last_line (subst (λ (n : ℕ). IsKept x (glance_of s) (glance_of t) n) last kept))
+          subst (λ (n : ℕ). get_or (screen s) n [] ≡ get_or (screen t) n []) (sym last)
+          (last_line (subst (λ (n : ℕ). IsKept x (glance_of s) (glance_of t) n) last kept))
     ]
 
     -- the lines that aren't told are the same
-    pub lines_kept : (lines : List Bool) → ((n : ℕ) → slice_get lines n ≡ Some false → IsKept x (glance_of s) (glance_of t) n) → Unchanged lines (screen s) (screen t)
+    pub lines_kept : (lines : List Bool) → ((n : ℕ) → slice_get lines n ≡ Some false
+        → IsKept x (glance_of s) (glance_of t) n) → Unchanged lines (screen s) (screen t)
     lines_kept lines told n out = elim (cases_lt n 25) [
-      | inl inside ↦ shown_in s.frozen (painted_screen s) n inside ∙ ap Some (line_kept n inside (told n out)) ∙ sym (shown_in t.frozen (painted_screen t) n inside)
+      | inl inside ↦ shown_in s.frozen (painted_screen s) n inside ∙ ap Some (line_kept n inside (told n out))
+          ∙ sym (shown_in t.frozen (painted_screen t) n inside)
       | inr past ↦ slice_get_past (screen s) n (omega (arith, long s.frozen (painted_screen s), past))
           ∙ sym (slice_get_past (screen t) n (omega (arith, long t.frozen (painted_screen t), past)))
     ]
 
 -- The same, by what a step touched before the screen followed it.
-pub lines_told : (s mid t : State) (x : Touched) (a b : Glance) (lines : List Bool) (x_on : Switches) → Touches x s.corner.row (sheet_of s) (sheet_of mid) → sheet_of t ≡ sheet_of mid →
+pub lines_told : (s mid t : State) (x : Touched) (a b : Glance) (lines : List Bool) (x_on : Switches)
+    → Touches x s.corner.row (sheet_of s) (sheet_of mid) → sheet_of t ≡ sheet_of mid →
     t.frozen ≡ frozen_after (screen s) x_on s.frozen → a ≡ glance_of s → b ≡ glance_of t →
     ((n : ℕ) → slice_get lines n ≡ Some false → IsKept x a b n) → Unchanged lines (screen s) (screen t)
 lines_told s mid t x a b lines x_on touch followed frozen before after told =
-    lines_kept s t x (subst (λ (u : Sheet). Touches x s.corner.row (sheet_of s) u) (sym followed) touch) x_on frozen lines
-    (λ n out. subst (λ (g : Glance). IsKept x (glance_of s) g n) after (subst (λ (g : Glance). IsKept x g b n) before (told n out)))
+    lines_kept s t x (subst (λ (u : Sheet). Touches x s.corner.row (sheet_of s) u) (sym followed) touch) x_on
+    frozen lines
+    (λ n out. subst (λ (g : Glance). IsKept x (glance_of s) g n) after
+    (subst (λ (g : Glance). IsKept x g b n) before (told n out)))
 
 -- The same, where a session keeps the screen, and the step left what stood still before the screen followed it.
-pub lines_followed : (s mid t : State) (shown : List (List ℕ)) (x : Touched) (a b : Glance) (lines : List Bool) (x_on : Switches) → shown ≡ screen s → Touches x s.corner.row (sheet_of s) (sheet_of mid) →
-    sheet_of t ≡ sheet_of mid → t.frozen ≡ frozen_after shown x_on mid.frozen → mid.frozen ≡ s.frozen → a ≡ glance_of s → b ≡ glance_of t →
-    ((n : ℕ) → slice_get lines n ≡ Some false → IsKept x a b n) → Unchanged lines (screen s) (screen t)
+pub lines_followed : (s mid t : State) (shown : List (List ℕ)) (x : Touched) (a b : Glance) (lines : List Bool)
+    (x_on : Switches) → shown ≡ screen s → Touches x s.corner.row (sheet_of s) (sheet_of mid)
+    → sheet_of t ≡ sheet_of mid → t.frozen ≡ frozen_after shown x_on mid.frozen → mid.frozen ≡ s.frozen
+    → a ≡ glance_of s → b ≡ glance_of t → ((n : ℕ) → slice_get lines n ≡ Some false → IsKept x a b n)
+    → Unchanged lines (screen s) (screen t)
 lines_followed s mid t shown x a b lines x_on kept touch followed frozen held before after told =
     lines_told s mid t x a b lines x_on touch followed
-    (frozen ∙ ap (λ (l : List (List ℕ)). frozen_after l x_on mid.frozen) kept ∙ ap (λ (f : FrozenAreas). frozen_after (screen s) x_on f) held) before after told
+    (frozen ∙ ap (λ (l : List (List ℕ)). frozen_after l x_on mid.frozen) kept
+    ∙ ap (λ (f : FrozenAreas). frozen_after (screen s) x_on f) held) before after told

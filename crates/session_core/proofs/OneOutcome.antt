@@ -132,7 +132,8 @@ either_one false f g one other = other
 
 given_one : (k : Key) (scene : Scene) (s : State) → IsOne outcome_calls (λ (rs : Replies). given k rs scene s)
 given_one k scene s =
-    either_one (takes_key k s.running) (λ (rs : Replies). by_waiting_macro k rs scene s) (λ (rs : Replies). by_key k rs scene s)
+    either_one (takes_key k s.running) (λ (rs : Replies). by_waiting_macro k rs scene s)
+    (λ (rs : Replies). by_key k rs scene s)
     (stepped_one (key_step scene k s.running (sheet_of s)) scene (record s { end = false })) (taken_one k scene s)
 
 pressed_one : (k : Key) (scene : Scene) (s : State) → IsOne outcome_calls (λ (rs : Replies). pressed_key k rs scene s)

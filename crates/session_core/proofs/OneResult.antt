@@ -17,6 +17,7 @@ pub record InTwo (first more : List Asked) (a c : ShelfView) : Type 0 where
   pub one : WereAnswered first a between
   pub other : WereAnswered more between c
 
+-- where some calls and then others were answered, a shelf stands between them
 pub in_two : (first more : List Asked) (a c : ShelfView) → WereAnswered (first ++ more) a c → InTwo first more a c
 in_two [] more a c w = record { between = a; one = record { had = refl; fine = tt }; other = w }
 in_two (k ∷ ks) more a c w =
@@ -99,6 +100,7 @@ pub by_look : {X : Type 0} (calls : X → List Asked) (f : Reply → X) → IsOn
     IsOne calls (λ (rs : Replies). f rs.look)
 by_look calls f one rs qs a b c d alike w w' = one rs.look qs.look a b c d alike w w'
 
+-- what hangs on the act's answer alone has one result with both answers given
 pub by_act : {X : Type 0} (calls : X → List Asked) (f : Reply → X) → IsOne calls f →
     IsOne calls (λ (rs : Replies). f rs.act)
 by_act calls f one rs qs a b c d alike w w' = one rs.act qs.act a b c d alike w w'

@@ -1,5 +1,6 @@
 -- What the steps of a command leave of the history.
-use Rattle.std.proofs.Common.{◌≡◌, Bool, true, false, List, [], ◌∷◌, Option, None, Some, refl, ap, sym, subst, ◌∙◌, ◌⊎◌, inl, inr}
+use Rattle.std.proofs.Common.{◌≡◌, Bool, true, false, List, [], ◌∷◌, Option, None, Some, refl, ap, sym, subst, ◌∙◌, ◌⊎◌}
+use Rattle.std.proofs.Common.{inl, inr}
 use Rattle.std.proofs.lemmas.Bool.{false≢true, true≢false}
 use Rattle.std.specs.Prelude.{◌&&◌, is_some, if◌then◌else◌}
 use Rattle.cell_pointer.specs.Moves.{moved}
@@ -23,7 +24,8 @@ use Rattle.macro_engine.specs.Catching.{handles_errors}
 use Rattle.macro_engine.specs.Keys.{broken_off, key_step, takes_key}
 use Rattle.macro_engine.specs.Steps.{macro_named, macro_step, MacroStep}
 use Rattle.macro_engine.specs.declared.steps.StepEnd.{StepEnd}
-use Rattle.macro_engine.specs.declared.steps.StepEnd.TheVariants.{Faulty as FaultyEnd, Files, Indicates, Moves, Refused, Types, Works}
+use Rattle.macro_engine.specs.declared.steps.StepEnd.TheVariants.{Faulty as FaultyEnd, Files, Indicates, Moves, Refused}
+use Rattle.macro_engine.specs.declared.steps.StepEnd.TheVariants.{Types, Works}
 use Rattle.macro_words.specs.declared.files.FileDeed.{FileDeed}
 use Rattle.macro_words.specs.declared.running.Deed.{Deed}
 use Rattle.macro_words.specs.declared.running.Running.{Running}
@@ -39,14 +41,17 @@ use Rattle.sheet_undo.specs.Histories.{but_pointer, ended, with_kept, History, I
 use Rattle.work_sheet.specs.Doing.{with_pointer}
 use Rattle.work_sheet.specs.Seen.{Sheet}
 use Rattle.session_core.specs.Act.{act}
-use Rattle.session_core.specs.Carrying.{acted, carried, done_by, failed, finished_as, is_pointer_protected, left_by, looked_as, opened, started_at, told}
+use Rattle.session_core.specs.Carrying.{acted, carried, done_by, failed, finished_as, is_pointer_protected, left_by}
+use Rattle.session_core.specs.Carrying.{looked_as, opened, started_at, told}
 use Rattle.session_core.specs.Entering.{meaning_of}
 use Rattle.session_core.specs.Keeping.{begun_for, begun_or, command_ended, is_at_end, with_history, TellsChange}
-use Rattle.session_core.specs.Machine.{is_running, pointer_of, sheet_of, wants_key, with_channel, with_macro, Outcome, Replies, State}
+use Rattle.session_core.specs.Machine.{is_running, pointer_of, sheet_of, wants_key, with_channel, with_macro, Outcome}
+use Rattle.session_core.specs.Machine.{Replies, State}
 use Rattle.session_core.specs.Moving.{IsMoved}
 use Rattle.session_core.specs.Pressing.{turn_of}
 use Rattle.session_core.specs.Standing.{is_at_rest, is_ready}
-use Rattle.session_core.specs.Step.{by_key, by_step, by_waiting_macro, come_to, event_taken, given, is_key, on_file, pressed_key, protected_target, seen_from, served_as, stepped, typed_into}
+use Rattle.session_core.specs.Step.{by_key, by_step, by_waiting_macro, come_to, event_taken, given, is_key, on_file}
+use Rattle.session_core.specs.Step.{pressed_key, protected_target, seen_from, served_as, stepped, typed_into}
 use Rattle.session_core.specs.Undoing.{AsksBack, GoesForward}
 use Rattle.session_core.specs.declared.entering.Meant.{Meant}
 use Rattle.session_core.specs.declared.entering.Meant.TheVariants.{Means, Faulty}
@@ -194,13 +199,15 @@ key_goes_on k replies scene s b kept forward kept_is begun =
     ∙ begun_still t (typed_into k s) b begun) kept_is begun
 
 -- it is taken where none is: then the sheet is begun, or stays
-module _ (replies : Replies) (scene : Scene) (s : State) (b : Sheet) (kept : List Sheet) (kept_is : s.history.kept ≡ kept)
+module _ (replies : Replies) (scene : Scene) (s : State) (b : Sheet) (kept : List Sheet)
+    (kept_is : s.history.kept ≡ kept)
     (none : s.history.begun ≡ None) (running : s.running ≡ None) (sheet : sheet_of s ≡ b) where
   begun_now : (u : State) → u.history ≡ (record s.history { begun = begun_or s.history.begun (sheet_of s) }) →
       Went b kept u
   begun_now u e = record {
     stays = ap (λ (h : History). h.kept) e ∙ kept_is;
-    from = inl (ap (λ (h : History). h.begun) e ∙ ap (λ (o : Option Sheet). begun_or o (sheet_of s)) none ∙ ap Some sheet);
+    from =
+        inl (ap (λ (h : History). h.begun) e ∙ ap (λ (o : Option Sheet). begun_or o (sheet_of s)) none ∙ ap Some sheet);
   }
 
   unchanged : (u : State) → u.history ≡ s.history → u.running ≡ None → sheet_of u ≡ sheet_of s → Went b kept u
@@ -226,30 +233,37 @@ module _ (replies : Replies) (scene : Scene) (s : State) (b : Sheet) (kept : Lis
   idle_still : is_running s ≡ false
   idle_still = ap is_some running
 
-  first_by : (k : Key) (t : Turn) → OnlyForward t s → Went b kept (carried t replies scene (begun_for t (typed_into k s))).state
+  first_by : (k : Key) (t : Turn) → OnlyForward t s
+      → Went b kept (carried t replies scene (begun_for t (typed_into k s))).state
   first_by k (turn.Become r) forward = unchanged _ refl running refl
   first_by k (turn.Move way) forward =
-      moved_at_rest (moved way (columns_shown (sheet_of s) s.corner.col) (sheet_of s).grid (pointer_of s)) _ refl running
+      moved_at_rest (moved way (columns_shown (sheet_of s) s.corner.col) (sheet_of s).grid (pointer_of s)) _
+      refl running
       (rw idle_still refl) refl
   first_by k turn.Mark forward = unchanged _ refl running refl
   first_by k (turn.Finish way line) forward =
-      begun_now _ (carried_leaves (turn.Finish way line) replies scene (begun_for (turn.Finish way line) (typed_into k s)) forward)
+      begun_now _
+      (carried_leaves (turn.Finish way line) replies scene (begun_for (turn.Finish way line) (typed_into k s)) forward)
   first_by k (turn.Ask c) forward =
       begun_now _ (carried_leaves (turn.Ask c) replies scene (begun_for (turn.Ask c) (typed_into k s)) forward)
   first_by k (turn.Act c) forward =
       begun_now _ (carried_leaves (turn.Act c) replies scene (begun_for (turn.Act c) (typed_into k s)) forward)
   first_by k turn.Recalculate forward = begun_now _ refl
   first_by k (turn.Start letter) forward =
-      begun_now _ (carried_leaves (turn.Start letter) replies scene (begun_for (turn.Start letter) (typed_into k s)) forward)
+      begun_now _
+      (carried_leaves (turn.Start letter) replies scene (begun_for (turn.Start letter) (typed_into k s)) forward)
   first_by k turn.Undo forward = absurd (true≢false (sym (forward refl) ∙ idle_still))
   first_by k (turn.Fail e) forward =
-      subst (Went b kept) (sym (ap (λ (o : Outcome). o.state) (failed_untold e scene (typed_into k s) (ap handles_errors running))))
+      subst (Went b kept)
+      (sym (ap (λ (o : Outcome). o.state) (failed_untold e scene (typed_into k s) (ap handles_errors running))))
       (unchanged (told (message_of e) (typed_into k s)) refl refl refl)
 
 went_key : (k : Key) (replies : Replies) (scene : Scene) (s : State) (b : Sheet) (kept : List Sheet) →
-    OnlyForward (turn_of k s.room s.end s.desk) s → s.history.kept ≡ kept → (s.history.begun ≡ Some b) ⊎ IsUnchanged b s →
+    OnlyForward (turn_of k s.room s.end s.desk) s → s.history.kept ≡ kept
+    → (s.history.begun ≡ Some b) ⊎ IsUnchanged b s →
     Went b kept (by_key k replies scene s).state
-went_key k replies scene s b kept forward kept_is (inl begun) = key_goes_on k replies scene s b kept forward kept_is begun
+went_key k replies scene s b kept forward kept_is (inl begun) =
+    key_goes_on k replies scene s b kept forward kept_is begun
 went_key k replies scene s b kept forward kept_is (inr (none, (running, sheet))) =
     first_by replies scene s b kept kept_is none running sheet k (turn_of k s.room s.end s.desk) forward
 
@@ -307,22 +321,26 @@ went_pressed : (k : Key) (replies : Replies) (scene : Scene) (s : State) (b : Sh
     (s.history.begun ≡ Some b) ⊎ IsUnchanged b s → Went b kept (pressed_key k replies scene s).state
 went_pressed k replies scene s b kept (inl is) forward kept_is from =
     subst (λ (j : Key). Went b kept (pressed_key j replies scene s).state) (sym is)
-    (went_key key.Break replies scene (with_macro (broken_off s.running) s) b kept (λ e. absurd cc) kept_is (still_none s b from))
+    (went_key key.Break replies scene (with_macro (broken_off s.running) s) b kept (λ e. absurd cc) kept_is
+    (still_none s b from))
 went_pressed k replies scene s b kept (inr other) forward kept_is from =
-    subst (λ (act : Replies → Scene → State → Outcome). Went b kept (act replies scene s).state) (sym (pressed_given k other))
+    subst (λ (act : Replies → Scene → State → Outcome). Went b kept (act replies scene s).state)
+    (sym (pressed_given k other))
     (given_by (takes_key k s.running) k replies scene s b kept refl forward kept_is from)
 
 went_unit : (replies : Replies) (scene : Scene) (s : State) (b : Sheet) (kept : List Sheet) → false ≡ wants_key s →
     s.history.kept ≡ kept → (s.history.begun ≡ Some b) ⊎ IsUnchanged b s →
     Went b kept (event_taken UnitEvent replies scene s).state
 went_unit replies scene s b kept busy kept_is (inl begun) =
-    went_step (macro_step scene s.running (sheet_of s)) replies scene s b kept (macro_runs scene s.running (sheet_of s)) kept_is begun
+    went_step (macro_step scene s.running (sheet_of s)) replies scene s b kept
+    (macro_runs scene s.running (sheet_of s)) kept_is begun
 went_unit replies scene s b kept busy kept_is (inr (none, (running, sheet))) =
     absurd (false≢true (busy ∙ ap (λ (r : Option Running). wants_key (with_macro r s)) running))
 
 -- an event that takes no command back goes on with the command
 pub went : (event : Event) (replies : Replies) (scene : Scene) (s : State) (b : Sheet) (kept : List Sheet) →
-    is_key event ≡ wants_key s → GoesForward event s → Goes b kept s → Went b kept (event_taken event replies scene s).state
+    is_key event ≡ wants_key s → GoesForward event s → Goes b kept s
+    → Went b kept (event_taken event replies scene s).state
 went (KeyEvent k) replies scene s b kept fits forward g =
     went_pressed k replies scene s b kept (break_or k) forward g.stays g.from
 went UnitEvent replies scene s b kept fits forward g = went_unit replies scene s b kept fits g.stays g.from
@@ -330,7 +348,8 @@ went UnitEvent replies scene s b kept fits forward g = went_unit replies scene s
 -- where the session isn't at rest behind it, the command isn't at its end
 pub not_ended : (changed : Bool) (s : State) → is_at_rest s ≡ false → command_ended changed s ≡ s
 not_ended changed s busy =
-    ap (λ (r : Bool). if r && is_some s.history.begun then with_history (ended changed s.history.begun s.history.kept) s else s)
+    ap (λ (r : Bool). if r && is_some s.history.begun then with_history
+    (ended changed s.history.begun s.history.kept) s else s)
     busy
 
 none_begun : (changed : Bool) (o : Option Sheet) (kept : List Sheet) → (ended changed o kept).begun ≡ None
@@ -344,14 +363,16 @@ at_rest_by changed s None rest e = ap (λ (t : State). t.history.begun) (not_ove
 at_rest_by changed s (Some b) rest e =
     let over : is_at_end s ≡ true =
     ap (λ (r : Bool). r && is_some s.history.begun) rest ∙ ap (λ (o : Option Sheet). is_some o) e in
-    ap (λ (r : Bool). (if r then with_history (ended changed s.history.begun s.history.kept) s else s).history.begun) over
+    ap (λ (r : Bool). (if r then with_history (ended changed s.history.begun s.history.kept) s else s).history.begun)
+    over
     ∙ none_begun changed s.history.begun s.history.kept
 
 -- at rest none is begun behind it
 pub none_at_rest : (changed : Bool) (s : State) → is_at_rest (command_ended changed s) ≡ true →
     (command_ended changed s).history.begun ≡ None
 none_at_rest changed s rest =
-    at_rest_by changed s s.history.begun (sym (ap (λ (t : State). is_at_rest t) (ended_beside changed s).is) ∙ rest) refl
+    at_rest_by changed s s.history.begun
+    (sym (ap (λ (t : State). is_at_rest t) (ended_beside changed s).is) ∙ rest) refl
 
 goes_by : (b : Sheet) (kept : List Sheet) (s : State) → is_at_rest s ≡ false → s.history.kept ≡ kept →
     (s.history.begun ≡ Some b) ⊎ IsOnlyMoved b s → Goes b kept s
@@ -359,6 +380,7 @@ goes_by b kept s busy kept_is (inl begun) = record { stays = kept_is; from = inl
 goes_by b kept s busy kept_is (inr (none, (running, (moved, same)))) =
     record { stays = kept_is; from = inr (none, (running, same busy)) }
 
+-- where the session isn't at rest, a command that went on goes on still
 pub goes_on : (b : Sheet) (kept : List Sheet) (s : State) → is_at_rest s ≡ false → Went b kept s → Goes b kept s
 goes_on b kept s busy w = goes_by b kept s busy w.stays w.from
 

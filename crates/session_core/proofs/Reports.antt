@@ -9,7 +9,9 @@ use Rattle.commands_data.specs.Commands as on_data
 use Rattle.commands_data.specs.Kept.{kept_by}
 use Rattle.commands_data.specs.TableCommands.{given_on}
 use Rattle.commands_file.specs.Calls.{failed, fetched, loaded, puts, there, written, Reply}
-use Rattle.commands_file.specs.Commands.{act_by, act_named, by_call, extracted_to, is_readable, named, put_readable, refused, saved_as, sheet_bytes, span_bytes, taken_away, with_file, without_call, written_out}
+use Rattle.commands_file.specs.Commands.{act_by, act_named, by_call, extracted_to, is_readable, named, put_readable}
+use Rattle.commands_file.specs.Commands.{refused, saved_as, sheet_bytes, span_bytes, taken_away, with_file}
+use Rattle.commands_file.specs.Commands.{without_call, written_out}
 use Rattle.commands_file.specs.declared.extracting.Extracting.{Extracting}
 use Rattle.commands_file.specs.declared.extracting.Extracting.TheVariants.{Formulas, Values}
 use Rattle.data_blocks.specs.declared.ranges.DeskRanges.{DeskRanges}
@@ -32,15 +34,18 @@ abbrev KeepsOf : Desk → DeskActed → Type 0
 KeepsOf d a = a.desk.print ≡ d.print
 
 module _ (d : Desk) where
-  by_given : {A : Type 0} (r : Result A CommandError) (next : A → DeskActed) → ((a : A) → KeepsOf d (next a)) → KeepsOf d (given_on r next d)
+  by_given : {A : Type 0} (r : Result A CommandError) (next : A → DeskActed) → ((a : A) → KeepsOf d (next a))
+      → KeepsOf d (given_on r next d)
   by_given (Ok a) next h = h a
   by_given (Err e) next h = refl
 
-  by_kept : {A : Type 0} (r : Result A CommandError) (change : A → DeskRanges → DeskRanges) → KeepsOf d (kept_by r change d)
+  by_kept : {A : Type 0} (r : Result A CommandError) (change : A → DeskRanges → DeskRanges)
+      → KeepsOf d (kept_by r change d)
   by_kept (Ok a) change = refl
   by_kept (Err e) change = refl
 
-  by_file : (make : SavedSheet → DeskActed) (reply : Reply) → ((saved : SavedSheet) → KeepsOf d (make saved)) → KeepsOf d (with_file make d reply)
+  by_file : (make : SavedSheet → DeskActed) (reply : Reply) → ((saved : SavedSheet) → KeepsOf d (make saved))
+      → KeepsOf d (with_file make d reply)
   by_file make failed h = refl
   by_file make (there b) h = refl
   by_file make (loaded None) h = refl
@@ -67,7 +72,8 @@ module _ (d : Desk) where
       KeepsOf d (put_readable name bytes reply make d).acted
   by_placing name bytes reply make kept = by (is_readable bytes)
     where
-      by : (b : Bool) → KeepsOf d (if b then by_call (puts name bytes) reply make else without_call (refused error.WorksheetTooLarge d)).acted
+      by : (b : Bool) → KeepsOf d (if b then by_call (puts name bytes) reply make else without_call
+          (refused error.WorksheetTooLarge d)).acted
       by true = kept
       by false = refl
 
@@ -79,19 +85,22 @@ module _ (d : Desk) where
   by_removal (fetched got) = refl
   by_removal written = refl
 
-  by_extract : (k : Extracting) (name : List ℕ) (span : Result Extent CommandError) (reply : Reply) → KeepsOf d (extracted_to k name span d reply).acted
+  by_extract : (k : Extracting) (name : List ℕ) (span : Result Extent CommandError) (reply : Reply)
+      → KeepsOf d (extracted_to k name span d reply).acted
   by_extract k name (Ok span) reply = by_placing name (span_bytes k span d.sheet) reply (written_out d) (by_put reply)
   by_extract k name (Err e) reply = refl
 
   by_named : (a : FileAction) (answers : List (List ℕ)) (name : List ℕ) (scene : Scene) (reply : Reply) →
       KeepsOf d (act_named a answers name scene d reply).acted
   by_named file.Retrieve answers name scene reply = by_file _ reply (λ saved. refl)
-  by_named file.Save answers name scene reply = by_placing name (sheet_bytes d.sheet) reply (saved_as name d) (by_save name reply)
+  by_named file.Save answers name scene reply =
+      by_placing name (sheet_bytes d.sheet) reply (saved_as name d) (by_save name reply)
   by_named file.Erase answers name scene reply = by_removal reply
   by_named file.CombineCopy answers name scene reply = by_file _ reply (λ saved. refl)
   by_named file.CombineAdd answers name scene reply = by_file _ reply (λ saved. refl)
   by_named file.CombineSubtract answers name scene reply = by_file _ reply (λ saved. refl)
-  by_named file.XtractFormulas answers name scene reply = by_extract Formulas name (span_at d.sheet.names answers 1) reply
+  by_named file.XtractFormulas answers name scene reply =
+      by_extract Formulas name (span_at d.sheet.names answers 1) reply
   by_named file.XtractValues answers name scene reply = by_extract Values name (span_at d.sheet.names answers 1) reply
 
   by_name : (name : Option (List ℕ)) (a : FileAction) (answers : List (List ℕ)) (scene : Scene) (reply : Reply) →
@@ -115,12 +124,15 @@ module _ (d : Desk) where
   by_data records.QueryReset answers scene = refl
   by_data records.DeleteRecords answers scene = refl
   by_data records.TableOne answers scene =
-      by_given (span_at d.sheet.names answers 0) _ (λ span. by_given (cell_at d.sheet.names answers 1) _ (λ input. refl))
+      by_given (span_at d.sheet.names answers 0) _
+      (λ span. by_given (cell_at d.sheet.names answers 1) _ (λ input. refl))
   by_data records.TableTwo answers scene = by_given (span_at d.sheet.names answers 0) _ (λ span.
-      by_given (cell_at d.sheet.names answers 1) _ (λ down. by_given (cell_at d.sheet.names answers 2) _ (λ across. refl)))
+      by_given (cell_at d.sheet.names answers 1) _
+      (λ down. by_given (cell_at d.sheet.names answers 2) _ (λ across. refl)))
   by_data records.TableReset answers scene = refl
   by_data records.RepeatTable answers scene = refl
 
+-- an action that is none of the print menu leaves what the desk keeps of printing
 pub keeps : (a : Action) (answers : List (List ℕ)) (scene : Scene) (d : Desk) (reply : Reply) → is_print a ≡ false →
     (act a answers scene d reply).acted.desk.print ≡ d.print
 keeps (action.Common a) answers scene d reply other = refl

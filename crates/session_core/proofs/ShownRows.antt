@@ -1,7 +1,9 @@
 -- Rows of the sheet and the lines that show them.
-use Rattle.std.proofs.Common.{◌≡◌, ℕ, zero, suc, ◌+◌, ◌-◌, ◌≤◌, ◌<◌, Bool, true, false, List, [], ◌∷◌, Some, get_or, ap, sym, ◌∙◌, arith, inl, inr}
+use Rattle.std.proofs.Common.{◌≡◌, ℕ, zero, suc, ◌+◌, ◌-◌, ◌≤◌, ◌<◌, Bool, true, false, List, [], ◌∷◌, Some, get_or, ap}
+use Rattle.std.proofs.Common.{sym, ◌∙◌, arith, inl, inr}
 use Rattle.std.specs.Prelude.{◌&&◌, if◌then◌else◌, nat_eq, nat_le, nat_lt, slice_get}
-use Rattle.std.proofs.lemmas.Bool.{and_from, and_parts, cases_Bool, eq-eqb, false_from_ne_true, le-leb, leb-true, lt-ltb, ltb-true, true≢false}
+use Rattle.std.proofs.lemmas.Bool.{and_from, and_parts, cases_Bool, eq-eqb, false_from_ne_true, le-leb, leb-true}
+use Rattle.std.proofs.lemmas.Bool.{lt-ltb, ltb-true, true≢false}
 use Rattle.std.proofs.lemmas.Option.{get_or_from_slice_get}
 use Rattle.cell_maps.specs.Sets.{has}
 use Rattle.grid_address.specs.Place.{same_place, Place}
@@ -19,15 +21,19 @@ told_by lines first row shown = if shown then get_or lines (4 + (row - first)) t
 
 module _ (lines : List Bool) (first : ℕ) where
   -- a shown row is out of the set where its line is
-  pub row_out : (n : ℕ) → 4 ≤ n → n < 24 → slice_get lines n ≡ Some false → is_row_in lines first (first + (n - 4)) ≡ false
+  pub row_out : (n : ℕ) → 4 ≤ n → n < 24 → slice_get lines n ≡ Some false
+      → is_row_in lines first (first + (n - 4)) ≡ false
   row_out n least most out =
       let row : ℕ = first + (n - 4) in
-      let shown : (nat_le first row && nat_lt row (first + 20)) ≡ true = and_from (nat_le first row) (nat_lt row (first + 20)) (le-leb first row (omega arith)) (lt-ltb row (first + 20) (omega arith)) in
+      let shown : (nat_le first row && nat_lt row (first + 20)) ≡ true = and_from (nat_le first row)
+      (nat_lt row (first + 20)) (le-leb first row (omega arith)) (lt-ltb row (first + 20) (omega arith)) in
       let line : 4 + (row - first) ≡ n = omega arith in
-      ap (told_by lines first row) shown ∙ ap (λ (k : ℕ). get_or lines k true) line ∙ get_or_from_slice_get lines n false true out
+      ap (told_by lines first row) shown ∙ ap (λ (k : ℕ). get_or lines k true) line
+      ∙ get_or_from_slice_get lines n false true out
 
   -- and in it where no line that is out shows it
-  pub row_in : (row : ℕ) → ((n : ℕ) → 4 ≤ n → n < 24 → slice_get lines n ≡ Some false → nat_eq row (first + (n - 4)) ≡ false) → is_row_in lines first row ≡ true
+  pub row_in : (row : ℕ) → ((n : ℕ) → 4 ≤ n → n < 24 → slice_get lines n ≡ Some false
+      → nat_eq row (first + (n - 4)) ≡ false) → is_row_in lines first row ≡ true
   row_in row told = elim (cases_Bool (is_row_in lines first row)) [
     | inl in_set ↦ in_set
     | inr out ↦ elim (cases_Bool (nat_le first row && nat_lt row (first + 20))) [
@@ -43,10 +49,13 @@ module _ (lines : List Bool) (first : ℕ) where
           let below : row < first + 20 = ltb-true row (first + 20) parts.1 in
           let n : ℕ = 4 + (row - first) in
           let here : row ≡ first + (n - 4) = omega arith in
-          let gone : slice_get lines n ≡ Some false = left_out lines n (sym (ap (told_by lines first row) shown) ∙ out) in
+          let gone : slice_get lines n ≡ Some false =
+          left_out lines n (sym (ap (told_by lines first row) shown) ∙ out) in
           true≢false (sym (eq-eqb row (first + (n - 4)) here) ∙ told n (omega arith) (omega arith) gone)
 
   -- a row out of the set that has the rows of cells holds none of them
-  pub cells_out : (cells : List Place) → ((n : ℕ) → 4 ≤ n → n < 24 → slice_get lines n ≡ Some false → (c : Place) → has same_place cells c ≡ true → nat_eq c.row (first + (n - 4)) ≡ false) →
+  pub cells_out : (cells : List Place) → ((n : ℕ) → 4 ≤ n → n < 24 → slice_get lines n ≡ Some false → (c : Place)
+      → has same_place cells c ≡ true → nat_eq c.row (first + (n - 4)) ≡ false) →
       (c : Place) → is_row_in lines first c.row ≡ false → has same_place cells c ≡ false
-  cells_out cells told c out = false_from_ne_true (has same_place cells c) (λ k. true≢false (sym (row_in c.row (λ n least most gone. told n least most gone c k)) ∙ out))
+  cells_out cells told c out = false_from_ne_true (has same_place cells c)
+      (λ k. true≢false (sym (row_in c.row (λ n least most gone. told n least most gone c k)) ∙ out))

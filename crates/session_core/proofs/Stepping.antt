@@ -40,12 +40,14 @@ abbrev pub over_steps : (Scene → Option Running → Sheet → MacroStep) → R
 over_steps made replies scene s = stepped (made scene s.running (sheet_of s)) replies scene s
 
 -- A macro made a step that came to this end, and what follows by that end leads on.
-pub stepped_over : (made : Scene → Option Running → Sheet → MacroStep) (now : Moment) (told : Bool) (a mid b : Worked) (scene : Scene) (running new_running : Option Running) (came : StepEnd)
-    (v w : Worksheet) (m n : ℕ) (x y : ShelfView) → scene ≡ scene_at a.state now → running ≡ a.state.running →
-    of_worksheet v ≡ sheet_of a.state → v.history ≡ a.state.history → work_of v m ≡ a.work → mid.state ≡ over_work a.state w new_running → mid.work ≡ work_of w n →
-    HasStepped (made scene running (of_worksheet v)) came new_running v w m n → LeadsOver (come_to came) now told mid b x y →
-    LeadsOver (over_steps made) now told a b x y
-stepped_over made now told a mid b scene running new_running came v w m n x y scene_is running_is sheet_is history_is work_is mid_is mid_work h l =
+pub stepped_over : (made : Scene → Option Running → Sheet → MacroStep) (now : Moment) (told : Bool) (a mid b : Worked)
+    (scene : Scene) (running new_running : Option Running) (came : StepEnd) (v w : Worksheet) (m n : ℕ)
+    (x y : ShelfView) → scene ≡ scene_at a.state now → running ≡ a.state.running → of_worksheet v ≡ sheet_of a.state
+    → v.history ≡ a.state.history → work_of v m ≡ a.work → mid.state ≡ over_work a.state w new_running
+    → mid.work ≡ work_of w n → HasStepped (made scene running (of_worksheet v)) came new_running v w m n
+    → LeadsOver (come_to came) now told mid b x y → LeadsOver (over_steps made) now told a b x y
+stepped_over made now told a mid b scene running new_running came v w m n x y scene_is running_is sheet_is history_is
+    work_is mid_is mid_work h l =
     let there : Scene = scene_at a.state now in
     let step : MacroStep = made there a.state.running (sheet_of a.state) in
     let here : HasStepped step came new_running v w m n =
@@ -55,10 +57,12 @@ stepped_over made now told a mid b scene running new_running came v w m n x y sc
     let behind : State = over_step a.state step.done.sheet step.running in
     let is : mid.state ≡ behind =
     mid_is ∙ work_stays a.state v w new_running here.did.history history_is
-    ∙ ap (λ (s : Sheet). over_step a.state s new_running) here.did.sheet ∙ ap (over_step a.state step.done.sheet) here.running in
+    ∙ ap (λ (s : Sheet). over_step a.state s new_running) here.did.sheet
+    ∙ ap (over_step a.state step.done.sheet) here.running in
     let next : StepEnd → State → Outcome = λ (e : StepEnd) (s : State). come_to e l.replies (scene_at s now) s in
     let later : Leads (next step.end behind) told mid b =
-    subst (λ (s : State). Leads (next step.end s) told mid b) is (subst (λ (e : StepEnd). Leads (next e mid.state) told mid b) here.end l.leads) in
+    subst (λ (s : State). Leads (next step.end s) told mid b) is
+    (subst (λ (e : StepEnd). Leads (next e mid.state) told mid b) here.end l.leads) in
     let first : HasWorked step.done.log a.work mid.work =
     subst (λ (u : Work). HasWorked step.done.log u mid.work) work_is
     (subst (λ (u : Work). HasWorked step.done.log (work_of v m) u) (sym mid_work) here.did.work) in
@@ -79,7 +83,8 @@ unmarked a = record { state = record a.state { end = false }; work = a.work }
 
 -- a key that the macro takes leads on as its step does
 pub answered_over : (k : Key) (now : Moment) (told : Bool) (a b : Worked) (x y : ShelfView) →
-    LeadsOver (over_steps (λ scene. key_step scene k)) now told (unmarked a) b x y → LeadsOver (by_waiting_macro k) now told a b x y
+    LeadsOver (over_steps (λ scene. key_step scene k)) now told (unmarked a) b x y
+    → LeadsOver (by_waiting_macro k) now told a b x y
 answered_over k now told a b x y l = record {
   replies = l.replies;
   leads = record { state = l.leads.state; work = l.leads.work; ends = l.leads.ends };
@@ -87,12 +92,14 @@ answered_over k now told a b x y l = record {
 }
 
 -- BREAK leads on behind the macro that it stops
-pub broken_over : (now : Moment) (told : Bool) (a mid b : Worked) (x y : ShelfView) → mid.state ≡ with_macro (broken_off a.state.running) a.state → mid.work ≡ a.work →
+pub broken_over : (now : Moment) (told : Bool) (a mid b : Worked) (x y : ShelfView)
+    → mid.state ≡ with_macro (broken_off a.state.running) a.state → mid.work ≡ a.work →
     LeadsOver (by_key key.Break) now told mid b x y → LeadsOver (pressed_key key.Break) now told a b x y
 broken_over now told a mid b x y state_is work_is l =
     let behind : Worked = record { state = with_macro (broken_off a.state.running) a.state; work = a.work } in
     let is : mid ≡ behind = λ i. record { state = state_is i; work = work_is i } in
-    let there : LeadsOver (by_key key.Break) now told behind b x y = subst (λ (w : Worked). LeadsOver (by_key key.Break) now told w b x y) is l in
+    let there : LeadsOver (by_key key.Break) now told behind b x y =
+    subst (λ (w : Worked). LeadsOver (by_key key.Break) now told w b x y) is l in
     record {
       replies = there.replies;
       leads = record { state = there.leads.state; work = there.leads.work; ends = there.leads.ends };
@@ -100,7 +107,8 @@ broken_over now told a mid b x y state_is work_is l =
     }
 
 -- a key that the macro takes is answered
-pub given_answered : (k : Key) (now : Moment) (told : Bool) (a b : Worked) (x y : ShelfView) → takes_key k a.state.running ≡ true →
+pub given_answered : (k : Key) (now : Moment) (told : Bool) (a b : Worked) (x y : ShelfView)
+    → takes_key k a.state.running ≡ true →
     LeadsOver (by_waiting_macro k) now told a b x y → LeadsOver (given k) now told a b x y
 given_answered k now told a b x y is l =
     let scene : Scene = scene_at a.state now in
@@ -113,7 +121,8 @@ given_answered k now told a b x y is l =
     }
 
 -- any other key is taken in the room
-pub given_taken : (k : Key) (now : Moment) (told : Bool) (a b : Worked) (x y : ShelfView) → takes_key k a.state.running ≡ false →
+pub given_taken : (k : Key) (now : Moment) (told : Bool) (a b : Worked) (x y : ShelfView)
+    → takes_key k a.state.running ≡ false →
     LeadsOver (by_key k) now told a b x y → LeadsOver (given k) now told a b x y
 given_taken k now told a b x y is l =
     let scene : Scene = scene_at a.state now in
@@ -156,8 +165,10 @@ pressed_given key.Undo other = refl
 pressed_given (key.Alt letter) other = refl
 
 -- it leads on so
-pub pressed_over : (k : Key) (now : Moment) (told : Bool) (a b : Worked) (x y : ShelfView) → (k ≡ key.Break → ⊥) → LeadsOver (given k) now told a b x y → LeadsOver (pressed_key k) now told a b x y
-pressed_over k now told a b x y other l = subst (λ (act : Replies → Scene → State → Outcome). LeadsOver act now told a b x y) (sym (pressed_given k other)) l
+pub pressed_over : (k : Key) (now : Moment) (told : Bool) (a b : Worked) (x y : ShelfView) → (k ≡ key.Break → ⊥)
+    → LeadsOver (given k) now told a b x y → LeadsOver (pressed_key k) now told a b x y
+pressed_over k now told a b x y other l =
+    subst (λ (act : Replies → Scene → State → Outcome). LeadsOver act now told a b x y) (sym (pressed_given k other)) l
 
 -- and moves no more
 pub only_given : (k : Key) (s : State) → (k ≡ key.Break → ⊥) → OnlyMovesByPress k s → OnlyMovesGiven k s
@@ -190,5 +201,6 @@ only_given key.Undo s other h = h
 only_given (key.Alt letter) s other h = h
 
 -- what is told of the run's end may be told otherwise that is the same
-pub ends_as : (act : Replies → Scene → State → Outcome) (now : Moment) (told other : Bool) (a b : Worked) (x y : ShelfView) → other ≡ told → LeadsOver act now told a b x y → LeadsOver act now other a b x y
+pub ends_as : (act : Replies → Scene → State → Outcome) (now : Moment) (told other : Bool) (a b : Worked)
+    (x y : ShelfView) → other ≡ told → LeadsOver act now told a b x y → LeadsOver act now other a b x y
 ends_as act now told other a b x y is l = subst (λ (e : Bool). LeadsOver act now e a b x y) (sym is) l

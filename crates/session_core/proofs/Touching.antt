@@ -19,11 +19,13 @@ use Rattle.session_core.specs.inner.Touches.{touches_row, IsSettled, Settles, To
 use Rattle.session_core.specs.declared.touched.Touched.{Touched}
 use Rattle.session_core.specs.declared.touched.Touched.TheVariants as touched
 
+-- where anything may be touched, any change touches no more
 pub anything_touches : (x : Touched) (first : ℕ) (s t : Sheet) → x ≡ touched.Anything → Touches x first s t
 anything_touches x first s t any = subst (λ (y : Touched). Touches y first s t) (sym any) tt
 
 same_alike : (rows : ℕ → Bool) (s : Sheet) → AreAlike rows s s
-same_alike rows s = record { cells = λ c apart. refl; widths = refl; hidden = refl; width = refl; format = refl; names = refl }
+same_alike rows s =
+    record { cells = λ c apart. refl; widths = refl; hidden = refl; width = refl; format = refl; names = refl }
 
 alike_on : (rows : ℕ → Bool) (s m t : Sheet) → AreAlike rows s m → AreAlike rows m t → AreAlike rows s t
 alike_on rows s m t a b = record {
@@ -47,8 +49,10 @@ moved_alike rows s t (p, is) = record {
 }
 
 -- whatever was touched, but anything
-pub touched_alike : (x : Touched) (first : ℕ) (s t : Sheet) → (x ≡ touched.Anything → ⊥) → Touches x first s t → AreAlike (touches_row x first) s t
-touched_alike touched.Nothing first s t sure h = subst (λ (u : Sheet). AreAlike (touches_row touched.Nothing first) s u) (sym h) (same_alike (touches_row touched.Nothing first) s)
+pub touched_alike : (x : Touched) (first : ℕ) (s t : Sheet) → (x ≡ touched.Anything → ⊥) → Touches x first s t
+    → AreAlike (touches_row x first) s t
+touched_alike touched.Nothing first s t sure h = subst (λ (u : Sheet). AreAlike (touches_row touched.Nothing first) s u)
+    (sym h) (same_alike (touches_row touched.Nothing first) s)
 touched_alike touched.Pointer first s t sure h = h
 touched_alike (touched.Rows lines) first s t sure h = h
 touched_alike touched.Anything first s t sure h = absurd (sure refl)
@@ -66,11 +70,13 @@ module _ (s m n t : Sheet) (scene there : Scene) (c : Place) (x : Content) (entr
         ∙ ap (λ (b : Bool). entered mean (context_in scene s) (not b && is_formula x) s.grid c x) automatic
 
     apart_rows : (d : Place) → rows d.row ≡ false → same_place d c ≡ false
-    apart_rows d apart = false_from_ne_true (same_place d c) (λ e. true≢false (sym row ∙ ap (λ (p : Place). rows p.row) (sym (same_place_is d c e)) ∙ apart))
+    apart_rows d apart = false_from_ne_true (same_place d c)
+        (λ e. true≢false (sym row ∙ ap (λ (p : Place). rows p.row) (sym (same_place_is d c e)) ∙ apart))
 
     written_alike : AreAlike rows s m
     written_alike = record {
-      cells = λ d apart. ap (λ (g : Grid). get g.cells d) grid_written ∙ beside s.grid c (written_state s.grid c x) d (apart_rows d apart);
+      cells = λ d apart. ap (λ (g : Grid). get g.cells d) grid_written
+          ∙ beside s.grid c (written_state s.grid c x) d (apart_rows d apart);
       widths = ap (λ (g : Grid). g.widths) grid_written;
       hidden = ap (λ (g : Grid). g.hidden) grid_written;
       width = ap (λ (u : Sheet). u.settings.width) entry;
@@ -86,14 +92,20 @@ module _ (s m n t : Sheet) (scene there : Scene) (c : Place) (x : Content) (entr
         let recalculated_too : AreAlike rows m n = subst (AreAlike rows m) (sym after_is) (settles.alike there) in
         alike_on rows s n t (alike_on rows s m n written_alike recalculated_too) (moved_alike rows n t moved)
 
-  pub entry_touches : (y : Touched) (first : ℕ) → touches_row y first c.row ≡ true → Settles y first m → Touches y first s t
+  -- an entry, what follows it by itself and a move touch no more than is told of them
+  pub entry_touches : (y : Touched) (first : ℕ) → touches_row y first c.row ≡ true → Settles y first m
+      → Touches y first s t
   entry_touches touched.Nothing first row settles = absurd (false≢true row)
   entry_touches touched.Pointer first row settles = absurd (false≢true row)
-  entry_touches (touched.Rows lines) first row settles = entry_alike (touches_row (touched.Rows lines) first) row settles
+  entry_touches (touched.Rows lines) first row settles =
+      entry_alike (touches_row (touched.Rows lines) first) row settles
   entry_touches touched.Anything first row settles = tt
 
 -- what was touched behind a step that left the sheet, or may have touched anything
-pub touches_behind : (left : Bool) (x y : Touched) (first last : ℕ) (s m t : Sheet) → (left ≡ true → m ≡ s) → last ≡ first → (left ≡ true → y ≡ x) → (left ≡ false → y ≡ touched.Anything) → Touches x last m t → Touches y first s t
+pub touches_behind : (left : Bool) (x y : Touched) (first last : ℕ) (s m t : Sheet) → (left ≡ true → m ≡ s)
+    → last ≡ first → (left ≡ true → y ≡ x) → (left ≡ false → y ≡ touched.Anything) → Touches x last m t
+    → Touches y first s t
 touches_behind true x y first last s m t leaves corner same any h =
-    subst (λ (z : Touched). Touches z first s t) (sym (same refl)) (subst (λ (n : ℕ). Touches x n s t) corner (subst (λ (u : Sheet). Touches x last u t) (leaves refl) h))
+    subst (λ (z : Touched). Touches z first s t) (sym (same refl))
+    (subst (λ (n : ℕ). Touches x n s t) corner (subst (λ (u : Sheet). Touches x last u t) (leaves refl) h))
 touches_behind false x y first last s m t leaves corner same any h = anything_touches y first s t (any refl)

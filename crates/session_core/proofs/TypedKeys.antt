@@ -7,7 +7,8 @@ use Rattle.grid_address.specs.Place.{Place}
 use Rattle.key_words.specs.declared.key.Key.{Key}
 use Rattle.macro_engine.specs.Changes.{changed, changed_cells, outlook_in, refused_cell}
 use Rattle.macro_engine.specs.Keys.{key_step, rested}
-use Rattle.macro_engine.specs.Steps.{cell_of, deed_step, ended, format_in, macro_step, placed, row_step, unit_step, unless_protected, worked, MacroStep}
+use Rattle.macro_engine.specs.Steps.{cell_of, deed_step, ended, format_in, macro_step, placed, row_step, unit_step}
+use Rattle.macro_engine.specs.Steps.{unless_protected, worked, MacroStep}
 use Rattle.macro_engine.specs.declared.steps.StepEnd.{StepEnd}
 use Rattle.macro_engine.specs.declared.steps.StepEnd.TheVariants.{Types}
 use Rattle.macro_text.specs.Units.{next_unit}
@@ -58,7 +59,8 @@ ended_untyped x (move.Switch s) = worked_untyped x
 ended_untyped x (move.Indicate t) = refl
 ended_untyped x (move.Files d) = refl
 
-unless_runs : (cell : Option Place) (x : MacroStep) (r : Running) (s : Sheet) → RunsOn x → RunsOn (unless_protected cell x r s)
+unless_runs : (cell : Option Place) (x : MacroStep) (r : Running) (s : Sheet) → RunsOn x
+    → RunsOn (unless_protected cell x r s)
 unless_runs None x r s on = on
 unless_runs (Some c) x r s on = λ typed. refl
 

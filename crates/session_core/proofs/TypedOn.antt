@@ -41,8 +41,8 @@ byte_pressed Value b g pointer r = refl
 byte_pressed Edit b g pointer r = edited_on (nat_lt (length r.line.text) MAX_LEN) (keyed (key.Byte b) r)
 
 -- the same by the room
-byte_carried : (x : Room) (b : ℕ) (replies : Replies) (scene : Scene) (s : State) → is_line_typed x ≡ true →
-    begun_and_carried (turn_of (key.Byte b) x s.end s.desk) replies scene
+byte_carried : (x : Room) (b : ℕ) (replies : Replies) (scene : Scene) (s : State)
+    → is_line_typed x ≡ true → begun_and_carried (turn_of (key.Byte b) x s.end s.desk) replies scene
     (record (idle s) { refusal = key_refused (key.Byte b) x })
     ≡ quiet (record s { room = with_byte b x; end = false; refusal = refusal.Nothing })
 byte_carried (room.Typing r) b replies scene s typed =

@@ -31,6 +31,7 @@ use std::marker::Model;
 pub struct Session {
     machine: Machine,
     shown: Screen,
+    // Whether memory ran out in a step. A spent session makes no step.
     spent: bool,
 }
 
@@ -82,13 +83,6 @@ impl Session {
                 Err(Memory)
             }
         }
-    }
-
-    /// Whether memory ran out in a step. A spent session makes no step.
-    pub fn is_spent(&self) -> bool
-        ensures { result ≡ self.now.spent }
-    {
-        self.spent
     }
 
     /// Whether the next step takes a key: no macro runs, or the one that runs waits for a key.

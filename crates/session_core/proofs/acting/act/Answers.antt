@@ -32,7 +32,9 @@ pub returns-in-Print-clause-acted : goal.returns-in-Print-clause-acted
 returns-in-Print-clause-acted g c =
     let n = c.args.tally.now.count in
     subst (λ (a : Action). IfOk c.act-in-Print.result (λ (end : CommandEnd). HasActedOver
-    (act a c.args.command.now.answers c.args.scene.now (of_desk c.args.desk.now)) end c.args.desk.now c.act-in-Print.new.desk n n
+    (act a c.args.command.now.answers c.args.scene.now (of_desk c.args.desk.now)) end c.args.desk.now
+    c.act-in-Print.new.desk n n
     (shelf_view (g.S.Shelf.holds c.args.shelf.now) (g.S.Shelf.faults c.args.shelf.now))
-    (shelf_view (g.S.Shelf.holds c.act-in-Print.new.shelf) (g.S.Shelf.faults c.act-in-Print.new.shelf)))) (sym c.in-Print.is)
+    (shelf_view (g.S.Shelf.holds c.act-in-Print.new.shelf) (g.S.Shelf.faults c.act-in-Print.new.shelf))))
+    (sym c.in-Print.is)
     (if_ok c.act-in-Print.result (λ end acted. acted n) c.act-in-Print.ensures.acted)

@@ -15,7 +15,11 @@ returns-in-Ok c = λ n.
     let s : Sheet = of_worksheet c.args.sheet.now in
     let names = ap (λ m. cell_at m c.args.answers.now 0) c.names.ensures in
     let did : Did (quiet (with_pointer c.in-Ok.pointer s)) c.args.sheet.now c.set_settings.new.self n n =
-    record { sheet = rw (c.set_settings.ensures n).sheet (search rules); work = (c.set_settings.ensures n).work; history = (c.set_settings.ensures n).history } in
+    record {
+      sheet = rw (c.set_settings.ensures n).sheet (search rules);
+      work = (c.set_settings.ensures n).work;
+      history = (c.set_settings.ensures n).history;
+    } in
     subst (λ (r : Result Place CommandError). HasActed (given r (λ p. finished (quiet (with_pointer p s))) s)
     Finished c.args.sheet.now c.set_settings.new.self n n)
     (sym c.in-Ok.is ∙ c.cell_at.ensures ∙ names) (record { end = refl; did = did })

@@ -4,7 +4,8 @@ use Rattle.session_core.specs.inner.Glances.{Stays}
 use Rattle.session_core.proofs.glance.changed_lines.Goals as goal
 
 -- a line that is out of a set, by its number
-at_line : (lines : List Bool) (n line : ℕ) → n ≡ line → slice_get lines n ≡ Some false → slice_get lines line ≡ Some false
+at_line : (lines : List Bool) (n line : ℕ) → n ≡ line → slice_get lines n ≡ Some false
+    → slice_get lines line ≡ Some false
 at_line lines n line is out = subst (λ (k : ℕ). slice_get lines k ≡ Some false) is out
 
 -- what stays is the same by what else tells it
@@ -21,10 +22,14 @@ returns c n out =
     let typed_out = c.insert_unless-3.ensures.stay n below_out in
     let pointer_out = c.insert_unless-2.ensures.stay n typed_out in
     record {
-      pointer = λ is. stays_by _ _ _ _ c.keeps_pointer.ensures (c.stays-pointer.ensures (c.insert_unless.ensures.told (at_line _ n 0 is pointer_out)));
-      typed = λ is. stays_by _ _ _ _ c.keeps_typed.ensures (c.stays-typed.ensures (c.insert_unless-2.ensures.told (at_line _ n 1 is typed_out)));
-      below = λ is. stays_by _ _ _ _ c.keeps_below.ensures (c.stays-below.ensures (c.insert_unless-3.ensures.told (at_line _ n 2 is below_out)));
-      letters = λ is. stays_by _ _ _ _ c.keeps_letters.ensures (c.stays-letters.ensures (c.insert_unless-4.ensures.told (at_line _ n 3 is letters_out)));
+      pointer = λ is. stays_by _ _ _ _ c.keeps_pointer.ensures
+          (c.stays-pointer.ensures (c.insert_unless.ensures.told (at_line _ n 0 is pointer_out)));
+      typed = λ is. stays_by _ _ _ _ c.keeps_typed.ensures
+          (c.stays-typed.ensures (c.insert_unless-2.ensures.told (at_line _ n 1 is typed_out)));
+      below = λ is. stays_by _ _ _ _ c.keeps_below.ensures
+          (c.stays-below.ensures (c.insert_unless-3.ensures.told (at_line _ n 2 is below_out)));
+      letters = λ is. stays_by _ _ _ _ c.keeps_letters.ensures
+          (c.stays-letters.ensures (c.insert_unless-4.ensures.told (at_line _ n 3 is letters_out)));
       rows = λ least most. c.row_lines-lines.ensures n least most (c.insert_unless.ensures.stay n pointer_out);
       foot = λ is. c.keeps_foot.ensures (c.insert_unless-5.ensures.told (at_line _ n 24 is out));
     }

@@ -20,8 +20,10 @@ loop-place-preserved c =
     let mark : List ℕ → List ℕ = marked (nat_eq n c.args.menu.now.highlight) in
     record {
       within = omega (arith, c.loop-place-test.true);
-      line = one_item item 240 c.args.menu.now.highlight n places 0 c.loop-place.line c.put_item.new.line inside c.loop-place.invariant.line
-          (c.put_item.ensures ∙ ap (λ (t : List ℕ). take 240 (c.loop-place.line ++ mark t)) (c.item_bytes.ensures ∙ ap item (sym here)));
+      line = one_item item 240 c.args.menu.now.highlight n places 0 c.loop-place.line c.put_item.new.line inside
+          c.loop-place.invariant.line
+          (c.put_item.ensures ∙ ap (λ (t : List ℕ). take 240 (c.loop-place.line ++ mark t))
+          (c.item_bytes.ensures ∙ ap item (sym here)));
     }
 
 pub returns : goal.returns
@@ -29,5 +31,7 @@ returns c =
     let item : ℕ → List ℕ = item_of (of_worksheet c.args.sheet.now) c.args.menu.now in
     let count : ℕ = c.args.menu.now.count in
     let places : List ℕ = range_with_len 0 count in
-    let all : take c.loop-place.place places ≡ places = take_all c.loop-place.place places (omega (arith, length-range_with_len 0 count, c.loop-place-test.false)) in
-    c.loop-place.invariant.line ∙ ap (λ (l : List ℕ). take 240 (marked_from 0 c.args.menu.now.highlight (map item l))) all
+    let all : take c.loop-place.place places ≡ places =
+    take_all c.loop-place.place places (omega (arith, length-range_with_len 0 count, c.loop-place-test.false)) in
+    c.loop-place.invariant.line ∙ ap
+    (λ (l : List ℕ). take 240 (marked_from 0 c.args.menu.now.highlight (map item l))) all

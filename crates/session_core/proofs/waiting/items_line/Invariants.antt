@@ -9,5 +9,6 @@ use Rattle.session_core.proofs.waiting.items_line.Given as goal
 abbrev pub invariant-loop-place : goal.invariant-loop-place
 invariant-loop-place l = record {
   within : l.place ≤ l.menu.count;
-  line : l.line ≡ take MAX_LEN (marked_from 0 l.menu.highlight (map (item_of (of_worksheet l.sheet) l.menu) (take l.place (range_with_len 0 l.menu.count))));
+  line : l.line ≡ take MAX_LEN (marked_from 0 l.menu.highlight
+      (map (item_of (of_worksheet l.sheet) l.menu) (take l.place (range_with_len 0 l.menu.count))));
 }

@@ -11,9 +11,11 @@ use Rattle.session_core.proofs.machine.Machine.act.Goals as goal
 pub returns-clause-acted : goal.returns-clause-acted
 returns-clause-acted g c =
     ok_map c.leave.result
-    (λ ends l. acted_over (act c.args.command.action c.args.command.answers) c.args.command.action c.args.now.now ends c.args.self.now _ c.leave.new.self
+    (λ ends l. acted_over (act c.args.command.action c.args.command.answers) c.args.command.action c.args.now.now ends
+    c.args.self.now _ c.leave.new.self
     c.scene-scene.result _ c.self.inside.desk c.act.new.desk c.self.inside.tally.count c.act.new.tally.count _ _
-    c.scene-scene.ensures (search rules) (search rules) (search rules) (search rules) (search rules) l (left_calls _ c.args.command.action _ _) c.in_ok-end.ensures.acted)
+    c.scene-scene.ensures (search rules) (search rules) (search rules) (search rules) (search rules) l
+    (left_calls _ c.args.command.action _ _) c.in_ok-end.ensures.acted)
     c.leave.ensures
 
 -- memory ran out in the command

@@ -14,18 +14,22 @@ use Rattle.session_core.proofs.machine.Machine.answer.Goals as goal
 -- what follows by the step's end leads on from the sheet and the macro that it leaves
 pub returns-clause-ok : goal.returns-clause-ok
 returns-clause-ok g c =
-    ends_as (by_waiting_macro c.args.key) c.args.now.now _ _ c.args.self.now c.come_to.new.self _ _ c.behind.ensures.ends
+    ends_as (by_waiting_macro c.args.key) c.args.now.now _ _ c.args.self.now c.come_to.new.self _ _
+    c.behind.ensures.ends
     (answered_over c.args.key c.args.now.now _ c.args.self.now c.come_to.new.self _ _
-    (stepped_over (λ scene. key_step scene c.args.key) c.args.now.now _ (unmarked c.args.self.now) _ c.come_to.new.self c.scene-scene.result c.self.inside.engine c.answer.new.self _
+    (stepped_over (λ scene. key_step scene c.args.key) c.args.now.now _
+    (unmarked c.args.self.now) _ c.come_to.new.self c.scene-scene.result c.self.inside.engine c.answer.new.self _
     c.self.inside.desk.sheet c.answer.new.sheet c.self.inside.tally.count c.answer.new.tally.count _ _
-    c.scene-scene.ensures (search rules) (search rules) (search rules) (search rules) (search rules) (search rules) c.in_ok-end.ensures.step c.in_ok-taken.ensures.ok))
+    c.scene-scene.ensures (search rules) (search rules) (search rules) (search rules) (search rules)
+    (search rules) c.in_ok-end.ensures.step c.in_ok-taken.ensures.ok))
 
 -- where the step left the sheet, what follows touched alone counts
 pub returns-clause-touched : goal.returns-clause-touched
 returns-clause-touched g c =
     let was : of_worksheet c.self.inside.desk.sheet ≡ sheet_of c.args.self.now.state = search rules in
     touches_behind _ _ _ _ _ _ _ _
-    (λ h. stepped_leaves _ _ _ c.self.inside.desk.sheet c.answer.new.sheet _ _ (key_leaves _ c.args.key _ _) c.in_ok-end.ensures.step (sym c.leaves_sheet-is_left.ensures ∙ h) ∙ was)
+    (λ h. stepped_leaves _ _ _ c.self.inside.desk.sheet c.answer.new.sheet _ _
+    (key_leaves _ c.args.key _ _) c.in_ok-end.ensures.step (sym c.leaves_sheet-is_left.ensures ∙ h) ∙ was)
     (search rules) c.behind.ensures.left c.behind.ensures.worked c.in_ok-taken.ensures.touched
 
 -- no call was made of the shelf
@@ -35,7 +39,8 @@ returns-in_err-end-clause-memory g c = on_err _ (none_over _ no_replies _)
 -- memory ran out in what follows by the step's end
 pub returns-in_err-taken-clause-memory : goal.returns-in_err-taken-clause-memory
 returns-in_err-taken-clause-memory g c =
-    on_err _ (stepped_breaks (λ scene. key_step scene c.args.key) c.args.now.now (record c.args.self.now.state { end = false }) _
+    on_err _
+    (stepped_breaks (λ scene. key_step scene c.args.key) c.args.now.now (record c.args.self.now.state { end = false }) _
     c.scene-scene.result c.self.inside.engine c.answer.new.self _ c.self.inside.desk.sheet c.answer.new.sheet
     c.self.inside.tally.count c.answer.new.tally.count _ _ c.scene-scene.ensures (search rules) (search rules)
     (search rules) (search rules) c.in_ok-end.ensures.step c.in_err-taken.ensures.memory)

@@ -10,8 +10,7 @@ use Rattle.session_core.proofs.machine.Machine.carry.Goals as goal
 pub returns-in_err-touched-in-Finish-clause-memory : goal.returns-in_err-touched-in-Finish-clause-memory
 returns-in_err-touched-in-Finish-clause-memory g c = on_err _ (none_over _ no_replies _)
 
-pub returns-in_err-calculate-in-Recalculate-clause-memory :
-    goal.returns-in_err-calculate-in-Recalculate-clause-memory
+pub returns-in_err-calculate-in-Recalculate-clause-memory : goal.returns-in_err-calculate-in-Recalculate-clause-memory
 returns-in_err-calculate-in-Recalculate-clause-memory g c =
     on_err _ (none_over _ no_replies _)
 
@@ -27,7 +26,8 @@ returns-in-Mark-clause-ok g c = rw c.in-Mark.is (alone _ _ _ _ _ _ (search rules
 pub returns-in_ok-touched-in-Finish-clause-ok : goal.returns-in_ok-touched-in-Finish-clause-ok
 returns-in_ok-touched-in-Finish-clause-ok g c =
     rw c.in-Finish.is (alone _ _ _ _ _ _ (search rules)
-    (finish_calls c.in-Finish.way c.in-Finish.line (scene_at c.args.self.now.state c.args.now.now) c.args.self.now.state))
+    (finish_calls c.in-Finish.way c.in-Finish.line (scene_at c.args.self.now.state c.args.now.now)
+    c.args.self.now.state))
 
 pub returns-in_ok-calculate-in-Recalculate-clause-ok : goal.returns-in_ok-calculate-in-Recalculate-clause-ok
 returns-in_ok-calculate-in-Recalculate-clause-ok g c =
@@ -47,7 +47,8 @@ returns-in-Undo-clause-memory g c = on_err _ (none_over _ no_replies _)
 
 pub returns-in_ok-touched-in-Fail-clause-ok : goal.returns-in_ok-touched-in-Fail-clause-ok
 returns-in_ok-touched-in-Fail-clause-ok g c =
-    rw c.in-Fail.is (alone _ _ _ _ _ _ (search rules) (failed_calls c.in-Fail.error (scene_at c.args.self.now.state c.args.now.now) c.args.self.now.state))
+    rw c.in-Fail.is (alone _ _ _ _ _ _ (search rules)
+    (failed_calls c.in-Fail.error (scene_at c.args.self.now.state c.args.now.now) c.args.self.now.state))
 
 pub returns-in_err-touched-in-Fail-clause-memory : goal.returns-in_err-touched-in-Fail-clause-memory
 returns-in_err-touched-in-Fail-clause-memory g c = on_err _ (none_over _ no_replies _)

@@ -19,7 +19,8 @@ returns-in-Faulty-clause-ok g c = rw c.in-Faulty.is (alone _ _ _ _ _ _ (search r
 
 pub returns-in_ok-touched-in-Refused-clause-ok : goal.returns-in_ok-touched-in-Refused-clause-ok
 returns-in_ok-touched-in-Refused-clause-ok g c =
-    rw c.in-Refused.is (alone _ _ _ _ _ _ (search rules) (failed_calls _ (scene_at c.args.self.now.state c.args.now.now) c.args.self.now.state))
+    rw c.in-Refused.is (alone _ _ _ _ _ _ (search rules)
+    (failed_calls _ (scene_at c.args.self.now.state c.args.now.now) c.args.self.now.state))
 
 -- no call was made of the shelf
 pub returns-in_err-touched-in-Refused-clause-memory : goal.returns-in_err-touched-in-Refused-clause-memory

@@ -13,8 +13,10 @@ returns-in_err-end_command-clause-memory g c =
 -- what only moves ends no command
 pub returns-in_err-end_command-clause-moves : goal.returns-in_err-end_command-clause-moves
 returns-in_err-end_command-clause-moves g c moves =
-    absurd (false≢true (c.in_err-end_command.ensures.sure (moving_ends_none c.args.event c.args.now.now _ c.args.self.now c.take_event.new.self _ _ c.in_ok-taken.ensures.ok moves)))
+    absurd (false≢true (c.in_err-end_command.ensures.sure (moving_ends_none c.args.event c.args.now.now _
+    c.args.self.now c.take_event.new.self _ _ c.in_ok-taken.ensures.ok moves)))
 
 pub returns-in_err-end_command-clause-sheet : goal.returns-in_err-end_command-clause-sheet
 returns-in_err-end_command-clause-sheet g c moves =
-    absurd (false≢true (c.in_err-end_command.ensures.sure (moving_ends_none c.args.event c.args.now.now _ c.args.self.now c.take_event.new.self _ _ c.in_ok-taken.ensures.ok moves)))
+    absurd (false≢true (c.in_err-end_command.ensures.sure (moving_ends_none c.args.event c.args.now.now _
+    c.args.self.now c.take_event.new.self _ _ c.in_ok-taken.ensures.ok moves)))

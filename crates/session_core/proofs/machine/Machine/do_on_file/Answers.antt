@@ -12,8 +12,10 @@ use Rattle.session_core.proofs.machine.Machine.do_on_file.Goals as goal
 pub returns-in_ok-touched-in-Some-clause-ok : goal.returns-in_ok-touched-in-Some-clause-ok
 returns-in_ok-touched-in-Some-clause-ok g c =
     guarded_over c.args.deed c.args.now.now false c.args.self.now c.fail.new.self _ _ (Some c.in-Some.cell)
-    (sym c.in-Some.is ∙ c.protected_target.ensures ∙ ap (λ t. protected_target t c.args.self.now.state) c.target_of.ensures)
-    (alone (on_file (Some c.in-Some.cell) c.args.deed) c.args.now.now false c.args.self.now c.fail.new.self _ (search rules)
+    (sym c.in-Some.is ∙ c.protected_target.ensures
+    ∙ ap (λ t. protected_target t c.args.self.now.state) c.target_of.ensures)
+    (alone (on_file (Some c.in-Some.cell) c.args.deed) c.args.now.now false c.args.self.now c.fail.new.self _
+    (search rules)
     (failed_calls _ (scene_at c.args.self.now.state c.args.now.now) c.args.self.now.state))
 
 -- no call was made of the shelf
@@ -24,12 +26,14 @@ returns-in_err-touched-in-Some-clause-memory g c = on_err _ (none_over _ no_repl
 pub returns-in_ok-serve-in-None-clause-ok : goal.returns-in_ok-serve-in-None-clause-ok
 returns-in_ok-serve-in-None-clause-ok g c =
     guarded_over c.args.deed c.args.now.now false c.args.self.now c.serve.new.self _ _ None
-    (sym c.in-None.is ∙ c.protected_target.ensures ∙ ap (λ t. protected_target t c.args.self.now.state) c.target_of.ensures)
+    (sym c.in-None.is ∙ c.protected_target.ensures
+    ∙ ap (λ t. protected_target t c.args.self.now.state) c.target_of.ensures)
     c.in_ok-serve-in-None.ensures.ok
 
 -- memory ran out there
 pub returns-in_err-serve-in-None-clause-memory : goal.returns-in_err-serve-in-None-clause-memory
 returns-in_err-serve-in-None-clause-memory g c =
     on_err _ (guarded_breaks c.args.deed c.args.now.now c.args.self.now.state _ _ None
-    (sym c.in-None.is ∙ c.protected_target.ensures ∙ ap (λ t. protected_target t c.args.self.now.state) c.target_of.ensures)
+    (sym c.in-None.is ∙ c.protected_target.ensures
+    ∙ ap (λ t. protected_target t c.args.self.now.state) c.target_of.ensures)
     c.in_err-serve-in-None.ensures.memory)

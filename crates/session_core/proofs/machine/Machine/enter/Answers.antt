@@ -17,8 +17,11 @@ returns-clause-touched c =
     let row : touches_row x s.corner.row (pointer_of s).row ≡ true =
     subst (λ (n : ℕ). touches_row x n (pointer_of s).row ≡ true) same
     (subst (λ (n : ℕ). touches_row x mid.corner.row n ≡ true) place c.touched_behind-touched.ensures.row) in
-    let settles : Settles x s.corner.row (sheet_of mid) = subst (λ (n : ℕ). Settles x n (sheet_of mid)) same c.touched_behind-touched.ensures.settles in
-    entry_touches (sheet_of s) (sheet_of mid) (sheet_of c.settle.new.self.state) (sheet_of c.go.new.self.state) (scene_at s c.args.now.now)
+    let settles : Settles x s.corner.row (sheet_of mid) =
+    subst (λ (n : ℕ). Settles x n (sheet_of mid)) same c.touched_behind-touched.ensures.settles in
+    entry_touches (sheet_of s) (sheet_of mid) (sheet_of c.settle.new.self.state) (sheet_of c.go.new.self.state)
+    (scene_at s c.args.now.now)
     (scene_at mid c.args.now.now) (pointer_of s) c.args.content
-    (ap (λ (u : State). sheet_of u) c.in_ok-write.ensures.state) (ap (λ (u : State). sheet_of u) c.in_ok-settle.ensures.state) c.go.ensures.sheet
+    (ap (λ (u : State). sheet_of u) c.in_ok-write.ensures.state)
+    (ap (λ (u : State). sheet_of u) c.in_ok-settle.ensures.state) c.go.ensures.sheet
     x s.corner.row row settles

@@ -10,12 +10,14 @@ use Rattle.session_core.proofs.machine.Machine.look.Goals as goal
 pub returns-in-There-true-clause-looked : goal.returns-in-There-true-clause-looked
 returns-in-There-true-clause-looked g c =
     let h = c.in_ok-look.ensures.looked in
-    looked_over c.args.command c.args.now.now false c.args.self.now c.enter_room.new.self _ _ _ h.reply failed (There true) (search rules) h.answered (search rules) refl
+    looked_over c.args.command c.args.now.now false c.args.self.now c.enter_room.new.self _ _ _ h.reply failed
+    (There true) (search rules) h.answered (search rules) refl
 
 pub returns-in-There-false-clause-looked : goal.returns-in-There-false-clause-looked
 returns-in-There-false-clause-looked g c =
     let h = c.in_ok-look.ensures.looked in
-    ok_map c.act.result (λ ends l. looked_over c.args.command c.args.now.now ends c.args.self.now c.act.new.self _ _ _ h.reply l.replies.act (There false) (search rules) h.answered l.leads l.answered) c.act.ensures.acted
+    ok_map c.act.result (λ ends l. looked_over c.args.command c.args.now.now ends c.args.self.now c.act.new.self _ _ _
+    h.reply l.replies.act (There false) (search rules) h.answered l.leads l.answered) c.act.ensures.acted
 
 pub returns-in-There-false-clause-memory : goal.returns-in-There-false-clause-memory
 returns-in-There-false-clause-memory g c =
@@ -28,7 +30,8 @@ returns-in-There-false-clause-memory g c =
 pub returns-in_ok-fail-in-Unknown-clause-looked : goal.returns-in_ok-fail-in-Unknown-clause-looked
 returns-in_ok-fail-in-Unknown-clause-looked g c =
     let h = c.in_ok-look.ensures.looked in
-    looked_over c.args.command c.args.now.now false c.args.self.now c.fail.new.self _ _ _ h.reply failed (Unknown c.in-Unknown.error) (search rules) h.answered (search rules) (failed_alone _ _ _ _)
+    looked_over c.args.command c.args.now.now false c.args.self.now c.fail.new.self _ _ _ h.reply failed
+    (Unknown c.in-Unknown.error) (search rules) h.answered (search rules) (failed_alone _ _ _ _)
 
 pub returns-in_err-fail-in-Unknown-clause-memory : goal.returns-in_err-fail-in-Unknown-clause-memory
 returns-in_err-fail-in-Unknown-clause-memory g c =

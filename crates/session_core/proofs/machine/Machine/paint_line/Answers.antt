@@ -25,7 +25,8 @@ returns-in-Some c =
     sym c.line.ensures.line ∙ slice_get-get_or held n [] (omega (arith, c.line.ensures.screen.lines, inside)) in
     let same : bytes ≡ get_or held n [] = cc in
     c.put.ensures.put ∙ put_whole c.args.shown.now n bytes c.put.ensures.screen inside c.line.ensures.width
-    ∙ ap (set c.args.shown.now n) (same ∙ sym (shown_at s.frozen (painted_screen s) n inside ∙ ap (λ (h : Option (List (List ℕ))). line_over h (painted_screen s) n) is))
+    ∙ ap (set c.args.shown.now n) (same ∙ sym (shown_at s.frozen (painted_screen s) n inside
+    ∙ ap (λ (h : Option (List (List ℕ))). line_over h (painted_screen s) n) is))
 
 -- and any other is painted
 pub returns-in-None : goal.returns-in-None
@@ -35,10 +36,12 @@ returns-in-None c =
     let inside : n < 25 = omega (arith, c.requires.inside) in
     let is : held_at s.frozen n ≡ None = search rules in
     let shown : get_or (screen s) n [] ≡ screen_line (sheet_of s) (panel_of s) s.corner s.day s.second n =
-    shown_at s.frozen (painted_screen s) n inside ∙ ap (λ (h : Option (List (List ℕ))). line_over h (painted_screen s) n) is
+    shown_at s.frozen (painted_screen s) n inside
+    ∙ ap (λ (h : Option (List (List ℕ))). line_over h (painted_screen s) n) is
     ∙ line_at (sheet_of s) (panel_of s) s.corner s.day s.second n inside in
     let painted : c.line_at-painted.result ≡ screen_line (sheet_of s) (panel_of s) s.corner s.day s.second n =
     c.line_at-painted.ensures
-    ∙ ap (λ (v : Worked). screen_line (sheet_of v.state) (viewed c.args.panel.now) v.state.corner v.state.day v.state.second n) c.self.view_is
+    ∙ ap (λ (v : Worked). screen_line (sheet_of v.state) (viewed c.args.panel.now) v.state.corner v.state.day
+    v.state.second n) c.self.view_is
     ∙ ap (λ (p : Panel). screen_line (sheet_of s) p s.corner s.day s.second n) c.requires.panel in
     c.set_line.ensures ∙ ap (set c.args.shown.now n) (painted ∙ sym shown)

@@ -10,7 +10,8 @@ use Rattle.session_core.proofs.machine.Machine.press_break.Goals as goal
 pub returns-clause-ok : goal.returns-clause-ok
 returns-clause-ok g c =
     ok_map c.take.result
-    (λ t l. broken_over c.args.now.now t.ends c.args.self.now c.break_off.new.self c.take.new.self _ _ c.break_off.ensures.state c.break_off.ensures.work l)
+    (λ t l. broken_over c.args.now.now t.ends c.args.self.now c.break_off.new.self c.take.new.self _ _
+    c.break_off.ensures.state c.break_off.ensures.work l)
     c.take.ensures.ok
 
 -- memory ran out in it

@@ -15,16 +15,19 @@ use Rattle.session_core.proofs.machine.Machine.run_on.Goals as goal
 pub returns-clause-ok : goal.returns-clause-ok
 returns-clause-ok g c =
     ends_as run_on c.args.now.now _ _ c.args.self.now c.come_to.new.self _ _ c.behind.ensures.ends
-    (stepped_over macro_step c.args.now.now _ c.args.self.now _ c.come_to.new.self c.scene-scene.result c.self.inside.engine c.step.new.self _
+    (stepped_over macro_step c.args.now.now _ c.args.self.now _ c.come_to.new.self c.scene-scene.result
+    c.self.inside.engine c.step.new.self _
     c.self.inside.desk.sheet c.step.new.sheet c.self.inside.tally.count c.step.new.tally.count _ _
-    c.scene-scene.ensures (search rules) (search rules) (search rules) (search rules) (search rules) (search rules) c.in_ok-end.ensures.step c.in_ok-taken.ensures.ok)
+    c.scene-scene.ensures (search rules) (search rules) (search rules) (search rules) (search rules)
+    (search rules) c.in_ok-end.ensures.step c.in_ok-taken.ensures.ok)
 
 -- where the step left the sheet, what follows touched alone counts
 pub returns-clause-touched : goal.returns-clause-touched
 returns-clause-touched g c =
     let was : of_worksheet c.self.inside.desk.sheet ≡ sheet_of c.args.self.now.state = search rules in
     touches_behind _ _ _ _ _ _ _ _
-    (λ h. stepped_leaves _ _ _ c.self.inside.desk.sheet c.step.new.sheet _ _ (macro_leaves _ _ _) c.in_ok-end.ensures.step (sym c.leaves_sheet-is_left.ensures ∙ h) ∙ was)
+    (λ h. stepped_leaves _ _ _ c.self.inside.desk.sheet c.step.new.sheet _ _
+    (macro_leaves _ _ _) c.in_ok-end.ensures.step (sym c.leaves_sheet-is_left.ensures ∙ h) ∙ was)
     (search rules) c.behind.ensures.left c.behind.ensures.worked c.in_ok-taken.ensures.touched
 
 -- no call was made of the shelf

@@ -8,7 +8,8 @@ use Rattle.session_core.proofs.machine.Machine.serve.Goals as goal
 pub returns-clause-ok : goal.returns-clause-ok
 returns-clause-ok g c =
     on_ok_map c.do_served.result
-    (λ l. served_over c.args.deed c.args.now.now c.args.self.now _ c.do_served.new.self c.scene-scene.result _ c.self.inside.channel _ _ _
+    (λ l. served_over c.args.deed c.args.now.now c.args.self.now _ c.do_served.new.self c.scene-scene.result _
+    c.self.inside.channel _ _ _
     c.scene-scene.ensures (search rules) (search rules) (search rules) c.in_ok-served.ensures.served l)
     c.do_served.ensures
 

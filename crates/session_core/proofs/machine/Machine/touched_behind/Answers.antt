@@ -15,9 +15,11 @@ use Rattle.session_core.proofs.machine.Machine.touched_behind.Goals as goal
 pub returns-clause-row : goal.returns-clause-row
 returns-clause-row c =
     let lines : List Bool = c.insert_cells.new.lines in
-    let corner = ap (λ (i : Inside). i.corner.row) c.self-inside.view_is ∙ ap (λ (v : Worked). v.state.corner.row) c.self.view_is in
+    let corner = ap (λ (i : Inside). i.corner.row) c.self-inside.view_is
+    ∙ ap (λ (v : Worked). v.state.corner.row) c.self.view_is in
     subst (λ (first : ℕ). is_row_in lines first c.args.row ≡ true) corner
-    (row_in lines _ c.args.row (λ n least most out. c.insert_row.ensures.told n least most (c.insert_cells.ensures.stay n out)))
+    (row_in lines _ c.args.row
+    (λ n least most out. c.insert_row.ensures.told n least most (c.insert_cells.ensures.stay n out)))
 
 -- and those of the dirty formulas
 pub returns-clause-settles : goal.returns-clause-settles
@@ -30,7 +32,9 @@ returns-clause-settles c =
     subst (λ (ds : List Place). (d : Place) → rows d.row ≡ false → has same_place ds d ≡ false) c.dirty_cells.ensures
     (cells_out lines first c.dirty_cells.result.now c.insert_cells.ensures.told) in
     subst (λ (v : Worked). IsSettled (is_row_in lines v.state.corner.row) (sheet_of v.state)) c.self.view_is
-    (subst (λ (i : Inside). IsSettled (is_row_in lines i.corner.row) (of_worksheet i.desk.sheet)) c.self-inside.view_is (record {
+    (subst (λ (i : Inside). IsSettled (is_row_in lines i.corner.row) (of_worksheet i.desk.sheet))
+    c.self-inside.view_is (record {
       automatic = search rules;
-      alike = recalculated_alike (of_worksheet w) w.dirty rows c.recalculation_is_cut.ensures c.is_kept.ensures.sound c.is_kept.ensures.all out;
+      alike = recalculated_alike (of_worksheet w) w.dirty rows c.recalculation_is_cut.ensures c.is_kept.ensures.sound
+          c.is_kept.ensures.all out;
     }))

@@ -8,4 +8,5 @@ use Rattle.session_core.proofs.session.Session.shown.Goals as goal
 pub returns-clause-shape : goal.returns-clause-shape
 returns-clause-shape c =
     let fresh : c.self.inside.spent ≡ false = search rules in
-    subst IsScreen ((c.self.invariant fresh).shown ∙ ap (λ (r : SessionView). screen r.state) c.self.view_is) c.is_whole.ensures
+    subst IsScreen ((c.self.invariant fresh).shown ∙ ap (λ (r : SessionView). screen r.state) c.self.view_is)
+    c.is_whole.ensures

@@ -24,13 +24,16 @@ paint_lines-requires g c =
     let led = c.in-Ok.ensures.ok in
     let b : State = c.begin.new.self.state in
     let held : mid.frozen ≡ s.frozen =
-    ap (λ (u : State). u.frozen) led.leads.state ∙ by_done c.args.event led.replies led.changed (scene_at b c.args.now.now) b
+    ap (λ (u : State). u.frozen) led.leads.state
+    ∙ by_done c.args.event led.replies led.changed (scene_at b c.args.now.now) b
     ∙ ap (λ (u : State). u.frozen) c.begin.ensures.state in
     let touch : HasTouched c.in-Ok.taken.touched s mid =
     subst (λ (u : State). HasTouched c.in-Ok.taken.touched u mid) c.begin.ensures.state c.in-Ok.ensures.touched in
     let same : Unchanged c.changed_lines.result (screen s) (screen t) =
-    lines_followed s mid t c.self.inside.shown c.in-Ok.taken.touched c.glance-before.result c.glance-after.result c.changed_lines.result (switches_of mid.running)
-    kept.shown touch (ap (λ (u : State). sheet_of u) c.follow.ensures.state) (ap (λ (u : State). u.frozen) c.follow.ensures.state) held
+    lines_followed s mid t c.self.inside.shown c.in-Ok.taken.touched c.glance-before.result c.glance-after.result
+    c.changed_lines.result (switches_of mid.running)
+    kept.shown touch (ap (λ (u : State). sheet_of u) c.follow.ensures.state)
+    (ap (λ (u : State). u.frozen) c.follow.ensures.state) held
     c.glance-before.ensures c.glance-after.ensures c.changed_lines.ensures in
     subst (λ (shown : List (List ℕ)). Unchanged c.changed_lines.result shown (screen t)) (sym kept.shown) same
 
@@ -51,15 +54,19 @@ returns-in-Ok-clause-lines g c is_fresh =
     let led = c.in-Ok.ensures.ok in
     let b : State = c.begin.new.self.state in
     let held : mid.frozen ≡ s.frozen =
-    ap (λ (u : State). u.frozen) led.leads.state ∙ by_done c.args.event led.replies led.changed (scene_at b c.args.now.now) b
+    ap (λ (u : State). u.frozen) led.leads.state
+    ∙ by_done c.args.event led.replies led.changed (scene_at b c.args.now.now) b
     ∙ ap (λ (u : State). u.frozen) c.begin.ensures.state in
     let touch : HasTouched c.in-Ok.taken.touched s mid =
     subst (λ (u : State). HasTouched c.in-Ok.taken.touched u mid) c.begin.ensures.state c.in-Ok.ensures.touched in
     let same : Unchanged c.changed_lines.result (screen s) (screen t) =
-    lines_followed s mid t c.self.inside.shown c.in-Ok.taken.touched c.glance-before.result c.glance-after.result c.changed_lines.result (switches_of mid.running)
-    kept.shown touch (ap (λ (u : State). sheet_of u) c.follow.ensures.state) (ap (λ (u : State). u.frozen) c.follow.ensures.state) held
+    lines_followed s mid t c.self.inside.shown c.in-Ok.taken.touched c.glance-before.result c.glance-after.result
+    c.changed_lines.result (switches_of mid.running)
+    kept.shown touch (ap (λ (u : State). sheet_of u) c.follow.ensures.state)
+    (ap (λ (u : State). u.frozen) c.follow.ensures.state) held
     c.glance-before.ensures c.glance-after.ensures c.changed_lines.ensures in
-    subst (λ (shown : List (List ℕ)). Unchanged c.changed_lines.result shown (screen t)) (ap (λ (r : SessionView). screen r.state) c.self.view_is) same
+    subst (λ (shown : List (List ℕ)). Unchanged c.changed_lines.result shown (screen t))
+    (ap (λ (r : SessionView). screen r.state) c.self.view_is) same
 
 -- a step that only moves leaves all of the sheet but the pointer, seen from before the step began
 pub returns-in-Ok-clause-sheet : goal.returns-in-Ok-clause-sheet
@@ -69,8 +76,12 @@ returns-in-Ok-clause-sheet g c only =
     let from : b ≡ afresh c.args.self.now.state =
     c.begin.ensures.state ∙ ap (λ (r : SessionView). afresh r.state) c.self.view_is in
     let moved : IsMoved (sheet_of b) (sheet_of mid) =
-    c.in-Ok.ensures.sheet (subst (λ (u : State). OnlyMovesBy c.args.event u) (sym from) (moves_afresh c.args.event c.args.self.now.state only)) in
-    (moved.0, ap (λ (u : State). sheet_of u) c.follow.ensures.state ∙ moved.1 ∙ ap (λ (u : State). with_pointer moved.0 (sheet_of u)) from)
+    c.in-Ok.ensures.sheet (subst (λ (u : State). OnlyMovesBy c.args.event u) (sym from)
+    (moves_afresh c.args.event c.args.self.now.state only)) in (
+      moved.0,
+      ap (λ (u : State). sheet_of u) c.follow.ensures.state ∙ moved.1
+          ∙ ap (λ (u : State). with_pointer moved.0 (sheet_of u)) from,
+    )
 
 -- memory ran out in the step
 pub returns-in-Err-clause-broken : goal.returns-in-Err-clause-broken
