@@ -4,8 +4,6 @@ import collections
 import re
 
 MOST_COLUMNS = 120
-# The crates whose proofs are not held to these rules yet.
-UNMENDED = frozenset()
 WORD = re.compile(r'[^\s(){},;."@«»]+')
 SIGNATURE = re.compile(r'^( *)((?:pub |abbrev |unfoldable |pattern )*)'
                        r'([^\s(){},;:.@"|=→≡×∙⊎]+)(?: \{[^}]*\})? :(?: |$)')
@@ -136,9 +134,9 @@ def unnamed_functions(texts):
 
 
 def check(texts, fault):
-    """Tells each fault of the crates that are held to the rules."""
+    """Tells each fault."""
     for file, text in texts.items():
-        if "/proofs/" in file and file.split("/")[1] not in UNMENDED:
+        if "/proofs/" in file:
             for number, line in enumerate(text.split("\n"), 1):
                 if len(line) > MOST_COLUMNS:
                     fault(f"{file}:{number}: {len(line)} columns")
@@ -146,12 +144,9 @@ def check(texts, fault):
     for lemmas, what in ((proofs.unnamed(), "nothing names it"),
                          (proofs.without_meaning(), "it has no line of meaning")):
         for lemma in lemmas:
-            if lemma.file.split("/")[1] not in UNMENDED:
-                fault(f"{lemma.file}:{lemma.line + 1}: {lemma.name}: {what}")
+            fault(f"{lemma.file}:{lemma.line + 1}: {lemma.name}: {what}")
     for file, number, name in unnamed_functions(texts):
-        crate = file.split("/")[1]
-        if crate not in UNMENDED:
-            fault(f"{file}:{number}: no code names {name}")
+        fault(f"{file}:{number}: no code names {name}")
 
 
 def tell(texts):

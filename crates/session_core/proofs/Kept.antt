@@ -29,8 +29,9 @@ use Rattle.session_rooms.specs.declared.rooms.TypingMode.TheVariants.{Label, Val
 use Rattle.typing_room.specs.Room.{told_mode}
 use Rattle.work_sheet.specs.Seen.{Sheet}
 use Rattle.session_core.specs.Frozen.{frozen_after, frozen_by, held_at, line_over}
-use Rattle.session_core.specs.inner.Glances.{glance_of, is_plain, marks_of, lacks_menu, plain_mode, told_plainly}
-use Rattle.session_core.specs.inner.Glances.{IsKept, KeepsLetters, KeepsPointer, KeepsRow, KeepsTyped, KeepsBelow, Stays}
+use Rattle.session_core.specs.inner.Glances.{glance_of, is_plain, lacks_menu, marks_of, plain_mode, told_plainly}
+use Rattle.session_core.specs.inner.Glances.{IsKept, KeepsBelow, KeepsLetters, KeepsPointer, KeepsRow, KeepsTyped}
+use Rattle.session_core.specs.inner.Glances.{Stays}
 use Rattle.session_core.specs.Machine.{is_running, sheet_of, FrozenAreas, State}
 use Rattle.session_core.specs.Pressing.{room_panel}
 use Rattle.session_core.specs.Screen.{painted_screen, panel_of, screen}
